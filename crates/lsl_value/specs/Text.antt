@@ -1,0 +1,17 @@
+-- Texts as lists of characters.
+use Rattle.std.specs.Prelude.{◌≡◌, ℕ, ◌≤◌, ◌<◌, true, ◌⊎◌, List, length}
+use Rattle.std.specs.Str.{encode_utf8_all, all_scalars, IsUtf8}
+
+-- the characters of some text: each is a character, and in UTF-8 they have at most 1,048,576 bytes
+pub record IsText (characters : List ℕ) : Type 0 where
+  pub scalars : all_scalars characters ≡ true
+  pub within : length (encode_utf8_all characters) ≤ 1048576
+
+-- these bytes are a text's UTF-8
+pub record IsTextOf (bytes : List ℕ) (characters : List ℕ) : Type 0 where
+  pub spelled : encode_utf8_all characters ≡ bytes
+  pub text : IsText characters
+
+-- no text has these bytes
+abbrev pub IsNoText : List ℕ → Type 0
+IsNoText bytes = ¬ (IsUtf8 bytes) ⊎ (1048576 < length bytes)
