@@ -1,0 +1,4 @@
+pub mod Bodies
+pub mod HostRow
+pub mod Kinds
+pub mod Machine

@@ -1,0 +1,14 @@
+//! Compiled code: instructions, functions, units, and what a machine that runs them comes to.
+#![tactic(auto)]
+
+mod functions;
+mod instructions;
+mod lists;
+mod results;
+mod units;
+
+pub use crate::functions::{FunctionCode, Point, WovenCode};
+pub use crate::instructions::Instr;
+pub use crate::lists::Sequence;
+pub use crate::results::{Call, Fault, Outcome};
+pub use crate::units::{Unit, Woven};
