@@ -1,7 +1,11 @@
 -- What a text's characters are, from its bytes.
-use Rattle.std.proofs.Common.{◌≡◌, ℕ, ◌≤◌, List, length, sym, ap, subst}
-use Rattle.std.specs.Str.{chars, encode_utf8_all, IsUtf8}
-use Rattle.std.proofs.lemmas.Str.{encodes-chars, scalars-chars}
+use Rattle.std.proofs.Common.{◌≡◌, ◌∙◌, ℕ, ◌≤◌, Bool, true, false, cond, not, ◌==◌, nat_lt, List, [], ◌∷◌, ◌++◌, length, Result, Ok, Err, OnOk, sym, ap, refl, subst, arith, nat_eq}
+use Rattle.std.specs.Result.{is_ok}
+use Rattle.std.specs.Cmp.Lexicographic.{pointwise}
+use Rattle.std.specs.Str.{chars, encode_utf8_all, all_scalars, IsUtf8}
+use Rattle.std.proofs.lemmas.Str.{chars-append, chars-encodes, encodes-append, encodes-chars, encodes_same, length-le-encodes, scalars-chars}
+use Rattle.std.proofs.lemmas.Slice.Eq.{bytes_eq-Decides}
+use Rattle.std.proofs.lemmas.Bool.Decides.{nat_tests, same_from_decides, Decides-like}
 use Rattle.lsl_value.specs.Text.{IsText, IsTextOf}
 
 pub IsText-chars : (bytes : List ℕ) → IsUtf8 bytes → length bytes ≤ 1048576 → IsText (chars bytes)
@@ -11,3 +15,34 @@ IsText-chars bytes valid short =
 
 pub IsTextOf-chars : (bytes : List ℕ) → IsUtf8 bytes → length bytes ≤ 1048576 → IsTextOf bytes (chars bytes)
 IsTextOf-chars bytes valid short = record { spelled = encodes-chars bytes valid; text = IsText-chars bytes valid short }
+
+-- texts are equal exactly where their bytes are
+pub pointwise-encodes : (a b : List ℕ) → pointwise nat_eq (encode_utf8_all a) (encode_utf8_all b) ≡ pointwise nat_eq a b
+pointwise-encodes a b =
+    same_from_decides _ _
+    (Decides-like _ (encodes_same a b) (ap encode_utf8_all) (bytes_eq-Decides (encode_utf8_all a) (encode_utf8_all b)))
+    (bytes_eq-Decides a b)
+
+-- a fact that holds where the result is Ok
+pub OnOk-from : {T E : Type 0} (r : Result T E) (P : Type 0) → (is_ok r ≡ true → P) → OnOk r P
+OnOk-from (Ok x) P holds = holds refl
+OnOk-from (Err e) P holds = tt
+
+-- one text's bytes behind another's
+pub encodes-join : (bytes self other : List ℕ) → IsUtf8 bytes → chars bytes ≡ self → bytes ++ encode_utf8_all other ≡ encode_utf8_all (self ++ other)
+encodes-join bytes self other valid same =
+    ap (λ b. b ++ encode_utf8_all other) (sym (encodes-chars bytes valid) ∙ ap encode_utf8_all same) ∙ sym (encodes-append self other)
+
+pub chars-join : (bytes self other : List ℕ) → IsUtf8 bytes → chars bytes ≡ self → all_scalars other ≡ true → chars (bytes ++ encode_utf8_all other) ≡ self ++ other
+chars-join bytes self other valid same scalars =
+    chars-append bytes (encode_utf8_all other) valid ∙ ap (λ c. c ++ chars (encode_utf8_all other)) same ∙ ap (λ c. self ++ c) (chars-encodes other scalars)
+
+-- a list that gained a part or stayed, where both ways are short
+pub length-joined : (b : Bool) (new old more : List ℕ) (most : ℕ) → new ≡ cond b (old ++ more) old → length old ≤ most → length (old ++ more) ≤ most → length new ≤ most
+length-joined true new old more most same short joined = rw same joined
+length-joined false new old more most same short joined = rw same short
+
+-- a text is empty exactly where its bytes are
+pub nonempty-encodes : (text : List ℕ) → not (length (encode_utf8_all text) == 0) ≡ nat_lt 0 (length text)
+nonempty-encodes [] = refl
+nonempty-encodes (c ∷ cs) = let bytes = length-le-encodes (c ∷ cs) in grind (arith, nat_tests)

@@ -1,1 +1,4 @@
+pub mod Atoms
+pub mod Key
 pub mod Text
+pub mod Values

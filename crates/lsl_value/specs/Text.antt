@@ -1,5 +1,5 @@
--- Texts as lists of characters.
-use Rattle.std.specs.Prelude.{◌≡◌, ℕ, ◌≤◌, ◌<◌, true, ◌⊎◌, List, length}
+-- Texts as lists of characters, and what they are charged.
+use Rattle.std.specs.Prelude.{◌≡◌, ℕ, ◌+◌, ◌≤◌, ◌<◌, true, ◌⊎◌, List, length}
 use Rattle.std.specs.Str.{encode_utf8_all, all_scalars, IsUtf8}
 
 -- the characters of some text: each is a character, and in UTF-8 they have at most 1,048,576 bytes
@@ -15,3 +15,7 @@ pub record IsTextOf (bytes : List ℕ) (characters : List ℕ) : Type 0 where
 -- no text has these bytes
 abbrev pub IsNoText : List ℕ → Type 0
 IsNoText bytes = ¬ (IsUtf8 bytes) ⊎ (1048576 < length bytes)
+
+-- a text or key is charged 16 and its bytes of UTF-8
+abbrev pub text_charge_of : List ℕ → ℕ
+text_charge_of text = 16 + length (encode_utf8_all text)

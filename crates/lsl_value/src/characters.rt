@@ -1,8 +1,11 @@
 //! Texts: lists of Unicode characters.
 
-ghost use Rattle.std.specs.Prelude.{◌≡◌, ◌≤◌, ◌<◌, length, IfOk, MatchOption, ◌⊎◌};
-ghost use Rattle.std.specs.Str.{encode_utf8_all};
-ghost use Rattle.lsl_value.specs.Text.{IsText, IsTextOf, IsNoText};
+ghost use Rattle.std.specs.Prelude.{◌≡◌, ◌≤◌, ◌<◌, ◌++◌, [], length, nat_eq, IfOk, OnOk, OnErr, MatchOption, ◌⊎◌};
+ghost use Rattle.std.specs.Cmp.{partial_equiv_from_equiv};
+ghost use Rattle.std.specs.Cmp.Lexicographic.{nat_list_eq_equiv, pointwise};
+ghost use Rattle.std.specs.Str.{chars, encode_utf8_all, IsAscii};
+ghost use Rattle.std.specs.String.{string_bytes};
+ghost use Rattle.lsl_value.specs.Text.{IsText, IsTextOf, IsNoText, text_charge_of};
 
 use lsl_text::NoMemory;
 use std::alloc::Global;
@@ -10,6 +13,9 @@ use std::marker::Model;
 
 /// How many bytes of UTF-8 a text has at most.
 pub const MAX_TEXT_BYTES: usize = 1_048_576;
+
+/// What a text is charged beside its bytes.
+const TEXT_CHARGE: u64 = 16;
 
 /// A text: a list of characters, of at most 1,048,576 bytes in UTF-8.
 #[derive(Debug, Drop)]
@@ -30,6 +36,15 @@ impl Model for Text {
 }
 
 impl Text {
+    /// No character. Takes no memory.
+    pub fn new(alloc: Global) -> Text
+        ensures { result ≡ [] }
+    {
+        Text {
+            text: String::new(alloc),
+        }
+    }
+
     /// The text of these bytes: none where they aren't UTF-8 or are more than 1,048,576. Takes memory for a copy.
     pub fn from_utf8(alloc: Global, bytes: &[u8]) -> Result<Option<Text>, NoMemory>
         ensures ok { IfOk result (λ found. MatchOption found (IsNoText bytes.now) (IsTextOf bytes.now)) }
@@ -42,6 +57,26 @@ impl Text {
                 text: String::from_str(alloc, text)?,
             })),
             Err(_) => Ok(None),
+        }
+    }
+
+    /// This string as a text. Takes no memory.
+    pub fn from_string(text: String) -> Text
+        requires { length (string_bytes text) ≤ MAX_TEXT_BYTES }
+        ensures { result ≡ chars (string_bytes text) }
+    {
+        Text { text }
+    }
+
+    /// The text of these ASCII bytes. Takes no memory, and one pass.
+    pub fn from_ascii(bytes: Vec<u8>) -> Text
+        requires ascii { IsAscii bytes.items }
+        requires short { length bytes.items ≤ MAX_TEXT_BYTES }
+        ensures { result ≡ bytes.items }
+    {
+        match String::from_utf8(bytes) {
+            Ok(text) => Text { text },
+            Err(_) => unreachable!(),
         }
     }
 
@@ -60,4 +95,44 @@ impl Text {
     {
         self.text.as_str()
     }
+
+    /// What a text or a key of this text is charged: 16 and its bytes. Takes no memory, and no walk.
+    pub fn charge(&self) -> u64
+        ensures value { result ≡ text_charge_of self.now }
+        ensures within { result ≤ 1048592 }
+    {
+        TEXT_CHARGE + self.bytes().len() as u64
+    }
+
+    /// An equal text.
+    pub fn copy(&self, alloc: Global) -> Result<Text, NoMemory>
+        ensures { IfOk result (λ text. text ≡ self.now) }
+    {
+        Ok(Text {
+            text: String::from_str(alloc, self.text.as_str())?,
+        })
+    }
+
+    /// Adds the other text's characters at the end: the two together keep to the limit.
+    pub fn push_text(&mut self, other: &Text) -> Result<(), NoMemory>
+        requires { length (encode_utf8_all (self.old ++ other.now)) ≤ MAX_TEXT_BYTES }
+        ensures ok { OnOk result (self.new ≡ self.old ++ other.now) }
+        ensures unchanged { OnErr result (self.new ≡ self.old) }
+    {
+        self.text.push_str(other.as_str())
+    }
+}
+
+impl PartialEq for Text {
+    ghost eq = { pointwise nat_eq };
+
+    ghost laws = { partial_equiv_from_equiv nat_list_eq_equiv };
+
+    fn eq(&self, other: &Text) -> bool {
+        self.bytes() == other.bytes()
+    }
+}
+
+impl Eq for Text {
+    ghost laws = { nat_list_eq_equiv };
 }

@@ -2,13 +2,15 @@
 #![tactic(auto)]
 
 mod characters;
+mod keys;
 mod list;
 mod names;
 mod operators;
 mod tagged;
 
-pub use crate::characters::Text;
-pub use crate::list::{Atom, Items};
+pub use crate::characters::{MAX_TEXT_BYTES, Text};
+pub use crate::keys::valid_key;
+pub use crate::list::{Atom, Items, MAX_ITEMS};
 pub use crate::names::{BuiltinId, ConstantId, EventId};
 pub use crate::operators::{BinaryOp, UnaryOp};
-pub use crate::tagged::{Kind, Value, Values};
+pub use crate::tagged::{Kind, Value, Values, charge, copy, truth};

@@ -1,8 +1,10 @@
 //! Values with their kinds, and lists of values.
 
-ghost use Rattle.std.specs.Prelude.{◌≡◌, [], ◌++◌, ◌∷◌, length, OnOk, OnErr};
+ghost use Rattle.std.specs.Prelude.{◌≡◌, [], ◌++◌, ◌∷◌, length, IfOk, OnOk, OnErr};
+ghost use Rattle.lsl_value.specs.Values.{kind_of, charge_of, truth_of};
 
 use crate::characters::Text;
+use crate::keys::{is_null_key, valid_key};
 use crate::list::Items;
 use lsl_text::NoMemory;
 use std::alloc::Global;
@@ -24,6 +26,60 @@ pub enum Value {
     Str(Text),
     Key(Text),
     List(Items),
+}
+
+/// What an integer is charged.
+const INT_CHARGE: u64 = 8;
+
+impl Value {
+    /// The value's kind. Takes no memory.
+    pub fn kind(&self) -> Kind
+        ensures { result ≡ kind_of self.now }
+    {
+        match self {
+            Value::Int(_) => Kind::Int,
+            Value::Str(_) => Kind::Str,
+            Value::Key(_) => Kind::Key,
+            Value::List(_) => Kind::List,
+        }
+    }
+}
+
+/// What the value is charged: 8 for an integer, 16 and the bytes of UTF-8 for a text or key, 16 and for each
+/// element 8 and its charge for a list. Takes no memory, and walks nothing.
+pub fn charge(value: &Value) -> u64
+    ensures { result ≡ charge_of value.now }
+{
+    match value {
+        Value::Int(_) => INT_CHARGE,
+        Value::Str(text) | Value::Key(text) => text.charge(),
+        Value::List(items) => items.charge(),
+    }
+}
+
+/// Whether the value holds as a condition: an integer but 0, a text or list but the empty one, a valid key but
+/// the key of zeros (<https://wiki.secondlife.com/wiki/If>). Takes no memory.
+pub fn truth(value: &Value) -> bool
+    ensures { result ≡ truth_of value.now }
+{
+    match value {
+        Value::Int(n) => *n != 0,
+        Value::Str(text) => !text.bytes().is_empty(),
+        Value::Key(text) => valid_key(text) && !is_null_key(text),
+        Value::List(items) => !items.is_empty(),
+    }
+}
+
+/// An equal value.
+pub fn copy(alloc: Global, value: &Value) -> Result<Value, NoMemory>
+    ensures { IfOk result (λ copied. copied ≡ value.now) }
+{
+    match value {
+        Value::Int(n) => Ok(Value::Int(*n)),
+        Value::Str(text) => Ok(Value::Str(text.copy(alloc)?)),
+        Value::Key(text) => Ok(Value::Key(text.copy(alloc)?)),
+        Value::List(items) => Ok(Value::List(items.copy(alloc)?)),
+    }
 }
 
 /// A list of values.
@@ -71,5 +127,32 @@ impl Values {
         ensures { result.now ≡ self.now }
     {
         self.list.as_slice()
+    }
+
+    /// How many values there are.
+    pub fn len(&self) -> usize
+        ensures { result ≡ length self.now }
+    {
+        self.list.len()
+    }
+
+    /// Adds a value at the end.
+    pub fn push(&mut self, value: Value) -> Result<(), NoMemory>
+        ensures ok { OnOk result (self.new ≡ self.old ++ value ∷ []) }
+        ensures unchanged { OnErr result (self.new ≡ self.old) }
+    {
+        self.list.push(value)?;
+        Ok(())
+    }
+
+    /// Equal values.
+    pub fn copy(&self, alloc: Global) -> Result<Values, NoMemory>
+        ensures { IfOk result (λ values. values ≡ self.now) }
+    {
+        let mut list = Vec::with_capacity(alloc, self.list.len())?;
+        for value in &self.list {
+            list.push(copy(alloc, value)?)?;
+        }
+        Ok(Values { list })
     }
 }

@@ -1,0 +1,25 @@
+-- Elements of lists, and what they are charged.
+use Rattle.std.specs.Prelude.{◌≡◌, ℕ, ◌+◌, ◌*◌, ◌≤◌, List, length, sum_by}
+use Rattle.lsl_value.specs.Text.{text_charge_of}
+use Rattle.lsl_value.specs.declared.list.Atom.{Atom}
+use Rattle.lsl_value.specs.declared.list.Atom.TheVariants.{Int, Str, Key}
+
+-- an integer is charged 8
+abbrev pub atom_charge_of : Atom → ℕ
+atom_charge_of (Int n) = 8
+atom_charge_of (Str text) = text_charge_of text
+atom_charge_of (Key text) = text_charge_of text
+
+-- an element is charged 8 more in its list
+abbrev pub item_charge_of : Atom → ℕ
+item_charge_of atom = 8 + atom_charge_of atom
+
+-- a list is charged 16 and its elements
+abbrev pub list_charge_of : List Atom → ℕ
+list_charge_of atoms = 16 + sum_by item_charge_of atoms
+
+-- what is kept beside the elements of a list
+pub record IsKept (atoms : List Atom) (charge : ℕ) : Type 0 where
+  pub within : length atoms ≤ 65536
+  pub charged : charge ≡ list_charge_of atoms
+  pub bounded : charge ≤ 16 + 1048600 * length atoms
