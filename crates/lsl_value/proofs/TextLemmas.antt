@@ -3,7 +3,7 @@ use Rattle.std.proofs.Common.{◌≡◌, ◌∙◌, ℕ, ◌≤◌, Bool, true, 
 use Rattle.std.specs.Result.{is_ok}
 use Rattle.std.specs.Cmp.Lexicographic.{pointwise}
 use Rattle.std.specs.Str.{chars, encode_utf8_all, all_scalars, IsUtf8}
-use Rattle.std.proofs.lemmas.Str.{chars-append, chars-encodes, encodes-append, encodes-chars, encodes_same, length-le-encodes, scalars-chars}
+use Rattle.std.proofs.lemmas.Str.{chars-append, chars-encodes, encodes-chars, encodes_same, length-le-encodes, scalars-chars}
 use Rattle.std.proofs.lemmas.Slice.Eq.{bytes_eq-Decides}
 use Rattle.std.proofs.lemmas.Bool.Decides.{nat_tests, same_from_decides, Decides-like}
 use Rattle.lsl_value.specs.Text.{IsText, IsTextOf}
@@ -28,11 +28,7 @@ pub OnOk-from : {T E : Type 0} (r : Result T E) (P : Type 0) → (is_ok r ≡ tr
 OnOk-from (Ok x) P holds = holds refl
 OnOk-from (Err e) P holds = tt
 
--- one text's bytes behind another's
-pub encodes-join : (bytes self other : List ℕ) → IsUtf8 bytes → chars bytes ≡ self → bytes ++ encode_utf8_all other ≡ encode_utf8_all (self ++ other)
-encodes-join bytes self other valid same =
-    ap (λ b. b ++ encode_utf8_all other) (sym (encodes-chars bytes valid) ∙ ap encode_utf8_all same) ∙ sym (encodes-append self other)
-
+-- one text's characters behind another's
 pub chars-join : (bytes self other : List ℕ) → IsUtf8 bytes → chars bytes ≡ self → all_scalars other ≡ true → chars (bytes ++ encode_utf8_all other) ≡ self ++ other
 chars-join bytes self other valid same scalars =
     chars-append bytes (encode_utf8_all other) valid ∙ ap (λ c. c ++ chars (encode_utf8_all other)) same ∙ ap (λ c. self ++ c) (chars-encodes other scalars)

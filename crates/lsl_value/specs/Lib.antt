@@ -1,4 +1,6 @@
 pub mod Atoms
+pub mod Equality
+pub mod EqualityLaws
 pub mod Key
 pub mod Text
 pub mod Values

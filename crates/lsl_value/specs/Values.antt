@@ -1,8 +1,10 @@
 -- Values: kind, charge and truth.
-use Rattle.std.specs.Prelude.{ℕ, Bool, not, ◌&&◌, nat_lt, length, pos}
+use Rattle.std.specs.Prelude.{ℕ, Bool, false, not, ◌&&◌, nat_lt, length, pos}
 use Rattle.std.specs.Ordering.{int_eq}
+use Rattle.std.specs.Str.{bytes_eq}
 use Rattle.lsl_value.specs.Text.{text_charge_of}
 use Rattle.lsl_value.specs.Atoms.{list_charge_of}
+use Rattle.lsl_value.specs.Equality.{same_atoms}
 use Rattle.lsl_value.specs.Key.{is_valid_key, is_null_key}
 use Rattle.lsl_value.specs.declared.list.Atom.{Atom}
 use Rattle.lsl_value.specs.declared.list.Atom.TheVariants.{Int as AtomInt, Str as AtomStr, Key as AtomKey}
@@ -36,3 +38,22 @@ abbrev pub value_of_atom : Atom → Value
 value_of_atom (AtomInt n) = Int n
 value_of_atom (AtomStr text) = Str text
 value_of_atom (AtomKey text) = Key text
+
+-- whether two values are the same, kind and all
+abbrev pub same_value : Value → Value → Bool
+same_value (Int a) (Int b) = int_eq a b
+same_value (Int a) (Str b) = false
+same_value (Int a) (Key b) = false
+same_value (Int a) (ListValue b) = false
+same_value (Str a) (Int b) = false
+same_value (Str a) (Str b) = bytes_eq a b
+same_value (Str a) (Key b) = false
+same_value (Str a) (ListValue b) = false
+same_value (Key a) (Int b) = false
+same_value (Key a) (Str b) = false
+same_value (Key a) (Key b) = bytes_eq a b
+same_value (Key a) (ListValue b) = false
+same_value (ListValue a) (Int b) = false
+same_value (ListValue a) (Str b) = false
+same_value (ListValue a) (Key b) = false
+same_value (ListValue a) (ListValue b) = same_atoms a b

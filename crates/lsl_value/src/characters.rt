@@ -1,6 +1,6 @@
 //! Texts: lists of Unicode characters.
 
-ghost use Rattle.std.specs.Prelude.{◌≡◌, ◌≤◌, ◌<◌, ◌++◌, [], length, nat_eq, IfOk, OnOk, OnErr, MatchOption, ◌⊎◌};
+ghost use Rattle.std.specs.Prelude.{◌≡◌, ◌+◌, ◌≤◌, ◌<◌, ◌++◌, [], length, nat_eq, IfOk, OnOk, OnErr, MatchOption, ◌⊎◌};
 ghost use Rattle.std.specs.Cmp.{partial_equiv_from_equiv};
 ghost use Rattle.std.specs.Cmp.Lexicographic.{nat_list_eq_equiv, pointwise};
 ghost use Rattle.std.specs.Str.{chars, encode_utf8_all, IsAscii};
@@ -115,7 +115,7 @@ impl Text {
 
     /// Adds the other text's characters at the end: the two together keep to the limit.
     pub fn push_text(&mut self, other: &Text) -> Result<(), NoMemory>
-        requires { length (encode_utf8_all (self.old ++ other.now)) ≤ MAX_TEXT_BYTES }
+        requires { length (encode_utf8_all self.old) + length (encode_utf8_all other.now) ≤ MAX_TEXT_BYTES }
         ensures ok { OnOk result (self.new ≡ self.old ++ other.now) }
         ensures unchanged { OnErr result (self.new ≡ self.old) }
     {

@@ -7,6 +7,8 @@ mod list;
 mod names;
 mod operators;
 mod tagged;
+#[cfg(test)]
+mod tests;
 
 pub use crate::characters::{MAX_TEXT_BYTES, Text};
 pub use crate::keys::valid_key;

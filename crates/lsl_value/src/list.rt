@@ -1,7 +1,10 @@
 //! Lists: elements are integers, strings and keys, never lists.
 
 ghost use Rattle.std.specs.Prelude.{◌≡◌, [], ◌++◌, ◌∷◌, ◌+◌, ◌*◌, ◌≤◌, ◌<◌, ◌↔◌, length, OnOk, OnErr, IfOk, IsTrue};
+ghost use Rattle.std.specs.Cmp.{partial_equiv_from_equiv};
 ghost use Rattle.lsl_value.specs.Atoms.{atom_charge_of, list_charge_of};
+ghost use Rattle.lsl_value.specs.Equality.{same_atom, same_atoms};
+ghost use Rattle.lsl_value.specs.EqualityLaws.{same_atom_equiv, same_atoms_equiv};
 
 use crate::characters::Text;
 use lsl_text::NoMemory;
@@ -21,7 +24,7 @@ const ELEMENT_CHARGE: u64 = 8;
 const LIST_CHARGE: u64 = 16;
 
 /// An element of a list.
-#[derive(Debug, Drop, PartialEq, Eq)]
+#[derive(Debug, Drop)]
 pub enum Atom {
     Int(i32),
     Str(Text),
@@ -188,6 +191,38 @@ impl Items {
             charge: self.charge,
         })
     }
+}
+
+impl PartialEq for Atom {
+    ghost eq = { same_atom };
+
+    ghost laws = { partial_equiv_from_equiv same_atom_equiv };
+
+    fn eq(&self, other: &Atom) -> bool {
+        match (self, other) {
+            (Atom::Int(a), Atom::Int(b)) => a == b,
+            (Atom::Str(a), Atom::Str(b)) | (Atom::Key(a), Atom::Key(b)) => a == b,
+            _ => false,
+        }
+    }
+}
+
+impl Eq for Atom {
+    ghost laws = { same_atom_equiv };
+}
+
+impl PartialEq for Items {
+    ghost eq = { same_atoms };
+
+    ghost laws = { partial_equiv_from_equiv same_atoms_equiv };
+
+    fn eq(&self, other: &Items) -> bool {
+        self.as_slice() == other.as_slice()
+    }
+}
+
+impl Eq for Items {
+    ghost laws = { same_atoms_equiv };
 }
 
 /// What a list of these elements is charged.

@@ -1,7 +1,10 @@
 //! Values with their kinds, and lists of values.
 
 ghost use Rattle.std.specs.Prelude.{◌≡◌, [], ◌++◌, ◌∷◌, length, IfOk, OnOk, OnErr};
-ghost use Rattle.lsl_value.specs.Values.{kind_of, charge_of, truth_of};
+ghost use Rattle.std.specs.Cmp.{partial_equiv_from_equiv};
+ghost use Rattle.std.specs.Cmp.Lexicographic.{pointwise};
+ghost use Rattle.lsl_value.specs.Values.{kind_of, charge_of, truth_of, same_value};
+ghost use Rattle.lsl_value.specs.EqualityLaws.{same_value_equiv, same_values_equiv};
 
 use crate::characters::Text;
 use crate::keys::{is_null_key, valid_key};
@@ -82,6 +85,25 @@ pub fn copy(alloc: Global, value: &Value) -> Result<Value, NoMemory>
     }
 }
 
+impl PartialEq for Value {
+    ghost eq = { same_value };
+
+    ghost laws = { partial_equiv_from_equiv same_value_equiv };
+
+    fn eq(&self, other: &Value) -> bool {
+        match (self, other) {
+            (Value::Int(a), Value::Int(b)) => a == b,
+            (Value::Str(a), Value::Str(b)) | (Value::Key(a), Value::Key(b)) => a == b,
+            (Value::List(a), Value::List(b)) => a == b,
+            _ => false,
+        }
+    }
+}
+
+impl Eq for Value {
+    ghost laws = { same_value_equiv };
+}
+
 /// A list of values.
 #[derive(Debug, Drop)]
 pub struct Values {
@@ -155,4 +177,18 @@ impl Values {
         }
         Ok(Values { list })
     }
+}
+
+impl PartialEq for Values {
+    ghost eq = { pointwise same_value };
+
+    ghost laws = { partial_equiv_from_equiv same_values_equiv };
+
+    fn eq(&self, other: &Values) -> bool {
+        self.as_slice() == other.as_slice()
+    }
+}
+
+impl Eq for Values {
+    ghost laws = { same_values_equiv };
 }
