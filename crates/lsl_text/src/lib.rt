@@ -6,10 +6,12 @@
 
 use std::alloc::{AllocError, AllocFailed};
 
+mod cursor;
 mod number;
 mod quote;
 
-pub use crate::number::push_decimal;
+pub use crate::cursor::Cursor;
+pub use crate::number::{leading_integer, push_decimal};
 pub use crate::quote::push_quoted;
 
 /// Want of memory: the allocator's error.
