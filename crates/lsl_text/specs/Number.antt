@@ -1,7 +1,7 @@
 -- Integers as text, and the integer that a text begins with.
-use Rattle.std.specs.Prelude.{ℕ, zero, suc, ◌==◌, nat_le, Bool, false, ◌&&◌, ◌||◌, if◌then◌else◌, ℤ, pos, negsuc, List, [], ◌∷◌, drop, decimal, w32}
+use Rattle.std.specs.Prelude.{ℕ, suc, ◌==◌, nat_le, Bool, false, ◌&&◌, ◌||◌, if◌then◌else◌, ℤ, pos, negsuc, List, ◌∷◌, drop, slice_index, decimal}
 use Rattle.std.specs.Char.{is_digit}
-use Rattle.std.specs.Int.{cast_signed, int_wrapping_neg}
+use Rattle.std.specs.Int.{w32, cast_signed, int_wrapping_neg}
 use Rattle.std.specs.List.{prefix_len, take_while}
 use Rattle.std.specs.Str.Parse.{digits_value}
 
@@ -27,13 +27,12 @@ abbrev pub begins_hexadecimal : List ℕ → Bool
 begins_hexadecimal (a ∷ b ∷ c ∷ rest) = a == 48 && ((b == 120 || b == 88) && is_digit c 16)
 begins_hexadecimal _ = false
 
-abbrev pub unsigned_integer : List ℕ → ℤ
+unfoldable pub unsigned_integer : List ℕ → ℤ
 unsigned_integer text = if begins_hexadecimal text then digits_integer 16 (drop 2 text) else digits_integer 10 text
 
 -- the integer behind an optional sign; a minus sign negates it, and -2147483648 to itself
 abbrev pub signed_integer : List ℕ → ℤ
-signed_integer [] = pos 0
-signed_integer (b ∷ rest) = if b == 45 then int_wrapping_neg w32 (unsigned_integer rest) else (if b == 43 then unsigned_integer rest else unsigned_integer (b ∷ rest))
+signed_integer text = if slice_index text 0 == 45 then int_wrapping_neg w32 (unsigned_integer (drop 1 text)) else (if slice_index text 0 == 43 then unsigned_integer (drop 1 text) else unsigned_integer text)
 
 -- the integer that a text begins with, behind blanks
 abbrev pub leading_integer_of : List ℕ → ℤ

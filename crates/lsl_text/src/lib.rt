@@ -9,6 +9,8 @@ use std::alloc::{AllocError, AllocFailed};
 mod cursor;
 mod number;
 mod quote;
+#[cfg(test)]
+mod tests;
 
 pub use crate::cursor::Cursor;
 pub use crate::number::{leading_integer, push_decimal};

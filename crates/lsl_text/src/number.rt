@@ -1,10 +1,11 @@
 //! Integers as text, and the integer that a text begins with.
 
-ghost use Rattle.std.specs.Prelude.{◌≡◌, ◌+◌, ◌^◌, ◌<◌, ◌≤◌, ◌++◌, ⊤, drop, min, OnOk, OnErr, MatchOption};
-ghost use Rattle.std.specs.Char.{is_digit, digit_value};
+ghost use Rattle.std.specs.Prelude.{◌≡◌, ◌≤◌, ◌++◌, length, drop, min, OnOk, OnErr};
+ghost use Rattle.std.specs.Bool.{OnTrue};
+ghost use Rattle.std.specs.Char.{is_digit};
 ghost use Rattle.std.specs.List.{prefix_len, take_while};
 ghost use Rattle.std.specs.Str.Parse.{digits_value};
-ghost use Rattle.lsl_text.specs.Number.{decimal_of, is_blank, wrapped, digits_integer, unsigned_integer, leading_integer_of};
+ghost use Rattle.lsl_text.specs.Number.{decimal_of, is_blank, digits_integer, begins_hexadecimal, unsigned_integer, signed_integer, leading_integer_of};
 
 use crate::NoMemory;
 use itoa::Buffer;
@@ -28,11 +29,7 @@ pub fn push_decimal(out: &mut Vec<u8>, n: i64) -> Result<(), NoMemory>
 pub fn leading_integer(text: &[u8]) -> i32
     ensures { result ≡ leading_integer_of text.now }
 {
-    match behind_blanks(text) {
-        [b'-', rest @ ..] => unsigned(rest).wrapping_neg(),
-        [b'+', rest @ ..] => unsigned(rest),
-        rest => unsigned(rest),
-    }
+    signed(behind_blanks(text))
 }
 
 fn is_blank(b: u8) -> bool
@@ -54,12 +51,34 @@ fn behind_blanks(text: &[u8]) -> &[u8]
     rest
 }
 
+fn signed(text: &[u8]) -> i32
+    ensures { result ≡ signed_integer text.now }
+{
+    match text.first() {
+        Some(b'-') => unsigned(&text[1..]).wrapping_neg(),
+        Some(b'+') => unsigned(&text[1..]),
+        _ => unsigned(text),
+    }
+}
+
+#[tactic(auto, unfolding(crate::specs::Number::unsigned_integer))]
 fn unsigned(text: &[u8]) -> i32
     ensures { result ≡ unsigned_integer text.now }
 {
+    if begins_hexadecimal(text) {
+        digits(&text[2..], 16)
+    } else {
+        digits(text, 10)
+    }
+}
+
+fn begins_hexadecimal(text: &[u8]) -> bool
+    ensures value { result ≡ begins_hexadecimal text.now }
+    ensures long { OnTrue result (3 ≤ length text.now) }
+{
     match text {
-        [b'0', b'x' | b'X', c, ..] if char::from(*c).is_digit(16) => digits(&text[2..], 16),
-        _ => digits(text, 10),
+        [b'0', b'x' | b'X', c, ..] => char::from(*c).is_digit(16),
+        _ => false,
     }
 }
 
