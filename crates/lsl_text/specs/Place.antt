@@ -21,11 +21,11 @@ span_of front part = record { start = length front; end = length (front ++ part)
 
 -- the cursor stands behind these bytes
 pub record IsBehind (front : List ℕ) (cursor : Cursor) : Type 0 where
-  pub start : cursor.start ≡ length front
+  pub offset : cursor.offset ≡ length front
   pub line : cursor.line ≡ line_behind front
   pub col : cursor.col ≡ column_behind front
 
 -- the cursor is at a place of the text, which may be its end
 pub record IsAt (text : List ℕ) (cursor : Cursor) : Type 0 where
-  pub within : cursor.start ≤ length text
-  pub behind : IsBehind (take cursor.start text) cursor
+  pub within : cursor.offset ≤ length text
+  pub behind : IsBehind (take cursor.offset text) cursor
