@@ -1,7 +1,20 @@
-//! Bytes and places: source spans, refusals, and the forms of numbers and quoted texts.
+//! Bytes and places: source spans, refusals, a cursor, and the forms of numbers and quoted texts.
+//!
+//! Nothing here takes memory but [`push_decimal`] and [`push_quoted`], by growing the vector that they
+//! are given.
 #![tactic(auto)]
 
-use std::alloc::AllocError;
+use std::alloc::{AllocError, AllocFailed};
+
+mod cursor;
+mod number;
+mod quote;
+#[cfg(test)]
+mod tests;
+
+pub use crate::cursor::Cursor;
+pub use crate::number::{leading_integer, push_decimal};
+pub use crate::quote::push_quoted;
 
 /// Want of memory: the allocator's error.
 pub type NoMemory = AllocError;
@@ -21,4 +34,26 @@ pub struct Span {
 pub enum Refusal<F> {
     Fault(F),
     NoMemory,
+}
+
+impl<F> From<AllocError> for Refusal<F> {
+    ghost use Rattle.std.specs.Prelude.{◌≡◌};
+    ghost use Rattle.lsl_text.specs.declared.Refusal.TheVariants.{NoMemory};
+
+    ghost from_gives = { λ _ e. e ≡ NoMemory };
+
+    fn from(_e: AllocError) -> Refusal<F> {
+        Refusal::NoMemory
+    }
+}
+
+impl<F, T: Drop> From<AllocFailed<T>> for Refusal<F> {
+    ghost use Rattle.std.specs.Prelude.{◌≡◌};
+    ghost use Rattle.lsl_text.specs.declared.Refusal.TheVariants.{NoMemory};
+
+    ghost from_gives = { λ _ e. e ≡ NoMemory };
+
+    fn from(_e: AllocFailed<T>) -> Refusal<F> {
+        Refusal::NoMemory
+    }
 }

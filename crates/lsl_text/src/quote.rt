@@ -1,0 +1,55 @@
+//! Quoted text.
+
+ghost use Rattle.std.specs.Prelude.{◌≡◌, ◌++◌, take, vec_len, OnOk, OnErr};
+ghost use Rattle.std.specs.List.{flat_map};
+ghost use Rattle.lsl_text.specs.Quoted.{escaped, quoted};
+
+use crate::NoMemory;
+
+/// Appends the text in quotes: `"` and `\` stand behind a `\`, a line feed is `\n`, and every other
+/// byte is itself.
+///
+/// Takes memory where the vector grows; after an `Err` the vector is unchanged.
+pub fn push_quoted(out: &mut Vec<u8>, text: &[u8]) -> Result<(), NoMemory>
+    ensures ok { OnOk result (out.new.items ≡ out.old.items ++ quoted text.now) }
+    ensures unchanged { OnErr result (out.new.items ≡ out.old.items) }
+{
+    let start = out.len();
+    let pushed = push_parts(out, text);
+    if pushed.is_err() {
+        out.truncate(start);
+    }
+    pushed
+}
+
+// After an `Err` a front of the quoted text may stand behind the old bytes.
+fn push_parts(out: &mut Vec<u8>, text: &[u8]) -> Result<(), NoMemory>
+    ensures ok { OnOk result (out.new.items ≡ out.old.items ++ quoted text.now) }
+    ensures front { OnErr result (take (vec_len out.old) out.new.items ≡ out.old.items) }
+{
+    out.push(b'"')?;
+    push_body(out, text)?;
+    out.push(b'"')?;
+    Ok(())
+}
+
+fn push_body(out: &mut Vec<u8>, text: &[u8]) -> Result<(), NoMemory>
+    ensures ok { OnOk result (out.new.items ≡ out.old.items ++ flat_map escaped text.now) }
+    ensures front { OnErr result (take (vec_len out.old) out.new.items ≡ out.old.items) }
+{
+    'bytes: for b in text {
+        push_escaped(out, *b)?;
+    }
+    Ok(())
+}
+
+fn push_escaped(out: &mut Vec<u8>, b: u8) -> Result<(), NoMemory>
+    ensures ok { OnOk result (out.new.items ≡ out.old.items ++ escaped b) }
+    ensures unchanged { OnErr result (out.new.items ≡ out.old.items) }
+{
+    match b {
+        b'"' | b'\\' => out.extend_from_slice(&[b'\\', b]),
+        b'\n' => out.extend_from_slice(b"\\n"),
+        _ => out.extend_from_slice(&[b]),
+    }
+}
