@@ -1,0 +1,5 @@
+pub mod Counts
+pub mod Shelf
+pub mod Sink
+pub mod Link
+pub mod Piece
