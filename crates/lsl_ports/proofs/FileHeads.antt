@@ -1,11 +1,10 @@
 -- A file that is read piece by piece.
-use Rattle.std.proofs.Common.{◌≡◌, ℕ, ◌+◌, ◌-◌, ◌<◌, ◌≤◌, List, [], ◌∷◌, ◌++◌, length, take, drop, Option, Some, None, refl, ap, sym, ◌∙◌, subst, cond, true, false, ltb, arith, length-append, append-nil}
-use Rattle.std.proofs.lemmas.List.{length-take, length-take-le, length-drop, take-append-le, take-take, take_all, take-append-drop}
-use Rattle.std.proofs.lemmas.Bool.Decides.{nat_tests}
+use Rattle.std.proofs.Common.{◌≡◌, ℕ, ◌+◌, ◌-◌, ◌<◌, ◌≤◌, List, [], ◌++◌, length, take, drop, Option, Some, None, ap, sym, ◌∙◌, subst, arith, length-append}
+use Rattle.std.proofs.lemmas.List.{length-take, length-take-le, length-drop, take-append-le, take-take, take_all}
 use Rattle.std.proofs.Math.ListN.{replicate, length-replicate}
 use Rattle.std.proofs.Math.Seq.{take-append-add, take-add}
-use Rattle.lsl_ports.specs.Shelf.{Files, Reads, CopiesFile, Copies, IsHead, IsHeadOf, head_of}
-use Rattle.lsl_ports.specs.Piece.{Follows, FollowsFile, FollowsIn, Gains}
+use Rattle.lsl_ports.specs.Shelf.{Files, Reads, CopiesFile}
+use Rattle.lsl_ports.specs.Piece.{FollowsFile, FollowsIn, Gains}
 
 -- what a vector holds after a piece of it was read into and the rest was cut off
 pub piece_read : (old block piece post rest : List ℕ) (room count : ℕ) → take (length old) block ≡ old → count ≤ length piece → length old + length piece ≤ room →
@@ -38,14 +37,6 @@ abbrev pub Begins : Option Files → List ℕ → List ℕ → Type 0
 Begins None name bytes = Unit {0}
 Begins (Some files) name bytes = BeginsFile (files name) bytes
 
-begins-nothing : (file : Option (List ℕ)) → BeginsFile file []
-begins-nothing None = refl
-begins-nothing (Some file) = refl
-
-pub begins-none : (held : Option Files) (name bytes : List ℕ) → bytes ≡ [] → Begins held name bytes
-begins-none None name bytes e = tt
-begins-none (Some files) name bytes e = subst (λ z. BeginsFile (files name) z) (sym e) (begins-nothing (files name))
-
 begins-further : (file : Option (List ℕ)) (bytes next : List ℕ) → BeginsFile file bytes → FollowsFile file (length bytes) next → BeginsFile file (bytes ++ next)
 begins-further None bytes next b f = absurd f
 begins-further (Some file) bytes next b f =
@@ -54,33 +45,15 @@ begins-further (Some file) bytes next b f =
     ∙ sym (take-add (length bytes) (length next) file)
     ∙ ap (λ z. take z file) (sym (length-append bytes next))
 
-pub begins-more : (held : Option Files) (name bytes next : List ℕ) → Begins held name bytes → FollowsIn held name (length bytes) next → Begins held name (bytes ++ next)
+begins-more : (held : Option Files) (name bytes next : List ℕ) → Begins held name bytes → FollowsIn held name (length bytes) next → Begins held name (bytes ++ next)
 begins-more None name bytes next b f = tt
 begins-more (Some files) name bytes next b f = begins-further (files name) bytes next b f
 
-head-short : (limit : ℕ) (file : List ℕ) → length file ≤ limit + 1 → file ≡ head_of limit file
-head-short limit file h = let e = take_all (limit + 1) file h in grind (arith, nat_tests)
-
-ended-file : (file : Option (List ℕ)) (limit : ℕ) (bytes next : List ℕ) → BeginsFile file bytes → FollowsFile file (length bytes) next → length next ≡ 0 → length bytes ≤ limit + 1 → IsHeadOf limit file (bytes ++ next)
-ended-file None limit bytes next b f e h = f
-ended-file (Some file) limit bytes next b f e h =
-    let whole = begins-further (Some file) bytes next b f in
-    whole ∙ take_all _ file (omega (arith, f.ended e, length-append bytes next))
-    ∙ head-short limit file (omega (arith, f.ended e))
-
--- at the file's end
-pub head-ended : (held : Option Files) (name : List ℕ) (limit : ℕ) (bytes next : List ℕ) → Begins held name bytes → FollowsIn held name (length bytes) next → length next ≡ 0 → length bytes ≤ limit + 1 → IsHead held name limit (bytes ++ next)
-head-ended None name limit bytes next b f e h = tt
-head-ended (Some files) name limit bytes next b f e h = ended-file (files name) limit bytes next b f e h
-
-full-file : (file : Option (List ℕ)) (limit : ℕ) (bytes : List ℕ) → BeginsFile file bytes → length bytes ≡ limit + 1 → limit < 18446744073709551615 → IsHeadOf limit file bytes
-full-file None limit bytes b e h = absurd (let z : length bytes ≡ 0 = ap length b in omega arith)
-full-file (Some file) limit bytes b e h = let f : bytes ≡ take (limit + 1) file = b ∙ ap (λ z. take z file) e in grind (arith, nat_tests)
-
--- one byte past the limit
-pub head-full : (held : Option Files) (name : List ℕ) (limit : ℕ) (bytes : List ℕ) → Begins held name bytes → length bytes ≡ limit + 1 → limit < 18446744073709551615 → IsHead held name limit bytes
-head-full None name limit bytes b e h = tt
-head-full (Some files) name limit bytes b e h = full-file (files name) limit bytes b e h
+-- one read more, of a shelf that holds what it held
+pub begins-gains : (held then : Option Files) (name old new : List ℕ) (count : ℕ) → then ≡ held → Begins held name old → Gains then name old new count → Begins held name new
+begins-gains held then name old new count same b gain =
+    let told = subst (λ z. FollowsIn z name (length old) gain.next) same gain.told in
+    subst (λ z. Begins held name z) (sym gain.grew) (begins-more held name old gain.next b told)
 
 -- a vector that was grown by `room` zeros, read into from its old end on, and cut off behind what came
 pub gains_read : (held : Option Files) (name old block piece post rest new : List ℕ) (place filler room len count : ℕ) →
@@ -96,9 +69,9 @@ gains_read held name old block piece post rest new place filler room len count a
     let size : length block ≡ place + room = ap length is ∙ simp (length-append, length-replicate, whole) (omega arith) in
     let room_read : length piece ≡ room = omega (arith, many, length-take (length block - place) (drop place block), length-drop place block) in
     let front : take (length old) block ≡ old =
-        ap (λ z. take (length old) z) (is ∙ ap (λ z. z ++ replicate filler 0) whole) ∙ take-append-le (length old) old (replicate filler 0) (omega arith) ∙ take_all (length old) old (omega arith) in
+    ap (λ z. take (length old) z) (is ∙ ap (λ z. z ++ replicate filler 0) whole) ∙ take-append-le (length old) old (replicate filler 0) (omega arith) ∙ take_all (length old) old (omega arith) in
     let cut_at : new ≡ take (length old + count) (take len ((take (length old) block ++ (piece ++ post)) ++ rest)) =
-        subst (λ z. new ≡ take (z + count) (take len ((take z block ++ (piece ++ post)) ++ rest))) at cut in
+    subst (λ z. new ≡ take (z + count) (take len ((take z block ++ (piece ++ post)) ++ rest))) at cut in
     record {
       next = take count piece;
       grew = cut_at ∙ piece_read old block piece post rest len count front few (omega arith);

@@ -2,7 +2,7 @@
 use Rattle.std.proofs.Common.{◌≡◌, ◌≤◌, ℕ, ◌+◌, ◌-◌, length, arith, List, [], ◌++◌, take, drop, Option, Some, None, ap, sym, refl, ◌∙◌, subst, append_assoc, append-nil}
 use Rattle.std.proofs.lemmas.List.{take_rest, length-drop}
 use Rattle.std.proofs.Math.Seq.{take-add}
-use Rattle.lsl_ports.specs.Sink.{Grew, GrewByPrefix, AddsPrefix}
+use Rattle.lsl_ports.specs.Sink.{Grew, GrewByPrefix}
 
 pub grew-none : (a : Option (List ℕ)) → Grew a a []
 grew-none None = refl

@@ -3,3 +3,4 @@ pub mod Shelf
 pub mod Sink
 pub mod Link
 pub mod Piece
+pub mod Stored

@@ -1,5 +1,5 @@
 -- One read of a file of which some bytes were read.
-use Rattle.std.specs.Prelude.{◌≡◌, ℕ, ◌+◌, ◌≤◌, List, ◌++◌, length, take, drop, Option, Some, None}
+use Rattle.std.specs.Prelude.{◌≡◌, ℕ, ◌≤◌, List, ◌++◌, length, take, drop, Option, Some, None}
 use Rattle.lsl_ports.specs.Shelf.{Files}
 
 -- the next bytes of the file are these, and none came only at its end

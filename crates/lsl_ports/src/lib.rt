@@ -3,10 +3,16 @@
 #![tactic(auto)]
 
 mod carrying;
+mod memory_shelf;
+mod memory_sink;
 mod reading;
+#[cfg(test)]
+mod tests;
 mod writing;
 
 pub use carrying::{Link, LinkFault};
+pub use memory_shelf::{MemoryShelf, StoredFile};
+pub use memory_sink::MemorySink;
 pub use reading::{Shelf, ShelfFault, read_all};
 pub use writing::{Sink, write_all};
 

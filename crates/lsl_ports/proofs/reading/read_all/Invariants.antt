@@ -1,4 +1,4 @@
-use Rattle.std.proofs.Common.{◌≡◌, ◌+◌, ◌≤◌, ◌-◌, min, vec_len}
+use Rattle.std.proofs.Common.{◌≡◌, ◌≤◌, ◌-◌, vec_len}
 use Rattle.lsl_ports.specs.Counts.{NoneFell}
 use Rattle.lsl_ports.proofs.FileHeads.{Begins}
 use Rattle.lsl_ports.proofs.reading.read_all.Given as goal
