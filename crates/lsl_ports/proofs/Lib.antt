@@ -1,0 +1,2 @@
+pub mod FileHeads
+pub mod Growth

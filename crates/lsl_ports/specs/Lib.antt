@@ -1,0 +1,6 @@
+pub mod Counts
+pub mod Shelf
+pub mod Sink
+pub mod Link
+pub mod Piece
+pub mod Stored

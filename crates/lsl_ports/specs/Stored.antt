@@ -1,0 +1,85 @@
+-- What the objects in memory are to their callers.
+use Rattle.std.specs.Prelude.{ℕ, ◌+◌, ◌-◌, ◌==◌, Bool, ◌&&◌, ◌||◌, not, List, [], ◌++◌, length, take, option_map, slice_get, slice_index, slice_set, replicate, position, unwrap_or, if◌then◌else◌}
+use Rattle.std.specs.List.{list_any}
+use Rattle.std.specs.Str.{bytes_eq}
+use Rattle.lsl_ports.specs.Counts.{raised}
+use Rattle.lsl_ports.specs.Shelf.{Files}
+
+-- a file in memory
+pub record NamedBytes : Type 0 where
+  pub name : List ℕ
+  pub bytes : List ℕ
+
+-- a shelf in memory: its files, the counts of their faults and behind them that of all other names,
+-- the numbers of the calls that fail, and how many calls there were
+pub record ShelfState : Type 0 where
+  pub files : List NamedBytes
+  pub faults : List ℕ
+  pub failing : List ℕ
+  pub calls : ℕ
+
+-- a sink in memory: what it took, how many bytes it has room for in all, the numbers of the calls
+-- that fail, how many calls there were, and the count of its faults
+pub record SinkState : Type 0 where
+  pub taken : List ℕ
+  pub room : ℕ
+  pub failing : List ℕ
+  pub calls : ℕ
+  pub faults : ℕ
+
+-- the call after these many is one that fails
+abbrev pub fails_next : List ℕ → ℕ → Bool
+fails_next failing calls = list_any (λ number. number == raised calls) failing
+
+-- a shelf at its start
+abbrev pub new_shelf : List NamedBytes → List ℕ → ShelfState
+new_shelf files failing = record { files = files; faults = replicate (length files + 1) 0; failing = failing; calls = 0 }
+
+-- the place of the first file of that name, or the count of files where there is none
+abbrev pub place_of : List NamedBytes → List ℕ → ℕ
+place_of files name = unwrap_or (position (λ file. bytes_eq file.name name) files) (length files)
+
+-- the files by name
+abbrev pub files_of : List NamedBytes → Files
+files_of files name = option_map (λ file. file.bytes) (slice_get files (place_of files name))
+
+-- the count of a name's faults
+abbrev pub faults_of : ShelfState → List ℕ → ℕ
+faults_of s name = slice_index s.faults (place_of s.files name)
+
+-- the next call fails: it is to, or there is no file of that name
+abbrev pub fails_at : ShelfState → List ℕ → Bool
+fails_at s name = fails_next s.failing s.calls || (place_of s.files name == length s.files)
+
+-- the shelf after a call for that name
+abbrev pub after_read : ShelfState → List ℕ → ShelfState
+after_read s name =
+    record {
+      files = s.files;
+      faults = if fails_at s name then slice_set s.faults (place_of s.files name) (raised (faults_of s name)) else s.faults;
+      failing = s.failing;
+      calls = raised s.calls;
+    }
+
+-- a sink at its start
+abbrev pub new_sink : ℕ → List ℕ → SinkState
+new_sink room failing = record { taken = []; room = room; failing = failing; calls = 0; faults = 0 }
+
+-- the next call with a piece fails: it is to, or the piece isn't empty and finds the room full
+abbrev pub refuses : SinkState → List ℕ → Bool
+refuses s piece = fails_next s.failing s.calls || ((length s.taken == s.room) && not (length piece == 0))
+
+-- what the next call takes of a piece
+abbrev pub taken_of : SinkState → List ℕ → List ℕ
+taken_of s piece = if refuses s piece then [] else take (s.room - length s.taken) piece
+
+-- the sink after a call with that piece
+abbrev pub after_write : SinkState → List ℕ → SinkState
+after_write s piece =
+    record {
+      taken = s.taken ++ taken_of s piece;
+      room = s.room;
+      failing = s.failing;
+      calls = raised s.calls;
+      faults = if refuses s piece then raised s.faults else s.faults;
+    }
