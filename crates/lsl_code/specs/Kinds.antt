@@ -1,15 +1,10 @@
 -- Kinds of values, and lists of kinds compared.
 use Rattle.std.specs.Prelude.{ℕ, pos, Bool, true, false, ◌&&◌, nat_eq, List, [], ◌∷◌, map}
+use Rattle.lsl_value.specs.Values.{kind_of}
 use Rattle.lsl_value.specs.declared.tagged.Kind.{Kind}
 use Rattle.lsl_value.specs.declared.tagged.Kind.TheVariants as kinds
 use Rattle.lsl_value.specs.declared.tagged.Value.{Value}
 use Rattle.lsl_value.specs.declared.tagged.Value.TheVariants as values
-
-abbrev pub kind_of : Value → Kind
-kind_of (values.Int n) = kinds.Int
-kind_of (values.Str t) = kinds.Str
-kind_of (values.Key t) = kinds.Key
-kind_of (values.List l) = kinds.List
 
 abbrev pub kinds_of : List Value → List Kind
 kinds_of values = map kind_of values
