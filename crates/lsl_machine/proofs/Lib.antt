@@ -1,3 +1,4 @@
 pub mod Entry
 pub mod Fitting
 pub mod Moves
+pub mod Runs
