@@ -1,0 +1,5 @@
+default {
+    state_entry() {
+        llOwnerSay("Hello, Avatar!");
+    }
+}
