@@ -8,6 +8,8 @@ mod comparisons;
 mod faults;
 mod integers;
 mod sums;
+#[cfg(test)]
+mod tests;
 
 pub use crate::binaries::binary;
 pub use crate::casts::cast;

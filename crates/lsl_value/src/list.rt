@@ -141,7 +141,8 @@ impl Items {
 
     /// Whether there is no room for another element.
     pub fn is_full(&self) -> bool
-        ensures { IsTrue result ↔ (length self.now ≡ MAX_ITEMS) }
+        ensures full { IsTrue result ↔ (length self.now ≡ MAX_ITEMS) }
+        ensures within { length self.now ≤ MAX_ITEMS }
     {
         self.list.len() == MAX_ITEMS
     }
