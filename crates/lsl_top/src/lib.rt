@@ -1,0 +1,4 @@
+//! The top call: what a command's words ask for is read, run and written.
+#![tactic(auto)]
+
+mod form;
