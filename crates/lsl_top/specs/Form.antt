@@ -2,6 +2,7 @@
 -- and `} }`, with blanks between the tokens and at both ends.
 use Rattle.std.specs.Prelude.{◌≡◌, ℕ, ◌≤◌, Bool, true, ◌&&◌, ◌||◌, not, ◌==◌, nat_le, codes, List, [], ◌∷◌, ◌++◌, length, map}
 use Rattle.std.specs.List.{list_all, flat_map}
+use Rattle.std.specs.Str.{encode_utf8_all}
 use Rattle.lsl_top.specs.declared.form.Word.{Word}
 use Rattle.lsl_top.specs.declared.form.Word.TheVariants.{Default, StateEntry, OwnerSay, OpenBrace, CloseBrace, OpenParen, CloseParen, Semicolon}
 
@@ -66,6 +67,10 @@ pub record Fronts (token text rest : List ℕ) : Type 0 where
 abbrev pub Leads : List (List ℕ) → List ℕ → List ℕ → Type 0
 Leads [] text rest = text ≡ rest
 Leads (token ∷ tokens) text rest = (behind : List ℕ) × Fronts token text behind × Leads tokens behind rest
+
+-- texts as bytes
+abbrev pub utf8_of : List (List ℕ) → List (List ℕ)
+utf8_of texts = map encode_utf8_all texts
 
 -- the file is a script of the built part, which says these texts
 pub record Says (file : List ℕ) (texts : List (List ℕ)) : Type 0 where

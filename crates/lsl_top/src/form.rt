@@ -8,7 +8,7 @@ const MAX_LITERAL_BYTES: usize = 1024;
 
 /// The words and signs of such a script.
 #[derive(Clone, Copy, Debug, PartialEq, Eq)]
-enum Word {
+pub enum Word {
     Default,
     StateEntry,
     OwnerSay,
@@ -48,7 +48,7 @@ fn is_literal_byte(byte: u8) -> bool
     matches!(byte, 32..=126) && byte != b'"' && byte != b'\\'
 }
 
-fn blank_count(text: &[u8]) -> usize
+pub fn blank_count(text: &[u8]) -> usize
     ensures count { result ≡ prefix_len is_blank text.now }
     ensures within { result ≤ length text.now }
 {
@@ -77,7 +77,7 @@ fn after_word(text: &[u8], word: Word) -> Option<&[u8]>
 }
 
 /// What stands behind the words, where they stand at the text's front in their order.
-fn after_words<'a>(text: &'a [u8], words: &[Word]) -> Option<&'a [u8]>
+pub fn after_words<'a>(text: &'a [u8], words: &[Word]) -> Option<&'a [u8]>
     ensures some { IfSome result (λ rest. Leads (spellings words.now) text.now rest.now) }
     ensures none { IsNone result → (rest : List ℕ) → Leads (spellings words.now) text.now rest → ⊥ }
 {
@@ -113,9 +113,10 @@ fn literal(text: &[u8]) -> Option<(&[u8], &[u8])>
 }
 
 /// What the statement at the text's front says, and what stands behind it.
-fn statement(text: &[u8]) -> Option<(&[u8], &[u8])>
+pub fn statement(text: &[u8]) -> Option<(&[u8], &[u8])>
     ensures some { IfSome result (λ found. IsLiteral found.0.now × Leads (statement_tokens found.0.now) text.now found.1.now) }
     ensures none { IsNone result → (said rest : List ℕ) → IsLiteral said → Leads (statement_tokens said) text.now rest → ⊥ }
+    ensures shorter { IfSome result (λ found. length found.1.now < length text.now) }
 {
     let text = after_words(text, &[Word::OwnerSay, Word::OpenParen])?;
     let (said, text) = literal(text)?;
