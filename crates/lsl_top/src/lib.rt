@@ -2,4 +2,9 @@
 #![tactic(auto)]
 
 mod form;
+mod program;
 mod script;
+mod status;
+mod words;
+
+pub use status::Status;
