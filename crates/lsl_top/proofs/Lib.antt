@@ -2,3 +2,5 @@ pub mod Tokens
 pub mod Statements
 pub mod Scripts
 pub mod Programs
+pub mod Courses
+pub mod Halting

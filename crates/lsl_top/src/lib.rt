@@ -2,7 +2,9 @@
 #![tactic(auto)]
 
 mod form;
+mod journal;
 mod program;
+mod running;
 mod script;
 mod status;
 mod words;
