@@ -4,3 +4,5 @@ pub mod Scripts
 pub mod Programs
 pub mod Courses
 pub mod Halting
+pub mod Lines
+pub mod Promises

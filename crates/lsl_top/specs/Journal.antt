@@ -1,5 +1,5 @@
 -- The lines that are written.
-use Rattle.std.specs.Prelude.{ℕ, codes, List, [], ◌∷◌, ◌++◌}
+use Rattle.std.specs.Prelude.{ℕ, codes, decimal, List, [], ◌∷◌, ◌++◌}
 use Rattle.std.specs.List.{flat_map}
 use Rattle.lsl_text.specs.Quoted.{quoted}
 
@@ -19,6 +19,14 @@ report_of texts =
     ++ (line (codes "done 1 1024")
     ++ line (codes "home 1 " ++ quoted (codes "here"))))
 
+-- where a fault stands, and its number
+abbrev pub place_of : ℕ → ℕ → ℕ → List ℕ
+place_of line_number col number = codes " " ++ (decimal line_number ++ (codes ":" ++ (decimal col ++ (codes " fault " ++ (decimal number ++ 10 ∷ [])))))
+
+-- the refusal of a file for a fault at a place
+abbrev pub refusal_line : List ℕ → ℕ → ℕ → ℕ → List ℕ
+refusal_line file line_number col number = codes "bad script " ++ (quoted file ++ place_of line_number col number)
+
 -- the refusal of a file that is no script of the built part
 abbrev pub refusal_of : List ℕ → List ℕ
-refusal_of file = line (codes "bad script " ++ quoted file ++ codes " 1:1 fault 90")
+refusal_of file = codes "bad script " ++ (quoted file ++ line (codes " 1:1 fault 90"))

@@ -4,4 +4,5 @@ pub mod Meant
 pub mod Status
 pub mod Journal
 pub mod Promise
+pub mod Answer
 pub mod Program

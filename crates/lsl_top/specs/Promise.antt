@@ -6,6 +6,8 @@ use Rattle.lsl_ports.specs.Sink.{Grew, GrewByPrefix}
 use Rattle.lsl_top.specs.Form.{Says, SaysNothing, AreLiterals}
 use Rattle.lsl_top.specs.Journal.{report_of, refusal_of}
 use Rattle.lsl_top.specs.Words.{Command, Once}
+use Rattle.lsl_top.specs.declared.status.Status.{Status}
+use Rattle.lsl_top.specs.declared.status.Status.TheVariants.{Ok, Usage, BadWorld, BadScript, ReadFault, WriteFault, BadImage, NoMemory}
 
 abbrev pub SaysIn : Option (List ℕ) → List (List ℕ) → Type 0
 SaysIn None texts = ⊥
@@ -24,11 +26,6 @@ Accepts (Some files) name texts = SaysIn (files name) texts
 abbrev pub Refuses : Option Files → List ℕ → Type 0
 Refuses None name = Unit {0}
 Refuses (Some files) name = RefusedIn (files name)
-
--- the shelf tells, and the file of that name is there
-abbrev pub IsTold : Option Files → Type 0
-IsTold None = ⊥
-IsTold (Some files) = Unit {0}
 
 -- the whole output of a command over these files
 abbrev pub OutputOf : Option Files → Command → List ℕ → Type 0
@@ -66,3 +63,25 @@ abbrev pub HasNoScript : Option Files → Option Command → Type 0
 HasNoScript held None = ⊥
 HasNoScript None (Some command) = ⊥
 HasNoScript (Some files) (Some (Once name)) = RefusedIn (files name)
+
+-- the statuses at which nothing was written
+abbrev pub WritesNothing : Status → Type 0
+WritesNothing Usage = Unit {0}
+WritesNothing ReadFault = Unit {0}
+WritesNothing NoMemory = Unit {0}
+WritesNothing Ok = ⊥
+WritesNothing BadWorld = ⊥
+WritesNothing BadScript = ⊥
+WritesNothing WriteFault = ⊥
+WritesNothing BadImage = ⊥
+
+-- what the sink has taken at each status of a run of that file
+abbrev pub RunsOnce : Option Files → List ℕ → Option (List ℕ) → Status → Option (List ℕ) → Type 0
+RunsOnce held name old Ok new = WritesReport held (Some (Once name)) old new
+RunsOnce held name old BadScript new = WritesRefusal held (Some (Once name)) old new
+RunsOnce held name old WriteFault new = WritesPrefix held (Some (Once name)) old new
+RunsOnce held name old ReadFault new = new ≡ old
+RunsOnce held name old NoMemory new = new ≡ old
+RunsOnce held name old Usage new = ⊥
+RunsOnce held name old BadWorld new = ⊥
+RunsOnce held name old BadImage new = ⊥
