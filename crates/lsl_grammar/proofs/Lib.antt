@@ -1,0 +1,4 @@
+pub mod ReadsLanguage
+pub mod Fronts
+pub mod Widening
+pub mod Hints
