@@ -97,18 +97,19 @@ module _ {Tok : Type 0} (kind : Tok → ℕ) (probe : ℕ) where
   pub stop_opens : {T : Type 0} (L : Lang Tok T) (p : Reader Tok T) (f : List ℕ) (n : T → List ℕ) → Reads kind L p f n → (ts u rest : List Tok) (w : Why) → p ts ≡ Err (w, rest) → ts ≡ u ++ rest → L.opens u
   stop_opens L p f n r ts u rest w e s = let (v, s', o) = r.fault ts rest w e in subst L.opens (append_cancel_right v u rest (sym s' ∙ s)) o
 
+  -- a stop in the first part is one of the whole
+  pub front_hint : {A B : Type 0} (M : Lang Tok A) (J : A → Lang Tok B) (p : Reader Tok A) (q : A → Reader Tok B) (w : Why) (u rest : List Tok) → Hint M p w u rest → Hint (M >=> J) (then_r p q) w u rest
+  front_hint M J p q TooDeep u [] h = h
+  front_hint M J p q TooDeep u (x ∷ r) h = inl h
+  front_hint M J p q OperandDue u rest h = λ i e. inl (h i e)
+  front_hint M J p q Unexpected u [] h = tt
+  front_hint M J p q Unexpected u (x ∷ r) h = λ i more e. ap (λ o. o >>= λ y. q y.0 y.1) (h i more e)
+
   module _ {A B : Type 0} (L M : Lang Tok A) (K J : A → Lang Tok B) (p : Reader Tok A) (q : A → Reader Tok B) (f : List ℕ) (n : A → List ℕ) (fK : A → List ℕ) (N : B → List ℕ)
       (r : Reads kind L p f n) (rK : (x : A) → Reads kind (K x) (q x) (fK x) N)
       (apart : (x : A) → Apart (fK x) (n x))
       (aside : (x : A) → among probe (n x) ≡ false)
       (m : Mono L M) (t : Tells M p) (tK : (x : A) → Tells (J x) (q x)) where
-    front : (w : Why) (u rest : List Tok) → Hint M p w u rest → Hint (M >=> J) (then_r p q) w u rest
-    front TooDeep u [] h = h
-    front TooDeep u (x ∷ r) h = inl h
-    front OperandDue u rest h = λ i e. inl (h i e)
-    front Unexpected u [] h = tt
-    front Unexpected u (x ∷ r) h = λ i more e. ap (λ o. o >>= λ y. q y.0 y.1) (h i more e)
-
     stop : (x : A) (u2 : List Tok) (i : Tok) (more : List Tok) → kind i ≡ probe → (K x).opens u2 → Stops kind (n x) (u2 ++ i ∷ more)
     stop x [] i more e o = among_probe (n x) i false e (aside x)
     stop x (y ∷ v) i more e o = stops_by kind (n x) y (v ++ i ∷ more) (apart x (kind y) ((rK x).starts y v o))
@@ -134,7 +135,7 @@ module _ {Tok : Type 0} (kind : Tok → ℕ) (probe : ℕ) where
         go ts rest w (Err x) e1 e2 =
             let same : x ≡ (w, rest) = err_parts {T = B} x (w, rest) e2 in
             let (u, s, h) = t.tell ts rest w (e1 ∙ ap (λ z. Err z) same) in
-            (u, s, front w u rest h)
+            (u, s, front_hint M J p q w u rest h)
 
   module _ {T : Type 0} (M M' : Lang Tok T) (p q : Reader Tok T) (ks : List ℕ)
       (aside : among probe ks ≡ false) (eats : Eats ks p) (t : Tells M p) (t' : Tells M' q) where
