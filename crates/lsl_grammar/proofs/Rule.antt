@@ -72,6 +72,22 @@ pub append_cases : (k : ℕ) (xs ys : List ℕ) → among k (xs ++ ys) ≡ true 
 append_cases k [] ys h = inr h
 append_cases k (x ∷ xs) ys h = ⊎_elim (λ e. inl (or_left (k == x) (among k xs) e)) (λ m. ⊎_elim (λ a. inl (or_right (k == x) (among k xs) a)) (λ b. inr b) (append_cases k xs ys m)) (or_cases (k == x) (among k (xs ++ ys)) h)
 
+pub append_none : (k : ℕ) (xs ys : List ℕ) → among k xs ≡ false → among k ys ≡ false → among k (xs ++ ys) ≡ false
+append_none k [] ys e f = f
+append_none k (x ∷ xs) ys e f = go (k == x) e
+  where
+    go : (b : Bool) → (b || among k xs) ≡ false → (b || among k (xs ++ ys)) ≡ false
+    go true h = h
+    go false h = append_none' xs h
+      where
+        append_none' : (l : List ℕ) → among k l ≡ false → among k (l ++ ys) ≡ false
+        append_none' [] h = f
+        append_none' (z ∷ l) h = either (k == z) h (append_none' l)
+          where
+            either : (c : Bool) → (c || among k l) ≡ false → (among k l ≡ false → among k (l ++ ys) ≡ false) → (c || among k (l ++ ys)) ≡ false
+            either true h ih = h
+            either false h ih = ih h
+
 not_among : (k : ℕ) (ks : List ℕ) → (among k ks ≡ true → ⊥) → among k ks ≡ false
 not_among k ks h = go (among k ks) refl
   where

@@ -1,1 +1,4 @@
 pub mod Kinds
+pub mod Operators
+pub mod ExpressionGrammar
+pub mod ExpressionReading
