@@ -151,6 +151,17 @@ module _ {Tok : Type 0} (kind : Tok → ℕ) where
     starts = λ t u h. sf (kind t) (r.starts t u h);
   }
 
+  -- a reader that does the same
+  pub reads_as : {T : Type 0} (L : Lang Tok T) (p q : Reader Tok T) (f : List ℕ) (n : T → List ℕ) → ((ts : List Tok) → p ts ≡ q ts) → Reads L p f n → Reads L q f n
+  reads_as L p q f n same r = record {
+    sound = λ ts rest x e. r.sound ts rest x (same ts ∙ e);
+    fault = λ ts rest w e. r.fault ts rest w (same ts ∙ e);
+    complete = λ u rest x w s. sym (same (u ++ rest)) ∙ r.complete u rest x w s;
+    past = λ u rest o. subst (Past rest) (same (u ++ rest)) (r.past u rest o);
+    within = r.within;
+    starts = r.starts;
+  }
+
   -- one part, and what may stand behind it
   module _ {A B : Type 0} (L : Lang Tok A) (K : A → Lang Tok B) (p : Reader Tok A) (q : A → Reader Tok B) (f : List ℕ) (n : A → List ℕ) (fK : A → List ℕ) (F : List ℕ) (N : B → List ℕ)
       (r : Reads L p f n) (rK : (x : A) → Reads (K x) (q x) (fK x) N)

@@ -6,9 +6,9 @@ use Rattle.lsl_grammar.specs.declared.Why.{Why}
 use Rattle.lsl_grammar.specs.declared.Why.TheVariants.{Unexpected, OperandDue, TooDeep}
 use Rattle.lsl_grammar.specs.Language.{among, Lang, ret, one_of, ◌>>=◌ as ◌>=>◌, ◌∣◌, never, rounds}
 use Rattle.lsl_grammar.specs.Reading.{Read, Reader, ◌>>=◌, begins, ret_r, one_r, then_r, or_r, deep_stop, deep_r, turns_r, rounds_r}
-use Rattle.lsl_grammar.proofs.ReadsLanguage.{Sub, Apart, Ends, Past, Stops, Reads, ends_of, stops_by, cond_true, cond_false, ok_rest, err_rest, err_parts, ret_reads, one_reads, wider, then_reads, or_reads, deep_reads, rounds_reads}
+use Rattle.lsl_grammar.proofs.ReadsLanguage.{Sub, Apart, Ends, Past, Stops, Reads, ends_of, reads_as, stops_by, cond_true, cond_false, ok_rest, err_rest, err_parts, ret_reads, one_reads, wider, then_reads, or_reads, deep_reads, rounds_reads}
 use Rattle.lsl_grammar.proofs.Fronts.{Fronts, ret_fronts, one_fronts, then_fronts, or_fronts, never_fronts, rounds_fronts}
-use Rattle.lsl_grammar.proofs.Widening.{Mono, same_mono, never_mono, then_mono, or_mono, rounds_mono, Refines, same_refines, then_refines, or_refines, rounds_refines, deep_refines}
+use Rattle.lsl_grammar.proofs.Widening.{Mono, same_mono, never_mono, then_mono, or_mono, rounds_mono, Refines, same_refines, refines_as, then_refines, or_refines, rounds_refines, deep_refines}
 use Rattle.lsl_grammar.proofs.Hints.{Hint, Tells, Eats, Suits, ret_tells, one_tells, tells_as, then_tells, or_tells, rounds_tells, deep_tells}
 
 -- Lists of numbers of kinds, by tests that compute
@@ -134,6 +134,10 @@ module _ {Tok : Type 0} (kind : Tok → ℕ) (probe : ℕ) where
   pub one_rule : (why : Why) (ks : List ℕ) (n : Tok → List ℕ) → Suits kind probe why ks → Rule (one_of kind ks) (one_of kind ks) (one_r kind why ks) (one_r kind why ks) ks n
   one_rule why ks n suits = record { reads = one_reads kind why ks n; fronts = one_fronts kind ks; mono = same_mono (one_of kind ks); refines = same_refines (one_r kind why ks); tells = one_tells kind probe why ks suits }
 
+  -- readers that do the same
+  pub rule_as : {T : Type 0} (L M : Lang Tok T) (p q p' q' : Reader Tok T) (f : List ℕ) (n : T → List ℕ) → ((ts : List Tok) → p ts ≡ p' ts) → ((ts : List Tok) → q ts ≡ q' ts) → Rule L M p q f n → Rule L M p' q' f n
+  rule_as L M p q p' q' f n same same' r = record { reads = reads_as kind L p p' f n same r.reads; fronts = r.fronts; mono = r.mono; refines = refines_as p p' q q' same same' r.refines; tells = tells_as kind probe M p p' same r.tells }
+
   pub wider_rule : {T : Type 0} {L M : Lang Tok T} {p q : Reader Tok T} {f : List ℕ} {n : T → List ℕ} (F : List ℕ) (N : T → List ℕ) → Rule L M p q f n → Sub f F → ((u : List Tok) (x : T) → L.whole u x → Sub (n x) (N x)) → Rule L M p q F N
   wider_rule {L = L} {p = p} {f = f} {n = n} F N r sf sn = record { reads = wider kind L p f n F N r.reads sf sn; fronts = r.fronts; mono = r.mono; refines = r.refines; tells = r.tells }
 
@@ -210,13 +214,13 @@ module _ {Tok : Type 0} (kind : Tok → ℕ) (probe : ℕ) where
           longer (t ∷ ts) u1 x.1 (t ∷ ts) s1 (λ e. full.none x.0 (subst (λ l. L.whole l x.0) e w1)) (u2, s2) refl
       go t ts m (Err x) e1 e2 = eats.eaten t ts m (e1 ∙ ap (λ z. Err z) (err_parts {T = B} x (Unexpected, t ∷ ts) e2))
 
-  one_eats : (why : Why) (ks : List ℕ) → Eats kind probe ks (one_r kind why ks)
+  pub one_eats : (why : Why) (ks : List ℕ) → Eats kind probe ks (one_r kind why ks)
   one_eats why ks = record { eaten = λ t ts m e. absurd (let is : one_r kind why ks (t ∷ ts) ≡ Ok (t, ts) = cond_true (among (kind t) ks) (Ok (t, ts)) (Err (why, t ∷ ts)) m in let both = sym is ∙ e in cc) }
 
-  deep_eats : {T : Type 0} (why : Why) (ks : List ℕ) → Eats kind probe ks (deep_r {T = T} kind why ks)
+  pub deep_eats : {T : Type 0} (why : Why) (ks : List ℕ) → Eats kind probe ks (deep_r {T = T} kind why ks)
   deep_eats {T} why ks = record { eaten = λ t ts m e. absurd (let is : deep_stop kind why ks (t ∷ ts) ≡ (TooDeep, t ∷ ts) = cond_true (among (kind t) ks) (TooDeep, t ∷ ts) (why, t ∷ ts) m in let both : ◌≡◌ {A = Why × List Tok} (TooDeep, t ∷ ts) (Unexpected, t ∷ ts) = sym is ∙ err_parts {T = T} (deep_stop kind why ks (t ∷ ts)) (Unexpected, t ∷ ts) e in let first : ◌≡◌ {A = Why} TooDeep Unexpected = ap (λ (z : Why × List Tok). z.0) both in cc) }
 
-  or_eats : {T : Type 0} (p q : Reader Tok T) (f g : List ℕ) → Eats kind probe f p → Eats kind probe g q → Eats kind probe (f ++ g) (or_r kind f p q)
+  pub or_eats : {T : Type 0} (p q : Reader Tok T) (f g : List ℕ) → Eats kind probe f p → Eats kind probe g q → Eats kind probe (f ++ g) (or_r kind f p q)
   or_eats p q f g a b = record { eaten = λ t ts m e. go t ts m (among (kind t) f) refl e }
     where
       go : (t : Tok) (ts : List Tok) → among (kind t) (f ++ g) ≡ true → (c : Bool) → among (kind t) f ≡ c → cond c (p (t ∷ ts)) (q (t ∷ ts)) ≡ Err (Unexpected, t ∷ ts) → ⊥
@@ -282,10 +286,10 @@ module _ {Tok : Type 0} (kind : Tok → ℕ) (probe : ℕ) where
   same : (k : ℕ) → (k == k) ≡ true
   same k = grind arith
 
-  probe_aside : (f g : List ℕ) → disjoint f (probe ∷ g) ≡ true → among probe f ≡ false
+  pub probe_aside : (f g : List ℕ) → disjoint f (probe ∷ g) ≡ true → among probe f ≡ false
   probe_aside f g e = not_among probe f (λ h. apart_by f (probe ∷ g) e probe h (or_left (probe == probe) (among probe g) (same probe)))
 
-  apart_aside : (f g : List ℕ) → disjoint f (probe ∷ g) ≡ true → Apart f g
+  pub apart_aside : (f g : List ℕ) → disjoint f (probe ∷ g) ≡ true → Apart f g
   apart_aside f g e k h m = apart_by f (probe ∷ g) e k h (or_right (k == probe) (among k g) m)
 
   -- one or the other: what begins the first begins neither the second nor an operand

@@ -51,6 +51,10 @@ pub record Refines {Tok T : Type 0} (p q : Reader Tok T) : Type 0 where
 pub same_refines : {Tok T : Type 0} (p : Reader Tok T) → Refines p p
 same_refines p = record { agrees = λ ts. inl refl }
 
+-- readers that do the same
+pub refines_as : {Tok T : Type 0} (p p' q q' : Reader Tok T) → ((ts : List Tok) → p ts ≡ p' ts) → ((ts : List Tok) → q ts ≡ q' ts) → Refines p q → Refines p' q'
+refines_as p p' q q' same same' r = record { agrees = λ ts. ⊎_elim (λ e. inl (sym (same' ts) ∙ e ∙ same ts)) (λ s. inr (subst Sinks (same ts) s)) (r.agrees ts) }
+
 pub then_refines : {Tok A B : Type 0} (p p' : Reader Tok A) (q q' : A → Reader Tok B) → Refines p p' → ((x : A) → Refines (q x) (q' x)) → Refines (then_r p q) (then_r p' q')
 then_refines {Tok} {A} {B} p p' q q' r s = record { agrees = λ ts. go ts (p ts) refl (r.agrees ts) }
   where

@@ -1,1 +1,2 @@
 pub mod ExpressionRules
+pub mod Munches

@@ -2,3 +2,5 @@ pub mod Kinds
 pub mod Operators
 pub mod ExpressionGrammar
 pub mod ExpressionReading
+pub mod StatementGrammar
+pub mod StatementReading
