@@ -1,2 +1,4 @@
 pub mod ExpressionRules
+pub mod ExpressionStarts
 pub mod Munches
+pub mod StatementRules
