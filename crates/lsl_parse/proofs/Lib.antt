@@ -2,3 +2,4 @@ pub mod ExpressionRules
 pub mod ExpressionStarts
 pub mod Munches
 pub mod StatementRules
+pub mod ScriptRules

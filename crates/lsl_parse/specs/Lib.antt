@@ -4,3 +4,5 @@ pub mod ExpressionGrammar
 pub mod ExpressionReading
 pub mod StatementGrammar
 pub mod StatementReading
+pub mod ScriptGrammar
+pub mod ScriptReading
