@@ -3,3 +3,4 @@ pub mod ExpressionStarts
 pub mod Munches
 pub mod StatementRules
 pub mod ScriptRules
+pub mod Top

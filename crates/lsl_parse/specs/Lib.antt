@@ -6,3 +6,6 @@ pub mod StatementGrammar
 pub mod StatementReading
 pub mod ScriptGrammar
 pub mod ScriptReading
+pub mod FaultNumbers
+pub mod Faults
+pub mod FaultReading

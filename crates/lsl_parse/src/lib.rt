@@ -1,6 +1,10 @@
 //! Token lists as syntax trees, or their first fault.
 #![tactic(auto)]
 
+mod fault;
 mod kind;
+mod limits;
 
+pub use crate::fault::{ParseFault, ParseKind};
 pub use crate::kind::{TokenKind, kind_of, same_kind};
+pub use crate::limits::{DEPTH, HEIGHT, TOKENS};
