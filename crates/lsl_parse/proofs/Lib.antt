@@ -4,3 +4,4 @@ pub mod Munches
 pub mod StatementRules
 pub mod ScriptRules
 pub mod Top
+pub mod FirstFault

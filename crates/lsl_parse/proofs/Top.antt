@@ -45,12 +45,12 @@ length_take zero ts = omega arith
 length_take (suc n) [] = omega arith
 length_take (suc n) (t ∷ ts) = let h = length_take n ts in omega arith
 
-length_take_all : (n : ℕ) (ts : List Token) → n ≤ length ts → length (take n ts) ≡ n
+pub length_take_all : (n : ℕ) (ts : List Token) → n ≤ length ts → length (take n ts) ≡ n
 length_take_all zero ts le = refl
 length_take_all (suc n) [] le = absurd (omega arith)
 length_take_all (suc n) (t ∷ ts) le = let h = length_take_all n ts (omega arith) in omega arith
 
-take_length : (ts : List Token) → take (length ts) ts ≡ ts
+pub take_length : (ts : List Token) → take (length ts) ts ≡ ts
 take_length [] = refl
 take_length (t ∷ ts) = ap (λ l. t ∷ l) (take_length ts)
 
@@ -70,17 +70,17 @@ place_below u rest t = omega (arith, length-append u (t ∷ rest))
 
 -- Wider limits
 
-abbrev Narrow : Option ℕ
+abbrev pub Narrow : Option ℕ
 Narrow = Some HEIGHT
 
-abbrev Reading : Type 0
+abbrev pub Reading : Type 0
 Reading = Read Token Script
 
-wide_rule : (limit : Option ℕ) (d D : ℕ) → suc d < D → Rule number probe (script limit d) (script None D) (script_r limit d) (script_r None D) (codes heading_heads ++ codes (kinds.DefaultWord ∷ [])) (λ _. codes (kinds.StateWord ∷ []))
+pub wide_rule : (limit : Option ℕ) (d D : ℕ) → suc d < D → Rule number probe (script limit d) (script None D) (script_r limit d) (script_r None D) (codes heading_heads ++ codes (kinds.DefaultWord ∷ [])) (λ _. codes (kinds.StateWord ∷ []))
 wide_rule limit d D lt = script_is_read limit d D lt
 
 -- each front of what begins a script begins one
-front : (n : ℕ) (u : List Token) → Shallow u → Shallow (take n u)
+pub front : (n : ℕ) (u : List Token) → Shallow u → Shallow (take n u)
 front n u o = (wide_rule Narrow DEPTH (DEPTH + 2) (omega arith)).fronts.closed (take n u) (drop n u) (subst Shallow (sym (take-append-drop n u)) o)
 
 front_of : (n : ℕ) (u rest : List Token) → n ≤ length u → Shallow u → Shallow (take n (u ++ rest))
@@ -93,11 +93,11 @@ wider_opens : (e D : ℕ) (u : List Token) → suc e < D → (script None e).ope
 wider_opens e D u lt o = (wide_rule None e D lt).mono.opens u o
 
 -- what didn't stop for a limit is read so within wider ones
-wide_same : (ts : List Token) (o : Reading) → script_r Narrow DEPTH ts ≡ o → (Sinks o → ⊥) → (D : ℕ) → suc DEPTH < D → script_r None D ts ≡ o
+pub wide_same : (ts : List Token) (o : Reading) → script_r Narrow DEPTH ts ≡ o → (Sinks o → ⊥) → (D : ℕ) → suc DEPTH < D → script_r None D ts ≡ o
 wide_same ts o e h D lt = ⊎_elim (λ s. s ∙ e) (λ s. absurd (h (subst Sinks e s))) ((wide_rule Narrow DEPTH D lt).refines.agrees ts)
 
 -- where reading stopped before a token, the tokens with it begin no script, however deep
-not_open : (ts u rest : List Token) (t : Token) (o : Reading) → ts ≡ u ++ t ∷ rest → ((D : ℕ) → suc DEPTH < D → script_r None D ts ≡ o) → (Past rest o → ⊥) → Open (u ++ t ∷ []) → ⊥
+pub not_open : (ts u rest : List Token) (t : Token) (o : Reading) → ts ≡ u ++ t ∷ rest → ((D : ℕ) → suc DEPTH < D → script_r None D ts ≡ o) → (Past rest o → ⊥) → Open (u ++ t ∷ []) → ⊥
 not_open ts u rest t o s more h (e, w) =
     let D = e + DEPTH + 2 in
     let all : (u ++ t ∷ []) ++ rest ≡ ts = append_assoc u (t ∷ []) rest ∙ sym s in
@@ -128,7 +128,7 @@ foreign ts u m t s e = no_operand u (λ D lt i k past.
     no_ends number probe i [] (subst (Past []) (ap (λ l. script_r None D (l ++ i ∷ [])) (sym same) ∙ h i [] k) past))
 
 -- a token behind a whole script
-foreign_behind : (ts u m : List Token) (t : Token) (x : Script) → ts ≡ u ++ t ∷ m → (script Narrow DEPTH).whole u x → WantsOperand u → ⊥
+pub foreign_behind : (ts u m : List Token) (t : Token) (x : Script) → ts ≡ u ++ t ∷ m → (script Narrow DEPTH).whole u x → WantsOperand u → ⊥
 foreign_behind ts u m t x s w = no_operand u (λ D lt i k past.
     let whole : (script None D).whole u x = (wide_rule Narrow DEPTH D lt).mono.whole u x w in
     let stop : among (number i) (codes (kinds.StateWord ∷ [])) ≡ false = ap (λ n. among n (codes (kinds.StateWord ∷ []))) k in
@@ -137,7 +137,7 @@ foreign_behind ts u m t x s w = no_operand u (λ D lt i k past.
 
 -- The fault of a stop
 
-first_at : (ts u rest : List Token) (k : ParseKind) → ts ≡ u ++ rest → Shallow u → length u ≤ TOKENS → Breaks ts (length u) k → ParseFirst ts (length u) k
+pub first_at : (ts u rest : List Token) (k : ParseKind) → ts ≡ u ++ rest → Shallow u → length u ≤ TOKENS → Breaks ts (length u) k → ParseFirst ts (length u) k
 first_at ts u rest k s o le b = record {
   before = λ n h. record {
     shallow = subst (λ l. Shallow (take n l)) (sym s) (front_of n u rest h o);
@@ -186,7 +186,7 @@ module _ (ts u m : List Token) (t : Token) (s : ts ≡ u ++ t ∷ m) (closed : O
       let same : f.token ≡ t = one_some f.token t (sym f.there ∙ there) in
       never (subst (λ z. IsFloatType u z) same (subst (λ l. IsFloatType l f.token) before_it f.refused))
 
-  foreign_breaks : (WantsOperand u → ⊥) → Breaks ts (length u) (fault_kind why.Unexpected (t ∷ m))
+  pub foreign_breaks : (WantsOperand u → ⊥) → Breaks ts (length u) (fault_kind why.Unexpected (t ∷ m))
   foreign_breaks never = go (among (number t) (codes refused_words)) refl
     where
       go : (b : Bool) → among (number t) (codes refused_words) ≡ b → Breaks ts (length u) (cond b FloatType Unexpected)
@@ -223,7 +223,7 @@ pub record Stopped (ts : List Token) (e : Why × List Token) : Type 0 where
   pub breaks : Breaks ts (length front) (fault_kind e.0 e.1)
 
 module _ (ts : List Token) where
-  stop_of : (w : Why) (rest : List Token) → script_r Narrow DEPTH ts ≡ Err (w, rest) → Stopped ts (w, rest)
+  pub stop_of : (w : Why) (rest : List Token) → script_r Narrow DEPTH ts ≡ Err (w, rest) → Stopped ts (w, rest)
   stop_of w rest e =
       let r = wide_rule Narrow DEPTH (DEPTH + 2) (omega arith) in
       let (u, s, h) = r.tells.tell ts rest w e in
