@@ -5,3 +5,4 @@ pub mod StatementRules
 pub mod ScriptRules
 pub mod Top
 pub mod FirstFault
+pub mod Views

@@ -1,6 +1,7 @@
 //! Token lists as syntax trees, or their first fault.
 #![tactic(auto)]
 
+mod expression;
 mod fault;
 mod kind;
 mod limits;

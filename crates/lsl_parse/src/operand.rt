@@ -1,6 +1,6 @@
 //! Expressions with their heights, as they are put together.
 
-ghost use Rattle.std.specs.Prelude.{◌≡◌, IfOk, OnErr, OnOk, min};
+ghost use Rattle.std.specs.Prelude.{◌≡◌, ◌+◌, IfOk, OnOk, min};
 ghost use Rattle.lsl_tree.specs.Expressions.{height as height_of, highest as highest_of, expression_of, expressions_of, Number, Quoted, Variable, SteppedBehind, SteppedBefore, Called, Listed, Grouped, Converted, Prefixed, Joined, Assigned, No_expression, And};
 ghost use Rattle.lsl_parse.specs.declared.limits.TheConstants.{HEIGHT};
 ghost use Rattle.lsl_parse.specs.ExpressionGrammar.{fits};
