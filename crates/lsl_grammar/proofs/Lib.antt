@@ -5,3 +5,4 @@ pub mod Hints
 pub mod Rule
 pub mod Until
 pub mod Pair
+pub mod Loops

@@ -34,7 +34,7 @@ expr_tails = codes assign_signs ++ tails levels
 -- element { ',' element }, and with the closing sign
 module _ {A B : Type 0} (add : A → B → A) (none : A) (L M : Language B) (p q : Reads B) (f c : List ℕ) (s : Solid number probe L M p q f c)
     (comma : disjoint (codes (Comma ∷ [])) c ≡ true) (aside : among probe (codes (Comma ∷ []) ++ c) ≡ false) where
-  next_solid : (before : A) → Solid number probe (sign Comma >=> λ comma. L >=> λ next. ret (add before next)) (sign Comma >=> λ comma. M >=> λ next. ret (add before next)) (next_r add p before) (next_r add q before) (codes (Comma ∷ [])) c
+  pub next_solid : (before : A) → Solid number probe (sign Comma >=> λ comma. L >=> λ next. ret (add before next)) (sign Comma >=> λ comma. M >=> λ next. ret (add before next)) (next_r add p before) (next_r add q before) (codes (Comma ∷ [])) c
   next_solid before = solid_sign number probe Unexpected (codes (Comma ∷ [])) f c _ _ _ _ refl s.aside (λ comma. (solid_ret number probe (add before) s).rule)
 
   pub series_solid : Solid number probe (series add none L) (series add none M) (series_r add none p) (series_r add none q) f (codes (Comma ∷ []) ++ c)
@@ -122,11 +122,16 @@ gate_solid : (b : Bool) (ks : List TokenKind) (c : List ℕ) (R : Language Expre
 gate_solid true ks c R J r k lone s = s
 gate_solid false ks c R J r k lone s = solid_shut number probe (codes ks) c J k lone s.aside
 
+-- an operator of a level and its right operand, behind this left one
+pub operation_solid : (limit : Option ℕ) (v v' : Language Expression) (q q' : Reads Expression) (n : ℕ) → Solid number probe v v' q q' (codes heads) (tails n) → (left : Expression) →
+    Solid number probe (gate (fits limit left) (operation v (signs n) left)) (gate (fits None left) (operation v' (signs n) left)) (next_operand_r limit q (signs n) left) (next_operand_r None q' (signs n) left) (codes (signs n)) (tails n)
+operation_solid limit v v' q q' n s left = gate_solid (fits limit left) (signs n) (tails n) _ _ _ _ (signs_lone n)
+    (solid_sign number probe Unexpected (codes (signs n)) (codes heads) (tails n) _ _ _ _ (signs_lone n) (tails_lone n) (λ o. (solid_ret number probe (λ right. Joined (operator_of o.sort) o.span left right) s).rule))
+
 pub level_solid : (limit : Option ℕ) (u u' : Language Expression) (r r' : Reads Expression) → Solid number probe u u' r r' (codes heads) (tails 0) → (n : ℕ) → Solid number probe (level limit u n) (level None u' n) (level_rule_r limit r n) (level_rule_r None r' n) (codes heads) (tails n)
 level_solid limit u u' r r' s zero = s
 level_solid limit u u' r r' s (suc n) = solid_rounds number probe (codes (signs n)) (tails n) (tails (suc n)) (λ x. x) _ _ _ _ (level_solid limit u u' r r' s n)
-    (λ left. gate_solid (fits limit left) (signs n) (tails n) _ _ _ _ (signs_lone n)
-      (solid_sign number probe Unexpected (codes (signs n)) (codes heads) (tails n) _ _ _ _ (signs_lone n) (tails_lone n) (λ o. (solid_ret number probe (λ right. Joined (operator_of o.sort) o.span left right) (level_solid limit u u' r r' s n)).rule)))
+    (λ left. operation_solid limit _ _ _ _ n (level_solid limit u u' r r' s n) left)
     (signs_apart n) (signs_apart n) (sub_left (codes (signs n)) (tails n)) (sub_right (codes (signs n)) (tails n)) (sub_right (codes (signs n)) (tails n)) (tails_lone n) (tails_lone (suc n))
 
 string_solid : Solid number probe string string string_r string_r (codes (Str ∷ [])) (tails 0)

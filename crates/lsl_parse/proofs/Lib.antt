@@ -6,3 +6,4 @@ pub mod ScriptRules
 pub mod Top
 pub mod FirstFault
 pub mod Views
+pub mod ExpressionLoops
