@@ -1,6 +1,8 @@
 -- Which tokens are a script, and the first fault of those that are none.
 use Rattle.std.specs.Prelude.{◌≡◌, ℕ, zero, suc, ◌+◌, ◌<◌, ◌≤◌, true, Option, None, Some, List, [], ◌∷◌, ◌++◌, ◌⊎◌, length, take, slice_get}
 use Rattle.lsl_text.specs.declared.Span.{Span}
+use Rattle.lsl_text.specs.declared.Refusal.{Refusal}
+use Rattle.lsl_text.specs.declared.Refusal.TheVariants as refusal
 use Rattle.lsl_lex.specs.declared.token_types.Token.{Token}
 use Rattle.lsl_tree.specs.Scripts.{Script}
 use Rattle.lsl_grammar.specs.Language.{among}
@@ -72,3 +74,12 @@ span_at (t ∷ ts) end (suc place) = span_at ts end place
 -- the fault is the first, and its span that of its token
 abbrev pub IsFirst : List Token → Span → ParseFault → Type 0
 IsFirst tokens end fault = (place : ℕ) × ParseFirst tokens place fault.kind × (fault.span ≡ span_at tokens end place)
+
+-- the refusal is a fault of which this holds, or want of memory
+abbrev pub IfFault : {F : Type 0} → Refusal F → (F → Type 0) → Type 0
+IfFault refusal.NoMemory P = Unit {0}
+IfFault (refusal.Fault f) P = P f
+
+-- the fault is of this kind, and its span that of the token at this place
+abbrev pub IsThat : List Token → Span → ℕ → ParseKind → ParseFault → Type 0
+IsThat tokens end place kind fault = (fault.kind ≡ kind) × (fault.span ≡ span_at tokens end place)

@@ -26,6 +26,7 @@ use crate::stop::Found;
 use lsl_grammar::Why;
 use lsl_lex::Token;
 use lsl_text::Refusal;
+use lsl_tree::Expr;
 use std::alloc::Global;
 
 /// Whether a name and the sign of an assignment stand next.
@@ -268,4 +269,25 @@ fn level(alloc: Global, room: u32, n: u32, tokens: &[Token]) -> Found<'_, Operan
         rest = after;
     }
     Ok((left, rest))
+}
+
+/// An expression, where its height doesn't matter.
+pub fn value(alloc: Global, room: u32, tokens: &[Token]) -> Found<'_, Expr>
+    ensures { Gives (λ x. (expression_of x.0, x.1.now)) result (expr_r (Some HEIGHT) room tokens.now) }
+{
+    let (operand, rest) = expr(alloc, room, tokens)?;
+    Ok((operand.expr, rest))
+}
+
+/// Expressions, if any, and the closing sign, where their heights don't matter.
+pub fn values(
+    alloc: Global,
+    room: u32,
+    close: TokenKind,
+    tokens: &[Token],
+) -> Found<'_, Vec<Expr>>
+    ensures { Gives (λ x. (expressions_of x.0.items, x.1.now)) result (expressions_r close (expr_r (Some HEIGHT) room) tokens.now) }
+{
+    let (operands, rest) = expressions(alloc, room, close, tokens)?;
+    Ok((operands.exprs, rest))
 }

@@ -33,6 +33,38 @@ pub const ASSIGN_SIGNS: [TokenKind; 6] = [
     TokenKind::PercentAssign,
 ];
 
+/// The first tokens of a statement.
+pub const STATEMENT_HEADS: [TokenKind; 19] = [
+    TokenKind::BraceOpen,
+    TokenKind::IfWord,
+    TokenKind::WhileWord,
+    TokenKind::DoWord,
+    TokenKind::ForWord,
+    TokenKind::JumpWord,
+    TokenKind::ReturnWord,
+    TokenKind::StateWord,
+    TokenKind::Semicolon,
+    TokenKind::Minus,
+    TokenKind::Bang,
+    TokenKind::Tilde,
+    TokenKind::PlusPlus,
+    TokenKind::MinusMinus,
+    TokenKind::ParenOpen,
+    TokenKind::BracketOpen,
+    TokenKind::Str,
+    TokenKind::Name,
+    TokenKind::Int,
+];
+
+/// The first tokens of a global or a function.
+pub const HEADING_HEADS: [TokenKind; 5] = [
+    TokenKind::IntegerWord,
+    TokenKind::StringWord,
+    TokenKind::KeyWord,
+    TokenKind::ListWord,
+    TokenKind::Name,
+];
+
 /// How many levels of operators there are.
 pub const LEVELS: u32 = 9;
 
