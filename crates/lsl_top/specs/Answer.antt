@@ -3,16 +3,18 @@ use Rattle.std.specs.Prelude.{◌≡◌, ℕ, ◌⊎◌, List, Option, Some, Non
 use Rattle.lsl_ports.specs.Sink.{Grew, GrewByPrefix}
 use Rattle.lsl_top.specs.declared.status.Status.{Status}
 use Rattle.lsl_top.specs.declared.status.Status.TheVariants.{Ok, Usage, BadWorld, BadScript, ReadFault, WriteFault, BadImage, NoMemory}
-use Rattle.lsl_top.specs.Form.{Says, SaysNothing}
+use Rattle.lsl_top.specs.declared.build_fault.BuildFault.{BuildFault}
+use Rattle.lsl_top.specs.Faults.{FirstFault}
+use Rattle.lsl_top.specs.Form.{Says}
 use Rattle.lsl_top.specs.Journal.{report_of, refusal_of}
 
 -- the file is a script, and these lines are its report
 abbrev pub IsReport : List ℕ → List ℕ → Type 0
 IsReport file lines = (texts : List (List ℕ)) × Says file texts × (lines ≡ report_of texts)
 
--- the file is no script, and these lines refuse it
+-- these lines refuse the file for its first fault
 abbrev pub IsRefusal : List ℕ → List ℕ → List ℕ → Type 0
-IsRefusal name file lines = SaysNothing file × (lines ≡ refusal_of name)
+IsRefusal name file lines = (fault : BuildFault) × FirstFault file fault × (lines ≡ refusal_of name fault)
 
 -- the lines for a file, and the status where they are written
 abbrev pub Answers : List ℕ → List ℕ → Status → List ℕ → Type 0

@@ -2,6 +2,7 @@
 use Rattle.std.specs.Prelude.{ℕ, codes, decimal, List, [], ◌∷◌, ◌++◌}
 use Rattle.std.specs.List.{flat_map}
 use Rattle.lsl_text.specs.Quoted.{quoted}
+use Rattle.lsl_top.specs.declared.build_fault.BuildFault.{BuildFault}
 
 -- a line ends with a line feed
 abbrev pub line : List ℕ → List ℕ
@@ -27,6 +28,6 @@ place_of line_number col number = codes " " ++ (decimal line_number ++ (codes ":
 abbrev pub refusal_line : List ℕ → ℕ → ℕ → ℕ → List ℕ
 refusal_line file line_number col number = codes "bad script " ++ (quoted file ++ place_of line_number col number)
 
--- the refusal of a file that is no script of the built part
-abbrev pub refusal_of : List ℕ → List ℕ
-refusal_of file = codes "bad script " ++ (quoted file ++ line (codes " 1:1 fault 90"))
+-- the refusal of a file for a fault
+abbrev pub refusal_of : List ℕ → BuildFault → List ℕ
+refusal_of file fault = refusal_line file fault.span.line fault.span.col fault.number

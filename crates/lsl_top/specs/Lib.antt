@@ -6,3 +6,4 @@ pub mod Journal
 pub mod Promise
 pub mod Answer
 pub mod Program
+pub mod Faults

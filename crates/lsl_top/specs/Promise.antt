@@ -3,6 +3,8 @@ use Rattle.std.specs.Prelude.{◌≡◌, ℕ, ◌⊎◌, List, Option, Some, Non
 use Rattle.lsl_ports.specs.Counts.{Rose}
 use Rattle.lsl_ports.specs.Shelf.{Files}
 use Rattle.lsl_ports.specs.Sink.{Grew, GrewByPrefix}
+use Rattle.lsl_top.specs.declared.build_fault.BuildFault.{BuildFault}
+use Rattle.lsl_top.specs.Faults.{FirstFault}
 use Rattle.lsl_top.specs.Form.{Says, SaysNothing, AreLiterals}
 use Rattle.lsl_top.specs.Journal.{report_of, refusal_of}
 use Rattle.lsl_top.specs.Words.{Command, Once}
@@ -13,34 +15,38 @@ abbrev pub SaysIn : Option (List ℕ) → List (List ℕ) → Type 0
 SaysIn None texts = ⊥
 SaysIn (Some file) texts = Says file texts
 
-abbrev pub RefusedIn : Option (List ℕ) → Type 0
-RefusedIn None = ⊥
-RefusedIn (Some file) = SaysNothing file
+abbrev pub RefusedIn : Option (List ℕ) → BuildFault → Type 0
+RefusedIn None fault = ⊥
+RefusedIn (Some file) fault = FirstFault file fault
+
+abbrev pub IsNoScriptIn : Option (List ℕ) → Type 0
+IsNoScriptIn None = ⊥
+IsNoScriptIn (Some file) = SaysNothing file
 
 -- the file of that name is there and is a script that says these texts; a shelf that doesn't tell may hold any
 abbrev pub Accepts : Option Files → List ℕ → List (List ℕ) → Type 0
 Accepts None name texts = AreLiterals texts
 Accepts (Some files) name texts = SaysIn (files name) texts
 
--- the file of that name is there and is no script; a shelf that doesn't tell may hold such a one
-abbrev pub Refuses : Option Files → List ℕ → Type 0
-Refuses None name = Unit {0}
-Refuses (Some files) name = RefusedIn (files name)
+-- the file of that name is there, and this is its first fault; a shelf that doesn't tell may hold such a one
+abbrev pub Refuses : Option Files → List ℕ → BuildFault → Type 0
+Refuses None name fault = Unit {0}
+Refuses (Some files) name fault = RefusedIn (files name) fault
 
 -- the whole output of a command over these files
 abbrev pub OutputOf : Option Files → Command → List ℕ → Type 0
 OutputOf held (Once name) output =
-    ((texts : List (List ℕ)) × Accepts held name texts × (output ≡ report_of texts)) ⊎ (Refuses held name × (output ≡ refusal_of name))
+    ((texts : List (List ℕ)) × Accepts held name texts × (output ≡ report_of texts)) ⊎ ((fault : BuildFault) × Refuses held name fault × (output ≡ refusal_of name fault))
 
 -- the command's file is a script, and the sink grew by its report
 abbrev pub WritesReport : Option Files → Option Command → Option (List ℕ) → Option (List ℕ) → Type 0
 WritesReport held None old new = ⊥
 WritesReport held (Some (Once name)) old new = (texts : List (List ℕ)) × Accepts held name texts × Grew old new (report_of texts)
 
--- the command's file is no script, and the sink grew by its refusal
+-- the command's file isn't accepted, and the sink grew by its refusal for its first fault
 abbrev pub WritesRefusal : Option Files → Option Command → Option (List ℕ) → Option (List ℕ) → Type 0
 WritesRefusal held None old new = ⊥
-WritesRefusal held (Some (Once name)) old new = Refuses held name × Grew old new (refusal_of name)
+WritesRefusal held (Some (Once name)) old new = (fault : BuildFault) × Refuses held name fault × Grew old new (refusal_of name fault)
 
 -- the sink grew by a prefix of the command's whole output
 abbrev pub WritesPrefix : Option Files → Option Command → Option (List ℕ) → Option (List ℕ) → Type 0
@@ -62,7 +68,7 @@ HasScript (Some files) (Some (Once name)) = (texts : List (List ℕ)) × SaysIn 
 abbrev pub HasNoScript : Option Files → Option Command → Type 0
 HasNoScript held None = ⊥
 HasNoScript None (Some command) = ⊥
-HasNoScript (Some files) (Some (Once name)) = RefusedIn (files name)
+HasNoScript (Some files) (Some (Once name)) = IsNoScriptIn (files name)
 
 -- the statuses at which nothing was written
 abbrev pub WritesNothing : Status → Type 0

@@ -1,10 +1,10 @@
 //! The lines that a command writes.
 ghost use Rattle.std.specs.Prelude.{◌≡◌, ℕ, List, IfOk, OnOk, ◌++◌};
 ghost use Rattle.lsl_top.specs.Form.{utf8_of};
-ghost use Rattle.lsl_top.specs.Journal.{place_of, refusal_line, report_of};
+ghost use Rattle.lsl_top.specs.Journal.{place_of, refusal_of, report_of};
 ghost use Rattle.lsl_top.specs.Program.{HasHandler};
 
-use crate::build::BuildFault;
+use crate::build_fault::BuildFault;
 use crate::running::push_all_said;
 use lsl_code::Woven;
 use lsl_text::{NoMemory, push_decimal, push_quoted};
@@ -26,7 +26,7 @@ pub fn run_report(alloc: Global, unit: &Woven) -> Result<Vec<u8>, NoMemory>
 
 /// The line of a file that isn't accepted. It takes memory for the line.
 pub fn refusal(alloc: Global, file: &str, fault: &BuildFault) -> Result<Vec<u8>, NoMemory>
-    ensures { IfOk result (λ line. line.items ≡ refusal_line file.now fault.now.span.line fault.now.span.col fault.now.number) }
+    ensures { IfOk result (λ line. line.items ≡ refusal_of file.now fault.now) }
 {
     let mut out = Vec::new(alloc);
     out.extend_from_slice(b"bad script ")?;

@@ -8,12 +8,12 @@ ghost use Rattle.lsl_top.specs.Promise.{HasNoScript, HasScript, NamedRose, Write
 ghost use Rattle.lsl_top.specs.Words.{command_of, words_of};
 
 mod build;
-mod form;
+mod build_fault;
 mod journal;
+mod literal_form;
 mod output;
 mod program;
 mod running;
-mod script;
 mod status;
 mod words;
 
@@ -21,9 +21,11 @@ pub use status::Status;
 
 use lsl_ports::{Link, Shelf, ShelfFault, Sink, read_all};
 use output::write_output;
-use script::MAX_SCRIPT_BYTES;
 use std::alloc::Global;
 use words::{Command, parse_words};
+
+/// How many bytes of a script are read: one more shows that it is too long.
+const MAX_SCRIPT_BYTES: u64 = 65_536;
 
 /// Does what the command's words ask for, and answers how that ended. `words` are without the
 /// program's name. It takes memory for the file, the script's code and the lines; the whole output
@@ -39,7 +41,7 @@ pub fn lsl<S: Shelf, K: Sink, L: Link>(
     ensures usage { (result ≡ Status.Usage) ↔ (command_of (words_of words.now) ≡ None) }
     // The file is a script, and the sink grew by exactly its report.
     ensures ok { result ≡ Status.Ok → WritesReport (S.held shelf.old) (command_of (words_of words.now)) (K.sunk sink.old) (K.sunk sink.new) }
-    // The file is no script, and the sink grew by exactly its refusal.
+    // The file isn't accepted, and the sink grew by exactly its refusal for its first fault.
     ensures bad_script { result ≡ Status.BadScript → WritesRefusal (S.held shelf.old) (command_of (words_of words.now)) (K.sunk sink.old) (K.sunk sink.new) }
     // The shelf failed at the very file that the words name.
     ensures read_fault { result ≡ Status.ReadFault → NamedRose (command_of (words_of words.now)) (S.faults shelf.old) (S.faults shelf.new) }

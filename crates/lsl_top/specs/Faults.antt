@@ -1,0 +1,61 @@
+-- The first fault of a file: a lexical one, else a syntax fault, else fault 90 at its start where the script is outside the built part.
+use Rattle.std.specs.Prelude.{◌≡◌, ℕ, List, ◌⊎◌}
+use Rattle.lsl_text.specs.declared.Refusal.{Refusal}
+use Rattle.lsl_text.specs.declared.Refusal.TheVariants as refusals
+use Rattle.lsl_lex.specs.Lexed.{Lexes, LexFirst}
+use Rattle.lsl_lex.specs.declared.faults.LexFault.{LexFault}
+use Rattle.lsl_lex.specs.declared.faults.LexKind.{LexKind}
+use Rattle.lsl_lex.specs.declared.faults.LexKind.TheVariants.{NotText, StringEnd, CommentEnd, FloatLiteral, StrayCharacter, TextTooLong}
+use Rattle.lsl_lex.specs.declared.token_types.Tokens.{Tokens}
+use Rattle.lsl_tree.specs.Scripts.{Script}
+use Rattle.lsl_parse.specs.Faults.{Derives, IsFirst}
+use Rattle.lsl_parse.specs.FaultNumbers.{number_of}
+use Rattle.lsl_parse.specs.declared.fault.ParseFault.{ParseFault}
+use Rattle.lsl_top.specs.declared.build_fault.BuildFault.{BuildFault}
+use Rattle.lsl_top.specs.declared.build_fault.TheConstants.{NOT_YET}
+use Rattle.lsl_top.specs.Form.{HasNoForm}
+
+abbrev pub lexical_number_of : LexKind → ℕ
+lexical_number_of NotText = 1
+lexical_number_of StringEnd = 2
+lexical_number_of CommentEnd = 3
+lexical_number_of FloatLiteral = 4
+lexical_number_of StrayCharacter = 5
+lexical_number_of TextTooLong = 6
+
+abbrev pub lexical_fault_of : LexFault → BuildFault
+lexical_fault_of fault = record { number = lexical_number_of fault.kind; span = fault.span }
+
+abbrev pub syntax_fault_of : ParseFault → BuildFault
+syntax_fault_of fault = record { number = number_of fault.kind; span = fault.span }
+
+-- a refusal with another fault in it
+abbrev pub refused_with : {F : Type 0} → (F → BuildFault) → Refusal F → Refusal BuildFault
+refused_with seen (refusals.Fault fault) = refusals.Fault (seen fault)
+refused_with seen refusals.NoMemory = refusals.NoMemory
+
+-- the file's first lexical fault
+pub record IsLexical (file : List ℕ) (fault : BuildFault) : Type 0 where
+  pub lexical : LexFault
+  pub first : LexFirst file lexical
+  pub fault_is : fault ≡ lexical_fault_of lexical
+
+-- the first syntax fault of the file's tokens
+pub record IsSyntactic (file : List ℕ) (fault : BuildFault) : Type 0 where
+  pub tokens : Tokens
+  pub lexed : Lexes file tokens
+  pub syntactic : ParseFault
+  pub first : IsFirst tokens.list tokens.end syntactic
+  pub fault_is : fault ≡ syntax_fault_of syntactic
+
+-- the file is a script, and outside the built part
+pub record IsOutside (file : List ℕ) (fault : BuildFault) : Type 0 where
+  pub tokens : Tokens
+  pub lexed : Lexes file tokens
+  pub script : Script
+  pub derived : Derives tokens.list script
+  pub formless : HasNoForm script
+  pub fault_is : fault ≡ NOT_YET
+
+abbrev pub FirstFault : List ℕ → BuildFault → Type 0
+FirstFault file fault = IsLexical file fault ⊎ (IsSyntactic file fault ⊎ IsOutside file fault)
