@@ -1,0 +1,32 @@
+-- The tokens of a text, and its first fault.
+use Rattle.std.specs.Prelude.{◌≡◌, ℕ, ◌<◌, ◌≤◌, List, [], ◌++◌, length, take}
+use Rattle.std.specs.Str.{IsUtf8, IsValidUpTo}
+use Rattle.lsl_text.specs.Place.{span_of}
+use Rattle.lsl_lex.specs.Fault.{Case}
+use Rattle.lsl_lex.specs.Pieces.{Cuts}
+use Rattle.lsl_lex.specs.declared.faults.LexFault.{LexFault}
+use Rattle.lsl_lex.specs.declared.faults.LexKind.{LexKind}
+use Rattle.lsl_lex.specs.declared.faults.LexKind.TheVariants.{TextTooLong, NotText}
+use Rattle.lsl_lex.specs.declared.token_types.Token.{Token}
+use Rattle.lsl_lex.specs.declared.token_types.Tokens.{Tokens}
+
+-- a text of at most 65,536 bytes of UTF-8
+pub record IsSource (text : List ℕ) : Type 0 where
+  pub short : length text ≤ 65536
+  pub valid : IsUtf8 text
+
+-- the text is cut into these tokens to its end
+pub record Lexes (text : List ℕ) (tokens : Tokens) : Type 0 where
+  pub source : IsSource text
+  pub cut : (n : ℕ) × (done : List ℕ) × Cuts n [] text tokens.list done []
+  pub end : tokens.end ≡ span_of text []
+
+-- behind this front of the text stands the first fault, of this kind
+abbrev pub IsFirstFault : List ℕ → LexKind → List ℕ → Type 0
+IsFirstFault text TextTooLong front = (65536 < length text) × (front ≡ [])
+IsFirstFault text NotText front = (length text ≤ 65536) × (n : ℕ) × IsValidUpTo text n × (front ≡ take n text)
+IsFirstFault text kind front = IsSource text × (n : ℕ) × (tokens : List Token) × (rest : List ℕ) × Cuts n [] text tokens front rest × Case rest kind
+
+-- the first fault of the text; its span is empty, and stands where the fault does
+abbrev pub LexFirst : List ℕ → LexFault → Type 0
+LexFirst text fault = (front : List ℕ) × IsFirstFault text fault.kind front × (fault.span ≡ span_of front [])
