@@ -1,0 +1,4 @@
+pub mod ByteKinds
+pub mod Rows
+pub mod Runs
+pub mod Spelled

@@ -2,6 +2,8 @@
 use Rattle.std.specs.Prelude.{◌≡◌, ℕ, ◌<◌, ◌≤◌, List, [], ◌++◌, length, take}
 use Rattle.std.specs.Str.{IsUtf8, IsValidUpTo}
 use Rattle.lsl_text.specs.Place.{span_of}
+use Rattle.lsl_text.specs.declared.Refusal.{Refusal}
+use Rattle.lsl_text.specs.declared.Refusal.TheVariants.{Fault, NoMemory}
 use Rattle.lsl_lex.specs.Fault.{Case}
 use Rattle.lsl_lex.specs.Pieces.{Cuts}
 use Rattle.lsl_lex.specs.declared.faults.LexFault.{LexFault}
@@ -14,6 +16,10 @@ use Rattle.lsl_lex.specs.declared.token_types.Tokens.{Tokens}
 pub record IsSource (text : List ℕ) : Type 0 where
   pub short : length text ≤ 65536
   pub valid : IsUtf8 text
+
+-- a text of UTF-8 ends with these bytes
+abbrev pub EndsText : List ℕ → Type 0
+EndsText bytes = (front : List ℕ) × IsUtf8 (front ++ bytes)
 
 -- the text is cut into these tokens to its end
 pub record Lexes (text : List ℕ) (tokens : Tokens) : Type 0 where
@@ -30,3 +36,8 @@ IsFirstFault text kind front = IsSource text × (n : ℕ) × (tokens : List Toke
 -- the first fault of the text; its span is empty, and stands where the fault does
 abbrev pub LexFirst : List ℕ → LexFault → Type 0
 LexFirst text fault = (front : List ℕ) × IsFirstFault text fault.kind front × (fault.span ≡ span_of front [])
+
+-- the text is refused for its first fault, or for want of memory
+abbrev pub IsRefused : List ℕ → Refusal LexFault → Type 0
+IsRefused text (Fault fault) = LexFirst text fault
+IsRefused text NoMemory = Unit {0}

@@ -1,5 +1,5 @@
 -- What the reading of one piece finds. No public clause cites these: they are proved to find the pieces.
-use Rattle.std.specs.Prelude.{◌≡◌, ℕ, suc, ◌+◌, ◌==◌, Bool, true, false, cond, ◌&&◌, ◌||◌, if◌then◌else◌, List, [], ◌∷◌, take, drop, bytes_eq, slice_index, length, Option, Some, None, Result, Ok, Err}
+use Rattle.std.specs.Prelude.{◌≡◌, ℕ, suc, ◌+◌, ◌==◌, Bool, true, false, cond, ◌&&◌, ◌||◌, if◌then◌else◌, List, [], ◌∷◌, take, drop, bytes_eq, slice_index, length, Option, Some, None, unwrap_or, Result, Ok, Err}
 use Rattle.std.specs.List.{prefix_len}
 use Rattle.std.specs.Str.{chars}
 use Rattle.lsl_text.specs.Number.{is_blank, begins_hexadecimal, leading_integer_of}
@@ -43,7 +43,7 @@ unfoldable pub name : List ℕ → Found
 name text =
     let n = prefix_len is_name_byte text in
     let bytes = take n text in
-    Ok (Some (elim (row_of words bytes) [ None ↦ Name bytes | Some word ↦ word ]), n)
+    Ok (Some (unwrap_or (row_of words bytes) (Name bytes)), n)
 
 unfoldable pub number : List ℕ → Found
 number text =
@@ -53,9 +53,9 @@ number text =
 
 unfoldable pub string : List ℕ → Found
 string text = elim (quote_of (drop 1 text)) [
-    | None ↦ Err StringEnd
-    | Some n ↦ Ok (Some (Str (escapes_read (chars (take n (drop 1 text))))), n + 2)
-  ]
+  | None ↦ Err StringEnd
+  | Some n ↦ Ok (Some (Str (escapes_read (chars (take n (drop 1 text))))), n + 2)
+]
 
 -- a comment, where one begins
 unfoldable pub block_comment : List ℕ → Found
@@ -69,9 +69,9 @@ stray text = cond (slice_index text 0 == 46 && is_decimal (slice_index text 1)) 
 
 unfoldable pub sign : List ℕ → Found
 sign text = elim (row_of pair_signs (take 2 text)) [
-    | Some pair ↦ Ok (Some pair, 2)
-    | None ↦ elim (row_of single_signs (take 1 text)) [ Some single ↦ Ok (Some single, 1) | None ↦ stray text ]
-  ]
+  | Some pair ↦ Ok (Some pair, 2)
+  | None ↦ elim (row_of single_signs (take 1 text)) [ Some single ↦ Ok (Some single, 1) | None ↦ stray text ]
+]
 
 -- the piece at the front of a text that isn't empty
 unfoldable pub piece : List ℕ → Found

@@ -1,12 +1,54 @@
 //! Signs of one and of two characters.
 
-ghost use Rattle.std.specs.Prelude.{◌≡◌, [], ◌∷◌};
-ghost use Rattle.lsl_lex.specs.Reading.{row_of};
+ghost use Rattle.std.specs.Prelude.{◌≡◌, ◌<◌, [], ◌∷◌, length, take};
+ghost use Rattle.lsl_lex.specs.Reading.{Finds, row_of, stray, sign};
 ghost use Rattle.lsl_lex.specs.Tokens.{pair_signs, single_signs};
 
+use crate::bytes::is_decimal;
+use crate::faults::LexKind;
+use crate::piece::Piece;
 use crate::token_types::Sort;
+use lsl_text::Refusal;
 
-pub fn pair_sign(b: u8, c: u8) -> Option<Sort>
+/// The sign at the front of a text, or the fault of a text that begins with none.
+pub fn sign(text: &[u8]) -> Result<Piece, Refusal<LexKind>>
+    requires { 0 < length text.now }
+    ensures { Finds result (sign text.now) }
+{
+    if let Some(pair) = front_pair(text) {
+        return Ok(Piece {
+            gives: Some(pair),
+            length: 2,
+        });
+    }
+    match single_sign(text[0]) {
+        Some(single) => Ok(Piece {
+            gives: Some(single),
+            length: 1,
+        }),
+        None => Err(Refusal::Fault(stray(text))),
+    }
+}
+
+fn stray(text: &[u8]) -> LexKind
+    ensures { stray text.now ≡ Err result }
+{
+    match text {
+        [b'.', digit, ..] if is_decimal(*digit) => LexKind::FloatLiteral,
+        _ => LexKind::StrayCharacter,
+    }
+}
+
+fn front_pair(text: &[u8]) -> Option<Sort>
+    ensures { result ≡ row_of pair_signs (take 2 text.now) }
+{
+    match text {
+        [b, c, ..] => pair_sign(*b, *c),
+        _ => None,
+    }
+}
+
+fn pair_sign(b: u8, c: u8) -> Option<Sort>
     ensures { result ≡ row_of pair_signs (b ∷ c ∷ []) }
 {
     match b {
@@ -41,7 +83,7 @@ pub fn pair_sign(b: u8, c: u8) -> Option<Sort>
     }
 }
 
-pub fn single_sign(b: u8) -> Option<Sort>
+fn single_sign(b: u8) -> Option<Sort>
     ensures { result ≡ row_of single_signs (b ∷ []) }
 {
     match b {

@@ -1,0 +1,11 @@
+use Rattle.std.proofs.Common.{rules, ◌≡◌, ◌≤◌, length, IfSome, ℕ, ◌+◌, ◌-◌, ◌*◌, ◌<◌, ◌/◌, ◌%◌, Bool, true, false, nat_eq, nat_lt, List, [], ◌∷◌, ◌++◌, slice_index_or, slice_set, bit_and, bit_or, Fits, w8, w32, w64, Bor, MutBor}
+use Rattle.lsl_lex.specs.Reading.{Finds, close_of, block_comment, line_comment}
+use Rattle.lsl_lex.proofs.comments.block_comment.Goals as goal
+
+-- src/comments.rt:12:1
+pub returns-in-Some : goal.returns-in-Some
+returns-in-Some c = ?
+
+-- src/comments.rt:12:1
+pub returns-in-None : goal.returns-in-None
+returns-in-None c = ?

@@ -1,0 +1,69 @@
+//! A whole text cut into its pieces.
+
+ghost use Rattle.std.specs.Prelude.{◌≡◌, ◌+◌, ◌≤◌, length, take, drop, IfOk, IfErr};
+ghost use Rattle.lsl_text.specs.Place.{IsAt};
+ghost use Rattle.lsl_lex.specs.Lexed.{IsSource, Lexes, IsRefused};
+
+use crate::faults::{LexFault, LexKind};
+use crate::piece::next;
+use crate::token_types::{Token, TokenList, Tokens};
+use lsl_text::{Cursor, Refusal};
+use std::alloc::Global;
+
+/// The tokens of a text of UTF-8, or its first fault.
+pub fn cut(alloc: Global, text: &[u8]) -> Result<Tokens, Refusal<LexFault>>
+    requires { IsSource text.now }
+    ensures found { IfOk result (Lexes text.now) }
+    ensures first { IfErr result (IsRefused text.now) }
+{
+    let mut list = Vec::new(alloc);
+    let mut cursor = Cursor::new();
+    let mut rest = text;
+    'pieces: while !rest.is_empty() {
+        let from = cursor;
+        let piece = match next(alloc, rest) {
+            Ok(piece) => piece,
+            Err(refusal) => return Err(refused_at(&from, refusal)),
+        };
+        advance(&mut cursor, text, piece.length);
+        rest = &rest[piece.length..];
+        if let Some(sort) = piece.gives {
+            list.push(Token {
+                sort,
+                span: cursor.span(&from),
+            })?;
+        }
+    }
+    Ok(Tokens {
+        list: TokenList::from_vec(list),
+        end: cursor.span(&cursor),
+    })
+}
+
+/// The fault of this kind at the cursor: its span is empty.
+pub fn fault_at(cursor: &Cursor, kind: LexKind) -> LexFault {
+    LexFault {
+        kind,
+        span: cursor.span(cursor),
+    }
+}
+
+fn refused_at(cursor: &Cursor, refusal: Refusal<LexKind>) -> Refusal<LexFault> {
+    match refusal {
+        Refusal::Fault(kind) => Refusal::Fault(fault_at(cursor, kind)),
+        Refusal::NoMemory => Refusal::NoMemory,
+    }
+}
+
+/// Moves the cursor on by so many bytes of the text.
+pub fn advance(cursor: &mut Cursor, text: &[u8], length: usize)
+    requires short { length text.now ≤ 65536 }
+    requires within { cursor.old.offset + length ≤ length text.now }
+    requires place { IsAt text.now cursor.old }
+    ensures next { cursor.new.offset ≡ cursor.old.offset + length }
+    ensures place { IsAt text.now cursor.new }
+{
+    for _ in 0..length {
+        cursor.step(text);
+    }
+}
