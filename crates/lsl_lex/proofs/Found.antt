@@ -254,9 +254,9 @@ hexadecimal_right text l hex =
     let long : length digits ≡ m = length-prefix_len is_hexadecimal r in
     let some : 0 < m = hexadecimal_some d more h in
     let value : Int (leading_integer_of text) ≡ Int (wrapped (digits_value 16 digits)) =
-        ap (λ z. Int z) (unsigned_leads text (some_lead text l) l ∙ hexadecimal_leads text hex ∙ ap (λ l. wrapped (digits_value 16 (take (prefix_len is_hexadecimal l) l))) rest_is) in
+    ap (λ z. Int z) (unsigned_leads text (some_lead text l) l ∙ hexadecimal_leads text hex ∙ ap (λ l. wrapped (digits_value 16 (take (prefix_len is_hexadecimal l) l))) rest_is) in
     let spelled : Spells u (Int (leading_integer_of text)) =
-        hexadecimal x digits refl o (record { some = omega (arith, long, some); each = AllPass-from_list_all is_hexadecimal digits (list_all-prefix is_hexadecimal r) }) value in
+    hexadecimal x digits refl o (record { some = omega (arith, long, some); each = AllPass-from_list_all is_hexadecimal digits (list_all-prefix is_hexadecimal r) }) value in
     let size : prefix_len is_hexadecimal (drop 2 text) + 2 ≡ length u = omega (arith, ap (prefix_len is_hexadecimal) rest_is, long) in
     let reached : reach text ≡ number_reach text = choose_digit (lead text) (prefix_len is_name_byte text) (number_reach text) (string_reach text) (sign_reach text) l in
     let far : reach text ≡ length u = reached ∙ ap (λ t. cond t (prefix_len is_hexadecimal (drop 2 text) + 2) (prefix_len is_decimal text)) hex ∙ size in
@@ -292,7 +292,7 @@ decimal_right text l dec point =
     let long : length u ≡ n = length-prefix_len is_decimal text in
     let value : Int (leading_integer_of text) ≡ Int (wrapped (digits_value 10 u)) = ap (λ z. Int z) (unsigned_leads text (some_lead text l) l ∙ decimal_leads text dec) in
     let spelled : Spells u (Int (leading_integer_of text)) =
-        decimal (record { some = omega (arith, long, digits_some text l); each = AllPass-from_list_all is_decimal u (list_all-prefix is_decimal text) }) value in
+    decimal (record { some = omega (arith, long, digits_some text l); each = AllPass-from_list_all is_decimal u (list_all-prefix is_decimal text) }) value in
     let reached : reach text ≡ number_reach text = choose_digit (lead text) (prefix_len is_name_byte text) (number_reach text) (string_reach text) (sign_reach text) l in
     let far : reach text ≡ length u = reached ∙ ap (λ t. cond t (prefix_len is_hexadecimal (drop 2 text) + 2) n) dec ∙ sym long in
     let q = decimal_range (lead text) l in

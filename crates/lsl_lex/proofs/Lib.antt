@@ -1,7 +1,9 @@
 pub mod ByteKinds
+pub mod Escapes
 pub mod Found
 pub mod FoundPiece
 pub mod Rows
 pub mod Runs
+pub mod Scanned
 pub mod Spelled
 pub mod Unique

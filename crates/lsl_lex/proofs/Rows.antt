@@ -17,12 +17,13 @@ row_from_contains [] u s (k, lt, e) = absurd (omega arith)
 row_from_contains (row ∷ rows) u s (zero, lt, e) = inl (ap (λ (r : Row). r.0) e, ap (λ (r : Row). r.1) e)
 row_from_contains (row ∷ rows) u s (suc k, lt, e) = inr (row_from_contains rows u s (k, omega arith, e))
 
+same_row : (row : Row) (u : List ℕ) (s : Sort) → row.0 ≡ u → row.1 ≡ s → row ≡ (u, s)
+same_row row u s e f = ap (λ x. (x, row.1)) e ∙ ap (λ y. (u, y)) f
+
 pub contains_from_row : (rows : List Row) (u : List ℕ) (s : Sort) → IsRow rows u s → Contains rows (u, s)
 contains_from_row [] u s h = absurd h
 contains_from_row (row ∷ rows) u s (inl (e, f)) =
-    let left : row ≡ (u, row.1) = ap (λ x. (x, row.1)) e in
-    let right : (u, row.1) ≡ (u, s) = ap (λ y. (u, y)) f in
-    (0, omega arith, left ∙ right)
+    (0, omega arith, same_row row u s e f)
 contains_from_row (row ∷ rows) u s (inr h) = let (k, lt, e) = contains_from_row rows u s h in (suc k, omega arith, e)
 
 pub some_same : {A : Type 0} (x y : A) → ◌≡◌ {A = Option A} (Some x) (Some y) → x ≡ y

@@ -229,5 +229,5 @@ one_cut (suc n) (suc m) front text ts us d x r s o v (g, p, a, more, h, f, c) e 
     let moved = subst Q (sym same_a) (subst P (sym same_p) c') in
     let (same_ts, same_d, same_o) = one_cut n m (front ++ p) a more more' d x r s o v c e moved e' in
     let tokens : token_of g (span_of front p) ++ more ≡ token_of g' (span_of front p') ++ more' =
-        ap (λ z. token_of z (span_of front p) ++ more) same_g ∙ ap (λ z. token_of g' (span_of front z) ++ more) same_p ∙ ap (λ z. token_of g' (span_of front p') ++ z) same_ts in
+    ap (λ z. token_of z (span_of front p) ++ more) same_g ∙ ap (λ z. token_of g' (span_of front z) ++ more) same_p ∙ ap (λ z. token_of g' (span_of front p') ++ z) same_ts in
     (f ∙ tokens ∙ sym f', same_d, same_o)

@@ -33,6 +33,11 @@ close_of [] = None
 close_of (b ∷ []) = None
 close_of (b ∷ c ∷ bytes) = cond (b == 42 && c == 47) (Some 2) (counted 1 (close_of (c ∷ bytes)))
 
+-- how many bytes the first part of a string's body has
+abbrev pub part_of : List ℕ → ℕ
+part_of (b ∷ c ∷ bytes) = cond (b == 92) 2 1
+part_of _ = 1
+
 -- how many bytes stand before the quote that ends a string
 abbrev pub quote_of : List ℕ → Option ℕ
 quote_of [] = None

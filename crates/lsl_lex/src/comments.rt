@@ -9,6 +9,7 @@ use crate::piece::Piece;
 use lsl_text::Refusal;
 
 /// The comment at the front of a text that begins with `/*`.
+#[tactic(auto, unfolding(crate::specs::Reading::block_comment))]
 pub fn block_comment(text: &[u8]) -> Result<Piece, Refusal<LexKind>>
     requires long { 2 ≤ length text.now }
     requires short { length text.now ≤ 65536 }
@@ -24,6 +25,7 @@ pub fn block_comment(text: &[u8]) -> Result<Piece, Refusal<LexKind>>
 }
 
 /// The comment at the front of a text that begins with `//`.
+#[tactic(auto, unfolding(crate::specs::Reading::line_comment))]
 pub fn line_comment(text: &[u8]) -> Result<Piece, Refusal<LexKind>>
     requires long { 2 ≤ length text.now }
     requires short { length text.now ≤ 65536 }

@@ -56,14 +56,14 @@ fn refused_at(cursor: &Cursor, refusal: Refusal<LexKind>) -> Refusal<LexFault> {
 }
 
 /// Moves the cursor on by so many bytes of the text.
-pub fn advance(cursor: &mut Cursor, text: &[u8], length: usize)
+pub fn advance(cursor: &mut Cursor, text: &[u8], count: usize)
     requires short { length text.now ≤ 65536 }
-    requires within { cursor.old.offset + length ≤ length text.now }
+    requires within { cursor.old.offset + count ≤ length text.now }
     requires place { IsAt text.now cursor.old }
-    ensures next { cursor.new.offset ≡ cursor.old.offset + length }
+    ensures next { cursor.new.offset ≡ cursor.old.offset + count }
     ensures place { IsAt text.now cursor.new }
 {
-    for _ in 0..length {
+    'steps: for _ in 0..count {
         cursor.step(text);
     }
 }

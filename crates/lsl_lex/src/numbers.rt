@@ -1,6 +1,6 @@
 //! Integers.
 
-ghost use Rattle.std.specs.Prelude.{◌≡◌, ◌≤◌, length};
+ghost use Rattle.std.specs.Prelude.{◌≡◌, ◌≤◌, ◌==◌, length, slice_index};
 ghost use Rattle.std.specs.Bool.{OnTrue};
 ghost use Rattle.lsl_text.specs.Number.{begins_hexadecimal, leading_integer_of};
 ghost use Rattle.lsl_lex.specs.declared.token_types.Sort.TheVariants.{Int};
@@ -13,6 +13,7 @@ use crate::token_types::Sort;
 use lsl_text::{Refusal, leading_integer};
 
 /// The integer at the front of a text that begins with a digit.
+#[tactic(auto, unfolding(crate::specs::Reading::number))]
 pub fn number(text: &[u8]) -> Result<Piece, Refusal<LexKind>>
     requires short { length text.now ≤ 65536 }
     ensures { Finds result (number text.now) }
@@ -21,10 +22,19 @@ pub fn number(text: &[u8]) -> Result<Piece, Refusal<LexKind>>
         return Ok(integer(text, hexadecimal_length(&text[2..]) + 2));
     }
     let length = decimal_length(text);
-    if text.get(length) == Some(&b'.') {
+    if has_point(text, length) {
         return Err(Refusal::Fault(LexKind::FloatLiteral));
     }
     Ok(integer(text, length))
+}
+
+fn has_point(text: &[u8], place: usize) -> bool
+    ensures { result ≡ (slice_index text.now place == 46) }
+{
+    match text.get(place) {
+        Some(b) => *b == b'.',
+        None => false,
+    }
 }
 
 fn integer(text: &[u8], length: usize) -> Piece

@@ -1,6 +1,7 @@
 //! The piece at the front of a text.
 
-ghost use Rattle.std.specs.Prelude.{◌≡◌, ◌<◌, ◌≤◌, length, unwrap_or, IfOk};
+ghost use Rattle.std.specs.Prelude.{◌≡◌, ◌<◌, ◌≤◌, ◌==◌, ◌&&◌, length, slice_index, unwrap_or, IfOk};
+ghost use Rattle.std.specs.Bool.{OnTrue};
 ghost use Rattle.std.specs.List.{AllPass};
 ghost use Rattle.lsl_lex.specs.Bytes.{is_name_byte};
 ghost use Rattle.lsl_lex.specs.Lexed.{EndsText};
@@ -27,26 +28,47 @@ pub struct Piece {
 }
 
 /// The piece at the front of a text that isn't empty.
+#[tactic(auto, unfolding(crate::specs::Reading::piece))]
 pub fn next(alloc: Global, text: &[u8]) -> Result<Piece, Refusal<LexKind>>
     requires some { 0 < length text.now }
     requires short { length text.now ≤ 65536 }
     requires valid { EndsText text.now }
     ensures { Finds result (piece text.now) }
 {
-    match text {
-        [b, ..] if is_blank(*b) => Ok(Piece {
+    let b = text[0];
+    if is_blank(b) {
+        Ok(Piece {
             gives: None,
             length: 1,
-        }),
-        [b'/', b'*', ..] => block_comment(text),
-        [b'/', b'/', ..] => line_comment(text),
-        [b, ..] if is_letter(*b) => name(alloc, text),
-        [b, ..] if is_decimal(*b) => number(text),
-        [b'"', ..] => string(alloc, text),
-        _ => sign(text),
+        })
+    } else if opens(text, b'*') {
+        block_comment(text)
+    } else if opens(text, b'/') {
+        line_comment(text)
+    } else if is_letter(b) {
+        name(alloc, text)
+    } else if is_decimal(b) {
+        number(text)
+    } else if b == b'"' {
+        string(alloc, text)
+    } else {
+        sign(text)
     }
 }
 
+// Whether the text begins with a slash and this byte.
+fn opens(text: &[u8], second: u8) -> bool
+    requires { 0 < second }
+    ensures value { result ≡ (slice_index text.now 0 == 47 && slice_index text.now 1 == second) }
+    ensures long { OnTrue result (2 ≤ length text.now) }
+{
+    match text {
+        [b'/', b, ..] => *b == second,
+        _ => false,
+    }
+}
+
+#[tactic(auto, unfolding(crate::specs::Reading::name))]
 fn name(alloc: Global, text: &[u8]) -> Result<Piece, Refusal<LexKind>>
     requires { length text.now ≤ 65536 }
     ensures { Finds result (name text.now) }

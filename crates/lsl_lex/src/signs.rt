@@ -11,6 +11,7 @@ use crate::token_types::Sort;
 use lsl_text::Refusal;
 
 /// The sign at the front of a text, or the fault of a text that begins with none.
+#[tactic(auto, unfolding(crate::specs::Reading::sign))]
 pub fn sign(text: &[u8]) -> Result<Piece, Refusal<LexKind>>
     requires { 0 < length text.now }
     ensures { Finds result (sign text.now) }

@@ -3,7 +3,7 @@
 ghost use Rattle.std.specs.Prelude.{◌≡◌, ◌+◌, ◌<◌, ◌≤◌, ◌++◌, [], ◌∷◌, length, slice_index, IfOk, IfSome, OnOk};
 ghost use Rattle.std.specs.Str.{IsUtf8, chars};
 ghost use Rattle.lsl_lex.specs.Lexed.{EndsText};
-ghost use Rattle.lsl_lex.specs.Reading.{Finds, quote_of, string};
+ghost use Rattle.lsl_lex.specs.Reading.{Finds, quote_of, part_of, string};
 ghost use Rattle.lsl_lex.specs.Strings.{escape_of, escapes_read};
 
 use crate::faults::LexKind;
@@ -14,6 +14,7 @@ use lsl_value::Text;
 use std::alloc::Global;
 
 /// The string at the front of a text that begins with a quote.
+#[tactic(auto, unfolding(crate::specs::Reading::string))]
 pub fn string(alloc: Global, text: &[u8]) -> Result<Piece, Refusal<LexKind>>
     requires quote { slice_index text.now 0 ≡ 34 }
     requires short { length text.now ≤ 65536 }
@@ -58,20 +59,28 @@ fn body_length(text: &[u8]) -> Option<usize>
 {
     let mut n = 0;
     let mut rest = text;
-    'bytes: while let [b, more @ ..] = rest {
-        match (*b, more) {
-            (b'"', _) => return Some(n),
-            (b'\\', [_, after @ ..]) => {
-                n += 2;
-                rest = after;
-            }
-            _ => {
-                n += 1;
-                rest = more;
-            }
+    'parts: while let [b, ..] = rest {
+        if *b == b'"' {
+            return Some(n);
         }
+        let part = part_length(rest);
+        n += part;
+        rest = &rest[part..];
     }
     None
+}
+
+// How many bytes the first part of a body has: a backslash and the byte behind it, or one byte.
+fn part_length(text: &[u8]) -> usize
+    requires { 0 < length text.now }
+    ensures part { result ≡ part_of text.now }
+    ensures some { 0 < result }
+    ensures within { result ≤ length text.now }
+{
+    match text {
+        [b'\\', _, ..] => 2,
+        _ => 1,
+    }
 }
 
 fn without_escapes(alloc: Global, body: &[u8]) -> Result<Vec<u8>, NoMemory>

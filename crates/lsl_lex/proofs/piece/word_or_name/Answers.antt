@@ -1,16 +1,10 @@
-use Rattle.std.proofs.Common.{rules, ◌≡◌, ◌<◌, ◌≤◌, length, unwrap_or, IfOk, ℕ, ◌+◌, ◌-◌, ◌*◌, ◌/◌, ◌%◌, Bool, true, false, nat_eq, nat_lt, List, [], ◌∷◌, ◌++◌, slice_index_or, slice_set, bit_and, bit_or, Fits, w8, w32, w64, Bor, MutBor}
-use Rattle.std.specs.List.{AllPass}
-use Rattle.lsl_lex.specs.Bytes.{is_name_byte}
-use Rattle.lsl_lex.specs.Lexed.{EndsText}
-use Rattle.lsl_lex.specs.Reading.{Finds, row_of, name, piece}
-use Rattle.lsl_lex.specs.Tokens.{words}
-use Rattle.lsl_lex.specs.declared.token_types.Sort.TheVariants.{Name}
+use Rattle.std.proofs.lemmas.Str.{IsUtf8-from_ascii}
+use Rattle.lsl_lex.proofs.Scanned.{name_ascii, name_kept}
 use Rattle.lsl_lex.proofs.piece.word_or_name.Goals as goal
 
--- src/piece.rt:72:19
 pub unreachable-requires : goal.unreachable-requires
-unreachable-requires c = ?
+unreachable-requires c = c.in-Err.ensures.cases.0 (IsUtf8-from_ascii c.args.bytes.now (name_ascii c.args.bytes.now c.requires.name))
 
--- src/piece.rt:62:1
 pub returns-in_ok-text_of-in-None : goal.returns-in_ok-text_of-in-None
-returns-in_ok-text_of-in-None c = ?
+returns-in_ok-text_of-in-None c =
+    name_kept c.args.bytes.now c.in-Ok.text.now c.in_ok-text_of-in-None.field-0 c.requires.name c.in-Ok.ensures.cases.0 c.in-None.ensures c.in_ok-text_of-in-None.ensures

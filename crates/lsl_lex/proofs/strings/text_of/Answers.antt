@@ -1,10 +1,7 @@
-use Rattle.std.proofs.Common.{rules, ◌≡◌, ◌+◌, ◌<◌, ◌≤◌, ◌++◌, [], ◌∷◌, length, slice_index, IfOk, IfSome, OnOk, ℕ, ◌-◌, ◌*◌, ◌/◌, ◌%◌, Bool, true, false, nat_eq, nat_lt, List, slice_index_or, slice_set, bit_and, bit_or, Fits, w8, w32, w64, Bor, MutBor}
-use Rattle.std.specs.Str.{IsUtf8, chars}
-use Rattle.lsl_lex.specs.Lexed.{EndsText}
-use Rattle.lsl_lex.specs.Reading.{Finds, quote_of, string}
-use Rattle.lsl_lex.specs.Strings.{escape_of, escapes_read}
+use Rattle.std.proofs.lemmas.Str.{chars_from_encodes}
 use Rattle.lsl_lex.proofs.strings.text_of.Goals as goal
 
--- src/strings.rt:43:1
 pub returns : goal.returns
-returns c = ?
+returns c =
+    let found = rw c.in-Some.is at c.in_ok-text.ensures.ok in
+    chars_from_encodes c.in-Some.text c.args.bytes.now c.requires.valid found.spelled
