@@ -3,11 +3,13 @@ use Rattle.std.specs.Prelude.{◌≡◌, ℕ, suc, ◌+◌, ◌==◌, Bool, true
 use Rattle.std.specs.List.{prefix_len}
 use Rattle.std.specs.Str.{chars}
 use Rattle.lsl_text.specs.Number.{is_blank, begins_hexadecimal, leading_integer_of}
+use Rattle.lsl_text.specs.declared.cursor.Cursor.{Cursor}
 use Rattle.lsl_text.specs.declared.Refusal.{Refusal}
 use Rattle.lsl_text.specs.declared.Refusal.TheVariants.{Fault, NoMemory}
 use Rattle.lsl_lex.specs.Bytes.{is_letter, is_decimal, is_hexadecimal, is_name_byte, is_in_line}
 use Rattle.lsl_lex.specs.Strings.{escapes_read}
 use Rattle.lsl_lex.specs.Tokens.{words, pair_signs, single_signs}
+use Rattle.lsl_lex.specs.declared.faults.LexFault.{LexFault}
 use Rattle.lsl_lex.specs.declared.faults.LexKind.{LexKind}
 use Rattle.lsl_lex.specs.declared.faults.LexKind.TheVariants.{StringEnd, CommentEnd, FloatLiteral, StrayCharacter}
 use Rattle.lsl_lex.specs.declared.token_types.Sort.{Sort}
@@ -88,6 +90,17 @@ piece text =
     (cond (is_letter b) (name text)
     (cond (is_decimal b) (number text)
     (cond (b == 34) (string text) (sign text))))))
+
+-- a fault at the cursor, with an empty span
+abbrev pub fault_of : LexKind → Cursor → LexFault
+fault_of kind cursor = record {
+  kind = kind;
+  span = record { start = cursor.offset; end = cursor.offset; line = cursor.line; col = cursor.col };
+}
+
+abbrev pub refusal_of : Cursor → Refusal LexKind → Refusal LexFault
+refusal_of cursor (Fault kind) = Fault (fault_of kind cursor)
+refusal_of cursor NoMemory = NoMemory
 
 -- what the code found is this, or it lacked memory
 abbrev pub Finds : Result Piece (Refusal LexKind) → Found → Type 0

@@ -3,6 +3,7 @@
 ghost use Rattle.std.specs.Prelude.{◌≡◌, ◌+◌, ◌≤◌, length, take, drop, IfOk, IfErr};
 ghost use Rattle.lsl_text.specs.Place.{IsAt};
 ghost use Rattle.lsl_lex.specs.Lexed.{IsSource, Lexes, IsRefused};
+ghost use Rattle.lsl_lex.specs.Reading.{fault_of, refusal_of};
 
 use crate::faults::{LexFault, LexKind};
 use crate::piece::next;
@@ -41,14 +42,18 @@ pub fn cut(alloc: Global, text: &[u8]) -> Result<Tokens, Refusal<LexFault>>
 }
 
 /// The fault of this kind at the cursor: its span is empty.
-pub fn fault_at(cursor: &Cursor, kind: LexKind) -> LexFault {
+pub fn fault_at(cursor: &Cursor, kind: LexKind) -> LexFault
+    ensures { result ≡ fault_of kind cursor.now }
+{
     LexFault {
         kind,
         span: cursor.span(cursor),
     }
 }
 
-fn refused_at(cursor: &Cursor, refusal: Refusal<LexKind>) -> Refusal<LexFault> {
+fn refused_at(cursor: &Cursor, refusal: Refusal<LexKind>) -> Refusal<LexFault>
+    ensures { result ≡ refusal_of cursor.now refusal }
+{
     match refusal {
         Refusal::Fault(kind) => Refusal::Fault(fault_at(cursor, kind)),
         Refusal::NoMemory => Refusal::NoMemory,
@@ -63,7 +68,7 @@ pub fn advance(cursor: &mut Cursor, text: &[u8], count: usize)
     ensures next { cursor.new.offset ≡ cursor.old.offset + count }
     ensures place { IsAt text.now cursor.new }
 {
-    'steps: for _ in 0..count {
+    'steps: for _step in 0..count {
         cursor.step(text);
     }
 }

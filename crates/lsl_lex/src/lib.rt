@@ -2,7 +2,8 @@
 //! fault.
 #![tactic(auto)]
 
-ghost use Rattle.std.specs.Prelude.{◌≡◌, IfOk, IfErr, MatchResult, ◌⊎◌};
+ghost use Rattle.std.specs.Prelude.{◌≡◌, ◌≤◌, ◌⊎◌, [], length, take, IfOk, IfErr, MatchResult};
+ghost use Rattle.lsl_text.specs.Place.{span_of};
 ghost use Rattle.lsl_text.specs.declared.Refusal.TheVariants.{Fault, NoMemory};
 ghost use Rattle.lsl_lex.specs.Lexed.{Lexes, LexFirst, IsRefused};
 ghost use Rattle.lsl_lex.specs.declared.faults.LexFault.{LexFault};
@@ -55,8 +56,14 @@ pub fn lex(alloc: Global, text: &[u8]) -> Result<Tokens, Refusal<LexFault>>
     }
 }
 
-fn not_text(text: &[u8], length: usize) -> LexFault {
+// The fault behind the longest front that is UTF-8.
+fn not_text(text: &[u8], place: usize) -> LexFault
+    requires short { length text.now ≤ 65536 }
+    requires within { place ≤ length text.now }
+    ensures kind { result.kind ≡ LexKind.NotText }
+    ensures span { result.span ≡ span_of (take place text.now) [] }
+{
     let mut cursor = Cursor::new();
-    advance(&mut cursor, text, length);
+    advance(&mut cursor, text, place);
     fault_at(&cursor, LexKind::NotText)
 }

@@ -1,10 +1,9 @@
-use Rattle.std.proofs.Common.{◌≡◌, ◌+◌, ◌≤◌, length, take, drop, IfOk, IfErr, ℕ, ◌-◌, ◌*◌, ◌<◌}
-use Rattle.lsl_text.specs.Place.{IsAt}
-use Rattle.lsl_lex.specs.Lexed.{IsSource, Lexes, IsRefused}
+use Rattle.std.proofs.Common.{length}
+use Rattle.lsl_lex.proofs.Loop.{Cutting}
 use Rattle.lsl_lex.proofs.cut.cut.Given as goal
 
 abbrev pub invariant-pieces : goal.invariant-pieces
-invariant-pieces l = ?
+invariant-pieces l = Cutting l.text l.rest l.list.items l.cursor
 
 abbrev pub decreases-pieces : goal.decreases-pieces
-decreases-pieces l = ?
+decreases-pieces l = length l.rest
