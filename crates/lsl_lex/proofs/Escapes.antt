@@ -1,8 +1,7 @@
 -- Reading escapes byte by byte is reading them character by character.
-use Rattle.std.proofs.Common.{◌≡◌, ℕ, suc, ◌+◌, ◌-◌, ◌*◌, ◌/◌, ◌%◌, ◌<◌, ◌≤◌, ◌==◌, Bool, true, false, cond, ◌&&◌, ◌⊎◌, inl, inr, List, [], ◌∷◌, ◌++◌, length, take, drop, get_or, Option, Some, None, refl, sym, ap, ◌∙◌, subst, arith, append_assoc, append-nil, length-append}
-use Rattle.std.proofs.lemmas.Bool.{cases_lt, ltb-true, lt-ltb}
+use Rattle.std.proofs.Common.{◌≡◌, ℕ, suc, ◌+◌, ◌-◌, ◌*◌, ◌/◌, ◌%◌, ◌<◌, ◌≤◌, ◌==◌, Bool, true, false, cond, ◌&&◌, ◌⊎◌, inl, inr, List, [], ◌∷◌, ◌++◌, length, take, drop, get_or, Some, refl, sym, ap, ◌∙◌, subst, arith, append_assoc, append-nil, length-append}
+use Rattle.std.proofs.lemmas.Bool.{cases_lt, ltb-true}
 use Rattle.std.proofs.lemmas.Str.{encode_ascii, encodes-append, chars-encodes, IsUtf8-between, IsCharBoundary-after_ascii, IsCharBoundary-before_ascii}
-use Rattle.std.proofs.Math.Seq.{take-append_seam}
 use Rattle.std.proofs.Math.Utf8.{encode, scalar}
 use Rattle.std.specs.Prelude.{slice_index, nat_lt}
 use Rattle.std.specs.Str.{IsUtf8, chars, encode_utf8_all, all_scalars}
@@ -210,10 +209,10 @@ body_whole text more n (front, valid) e f =
     let opening : get_or whole (length front) 0 ≡ 34 = at_seam front 34 (body ++ 34 ∷ rest) in
     let closing : get_or whole j 0 ≡ 34 = ap (λ l. get_or l j 0) split ∙ ap (λ k. get_or ((front ++ 34 ∷ body) ++ 34 ∷ rest) k 0) (sym place) ∙ at_seam (front ++ 34 ∷ body) 34 rest in
     let cut : IsUtf8 (take (j - i) (drop i whole)) = IsUtf8-between whole i j good (omega arith)
-      (IsCharBoundary-after_ascii whole (length front) good (omega (arith, size)) (omega (arith, opening)))
-      (IsCharBoundary-before_ascii whole j (omega (arith, size)) (omega (arith, closing))) in
+    (IsCharBoundary-after_ascii whole (length front) good (omega (arith, size)) (omega (arith, opening)))
+    (IsCharBoundary-before_ascii whole j (omega (arith, size)) (omega (arith, closing))) in
     let inner : take (j - i) (drop i whole) ≡ take n more =
-        ap (λ k. take k (drop i whole)) (omega (arith, e2)) ∙ ap (take n) (drop_past front 34 (body ++ 34 ∷ rest) ∙ sym e1) in
+    ap (λ k. take k (drop i whole)) (omega (arith, e2)) ∙ ap (take n) (drop_past front 34 (body ++ 34 ∷ rest) ∙ sym e1) in
     subst IsUtf8 inner cut
 
 opening_quote : (text : List ℕ) → slice_index text 0 ≡ 34 → text ≡ 34 ∷ drop 1 text

@@ -1,30 +1,30 @@
 -- What the reading of one piece finds is a piece of the text, or the fault that stands there.
-use Rattle.std.proofs.Common.{◌≡◌, ℕ, zero, suc, ◌+◌, ◌-◌, ◌<◌, ◌≤◌, ◌==◌, Bool, true, false, cond, not, ◌&&◌, ◌||◌, ◌⊎◌, inl, inr, ⊎_elim, List, [], ◌∷◌, ◌++◌, length, take, drop, get_or, ℤ, Option, Some, None, unwrap_or, Result, Ok, Err, refl, sym, ap, ◌∙◌, subst, arith, append_assoc, length-append}
+use Rattle.std.proofs.Common.{◌≡◌, ℕ, ◌+◌, ◌<◌, ◌≤◌, ◌==◌, Bool, true, false, cond, not, ◌||◌, ◌⊎◌, inl, inr, ⊎_elim, List, [], ◌∷◌, ◌++◌, length, take, drop, Option, Some, None, unwrap_or, Ok, Err, refl, sym, ap, ◌∙◌, subst, arith, append_assoc, length-append}
 use Rattle.std.proofs.lemmas.List.{take-append-drop, drop_more, get_or_past}
-use Rattle.std.proofs.lemmas.List.Sums.{prefix_len-le-length, AllPass-from_list_all, list_all-from_AllPass}
+use Rattle.std.proofs.lemmas.List.Sums.{AllPass-from_list_all, list_all-from_AllPass}
 use Rattle.std.proofs.lemmas.Bool.{cases_lt}
 use Rattle.std.proofs.lemmas.List.Folds.{length-prefix_len}
 use Rattle.std.proofs.Math.Seq.{take-append_seam}
-use Rattle.std.specs.Prelude.{slice_index, Contains}
-use Rattle.std.specs.List.{prefix_len, take_while}
+use Rattle.std.specs.Prelude.{slice_index}
+use Rattle.std.specs.List.{prefix_len}
 use Rattle.std.specs.Int.{w32, int_wrapping_neg}
 use Rattle.std.specs.Str.{chars}
 use Rattle.std.specs.Str.Parse.{digits_value}
 use Rattle.lsl_text.specs.Number.{is_blank, wrapped, begins_hexadecimal, leading_integer_of, unsigned_integer, signed_integer, digits_integer}
 use Rattle.lsl_lex.specs.Bytes.{is_letter, is_decimal, is_hexadecimal, is_name_byte, is_in_line}
-use Rattle.lsl_lex.specs.Fault.{OpensComment, IsOpenString, IsFloat, IsStray, Case}
-use Rattle.lsl_lex.specs.Pieces.{Gives, IsPiece}
+use Rattle.lsl_lex.specs.Fault.{OpensComment, IsOpenString, IsFloat, Case}
+use Rattle.lsl_lex.specs.Pieces.{IsPiece}
 use Rattle.lsl_lex.specs.Strings.{IsStringBody, escapes_read}
-use Rattle.lsl_lex.specs.Tokens.{words, pair_signs, single_signs, IsIdentifier, IsDigits, Spells, a_name, a_word, decimal, hexadecimal, a_string, a_pair_sign, a_single_sign}
-use Rattle.lsl_lex.specs.Reading.{Found, row_of, close_of, quote_of, name, number, string, block_comment, line_comment, stray, sign, piece}
+use Rattle.lsl_lex.specs.Tokens.{words, IsIdentifier, Spells, a_name, a_word, decimal, hexadecimal, a_string}
+use Rattle.lsl_lex.specs.Reading.{Found, row_of, close_of, quote_of, name, number, string, block_comment, line_comment}
 use Rattle.lsl_lex.specs.declared.faults.LexKind.{LexKind}
 use Rattle.lsl_lex.specs.declared.faults.LexKind.TheVariants.{NotText, StringEnd, CommentEnd, FloatLiteral, StrayCharacter, TextTooLong}
 use Rattle.lsl_lex.specs.declared.token_types.Sort.{Sort}
 use Rattle.lsl_lex.specs.declared.token_types.Sort.TheVariants.{Name, Int, Str}
 use Rattle.lsl_lex.proofs.ByteKinds.{false_by, letter_range, blank_range, decimal_range, eq_true, eq_false, not_eq}
 use Rattle.lsl_lex.proofs.Rows.{row_from_row_of, contains_from_row}
-use Rattle.lsl_lex.proofs.Runs.{and_both, list_all-prefix, prefix_len-stops, prefix_len-exact, Stops, head, close_some, close_none, quote_some, quote_only}
-use Rattle.lsl_lex.proofs.Spelled.{lead, lead-append, word_found, pair_passes, pair_found, single_passes, single_found, Sign, sign_parts, begins, begins_no_blank, not_empty, choose_letter, choose_digit, choose_quote, hexadecimal_parts, hexadecimal_true, word_sort, number_reach, string_reach, sign_reach, reach, within_reach}
+use Rattle.lsl_lex.proofs.Runs.{list_all-prefix, prefix_len-stops, prefix_len-exact, Stops, head, close_some, close_none, quote_some, quote_only}
+use Rattle.lsl_lex.proofs.Spelled.{lead, lead-append, word_found, not_empty, choose_letter, choose_digit, choose_quote, hexadecimal_parts, word_sort, number_reach, string_reach, sign_reach, reach, within_reach}
 use Rattle.lsl_lex.proofs.Unique.{string_lead, comment_lead, comment_opens, opens_lead, float_lead}
 
 -- ---- choices

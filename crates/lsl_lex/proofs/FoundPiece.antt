@@ -1,5 +1,5 @@
 -- What the reading of a sign finds, and of any piece.
-use Rattle.std.proofs.Common.{◌≡◌, ℕ, zero, suc, ◌+◌, ◌<◌, ◌≤◌, ◌==◌, Bool, true, false, cond, ◌&&◌, ◌⊎◌, inl, inr, List, [], ◌∷◌, ◌++◌, length, take, drop, Option, Some, None, Result, Ok, Err, refl, sym, ap, ◌∙◌, arith}
+use Rattle.std.proofs.Common.{◌≡◌, ℕ, ◌<◌, ◌==◌, Bool, true, false, cond, ◌&&◌, ◌⊎◌, inl, inr, List, [], ◌∷◌, ◌++◌, length, take, drop, Option, Some, None, Ok, Err, refl, sym, ap, ◌∙◌, arith}
 use Rattle.std.proofs.lemmas.Bool.Decides.{nat_tests}
 use Rattle.std.proofs.lemmas.List.{take-append-drop}
 use Rattle.std.proofs.Math.Seq.{take-append_seam}
@@ -7,18 +7,17 @@ use Rattle.std.specs.Prelude.{slice_index, Contains}
 use Rattle.std.specs.List.{prefix_len}
 use Rattle.lsl_text.specs.Number.{is_blank}
 use Rattle.lsl_lex.specs.Bytes.{is_letter, is_decimal, is_name_byte}
-use Rattle.lsl_lex.specs.Fault.{OpensComment, IsOpenString, IsFloat, IsStray, Case}
+use Rattle.lsl_lex.specs.Fault.{OpensComment, IsOpenString, IsFloat}
 use Rattle.lsl_lex.specs.Tokens.{pair_signs, single_signs, Spells, a_name, a_word, decimal, hexadecimal, a_string, a_pair_sign, a_single_sign}
-use Rattle.lsl_lex.specs.Reading.{Found, row_of, name, number, string, block_comment, line_comment, stray, sign, piece}
-use Rattle.lsl_lex.specs.declared.faults.LexKind.{LexKind}
+use Rattle.lsl_lex.specs.Reading.{Found, row_of, string, block_comment, line_comment, stray, sign, piece}
 use Rattle.lsl_lex.specs.declared.faults.LexKind.TheVariants.{FloatLiteral, StrayCharacter}
 use Rattle.lsl_lex.specs.declared.token_types.Sort.{Sort}
 use Rattle.lsl_lex.proofs.ByteKinds.{eq_true, not_eq}
 use Rattle.lsl_lex.proofs.Rows.{row_from_row_of, contains_from_row}
-use Rattle.lsl_lex.proofs.Runs.{and_both, head}
+use Rattle.lsl_lex.proofs.Runs.{and_both}
 use Rattle.lsl_lex.proofs.Spelled.{lead, lead-append, word_passes, pair_passes, pair_found, single_passes, single_found, sign_parts, digits_lead, not_empty, number_reach, string_reach, sign_reach, reach}
 use Rattle.lsl_lex.proofs.Unique.{string_lead, float_lead}
-use Rattle.lsl_lex.proofs.Found.{by_cond, Right, token_right, no_string_by, blank_right, block_right, line_right, name_right, number_right, string_right}
+use Rattle.lsl_lex.proofs.Found.{by_cond, Right, token_right, blank_right, block_right, line_right, name_right, number_right, string_right}
 
 abbrev second : List ℕ → ℕ
 second text = slice_index text 1

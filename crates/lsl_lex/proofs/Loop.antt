@@ -1,9 +1,9 @@
 -- A text that is being cut: what is done, and what is left.
-use Rattle.std.proofs.Common.{◌≡◌, ℕ, zero, suc, ◌+◌, ◌-◌, ◌<◌, ◌≤◌, List, [], ◌∷◌, ◌++◌, length, take, drop, Option, Some, None, Result, Ok, Err, refl, sym, ap, ◌∙◌, subst, arith, append_assoc, append-nil, length-append, length-drop}
+use Rattle.std.proofs.Common.{◌≡◌, ℕ, zero, suc, ◌+◌, ◌<◌, List, [], ◌∷◌, ◌++◌, length, take, drop, Option, Ok, Err, refl, sym, ap, ◌∙◌, subst, arith, append_assoc, append-nil, length-drop}
 use Rattle.std.proofs.lemmas.List.{take-append-drop, drop-drop, length-take-le, take_all}
 use Rattle.std.proofs.Math.Seq.{take-add}
 use Rattle.std.specs.Str.{IsUtf8}
-use Rattle.lsl_text.specs.Place.{IsAt, IsBehind, line_behind, column_behind, span_of}
+use Rattle.lsl_text.specs.Place.{IsAt, IsBehind, line_behind, span_of}
 use Rattle.lsl_text.specs.declared.Span.{Span}
 use Rattle.lsl_text.specs.declared.cursor.Cursor.{Cursor}
 use Rattle.lsl_text.specs.declared.Refusal.{Refusal}
@@ -11,8 +11,7 @@ use Rattle.lsl_text.specs.declared.Refusal.TheVariants.{Fault, NoMemory}
 use Rattle.lsl_lex.specs.Fault.{Case}
 use Rattle.lsl_lex.specs.Lexed.{IsSource, EndsText, Lexes, IsFirstFault, LexFirst, IsRefused}
 use Rattle.lsl_lex.specs.Pieces.{IsPiece, token_of, Cuts}
-use Rattle.lsl_lex.specs.Reading.{Found, Finds, fault_of, refusal_of, piece}
-use Rattle.lsl_lex.specs.declared.faults.LexFault.{LexFault}
+use Rattle.lsl_lex.specs.Reading.{Finds, fault_of, refusal_of, piece}
 use Rattle.lsl_lex.specs.declared.faults.LexKind.{LexKind}
 use Rattle.lsl_lex.specs.declared.faults.LexKind.TheVariants.{NotText, StringEnd, CommentEnd, FloatLiteral, StrayCharacter, TextTooLong}
 use Rattle.lsl_lex.specs.declared.piece.Piece.{Piece}
@@ -43,11 +42,11 @@ pub cuts_more : (n : ℕ) (front text : List ℕ) (ts : List Token) (done rest :
 cuts_more zero front text ts done rest g p a (e1, e2, e3) h =
     let P : List ℕ → Type 0 = λ l. IsPiece l g p a in
     let tokens : ts ++ token_of g (span_of done p) ≡ token_of g (span_of front p) ++ [] =
-        ap (λ l. l ++ token_of g (span_of done p)) e1 ∙ ap (λ l. token_of g (span_of l p)) e2 ∙ sym (append-nil (token_of g (span_of front p))) in
+    ap (λ l. l ++ token_of g (span_of done p)) e1 ∙ ap (λ l. token_of g (span_of l p)) e2 ∙ sym (append-nil (token_of g (span_of front p))) in
     (g, p, a, [], subst P e3 h, tokens, (refl, ap (λ l. l ++ p) e2, refl))
 cuts_more (suc n) front text ts done rest g p a (g', p', a', more, k, e, c) h =
     let tokens : ts ++ token_of g (span_of done p) ≡ token_of g' (span_of front p') ++ (more ++ token_of g (span_of done p)) =
-        ap (λ l. l ++ token_of g (span_of done p)) e ∙ append_assoc (token_of g' (span_of front p')) more (token_of g (span_of done p)) in
+    ap (λ l. l ++ token_of g (span_of done p)) e ∙ append_assoc (token_of g' (span_of front p')) more (token_of g (span_of done p)) in
     (g', p', a', more ++ token_of g (span_of done p), k, tokens, cuts_more n (front ++ p') a' more done rest g p a c h)
 
 pub record Cutting (text rest : List ℕ) (tokens : List Token) (cursor : Cursor) : Type 0 where
@@ -75,7 +74,7 @@ cutting_more text rest rest' ts ts' from to g k h right e place f tokens =
     let part = take k rest in
     let within = rest_within text rest ts from h in
     let done : front ++ part ≡ take to.offset text =
-        ap (λ l. front ++ take k l) h.left ∙ sym (take-add from.offset k text) ∙ ap (λ n. take n text) (sym e) in
+    ap (λ l. front ++ take k l) h.left ∙ sym (take-add from.offset k text) ∙ ap (λ n. take n text) (sym e) in
     let size : length (take to.offset text) ≡ to.offset = length-take-le to.offset text place.within in
     let span : span_from from to ≡ span_of front part = span_same front part from to h.place.behind (sym size ∙ ap length (sym done)) in
     let all : ts' ≡ ts ++ token_of g (span_of front part) = tokens ∙ ap (λ s. ts ++ token_of g s) span in

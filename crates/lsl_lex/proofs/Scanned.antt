@@ -1,16 +1,15 @@
 -- What the code's steps read, over plain lists.
-use Rattle.std.proofs.Common.{◌≡◌, ℕ, suc, ◌+◌, ◌-◌, ◌<◌, ◌≤◌, ◌==◌, Bool, true, false, cond, ◌||◌, List, [], ◌∷◌, length, take, drop, Option, Some, None, unwrap_or, refl, sym, ap, ◌∙◌, arith}
+use Rattle.std.proofs.Common.{◌≡◌, ℕ, ◌+◌, ◌<◌, ◌==◌, Bool, true, false, cond, ◌||◌, List, [], ◌∷◌, length, take, drop, Option, Some, None, unwrap_or, refl, sym, ap, ◌∙◌, arith}
 use Rattle.std.proofs.lemmas.List.Elements.{All-weaker}
 use Rattle.std.proofs.lemmas.List.Sums.{AllPass-from_list_all}
 use Rattle.std.proofs.lemmas.Str.{chars_from_encodes, encodes-IsAscii, IsUtf8-from_ascii}
 use Rattle.std.proofs.lemmas.Str.Ascii.{IsAscii-from_all}
 use Rattle.std.specs.Prelude.{slice_index}
 use Rattle.std.specs.List.{AllPass, prefix_len}
-use Rattle.std.specs.Str.{IsAscii, IsUtf8, chars}
+use Rattle.std.specs.Str.{IsAscii, chars}
 use Rattle.lsl_lex.specs.Bytes.{is_letter, is_decimal, is_name_byte}
 use Rattle.lsl_lex.specs.Reading.{row_of, counted, close_of, quote_of, part_of}
 use Rattle.lsl_lex.specs.Tokens.{words}
-use Rattle.lsl_lex.specs.declared.token_types.Sort.{Sort}
 use Rattle.lsl_lex.specs.declared.token_types.Sort.TheVariants.{Name}
 use Rattle.lsl_lex.proofs.ByteKinds.{letter_range, decimal_range, eq_false}
 use Rattle.lsl_lex.proofs.Runs.{list_all-prefix}

@@ -1,5 +1,5 @@
 -- A token's sort and length are decided by its bytes: how it begins, what its sort is, how far it goes.
-use Rattle.std.proofs.Common.{◌≡◌, ℕ, suc, ◌+◌, ◌-◌, ◌<◌, ◌≤◌, ◌==◌, Bool, true, false, cond, not, ◌&&◌, ◌||◌, ◌⊎◌, inl, inr, List, [], ◌∷◌, ◌++◌, length, take, drop, get_or, Option, Some, None, unwrap_or, refl, sym, ap, ◌∙◌, arith, append_assoc, length-append}
+use Rattle.std.proofs.Common.{◌≡◌, ℕ, ◌+◌, ◌<◌, ◌≤◌, ◌==◌, Bool, true, false, cond, not, ◌&&◌, ◌||◌, ◌⊎◌, inl, inr, List, [], ◌∷◌, ◌++◌, length, take, drop, Option, Some, None, unwrap_or, refl, sym, ap, ◌∙◌, arith, append_assoc, length-append}
 use Rattle.std.proofs.lemmas.List.Sums.{list_all-from_AllPass}
 use Rattle.std.proofs.Math.Seq.{take-append_seam}
 use Rattle.std.specs.Prelude.{Contains, slice_index}
@@ -8,13 +8,13 @@ use Rattle.std.specs.Str.{chars}
 use Rattle.std.specs.Str.Parse.{digits_value}
 use Rattle.lsl_text.specs.Number.{is_blank, wrapped, begins_hexadecimal}
 use Rattle.lsl_lex.specs.Bytes.{is_letter, is_decimal, is_hexadecimal, is_name_byte}
-use Rattle.lsl_lex.specs.Strings.{IsStringBody, escapes_read}
-use Rattle.lsl_lex.specs.Tokens.{words, pair_signs, single_signs, IsIdentifier, IsDigits, Spells, a_name, a_word, decimal, hexadecimal, a_string, a_pair_sign, a_single_sign}
+use Rattle.lsl_lex.specs.Strings.{escapes_read}
+use Rattle.lsl_lex.specs.Tokens.{words, pair_signs, single_signs, IsDigits, Spells, a_name, a_word, decimal, hexadecimal, a_string, a_pair_sign, a_single_sign}
 use Rattle.lsl_lex.specs.Reading.{row_of, quote_of}
 use Rattle.lsl_lex.specs.declared.token_types.Sort.{Sort}
 use Rattle.lsl_lex.specs.declared.token_types.Sort.TheVariants.{Name, Int, Str, At}
-use Rattle.lsl_lex.proofs.ByteKinds.{false_by, letter_range, decimal_range, no_blank, no_letter, no_decimal_low, no_decimal_high, eq_true, eq_false, not_eq}
-use Rattle.lsl_lex.proofs.Rows.{IsRow, row_from_contains, contains_from_row, row_from_row_of, row_of-row, distinct, all_keys, key_passes}
+use Rattle.lsl_lex.proofs.ByteKinds.{false_by, letter_range, decimal_range, no_blank, no_letter, eq_true}
+use Rattle.lsl_lex.proofs.Rows.{row_from_contains, contains_from_row, row_from_row_of, row_of-row, key_passes}
 use Rattle.lsl_lex.proofs.Runs.{and_both, prefix_len-most, head, quote_only}
 
 abbrev pub lead : List ℕ → ℕ

@@ -1,11 +1,10 @@
 -- A text has one list of tokens or one first fault.
-use Rattle.std.proofs.Common.{◌≡◌, ℕ, ◌+◌, ◌<◌, ◌≤◌, ◌⊎◌, inl, inr, List, [], ◌∷◌, ◌++◌, length, take, Option, Some, None, Result, Ok, Err, refl, sym, ap, ◌∙◌, subst, arith}
+use Rattle.std.proofs.Common.{◌≡◌, ℕ, ◌<◌, ◌≤◌, ◌⊎◌, inl, inr, List, [], length, take, Option, Some, None, Result, Ok, Err, refl, sym, ap, ◌∙◌, subst, arith}
 use Rattle.std.proofs.lemmas.Bool.{cases_lt}
 use Rattle.std.proofs.lemmas.List.{take_all}
 use Rattle.std.specs.Prelude.{IfOk, IfErr, MatchResult}
 use Rattle.std.specs.Str.{IsUtf8, IsValidUpTo}
 use Rattle.lsl_text.specs.Place.{span_of}
-use Rattle.lsl_text.specs.declared.Span.{Span}
 use Rattle.lsl_text.specs.declared.Refusal.{Refusal}
 use Rattle.lsl_text.specs.declared.Refusal.TheVariants.{Fault, NoMemory}
 use Rattle.lsl_lex.specs.Fault.{Case}
@@ -23,7 +22,6 @@ same_tokens text a b h k =
     let (n, d, c) = h.cut in
     let (m, x, e) = k.cut in
     let same = one_cut n m [] text a.list b.list d x [] [] None None c refl e refl in
-    let P : Tokens = record { list = b.list; end = a.end } in
     ap (λ l. record { list = l; end = a.end }) same.0 ∙ ap (λ s. record { list = b.list; end = s }) (h.end ∙ sym k.end)
 
 -- what the three kinds of first faults say
@@ -100,3 +98,9 @@ pub only_first : (text : List ℕ) (r : Result Tokens (Refusal LexFault)) → If
 only_first text (Ok found) ok err fault h = no_fault text found fault ok h
 only_first text (Err (Fault first)) ok err fault h = inl (ap (λ z. Fault z) (same_fault text first fault err h))
 only_first text (Err NoMemory) ok err fault h = inr refl
+
+pub not_text_first : (text : List ℕ) (n : ℕ) (fault : LexFault) → length text ≤ 65536 → IsValidUpTo text n → fault.kind ≡ NotText → fault.span ≡ span_of (take n text) [] → LexFirst text fault
+not_text_first text n fault short valid kind span =
+    let P : LexKind → Type 0 = λ k. IsFirstFault text k (take n text) in
+    let first : IsFirstFault text NotText (take n text) = (short, n, valid, refl) in
+    (take n text, subst P (sym kind) first, span)

@@ -1,17 +1,14 @@
 -- A text has one cut: one piece at each place, one fault where there is no piece.
-use Rattle.std.proofs.Common.{◌≡◌, ℕ, zero, suc, ◌+◌, ◌<◌, ◌≤◌, ◌==◌, Bool, true, false, ◌⊎◌, inl, inr, List, [], ◌∷◌, ◌++◌, length, take, drop, Option, Some, None, refl, sym, ap, ◌∙◌, subst, arith, append_assoc, length-append}
+use Rattle.std.proofs.Common.{◌≡◌, ℕ, zero, suc, ◌+◌, ◌<◌, true, false, ◌⊎◌, inl, inr, List, [], ◌∷◌, ◌++◌, length, take, drop, Option, Some, None, refl, sym, ap, ◌∙◌, subst, arith, append_assoc, length-append}
 use Rattle.std.proofs.lemmas.List.{append_cancel_left}
 use Rattle.std.proofs.lemmas.List.Sums.{list_all-from_AllPass}
 use Rattle.std.proofs.Math.Seq.{take-append_seam}
-use Rattle.std.specs.Prelude.{slice_index}
 use Rattle.std.specs.List.{prefix_len}
 use Rattle.lsl_text.specs.Number.{is_blank}
 use Rattle.lsl_text.specs.Place.{span_of}
-use Rattle.lsl_text.specs.declared.Span.{Span}
 use Rattle.lsl_lex.specs.Bytes.{is_decimal, is_in_line}
-use Rattle.lsl_lex.specs.Fault.{NoClose, OpensComment, IsOpenString, IsOpenComment, IsFloat, IsStray, Case}
+use Rattle.lsl_lex.specs.Fault.{OpensComment, IsOpenString, IsOpenComment, IsFloat, Case}
 use Rattle.lsl_lex.specs.Pieces.{IsBlank, IsBlockComment, IsLineComment, Gives, IsPiece, token_of, Cuts}
-use Rattle.lsl_lex.specs.Tokens.{Spells}
 use Rattle.lsl_lex.specs.Reading.{close_of}
 use Rattle.lsl_lex.specs.declared.faults.LexKind.{LexKind}
 use Rattle.lsl_lex.specs.declared.faults.LexKind.TheVariants.{NotText, StringEnd, CommentEnd, FloatLiteral, StrayCharacter, TextTooLong}

@@ -1,5 +1,5 @@
 -- Where a text has no piece: an open string, an open comment, a number with a point, a stray character.
-use Rattle.std.specs.Prelude.{◌≡◌, ℕ, ◌⊎◌, List, [], ◌∷◌, ◌++◌, true, false}
+use Rattle.std.specs.Prelude.{◌≡◌, ℕ, ◌⊎◌, List, ◌∷◌, ◌++◌, true, false}
 use Rattle.lsl_text.specs.Number.{is_blank}
 use Rattle.lsl_lex.specs.Bytes.{is_decimal}
 use Rattle.lsl_lex.specs.Strings.{IsStringBody}

@@ -1,5 +1,5 @@
 -- What the reading of one piece finds. No public clause cites these: they are proved to find the pieces.
-use Rattle.std.specs.Prelude.{◌≡◌, ℕ, suc, ◌+◌, ◌==◌, Bool, true, false, cond, ◌&&◌, ◌||◌, if◌then◌else◌, List, [], ◌∷◌, take, drop, bytes_eq, slice_index, length, Option, Some, None, unwrap_or, Result, Ok, Err}
+use Rattle.std.specs.Prelude.{◌≡◌, ℕ, ◌+◌, ◌==◌, cond, ◌&&◌, List, [], ◌∷◌, take, drop, bytes_eq, slice_index, Option, Some, None, unwrap_or, Result, Ok, Err}
 use Rattle.std.specs.List.{prefix_len}
 use Rattle.std.specs.Str.{chars}
 use Rattle.lsl_text.specs.Number.{is_blank, begins_hexadecimal, leading_integer_of}

@@ -1,14 +1,15 @@
 //! A whole text cut into its pieces.
 
-ghost use Rattle.std.specs.Prelude.{◌≡◌, ◌+◌, ◌≤◌, length, take, drop, IfOk, IfErr};
+ghost use Rattle.std.specs.Prelude.{◌≡◌, ◌+◌, ◌≤◌, ◌++◌, length, IfOk, IfErr, OnOk};
 ghost use Rattle.lsl_text.specs.Place.{IsAt};
 ghost use Rattle.lsl_lex.specs.Lexed.{IsSource, Lexes, IsRefused};
+ghost use Rattle.lsl_lex.specs.Pieces.{token_of};
 ghost use Rattle.lsl_lex.specs.Reading.{fault_of, refusal_of};
 
 use crate::faults::{LexFault, LexKind};
 use crate::piece::next;
-use crate::token_types::{Token, TokenList, Tokens};
-use lsl_text::{Cursor, Refusal};
+use crate::token_types::{Sort, Token, TokenList, Tokens};
+use lsl_text::{Cursor, NoMemory, Refusal, Span};
 use std::alloc::Global;
 
 /// The tokens of a text of UTF-8, or its first fault.
@@ -28,17 +29,22 @@ pub fn cut(alloc: Global, text: &[u8]) -> Result<Tokens, Refusal<LexFault>>
         };
         advance(&mut cursor, text, piece.length);
         rest = &rest[piece.length..];
-        if let Some(sort) = piece.gives {
-            list.push(Token {
-                sort,
-                span: cursor.span(&from),
-            })?;
-        }
+        push_token(&mut list, piece.gives, cursor.span(&from))?;
     }
     Ok(Tokens {
         list: TokenList::from_vec(list),
         end: cursor.span(&cursor),
     })
+}
+
+// A blank or a comment adds no token.
+fn push_token(list: &mut Vec<Token>, gives: Option<Sort>, span: Span) -> Result<(), NoMemory>
+    ensures { OnOk result (list.new.items ≡ list.old.items ++ token_of gives span) }
+{
+    if let Some(sort) = gives {
+        list.push(Token { sort, span })?;
+    }
+    Ok(())
 }
 
 /// The fault of this kind at the cursor: its span is empty.
