@@ -33,8 +33,12 @@ pub by_cond : {A : Type 0} (P : A → Type 0) (t : Bool) (x y : A) → (t ≡ tr
 by_cond P true x y f g = f refl
 by_cond P false x y f g = g refl
 
+-- no fault stands at the front
+abbrev pub Clear : List ℕ → Type 0
+Clear text = (kind : LexKind) → Case text kind → ⊥
+
 abbrev pub Right : List ℕ → Found → Type 0
-Right text (Ok x) = (0 < x.1) × (x.1 ≤ length text) × IsPiece text x.0 (take x.1 text) (drop x.1 text)
+Right text (Ok x) = (0 < x.1) × (x.1 ≤ length text) × IsPiece text x.0 (take x.1 text) (drop x.1 text) × Clear text
 Right text (Err kind) = Case text kind
 
 drop_seam : (u v : List ℕ) → drop (length u) (u ++ v) ≡ v
@@ -42,13 +46,13 @@ drop_seam [] v = refl
 drop_seam (x ∷ u) v = drop_seam u v
 
 -- a piece at the front, by its length
-piece_at : (text : List ℕ) (g : Option Sort) (u rest : List ℕ) (k : ℕ) → k ≡ length u → 0 < length u → IsPiece text g u rest → Right text (Ok (g, k))
-piece_at text g u rest k n some h =
+piece_at : (text : List ℕ) (g : Option Sort) (u rest : List ℕ) (k : ℕ) → k ≡ length u → 0 < length u → IsPiece text g u rest → Clear text → Right text (Ok (g, k))
+piece_at text g u rest k n some h clear =
     let t : take k text ≡ u = ap (λ m. take m text) n ∙ ap (take (length u)) h.split ∙ take-append_seam u rest in
     let d : drop k text ≡ rest = ap (λ m. drop m text) n ∙ ap (drop (length u)) h.split ∙ drop_seam u rest in
     let P : List ℕ → Type 0 = λ l. IsPiece text g l (drop k text) in
     let Q : List ℕ → Type 0 = λ l. IsPiece text g u l in
-    (omega (arith, n, some), omega (arith, n, ap length h.split, length-append u rest), subst P (sym t) (subst Q (sym d) h))
+    (omega (arith, n, some), omega (arith, n, ap length h.split, length-append u rest), subst P (sym t) (subst Q (sym d) h), clear)
 
 -- ---- where no fault stands
 
@@ -70,8 +74,7 @@ token_right text u rest s k e n far h comment open_string float =
         longest = λ v w t f g. omega (arith, within_reach v w t g, ap reach (sym f), far);
         no_comment = comment;
       };
-      no_case = token_no_case text u rest s e h comment open_string float;
-    })
+    }) (token_no_case text u rest s e h comment open_string float)
 
 no_comment_by : (text : List ℕ) → (lead text ≡ 47 → ⊥) → OpensComment text → ⊥
 no_comment_by text h o = h (opens_lead text o)
@@ -84,7 +87,7 @@ no_string_by text h o = h (string_lead text o)
 pub blank_right : (text : List ℕ) → 0 < length text → is_blank (lead text) ≡ true → Right text (Ok (None, 1))
 blank_right [] some e = absurd (omega arith)
 blank_right (b ∷ text) some e =
-    piece_at (b ∷ text) None (b ∷ []) text 1 refl (omega arith) (record { split = refl; kind = inl (b, refl, e); no_case = none })
+    piece_at (b ∷ text) None (b ∷ []) text 1 refl (omega arith) (record { split = refl; kind = inl (b, refl, e) }) none
   where
     float : (is_decimal b ≡ true) ⊎ (b ≡ 46) → ⊥
     float (inl f) = let r = decimal_range b f in let q = blank_range b e in omega (arith, r.0, q.1)
@@ -127,8 +130,7 @@ block_right text more e = go (close_of (drop 2 text)) refl
         piece_at text None u rest (n + 2) (omega (arith, e2, length-append body (42 ∷ 47 ∷ []))) (omega arith) (record {
           split = all;
           kind = inr (inl (body, refl, none));
-          no_case = comment_no_case text (42, more, e, inl refl) (λ (more', e', closed). closed body rest (ap (drop 2) (sym e' ∙ e) ∙ e1));
-        })
+        }) (comment_no_case text (42, more, e, inl refl) (λ (more', e', closed). closed body rest (ap (drop 2) (sym e' ∙ e) ∙ e1)))
 
     go : (o : Option ℕ) → close_of (drop 2 text) ≡ o → Right text (elim o as (λ _. Found) [ None ↦ Err CommentEnd | Some n ↦ Ok (None, n + 2) ])
     go None f = (more, e, close_none more (ap close_of (sym rest_is) ∙ f))
@@ -145,8 +147,7 @@ line_right text more e =
     piece_at text None u (drop n more) (prefix_len is_in_line (drop 2 text) + 2) long (omega arith) (record {
       split = all;
       kind = inr (inr (take n more, refl, AllPass-from_list_all is_in_line (take n more) (list_all-prefix is_in_line more), stops (prefix_len-stops is_in_line more)));
-      no_case = comment_no_case text (47, more, e, inr refl) (λ (more', e', closed). let same : 47 ≡ 42 = ap (λ l. head (drop 1 l)) (sym e ∙ e') in omega (arith, same));
-    })
+    }) (comment_no_case text (47, more, e, inr refl) (λ (more', e', closed). let same : 47 ≡ 42 = ap (λ l. head (drop 1 l)) (sym e ∙ e') in omega (arith, same)))
   where
     is_feed : (b : ℕ) → is_in_line b ≡ false → b ≡ 10
     is_feed b g = go (b == 10) refl g

@@ -3,6 +3,7 @@ pub mod Escapes
 pub mod Found
 pub mod FoundPiece
 pub mod Loop
+pub mod OneCut
 pub mod Rows
 pub mod Runs
 pub mod Scanned

@@ -1,5 +1,6 @@
 -- A text that is being cut: what is done, and what is left.
-use Rattle.std.proofs.Common.{◌≡◌, ℕ, zero, suc, ◌+◌, ◌<◌, List, [], ◌∷◌, ◌++◌, length, take, drop, Option, Ok, Err, refl, sym, ap, ◌∙◌, subst, arith, append_assoc, append-nil, length-drop}
+use Rattle.std.proofs.Common.{◌≡◌, ℕ, zero, suc, ◌+◌, ◌<◌, List, [], ◌∷◌, ◌++◌, length, take, drop, Option, Ok, Err, refl, sym, ap, ◌∙◌, subst, arith, append_assoc, append-nil, length-drop, ◌⊎◌, inl, inr, ◌≤◌}
+use Rattle.std.proofs.lemmas.Bool.{cases_lt}
 use Rattle.std.proofs.lemmas.List.{take-append-drop, drop-drop, length-take-le, take_all}
 use Rattle.std.proofs.Math.Seq.{take-add}
 use Rattle.std.specs.Str.{IsUtf8}
@@ -9,7 +10,7 @@ use Rattle.lsl_text.specs.declared.cursor.Cursor.{Cursor}
 use Rattle.lsl_text.specs.declared.Refusal.{Refusal}
 use Rattle.lsl_text.specs.declared.Refusal.TheVariants.{Fault, NoMemory}
 use Rattle.lsl_lex.specs.Fault.{Case}
-use Rattle.lsl_lex.specs.Lexed.{IsSource, EndsText, Lexes, IsFirstFault, LexFirst, IsRefused}
+use Rattle.lsl_lex.specs.Lexed.{IsSource, EndsText, Lexes, NoneBefore, StopsAt, IsFirstFault, LexFirst, IsRefused}
 use Rattle.lsl_lex.specs.Pieces.{IsPiece, token_of, Cuts}
 use Rattle.lsl_lex.specs.Reading.{Finds, fault_of, refusal_of, piece}
 use Rattle.lsl_lex.specs.declared.faults.LexKind.{LexKind}
@@ -18,8 +19,9 @@ use Rattle.lsl_lex.specs.declared.piece.Piece.{Piece}
 use Rattle.lsl_lex.specs.declared.token_types.Sort.{Sort}
 use Rattle.lsl_lex.specs.declared.token_types.Token.{Token}
 use Rattle.lsl_lex.specs.declared.token_types.Tokens.{Tokens}
-use Rattle.lsl_lex.proofs.Found.{Right}
+use Rattle.lsl_lex.proofs.Found.{Clear, Right}
 use Rattle.lsl_lex.proofs.FoundPiece.{piece_right}
+use Rattle.lsl_lex.proofs.OneCut.{same_cut}
 
 -- ---- spans
 
@@ -52,11 +54,11 @@ cuts_more (suc n) front text ts done rest g p a (g', p', a', more, k, e, c) h =
 pub record Cutting (text rest : List ℕ) (tokens : List Token) (cursor : Cursor) : Type 0 where
   pub place : IsAt text cursor
   pub left : rest ≡ drop cursor.offset text
-  pub cut : (n : ℕ) × Cuts n [] text tokens (take cursor.offset text) rest
+  pub cut : (n : ℕ) × Cuts n [] text tokens (take cursor.offset text) rest × NoneBefore n text
 
 pub cutting_begun : (text : List ℕ) (cursor : Cursor) → IsAt text cursor → cursor.offset ≡ 0 → Cutting text text [] cursor
 cutting_begun text cursor place e =
-    record { place = place; left = ap (λ n. drop n text) (sym e); cut = (0, (refl, ap (λ n. take n text) e, refl)) }
+    record { place = place; left = ap (λ n. drop n text) (sym e); cut = (0, (refl, ap (λ n. take n text) e, refl), λ m ts front rest kind lt c h. omega arith) }
 
 pub rest_within : (text rest : List ℕ) (tokens : List Token) (cursor : Cursor) → Cutting text rest tokens cursor → cursor.offset + length rest ≡ length text
 rest_within text rest tokens cursor h =
@@ -68,6 +70,19 @@ rest_valid text rest tokens cursor source h =
     let same : text ≡ take cursor.offset text ++ rest = sym (take-append-drop cursor.offset text) ∙ ap (λ l. take cursor.offset text ++ l) (sym h.left) in
     (take cursor.offset text, subst IsUtf8 same source.valid)
 
+-- no fault stands at the place where n pieces are cut, nor before
+none_more : (text : List ℕ) (n : ℕ) (ts : List Token) (front rest : List ℕ) → Cuts n [] text ts front rest → NoneBefore n text → Clear rest → NoneBefore (suc n) text
+none_more text n ts front rest c none clear m us done left kind lt d h = go (cases_lt m n)
+  where
+    go : (m < n) ⊎ (n ≤ m) → ⊥
+    go (inl before) = none m us done left kind before d h
+    go (inr late) =
+        let here : m ≡ n = omega arith in
+        let D : ℕ → Type 0 = λ i. Cuts i [] text us done left in
+        let same = same_cut n [] text ts us front done rest left c (subst D here d) in
+        let C : List ℕ → Type 0 = λ l. Case l kind in
+        clear kind (subst C (sym same.2) h)
+
 pub cutting_more : (text rest rest' : List ℕ) (ts ts' : List Token) (from to : Cursor) (g : Option Sort) (k : ℕ) → Cutting text rest ts from → Right rest (Ok (g, k)) → to.offset ≡ from.offset + k → IsAt text to → rest' ≡ drop k rest → ts' ≡ ts ++ token_of g (span_from from to) → Cutting text rest' ts' to
 cutting_more text rest rest' ts ts' from to g k h right e place f tokens =
     let front = take from.offset text in
@@ -78,7 +93,7 @@ cutting_more text rest rest' ts ts' from to g k h right e place f tokens =
     let size : length (take to.offset text) ≡ to.offset = length-take-le to.offset text place.within in
     let span : span_from from to ≡ span_of front part = span_same front part from to h.place.behind (sym size ∙ ap length (sym done)) in
     let all : ts' ≡ ts ++ token_of g (span_of front part) = tokens ∙ ap (λ s. ts ++ token_of g s) span in
-    let (n, cuts) = h.cut in
+    let (n, cuts, none) = h.cut in
     let more = cuts_more n [] text ts front rest g part (drop k rest) cuts right.2 in
     let P : List ℕ → Type 0 = λ l. Cuts (suc n) [] text (ts ++ token_of g (span_of front part)) l (drop k rest) in
     let Q : List ℕ → Type 0 = λ l. Cuts (suc n) [] text (ts ++ token_of g (span_of front part)) (take to.offset text) l in
@@ -86,23 +101,24 @@ cutting_more text rest rest' ts ts' from to g k h right e place f tokens =
     record {
       place = place;
       left = f ∙ ap (drop k) h.left ∙ drop-drop k from.offset text ∙ ap (λ n. drop n text) (sym e);
-      cut = (suc n, subst R (sym all) (subst Q (sym f) (subst P done more)));
+      cut = (suc n, subst R (sym all) (subst Q (sym f) (subst P done more)), none_more text n ts front rest cuts none right.3);
     }
 
 -- ---- the end, and a fault
 
-pub first_fault : (text : List ℕ) (kind : LexKind) (front rest : List ℕ) (n : ℕ) (ts : List Token) → IsSource text → Cuts n [] text ts front rest → Case rest kind → IsFirstFault text kind front
-first_fault text NotText front rest n ts s c h = absurd h
-first_fault text TextTooLong front rest n ts s c h = absurd h
-first_fault text StringEnd front rest n ts s c h = (s, n, ts, rest, c, h)
-first_fault text CommentEnd front rest n ts s c h = (s, n, ts, rest, c, h)
-first_fault text FloatLiteral front rest n ts s c h = (s, n, ts, rest, c, h)
-first_fault text StrayCharacter front rest n ts s c h = (s, n, ts, rest, c, h)
+first_fault : (text : List ℕ) (kind : LexKind) (front rest : List ℕ) → StopsAt text kind front → Case rest kind → IsFirstFault text kind front
+first_fault text NotText front rest s h = absurd h
+first_fault text TextTooLong front rest s h = absurd h
+first_fault text StringEnd front rest s h = s
+first_fault text CommentEnd front rest s h = s
+first_fault text FloatLiteral front rest s h = s
+first_fault text StrayCharacter front rest s h = s
 
 fault_first : (text rest : List ℕ) (ts : List Token) (cursor : Cursor) (kind : LexKind) → IsSource text → Cutting text rest ts cursor → Case rest kind → LexFirst text (fault_of kind cursor)
 fault_first text rest ts cursor kind source h c =
-    let (n, cuts) = h.cut in
-    (take cursor.offset text, first_fault text kind (take cursor.offset text) rest n ts source cuts c, empty_span (take cursor.offset text) cursor h.place.behind)
+    let (n, cuts, none) = h.cut in
+    let stops : StopsAt text kind (take cursor.offset text) = record { source = source; cut = (n, ts, rest, cuts, c, none) } in
+    (take cursor.offset text, first_fault text kind (take cursor.offset text) rest stops c, empty_span (take cursor.offset text) cursor h.place.behind)
 
 -- what the next piece says
 pub found_right : (rest : List ℕ) (p : Piece) → 0 < length rest → piece rest ≡ Ok (p.gives, p.length) → Right rest (Ok (p.gives, p.length))
@@ -114,7 +130,7 @@ refused_first text rest ts cursor NoMemory source some h e = tt
 
 pub all_cut : (text rest : List ℕ) (tokens : Tokens) (cursor : Cursor) → IsSource text → Cutting text rest tokens.list cursor → length rest ≡ 0 → tokens.end ≡ span_from cursor cursor → Lexes text tokens
 all_cut text rest tokens cursor source h e f =
-    let (n, cuts) = h.cut in
+    let (n, cuts, none_before) = h.cut in
     let within = rest_within text rest tokens.list cursor h in
     let empty : rest ≡ [] = none rest e in
     let whole : take cursor.offset text ≡ text = take_all cursor.offset text (omega (arith, within, e)) in

@@ -8,35 +8,54 @@ use Rattle.lsl_text.specs.Place.{span_of}
 use Rattle.lsl_text.specs.declared.Refusal.{Refusal}
 use Rattle.lsl_text.specs.declared.Refusal.TheVariants.{Fault, NoMemory}
 use Rattle.lsl_lex.specs.Fault.{Case}
-use Rattle.lsl_lex.specs.Lexed.{IsSource, Lexes, IsFirstFault, LexFirst, IsRefused}
+use Rattle.lsl_lex.specs.Lexed.{IsSource, Lexes, NoneBefore, StopsAt, IsFirstFault, LexFirst, IsRefused}
 use Rattle.lsl_lex.specs.Pieces.{Cuts}
 use Rattle.lsl_lex.specs.declared.faults.LexFault.{LexFault}
 use Rattle.lsl_lex.specs.declared.faults.LexKind.{LexKind}
 use Rattle.lsl_lex.specs.declared.faults.LexKind.TheVariants.{NotText, StringEnd, CommentEnd, FloatLiteral, StrayCharacter, TextTooLong}
 use Rattle.lsl_lex.specs.declared.token_types.Token.{Token}
 use Rattle.lsl_lex.specs.declared.token_types.Tokens.{Tokens}
-use Rattle.lsl_lex.proofs.Unique.{one_cut}
+use Rattle.lsl_lex.proofs.Unique.{same_case}
+use Rattle.lsl_lex.proofs.OneCut.{same_cut, same_count, no_case_inside}
 
 pub same_tokens : (text : List ℕ) (a b : Tokens) → Lexes text a → Lexes text b → a ≡ b
 same_tokens text a b h k =
     let (n, d, c) = h.cut in
     let (m, x, e) = k.cut in
-    let same = one_cut n m [] text a.list b.list d x [] [] None None c refl e refl in
+    let count : n ≡ m = same_count n m [] text a.list b.list d x c e in
+    let D : ℕ → Type 0 = λ i. Cuts i [] text b.list x [] in
+    let same = same_cut n [] text a.list b.list d x [] [] c (subst D (sym count) e) in
     ap (λ l. record { list = l; end = a.end }) same.0 ∙ ap (λ s. record { list = b.list; end = s }) (h.end ∙ sym k.end)
 
 -- what the three kinds of first faults say
 data First (text : List ℕ) (kind : LexKind) (front : List ℕ) : Type 0 where
   long : kind ≡ TextTooLong → 65536 < length text → front ≡ [] → First text kind front
   broken : (n : ℕ) → kind ≡ NotText → length text ≤ 65536 → IsValidUpTo text n → front ≡ take n text → First text kind front
-  stopped : (n : ℕ) (ts : List Token) (rest : List ℕ) → IsSource text → Cuts n [] text ts front rest → Case rest kind → First text kind front
+  stopped : StopsAt text kind front → First text kind front
 
 first_of : (text : List ℕ) (kind : LexKind) (front : List ℕ) → IsFirstFault text kind front → First text kind front
 first_of text TextTooLong front h = long refl h.0 h.1
 first_of text NotText front (short, n, valid, e) = broken n refl short valid e
-first_of text StringEnd front (s, n, ts, rest, c, h) = stopped n ts rest s c h
-first_of text CommentEnd front (s, n, ts, rest, c, h) = stopped n ts rest s c h
-first_of text FloatLiteral front (s, n, ts, rest, c, h) = stopped n ts rest s c h
-first_of text StrayCharacter front (s, n, ts, rest, c, h) = stopped n ts rest s c h
+first_of text StringEnd front h = stopped h
+first_of text CommentEnd front h = stopped h
+first_of text FloatLiteral front h = stopped h
+first_of text StrayCharacter front h = stopped h
+
+same_stop : (text : List ℕ) (k l : LexKind) (front back : List ℕ) → StopsAt text k front → StopsAt text l back → (k ≡ l) × (front ≡ back)
+same_stop text k l front back h i = go h.cut i.cut
+  where
+    go : (n : ℕ) × (ts : List Token) × (rest : List ℕ) × Cuts n [] text ts front rest × Case rest k × NoneBefore n text → (m : ℕ) × (us : List Token) × (left : List ℕ) × Cuts m [] text us back left × Case left l × NoneBefore m text → (k ≡ l) × (front ≡ back)
+    go (n, ts, rest, c, case, none) (m, us, left, d, other, none') = at (cases_lt n m) (cases_lt m n)
+      where
+        at : (n < m) ⊎ (m ≤ n) → (m < n) ⊎ (n ≤ m) → (k ≡ l) × (front ≡ back)
+        at (inl e) f = absurd (none' n ts front rest k e c case)
+        at (inr e) (inl f) = absurd (none m us back left l f d other)
+        at (inr e) (inr f) =
+            let count : m ≡ n = omega arith in
+            let D : ℕ → Type 0 = λ i. Cuts i [] text us back left in
+            let same = same_cut n [] text ts us front back rest left c (subst D count d) in
+            let C : List ℕ → Type 0 = λ r. Case r l in
+            (same_case rest k l case (subst C (sym same.2) other), same.1)
 
 not_valid : (text : List ℕ) (n : ℕ) → IsValidUpTo text n → IsUtf8 text → ⊥
 not_valid text n h valid = h.longest (length text) h.short (subst IsUtf8 (sym (take_all (length text) text (omega arith))) valid)
@@ -52,18 +71,13 @@ same_valid text n m h k = go (cases_lt n m) (cases_lt m n)
 same_first : (text : List ℕ) (k l : LexKind) (front back : List ℕ) → First text k front → First text l back → (k ≡ l) × (front ≡ back)
 same_first text k l front back (long e s f) (long e' s' f') = (e ∙ sym e', f ∙ sym f')
 same_first text k l front back (long e s f) (broken m e' s' v' f') = absurd (omega arith)
-same_first text k l front back (long e s f) (stopped m us rest' s' c' h') = absurd (let short = s'.short in omega arith)
+same_first text k l front back (long e s f) (stopped h) = absurd (let short = h.source.short in omega arith)
 same_first text k l front back (broken n e s v f) (long e' s' f') = absurd (omega arith)
 same_first text k l front back (broken n e s v f) (broken m e' s' v' f') = (e ∙ sym e', f ∙ ap (λ i. take i text) (same_valid text n m v v') ∙ sym f')
-same_first text k l front back (broken n e s v f) (stopped m us rest' s' c' h') = absurd (not_valid text n v s'.valid)
-same_first text k l front back (stopped n ts rest s c h) (long e' s' f') = absurd (let short = s.short in omega arith)
-same_first text k l front back (stopped n ts rest s c h) (broken m e' s' v' f') = absurd (not_valid text m v' s.valid)
-same_first text k l front back (stopped n ts rest s c h) (stopped m us rest' s' c' h') =
-    let same = one_cut n m [] text ts us front back rest rest' (Some k) (Some l) c h c' h' in
-    (some_kind k l same.2, same.1)
-  where
-    some_kind : (k l : LexKind) → ◌≡◌ {A = Option LexKind} (Some k) (Some l) → k ≡ l
-    some_kind k l e = cc
+same_first text k l front back (broken n e s v f) (stopped h) = absurd (not_valid text n v h.source.valid)
+same_first text k l front back (stopped h) (long e' s' f') = absurd (let short = h.source.short in omega arith)
+same_first text k l front back (stopped h) (broken m e' s' v' f') = absurd (not_valid text m v' h.source.valid)
+same_first text k l front back (stopped h) (stopped i) = same_stop text k l front back h i
 
 pub same_fault : (text : List ℕ) (a b : LexFault) → LexFirst text a → LexFirst text b → a ≡ b
 same_fault text a b (front, h, e) (back, k, f) =
@@ -74,19 +88,13 @@ same_fault text a b (front, h, e) (back, k, f) =
 pub no_fault : (text : List ℕ) (tokens : Tokens) (fault : LexFault) → Lexes text tokens → LexFirst text fault → ⊥
 no_fault text tokens fault h (front, k, f) = go (first_of text fault.kind front k)
   where
-    cut : (n : ℕ) × (done : List ℕ) × Cuts n [] text tokens.list done []
-    cut = h.cut
+    stop : (n : ℕ) × (done : List ℕ) × Cuts n [] text tokens.list done [] → (m : ℕ) × (us : List Token) × (rest : List ℕ) × Cuts m [] text us front rest × Case rest fault.kind × NoneBefore m text → ⊥
+    stop (n, d, whole) (m, us, rest, c, case, none) = no_case_inside n m [] text tokens.list us d front rest fault.kind whole c case
 
     go : First text fault.kind front → ⊥
     go (long e s g) = let short = h.source.short in omega arith
     go (broken n e s v g) = not_valid text n v h.source.valid
-    go (stopped m us rest s c case) =
-        let (n, d, whole) = cut in
-        let same = one_cut n m [] text tokens.list us d front [] rest None (Some fault.kind) whole refl c case in
-        no_some fault.kind same.2
-      where
-        no_some : (k : LexKind) → ◌≡◌ {A = Option LexKind} None (Some k) → ⊥
-        no_some k e = cc
+    go (stopped i) = stop h.cut i.cut
 
 -- so whatever is found is all there is
 pub every_found : (text : List ℕ) (r : Result Tokens (Refusal LexFault)) → IfOk r (Lexes text) → IfErr r (IsRefused text) → (tokens : Tokens) → Lexes text tokens → MatchResult r (λ found. found ≡ tokens) (λ refusal. refusal ≡ NoMemory)

@@ -1,4 +1,4 @@
--- A text has one cut: one piece at each place, one fault where there is no piece.
+-- At the front of a text stands one piece at most, and one fault at most.
 use Rattle.std.proofs.Common.{◌≡◌, ℕ, zero, suc, ◌+◌, ◌<◌, true, false, ◌⊎◌, inl, inr, List, [], ◌∷◌, ◌++◌, length, take, drop, Option, Some, None, refl, sym, ap, ◌∙◌, subst, arith, append_assoc, length-append}
 use Rattle.std.proofs.lemmas.List.{append_cancel_left}
 use Rattle.std.proofs.lemmas.List.Sums.{list_all-from_AllPass}
@@ -68,7 +68,7 @@ no_comment_float text a b = go (opens_lead text a) (float_lead text b)
     go e (inl f) = let r = decimal_range (lead text) f in omega (arith, r.0, e)
     go e (inr f) = omega (arith, e, f)
 
-no_string_comment : (text : List ℕ) → IsOpenString text → OpensComment text → ⊥
+pub no_string_comment : (text : List ℕ) → IsOpenString text → OpensComment text → ⊥
 no_string_comment text a b = let e = string_lead text a in let f = opens_lead text b in omega (arith, e, f)
 
 pub same_case : (text : List ℕ) (k l : LexKind) → Case text k → Case text l → k ≡ l
@@ -101,25 +101,25 @@ same_case text StrayCharacter StrayCharacter a b = refl
 
 -- ---- pieces that give nothing
 
-block_opens : (text part rest : List ℕ) → text ≡ part ++ rest → IsBlockComment part → OpensComment text
+pub block_opens : (text part rest : List ℕ) → text ≡ part ++ rest → IsBlockComment part → OpensComment text
 block_opens text part rest e (body, f, h) = (42, body ++ 42 ∷ 47 ∷ [] ++ rest, e ∙ ap (λ l. l ++ rest) f, inl refl)
 
-line_opens : (text part rest : List ℕ) → text ≡ part ++ rest → IsLineComment part rest → OpensComment text
+pub line_opens : (text part rest : List ℕ) → text ≡ part ++ rest → IsLineComment part rest → OpensComment text
 line_opens text part rest e (body, f, h, s) = (47, body ++ rest, e ∙ ap (λ l. l ++ rest) f, inr refl)
 
-blank_lead : (text part rest : List ℕ) → text ≡ part ++ rest → IsBlank part → is_blank (lead text) ≡ true
+pub blank_lead : (text part rest : List ℕ) → text ≡ part ++ rest → IsBlank part → is_blank (lead text) ≡ true
 blank_lead text part rest e (b, f, h) = ap (λ l. is_blank (lead l)) (e ∙ ap (λ l. l ++ rest) f) ∙ h
 
-no_blank_comment : (text : List ℕ) → is_blank (lead text) ≡ true → OpensComment text → ⊥
+pub no_blank_comment : (text : List ℕ) → is_blank (lead text) ≡ true → OpensComment text → ⊥
 no_blank_comment text e h = let r = blank_range (lead text) e in let f = opens_lead text h in omega (arith, r.1, f)
 
-second_same : (text u v : List ℕ) (b c : ℕ) → text ≡ 47 ∷ b ∷ u → text ≡ 47 ∷ c ∷ v → b ≡ c
+pub second_same : (text u v : List ℕ) (b c : ℕ) → text ≡ 47 ∷ b ∷ u → text ≡ 47 ∷ c ∷ v → b ≡ c
 second_same text u v b c e f = ap (λ l. head (drop 1 l)) (sym e ∙ f)
 
-block_text : (text part rest body : List ℕ) → text ≡ part ++ rest → part ≡ 47 ∷ 42 ∷ (body ++ 42 ∷ 47 ∷ []) → text ≡ 47 ∷ 42 ∷ (body ++ 42 ∷ 47 ∷ rest)
+pub block_text : (text part rest body : List ℕ) → text ≡ part ++ rest → part ≡ 47 ∷ 42 ∷ (body ++ 42 ∷ 47 ∷ []) → text ≡ 47 ∷ 42 ∷ (body ++ 42 ∷ 47 ∷ rest)
 block_text text part rest body e f = e ∙ ap (λ l. l ++ rest) f ∙ ap (λ l. 47 ∷ 42 ∷ l) (append_assoc body (42 ∷ 47 ∷ []) rest)
 
-line_text : (text part rest body : List ℕ) → text ≡ part ++ rest → part ≡ 47 ∷ 47 ∷ body → text ≡ 47 ∷ 47 ∷ (body ++ rest)
+pub line_text : (text part rest body : List ℕ) → text ≡ part ++ rest → part ≡ 47 ∷ 47 ∷ body → text ≡ 47 ∷ 47 ∷ (body ++ rest)
 line_text text part rest body e f = e ∙ ap (λ l. l ++ rest) f
 
 same_block : (text p a q b : List ℕ) → text ≡ p ++ a → text ≡ q ++ b → IsBlockComment p → IsBlockComment q → p ≡ q
@@ -191,40 +191,3 @@ part_some text p a (Some s) h = not_empty p s h.spells
 
 pub piece_some : (text p a : List ℕ) (g : Option Sort) → IsPiece text g p a → 0 < length text
 piece_some text p a g h = let some = part_some text p a g h.kind in omega (arith, ap length h.split, length-append p a, some)
-
--- ---- the one cut
-
--- nothing is left, or a fault stands there
-abbrev pub Ends : List ℕ → Option LexKind → Type 0
-Ends rest None = rest ≡ []
-Ends rest (Some kind) = Case rest kind
-
-same_end : (r : List ℕ) (o x : Option LexKind) → Ends r o → Ends r x → o ≡ x
-same_end r None None e f = refl
-same_end r None (Some k) e f = absurd (let some = case_some r k f in omega (arith, some, ap length e))
-same_end r (Some k) None e f = absurd (let some = case_some r k e in omega (arith, some, ap length f))
-same_end r (Some k) (Some l) e f = ap (λ z. Some z) (same_case r k l e f)
-
-no_end : (text p a : List ℕ) (g : Option Sort) (o : Option LexKind) → IsPiece text g p a → Ends text o → ⊥
-no_end text p a g None h e = let some = piece_some text p a g h in omega (arith, some, ap length e)
-no_end text p a g (Some k) h e = h.no_case k e
-
-pub one_cut : (n m : ℕ) (front text : List ℕ) (ts us : List Token) (d x r s : List ℕ) (o v : Option LexKind) → Cuts n front text ts d r → Ends r o → Cuts m front text us x s → Ends s v → (ts ≡ us) × (d ≡ x) × (o ≡ v)
-one_cut zero zero front text ts us d x r s o v (e1, e2, e3) e (f1, f2, f3) f =
-    let P : List ℕ → Type 0 = λ l. Ends l v in
-    (e1 ∙ sym f1, e2 ∙ sym f2, same_end r o v e (subst P (f3 ∙ sym e3) f))
-one_cut zero (suc m) front text ts us d x r s o v (e1, e2, e3) e (g, p, a, more, h, f, c) w =
-    let P : List ℕ → Type 0 = λ l. Ends l o in
-    absurd (no_end text p a g o h (subst P e3 e))
-one_cut (suc n) zero front text ts us d x r s o v (g, p, a, more, h, f, c) w (e1, e2, e3) e =
-    let P : List ℕ → Type 0 = λ l. Ends l v in
-    absurd (no_end text p a g v h (subst P e3 e))
-one_cut (suc n) (suc m) front text ts us d x r s o v (g, p, a, more, h, f, c) e (g', p', a', more', h', f', c') e' =
-    let (same_g, same_p, same_a) = same_piece text p a p' a' g g' h h' in
-    let P : List ℕ → Type 0 = λ l. Cuts m (front ++ l) a' more' x s in
-    let Q : List ℕ → Type 0 = λ l. Cuts m (front ++ p) l more' x s in
-    let moved = subst Q (sym same_a) (subst P (sym same_p) c') in
-    let (same_ts, same_d, same_o) = one_cut n m (front ++ p) a more more' d x r s o v c e moved e' in
-    let tokens : token_of g (span_of front p) ++ more ≡ token_of g' (span_of front p') ++ more' =
-    ap (λ z. token_of z (span_of front p) ++ more) same_g ∙ ap (λ z. token_of g' (span_of front z) ++ more) same_p ∙ ap (λ z. token_of g' (span_of front p') ++ z) same_ts in
-    (f ∙ tokens ∙ sym f', same_d, same_o)

@@ -27,11 +27,20 @@ pub record Lexes (text : List ℕ) (tokens : Tokens) : Type 0 where
   pub cut : (n : ℕ) × (done : List ℕ) × Cuts n [] text tokens.list done []
   pub end : tokens.end ≡ span_of text []
 
--- behind this front of the text stands the first fault, of this kind
+-- no cut of fewer pieces ends at a fault
+abbrev pub NoneBefore : ℕ → List ℕ → Type 0
+NoneBefore n text = (m : ℕ) (tokens : List Token) (front rest : List ℕ) (kind : LexKind) → m < n → Cuts m [] text tokens front rest → Case rest kind → ⊥
+
+-- the front of the text is cut, the fault stands behind it, and none stands before
+pub record StopsAt (text : List ℕ) (kind : LexKind) (front : List ℕ) : Type 0 where
+  pub source : IsSource text
+  pub cut : (n : ℕ) × (tokens : List Token) × (rest : List ℕ) × Cuts n [] text tokens front rest × Case rest kind × NoneBefore n text
+
+-- behind this front of the text stands its first fault, of this kind
 abbrev pub IsFirstFault : List ℕ → LexKind → List ℕ → Type 0
 IsFirstFault text TextTooLong front = (65536 < length text) × (front ≡ [])
 IsFirstFault text NotText front = (length text ≤ 65536) × (n : ℕ) × IsValidUpTo text n × (front ≡ take n text)
-IsFirstFault text kind front = IsSource text × (n : ℕ) × (tokens : List Token) × (rest : List ℕ) × Cuts n [] text tokens front rest × Case rest kind
+IsFirstFault text kind front = StopsAt text kind front
 
 -- the first fault of the text; its span is empty, and stands where the fault does
 abbrev pub LexFirst : List ℕ → LexFault → Type 0

@@ -5,9 +5,8 @@ use Rattle.lsl_text.specs.Number.{is_blank}
 use Rattle.lsl_text.specs.Place.{span_of}
 use Rattle.lsl_text.specs.declared.Span.{Span}
 use Rattle.lsl_lex.specs.Bytes.{is_in_line}
-use Rattle.lsl_lex.specs.Fault.{NoClose, OpensComment, Case}
+use Rattle.lsl_lex.specs.Fault.{NoClose, OpensComment}
 use Rattle.lsl_lex.specs.Tokens.{Spells}
-use Rattle.lsl_lex.specs.declared.faults.LexKind.{LexKind}
 use Rattle.lsl_lex.specs.declared.token_types.Sort.{Sort}
 use Rattle.lsl_lex.specs.declared.token_types.Token.{Token}
 
@@ -33,11 +32,10 @@ abbrev pub Gives : List ℕ → Option Sort → List ℕ → List ℕ → Type 0
 Gives text None part rest = IsBlank part ⊎ (IsBlockComment part ⊎ IsLineComment part rest)
 Gives text (Some sort) part rest = IsToken text part sort
 
--- the text is this piece and a rest, and no fault stands at its front
+-- the text is this piece and a rest
 pub record IsPiece (text : List ℕ) (gives : Option Sort) (part rest : List ℕ) : Type 0 where
   pub split : text ≡ part ++ rest
   pub kind : Gives text gives part rest
-  pub no_case : (kind : LexKind) → Case text kind → ⊥
 
 abbrev pub token_of : Option Sort → Span → List Token
 token_of None span = []
