@@ -1,9 +1,10 @@
 -- Reading escapes byte by byte is reading them character by character.
-use Rattle.std.proofs.Common.{◌≡◌, ℕ, suc, ◌+◌, ◌-◌, ◌*◌, ◌/◌, ◌%◌, ◌<◌, ◌≤◌, ◌==◌, Bool, true, false, cond, ◌&&◌, ◌⊎◌, inl, inr, List, [], ◌∷◌, ◌++◌, length, take, drop, get_or, Some, refl, sym, ap, ◌∙◌, subst, arith, append_assoc, append-nil, length-append}
+use Rattle.std.proofs.Common.{◌≡◌, ℕ, suc, ◌+◌, ◌-◌, ◌*◌, ◌/◌, ◌%◌, ◌<◌, ◌≤◌, ◌==◌, Bool, true, false, cond, ◌&&◌, ◌⊎◌, inl, inr, List, [], ◌∷◌, ◌++◌, length, take, drop, get_or, Some, refl, sym, ap, ◌∙◌, subst, arith, append_assoc, append-nil, length-append, ◌||◌}
 use Rattle.std.proofs.lemmas.Bool.{cases_lt, ltb-true}
 use Rattle.std.proofs.lemmas.Str.{encode_ascii, encodes-append, chars-encodes, IsUtf8-between, IsCharBoundary-after_ascii, IsCharBoundary-before_ascii}
 use Rattle.std.proofs.Math.Utf8.{encode, scalar}
 use Rattle.std.specs.Prelude.{slice_index, nat_lt}
+use Rattle.std.specs.List.{list_any}
 use Rattle.std.specs.Str.{IsUtf8, chars, encode_utf8_all, all_scalars}
 use Rattle.lsl_lex.specs.Lexed.{EndsText}
 use Rattle.lsl_lex.specs.Reading.{quote_of}
@@ -164,6 +165,20 @@ chars-escapes_read body (cs, (valid, e)) =
     ∙ ap chars (escapes_read-encodes cs)
     ∙ chars-encodes (escapes_read cs) (scalars-escapes_read cs valid)
     ∙ ap escapes_read (sym (chars-encodes cs valid) ∙ ap chars e)
+
+no_escape : (bytes : List ℕ) → list_any (λ b. b == 92) bytes ≡ false → escapes_read bytes ≡ bytes
+no_escape [] h = refl
+no_escape (b ∷ bytes) h =
+    let both = neither (b == 92) (list_any (λ b. b == 92) bytes) h in
+    plain b bytes (not_eq b 92 both.0) ∙ ap (λ l. b ∷ l) (no_escape bytes both.1)
+  where
+    neither : (s t : Bool) → (s || t) ≡ false → (s ≡ false) × (t ≡ false)
+    neither true t e = absurd (cc)
+    neither false t e = (refl, e)
+
+-- a body with no backslash stands for itself
+pub plain_body : (body : List ℕ) → IsUtf8 body → list_any (λ b. b == 92) body ≡ false → chars body ≡ escapes_read (chars body)
+plain_body body valid h = ap chars (sym (no_escape body h)) ∙ chars-escapes_read body valid
 
 escape_short : (d : ℕ) → length (escape_of d) ≤ 4
 escape_short d = first (d == 110)

@@ -1,5 +1,5 @@
 -- A text has one cut.
-use Rattle.std.proofs.Common.{◌≡◌, ℕ, zero, suc, ◌+◌, ◌<◌, ◌≤◌, Bool, true, false, cond, ◌⊎◌, inl, inr, List, [], ◌∷◌, ◌++◌, length, take, drop, Option, Some, None, refl, sym, ap, ◌∙◌, subst, arith, append_assoc, length-append}
+use Rattle.std.proofs.Common.{◌≡◌, ℕ, zero, suc, ◌+◌, ◌<◌, true, false, cond, inl, inr, List, [], ◌∷◌, ◌++◌, length, drop, Option, Some, None, refl, sym, ap, ◌∙◌, subst, arith, append_assoc}
 use Rattle.std.proofs.lemmas.List.Sums.{list_all-from_AllPass}
 use Rattle.std.specs.List.{prefix_len, list_all}
 use Rattle.std.specs.Str.Parse.{digits_value}
@@ -154,7 +154,7 @@ same_cut (suc n) front text ts us d x r s (g, p, a, more, h, f, c) (g', p', a', 
     let moved = subst Q (sym same_a) (subst P (sym same_p) c') in
     let (same_ts, same_d, same_r) = same_cut n (front ++ p) a more more' d x r s c moved in
     let tokens : token_of g (span_of front p) ++ more ≡ token_of g' (span_of front p') ++ more' =
-        ap (λ z. token_of z (span_of front p) ++ more) same_g ∙ ap (λ z. token_of g' (span_of front z) ++ more) same_p ∙ ap (λ z. token_of g' (span_of front p') ++ z) same_ts in
+    ap (λ z. token_of z (span_of front p) ++ more) same_g ∙ ap (λ z. token_of g' (span_of front z) ++ more) same_p ∙ ap (λ z. token_of g' (span_of front p') ++ z) same_ts in
     (f ∙ tokens ∙ sym f', same_d, same_r)
 
 nothing_left : (text p a : List ℕ) (g : Option Sort) → IsPiece text g p a → text ≡ [] → ⊥

@@ -1,5 +1,5 @@
 -- A text has one list of tokens or one first fault.
-use Rattle.std.proofs.Common.{◌≡◌, ℕ, ◌<◌, ◌≤◌, ◌⊎◌, inl, inr, List, [], length, take, Option, Some, None, Result, Ok, Err, refl, sym, ap, ◌∙◌, subst, arith}
+use Rattle.std.proofs.Common.{◌≡◌, ℕ, ◌<◌, ◌≤◌, ◌⊎◌, inl, inr, List, [], length, take, Result, Ok, Err, refl, sym, ap, ◌∙◌, subst, arith}
 use Rattle.std.proofs.lemmas.Bool.{cases_lt}
 use Rattle.std.proofs.lemmas.List.{take_all}
 use Rattle.std.specs.Prelude.{IfOk, IfErr, MatchResult}
@@ -8,7 +8,7 @@ use Rattle.lsl_text.specs.Place.{span_of}
 use Rattle.lsl_text.specs.declared.Refusal.{Refusal}
 use Rattle.lsl_text.specs.declared.Refusal.TheVariants.{Fault, NoMemory}
 use Rattle.lsl_lex.specs.Fault.{Case}
-use Rattle.lsl_lex.specs.Lexed.{IsSource, Lexes, NoneBefore, StopsAt, IsFirstFault, LexFirst, IsRefused}
+use Rattle.lsl_lex.specs.Lexed.{Lexes, NoneBefore, StopsAt, IsFirstFault, LexFirst, IsRefused}
 use Rattle.lsl_lex.specs.Pieces.{Cuts}
 use Rattle.lsl_lex.specs.declared.faults.LexFault.{LexFault}
 use Rattle.lsl_lex.specs.declared.faults.LexKind.{LexKind}

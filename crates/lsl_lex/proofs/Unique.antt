@@ -1,19 +1,17 @@
 -- At the front of a text stands one piece at most, and one fault at most.
-use Rattle.std.proofs.Common.{◌≡◌, ℕ, zero, suc, ◌+◌, ◌<◌, true, false, ◌⊎◌, inl, inr, List, [], ◌∷◌, ◌++◌, length, take, drop, Option, Some, None, refl, sym, ap, ◌∙◌, subst, arith, append_assoc, length-append}
+use Rattle.std.proofs.Common.{◌≡◌, ℕ, ◌+◌, ◌<◌, true, false, ◌⊎◌, inl, inr, List, [], ◌∷◌, ◌++◌, length, take, drop, Option, Some, None, refl, sym, ap, ◌∙◌, arith, append_assoc, length-append}
 use Rattle.std.proofs.lemmas.List.{append_cancel_left}
 use Rattle.std.proofs.lemmas.List.Sums.{list_all-from_AllPass}
 use Rattle.std.proofs.Math.Seq.{take-append_seam}
 use Rattle.std.specs.List.{prefix_len}
 use Rattle.lsl_text.specs.Number.{is_blank}
-use Rattle.lsl_text.specs.Place.{span_of}
 use Rattle.lsl_lex.specs.Bytes.{is_decimal, is_in_line}
 use Rattle.lsl_lex.specs.Fault.{OpensComment, IsOpenString, IsOpenComment, IsFloat, Case}
-use Rattle.lsl_lex.specs.Pieces.{IsBlank, IsBlockComment, IsLineComment, Gives, IsPiece, token_of, Cuts}
+use Rattle.lsl_lex.specs.Pieces.{IsBlank, IsBlockComment, IsLineComment, Gives, IsPiece}
 use Rattle.lsl_lex.specs.Reading.{close_of}
 use Rattle.lsl_lex.specs.declared.faults.LexKind.{LexKind}
 use Rattle.lsl_lex.specs.declared.faults.LexKind.TheVariants.{NotText, StringEnd, CommentEnd, FloatLiteral, StrayCharacter, TextTooLong}
 use Rattle.lsl_lex.specs.declared.token_types.Sort.{Sort}
-use Rattle.lsl_lex.specs.declared.token_types.Token.{Token}
 use Rattle.lsl_lex.proofs.ByteKinds.{blank_range, decimal_range}
 use Rattle.lsl_lex.proofs.Runs.{Stops, prefix_len-exact, close_only, head}
 use Rattle.lsl_lex.proofs.Spelled.{lead, lead-append, begins, begins_no_blank, not_empty, digits_lead, sort_of, sort_decided}

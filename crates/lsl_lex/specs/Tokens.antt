@@ -11,15 +11,30 @@ use Rattle.lsl_lex.specs.declared.token_types.Sort.TheVariants.{Name, Int, Str, 
 
 -- the words that are tokens of their own
 abbrev pub words : List (List ℕ × Sort)
-words = (codes "integer", IntegerWord) ∷ (codes "string", StringWord) ∷ (codes "key", KeyWord) ∷ (codes "list", ListWord) ∷ (codes "float", FloatWord) ∷ (codes "vector", VectorWord) ∷ (codes "rotation", RotationWord) ∷ (codes "quaternion", QuaternionWord) ∷ (codes "default", DefaultWord) ∷ (codes "state", StateWord) ∷ (codes "if", IfWord) ∷ (codes "else", ElseWord) ∷ (codes "for", ForWord) ∷ (codes "do", DoWord) ∷ (codes "while", WhileWord) ∷ (codes "jump", JumpWord) ∷ (codes "return", ReturnWord) ∷ []
+words =
+    (codes "integer", IntegerWord) ∷ (codes "string", StringWord) ∷ (codes "key", KeyWord) ∷ (codes "list", ListWord) ∷
+    (codes "float", FloatWord) ∷ (codes "vector", VectorWord) ∷ (codes "rotation", RotationWord) ∷ (codes "quaternion", QuaternionWord) ∷
+    (codes "default", DefaultWord) ∷ (codes "state", StateWord) ∷ (codes "if", IfWord) ∷ (codes "else", ElseWord) ∷
+    (codes "for", ForWord) ∷ (codes "do", DoWord) ∷ (codes "while", WhileWord) ∷ (codes "jump", JumpWord) ∷
+    (codes "return", ReturnWord) ∷ []
 
 -- the signs of two characters
 abbrev pub pair_signs : List (List ℕ × Sort)
-pair_signs = (codes "++", PlusPlus) ∷ (codes "--", MinusMinus) ∷ (codes "+=", PlusAssign) ∷ (codes "-=", MinusAssign) ∷ (codes "*=", StarAssign) ∷ (codes "/=", SlashAssign) ∷ (codes "%=", PercentAssign) ∷ (codes "==", EqualEqual) ∷ (codes "!=", BangEqual) ∷ (codes "<=", LessEqual) ∷ (codes ">=", MoreEqual) ∷ (codes "<<", LessLess) ∷ (codes ">>", MoreMore) ∷ (codes "&&", AndAnd) ∷ (codes "||", OrOr) ∷ []
+pair_signs =
+    (codes "++", PlusPlus) ∷ (codes "--", MinusMinus) ∷ (codes "+=", PlusAssign) ∷ (codes "-=", MinusAssign) ∷
+    (codes "*=", StarAssign) ∷ (codes "/=", SlashAssign) ∷ (codes "%=", PercentAssign) ∷ (codes "==", EqualEqual) ∷
+    (codes "!=", BangEqual) ∷ (codes "<=", LessEqual) ∷ (codes ">=", MoreEqual) ∷ (codes "<<", LessLess) ∷
+    (codes ">>", MoreMore) ∷ (codes "&&", AndAnd) ∷ (codes "||", OrOr) ∷ []
 
 -- the signs of one
 abbrev pub single_signs : List (List ℕ × Sort)
-single_signs = (codes "+", Plus) ∷ (codes "-", Minus) ∷ (codes "*", Star) ∷ (codes "/", Slash) ∷ (codes "%", Percent) ∷ (codes "=", Assign) ∷ (codes "<", Less) ∷ (codes ">", More) ∷ (codes "!", Bang) ∷ (codes "~", Tilde) ∷ (codes "&", And) ∷ (codes "|", Or) ∷ (codes "^", Caret) ∷ (codes "(", ParenOpen) ∷ (codes ")", ParenClose) ∷ (codes "[", BracketOpen) ∷ (codes "]", BracketClose) ∷ (codes "{", BraceOpen) ∷ (codes "}", BraceClose) ∷ (codes ",", Comma) ∷ (codes ";", Semicolon) ∷ (codes "@", At) ∷ []
+single_signs =
+    (codes "+", Plus) ∷ (codes "-", Minus) ∷ (codes "*", Star) ∷ (codes "/", Slash) ∷
+    (codes "%", Percent) ∷ (codes "=", Assign) ∷ (codes "<", Less) ∷ (codes ">", More) ∷
+    (codes "!", Bang) ∷ (codes "~", Tilde) ∷ (codes "&", And) ∷ (codes "|", Or) ∷
+    (codes "^", Caret) ∷ (codes "(", ParenOpen) ∷ (codes ")", ParenClose) ∷ (codes "[", BracketOpen) ∷
+    (codes "]", BracketClose) ∷ (codes "{", BraceOpen) ∷ (codes "}", BraceClose) ∷ (codes ",", Comma) ∷
+    (codes ";", Semicolon) ∷ (codes "@", At) ∷ []
 
 -- a letter or an underscore, then letters, underscores and decimal digits
 pub record IsIdentifier (bytes : List ℕ) : Type 0 where

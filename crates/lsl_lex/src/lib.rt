@@ -42,9 +42,11 @@ pub const MAX_SOURCE_BYTES: usize = 65_536;
 /// See <https://wiki.secondlife.com/wiki/LSL_Tokens>.
 pub fn lex(alloc: Global, text: &[u8]) -> Result<Tokens, Refusal<LexFault>>
     ensures found { IfOk result (Lexes text.now) }
-    ensures every { (tokens : Tokens) → Lexes text.now tokens → MatchResult result (λ found. found ≡ tokens) (λ refusal. refusal ≡ NoMemory) }
+    ensures every { (tokens : Tokens) → Lexes text.now tokens
+        → MatchResult result (λ found. found ≡ tokens) (λ refusal. refusal ≡ NoMemory) }
     ensures first { IfErr result (IsRefused text.now) }
-    ensures only { (fault : LexFault) → LexFirst text.now fault → MatchResult result (λ _. ⊥) (λ refusal. (refusal ≡ Fault fault) ⊎ (refusal ≡ NoMemory)) }
+    ensures only { (fault : LexFault) → LexFirst text.now fault
+        → MatchResult result (λ _. ⊥) (λ refusal. (refusal ≡ Fault fault) ⊎ (refusal ≡ NoMemory)) }
 {
     let start = Cursor::new();
     if text.len() > MAX_SOURCE_BYTES {

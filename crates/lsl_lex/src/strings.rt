@@ -31,7 +31,19 @@ pub fn string(alloc: Global, text: &[u8]) -> Result<Piece, Refusal<LexKind>>
     }
 }
 
+// A body with no backslash is taken as it stands.
 fn body_text(alloc: Global, body: &[u8]) -> Result<Text, NoMemory>
+    requires short { length body.now ≤ 65536 }
+    requires valid { IsUtf8 body.now }
+    ensures { IfOk result (λ text. text ≡ escapes_read (chars body.now)) }
+{
+    if !body.contains(&b'\\') {
+        return text_of(alloc, body);
+    }
+    escaped_text(alloc, body)
+}
+
+fn escaped_text(alloc: Global, body: &[u8]) -> Result<Text, NoMemory>
     requires short { length body.now ≤ 65536 }
     requires valid { IsUtf8 body.now }
     ensures { IfOk result (λ text. text ≡ escapes_read (chars body.now)) }
