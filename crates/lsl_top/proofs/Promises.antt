@@ -1,15 +1,14 @@
 -- From what was read of a file to what its shelf holds.
-use Rattle.std.proofs.Common.{◌≡◌, ℕ, ◌+◌, ◌<◌, ◌≤◌, List, length, take, Option, Some, None, ◌⊎◌, inl, inr, refl, ap, sym, ◌∙◌, subst, arith}
+use Rattle.std.proofs.Common.{◌≡◌, ℕ, ◌≤◌, List, length, Option, Some, None, ◌⊎◌, inl, inr, sym, ◌∙◌, subst, arith}
 use Rattle.std.proofs.lemmas.List.{take_all, length-take}
 use Rattle.lsl_ports.specs.Shelf.{Files, IsHead, IsHeadOf, head_of}
-use Rattle.lsl_ports.specs.Sink.{Grew, GrewByPrefix}
+use Rattle.lsl_ports.specs.Sink.{Grew}
 use Rattle.lsl_top.specs.declared.status.Status.{Status}
 use Rattle.lsl_top.specs.declared.status.Status.TheVariants.{Ok, Usage, BadWorld, BadScript, ReadFault, WriteFault, BadImage, NoMemory}
 use Rattle.lsl_top.specs.Answer.{IsReport, IsRefusal, Wrote}
 use Rattle.lsl_top.specs.Form.{Says, SaysNothing}
-use Rattle.lsl_top.specs.Journal.{report_of, refusal_of}
 use Rattle.lsl_top.specs.Promise.{SaysIn, RefusedIn, Accepts, Refuses, OutputOf, RunsOnce}
-use Rattle.lsl_top.specs.Words.{Command, Once}
+use Rattle.lsl_top.specs.Words.{Once}
 
 -- a head that is short is the file
 head_whole : (file : List ℕ) → length (head_of 65536 file) ≤ 65536 → head_of 65536 file ≡ file

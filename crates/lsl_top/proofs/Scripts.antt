@@ -1,7 +1,7 @@
 -- A script that is read statement by statement.
-use Rattle.std.proofs.Common.{◌≡◌, ℕ, zero, suc, get_or, inl, inr, ◌+◌, ◌<◌, ◌≤◌, Bool, true, false, cond, ◌&&◌, List, [], ◌∷◌, ◌++◌, length, map, take, drop, refl, ap, sym, ◌∙◌, subst, one-add, append_assoc, append-nil, length-append, arith}
+use Rattle.std.proofs.Common.{◌≡◌, ℕ, zero, suc, get_or, inl, inr, ◌+◌, ◌<◌, ◌≤◌, Bool, true, cond, List, [], ◌∷◌, ◌++◌, length, refl, ap, sym, ◌∙◌, subst, one-add, append_assoc, append-nil, length-append, arith}
 use Rattle.std.specs.List.{list_all, flat_map, prefix_len}
-use Rattle.std.specs.Str.{IsUtf8, encode_utf8_all}
+use Rattle.std.specs.Str.{encode_utf8_all}
 use Rattle.std.proofs.lemmas.Str.{IsUtf8-from_ascii}
 use Rattle.std.proofs.lemmas.Bool.Decides.{nat_tests}
 use Rattle.lsl_value.specs.Text.{IsNoText}
@@ -10,7 +10,7 @@ use Rattle.lsl_top.specs.declared.form.Word.{Word}
 use Rattle.lsl_top.specs.declared.form.Word.TheVariants.{OwnerSay, OpenParen, CloseParen, Semicolon, CloseBrace}
 use Rattle.lsl_top.specs.Form.{is_blank, is_literal_byte, spelling, spellings, head_words, tail_words, literal_token, statement_tokens, script_tokens, Fronts, Leads, IsLiteral, AreLiterals, Says, SaysNothing, utf8_of}
 use Rattle.lsl_top.proofs.Tokens.{and_first, and_second, list_all-prefix, drop-blanks, IsSolid-spelling, Leads-append, Leads-split, Leads-same}
-use Rattle.lsl_top.proofs.Statements.{statement_opens, statement_speaks, literal_same, Speaks}
+use Rattle.lsl_top.proofs.Statements.{statement_opens, statement_speaks, literal_same}
 
 pub list_all-from_prefix_len : (p : ℕ → Bool) (xs : List ℕ) → prefix_len p xs ≡ length xs → list_all p xs ≡ true
 list_all-from_prefix_len p xs e = ap (λ z. list_all p z) (sym (take_all (prefix_len p xs) xs (omega arith))) ∙ list_all-prefix p xs

@@ -1,6 +1,6 @@
 -- Literals and statements at the front of a text.
-use Rattle.std.proofs.Common.{◌≡◌, ℕ, ◌≤◌, false, List, [], ◌∷◌, ◌++◌, length, take, drop, refl, ap, sym, ◌∙◌, subst, append_assoc, length-append, arith}
-use Rattle.std.proofs.lemmas.List.{drop_at, take_at, take-append-drop, length-take-le}
+use Rattle.std.proofs.Common.{◌≡◌, ℕ, ◌≤◌, List, [], ◌∷◌, ◌++◌, length, take, drop, refl, ap, sym, ◌∙◌, subst, append_assoc}
+use Rattle.std.proofs.lemmas.List.{drop_at, take_at, take-append-drop}
 use Rattle.std.specs.List.{list_all, prefix_len}
 use Rattle.lsl_top.specs.declared.form.Word.{Word}
 use Rattle.lsl_top.specs.declared.form.Word.TheVariants.{OwnerSay, OpenParen, CloseParen, Semicolon}
@@ -40,9 +40,10 @@ module _ (text inside said rest : List ℕ) (quoted : drop (prefix_len is_blank 
 pub found_literal : (text inside said rest : List ℕ) → drop (prefix_len is_blank text) text ≡ 34 ∷ inside → said ≡ take (prefix_len is_literal_byte inside) inside → drop (prefix_len is_literal_byte inside) inside ≡ 34 ∷ rest → length said ≤ 1024 → IsLiteral said × Fronts (literal_token said) text rest
 found_literal text inside said rest quoted is behind few =
     let n = prefix_len is_literal_byte inside in
-    let whole : inside ≡ said ++ 34 ∷ rest = sym (take-append-drop n inside) ∙ ap (λ z. z ++ drop n inside) (sym is) ∙ ap (λ z. said ++ z) behind in
-    (record { plain = ap (λ z. list_all is_literal_byte z) is ∙ list_all-prefix is_literal_byte inside; short = few },
-     Fronts-from_drop (literal_token said) text rest (quoted ∙ ap (λ z. 34 ∷ z) whole ∙ sym (literal-append said rest)))
+    let whole : inside ≡ said ++ 34 ∷ rest = sym (take-append-drop n inside) ∙ ap (λ z. z ++ drop n inside) (sym is) ∙ ap (λ z. said ++ z) behind in (
+      record { plain = ap (λ z. list_all is_literal_byte z) is ∙ list_all-prefix is_literal_byte inside; short = few },
+      Fronts-from_drop (literal_token said) text rest (quoted ∙ ap (λ z. 34 ∷ z) whole ∙ sym (literal-append said rest)),
+    )
 
 pub record SameLiteral (said rest said' rest' : List ℕ) : Type 0 where
   pub said_same : said ≡ said'
@@ -56,8 +57,8 @@ literal_same text said rest said' rest' lit f lit' f' =
     record {
       said_same = sym (said_is text inside said rest quoted lit f) ∙ said_is text inside said' rest' quoted lit' f';
       rest_same =
-        let e : 34 ∷ rest ≡ 34 ∷ rest' = sym (behind_said text inside said rest quoted lit f) ∙ behind_said text inside said' rest' quoted lit' f' in
-        cc;
+          let e : 34 ∷ rest ≡ 34 ∷ rest' = sym (behind_said text inside said rest quoted lit f) ∙ behind_said text inside said' rest' quoted lit' f' in
+          cc;
     }
 
 abbrev front_words : List Word

@@ -1,8 +1,8 @@
 -- Tokens at the front of a text: which they are, and that what stands behind them is one.
-use Rattle.std.proofs.Common.{◌≡◌, ℕ, suc, ◌+◌, ◌<◌, ◌≤◌, Bool, true, false, cond, ◌&&◌, List, [], ◌∷◌, ◌++◌, length, map, take, drop, get_or, refl, ap, sym, ◌∙◌, subst, one-add, append_assoc, append-nil, arith}
+use Rattle.std.proofs.Common.{◌≡◌, ℕ, suc, ◌+◌, ◌<◌, Bool, true, false, cond, ◌&&◌, List, [], ◌∷◌, ◌++◌, length, take, drop, get_or, refl, ap, sym, ◌∙◌, subst, one-add}
 use Rattle.std.specs.Prelude.{◌≢◌, Option, Some, None, MatchOption, IfSome, IsNone}
 use Rattle.std.specs.Borrow.{Bor}
-use Rattle.std.proofs.lemmas.List.{drop_at, take_at, take-append-drop, append_cancel_left, take_more, drop_more, map_more}
+use Rattle.std.proofs.lemmas.List.{drop_at, take-append-drop, append_cancel_left, drop_more, map_more}
 use Rattle.std.specs.List.{list_all, prefix_len}
 use Rattle.lsl_top.specs.declared.form.Word.{Word}
 use Rattle.lsl_top.specs.declared.form.Word.TheVariants.{Default, StateEntry, OwnerSay, OpenBrace, CloseBrace, OpenParen, CloseParen, Semicolon}

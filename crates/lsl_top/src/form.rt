@@ -59,7 +59,9 @@ fn literal_count(text: &[u8]) -> usize
     ensures count { result ≡ prefix_len is_literal_byte text.now }
     ensures within { result ≤ length text.now }
 {
-    text.iter().take_while(|byte| is_literal_byte(**byte)).count()
+    text.iter()
+        .take_while(|byte| is_literal_byte(**byte))
+        .count()
 }
 
 fn after_blanks(text: &[u8]) -> &[u8]

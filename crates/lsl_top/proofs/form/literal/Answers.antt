@@ -1,6 +1,4 @@
-use Rattle.std.proofs.Common.{◌≡◌, List, ℕ, ◌∷◌, length, drop, refl, arith, sym, ◌∙◌, ap}
-use Rattle.std.specs.List.{prefix_len}
-use Rattle.lsl_top.specs.Form.{is_blank, is_literal_byte}
+use Rattle.std.proofs.Common.{List, ℕ, drop, refl, arith, sym, ◌∙◌, ap}
 use Rattle.lsl_top.proofs.Statements.{drop-literal, said_count, behind_said, found_literal}
 use Rattle.lsl_top.proofs.form.literal.Goals as goal
 

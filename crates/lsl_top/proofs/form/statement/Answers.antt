@@ -1,5 +1,5 @@
 use Rattle.std.proofs.Common.{refl}
-use Rattle.lsl_top.proofs.Statements.{statement_opens, statement_speaks, statement_ends, statement-from_parts}
+use Rattle.lsl_top.proofs.Statements.{statement_opens, statement_speaks, statement_ends}
 use Rattle.lsl_top.proofs.form.statement.Goals as goal
 
 pub returns-in_err-text-clause-none : goal.returns-in_err-text-clause-none

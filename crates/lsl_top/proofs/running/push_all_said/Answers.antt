@@ -1,4 +1,3 @@
-use Rattle.std.proofs.Common.{refl}
 use Rattle.lsl_machine.specs.State.{bodies_of}
 use Rattle.lsl_top.proofs.Halting.{SaidSoFar-begun, SaidSoFar-tick, SaidSoFar-answered, smaller_tick, smaller_answered, asked_said, written_at_end}
 use Rattle.lsl_top.proofs.running.push_all_said.Goals as goal

@@ -1,6 +1,6 @@
-use Rattle.std.proofs.Common.{◌≡◌, refl, ap, sym, ◌∙◌, subst, length, arith, List, ℕ, true, false}
+use Rattle.std.proofs.Common.{◌≡◌, refl, sym, ◌∙◌, subst, length, arith, List, ℕ, true}
 use Rattle.std.proofs.lemmas.Bool.Decides.{nat_tests}
-use Rattle.std.specs.List.{list_all, prefix_len}
+use Rattle.std.specs.List.{list_all}
 use Rattle.lsl_top.specs.Form.{is_blank, tail_words}
 use Rattle.lsl_top.proofs.Tokens.{Leads-same}
 use Rattle.lsl_top.proofs.Scripts.{list_all-from_prefix_len, prefix_len-from_list_all}

@@ -1,4 +1,4 @@
-use Rattle.std.proofs.Common.{refl, arith, ap, sym, subst, ◌∙◌, List, ℕ, ◌++◌, ◌∷◌, []}
+use Rattle.std.proofs.Common.{refl, arith, ap, sym, subst, ◌∙◌}
 use Rattle.lsl_top.specs.Form.{utf8_of}
 use Rattle.lsl_top.proofs.Scripts.{Reading, Reading-none, Reading-more, utf8_of-push, Says-from_end, SaysNothing-from_end, SaysNothing-from_head}
 use Rattle.lsl_top.proofs.script.read_script.Goals as goal
