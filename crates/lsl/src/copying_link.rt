@@ -26,3 +26,16 @@ impl Link for CopyingLink {
         }
     }
 }
+
+#[cfg(test)]
+mod tests {
+    use super::*;
+    use std::test::Fail;
+
+    #[test]
+    fn gives_back_what_was_sent(rt: HostRuntime) -> Result<(), Fail> {
+        let back = CopyingLink.carry(rt.alloc(), b"image")?;
+        assert_eq!(rt; back.as_slice(), b"image".as_slice());
+        Ok(())
+    }
+}

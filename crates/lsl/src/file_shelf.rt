@@ -44,3 +44,26 @@ fn read_at<R: Files>(files: &R, name: &str, place: u64, piece: &mut [u8]) -> io:
     file.seek(SeekFrom::Start(place))?;
     file.read(piece)
 }
+
+#[cfg(test)]
+mod tests {
+    use super::*;
+    use std::test::Fail;
+    use std::{fs, process};
+
+    #[test]
+    fn reads_a_file_that_it_wrote(rt: HostRuntime) -> Result<(), Fail> {
+        let process = process::id(rt.process());
+        let path = format!(in rt.alloc(); "/tmp/lsl_file_shelf_{process}")?;
+        fs::write(&rt, path.as_str(), b"abcdef".as_slice())?;
+        let mut shelf = FileShelf::new(&rt);
+        let mut piece = [0u8; 3];
+        assert_eq!(rt; shelf.read(path.as_str(), 2, &mut piece), Ok(3));
+        assert_eq!(rt; piece.as_slice(), b"cde".as_slice());
+        assert_eq!(rt; shelf.read(path.as_str(), 6, &mut piece), Ok(0));
+        fs::remove_file(&rt, path.as_str())?;
+        assert_eq!(rt; shelf.read(path.as_str(), 0, &mut piece), Err(Failed));
+        assert_eq!(rt; shelf.faults, 1);
+        Ok(())
+    }
+}

@@ -32,3 +32,22 @@ impl<W: Write> Sink for OutputSink<W> {
         }
     }
 }
+
+#[cfg(test)]
+mod tests {
+    use super::*;
+    use std::test::Fail;
+
+    #[test]
+    fn writes_until_the_writer_is_full(rt: HostRuntime) -> Result<(), Fail> {
+        let mut page = [0u8; 4];
+        let mut sink = OutputSink::new(page.as_mut_slice());
+        assert_eq!(rt; sink.write(b"abc"), Ok(3));
+        assert_eq!(rt; sink.write(b""), Ok(0));
+        assert_eq!(rt; sink.write(b"de"), Ok(1));
+        assert_eq!(rt; sink.write(b"e"), Err(Failed));
+        assert_eq!(rt; sink.faults, 1);
+        assert_eq!(rt; page.as_slice(), b"abcd".as_slice());
+        Ok(())
+    }
+}

@@ -1,9 +1,6 @@
 -- The course of a handler that says texts: where each run of its machine begins, and what it comes to.
-use Rattle.std.proofs.Common.{◌≡◌, ℕ, zero, suc, ◌+◌, ◌-◌, ◌*◌, ◌<◌, ◌≤◌, List, [], ◌∷◌, ◌++◌, length, map, refl, ap, sym, ◌∙◌, subst, append_assoc, append-nil, Option, Some, None, ◌⊎◌, inl, inr, length-append, arith}
+use Rattle.std.proofs.Common.{◌≡◌, ℕ, zero, suc, ◌+◌, List, [], ◌∷◌, ◌++◌, length, refl, ap, sym, ◌∙◌, subst, append_assoc, append-nil, Some, ◌⊎◌, inl, inr, length-append, arith}
 use Rattle.std.specs.Prelude.{slice_get}
-use Rattle.std.specs.List.{flat_map}
-use Rattle.lsl_top.specs.Form.{utf8_of}
-use Rattle.lsl_top.specs.Journal.{owner_line}
 use Rattle.lsl_value.specs.declared.names.BuiltinId.TheVariants as calls
 use Rattle.lsl_value.specs.declared.tagged.Value.{Value}
 use Rattle.lsl_value.specs.declared.tagged.Value.TheVariants as values
@@ -14,11 +11,10 @@ use Rattle.lsl_code.specs.declared.results.Outcome.{Outcome}
 use Rattle.lsl_code.specs.declared.results.Outcome.TheVariants as outcomes
 use Rattle.lsl_code.specs.Bodies.{Body}
 use Rattle.lsl_code.specs.Machine.{Active, Plain, Stepped, Goes, Asks, Halts, Ends, performed, step_of, step_at, Reaches}
-use Rattle.lsl_machine.specs.declared.standing.Standing.{Standing}
-use Rattle.lsl_machine.specs.declared.standing.Standing.TheVariants.{Ready, AtTick, Asking, Ended, Lost}
+use Rattle.lsl_machine.specs.declared.standing.Standing.TheVariants.{Ready, AtTick, Asking}
 use Rattle.lsl_machine.specs.declared.standing.Halt.TheVariants as halts
-use Rattle.lsl_machine.specs.State.{State, CanRun, answered}
-use Rattle.lsl_machine.specs.Run.{ComesTo, started, Leads}
+use Rattle.lsl_machine.specs.State.{State}
+use Rattle.lsl_machine.specs.Run.{ComesTo, started}
 use Rattle.lsl_top.specs.Program.{saying_code, handler_code, handler_body}
 
 -- the instructions up to where these texts were said
@@ -65,7 +61,7 @@ module _ (bodies : List Body) (texts : List (List ℕ)) (only : bodies ≡ handl
         let front : List Instr = said_code said ++ Str text ∷ [] in
         let len : length front ≡ length (said_code said) + 1 = length-append (said_code said) (Str text ∷ []) in
         let code : handler_code texts ≡ front ++ Host calls.OwnerSay ∷ rest =
-            ap handler_code all ∙ handler_code-split said (text ∷ left) ∙ sym (append_assoc (said_code said) (Str text ∷ []) (Host calls.OwnerSay ∷ rest)) in
+        ap handler_code all ∙ handler_code-split said (text ∷ left) ∙ sym (append_assoc (said_code said) (Str text ∷ []) (Host calls.OwnerSay ∷ rest)) in
         step_is bodies texts (Host calls.OwnerSay) (length (said_code said) + 1) (values.Str text ∷ []) only
         (ap (λ z. slice_get z (length (said_code said) + 1)) code ∙ ap (λ n. slice_get (front ++ Host calls.OwnerSay ∷ rest) n) (sym len) ∙ slice_get-seam front (Host calls.OwnerSay ∷ rest))
 
@@ -110,10 +106,10 @@ module _ (bodies : List Body) (texts : List (List ℕ)) (only : bodies ≡ handl
       let goes = step_push bodies texts only said text rest all in
       let asks = step_ask bodies texts only said text rest all in
       let is : Asks calls.OwnerSay (values.Str text ∷ []) (at (length (said_code said) + 1 + 1) []) ≡ Asks call.id call.args new.plain =
-          elim (Reaches-next bodies run.1.steps (at (length (said_code said)) []) _ run.0 _ goes asks (λ m e. cc) run.1.reached) [
-            inl e ↦ absurd (let f : Goes (at (length (said_code said) + 1) (values.Str text ∷ [])) ≡ Asks call.id call.args new.plain = sym goes ∙ ap (step_of bodies) (sym e) ∙ run.2 in cc)
-          | inr e ↦ sym asks ∙ ap (step_of bodies) (sym e) ∙ run.2
-          ] in
+      elim (Reaches-next bodies run.1.steps (at (length (said_code said)) []) _ run.0 _ goes asks (λ m e. cc) run.1.reached) [
+        | inl e ↦ absurd (let f : Goes (at (length (said_code said) + 1) (values.Str text ∷ [])) ≡ Asks call.id call.args new.plain = sym goes ∙ ap (step_of bodies) (sym e) ∙ run.2 in cc)
+        | inr e ↦ sym asks ∙ ap (step_of bodies) (sym e) ∙ run.2
+      ] in
       record { text = text; rest = rest; left_is = refl; args = cc; plain = cc; standing = run.3 ∙ ap Asking (sym (let i : calls.OwnerSay ≡ call.id = cc in i)) }
 
   ask_from_end : (said : List (List ℕ)) (call : Call) (new : State) → texts ≡ said → ComesTo bodies (at (length (said_code said)) []) (halts.Asks call) new → ⊥
@@ -135,8 +131,8 @@ module _ (bodies : List Body) (texts : List (List ℕ)) (only : bodies ≡ handl
       let goes = step_push bodies texts only said text rest all in
       let asks = step_ask bodies texts only said text rest all in
       elim (Reaches-next bodies run.0.steps (at (length (said_code said)) []) _ new.plain _ goes asks (λ m e. cc) run.0.reached) [
-        inl e ↦ let f : Goes (at (length (said_code said) + 1) (values.Str text ∷ [])) ≡ Halts = sym goes ∙ ap (step_of bodies) (sym e) ∙ run.1 in cc
-      | inr e ↦ let f : Asks calls.OwnerSay (values.Str text ∷ []) (at (length (said_code said) + 1 + 1) []) ≡ Halts = sym asks ∙ ap (step_of bodies) (sym e) ∙ run.1 in cc
+        | inl e ↦ let f : Goes (at (length (said_code said) + 1) (values.Str text ∷ [])) ≡ Halts = sym goes ∙ ap (step_of bodies) (sym e) ∙ run.1 in cc
+        | inr e ↦ let f : Asks calls.OwnerSay (values.Str text ∷ []) (at (length (said_code said) + 1 + 1) []) ≡ Halts = sym asks ∙ ap (step_of bodies) (sym e) ∙ run.1 in cc
       ]
 
   tick_from_end : (said : List (List ℕ)) (new : State) → texts ≡ said → ComesTo bodies (at (length (said_code said)) []) halts.AtTick new → ⊥
@@ -151,8 +147,8 @@ module _ (bodies : List Body) (texts : List (List ℕ)) (only : bodies ≡ handl
       let goes = step_push bodies texts only said text rest all in
       let asks = step_ask bodies texts only said text rest all in
       elim (Reaches-next bodies run.0.steps (at (length (said_code said)) []) _ new.plain _ goes asks (λ m e. cc) run.0.reached) [
-        inl e ↦ let f : Goes (at (length (said_code said) + 1) (values.Str text ∷ [])) ≡ Ends outcome = sym goes ∙ ap (step_of bodies) (sym e) ∙ run.1 in cc
-      | inr e ↦ let f : Asks calls.OwnerSay (values.Str text ∷ []) (at (length (said_code said) + 1 + 1) []) ≡ Ends outcome = sym asks ∙ ap (step_of bodies) (sym e) ∙ run.1 in cc
+        | inl e ↦ let f : Goes (at (length (said_code said) + 1) (values.Str text ∷ [])) ≡ Ends outcome = sym goes ∙ ap (step_of bodies) (sym e) ∙ run.1 in cc
+        | inr e ↦ let f : Asks calls.OwnerSay (values.Str text ∷ []) (at (length (said_code said) + 1 + 1) []) ≡ Ends outcome = sym asks ∙ ap (step_of bodies) (sym e) ∙ run.1 in cc
       ]
 
   end_from_tick : (outcome : Outcome) (new : State) → ComesTo bodies (at 0 []) (halts.Ended outcome) new → ⊥

@@ -1,8 +1,7 @@
 -- What was said and written at each halt of a handler's run, and that the run ends.
-use Rattle.std.proofs.Common.{◌≡◌, ℕ, ◌+◌, ◌-◌, ◌*◌, ◌<◌, ◌≤◌, List, [], ◌∷◌, ◌++◌, length, refl, ap, sym, ◌∙◌, subst, append_assoc, append-nil, None, inl, inr, length-append, arith}
+use Rattle.std.proofs.Common.{◌≡◌, ℕ, ◌+◌, ◌-◌, ◌*◌, ◌<◌, ◌≤◌, List, [], ◌∷◌, ◌++◌, length, refl, ap, sym, ◌∙◌, subst, append_assoc, append-nil, None, length-append, arith}
 use Rattle.std.specs.List.{flat_map}
 use Rattle.std.specs.Str.{encode_utf8_all}
-use Rattle.lsl_value.specs.declared.names.BuiltinId.TheVariants as calls
 use Rattle.lsl_value.specs.declared.tagged.Value.{Value}
 use Rattle.lsl_value.specs.declared.tagged.Value.TheVariants as values
 use Rattle.lsl_code.specs.declared.instructions.Instr.TheVariants.{Return}
@@ -14,12 +13,12 @@ use Rattle.lsl_code.specs.Machine.{Active, begun as begun_at}
 use Rattle.lsl_machine.specs.declared.standing.Standing.{Standing}
 use Rattle.lsl_machine.specs.declared.standing.Standing.TheVariants.{Ready, AtTick, Asking, Ended, Lost}
 use Rattle.lsl_machine.specs.declared.standing.Halt.TheVariants as halts
-use Rattle.lsl_machine.specs.State.{State, CanRun, IsBegun, answered, bodies_of}
+use Rattle.lsl_machine.specs.State.{State, CanRun, IsBegun, answered}
 use Rattle.lsl_machine.specs.Run.{ComesTo, started}
 use Rattle.lsl_top.specs.Form.{utf8_of}
 use Rattle.lsl_top.specs.Journal.{owner_line}
 use Rattle.lsl_top.specs.Program.{saying_code, handler_code, handler_body, HasHandler}
-use Rattle.lsl_top.proofs.Courses.{at, said_code, said_code-push, handler_code-split, Where, begun, ticking, going, Said, Start, start_of, ask_at, end_at, never_ticks, step_at_tick, Reaches-stop}
+use Rattle.lsl_top.proofs.Courses.{at, said_code, said_code-push, handler_code-split, Where, begun, ticking, going, Said, start_of, ask_at, end_at, never_ticks, step_at_tick, Reaches-stop}
 
 -- these texts were said and those are left, and the lines of what was said were written
 pub record SaidSoFar (texts : List (List ℕ)) (state : State) (before now : List ℕ) : Type 0 where

@@ -1,13 +1,11 @@
 -- The code of a handler that says texts is well formed.
-use Rattle.std.proofs.Common.{◌≡◌, ℕ, ◌+◌, ◌<◌, ◌≤◌, eqb, take, get_or, Bool, true, false, ◌&&◌, List, [], ◌∷◌, ◌++◌, length, map, refl, ap, sym, ◌∙◌, subst, append_assoc, append-nil, Some, None, Option, max, count_by, arith}
-use Rattle.lsl_value.specs.declared.names.BuiltinId.TheVariants as calls
+use Rattle.std.proofs.Common.{◌≡◌, ℕ, ◌+◌, ◌<◌, eqb, take, get_or, Bool, true, ◌&&◌, List, [], ◌∷◌, ◌++◌, length, map, refl, ap, sym, ◌∙◌, append_assoc, Some, max, count_by}
 use Rattle.lsl_value.specs.declared.tagged.Kind.{Kind}
 use Rattle.lsl_value.specs.declared.tagged.Kind.TheVariants as kinds
-use Rattle.lsl_code.specs.declared.instructions.Instr.{Instr}
-use Rattle.lsl_code.specs.declared.instructions.Instr.TheVariants.{Str, Host, Tick, Return}
+use Rattle.lsl_code.specs.declared.instructions.Instr.TheVariants.{Return}
 use Rattle.lsl_code.specs.declared.functions.FunctionCode.{FunctionCode}
-use Rattle.lsl_code.specs.Bodies.{Body, plain_body, fits_unit, fits_function, fits_from, each_point_once, most_operands, is_tick_of}
-use Rattle.std.proofs.lemmas.List.{take_more, take_all}
+use Rattle.lsl_code.specs.Bodies.{plain_body, fits_unit, fits_function, fits_from, each_point_once, most_operands, is_tick_of}
+use Rattle.std.proofs.lemmas.List.{take_more}
 use Rattle.lsl_top.specs.Program.{saying_code, saying_stacks, handler_code, handler_stacks, handler_most, handler_body}
 
 -- from a place where no operand waits the code fits
@@ -44,10 +42,10 @@ fits_handler texts =
     let most = eqb (most_operands body.stacks) body.most in
     both (true && fits && once && most && true) true
     (both (true && fits && once && most) true
-      (both (true && fits && once) most
-        (both (true && fits) once (fits_whole texts texts) (ap (λ z. eqb z 1 && true) (counts_tick texts)))
-        (most_whole texts))
-      refl)
+    (both (true && fits && once) most
+    (both (true && fits) once (fits_whole texts texts) (ap (λ z. eqb z 1 && true) (counts_tick texts)))
+    (most_whole texts))
+    refl)
     refl
 
 -- a unit of one such handler is well formed

@@ -1,5 +1,5 @@
 -- What a command's words ask for.
-use Rattle.std.specs.Prelude.{◌≡◌, ℕ, Bool, true, false, ◌==◌, ◌&&◌, not, codes, List, [], ◌∷◌, Option, Some, None, if◌then◌else◌, map, string_bytes, String}
+use Rattle.std.specs.Prelude.{ℕ, Bool, false, ◌==◌, ◌&&◌, not, codes, List, [], ◌∷◌, Option, Some, None, if◌then◌else◌, map, string_bytes, String}
 use Rattle.std.specs.Str.{bytes_eq}
 
 -- a command
@@ -7,16 +7,15 @@ pub data Command : Type 0 where
   -- runs the script of a file
   Once : (file : List ℕ) → Command
 
--- the words as bytes
-abbrev pub words_of : {Z : Type 0} → List (String Z) → List (List ℕ)
-words_of words = map string_bytes words
-
 -- a word that may name a file: it isn't empty, and doesn't begin with `-`
 abbrev pub names_file : List ℕ → Bool
 names_file [] = false
 names_file (c ∷ word) = not (c == 45)
 
+abbrev pub command_in : List (List ℕ) → Option Command
+command_in (word ∷ file ∷ []) = if bytes_eq word (codes "once") && names_file file then Some (Once file) else None
+command_in _ = None
+
 -- what the words ask for, or none where they are no command
-abbrev pub command_of : List (List ℕ) → Option Command
-command_of (word ∷ file ∷ []) = if bytes_eq word (codes "once") && names_file file then Some (Once file) else None
-command_of _ = None
+abbrev pub command_of : {Z : Type 0} → List (String Z) → Option Command
+command_of words = command_in (map string_bytes words)

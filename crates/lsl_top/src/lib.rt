@@ -5,7 +5,7 @@
 ghost use Rattle.std.specs.Prelude.{◌≡◌, ◌≢◌, ◌≤◌, ◌↔◌, ◌⊎◌, ℕ, None};
 ghost use Rattle.lsl_ports.specs.Counts.{NoneFell, Rose};
 ghost use Rattle.lsl_top.specs.Promise.{HasNoScript, HasScript, NamedRose, WritesNothing, WritesPrefix, WritesRefusal, WritesReport, RunsOnce};
-ghost use Rattle.lsl_top.specs.Words.{command_of, words_of};
+ghost use Rattle.lsl_top.specs.Words.{command_of};
 
 mod build;
 mod build_fault;
@@ -17,14 +17,13 @@ mod running;
 mod status;
 mod words;
 
-pub use status::Status;
-
 use lsl_ports::{Link, Shelf, ShelfFault, Sink, read_all};
 use output::write_output;
+pub use status::Status;
 use std::alloc::Global;
 use words::{Command, parse_words};
 
-/// How many bytes of a script are read: one more shows that it is too long.
+/// How many bytes of a script are read, but for one more, which shows that it is too long.
 const MAX_SCRIPT_BYTES: u64 = 65_536;
 
 /// Does what the command's words ask for, and answers how that ended. `words` are without the
@@ -38,27 +37,39 @@ pub fn lsl<S: Shelf, K: Sink, L: Link>(
     link: &mut L,
 ) -> Status
     // The words are no command.
-    ensures usage { (result ≡ Status.Usage) ↔ (command_of (words_of words.now) ≡ None) }
+    ensures usage { (result ≡ Status.Usage) ↔ (command_of words.now ≡ None) }
     // The file is a script, and the sink grew by exactly its report.
-    ensures ok { result ≡ Status.Ok → WritesReport (S.held shelf.old) (command_of (words_of words.now)) (K.sunk sink.old) (K.sunk sink.new) }
+    ensures ok { result ≡ Status.Ok
+        → WritesReport (S.held shelf.old) (command_of words.now) (K.sunk sink.old) (K.sunk sink.new) }
     // The file isn't accepted, and the sink grew by exactly its refusal for its first fault.
-    ensures bad_script { result ≡ Status.BadScript → WritesRefusal (S.held shelf.old) (command_of (words_of words.now)) (K.sunk sink.old) (K.sunk sink.new) }
+    ensures bad_script { result ≡ Status.BadScript
+        → WritesRefusal (S.held shelf.old) (command_of words.now) (K.sunk sink.old) (K.sunk sink.new) }
     // The shelf failed at the very file that the words name.
-    ensures read_fault { result ≡ Status.ReadFault → NamedRose (command_of (words_of words.now)) (S.faults shelf.old) (S.faults shelf.new) }
+    ensures read_fault { result ≡ Status.ReadFault
+        → NamedRose (command_of words.now) (S.faults shelf.old) (S.faults shelf.new) }
     // The sink failed, and has taken a prefix of the output.
     ensures write_fault { result ≡ Status.WriteFault → Rose (K.faults sink.old) (K.faults sink.new) }
-    ensures part { result ≡ Status.WriteFault → WritesPrefix (S.held shelf.old) (command_of (words_of words.now)) (K.sunk sink.old) (K.sunk sink.new) }
+    ensures part { result ≡ Status.WriteFault
+        → WritesPrefix (S.held shelf.old) (command_of words.now) (K.sunk sink.old) (K.sunk sink.new) }
     // At Usage, ReadFault and NoMemory nothing was written.
     ensures memory { WritesNothing result → K.sunk sink.new ≡ K.sunk sink.old }
     ensures never { (result ≢ Status.BadWorld) × (result ≢ Status.BadImage) }
 
-    // Where neither the file's count nor the sink's rose, a script is run and any other file is
-    // refused, but for want of memory.
-    ensures complete { HasScript (S.held shelf.old) (command_of (words_of words.now)) → ¬ NamedRose (command_of (words_of words.now)) (S.faults shelf.old) (S.faults shelf.new) → ¬ Rose (K.faults sink.old) (K.faults sink.new) → (result ≡ Status.Ok) ⊎ (result ≡ Status.NoMemory) }
-    ensures refused { HasNoScript (S.held shelf.old) (command_of (words_of words.now)) → ¬ NamedRose (command_of (words_of words.now)) (S.faults shelf.old) (S.faults shelf.new) → ¬ Rose (K.faults sink.old) (K.faults sink.new) → (result ≡ Status.BadScript) ⊎ (result ≡ Status.NoMemory) }
+    // Where neither the count of the file's faults nor the sink's rose, a script that the shelf
+    // tells of is run, and any other file is refused, but for want of memory.
+    ensures complete { HasScript (S.held shelf.old) (command_of words.now)
+        → ¬ NamedRose (command_of words.now) (S.faults shelf.old) (S.faults shelf.new)
+        → ¬ Rose (K.faults sink.old) (K.faults sink.new)
+        → (result ≡ Status.Ok) ⊎ (result ≡ Status.NoMemory) }
+    ensures refused { HasNoScript (S.held shelf.old) (command_of words.now)
+        → ¬ NamedRose (command_of words.now) (S.faults shelf.old) (S.faults shelf.new)
+        → ¬ Rose (K.faults sink.old) (K.faults sink.new)
+        → (result ≡ Status.BadScript) ⊎ (result ≡ Status.NoMemory) }
 
     ensures unchanged { (S.held shelf.new ≡ S.held shelf.old) × (L.carried link.new ≡ L.carried link.old) }
-    ensures counted { NoneFell (S.faults shelf.old) (S.faults shelf.new) × (K.faults sink.old ≤ K.faults sink.new) × (L.faults link.new ≡ L.faults link.old) }
+    ensures counted { NoneFell (S.faults shelf.old) (S.faults shelf.new)
+        × (K.faults sink.old ≤ K.faults sink.new)
+        × (L.faults link.new ≡ L.faults link.old) }
 {
     let _ = link;
     match parse_words(words) {
@@ -68,12 +79,7 @@ pub fn lsl<S: Shelf, K: Sink, L: Link>(
 }
 
 /// Runs the script of a file, and writes its journal and its home.
-fn run_once<S: Shelf, K: Sink>(
-    alloc: Global,
-    name: &str,
-    shelf: &mut S,
-    sink: &mut K,
-) -> Status
+fn run_once<S: Shelf, K: Sink>(alloc: Global, name: &str, shelf: &mut S, sink: &mut K) -> Status
     ensures once { RunsOnce (S.held shelf.old) name.now (K.sunk sink.old) result (K.sunk sink.new) }
     ensures read_fault { result ≡ Status.ReadFault → Rose (S.faults shelf.old name.now) (S.faults shelf.new name.now) }
     ensures write_fault { result ≡ Status.WriteFault → Rose (K.faults sink.old) (K.faults sink.new) }

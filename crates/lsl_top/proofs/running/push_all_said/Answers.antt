@@ -1,5 +1,7 @@
-use Rattle.std.proofs.Common.{refl}
-use Rattle.lsl_machine.specs.State.{bodies_of}
+use Rattle.std.proofs.Common.{Option, None, refl, subst, sym}
+use Rattle.lsl_value.specs.declared.tagged.Value.{Value}
+use Rattle.lsl_machine.specs.declared.standing.Standing.{Standing}
+use Rattle.lsl_machine.specs.State.{Wants, bodies_of}
 use Rattle.lsl_top.proofs.Halting.{SaidSoFar-begun, SaidSoFar-tick, SaidSoFar-answered, smaller_tick, smaller_answered, asked_said, written_at_end}
 use Rattle.lsl_top.proofs.running.push_all_said.Goals as goal
 
@@ -27,6 +29,14 @@ push_said-requires c =
     let has = c.requires.1 in
     let a = asked_said (bodies_of c.args.unit.now) texts has.bodies c.halts.machine c.run.new.self _ _ (c.halts.invariant.course texts has) c.in-Asks.call c.in-Asks.ensures.halt in
     (a.text, a.args)
+
+pub answer-requires : goal.answer-requires
+answer-requires c =
+    let texts = c.requires.0 in
+    let has = c.requires.1 in
+    let a = asked_said (bodies_of c.args.unit.now) texts has.bodies c.halts.machine c.run.new.self _ _ (c.halts.invariant.course texts has) c.in-Asks.call c.in-Asks.ensures.halt in
+    let nothing : Option Value = None in
+    subst (λ (s : Standing). Wants s nothing) (sym a.standing) refl
 
 pub halts-smaller : goal.halts-smaller
 halts-smaller c =

@@ -1,8 +1,5 @@
-use Rattle.std.proofs.Common.{◌≡◌, ◌++◌, List, ℕ, ◌-◌, ◌*◌}
-use Rattle.std.specs.List.{flat_map}
-use Rattle.lsl_machine.specs.State.{IsOf, CanRun, bodies_of}
-use Rattle.lsl_top.specs.Form.{utf8_of}
-use Rattle.lsl_top.specs.Journal.{owner_line}
+use Rattle.std.proofs.Common.{List, ℕ, ◌-◌, ◌*◌}
+use Rattle.lsl_machine.specs.State.{IsOf, bodies_of}
 use Rattle.lsl_top.specs.Program.{HasHandler}
 use Rattle.lsl_top.proofs.Halting.{SaidSoFar, code_length, progress}
 use Rattle.lsl_top.proofs.running.push_all_said.Given as goal
