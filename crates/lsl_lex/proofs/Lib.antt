@@ -1,0 +1,12 @@
+pub mod ByteKinds
+pub mod Escapes
+pub mod Found
+pub mod FoundPiece
+pub mod Loop
+pub mod OneCut
+pub mod Rows
+pub mod Runs
+pub mod Scanned
+pub mod Spelled
+pub mod Top
+pub mod Unique

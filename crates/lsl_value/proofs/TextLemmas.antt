@@ -1,11 +1,14 @@
 -- What a text's characters are, from its bytes.
-use Rattle.std.proofs.Common.{◌≡◌, ◌∙◌, ℕ, ◌≤◌, Bool, true, false, cond, not, ◌==◌, nat_lt, List, [], ◌∷◌, ◌++◌, length, Result, Ok, Err, OnOk, sym, ap, refl, subst, arith, nat_eq}
+use Rattle.std.proofs.Common.{◌≡◌, ℤ, FitsSigned, ◌∙◌, ℕ, ◌≤◌, Bool, true, false, cond, not, ◌==◌, nat_lt, List, [], ◌∷◌, ◌++◌, length, Result, Ok, Err, OnOk, sym, ap, refl, subst, arith, nat_eq}
 use Rattle.std.specs.Result.{is_ok}
+use Rattle.std.specs.Int.{w32}
 use Rattle.std.specs.Cmp.Lexicographic.{pointwise}
-use Rattle.std.specs.Str.{chars, encode_utf8_all, all_scalars, IsUtf8}
-use Rattle.std.proofs.lemmas.Str.{chars-append, chars-encodes, encodes-chars, encodes_same, length-le-encodes, scalars-chars}
+use Rattle.std.specs.Str.{chars, encode_utf8_all, all_scalars, IsUtf8, IsAscii}
+use Rattle.std.proofs.lemmas.Str.{chars-append, chars-encodes, encodes-chars, encodes_same, encodes-IsAscii, length-le-encodes, scalars-chars}
 use Rattle.std.proofs.lemmas.Slice.Eq.{bytes_eq-Decides}
 use Rattle.std.proofs.lemmas.Bool.Decides.{nat_tests, same_from_decides, Decides-like}
+use Rattle.std.proofs.lemmas.Fmt.{IsAscii-signed, length_signed_le}
+use Rattle.lsl_text.specs.Number.{decimal_of}
 use Rattle.lsl_value.specs.Text.{IsText, IsTextOf}
 
 pub IsText-chars : (bytes : List ℕ) → IsUtf8 bytes → length bytes ≤ 1048576 → IsText (chars bytes)
@@ -42,3 +45,13 @@ length-joined false new old more most same short joined = rw same short
 pub nonempty-encodes : (text : List ℕ) → not (length (encode_utf8_all text) == 0) ≡ nat_lt 0 (length text)
 nonempty-encodes [] = refl
 nonempty-encodes (c ∷ cs) = let bytes = length-le-encodes (c ∷ cs) in grind (arith, nat_tests)
+
+-- an integer's text is ASCII, and at most 11 characters
+pub decimal-ascii : (n : ℤ) (text : List ℕ) → FitsSigned w32 n → text ≡ decimal_of n → IsAscii text
+decimal-ascii n text fits same = subst IsAscii (sym same) (IsAscii-signed n (omega (arith, fits.sfits)))
+
+pub decimal-short : (n : ℤ) (text : List ℕ) → FitsSigned w32 n → text ≡ decimal_of n → length text ≤ 11
+decimal-short n text fits same = rw same (length_signed_le 10 n (omega (arith, fits.sfits)) (omega (arith, fits.sfits)))
+
+pub decimal-encodes_short : (n : ℤ) (text : List ℕ) → FitsSigned w32 n → text ≡ decimal_of n → length (encode_utf8_all text) ≤ 11
+decimal-encodes_short n text fits same = rw (encodes-IsAscii text (decimal-ascii n text fits same)) (decimal-short n text fits same)

@@ -1,10 +1,17 @@
 -- Elements of lists, and what they are charged.
 use Rattle.std.specs.Prelude.{◌≡◌, ℕ, ◌+◌, ◌*◌, ◌≤◌, List, length, sum_by}
+use Rattle.lsl_text.specs.Number.{decimal_of}
 use Rattle.lsl_value.specs.Text.{text_charge_of}
 use Rattle.lsl_value.specs.declared.list.Atom.{Atom}
 use Rattle.lsl_value.specs.declared.list.Atom.TheVariants.{Int, Str, Key}
 
--- an integer is charged 8
+-- an element's text: an integer's is its decimal
+abbrev pub text_of_atom : Atom → List ℕ
+text_of_atom (Int n) = decimal_of n
+text_of_atom (Str text) = text
+text_of_atom (Key text) = text
+
+-- an integer is charged 8, a text or key 16 and its bytes
 abbrev pub atom_charge_of : Atom → ℕ
 atom_charge_of (Int n) = 8
 atom_charge_of (Str text) = text_charge_of text

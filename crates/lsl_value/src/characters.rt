@@ -5,9 +5,10 @@ ghost use Rattle.std.specs.Cmp.{partial_equiv_from_equiv};
 ghost use Rattle.std.specs.Cmp.Lexicographic.{nat_list_eq_equiv, pointwise};
 ghost use Rattle.std.specs.Str.{chars, encode_utf8_all, IsAscii};
 ghost use Rattle.std.specs.String.{string_bytes};
+ghost use Rattle.lsl_text.specs.Number.{decimal_of};
 ghost use Rattle.lsl_value.specs.Text.{IsText, IsTextOf, IsNoText, text_charge_of};
 
-use lsl_text::NoMemory;
+use lsl_text::{NoMemory, push_decimal};
 use std::alloc::Global;
 use std::marker::Model;
 
@@ -78,6 +79,16 @@ impl Text {
             Ok(text) => Text { text },
             Err(_) => unreachable!(),
         }
+    }
+
+    /// The integer's text, in decimal.
+    pub fn decimal(alloc: Global, n: i32) -> Result<Text, NoMemory>
+        ensures value { IfOk result (λ text. text ≡ decimal_of n) }
+        ensures short { IfOk result (λ text. length (encode_utf8_all text) ≤ 11) }
+    {
+        let mut bytes = Vec::new(alloc);
+        push_decimal(&mut bytes, i64::from(n))?;
+        Ok(Text::from_ascii(bytes))
     }
 
     /// The text in UTF-8. Takes no memory.

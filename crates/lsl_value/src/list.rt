@@ -1,8 +1,9 @@
 //! Lists: elements are integers, strings and keys, never lists.
 
 ghost use Rattle.std.specs.Prelude.{◌≡◌, [], ◌++◌, ◌∷◌, ◌+◌, ◌*◌, ◌≤◌, ◌<◌, ◌↔◌, length, OnOk, OnErr, IfOk, IsTrue};
+ghost use Rattle.std.specs.Str.{encode_utf8_all};
 ghost use Rattle.std.specs.Cmp.{partial_equiv_from_equiv};
-ghost use Rattle.lsl_value.specs.Atoms.{atom_charge_of, list_charge_of};
+ghost use Rattle.lsl_value.specs.Atoms.{atom_charge_of, item_charge_of, list_charge_of, text_of_atom};
 ghost use Rattle.lsl_value.specs.Equality.{same_atom, same_atoms};
 ghost use Rattle.lsl_value.specs.EqualityLaws.{same_atom_equiv, same_atoms_equiv};
 
@@ -40,6 +41,17 @@ impl Atom {
         match self {
             Atom::Int(_) => INT_CHARGE,
             Atom::Str(text) | Atom::Key(text) => text.charge(),
+        }
+    }
+
+    /// The element's text: an integer's is its decimal.
+    pub fn text(&self, alloc: Global) -> Result<Text, NoMemory>
+        ensures value { IfOk result (λ text. text ≡ text_of_atom self.now) }
+        ensures short { IfOk result (λ text. length (encode_utf8_all text) ≤ item_charge_of self.now) }
+    {
+        match self {
+            Atom::Int(n) => Text::decimal(alloc, *n),
+            Atom::Str(text) | Atom::Key(text) => text.copy(alloc),
         }
     }
 
@@ -129,7 +141,8 @@ impl Items {
 
     /// Whether there is no room for another element.
     pub fn is_full(&self) -> bool
-        ensures { IsTrue result ↔ (length self.now ≡ MAX_ITEMS) }
+        ensures full { IsTrue result ↔ (length self.now ≡ MAX_ITEMS) }
+        ensures within { length self.now ≤ MAX_ITEMS }
     {
         self.list.len() == MAX_ITEMS
     }

@@ -1,6 +1,6 @@
 //! What no clause says: that the definitions mean the language's, and that calls succeed with ample memory.
 
-use crate::{Atom, Items, Kind, Text, Value, Values, charge, copy, truth, valid_key};
+use crate::{Atom, BinaryOp, Items, Kind, Text, Value, Values, charge, copy, truth, valid_key};
 use std::alloc::Global;
 use std::test::Fail;
 
@@ -101,5 +101,40 @@ fn texts_are_characters(rt: HostRuntime) -> Result<(), Fail> {
     assert_eq!(rt; joined.as_str(), "née");
     assert!(rt; joined == Text::from_string(String::from_str(alloc, "née")?));
     assert!(rt; Text::from_utf8(alloc, b"\xff")?.is_none());
+    assert_eq!(rt; Text::decimal(alloc, -2147483648)?.as_str(), "-2147483648");
+    assert_eq!(rt; Atom::Int(7).text(alloc)?.as_str(), "7");
+    assert_eq!(rt; Atom::Key(tail).text(alloc)?.as_str(), "e");
     Ok(())
+}
+
+#[test]
+fn rows_of_operators_and_casts(rt: HostRuntime) {
+    let (int, text, list) = (Some(Kind::Int), Some(Kind::Str), Some(Kind::List));
+    let rows = [
+        (Kind::Int, Kind::Int, int, int, true),
+        (Kind::Int, Kind::Str, None, None, true),
+        (Kind::Int, Kind::Key, None, None, false),
+        (Kind::Int, Kind::List, list, None, true),
+        (Kind::Str, Kind::Int, None, None, true),
+        (Kind::Str, Kind::Str, text, int, true),
+        (Kind::Str, Kind::Key, None, int, true),
+        (Kind::Str, Kind::List, list, None, true),
+        (Kind::Key, Kind::Int, None, None, false),
+        (Kind::Key, Kind::Str, None, int, true),
+        (Kind::Key, Kind::Key, None, int, true),
+        (Kind::Key, Kind::List, list, None, true),
+        (Kind::List, Kind::Int, list, None, false),
+        (Kind::List, Kind::Str, list, None, true),
+        (Kind::List, Kind::Key, list, None, false),
+        (Kind::List, Kind::List, list, int, true),
+    ];
+    for (left, right, sum, compared, cast) in rows {
+        assert_eq!(rt; BinaryOp::Add.result_kind(left, right), sum);
+        assert_eq!(rt; BinaryOp::Unequal.result_kind(left, right), compared);
+        assert_eq!(rt; left.casts_to(right), cast);
+    }
+    assert_eq!(rt; BinaryOp::Rem.result_kind(Kind::Int, Kind::Int), int);
+    assert_eq!(rt; BinaryOp::Both.result_kind(Kind::Str, Kind::Str), None);
+    assert!(rt; Kind::Key.casts_implicitly_to(Kind::Str));
+    assert!(rt; !Kind::Str.casts_implicitly_to(Kind::Int));
 }

@@ -1,0 +1,80 @@
+//! A whole text cut into its pieces.
+
+ghost use Rattle.std.specs.Prelude.{◌≡◌, ◌+◌, ◌≤◌, ◌++◌, length, IfOk, IfErr, OnOk};
+ghost use Rattle.lsl_text.specs.Place.{IsAt};
+ghost use Rattle.lsl_lex.specs.Lexed.{IsSource, Lexes, IsRefused};
+ghost use Rattle.lsl_lex.specs.Pieces.{token_of};
+ghost use Rattle.lsl_lex.specs.Reading.{fault_of, refusal_of};
+
+use crate::faults::{LexFault, LexKind};
+use crate::piece::next;
+use crate::token_types::{Sort, Token, TokenList, Tokens};
+use lsl_text::{Cursor, NoMemory, Refusal, Span};
+use std::alloc::Global;
+
+/// The tokens of a text of UTF-8, or its first fault.
+pub fn cut(alloc: Global, text: &[u8]) -> Result<Tokens, Refusal<LexFault>>
+    requires { IsSource text.now }
+    ensures found { IfOk result (Lexes text.now) }
+    ensures first { IfErr result (IsRefused text.now) }
+{
+    let mut list = Vec::new(alloc);
+    let mut cursor = Cursor::new();
+    let mut rest = text;
+    'pieces: while !rest.is_empty() {
+        let from = cursor;
+        let piece = match next(alloc, rest) {
+            Ok(piece) => piece,
+            Err(refusal) => return Err(refused_at(&from, refusal)),
+        };
+        advance(&mut cursor, text, piece.length);
+        rest = &rest[piece.length..];
+        push_token(&mut list, piece.gives, cursor.span(&from))?;
+    }
+    Ok(Tokens {
+        list: TokenList::from_vec(list),
+        end: cursor.span(&cursor),
+    })
+}
+
+// A blank or a comment adds no token.
+fn push_token(list: &mut Vec<Token>, gives: Option<Sort>, span: Span) -> Result<(), NoMemory>
+    ensures { OnOk result (list.new.items ≡ list.old.items ++ token_of gives span) }
+{
+    if let Some(sort) = gives {
+        list.push(Token { sort, span })?;
+    }
+    Ok(())
+}
+
+/// The fault of this kind at the cursor: its span is empty.
+pub fn fault_at(cursor: &Cursor, kind: LexKind) -> LexFault
+    ensures { result ≡ fault_of kind cursor.now }
+{
+    LexFault {
+        kind,
+        span: cursor.span(cursor),
+    }
+}
+
+fn refused_at(cursor: &Cursor, refusal: Refusal<LexKind>) -> Refusal<LexFault>
+    ensures { result ≡ refusal_of cursor.now refusal }
+{
+    match refusal {
+        Refusal::Fault(kind) => Refusal::Fault(fault_at(cursor, kind)),
+        Refusal::NoMemory => Refusal::NoMemory,
+    }
+}
+
+/// Moves the cursor on by so many bytes of the text.
+pub fn advance(cursor: &mut Cursor, text: &[u8], count: usize)
+    requires short { length text.now ≤ 65536 }
+    requires within { cursor.old.offset + count ≤ length text.now }
+    requires place { IsAt text.now cursor.old }
+    ensures next { cursor.new.offset ≡ cursor.old.offset + count }
+    ensures place { IsAt text.now cursor.new }
+{
+    'steps: for _step in 0..count {
+        cursor.step(text);
+    }
+}

@@ -1,0 +1,17 @@
+//! Operators and casts on values: each gives the value of its row, and nothing else but `Math Error` at a zero
+//! divisor or want of memory.
+#![tactic(auto)]
+
+mod binaries;
+mod casts;
+mod comparisons;
+mod faults;
+mod integers;
+mod sums;
+#[cfg(test)]
+mod tests;
+
+pub use crate::binaries::binary;
+pub use crate::casts::cast;
+pub use crate::faults::OpFault;
+pub use crate::integers::unary;

@@ -1,0 +1,7 @@
+//! Tests of the top call over a shelf and a sink in memory.
+#![tactic(auto)]
+
+#[cfg(test)]
+mod once;
+#[cfg(test)]
+mod outside;

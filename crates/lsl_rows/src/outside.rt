@@ -1,0 +1,86 @@
+//! The outside in memory, and a run of the top call over it.
+ghost use Rattle.std.specs.Prelude.{None};
+
+use lsl_ports::{Link, LinkFault, MemoryShelf, MemorySink, StoredFile};
+use lsl_top::lsl;
+use std::alloc::{AllocError, Global};
+
+/// A link that gives back what was sent.
+#[derive(Clone, Copy)]
+pub struct CopyingLink;
+
+impl Link for CopyingLink {
+    ghost carried = { λ _. None };
+
+    ghost faults = { λ _. 0 };
+
+    fn carry(&mut self, alloc: Global, sent: &[u8]) -> Result<Vec<u8>, LinkFault> {
+        match Vec::from_slice(alloc, sent) {
+            Ok(back) => Ok(back),
+            Err(_) => Err(LinkFault::NoMemory),
+        }
+    }
+}
+
+/// What the outside is like in a test: the bytes of the file `s.lsl`, the read and the write that
+/// fail, counted from 1, and how many bytes the sink has room for.
+#[derive(Clone, Copy)]
+pub struct Outside<'a> {
+    pub file: &'a [u8],
+    pub failing_read: u64,
+    pub failing_write: u64,
+    pub room: usize,
+}
+
+impl<'a> Outside<'a> {
+    /// An outside where nothing fails.
+    pub fn of(file: &'a [u8]) -> Outside<'a> {
+        Outside {
+            file,
+            failing_read: 0,
+            failing_write: 0,
+            room: 1_000_000,
+        }
+    }
+}
+
+/// How a call ended: its status, what the sink took, and the counts of faults.
+#[derive(Debug, Drop)]
+pub struct Ended {
+    pub status: u8,
+    pub sunk: Vec<u8>,
+    pub read_faults: u64,
+    pub write_faults: u64,
+}
+
+fn strings(alloc: Global, words: &[&str]) -> Result<Vec<String>, AllocError> {
+    let mut all = Vec::new(alloc);
+    for word in words {
+        all.push(String::from_str(alloc, *word)?)?;
+    }
+    Ok(all)
+}
+
+/// Calls the top call over this outside.
+pub fn call(alloc: Global, words: &[&str], outside: Outside<'_>) -> Result<Ended, AllocError> {
+    let words = strings(alloc, words)?;
+    let mut files = Vec::new(alloc);
+    files.push(StoredFile::new(alloc, "s.lsl", outside.file)?)?;
+    let failing_reads = vec![in alloc; outside.failing_read]?;
+    let mut shelf = MemoryShelf::new(alloc, files, failing_reads)?;
+    let failing_writes = vec![in alloc; outside.failing_write]?;
+    let mut sink = MemorySink::new(alloc, outside.room, failing_writes)?;
+    let status = lsl(
+        alloc,
+        words.as_slice(),
+        &mut shelf,
+        &mut sink,
+        &mut CopyingLink,
+    );
+    Ok(Ended {
+        status: status.number(),
+        sunk: Vec::from_slice(alloc, sink.as_bytes())?,
+        read_faults: shelf.fault_count("s.lsl"),
+        write_faults: sink.fault_count(),
+    })
+}

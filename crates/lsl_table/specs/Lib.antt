@@ -1,0 +1,4 @@
+pub mod Calls
+pub mod Constants
+pub mod Events
+pub mod Names

@@ -1,0 +1,50 @@
+//! Short lists of kinds.
+
+ghost use Rattle.std.specs.Prelude.{◌≡◌, ◌≤◌, length};
+
+use lsl_value::Kind;
+use std::marker::Model;
+
+/// How many kinds a list has at most.
+const MAX_KINDS: usize = 4;
+
+/// A list of at most four kinds, held in place.
+#[derive(Debug, Drop)]
+pub struct Kinds {
+    held: [Kind; 4],
+    count: usize,
+}
+
+impl Model for Kinds {
+    ghost use Rattle.std.specs.Prelude.{List, ◌≤◌, take};
+    ghost use Rattle.lsl_value.specs.declared.tagged.Kind.{Kind};
+
+    ghost Value = { List Kind };
+
+    ghost view = { λ k. take k.count k.held };
+
+    ghost invariant = { λ k. k.count ≤ 4 };
+}
+
+impl Kinds {
+    /// These kinds. Takes no memory.
+    pub fn new(kinds: &[Kind]) -> Kinds
+        requires { length kinds.now ≤ MAX_KINDS }
+        ensures { result ≡ kinds.now }
+    {
+        let mut held = [Kind::Int; 4];
+        held[..kinds.len()].copy_from_slice(kinds);
+        Kinds {
+            held,
+            count: kinds.len(),
+        }
+    }
+
+    /// The kinds. Takes no memory.
+    pub fn as_slice(&self) -> &[Kind]
+        ensures value { result.now ≡ self.now }
+        ensures within { length self.now ≤ MAX_KINDS }
+    {
+        &self.held[..self.count]
+    }
+}

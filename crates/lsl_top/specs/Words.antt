@@ -1,0 +1,21 @@
+-- What a command's words ask for.
+use Rattle.std.specs.Prelude.{ℕ, Bool, false, ◌==◌, ◌&&◌, not, codes, List, [], ◌∷◌, Option, Some, None, if◌then◌else◌, map, string_bytes, String}
+use Rattle.std.specs.Str.{bytes_eq}
+
+-- a command
+pub data Command : Type 0 where
+  -- runs the script of a file
+  Once : (file : List ℕ) → Command
+
+-- a word that may name a file: it isn't empty, and doesn't begin with `-`
+abbrev pub names_file : List ℕ → Bool
+names_file [] = false
+names_file (c ∷ word) = not (c == 45)
+
+abbrev pub command_in : List (List ℕ) → Option Command
+command_in (word ∷ file ∷ []) = if bytes_eq word (codes "once") && names_file file then Some (Once file) else None
+command_in _ = None
+
+-- what the words ask for, or none where they are no command
+abbrev pub command_of : {Z : Type 0} → List (String Z) → Option Command
+command_of words = command_in (map string_bytes words)
