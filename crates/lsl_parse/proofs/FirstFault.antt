@@ -35,6 +35,18 @@ found ts rest x e = go (script_r Narrow DEPTH ts) refl e
     go (Ok (y, t ∷ m)) f e = absurd (cc)
     go (Err y) f e = absurd (cc)
 
+-- where the reader of whole texts ends, nothing is left
+pub nothing_behind : (ts : List Token) (x : Script) (t : Token) (m : List Token) → all_r Narrow DEPTH ts ≡ Ok (x, t ∷ m) → ⊥
+unfolding all_r
+nothing_behind ts x t m e = go (script_r Narrow DEPTH ts) e
+  where
+    go : (o : Reading) → (o >>= λ y. end_r y.0 y.1) ≡ Ok (x, t ∷ m) → ⊥
+    go (Ok (y, [])) e =
+        let rest : ◌≡◌ {A = List Token} [] (t ∷ m) = ap (λ (z : Script × List Token). z.1) (ok_parts (y, []) (x, t ∷ m) e) in
+        cc
+    go (Ok (y, s ∷ l)) e = cc
+    go (Err y) e = cc
+
 pub every : (ts : List Token) (x : Script) → Derives ts x → all_r Narrow DEPTH ts ≡ Ok (x, [])
 unfolding all_r
 every ts x d =

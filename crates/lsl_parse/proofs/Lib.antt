@@ -7,3 +7,6 @@ pub mod Top
 pub mod FirstFault
 pub mod Views
 pub mod ExpressionLoops
+pub mod StatementLoops
+pub mod ScriptLoops
+pub mod Answering

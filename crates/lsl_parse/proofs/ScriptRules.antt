@@ -24,10 +24,10 @@ use Rattle.lsl_parse.proofs.StatementRules.{block_is_read}
 abbrev made : List Heading → List Handling → List Standing → Script
 made headings start states = record { headings = headings; start = start; states = states }
 
-atom_heads : List ℕ
+pub atom_heads : List ℕ
 atom_heads = codes (Minus ∷ []) ++ (codes (Str ∷ []) ++ (codes (Name ∷ []) ++ codes (Int ∷ [])))
 
-atom_solid : Solid number probe atom atom atom_r atom_r atom_heads []
+pub atom_solid : Solid number probe atom atom atom_r atom_r atom_heads []
 unfolding atom_heads
 atom_solid = solid_or number probe
     (solid_sign number probe Unexpected (codes (Minus ∷ [])) (codes (Int ∷ [])) [] _ _ _ _ refl refl (λ minus. sign_rule number probe OperandDue (codes (Int ∷ [])) [] (λ _. []) _ _ _ _ refl (λ n. ret_rule number probe (part.Negative (integer_of n.sort) minus.span) [] _)))
@@ -48,7 +48,7 @@ initial_solid = solid_or number probe
     (solid_ret number probe Single atom_solid)
     refl
 
-param_solid : Solid number probe param param param_r param_r (codes types) []
+pub param_solid : Solid number probe param param param_r param_r (codes types) []
 param_solid = solid_sign number probe Unexpected (codes types) (codes (Name ∷ [])) [] _ _ _ _ refl refl (λ kind. sign_rule number probe Unexpected (codes (Name ∷ [])) [] (λ _. []) _ _ _ _ refl (λ name. ret_rule number probe (record { kind = type_of kind.sort; name = name_of name }) [] _))
 
 params_solid : Solid number probe params params params_r params_r (codes (ParenOpen ∷ [])) []
@@ -56,7 +56,7 @@ params_solid = solid_sign number probe Unexpected (codes (ParenOpen ∷ [])) (co
 
 -- elements, each of which begins with these kinds
 module _ {A : Type 0} (ks : List TokenKind) (L M : Language A) (p q : Reads A) (s : Solid number probe L M p q (codes ks) []) (lone : among probe (codes ks) ≡ false) where
-  each_solid : (before : List A) → Solid number probe (L >=> λ next. ret (added before next)) (M >=> λ next. ret (added before next)) (next_r p before) (next_r q before) (codes ks) []
+  pub each_solid : (before : List A) → Solid number probe (L >=> λ next. ret (added before next)) (M >=> λ next. ret (added before next)) (next_r p before) (next_r q before) (codes ks) []
   each_solid before = solid_ret number probe (added before) s
 
   many_rule : (before : List A) → Rule number probe (many L before) (many M before) (many_r ks p before) (many_r ks q before) (codes ks) (λ _. codes ks)
@@ -85,14 +85,14 @@ module _ (limit : Option ℕ) (d D : ℕ) (lt : suc d < D) where
   function_solid : (kind : Option Kind) (name : Named) → Solid number probe (function_behind (home_of limit d) kind name) (function_behind (home_of None D) kind name) (function_behind_r (home_r limit d) kind name) (function_behind_r (home_r None D) kind name) (codes (ParenOpen ∷ [])) []
   function_solid kind name = solid_then number probe (codes (BraceOpen ∷ [])) [] _ _ _ _ params_solid (λ all. solid_ret number probe (λ inner. FunctionNamed kind name all inner) block_s) refl refl
 
-  heading_solid : Solid number probe (heading (home_of limit d)) (heading (home_of None D)) (heading_r (home_r limit d)) (heading_r (home_r None D)) (codes types ++ codes (Name ∷ [])) []
+  pub heading_solid : Solid number probe (heading (home_of limit d)) (heading (home_of None D)) (heading_r (home_r limit d)) (heading_r (home_r None D)) (codes types ++ codes (Name ∷ [])) []
   heading_solid = solid_or number probe
       (solid_sign number probe Unexpected (codes types) (codes (Name ∷ [])) [] _ _ _ _ refl refl (λ kind. sign_rule number probe Unexpected (codes (Name ∷ [])) (codes (ParenOpen ∷ []) ++ (codes (Assign ∷ []) ++ codes (Semicolon ∷ []))) (λ _. []) _ _ _ _ refl (λ name.
       (solid_or number probe (function_solid (Some (type_of kind.sort)) (name_of name)) (global_solid (type_of kind.sort) (name_of name)) refl).rule)))
       (solid_sign number probe Unexpected (codes (Name ∷ [])) (codes (ParenOpen ∷ [])) [] _ _ _ _ refl refl (λ name. (function_solid None (name_of name)).rule))
       refl
 
-  handler_solid : Solid number probe (handler (home_of limit d)) (handler (home_of None D)) (handler_r (home_r limit d)) (handler_r (home_r None D)) (codes (Name ∷ [])) []
+  pub handler_solid : Solid number probe (handler (home_of limit d)) (handler (home_of None D)) (handler_r (home_r limit d)) (handler_r (home_r None D)) (codes (Name ∷ [])) []
   handler_solid = solid_sign number probe Unexpected (codes (Name ∷ [])) (codes (ParenOpen ∷ [])) [] _ _ _ _ refl refl (λ name. (solid_then number probe (codes (BraceOpen ∷ [])) [] _ _ _ _ params_solid (λ all. solid_ret number probe (λ inner. record { name = name_of name; params = all; body = inner }) block_s) refl refl).rule)
 
   handlers_solid : Solid number probe (handlers (home_of limit d)) (handlers (home_of None D)) (handlers_r (home_r limit d)) (handlers_r (home_r None D)) (codes (BraceOpen ∷ [])) []
@@ -101,7 +101,7 @@ module _ (limit : Option ℕ) (d D : ℕ) (lt : suc d < D) where
       (λ all. sign_rule number probe Unexpected (codes (BraceClose ∷ [])) [] (λ _. []) _ _ _ _ refl (λ end. ret_rule number probe all [] _))
       (λ all. sign_full number probe (codes (BraceClose ∷ [])) _) refl (first ∷ [])))
 
-  standing_solid : Solid number probe (standing (home_of limit d)) (standing (home_of None D)) (standing_r (home_r limit d)) (standing_r (home_r None D)) (codes (StateWord ∷ [])) []
+  pub standing_solid : Solid number probe (standing (home_of limit d)) (standing (home_of None D)) (standing_r (home_r limit d)) (standing_r (home_r None D)) (codes (StateWord ∷ [])) []
   standing_solid = solid_sign number probe Unexpected (codes (StateWord ∷ [])) (codes (Name ∷ [])) [] _ _ _ _ refl refl (λ word. sign_rule number probe Unexpected (codes (Name ∷ [])) (codes (BraceOpen ∷ [])) (λ _. []) _ _ _ _ refl (λ name. (solid_ret number probe (λ all. record { name = name_of name; handlers = all }) handlers_solid).rule))
 
   -- states, and the script that is made of them

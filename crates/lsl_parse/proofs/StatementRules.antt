@@ -23,7 +23,7 @@ use Rattle.lsl_parse.proofs.ExpressionRules.{probe, heads, expr_tails, listing_s
 use Rattle.lsl_parse.proofs.ExpressionStarts.{no_test, expr_misses, expr_covers}
 use Rattle.lsl_parse.proofs.Munches.{else_next, Munches, body_munches}
 
-abbrev else_tail : List ℕ
+abbrev pub else_tail : List ℕ
 else_tail = codes (ElseWord ∷ [])
 
 -- an `else` goes on a statement that ends in an `if` without one
@@ -143,7 +143,7 @@ body_whole limit (suc d) (suc D) b = b.1
 
 -- What stands in a block
 
-entry_heads : List ℕ
+pub entry_heads : List ℕ
 entry_heads = codes types ++ (codes (At ∷ []) ++ codes statement_heads)
 
 -- each kind but the end of a block is among them
@@ -180,7 +180,7 @@ module _ (limit : Option ℕ) (d D : ℕ) (lt : d < D) where
   unfolding entry_heads
   entry_solid s s' r r' w = solid_or number probe declaration_solid (solid_or number probe label_solid (solid_ret number probe Acted (whole_solid w)) refl) refl
 
-  next_solid : (s s' : Language Statement) (r r' : Reads Statement) → Whole s s' r r' (codes statement_heads) → (before : Entries) →
+  pub next_solid : (s s' : Language Statement) (r r' : Reads Statement) → Whole s s' r r' (codes statement_heads) → (before : Entries) →
       Solid number probe (entry_rule E s >=> λ next. ret (Then before next)) (entry_rule EE s' >=> λ next. ret (Then before next)) (next_entry_r (entry_rule_r er r) before) (next_entry_r (entry_rule_r EEr r') before) entry_heads else_tail
   next_solid s s' r r' w before = solid_ret number probe (Then before) (entry_solid s s' r r' w)
 
@@ -343,3 +343,6 @@ below_all limit (suc d) (suc D) lt = (omega arith, statement_whole limit d D (om
 
 pub block_is_read : (limit : Option ℕ) (d D : ℕ) → suc d < D → Solid number probe (block (home_of limit d)) (block (home_of None D)) (block_r (home_r limit d)) (block_r (home_r None D)) (codes (BraceOpen ∷ [])) []
 block_is_read limit d D lt = block_solid limit d D (below_all limit d D lt)
+
+pub statement_is_read : (limit : Option ℕ) (d D : ℕ) → suc d < D → Whole (statement_rule (expr limit d) (home_of limit d)) (statement_rule (expr None D) (home_of None D)) (statement_rule_r (expr_r limit d) (home_r limit d)) (statement_rule_r (expr_r None D) (home_r None D)) (codes statement_heads)
+statement_is_read limit d D lt = statement_whole limit d D (omega arith) (below_all limit d D lt)

@@ -1,8 +1,9 @@
 //! Token lists as trees, or their first fault.
 
-ghost use Rattle.std.specs.Prelude.{◌≡◌, ℕ, [], ◌∷◌, Some, IfOk, IfErr, MatchResult, if◌then◌else◌};
+ghost use Rattle.std.specs.Prelude.{◌≡◌, ◌<◌, ℕ, [], length, ◌∷◌, Some, IfOk, IfErr, MatchResult, if◌then◌else◌};
 ghost use Rattle.lsl_tree.specs.Scripts.{Script, script_of};
 ghost use Rattle.lsl_parse.specs.declared.fault.ParseKind.{ParseKind};
+ghost use Rattle.lsl_parse.specs.declared.limits.TheConstants.{HEIGHT, TOKENS};
 ghost use Rattle.lsl_parse.specs.ScriptReading.{all_r, end_r};
 ghost use Rattle.lsl_parse.specs.Faults.{Derives, ParseFirst, IsFirst, IsThat, IfFault, span_at};
 ghost use Rattle.lsl_parse.specs.FaultReading.{fault_kind, stop_fault, large_fault};
@@ -40,13 +41,13 @@ fn ended<'a>(tree: Tree, rest: &'a [Token]) -> Result<Tree, Refusal<Stop<'a>>>
     }
 }
 
-/// Where the token at this place stands, or the end.
-fn span_of(tokens: &[Token], place: usize, end: Span) -> Span
-    ensures { result ≡ span_at tokens.now end place }
+/// Where the first of these tokens stands, or the end.
+fn first_span(tokens: &[Token], end: Span) -> Span
+    ensures { result ≡ span_at tokens.now end 0 }
 {
-    match tokens.get(place) {
-        Some(token) => token.span,
-        None => end,
+    match tokens {
+        [first, ..] => first.span,
+        [] => end,
     }
 }
 
@@ -66,7 +67,7 @@ fn foreign(token: &Token, due: bool) -> ParseKind
 
 /// The fault that a stop is.
 fn kind_of_stop(stop: Stop) -> ParseKind
-    ensures { result ≡ fault_kind stop.why stop.rest.now }
+    ensures { result ≡ fault_kind stop.entry.why stop.entry.rest.now }
 {
     match stop.rest {
         [] => ParseKind::EndOfText,
@@ -80,23 +81,24 @@ fn kind_of_stop(stop: Stop) -> ParseKind
 
 /// The fault of the first token too many.
 fn large_fault_of(tokens: &[Token], end: Span) -> ParseFault
+    requires { TOKENS < length tokens.now }
     ensures { result ≡ large_fault tokens.now end }
 {
     ParseFault {
         kind: ParseKind::TooLarge,
-        span: span_of(tokens, TOKENS, end),
+        span: first_span(&tokens[TOKENS..], end),
     }
 }
 
 /// The fault of a stop, or that of the first token too many, which comes before it.
 fn fault_of(tokens: &[Token], end: Span, stop: Stop) -> ParseFault
-    ensures { result ≡ stop_fault tokens.now end stop.why stop.rest.now }
+    ensures { result ≡ stop_fault tokens.now end stop.entry.why stop.entry.rest.now }
 {
     if TOKENS + stop.rest.len() < tokens.len() {
         return large_fault_of(tokens, end);
     }
     ParseFault {
-        span: span_of(stop.rest, 0, end),
+        span: first_span(stop.rest, end),
         kind: kind_of_stop(stop),
     }
 }

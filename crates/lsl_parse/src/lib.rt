@@ -17,6 +17,8 @@ mod signs;
 mod statement;
 mod steps;
 mod stop;
+#[cfg(test)]
+mod tests;
 
 pub use crate::answer::parse;
 pub use crate::fault::{ParseFault, ParseKind};

@@ -3,10 +3,11 @@
 //! `room` is how many constructs may still be opened here.
 
 ghost use Rattle.std.specs.Prelude.{◌≡◌, [], ◌∷◌, Some, Ok};
+ghost use Rattle.lsl_grammar.specs.Language.{among};
 ghost use Rattle.lsl_grammar.specs.Reading.{begins};
 ghost use Rattle.lsl_tree.specs.Statements.{statement_of, entry_of, entries_of};
 ghost use Rattle.lsl_parse.specs.declared.limits.TheConstants.{HEIGHT};
-ghost use Rattle.lsl_parse.specs.Kinds.{codes, number};
+ghost use Rattle.lsl_parse.specs.Kinds.{code, codes, number};
 ghost use Rattle.lsl_parse.specs.ExpressionReading.{expr_r};
 ghost use Rattle.lsl_parse.specs.StatementReading.{not_end, home_r, statement_r, entry_r, entries_r, block_r, body_r, braces_r, if_r, while_rule_r, do_r, for_r, jump_r, return_r, state_name_r, state_r, simple_r, declaration_r, label_r};
 ghost use Rattle.lsl_parse.specs.Gives.{Gives};
@@ -71,12 +72,19 @@ pub fn block(alloc: Global, room: u32, tokens: &[Token]) -> Found<'_, Vec<Item>>
     Ok((all, rest))
 }
 
+/// Whether a block doesn't end with this kind.
+fn is_not_end(kind: TokenKind) -> bool
+    ensures { result ≡ among (code kind) (codes not_end) }
+{
+    !same_kind(kind, TokenKind::BraceClose)
+}
+
 /// Whether the block doesn't end here.
 fn block_goes_on(tokens: &[Token]) -> bool
     ensures { result ≡ begins number (codes not_end) tokens.now }
 {
     match tokens {
-        [first, ..] => !same_kind(kind_of(&first.sort), TokenKind::BraceClose),
+        [first, ..] => is_not_end(kind_of(&first.sort)),
         [] => false,
     }
 }
