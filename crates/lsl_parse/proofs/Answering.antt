@@ -1,5 +1,5 @@
 -- The answer of the parser is the tree, or the first fault.
-use Rattle.std.proofs.Common.{◌≡◌, ℕ, ◌+◌, ◌<◌, ◌≤◌, Bool, true, false, cond, List, [], ◌∷◌, length, Result, Ok, Err, refl, sym, ap, ◌∙◌, subst, arith}
+use Rattle.std.proofs.Common.{◌≡◌, ℕ, zero, suc, take, drop, length-drop, ◌+◌, ◌-◌, ◌<◌, ◌≤◌, Bool, true, false, cond, List, [], ◌∷◌, length, Result, Ok, Err, refl, sym, ap, ◌∙◌, subst, arith}
 use Rattle.std.specs.Prelude.{nat_lt}
 use Rattle.std.proofs.lemmas.Bool.{ltb-true, ltb-false, le-ltb}
 use Rattle.lsl_text.specs.declared.Span.{Span}
@@ -15,7 +15,7 @@ use Rattle.lsl_parse.specs.ScriptGrammar.{script}
 use Rattle.lsl_parse.specs.ScriptReading.{all_r}
 use Rattle.lsl_parse.specs.Faults.{Derives, ParseFirst, IsFirst, IsThat, span_at}
 use Rattle.lsl_parse.specs.FaultReading.{fault_kind, large_fault, stop_fault, answer_to, answer_of}
-use Rattle.lsl_parse.proofs.Top.{Narrow, Reading}
+use Rattle.lsl_parse.proofs.Top.{Narrow, Reading, take_length}
 use Rattle.lsl_parse.proofs.FirstFault.{nothing_behind, found, every, every_same, every_none, first_stop, large_stop, large_script, one_first, no_first}
 
 -- the fault of a stop is the first
@@ -84,3 +84,13 @@ module _ (ts : List Token) (end : Span) where
 
   pub complete_fault : (place : ℕ) (kind : ParseKind) → ParseFirst ts place kind → (fault : ParseFault) × (answer_of ts end ≡ Err fault) × (fault.kind ≡ kind)
   complete_fault place kind g = refused_by (all_r Narrow DEPTH ts) refl place kind g (answer_of ts end) refl
+
+span_at-drop : (n : ℕ) (tokens : List Token) (end : Span) → span_at (drop n tokens) end 0 ≡ span_at tokens end n
+span_at-drop zero [] end = refl
+span_at-drop zero (t ∷ tokens) end = refl
+span_at-drop (suc n) [] end = refl
+span_at-drop (suc n) (t ∷ tokens) end = span_at-drop n tokens end
+
+-- the first span of the tokens from a place on
+pub span_at-rest : (n : ℕ) (tokens : List Token) (end : Span) → span_at (take (length tokens - n) (drop n tokens)) end 0 ≡ span_at tokens end n
+span_at-rest n tokens end = ap (λ l. span_at l end 0) (ap (λ k. take k (drop n tokens)) (sym (length-drop n tokens)) ∙ take_length (drop n tokens)) ∙ span_at-drop n tokens end
