@@ -3,7 +3,7 @@
 ghost use Rattle.std.specs.Prelude.{◌≡◌, ℕ, List, length, codes, IfOk, IfSome, IsNone, IsTrue, ◌↔◌, MatchOption};
 ghost use Rattle.lsl_tree.specs.Scripts.{script_of};
 ghost use Rattle.lsl_tree.specs.Statements.{Acted, Entries, Simple, entries_of, entry_of};
-ghost use Rattle.lsl_tree.specs.Expressions.{expression_of, expressions_of};
+ghost use Rattle.lsl_tree.specs.Expressions.{And, No_expression, expression_of, expressions_of};
 ghost use Rattle.lsl_top.specs.Form.{AreSayings, HasNoForm, IsForm, IsHandler, IsLiteralOf, IsSaying, IsSpelled};
 
 use lsl_text::NoMemory;
@@ -89,8 +89,20 @@ fn literal(arguments: &[Expr]) -> Option<&Text>
     ensures some { IfSome result (λ text. IsLiteralOf (expressions_of arguments.now) text.now) }
     ensures none { IsNone result → (text : List ℕ) → IsLiteralOf (expressions_of arguments.now) text → ⊥ }
 {
-    match arguments {
-        [Expr::Str { text, .. }] if text.bytes().len() <= MAX_LITERAL_BYTES => Some(text),
+    if arguments.len() == 1 {
+        short_text(&arguments[0])
+    } else {
+        None
+    }
+}
+
+/// The text of a literal of at most so many bytes.
+fn short_text(value: &Expr) -> Option<&Text>
+    ensures some { IfSome result (λ text. IsLiteralOf (And No_expression (expression_of value.now)) text.now) }
+    ensures none { IsNone result → (text : List ℕ) → IsLiteralOf (And No_expression (expression_of value.now)) text → ⊥ }
+{
+    match value {
+        Expr::Str { text, .. } if text.bytes().len() <= MAX_LITERAL_BYTES => Some(text),
         _ => None,
     }
 }
