@@ -1,0 +1,14 @@
+//! Languages of tokens, readers of them from left to right, and what one owes the other: a theory for parsers, with the one
+//! type that readers of any language share. It holds no code to run.
+#![tactic(auto)]
+
+/// Why a reader stopped at a token.
+#[derive(Clone, Copy, Debug, PartialEq, Eq, Hash)]
+pub enum Why {
+    /// No text goes on with this token, nor with an operand in its place.
+    Unexpected,
+    /// No text goes on with this token, but an operand could begin in its place.
+    OperandDue,
+    /// The token goes on, but only where the limits are wider.
+    TooDeep,
+}

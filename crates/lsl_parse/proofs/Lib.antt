@@ -1,0 +1,12 @@
+pub mod ExpressionRules
+pub mod ExpressionStarts
+pub mod Munches
+pub mod StatementRules
+pub mod ScriptRules
+pub mod Top
+pub mod FirstFault
+pub mod Views
+pub mod ExpressionLoops
+pub mod StatementLoops
+pub mod ScriptLoops
+pub mod Answering

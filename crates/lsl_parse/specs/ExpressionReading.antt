@@ -1,0 +1,185 @@
+-- Reading expressions by the next token, one reader for each rule of the grammar.
+use Rattle.std.specs.Prelude.{ℕ, zero, suc, Bool, true, false, Option, List, [], ◌∷◌}
+use Rattle.lsl_lex.specs.declared.token_types.Token.{Token}
+use Rattle.lsl_tree.specs.Expressions.{Expression, Expressions, Number, Quoted, Variable, SteppedBehind, SteppedBefore, Called, Listed, Grouped, Converted, Prefixed, Joined, Assigned, No_expression, And}
+use Rattle.lsl_grammar.specs.declared.Why.{Why}
+use Rattle.lsl_grammar.specs.declared.Why.TheVariants.{Unexpected, OperandDue}
+use Rattle.lsl_grammar.specs.Reading.{Reader, ret_r, one_r, then_r, or_r, deep_r, rounds_r, pair_r}
+use Rattle.lsl_parse.specs.declared.kind.TokenKind.{TokenKind}
+use Rattle.lsl_parse.specs.declared.kind.TokenKind.TheVariants.{Name, Int, Str, ParenOpen, ParenClose, BracketOpen, BracketClose, Comma}
+use Rattle.lsl_parse.specs.Kinds.{code, codes, number, types, type_of, name_of, text_of, integer_of}
+use Rattle.lsl_parse.specs.Operators.{prefix_signs, prefix_of, step_signs, step_of, assign_signs, assign_of, levels, signs, operator_of}
+use Rattle.lsl_parse.specs.ExpressionGrammar.{fits}
+
+abbrev pub Reads : Type 0 → Type 0
+Reads T = Reader Token T
+
+infixl 10 ◌>>=◌
+abbrev pub ◌>>=◌ : {A B : Type 0} → Reads A → (A → Reads B) → Reads B
+p >>= q = then_r p q
+
+abbrev pub any_r : List TokenKind → Reads Token
+any_r ks = one_r number Unexpected (codes ks)
+
+abbrev pub sign_r : TokenKind → Reads Token
+sign_r k = any_r (k ∷ [])
+
+-- the first where the next token is of these kinds
+abbrev pub where_r : {T : Type 0} → List TokenKind → Reads T → Reads T → Reads T
+where_r ks p q = or_r number (codes ks) p q
+
+-- rounds as long as the next token is of these kinds
+abbrev pub while_r : {A : Type 0} → List TokenKind → (A → Reads A) → A → Reads A
+while_r ks round a = rounds_r number (codes ks) round a
+
+-- what would begin with these kinds stands too deep
+abbrev pub shut_r : {T : Type 0} → List TokenKind → Reads T
+shut_r ks = deep_r number Unexpected (codes ks)
+
+abbrev pub next_r : {A B : Type 0} → (A → B → A) → Reads B → A → Reads A
+next_r add element before = do
+  comma ← sign_r Comma
+  next ← element
+  ret_r (add before next)
+
+abbrev pub series_r : {A B : Type 0} → (A → B → A) → A → Reads B → Reads A
+series_r add none element = do
+  first ← element
+  while_r (Comma ∷ []) (next_r add element) (add none first)
+
+abbrev pub listing_r : {A B : Type 0} → TokenKind → (A → B → A) → A → Reads B → Reads A
+listing_r close add none element = where_r (close ∷ [])
+    (do
+      end ← sign_r close
+      ret_r none)
+    (do
+      all ← series_r add none element
+      end ← sign_r close
+      ret_r all)
+
+abbrev pub expressions_r : TokenKind → Reads Expression → Reads Expressions
+expressions_r close expr = listing_r close And No_expression expr
+
+pub data Room_r : Type 0 where
+  Full_r : Room_r
+  Inside_r : (expr unary : Reads Expression) → Room_r
+
+abbrev pub construct_r : {T : Type 0} → List TokenKind → Room_r → (Reads Expression → Reads Expression → Reads T) → Reads T
+construct_r ks Full_r rule = shut_r ks
+construct_r ks (Inside_r expr unary) rule = rule expr unary
+
+abbrev pub prefix_r : Room_r → Reads Expression
+prefix_r room = construct_r prefix_signs room (λ expr unary. do
+  op ← any_r prefix_signs
+  operand ← unary
+  ret_r (Prefixed (prefix_of op.sort) op.span operand))
+
+abbrev pub step_before_r : Room_r → Reads Expression
+step_before_r room = construct_r step_signs room (λ expr unary. do
+  op ← any_r step_signs
+  name ← sign_r Name
+  ret_r (SteppedBefore (step_of op.sort) op.span (name_of name)))
+
+abbrev pub group_r : Room_r → Reads Expression
+group_r room = construct_r (ParenOpen ∷ []) room (λ expr unary. do
+  start ← sign_r ParenOpen
+  where_r types
+      (do
+        kind ← any_r types
+        end ← sign_r ParenClose
+        operand ← unary
+        ret_r (Converted start.span (type_of kind.sort) operand))
+      (do
+        inner ← expr
+        end ← sign_r ParenClose
+        ret_r (Grouped start.span inner)))
+
+abbrev pub list_r : Room_r → Reads Expression
+list_r room = construct_r (BracketOpen ∷ []) room (λ expr unary. do
+  start ← sign_r BracketOpen
+  all ← expressions_r BracketClose expr
+  ret_r (Listed start.span all))
+
+abbrev pub string_r : Reads Expression
+string_r = do
+  t ← sign_r Str
+  ret_r (Quoted (text_of t.sort) t.span)
+
+-- the last of the operands: where it isn't there either, an operand was due
+abbrev pub integer_r : Reads Expression
+integer_r = do
+  n ← one_r number OperandDue (codes (Int ∷ []))
+  ret_r (Number (integer_of n.sort) n.span)
+
+abbrev pub arguments_r : Room_r → Reads Expressions
+arguments_r room = construct_r (ParenOpen ∷ []) room (λ expr unary. do
+  start ← sign_r ParenOpen
+  expressions_r ParenClose expr)
+
+abbrev pub named_r : Room_r → Reads Expression
+named_r room = do
+  name ← sign_r Name
+  where_r step_signs
+      (do
+        op ← any_r step_signs
+        ret_r (SteppedBehind (name_of name) (step_of op.sort)))
+      (where_r (ParenOpen ∷ [])
+      (do
+        all ← arguments_r room
+        ret_r (Called (name_of name) all))
+      (ret_r (Variable (name_of name))))
+
+abbrev pub unary_rule_r : Room_r → Reads Expression
+unary_rule_r room =
+    where_r prefix_signs (prefix_r room)
+    (where_r step_signs (step_before_r room)
+    (where_r (ParenOpen ∷ []) (group_r room)
+    (where_r (BracketOpen ∷ []) (list_r room)
+    (where_r (Str ∷ []) string_r
+    (where_r (Name ∷ []) (named_r room) integer_r)))))
+
+abbrev pub gate_r : {T : Type 0} → List TokenKind → Bool → Reads T → Reads T
+gate_r ks true rule = rule
+gate_r ks false rule = shut_r ks
+
+abbrev pub operation_r : Reads Expression → List TokenKind → Expression → Reads Expression
+operation_r operand ks left = do
+  op ← any_r ks
+  right ← operand
+  ret_r (Joined (operator_of op.sort) op.span left right)
+
+abbrev pub next_operand_r : Option ℕ → Reads Expression → List TokenKind → Expression → Reads Expression
+next_operand_r limit operand ks left = gate_r ks (fits limit left) (operation_r operand ks left)
+
+abbrev pub level_rule_r : Option ℕ → Reads Expression → ℕ → Reads Expression
+level_rule_r limit unary zero = unary
+level_rule_r limit unary (suc n) = do
+  first ← level_rule_r limit unary n
+  while_r (signs n) (next_operand_r limit (level_rule_r limit unary n) (signs n)) first
+
+abbrev pub value_r : Room_r → Token → Reads Expression
+value_r room name = construct_r assign_signs room (λ expr unary. do
+  op ← any_r assign_signs
+  value ← expr
+  ret_r (Assigned (name_of name) (assign_of op.sort) op.span value))
+
+abbrev pub assignment_r : Room_r → Reads Expression
+assignment_r room = do
+  name ← sign_r Name
+  value_r room name
+
+abbrev pub expr_rule_r : Option ℕ → Room_r → Reads Expression
+expr_rule_r limit room = pair_r number (codes (Name ∷ [])) (codes assign_signs) (assignment_r room) (level_rule_r limit (unary_rule_r room) levels)
+
+abbrev pub room_r : Option ℕ → ℕ → Room_r
+room_r limit zero = Full_r
+room_r limit (suc d) = Inside_r (expr_rule_r limit (room_r limit d)) (unary_rule_r (room_r limit d))
+
+unfoldable pub expr_r : Option ℕ → ℕ → Reads Expression
+expr_r limit d = expr_rule_r limit (room_r limit d)
+
+unfoldable pub unary_r : Option ℕ → ℕ → Reads Expression
+unary_r limit d = unary_rule_r (room_r limit d)
+
+unfoldable pub level_r : Option ℕ → ℕ → ℕ → Reads Expression
+level_r limit d n = level_rule_r limit (unary_rule_r (room_r limit d)) n

@@ -1,0 +1,15 @@
+-- What a function of the parser returned is what reading gives, unless memory ran out.
+use Rattle.std.specs.Prelude.{◌≡◌, List, Result, Ok, Err}
+use Rattle.lsl_lex.specs.declared.token_types.Token.{Token}
+use Rattle.lsl_text.specs.declared.Refusal.{Refusal}
+use Rattle.lsl_text.specs.declared.Refusal.TheVariants as refusal
+use Rattle.lsl_grammar.specs.Reading.{Read}
+use Rattle.lsl_parse.specs.declared.stop.Stop.{Stop}
+
+abbrev pub Fails : {Y : Type 0} → Refusal Stop → Read Token Y → Type 0
+Fails refusal.NoMemory read = Unit {0}
+Fails (refusal.Fault s) read = read ≡ Err (s.why, s.rest.now)
+
+abbrev pub Gives : {X Y : Type 0} → (X → Y × List Token) → Result X (Refusal Stop) → Read Token Y → Type 0
+Gives view (Ok x) read = read ≡ Ok (view x)
+Gives view (Err e) read = Fails e read

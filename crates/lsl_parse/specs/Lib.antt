@@ -1,0 +1,12 @@
+pub mod Kinds
+pub mod Operators
+pub mod ExpressionGrammar
+pub mod ExpressionReading
+pub mod StatementGrammar
+pub mod StatementReading
+pub mod ScriptGrammar
+pub mod ScriptReading
+pub mod Gives
+pub mod FaultNumbers
+pub mod Faults
+pub mod FaultReading

@@ -1,0 +1,131 @@
+//! Token lists as trees, or their first fault.
+
+ghost use Rattle.std.specs.Prelude.{◌≡◌, ◌<◌, ℕ, [], length, ◌∷◌, Some, IfOk, IfErr, MatchResult, if◌then◌else◌};
+ghost use Rattle.lsl_tree.specs.Scripts.{Script, script_of};
+ghost use Rattle.lsl_parse.specs.declared.fault.ParseKind.{ParseKind};
+ghost use Rattle.lsl_parse.specs.declared.limits.TheConstants.{HEIGHT, TOKENS};
+ghost use Rattle.lsl_parse.specs.ScriptReading.{all_r, end_r};
+ghost use Rattle.lsl_parse.specs.Faults.{Derives, ParseFirst, IsFirst, IsThat, IfFault, span_at};
+ghost use Rattle.lsl_parse.specs.FaultReading.{fault_kind, stop_fault, large_fault};
+ghost use Rattle.lsl_parse.specs.Gives.{Gives};
+
+use crate::fault::{ParseFault, ParseKind};
+use crate::kind::{TokenKind, kind_of};
+use crate::limits::{DEPTH, TOKENS};
+use crate::script::script;
+use crate::stop::Stop;
+use lsl_grammar::Why;
+use lsl_lex::{Token, Tokens};
+use lsl_text::{Refusal, Span};
+use lsl_tree::Tree;
+use std::alloc::Global;
+
+/// A script with nothing behind it.
+fn whole<'a>(alloc: Global, tokens: &'a [Token]) -> Result<Tree, Refusal<Stop<'a>>>
+    ensures { Gives (λ t. (script_of t, [])) result (all_r (Some HEIGHT) DEPTH tokens.now) }
+{
+    let (tree, rest) = script(alloc, DEPTH, tokens)?;
+    ended(tree, rest)
+}
+
+/// The tree, where nothing stands behind it.
+fn ended<'a>(tree: Tree, rest: &'a [Token]) -> Result<Tree, Refusal<Stop<'a>>>
+    ensures { Gives (λ t. (script_of t, [])) result (end_r (script_of tree) rest.now) }
+{
+    match rest {
+        [] => Ok(tree),
+        [..] => Err(Refusal::Fault(Stop {
+            why: Why::Unexpected,
+            rest,
+        })),
+    }
+}
+
+/// Where the first of these tokens stands, or the end.
+fn first_span(tokens: &[Token], end: Span) -> Span
+    ensures { result ≡ span_at tokens.now end 0 }
+{
+    match tokens {
+        [first, ..] => first.span,
+        [] => end,
+    }
+}
+
+/// The fault of a token that cannot go on.
+fn foreign(token: &Token, due: bool) -> ParseKind
+    ensures { result ≡ fault_kind (if due then Why.OperandDue else Why.Unexpected) (token.now ∷ []) }
+{
+    match kind_of(&token.sort) {
+        TokenKind::FloatWord
+        | TokenKind::VectorWord
+        | TokenKind::RotationWord
+        | TokenKind::QuaternionWord => ParseKind::FloatType,
+        TokenKind::Less if due => ParseKind::FloatType,
+        _ => ParseKind::Unexpected,
+    }
+}
+
+/// The fault that a stop is.
+fn kind_of_stop(stop: Stop) -> ParseKind
+    ensures { result ≡ fault_kind stop.entry.why stop.entry.rest.now }
+{
+    match stop.rest {
+        [] => ParseKind::EndOfText,
+        [first, ..] => match stop.why {
+            Why::TooDeep => ParseKind::TooDeep,
+            Why::Unexpected => foreign(first, false),
+            Why::OperandDue => foreign(first, true),
+        },
+    }
+}
+
+/// The fault of the first token too many.
+fn large_fault_of(tokens: &[Token], end: Span) -> ParseFault
+    requires { TOKENS < length tokens.now }
+    ensures { result ≡ large_fault tokens.now end }
+{
+    ParseFault {
+        kind: ParseKind::TooLarge,
+        span: first_span(&tokens[TOKENS..], end),
+    }
+}
+
+/// The fault of a stop, or that of the first token too many, which comes before it.
+fn fault_of(tokens: &[Token], end: Span, stop: Stop) -> ParseFault
+    ensures { result ≡ stop_fault tokens.now end stop.entry.why stop.entry.rest.now }
+{
+    if TOKENS + stop.rest.len() < tokens.len() {
+        return large_fault_of(tokens, end);
+    }
+    ParseFault {
+        span: first_span(stop.rest, end),
+        kind: kind_of_stop(stop),
+    }
+}
+
+/// The tree of a script's tokens, or their first fault.
+///
+/// Takes memory for the tree: names and strings are copied. Time is linear in the tokens, and no more than 200 constructs deep.
+pub fn parse(alloc: Global, tokens: &Tokens) -> Result<Tree, Refusal<ParseFault>>
+    // What is found is the tree of the tokens.
+    ensures found { IfOk result (λ tree. Derives tokens.now.list (script_of tree)) }
+    // Tokens that have a tree are accepted with it, unless memory runs out.
+    ensures every { (script : Script) → Derives tokens.now.list script → MatchResult result (λ tree. script_of tree ≡ script) (λ refusal. refusal ≡ Refusal.NoMemory) }
+    // A fault is the first one.
+    ensures first { IfErr result (λ refusal. IfFault refusal (IsFirst tokens.now.list tokens.now.end)) }
+    // Tokens that have a first fault are refused with it, unless memory runs out.
+    ensures only { (place : ℕ) (kind : ParseKind) → ParseFirst tokens.now.list place kind → MatchResult result (λ _. ⊥) (λ refusal. IfFault refusal (IsThat tokens.now.list tokens.now.end place kind)) }
+{
+    let list = tokens.list.as_slice();
+    match whole(alloc, list) {
+        Ok(tree) => {
+            if TOKENS < list.len() {
+                Err(Refusal::Fault(large_fault_of(list, tokens.end)))
+            } else {
+                Ok(tree)
+            }
+        }
+        Err(Refusal::NoMemory) => Err(Refusal::NoMemory),
+        Err(Refusal::Fault(stop)) => Err(Refusal::Fault(fault_of(list, tokens.end, stop))),
+    }
+}

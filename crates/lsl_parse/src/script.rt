@@ -1,0 +1,305 @@
+//! Whole scripts, one function for each rule of the grammar.
+
+ghost use Rattle.std.specs.Prelude.{◌≡◌, [], ◌∷◌, Some, None, Ok, map};
+ghost use Rattle.lsl_value.specs.declared.tagged.Kind.{Kind};
+ghost use Rattle.lsl_tree.specs.declared.script.Atom.{Atom};
+ghost use Rattle.lsl_tree.specs.declared.script.Param.{Param};
+ghost use Rattle.lsl_tree.specs.Scripts.{initial_of, heading_of, handling_of, standing_of, script_of};
+ghost use Rattle.lsl_parse.specs.declared.limits.TheConstants.{HEIGHT};
+ghost use Rattle.lsl_parse.specs.declared.kind.TokenKind.TheVariants.{Name, StateWord};
+ghost use Rattle.lsl_parse.specs.Kinds.{name_of};
+ghost use Rattle.lsl_parse.specs.ScriptGrammar.{added};
+ghost use Rattle.lsl_parse.specs.ExpressionReading.{series_r, listing_r};
+ghost use Rattle.lsl_parse.specs.StatementReading.{home_r};
+ghost use Rattle.lsl_parse.specs.ScriptReading.{atom_r, initial_r, param_r, params_r, global_behind_r, function_behind_r, heading_r, handler_r, handlers_r, standing_r, many_r, heading_heads, script_r};
+ghost use Rattle.lsl_parse.specs.Gives.{Gives};
+
+use crate::kind::TokenKind;
+use crate::names;
+use crate::signs::{HEADING_HEADS, TYPES, type_kind};
+use crate::statement::block;
+use crate::steps::{any, next_among, next_is, sign, take};
+use crate::stop::Found;
+use lsl_grammar::Why;
+use lsl_lex::Token;
+use lsl_tree::{Atom, Function, Global, Handler, Header, Param, Simple, State, Tree};
+use lsl_value::Kind;
+use std::alloc::Global as Memory;
+
+/// A part of a global's initial value.
+fn atom(alloc: Memory, tokens: &[Token]) -> Found<'_, Atom>
+    ensures { Gives (λ x. (x.0, x.1.now)) result (atom_r tokens.now) }
+{
+    if next_is(tokens, TokenKind::Minus) {
+        let (minus, rest) = sign(tokens, TokenKind::Minus)?;
+        let (token, rest) = take(rest, &[TokenKind::Int], Why::OperandDue)?;
+        let value = names::integer(&token.sort);
+        let span = minus.span;
+        Ok((Atom::Negative { value, span }, rest))
+    } else if next_is(tokens, TokenKind::Str) {
+        let (token, rest) = sign(tokens, TokenKind::Str)?;
+        let text = names::text(alloc, &token.sort)?;
+        let span = token.span;
+        Ok((Atom::Str { text, span }, rest))
+    } else if next_is(tokens, TokenKind::Name) {
+        let (name, rest) = sign(tokens, TokenKind::Name)?;
+        let name = names::name(alloc, name)?;
+        Ok((Atom::Constant { name }, rest))
+    } else {
+        let (token, rest) = take(tokens, &[TokenKind::Int], Why::OperandDue)?;
+        let value = names::integer(&token.sort);
+        let span = token.span;
+        Ok((Atom::Int { value, span }, rest))
+    }
+}
+
+/// Parts between commas.
+fn atom_series(alloc: Memory, tokens: &[Token]) -> Found<'_, Vec<Atom>>
+    ensures { Gives (λ x. (x.0.items, x.1.now)) result (series_r added [] atom_r tokens.now) }
+{
+    let (first, mut rest) = atom(alloc, tokens)?;
+    let mut all = Vec::new(alloc);
+    all.push(first)?;
+    'more: while next_is(rest, TokenKind::Comma) {
+        let (_, after) = sign(rest, TokenKind::Comma)?;
+        let (next, after) = atom(alloc, after)?;
+        all.push(next)?;
+        rest = after;
+    }
+    Ok((all, rest))
+}
+
+/// Parts, if any, and the closing bracket.
+fn atoms(alloc: Memory, tokens: &[Token]) -> Found<'_, Vec<Atom>>
+    ensures { Gives (λ x. (x.0.items, x.1.now)) result (listing_r TokenKind.BracketClose added [] atom_r tokens.now) }
+{
+    if next_is(tokens, TokenKind::BracketClose) {
+        let (_, rest) = sign(tokens, TokenKind::BracketClose)?;
+        Ok((Vec::new(alloc), rest))
+    } else {
+        let (all, rest) = atom_series(alloc, tokens)?;
+        let (_, rest) = sign(rest, TokenKind::BracketClose)?;
+        Ok((all, rest))
+    }
+}
+
+/// A global's initial value.
+fn initial(alloc: Memory, tokens: &[Token]) -> Found<'_, Simple>
+    ensures { Gives (λ x. (initial_of x.0, x.1.now)) result (initial_r tokens.now) }
+{
+    if next_is(tokens, TokenKind::BracketOpen) {
+        let (start, rest) = sign(tokens, TokenKind::BracketOpen)?;
+        let (atoms, rest) = atoms(alloc, rest)?;
+        let span = start.span;
+        Ok((Simple::List { span, atoms }, rest))
+    } else {
+        let (atom, rest) = atom(alloc, tokens)?;
+        Ok((Simple::Atom { atom }, rest))
+    }
+}
+
+fn param(alloc: Memory, tokens: &[Token]) -> Found<'_, Param>
+    ensures { Gives (λ x. (x.0, x.1.now)) result (param_r tokens.now) }
+{
+    let (kind, rest) = any(tokens, &TYPES)?;
+    let (name, rest) = sign(rest, TokenKind::Name)?;
+    let kind = type_kind(&kind.sort);
+    let name = names::name(alloc, name)?;
+    Ok((Param { kind, name }, rest))
+}
+
+/// Parameters between commas.
+fn param_series(alloc: Memory, tokens: &[Token]) -> Found<'_, Vec<Param>>
+    ensures { Gives (λ x. (x.0.items, x.1.now)) result (series_r added [] param_r tokens.now) }
+{
+    let (first, mut rest) = param(alloc, tokens)?;
+    let mut all = Vec::new(alloc);
+    all.push(first)?;
+    'more: while next_is(rest, TokenKind::Comma) {
+        let (_, after) = sign(rest, TokenKind::Comma)?;
+        let (next, after) = param(alloc, after)?;
+        all.push(next)?;
+        rest = after;
+    }
+    Ok((all, rest))
+}
+
+/// Parameters in parentheses.
+fn params(alloc: Memory, tokens: &[Token]) -> Found<'_, Vec<Param>>
+    ensures { Gives (λ x. (x.0.items, x.1.now)) result (params_r tokens.now) }
+{
+    let (_, rest) = sign(tokens, TokenKind::ParenOpen)?;
+    if next_is(rest, TokenKind::ParenClose) {
+        let (_, rest) = sign(rest, TokenKind::ParenClose)?;
+        Ok((Vec::new(alloc), rest))
+    } else {
+        let (all, rest) = param_series(alloc, rest)?;
+        let (_, rest) = sign(rest, TokenKind::ParenClose)?;
+        Ok((all, rest))
+    }
+}
+
+/// What stands behind the name of a global.
+fn global_behind<'a>(
+    alloc: Memory,
+    kind: Kind,
+    token: &'a Token,
+    tokens: &'a [Token],
+) -> Found<'a, Header>
+    ensures { Gives (λ x. (heading_of x.0, x.1.now)) result (global_behind_r kind (name_of token.now) tokens.now) }
+{
+    if next_is(tokens, TokenKind::Assign) {
+        let (_, rest) = sign(tokens, TokenKind::Assign)?;
+        let (value, rest) = initial(alloc, rest)?;
+        let (_, rest) = sign(rest, TokenKind::Semicolon)?;
+        let name = names::name(alloc, token)?;
+        let value = Some(value);
+        let global = Global { kind, name, value };
+        Ok((Header::Global { global }, rest))
+    } else {
+        let (_, rest) = sign(tokens, TokenKind::Semicolon)?;
+        let name = names::name(alloc, token)?;
+        let value = None;
+        let global = Global { kind, name, value };
+        Ok((Header::Global { global }, rest))
+    }
+}
+
+/// What stands behind the name of a function.
+fn function_behind<'a>(
+    alloc: Memory,
+    room: u32,
+    kind: Option<Kind>,
+    token: &'a Token,
+    tokens: &'a [Token],
+) -> Found<'a, Header>
+    ensures { Gives (λ x. (heading_of x.0, x.1.now)) result (function_behind_r (home_r (Some HEIGHT) room) kind (name_of token.now) tokens.now) }
+{
+    let (params, rest) = params(alloc, tokens)?;
+    let (body, rest) = block(alloc, room, rest)?;
+    let name = names::name(alloc, token)?;
+    let function = Function {
+        kind,
+        name,
+        params,
+        body,
+    };
+    Ok((Header::Function { function }, rest))
+}
+
+/// A global or a function.
+fn heading(alloc: Memory, room: u32, tokens: &[Token]) -> Found<'_, Header>
+    ensures { Gives (λ x. (heading_of x.0, x.1.now)) result (heading_r (home_r (Some HEIGHT) room) tokens.now) }
+{
+    if next_among(tokens, &TYPES) {
+        let (kind, rest) = any(tokens, &TYPES)?;
+        let (name, rest) = sign(rest, TokenKind::Name)?;
+        let kind = type_kind(&kind.sort);
+        if next_is(rest, TokenKind::ParenOpen) {
+            function_behind(alloc, room, Some(kind), name, rest)
+        } else {
+            global_behind(alloc, kind, name, rest)
+        }
+    } else {
+        let (name, rest) = sign(tokens, TokenKind::Name)?;
+        function_behind(alloc, room, None, name, rest)
+    }
+}
+
+/// Globals and functions, as many as stand here.
+fn headings(alloc: Memory, room: u32, tokens: &[Token]) -> Found<'_, Vec<Header>>
+    ensures { Gives (λ x. (map heading_of x.0.items, x.1.now)) result (many_r heading_heads (heading_r (home_r (Some HEIGHT) room)) [] tokens.now) }
+{
+    let mut all = Vec::new(alloc);
+    let mut rest = tokens;
+    'all: while next_among(rest, &HEADING_HEADS) {
+        let (next, after) = heading(alloc, room, rest)?;
+        all.push(next)?;
+        rest = after;
+    }
+    Ok((all, rest))
+}
+
+fn handler(alloc: Memory, room: u32, tokens: &[Token]) -> Found<'_, Handler>
+    ensures { Gives (λ x. (handling_of x.0, x.1.now)) result (handler_r (home_r (Some HEIGHT) room) tokens.now) }
+{
+    let (token, rest) = sign(tokens, TokenKind::Name)?;
+    let (params, rest) = params(alloc, rest)?;
+    let (body, rest) = block(alloc, room, rest)?;
+    let name = names::name(alloc, token)?;
+    Ok((Handler { name, params, body }, rest))
+}
+
+/// More handlers behind the first, as many as stand here.
+fn more_handlers(
+    alloc: Memory,
+    room: u32,
+    first: Handler,
+    tokens: &[Token],
+) -> Found<'_, Vec<Handler>>
+    ensures { Gives (λ x. (map handling_of x.0.items, x.1.now)) result (many_r (Name ∷ []) (handler_r (home_r (Some HEIGHT) room)) (handling_of first ∷ []) tokens.now) }
+{
+    let mut all = Vec::new(alloc);
+    all.push(first)?;
+    let mut rest = tokens;
+    'all: while next_is(rest, TokenKind::Name) {
+        let (next, after) = handler(alloc, room, rest)?;
+        all.push(next)?;
+        rest = after;
+    }
+    Ok((all, rest))
+}
+
+/// The handlers of a state, in its braces.
+fn handlers(alloc: Memory, room: u32, tokens: &[Token]) -> Found<'_, Vec<Handler>>
+    ensures { Gives (λ x. (map handling_of x.0.items, x.1.now)) result (handlers_r (home_r (Some HEIGHT) room) tokens.now) }
+{
+    let (_, rest) = sign(tokens, TokenKind::BraceOpen)?;
+    let (first, rest) = handler(alloc, room, rest)?;
+    let (all, rest) = more_handlers(alloc, room, first, rest)?;
+    let (_, rest) = sign(rest, TokenKind::BraceClose)?;
+    Ok((all, rest))
+}
+
+/// A state other than `default`.
+fn state(alloc: Memory, room: u32, tokens: &[Token]) -> Found<'_, State>
+    ensures { Gives (λ x. (standing_of x.0, x.1.now)) result (standing_r (home_r (Some HEIGHT) room) tokens.now) }
+{
+    let (_, rest) = sign(tokens, TokenKind::StateWord)?;
+    let (token, rest) = sign(rest, TokenKind::Name)?;
+    let (handlers, rest) = handlers(alloc, room, rest)?;
+    let name = names::name(alloc, token)?;
+    Ok((State { name, handlers }, rest))
+}
+
+/// States, as many as stand here.
+fn states(alloc: Memory, room: u32, tokens: &[Token]) -> Found<'_, Vec<State>>
+    ensures { Gives (λ x. (map standing_of x.0.items, x.1.now)) result (many_r (StateWord ∷ []) (standing_r (home_r (Some HEIGHT) room)) [] tokens.now) }
+{
+    let mut all = Vec::new(alloc);
+    let mut rest = tokens;
+    'all: while next_is(rest, TokenKind::StateWord) {
+        let (next, after) = state(alloc, room, rest)?;
+        all.push(next)?;
+        rest = after;
+    }
+    Ok((all, rest))
+}
+
+/// A script, and what stands behind it.
+pub fn script(alloc: Memory, room: u32, tokens: &[Token]) -> Found<'_, Tree>
+    ensures { Gives (λ x. (script_of x.0, x.1.now)) result (script_r (Some HEIGHT) room tokens.now) }
+{
+    let (headers, rest) = headings(alloc, room, tokens)?;
+    let (_, rest) = sign(rest, TokenKind::DefaultWord)?;
+    let (default, rest) = handlers(alloc, room, rest)?;
+    let (states, rest) = states(alloc, room, rest)?;
+    Ok((
+        Tree {
+            headers,
+            default,
+            states,
+        },
+        rest,
+    ))
+}

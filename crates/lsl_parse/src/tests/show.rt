@@ -1,0 +1,347 @@
+//! Trees in a compact form: an operator before its operands, in parentheses.
+
+use lsl_tree::{
+    AssignOp, Atom, Expr, Handler, Header, Item, Param, Simple, StateName, StepOp, Stmt, Tree,
+};
+use lsl_value::{BinaryOp, Kind, UnaryOp};
+use std::alloc::{AllocError, Global};
+
+fn unary_sign(op: UnaryOp) -> &'static str {
+    match op {
+        UnaryOp::Negate => "-",
+        UnaryOp::LogicNot => "!",
+        UnaryOp::BitNot => "~",
+    }
+}
+
+fn binary_sign(op: BinaryOp) -> &'static str {
+    match op {
+        BinaryOp::Add => "+",
+        BinaryOp::Sub => "-",
+        BinaryOp::Mul => "*",
+        BinaryOp::Div => "/",
+        BinaryOp::Rem => "%",
+        BinaryOp::Shl => "<<",
+        BinaryOp::Shr => ">>",
+        BinaryOp::BitAnd => "&",
+        BinaryOp::BitOr => "|",
+        BinaryOp::BitXor => "^",
+        BinaryOp::Less => "<",
+        BinaryOp::AtMost => "<=",
+        BinaryOp::More => ">",
+        BinaryOp::AtLeast => ">=",
+        BinaryOp::Both => "&&",
+        BinaryOp::Either => "||",
+        BinaryOp::Equal => "==",
+        BinaryOp::Unequal => "!=",
+    }
+}
+
+fn assign_sign(op: AssignOp) -> &'static str {
+    match op {
+        AssignOp::Set => "=",
+        AssignOp::Add => "+=",
+        AssignOp::Sub => "-=",
+        AssignOp::Mul => "*=",
+        AssignOp::Div => "/=",
+        AssignOp::Rem => "%=",
+    }
+}
+
+fn step_sign(op: StepOp) -> &'static str {
+    match op {
+        StepOp::Increment => "++",
+        StepOp::Decrement => "--",
+    }
+}
+
+fn kind_word(kind: Kind) -> &'static str {
+    match kind {
+        Kind::Int => "integer",
+        Kind::Str => "string",
+        Kind::Key => "key",
+        Kind::List => "list",
+    }
+}
+
+fn words(out: &mut String, all: &[&str]) -> Result<(), AllocError> {
+    for word in all {
+        out.push_str(word)?;
+    }
+    Ok(())
+}
+
+#[cycle(show_expression)]
+fn expr(out: &mut String, shown: &Expr) -> Result<(), AllocError> {
+    match shown {
+        Expr::Int { value, .. } => write!(out, "{value}"),
+        Expr::Str { text, .. } => words(out, &["\"", text.as_str(), "\""]),
+        Expr::Variable { name } => out.push_str(name.text.as_str()),
+        Expr::StepBehind { name, op } => words(
+            out,
+            &["(", name.text.as_str(), " ", step_sign(*op), ")"],
+        ),
+        Expr::StepBefore { op, name, .. } => words(
+            out,
+            &["(", step_sign(*op), " ", name.text.as_str(), ")"],
+        ),
+        Expr::Call { name, arguments } => {
+            words(out, &["(", name.text.as_str(), " "])?;
+            for argument in arguments {
+                expr(out, argument)?;
+                out.push_str(" ")?;
+            }
+            out.push_str(")")
+        }
+        Expr::List { elements, .. } => {
+            out.push_str("[ ")?;
+            for element in elements {
+                expr(out, element)?;
+                out.push_str(" ")?;
+            }
+            out.push_str("]")
+        }
+        Expr::Parens { inner, .. } => {
+            out.push_str("(paren ")?;
+            expr(out, inner)?;
+            out.push_str(")")
+        }
+        Expr::Cast { kind, operand, .. } => {
+            words(out, &["(", kind_word(*kind), " "])?;
+            expr(out, operand)?;
+            out.push_str(")")
+        }
+        Expr::Unary { op, operand, .. } => {
+            words(out, &["(", unary_sign(*op), " "])?;
+            expr(out, operand)?;
+            out.push_str(")")
+        }
+        Expr::Binary {
+            op,
+            left,
+            right,
+            ..
+        } => {
+            words(out, &["(", binary_sign(*op), " "])?;
+            expr(out, left)?;
+            out.push_str(" ")?;
+            expr(out, right)?;
+            out.push_str(")")
+        }
+        Expr::Assign {
+            name,
+            op,
+            value,
+            ..
+        } => {
+            words(out, &["(", assign_sign(*op), " ", name.text.as_str(), " "])?;
+            expr(out, value)?;
+            out.push_str(")")
+        }
+    }
+}
+
+fn exprs(out: &mut String, all: &[Expr]) -> Result<(), AllocError> {
+    out.push_str("[ ")?;
+    for one in all {
+        expr(out, one)?;
+        out.push_str(" ")?;
+    }
+    out.push_str("]")
+}
+
+#[cycle(show_statement)]
+fn stmt(out: &mut String, shown: &Stmt) -> Result<(), AllocError> {
+    match shown {
+        Stmt::Block { items } => {
+            out.push_str("{ ")?;
+            for one in items {
+                item(out, one)?;
+                out.push_str(" ")?;
+            }
+            out.push_str("}")
+        }
+        Stmt::Empty => out.push_str("(;)"),
+        Stmt::Expression { value } => expr(out, value),
+        Stmt::If { test, then, .. } => {
+            out.push_str("(if ")?;
+            expr(out, test)?;
+            out.push_str(" ")?;
+            stmt(out, then)?;
+            out.push_str(")")
+        }
+        Stmt::IfElse {
+            test,
+            then,
+            otherwise,
+            ..
+        } => {
+            out.push_str("(if ")?;
+            expr(out, test)?;
+            out.push_str(" ")?;
+            stmt(out, then)?;
+            out.push_str(" ")?;
+            stmt(out, otherwise)?;
+            out.push_str(")")
+        }
+        Stmt::While { test, body, .. } => {
+            out.push_str("(while ")?;
+            expr(out, test)?;
+            out.push_str(" ")?;
+            stmt(out, body)?;
+            out.push_str(")")
+        }
+        Stmt::Do { body, test, .. } => {
+            out.push_str("(do ")?;
+            stmt(out, body)?;
+            out.push_str(" ")?;
+            expr(out, test)?;
+            out.push_str(")")
+        }
+        Stmt::For {
+            start,
+            test,
+            step,
+            body,
+            ..
+        } => {
+            out.push_str("(for ")?;
+            exprs(out, start.as_slice())?;
+            out.push_str(" ")?;
+            expr(out, test)?;
+            out.push_str(" ")?;
+            exprs(out, step.as_slice())?;
+            out.push_str(" ")?;
+            stmt(out, body)?;
+            out.push_str(")")
+        }
+        Stmt::Jump { label, .. } => words(out, &["(jump ", label.text.as_str(), ")"]),
+        Stmt::Return { value: None, .. } => out.push_str("(return)"),
+        Stmt::Return {
+            value: Some(value),
+            ..
+        } => {
+            out.push_str("(return ")?;
+            expr(out, value)?;
+            out.push_str(")")
+        }
+        Stmt::State {
+            state: StateName::Default,
+            ..
+        } => out.push_str("(state default)"),
+        Stmt::State {
+            state: StateName::Named(name),
+            ..
+        } => words(out, &["(state ", name.text.as_str(), ")"]),
+    }
+}
+
+#[cycle(show_statement)]
+fn item(out: &mut String, shown: &Item) -> Result<(), AllocError> {
+    match shown {
+        Item::Declaration { kind, name, value } => {
+            words(out, &["(", kind_word(*kind), " ", name.text.as_str()])?;
+            if let Some(value) = value {
+                out.push_str(" ")?;
+                expr(out, value)?;
+            }
+            out.push_str(")")
+        }
+        Item::Label { name } => words(out, &["(@ ", name.text.as_str(), ")"]),
+        Item::Statement { statement } => stmt(out, statement),
+    }
+}
+
+fn block(out: &mut String, items: &[Item]) -> Result<(), AllocError> {
+    out.push_str("{ ")?;
+    for one in items {
+        item(out, one)?;
+        out.push_str(" ")?;
+    }
+    out.push_str("}")
+}
+
+fn params(out: &mut String, all: &[Param]) -> Result<(), AllocError> {
+    out.push_str("( ")?;
+    for param in all {
+        words(
+            out,
+            &[kind_word(param.kind), " ", param.name.text.as_str(), " "],
+        )?;
+    }
+    out.push_str(") ")
+}
+
+fn atom(out: &mut String, shown: &Atom) -> Result<(), AllocError> {
+    match shown {
+        Atom::Int { value, .. } => write!(out, "{value}"),
+        Atom::Negative { value, .. } => write!(out, "-{value}"),
+        Atom::Str { text, .. } => words(out, &["\"", text.as_str(), "\""]),
+        Atom::Constant { name } => out.push_str(name.text.as_str()),
+    }
+}
+
+fn simple(out: &mut String, shown: &Simple) -> Result<(), AllocError> {
+    match shown {
+        Simple::Atom { atom: one } => atom(out, one),
+        Simple::List { atoms, .. } => {
+            out.push_str("[ ")?;
+            for one in atoms {
+                atom(out, one)?;
+                out.push_str(" ")?;
+            }
+            out.push_str("]")
+        }
+    }
+}
+
+fn header(out: &mut String, shown: &Header) -> Result<(), AllocError> {
+    match shown {
+        Header::Global { global } => {
+            words(
+                out,
+                &["(", kind_word(global.kind), " ", global.name.text.as_str()],
+            )?;
+            if let Some(value) = &global.value {
+                out.push_str(" ")?;
+                simple(out, value)?;
+            }
+        }
+        Header::Function { function } => {
+            out.push_str("(")?;
+            if let Some(kind) = function.kind {
+                words(out, &[kind_word(kind), " "])?;
+            }
+            words(out, &[function.name.text.as_str(), " "])?;
+            params(out, function.params.as_slice())?;
+            block(out, function.body.as_slice())?;
+        }
+    }
+    out.push_str(") ")
+}
+
+fn handlers(out: &mut String, all: &[Handler]) -> Result<(), AllocError> {
+    for handler in all {
+        words(out, &[" (", handler.name.text.as_str(), " "])?;
+        params(out, handler.params.as_slice())?;
+        block(out, handler.body.as_slice())?;
+        out.push_str(")")?;
+    }
+    Ok(())
+}
+
+/// A whole script.
+pub fn shown(alloc: Global, tree: &Tree) -> Result<String, AllocError> {
+    let mut out = String::new(alloc);
+    for one in &tree.headers {
+        header(&mut out, one)?;
+    }
+    out.push_str("default")?;
+    handlers(&mut out, tree.default.as_slice())?;
+    for state in &tree.states {
+        words(&mut out, &[" (state ", state.name.text.as_str()])?;
+        handlers(&mut out, state.handlers.as_slice())?;
+        out.push_str(")")?;
+    }
+    Ok(out)
+}
