@@ -1,0 +1,10 @@
+pub mod Arguments
+pub mod Csv
+pub mod Cuts
+pub mod Elements
+pub mod Joins
+pub mod Parsing
+pub mod Places
+pub mod Pure
+pub mod Searches
+pub mod Spelling
