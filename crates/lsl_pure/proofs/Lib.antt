@@ -1,0 +1,5 @@
+pub mod CutLemmas
+pub mod JoinLemmas
+pub mod PlaceLemmas
+pub mod SearchLemmas
+pub mod SpellingLemmas

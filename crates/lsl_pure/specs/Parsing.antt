@@ -12,10 +12,14 @@ pub record Cut : Type 0 where
   pub first : List ℕ
   pub rest : List (Mark × List ℕ)
 
--- the marks of the first eight elements, without the empty ones
+-- the marks of the elements, without the empty ones
+abbrev pub marks_among : Bool → List Atom → List Mark
+marks_among spacer atoms =
+    filter (λ (m : Mark). nat_lt 0 (length m.text)) (map (λ a. record { text = text_of_atom a; spacer = spacer }) atoms)
+
+-- those of the first eight
 abbrev pub marks_from : Bool → List Atom → List Mark
-marks_from spacer atoms =
-    filter (λ (m : Mark). nat_lt 0 (length m.text)) (map (λ a. record { text = text_of_atom a; spacer = spacer }) (take 8 atoms))
+marks_from spacer atoms = marks_among spacer (take 8 atoms)
 
 -- the separators, and behind them the spacers
 abbrev pub marks_of : List Atom → List Atom → List Mark

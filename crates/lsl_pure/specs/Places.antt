@@ -1,5 +1,5 @@
 -- Places of a text or a list, and ranges of places.
-use Rattle.std.specs.Prelude.{ℕ, zero, suc, min, ℤ, pos, negsuc, ◌+ℤ◌, int_lt, int_le, Bool, ◌&&◌, ◌||◌, if◌then◌else◌, List, [], ◌∷◌, length}
+use Rattle.std.specs.Prelude.{ℕ, zero, suc, min, ℤ, pos, negsuc, ◌+ℤ◌, nat_lt, nat_le, int_lt, int_le, Bool, ◌&&◌, ◌||◌, if◌then◌else◌, List, [], ◌∷◌, length}
 
 -- a negative place counts from the end of n places
 abbrev pub place_of : ℕ → ℤ → ℤ
@@ -24,3 +24,7 @@ in_range n first last = in_range_between (place_of n first) (place_of n last)
 abbrev pub pick : {X : Type 0} → (ℕ → Bool) → List X → List X
 pick passes [] = []
 pick passes (x ∷ xs) = if passes zero then x ∷ pick (λ k. passes (suc k)) xs else pick (λ k. passes (suc k)) xs
+
+-- the place stands from start up to end
+abbrev pub within : ℕ → ℕ → ℕ → Bool
+within start end k = nat_le start k && nat_lt k end

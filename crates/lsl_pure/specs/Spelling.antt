@@ -1,5 +1,11 @@
 -- Texts in UTF-8: which bytes begin a character.
-use Rattle.std.specs.Prelude.{ℕ, zero, suc, Bool, ◌||◌, nat_lt, nat_le, if◌then◌else◌, List, [], ◌∷◌}
+use Rattle.std.specs.Prelude.{ℕ, zero, suc, ◌+◌, ◌<◌, length, Bool, ◌||◌, nat_lt, nat_le, if◌then◌else◌, List, [], ◌∷◌}
+use Rattle.std.specs.List.{sum_by}
+use Rattle.std.specs.Str.{encode_utf8_all}
+use Rattle.lsl_value.specs.declared.list.Atom.{Atom}
+use Rattle.lsl_value.specs.declared.list.Atom.TheVariants.{Str}
+use Rattle.lsl_pure.specs.Elements.{text_of_atom}
+use Rattle.lsl_pure.specs.declared.marks.Mark.{Mark}
 
 -- the byte begins a character
 abbrev pub is_lead : ℕ → Bool
@@ -10,3 +16,23 @@ abbrev pub front_len : ℕ → List ℕ → ℕ
 front_len n [] = 0
 front_len zero (b ∷ bs) = if is_lead b then 0 else suc (front_len zero bs)
 front_len (suc n) (b ∷ bs) = if is_lead b then suc (front_len n bs) else suc (front_len (suc n) bs)
+
+-- an element's text in UTF-8
+abbrev pub spelled_atom : Atom → List ℕ
+spelled_atom a = encode_utf8_all (text_of_atom a)
+
+-- a string element of an element's text in UTF-8
+abbrev pub spelled_string : Atom → Atom
+spelled_string a = Str (spelled_atom a)
+
+-- a mark of the text in UTF-8
+abbrev pub spelled_mark : Mark → Mark
+spelled_mark m = record { text = encode_utf8_all m.text; spacer = m.spacer }
+
+-- what a string element is charged whose text is spelled out, in its list
+abbrev pub spelled_charge : Atom → ℕ
+spelled_charge a = 24 + length (text_of_atom a)
+
+-- a list of string elements, their texts spelled out, is charged too much
+abbrev pub IsOverfull : List Atom → Type 0
+IsOverfull atoms = 65536 < 16 + sum_by spelled_charge atoms

@@ -1,7 +1,7 @@
 //! A call's arguments, taken apart.
 
 ghost use Rattle.std.specs.Prelude.{◌≡◌, drop};
-ghost use Rattle.std.specs.Vec.{into_iter_items};
+ghost use Rattle.std.specs.Vec.Iter.{into_iter_items};
 ghost use Rattle.lsl_pure.specs.Arguments.{value_at, int_of, text_of, atoms_of};
 
 use lsl_value::{Items, Text, Value, Values};

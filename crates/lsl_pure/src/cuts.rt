@@ -8,7 +8,7 @@ ghost use Rattle.lsl_text.specs.Number.{is_blank};
 
 use crate::PureFault;
 use crate::bounds::MOST_CHARGE;
-use crate::ranges::{clamp, range};
+use crate::ranges::{Range, clamp};
 use crate::spelling::{copy_of, count_characters, offset, text_of};
 use lsl_text::NoMemory;
 use lsl_value::Text;
@@ -18,7 +18,7 @@ use std::alloc::Global;
 pub fn sub_string(alloc: Global, text: &Text, first: i32, last: i32) -> Result<Text, NoMemory>
     ensures { IfOk result (λ part. part ≡ taken text.now first last) }
 {
-    let range = range(count_characters(text), first, last);
+    let range = Range::new(count_characters(text), first, last);
     if range.turned {
         outside(alloc, text, range.start, range.end)
     } else {
@@ -30,7 +30,7 @@ pub fn sub_string(alloc: Global, text: &Text, first: i32, last: i32) -> Result<T
 pub fn delete_sub_string(alloc: Global, text: &Text, first: i32, last: i32) -> Result<Text, NoMemory>
     ensures { IfOk result (λ rest. rest ≡ left text.now first last) }
 {
-    let range = range(count_characters(text), first, last);
+    let range = Range::new(count_characters(text), first, last);
     if range.turned {
         inside(alloc, text, range.start, range.end)
     } else {

@@ -6,7 +6,8 @@ ghost use Rattle.lsl_text.specs.Number.{decimal_of};
 ghost use Rattle.std.specs.Option.{option_copied};
 
 use crate::ranges::place;
-use lsl_text::{NoMemory, leading_integer, push_decimal};
+use itoa::Buffer;
+use lsl_text::{NoMemory, leading_integer};
 use lsl_value::{Atom, Items, Text};
 use std::alloc::Global;
 
@@ -86,7 +87,6 @@ pub fn text_of_element(alloc: Global, atom: &Atom) -> Result<Text, NoMemory>
 pub fn decimal(alloc: Global, n: i32) -> Result<Text, NoMemory>
     ensures { IfOk result (λ text. text ≡ decimal_of n) }
 {
-    let mut digits = Vec::new(alloc);
-    push_decimal(&mut digits, i64::from(n))?;
-    Ok(Text::from_ascii(digits))
+    let mut buffer = Buffer::new();
+    Ok(Text::from_ascii(buffer.format(n).as_bytes().to_vec(alloc)?))
 }

@@ -7,7 +7,7 @@ ghost use Rattle.lsl_pure.specs.Cuts.{taken, left, inserted, inserted_before, re
 
 use crate::PureFault;
 use crate::bounds::MOST_CHARGE;
-use crate::ranges::{clamp, place, range};
+use crate::ranges::{Range, clamp, place};
 use lsl_value::{Atom, Items};
 
 /// What a list without elements is charged.
@@ -17,7 +17,7 @@ const LIST_CHARGE: u64 = 16;
 pub fn sub_list(items: Items, first: i32, last: i32) -> Items
     ensures { result ≡ taken items first last }
 {
-    let range = range(items.len(), first, last);
+    let range = Range::new(items.len(), first, last);
     if range.turned {
         outside(items, range.start, range.end)
     } else {
@@ -29,7 +29,7 @@ pub fn sub_list(items: Items, first: i32, last: i32) -> Items
 pub fn delete_sub_list(items: Items, first: i32, last: i32) -> Items
     ensures { result ≡ left items first last }
 {
-    let range = range(items.len(), first, last);
+    let range = Range::new(items.len(), first, last);
     if range.turned {
         inside(items, range.start, range.end)
     } else {
@@ -74,7 +74,7 @@ pub fn replace_list(items: Items, other: Items, first: i32, last: i32) -> Result
     ensures ok { IfOk result (λ whole. whole ≡ replaced items other first last) }
     ensures too_big { IfErr result (λ fault. fault ≡ PureFault.TooBig → MOST_CHARGE < list_charge_of (replaced items other first last)) }
 {
-    let range = range(items.len(), first, last);
+    let range = Range::new(items.len(), first, last);
     if range.turned {
         let rest = inside(items, range.start, range.end);
         let len = rest.len();

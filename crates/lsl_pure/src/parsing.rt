@@ -1,10 +1,18 @@
 //! `llParseString2List` and `llParseStringKeepNulls`.
 
+ghost use Rattle.std.specs.Prelude.{◌≡◌, ◌≤◌, ◌<◌, ◌++◌, length, map, IfOk, IfErr, OnOk};
+ghost use Rattle.std.specs.List.{All};
+ghost use Rattle.std.specs.Option.{option_copied, option_map};
+ghost use Rattle.std.specs.Str.{IsUtf8, encode_utf8_all};
+ghost use Rattle.lsl_value.specs.Atoms.{list_charge_of};
+ghost use Rattle.lsl_pure.specs.Parsing.{parsed, cut_of, cut_elements, piece_elements, mark_elements, first_mark as first_mark_of};
+ghost use Rattle.lsl_pure.specs.Spelling.{spelled_mark, spelled_string, IsOverfull};
+
 use crate::PureFault;
 use crate::bounds::{MOST_CHARGE, push_bounded};
 use crate::marks::{Mark, marks};
 use crate::spelling::copy_of;
-use lsl_value::{Atom, Items, Text};
+use lsl_value::{Atom, Items, MAX_TEXT_BYTES, Text};
 use std::alloc::Global;
 
 /// The pieces of the text between the separators and spacers, and the spacers themselves, all as strings: from left
@@ -18,12 +26,21 @@ pub fn parse_string(
     separators: Items,
     spacers: Items,
     keep_nulls: bool,
-) -> Result<Items, PureFault> {
+) -> Result<Items, PureFault>
+    ensures ok { IfOk result (λ items. items ≡ parsed keep_nulls text.now separators spacers) }
+    ensures too_big { IfErr result (λ fault. fault ≡ PureFault.TooBig → MOST_CHARGE < list_charge_of (parsed keep_nulls text.now separators spacers)) }
+{
     let marks = marks(alloc, separators, spacers)?;
     cut(alloc, text.bytes(), marks.as_slice(), keep_nulls)
 }
 
-fn cut(alloc: Global, text: &[u8], marks: &[Mark], keep_nulls: bool) -> Result<Items, PureFault> {
+fn cut(alloc: Global, text: &[u8], marks: &[Mark], keep_nulls: bool) -> Result<Items, PureFault>
+    requires valid { IsUtf8 text.now }
+    requires short { length text.now ≤ MAX_TEXT_BYTES }
+    requires nonempty { All (λ m. 0 < length m.text) marks.now }
+    ensures ok { IfOk result (λ items. map spelled_string items ≡ cut_elements keep_nulls (cut_of (map spelled_mark marks.now) text.now)) }
+    ensures too_big { IfErr result (λ fault. fault ≡ PureFault.TooBig → IsOverfull (cut_elements keep_nulls (cut_of (map spelled_mark marks.now) text.now))) }
+{
     let mut items = Items::new(alloc);
     let mut start = 0;
     let mut at = 0;
@@ -43,11 +60,20 @@ fn cut(alloc: Global, text: &[u8], marks: &[Mark], keep_nulls: bool) -> Result<I
 }
 
 // The first mark that stands at the head of the text.
-fn first_mark<'a>(marks: &'a [Mark], text: &[u8]) -> Option<&'a Mark> {
+fn first_mark<'a>(marks: &'a [Mark], text: &[u8]) -> Option<&'a Mark>
+    ensures { option_map spelled_mark (option_copied result) ≡ first_mark_of (map spelled_mark marks.now) text.now }
+{
     marks.iter().find(|mark| text.starts_with(mark.text.bytes()))
 }
 
-fn push_piece(alloc: Global, items: &mut Items, piece: &[u8], keep_nulls: bool) -> Result<(), PureFault> {
+fn push_piece(alloc: Global, items: &mut Items, piece: &[u8], keep_nulls: bool) -> Result<(), PureFault>
+    requires valid { IsUtf8 piece.now }
+    requires short { length piece.now ≤ MAX_TEXT_BYTES }
+    requires room { list_charge_of items.old ≤ 65536 }
+    ensures ok { OnOk result (map spelled_string items.new ≡ map spelled_string items.old ++ piece_elements keep_nulls piece.now) }
+    ensures fits { OnOk result (list_charge_of items.new ≤ 65536) }
+    ensures too_big { IfErr result (λ fault. fault ≡ PureFault.TooBig → IsOverfull (map spelled_string items.old ++ piece_elements keep_nulls piece.now)) }
+{
     if !keep_nulls && piece.is_empty() {
         return Ok(());
     }
@@ -55,7 +81,12 @@ fn push_piece(alloc: Global, items: &mut Items, piece: &[u8], keep_nulls: bool) 
     push_bounded(items, Atom::Str(text))
 }
 
-fn push_mark(alloc: Global, items: &mut Items, mark: &Mark) -> Result<(), PureFault> {
+fn push_mark(alloc: Global, items: &mut Items, mark: &Mark) -> Result<(), PureFault>
+    requires room { list_charge_of items.old ≤ 65536 }
+    ensures ok { OnOk result (map spelled_string items.new ≡ map spelled_string items.old ++ mark_elements (spelled_mark mark.now)) }
+    ensures fits { OnOk result (list_charge_of items.new ≤ 65536) }
+    ensures too_big { IfErr result (λ fault. fault ≡ PureFault.TooBig → IsOverfull (map spelled_string items.old ++ mark_elements (spelled_mark mark.now))) }
+{
     if !mark.spacer {
         return Ok(());
     }

@@ -1,7 +1,7 @@
 //! Places and ranges of places.
 
-ghost use Rattle.std.specs.Prelude.{◌≡◌, ℕ, ◌≤◌, ◌<◌, ◌&&◌, not, nat_le, nat_lt, int_le, if◌then◌else◌};
-ghost use Rattle.lsl_pure.specs.Places.{place_of, clamped, in_range};
+ghost use Rattle.std.specs.Prelude.{◌≡◌, ℕ, ◌≤◌, ◌<◌, not, false, int_le, if◌then◌else◌};
+ghost use Rattle.lsl_pure.specs.Places.{place_of, clamped, in_range, within};
 
 /// The places of a range among `n` places: those from `start` up to `end`, or where it is turned all the others.
 #[derive(Clone, Copy)]
@@ -11,31 +11,33 @@ pub struct Range {
     pub turned: bool,
 }
 
-/// The range from one place to another among `n` places. A negative place counts from the end. Where the first is
-/// behind the last, the range is what stands up to the last and from the first one on.
-pub fn range(n: usize, first: i32, last: i32) -> Range
-    requires { n ≤ 1048576 }
-    ensures ordered { result.start ≤ result.end }
-    ensures within { result.end ≤ n }
-    ensures turned { result.turned ≡ not (int_le (place_of n first) (place_of n last)) }
-    ensures start { result.turned ≡ false → result.start ≡ clamped n (place_of n first) }
-    ensures same { (k : ℕ) → k < n → in_range n first last k ≡ (if result.turned then not (nat_le result.start k && nat_lt k result.end) else (nat_le result.start k && nat_lt k result.end)) }
-{
-    let first = place(n, first);
-    let last = place(n, last);
-    let before = clamp(n, first);
-    let behind = clamp(n, last + 1);
-    if first <= last {
-        Range {
-            start: before,
-            end: behind,
-            turned: false,
-        }
-    } else {
-        Range {
-            start: behind,
-            end: before,
-            turned: true,
+impl Range {
+    /// The range from one place to another among `n` places. A negative place counts from the end. Where the first is
+    /// behind the last, the range is what stands up to the last and from the first one on.
+    pub fn new(n: usize, first: i32, last: i32) -> Range
+        requires { n ≤ 1048576 }
+        ensures ordered { result.start ≤ result.end }
+        ensures within { result.end ≤ n }
+        ensures turned { result.turned ≡ not (int_le (place_of n first) (place_of n last)) }
+        ensures start { result.turned ≡ false → result.start ≡ clamped n (place_of n first) }
+        ensures same { (k : ℕ) → k < n → in_range n first last k ≡ (if result.turned then not (within result.start result.end k) else within result.start result.end k) }
+    {
+        let first = place(n, first);
+        let last = place(n, last);
+        let before = clamp(n, first);
+        let behind = clamp(n, last + 1);
+        if first <= last {
+            Range {
+                start: before,
+                end: behind,
+                turned: false,
+            }
+        } else {
+            Range {
+                start: behind,
+                end: before,
+                turned: true,
+            }
         }
     }
 }

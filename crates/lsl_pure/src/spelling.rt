@@ -1,6 +1,6 @@
 //! Characters of texts, found in their bytes.
 
-ghost use Rattle.std.specs.Prelude.{◌≡◌, ◌≤◌, ◌+◌, ◌++◌, length, take, drop, count_by, slice_range, IfOk, OnOk, OnErr, ForSome};
+ghost use Rattle.std.specs.Prelude.{◌≡◌, ◌≤◌, ◌+◌, ◌++◌, length, take, drop, count_by, slice_range, IfOk, OnOk, OnErr};
 ghost use Rattle.std.specs.Str.{chars, encode_utf8_all, IsUtf8};
 ghost use Rattle.lsl_pure.specs.Spelling.{is_lead, front_len};
 

@@ -1,0 +1,40 @@
+-- Joined texts, and their bytes.
+use Rattle.std.proofs.Common.{◌≡◌, ◌∙◌, ℕ, ◌+◌, ◌<◌, ◌≤◌, Bool, true, false, cond, ℤ, pos, negsuc, List, [], ◌∷◌, ◌++◌, length, map, drop, get_or, Result, Ok, Err, OnOk, sym, ap, refl, subst, arith, length-append}
+use Rattle.std.specs.Fmt.{signed_decimal}
+use Rattle.std.specs.Result.{is_ok}
+use Rattle.std.specs.Str.{encode_utf8_all, IsAscii, IsUtf8}
+use Rattle.std.proofs.lemmas.List.{append_assoc, drop_more}
+use Rattle.std.proofs.lemmas.Str.{encodes-IsAscii, encodes-append, IsUtf8-append}
+use Rattle.lsl_text.specs.Number.{decimal_of}
+use Rattle.lsl_value.specs.declared.list.Atom.{Atom}
+use Rattle.lsl_value.specs.declared.list.Atom.TheVariants.{Int}
+use Rattle.lsl_pure.specs.Joins.{joined, each_behind}
+use Rattle.lsl_pure.specs.Elements.{text_of_atom}
+use Rattle.lsl_pure.specs.Spelling.{spelled_atom}
+
+decimal_is : (n : ℤ) → signed_decimal n ≡ decimal_of n
+decimal_is (pos n) = refl
+decimal_is (negsuc n) = refl
+
+-- an integer's text is its own UTF-8
+pub spelled_integer : (a : Atom) (n : ℤ) (digits : List ℕ) → a ≡ Int n → digits ≡ signed_decimal n → IsAscii digits → digits ≡ spelled_atom a
+spelled_integer a n digits is same ascii =
+    sym (encodes-IsAscii digits ascii) ∙ ap encode_utf8_all (same ∙ decimal_is n) ∙ sym (ap spelled_atom is)
+
+pub OnOk-given : {T E : Type 0} (r : Result T E) (P : Type 0) → (is_ok r ≡ true → P) → OnOk r P
+OnOk-given (Ok x) P holds = holds refl
+OnOk-given (Err e) P holds = tt
+
+pub OnOk-appended : {T E : Type 0} (r : Result T E) (new old more other : List ℕ) → new ≡ cond (is_ok r) (old ++ more) old → more ≡ other → OnOk r (new ≡ old ++ other)
+OnOk-appended (Ok x) new old more other same is = same ∙ ap (λ m. old ++ m) is
+OnOk-appended (Err e) new old more other same is = tt
+
+-- one more text behind the separator
+pub each_behind-more : (out separator : List ℕ) (atoms : List Atom) (i : ℕ) (a : Atom) → i < length atoms → a ≡ get_or atoms i a
+    → ((out ++ separator) ++ spelled_atom a) ++ each_behind separator (map spelled_atom (drop (i + 1) atoms)) ≡ out ++ each_behind separator (map spelled_atom (drop i atoms))
+each_behind-more out separator atoms i a low is =
+    let next : drop i atoms ≡ a ∷ drop (i + 1) atoms = drop_more atoms i a low ∙ ap (λ b. b ∷ drop (i + 1) atoms) (sym is) in
+    append_assoc (out ++ separator) (spelled_atom a) (each_behind separator (map spelled_atom (drop (i + 1) atoms)))
+    ∙ append_assoc out separator (spelled_atom a ++ each_behind separator (map spelled_atom (drop (i + 1) atoms)))
+    ∙ ap (λ t. out ++ t) (sym (append_assoc separator (spelled_atom a) (each_behind separator (map spelled_atom (drop (i + 1) atoms)))))
+    ∙ sym (ap (λ bs. out ++ each_behind separator (map spelled_atom bs)) next)
