@@ -1,13 +1,14 @@
 -- The first place of one list in another, and that of one text in another by their bytes.
-use Rattle.std.proofs.Common.{◌≡◌, ◌∙◌, ℕ, zero, suc, ◌+◌, ◌<◌, ◌≤◌, Bool, true, false, cond, List, [], ◌∷◌, ◌++◌, length, take, drop, Option, Some, None, sym, ap, refl, subst, inl, inr, arith, length-append, nat_eq, IfSome}
+use Rattle.std.proofs.Common.{◌≡◌, ◌∙◌, ℕ, zero, suc, ◌+◌, ◌^◌, ◌<◌, ◌≤◌, ℤ, pos, negsuc, to_z, w32, Bool, true, false, cond, List, [], ◌∷◌, ◌++◌, length, take, drop, Option, Some, None, sym, ap, refl, subst, inl, inr, arith, length-append, nat_eq, IfSome}
 use Rattle.std.specs.Char.{encode_utf8}
 use Rattle.std.specs.List.{starts_with, count_by}
 use Rattle.std.specs.Option.{option_map}
 use Rattle.std.specs.Str.{encode_utf8_all}
 use Rattle.std.proofs.lemmas.Bool.{cases_Bool, cond-true, cond-false, false≢true}
+use Rattle.std.proofs.lemmas.Int.{to_z_pos}
 use Rattle.std.proofs.lemmas.List.{take_at, take-append-drop, length-take-le}
 use Rattle.std.proofs.lemmas.Str.{encodes-append}
-use Rattle.lsl_pure.specs.Searches.{first_place}
+use Rattle.lsl_pure.specs.Searches.{first_place, place_or_none}
 use Rattle.lsl_pure.specs.Spelling.{is_lead}
 use Rattle.lsl_pure.proofs.SpellingLemmas.{IsTail, IsOneCharacter, one_character, starts_with-encodes, starts_with-inside, count_by-encodes}
 
@@ -75,6 +76,10 @@ first_place-encodes (c ∷ cs) (d ∷ m) =
           ∙ sym (ap (byte_place (c ∷ cs)) (cond-false _ _ _ there))
     ])
 
+within-next : (o : Option ℕ) (n k : ℕ) → ((j : ℕ) → o ≡ Some j → j ≤ n) → option_map suc o ≡ Some k → k ≤ suc n
+within-next None n k low never = cc
+within-next (Some j) n k low same = let at : suc j ≡ k = cc in let short = low j refl in omega arith
+
 -- a place is within the list
 pub first_place-within : {X : Type 0} (E : X → X → Bool) (xs sought : List X) (k : ℕ) → first_place E xs sought ≡ Some k → k ≤ length xs
 first_place-within E [] sought k found = elim (cases_Bool (starts_with E [] sought)) [
@@ -83,12 +88,8 @@ first_place-within E [] sought k found = elim (cases_Bool (starts_with E [] soug
 ]
 first_place-within E (x ∷ xs) sought k found = elim (cases_Bool (starts_with E (x ∷ xs) sought)) [
   | inl here ↦ let zero' : Some 0 ≡ Some k = sym (cond-true _ _ _ here) ∙ found in let at : 0 ≡ k = cc in omega arith
-  | inr there ↦ next (first_place E xs sought) refl (sym (cond-false _ _ _ there) ∙ found)
+  | inr there ↦ within-next (first_place E xs sought) (length xs) k (λ j some. first_place-within E xs sought j some) (sym (cond-false _ _ _ there) ∙ found)
 ]
-  where
-    next : (o : Option ℕ) → first_place E xs sought ≡ o → option_map suc o ≡ Some k → k ≤ suc (length xs)
-    next None none never = cc
-    next (Some j) some same = let at : suc j ≡ k = cc in let low = first_place-within E xs sought j some in omega arith
 
 -- the characters before the byte at which a text was found
 pub count_by-place : (text : List ℕ) (k : ℕ) → k ≤ length text → count_by is_lead (take (length (encode_utf8_all (take k text))) (encode_utf8_all text)) ≡ k
@@ -97,3 +98,29 @@ count_by-place text k short =
     ap (λ t. count_by is_lead (take (length (encode_utf8_all (take k text))) t)) parts
     ∙ ap (count_by is_lead) (take_at (encode_utf8_all (take k text)) (encode_utf8_all (drop k text)) _ refl)
     ∙ count_by-encodes (take k text) ∙ length-take-le k text short
+
+index_from : (text : List ℕ) (found : Option ℕ) (at n : ℕ) → Some at ≡ byte_place text found → ((k : ℕ) → found ≡ Some k → k ≤ length text)
+    → n ≡ count_by is_lead (take at (encode_utf8_all text)) → n < 2 ^ 31 → to_z w32 n ≡ place_or_none found
+index_from text None at n never low count small = cc
+index_from text (Some k) at n same low count small =
+    let here : at ≡ length (encode_utf8_all (take k text)) = cc in
+    let is : n ≡ k = count ∙ ap (λ a. count_by is_lead (take a (encode_utf8_all text))) here ∙ count_by-place text k (low k refl) in
+    to_z_pos w32 n small ∙ ap pos is
+
+-- the place in characters of a text that was found at a byte
+pub index_some : (text sought bytes needle : List ℕ) (at n : ℕ) → bytes ≡ encode_utf8_all text → needle ≡ encode_utf8_all sought
+    → Some at ≡ first_place nat_eq bytes needle → n ≡ count_by is_lead (take at bytes) → n < 2 ^ 31 → to_z w32 n ≡ place_or_none (first_place nat_eq text sought)
+index_some text sought bytes needle at n same needle-is found count small =
+    index_from text (first_place nat_eq text sought) at n
+    (found ∙ ap (λ b. first_place nat_eq b needle) same ∙ ap (first_place nat_eq (encode_utf8_all text)) needle-is ∙ first_place-encodes text sought)
+    (λ k some. first_place-within nat_eq text sought k some) (count ∙ ap (λ b. count_by is_lead (take at b)) same) small
+
+none_from : (text : List ℕ) (found : Option ℕ) → None ≡ byte_place text found → negsuc 0 ≡ place_or_none found
+none_from text None same = refl
+none_from text (Some k) never = cc
+
+pub index_none : (text sought bytes needle : List ℕ) → bytes ≡ encode_utf8_all text → needle ≡ encode_utf8_all sought
+    → None ≡ first_place nat_eq bytes needle → negsuc 0 ≡ place_or_none (first_place nat_eq text sought)
+index_none text sought bytes needle same needle-is found =
+    none_from text (first_place nat_eq text sought)
+    (found ∙ ap (λ b. first_place nat_eq b needle) same ∙ ap (first_place nat_eq (encode_utf8_all text)) needle-is ∙ first_place-encodes text sought)

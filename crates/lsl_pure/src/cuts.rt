@@ -9,7 +9,7 @@ ghost use Rattle.lsl_text.specs.Number.{is_blank};
 use crate::PureFault;
 use crate::bounds::MOST_CHARGE;
 use crate::ranges::{Range, clamp};
-use crate::spelling::{copy_of, count_characters, offset, text_of};
+use crate::spelling::{copy_of, count_characters, offset, offsets, text_of};
 use lsl_text::NoMemory;
 use lsl_value::Text;
 use std::alloc::Global;
@@ -42,19 +42,19 @@ fn inside(alloc: Global, text: &Text, start: usize, end: usize) -> Result<Text, 
     requires { start ≤ end }
     ensures { IfOk result (λ part. part ≡ slice_range text.now start end) }
 {
-    copy_of(alloc, &text.bytes()[offset(text, start)..offset(text, end)])
+    let (from, to) = offsets(text, start, end);
+    copy_of(alloc, &text.bytes()[from..to])
 }
 
 fn outside(alloc: Global, text: &Text, start: usize, end: usize) -> Result<Text, NoMemory>
     requires { start ≤ end }
     ensures { IfOk result (λ rest. rest ≡ take start text.now ++ drop end text.now) }
 {
+    let (from, to) = offsets(text, start, end);
     let bytes = text.bytes();
-    let head = &bytes[..offset(text, start)];
-    let tail = &bytes[offset(text, end)..];
-    let mut out = Vec::with_capacity(alloc, head.len() + tail.len())?;
-    out.extend_from_slice(head)?;
-    out.extend_from_slice(tail)?;
+    let mut out = Vec::with_capacity(alloc, bytes.len() - (to - from))?;
+    out.extend_from_slice(&bytes[..from])?;
+    out.extend_from_slice(&bytes[to..])?;
     Ok(text_of(out))
 }
 

@@ -44,8 +44,15 @@ fn inside(items: Items, start: usize, end: usize) -> Items
 {
     let mut list = items.into_vec();
     list.truncate(end);
-    list.drain(..start);
+    drop_front(&mut list, start);
     Items::from_vec(list)
+}
+
+fn drop_front(list: &mut Vec<Atom>, n: usize)
+    requires { n ≤ length list.old.items }
+    ensures { list.new.items ≡ drop n list.old.items }
+{
+    list.drain(..n);
 }
 
 fn outside(items: Items, start: usize, end: usize) -> Items

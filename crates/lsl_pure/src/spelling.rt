@@ -43,6 +43,17 @@ pub fn offset(text: &Text, characters: usize) -> usize
     }
 }
 
+/// How many bytes stand before the characters of two numbers.
+pub fn offsets(text: &Text, start: usize, end: usize) -> (usize, usize)
+    requires { start ≤ end }
+    ensures from { result.0 ≡ length (encode_utf8_all (take start text.now)) }
+    ensures to { result.1 ≡ length (encode_utf8_all (take end text.now)) }
+    ensures ordered { result.0 ≤ result.1 }
+    ensures within { result.1 ≤ length (encode_utf8_all text.now) }
+{
+    (offset(text, start), offset(text, end))
+}
+
 // How many bytes stand before the character of this number.
 fn walk(bytes: &[u8], characters: usize) -> usize
     ensures { result ≡ front_len characters bytes.now }
