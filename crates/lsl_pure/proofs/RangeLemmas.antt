@@ -2,11 +2,12 @@
 use Rattle.std.proofs.Common.{◌≡◌, ◌∙◌, ℕ, zero, suc, ◌+◌, ◌<◌, ◌≤◌, min, Bool, true, false, cond, not, ◌&&◌, ◌||◌, nat_lt, nat_le, ℤ, pos, negsuc, ◌+ℤ◌, ◌≤ℤ◌, List, ◌++◌, length, take, drop, Result, Ok, Err, IfOk, sym, ap, refl, subst, arith}
 use Rattle.std.specs.Int.RustNames.{int_le}
 use Rattle.std.specs.List.{slice_range}
-use Rattle.std.proofs.lemmas.Bool.{cond-true, cond-false}
+use Rattle.std.proofs.lemmas.Bool.{cond-true, cond-false, false≢true}
+use Rattle.std.proofs.lemmas.List.{append-nil, drop_all, take_all}
 use Rattle.std.proofs.lemmas.Int.{ints}
 use Rattle.std.proofs.lemmas.Bool.Decides.{nat_tests}
 use Rattle.lsl_pure.specs.Places.{place_of, clamped, in_range, in_range_between, within}
-use Rattle.lsl_pure.specs.Cuts.{taken, left}
+use Rattle.lsl_pure.specs.Cuts.{taken, left, inserted, replaced}
 use Rattle.lsl_pure.proofs.PlaceLemmas.{pick-inside, pick-outside}
 
 clamped-low : (n : ℕ) (z : ℤ) → z ≤ℤ pos 0 → clamped n z ≡ 0
@@ -88,3 +89,32 @@ left_inside xs first last n start end turned size ordered short cuts is =
 pub IfOk-same : {T E : Type 0} (r : Result T E) (a b : T) → b ≡ a → IfOk r (λ x. x ≡ a) → IfOk r (λ x. x ≡ b)
 IfOk-same (Ok x) a b same is = is ∙ sym same
 IfOk-same (Err e) a b same is = tt
+
+-- a list in the place of a range
+
+inserted-end : {X : Type 0} (xs ys : List X) → inserted xs (length xs) ys ≡ xs ++ ys
+inserted-end xs ys =
+    ap (λ t. t ++ ys ++ drop (length xs) xs) (take_all (length xs) xs (omega arith)) ∙ ap (λ t. xs ++ ys ++ t) (drop_all (length xs) xs (omega arith)) ∙ append-nil (xs ++ ys)
+
+not-true-false : (b c : Bool) → b ≡ not c → b ≡ true → c ≡ false
+not-true-false b true same is = absurd (false≢true (sym same ∙ is))
+not-true-false b false same is = refl
+
+not-false-true : (b c : Bool) → b ≡ not c → b ≡ false → c ≡ true
+not-false-true b true same is = refl
+not-false-true b false same is = absurd (false≢true (sym is ∙ same))
+
+pub replaced_turned : {X : Type 0} (xs ys rest : List X) (f l first last : ℤ) (n k : ℕ) (turned : Bool) → f ≡ first → l ≡ last → n ≡ length xs
+    → turned ≡ not (int_le (place_of n f) (place_of n l)) → turned ≡ true → rest ≡ left xs first last → k ≡ length rest → inserted rest k ys ≡ replaced xs ys first last
+replaced_turned xs ys rest f l first last n k turned f-is l-is size test is same end =
+    let order : int_le (place_of (length xs) first) (place_of (length xs) last) ≡ false =
+      ap (λ m. int_le (place_of m first) (place_of m last)) (sym size) ∙ ap (λ z. int_le (place_of n z) (place_of n last)) (sym f-is) ∙ ap (λ z. int_le (place_of n f) (place_of n z)) (sym l-is) ∙ not-true-false turned _ test is in
+    ap (λ m. inserted rest m ys) end ∙ inserted-end rest ys ∙ ap (λ r. r ++ ys) same ∙ sym (cond-false _ _ _ order)
+
+pub replaced_straight : {X : Type 0} (xs ys rest : List X) (f l first last : ℤ) (n start : ℕ) (turned : Bool) → f ≡ first → l ≡ last → n ≡ length xs
+    → turned ≡ not (int_le (place_of n f) (place_of n l)) → turned ≡ false → rest ≡ left xs first last → start ≡ clamped n (place_of n f) → inserted rest start ys ≡ replaced xs ys first last
+replaced_straight xs ys rest f l first last n start turned f-is l-is size test is same begin =
+    let order : int_le (place_of (length xs) first) (place_of (length xs) last) ≡ true =
+      ap (λ m. int_le (place_of m first) (place_of m last)) (sym size) ∙ ap (λ z. int_le (place_of n z) (place_of n last)) (sym f-is) ∙ ap (λ z. int_le (place_of n f) (place_of n z)) (sym l-is) ∙ not-false-true turned _ test is in
+    let here : start ≡ clamped (length xs) (place_of (length xs) first) = begin ∙ ap (λ z. clamped n (place_of n z)) f-is ∙ ap (λ m. clamped m (place_of m first)) size in
+    ap (λ r. inserted r start ys) same ∙ ap (λ m. inserted (left xs first last) m ys) here ∙ sym (cond-true _ _ _ order)
