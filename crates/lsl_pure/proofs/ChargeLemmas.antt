@@ -1,5 +1,5 @@
 -- What lists are charged.
-use Rattle.std.proofs.Common.{◌≡◌, ◌∙◌, ℕ, ◌+◌, ◌*◌, ◌-◌, ◌<◌, ◌≤◌, List, [], ◌∷◌, ◌++◌, length, map, take, drop, sym, ap, refl, arith, length-append}
+use Rattle.std.proofs.Common.{◌≡◌, ◌∙◌, ℕ, ◌+◌, ◌*◌, ◌-◌, ◌<◌, ◌≤◌, List, [], ◌∷◌, ◌++◌, length, map, take, drop, Result, Ok, Err, OnOk, IfErr, sym, ap, refl, arith, length-append}
 use Rattle.std.specs.List.{sum_by}
 use Rattle.std.specs.Str.{encode_utf8_all}
 use Rattle.std.proofs.lemmas.List.{take-append-drop, map-append}
@@ -7,6 +7,8 @@ use Rattle.std.proofs.lemmas.List.Sums.{sum_by-append, sum_by-cons}
 use Rattle.lsl_value.specs.Atoms.{item_charge_of, list_charge_of, atom_charge_of}
 use Rattle.lsl_value.specs.declared.list.Atom.{Atom}
 use Rattle.lsl_value.specs.declared.list.Atom.TheVariants.{Int, Str, Key}
+use Rattle.lsl_pure.specs.declared.PureFault.{PureFault}
+use Rattle.lsl_pure.specs.declared.PureFault.TheVariants.{TooBig}
 use Rattle.lsl_pure.specs.Cuts.{inserted}
 use Rattle.lsl_pure.specs.Spelling.{spelled_charge, spelled_string, IsOverfull}
 
@@ -24,3 +26,33 @@ pub charge-inserted : (xs ys : List Atom) (k : ℕ) → sum_by item_charge_of (i
 charge-inserted xs ys k =
     omega (arith, sum_by-append item_charge_of (take k xs ++ ys) (drop k xs), sum_by-append item_charge_of (take k xs) ys,
     sum_by-append item_charge_of (take k xs) (drop k xs), ap (sum_by item_charge_of) (take-append-drop k xs))
+
+-- a list is charged no more than its elements' texts spelled out as strings
+
+least-spelled : (a : Atom) → item_charge_of a ≤ spelled_charge (spelled_string a)
+least-spelled (Int n) = omega arith
+least-spelled (Str text) = omega arith
+least-spelled (Key text) = omega arith
+
+charge-le-spelled : (atoms : List Atom) → sum_by item_charge_of atoms ≤ sum_by spelled_charge (map spelled_string atoms)
+charge-le-spelled [] = omega arith
+charge-le-spelled (a ∷ atoms) =
+    omega (arith, charge-le-spelled atoms, least-spelled a, sum_by-cons item_charge_of a atoms, sum_by-cons spelled_charge (spelled_string a) (map spelled_string atoms))
+
+-- one element more is too much
+pub overfull_push : (atoms : List Atom) (a : Atom) (more : List Atom) → spelled_string a ∷ [] ≡ more → 65536 < list_charge_of (atoms ++ a ∷ []) → IsOverfull (map spelled_string atoms ++ more)
+overfull_push atoms a more same big =
+    omega (arith, charge-le-spelled (atoms ++ a ∷ []), ap (sum_by spelled_charge) (map-append spelled_string atoms (a ∷ []) ∙ ap (λ m. map spelled_string atoms ++ m) same))
+
+-- and so is any list that begins so
+pub overfull_more : (first more : List Atom) → IsOverfull first → IsOverfull (first ++ more)
+overfull_more first more big = omega (arith, sum_by-append spelled_charge first more)
+
+pub IfErr-weaker : {T : Type 0} (r : Result T PureFault) (P Q : Type 0) → (P → Q) → IfErr r (λ fault. fault ≡ TooBig → P) → IfErr r (λ fault. fault ≡ TooBig → Q)
+IfErr-weaker (Ok x) P Q follows is = tt
+IfErr-weaker (Err e) P Q follows is = λ fault. follows (is fault)
+
+pub OnOk-map : {T : Type 0} (r : Result T PureFault) (new old : List Atom) (a : Atom) (more : List Atom) → spelled_string a ∷ [] ≡ more
+    → OnOk r (new ≡ old ++ a ∷ []) → OnOk r (map spelled_string new ≡ map spelled_string old ++ more)
+OnOk-map (Ok x) new old a more same is = ap (map spelled_string) is ∙ map-append spelled_string old (a ∷ []) ∙ ap (λ m. map spelled_string old ++ m) same
+OnOk-map (Err e) new old a more same is = tt

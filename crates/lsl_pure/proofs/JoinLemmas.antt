@@ -38,3 +38,11 @@ each_behind-more out separator atoms i a low is =
     ∙ append_assoc out separator (spelled_atom a ++ each_behind separator (map spelled_atom (drop (i + 1) atoms)))
     ∙ ap (λ t. out ++ t) (sym (append_assoc separator (spelled_atom a) (each_behind separator (map spelled_atom (drop (i + 1) atoms)))))
     ∙ sym (ap (λ bs. out ++ each_behind separator (map spelled_atom bs)) next)
+
+-- the first text and the others behind it
+pub joined-parts : (out start middle separator : List ℕ) (atoms others : List Atom) (first : Atom) → 1 ≤ length atoms → first ≡ get_or atoms 0 first → others ≡ drop 1 atoms
+    → start ≡ [] → middle ≡ start ++ spelled_atom first → out ≡ middle ++ each_behind separator (map spelled_atom others) → out ≡ joined separator (map spelled_atom atoms)
+joined-parts out start middle separator [] others first some is rest none one all = absurd (omega arith)
+joined-parts out start middle separator (a ∷ atoms) others first some is rest none one all =
+    all ∙ ap (λ m. m ++ each_behind separator (map spelled_atom others)) (one ∙ ap (λ s. s ++ spelled_atom first) none ∙ ap spelled_atom is)
+    ∙ ap (λ os. spelled_atom a ++ each_behind separator (map spelled_atom os)) rest

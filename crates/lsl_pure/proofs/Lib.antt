@@ -2,7 +2,9 @@ pub mod ByteLemmas
 pub mod ChargeLemmas
 pub mod CutLemmas
 pub mod JoinLemmas
+pub mod MarkLemmas
 pub mod PlaceLemmas
 pub mod RangeLemmas
 pub mod SearchLemmas
 pub mod SpellingLemmas
+pub mod TrimLemmas

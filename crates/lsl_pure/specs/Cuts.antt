@@ -1,7 +1,7 @@
 -- Parts of a text or a list: what is taken, what is left, what is inserted and replaced, and trimmed texts.
-use Rattle.std.specs.Prelude.{ℕ, ◌-◌, ℤ, int_le, Bool, not, ◌==◌, if◌then◌else◌, List, ◌++◌, length, take, drop}
+use Rattle.std.specs.Prelude.{ℕ, ℤ, int_le, Bool, not, ◌&&◌, ◌==◌, if◌then◌else◌, List, [], ◌∷◌, ◌++◌, length, take, drop}
 use Rattle.std.specs.Int.{w32, bit_at, cast_unsigned}
-use Rattle.std.specs.List.{prefix_len, suffix_len}
+use Rattle.std.specs.List.{prefix_len}
 use Rattle.lsl_text.specs.Number.{is_blank}
 use Rattle.lsl_pure.specs.Places.{place_of, clamped, in_range, pick}
 
@@ -34,7 +34,8 @@ abbrev pub without_head : List ℕ → List ℕ
 without_head text = drop (prefix_len is_blank text) text
 
 abbrev pub without_tail : List ℕ → List ℕ
-without_tail text = take (length text - suffix_len is_blank text) text
+without_tail [] = []
+without_tail (c ∷ cs) = if is_blank c && (length (without_tail cs) == 0) then [] else c ∷ without_tail cs
 
 -- bit 1 trims the head and bit 2 the tail
 abbrev pub trims_head : ℤ → Bool

@@ -1,6 +1,6 @@
 //! Parts of a text: `llGetSubString`, `llDeleteSubString`, `llInsertString` and `llStringTrim`.
 
-ghost use Rattle.std.specs.Prelude.{◌≡◌, ◌≤◌, ◌<◌, ◌++◌, length, take, drop, slice_range, IfOk, IfErr};
+ghost use Rattle.std.specs.Prelude.{◌≡◌, ◌≤◌, ◌<◌, ◌++◌, if◌then◌else◌, length, take, drop, slice_range, IfOk, IfErr};
 ghost use Rattle.std.specs.Str.{encode_utf8_all};
 ghost use Rattle.lsl_value.specs.Text.{text_charge_of};
 ghost use Rattle.lsl_pure.specs.Cuts.{taken, left, inserted_at, trimmed, trims_head, trims_tail, without_head, without_tail};
@@ -82,14 +82,19 @@ pub fn insert_string(alloc: Global, text: &Text, place: i32, other: &Text) -> Re
 pub fn string_trim(alloc: Global, text: &Text, kind: i32) -> Result<Text, NoMemory>
     ensures { IfOk result (λ rest. rest ≡ trimmed text.now kind) }
 {
-    let mut rest = text.bytes();
-    if trims_head(kind) {
-        rest = behind_blanks(rest);
-    }
-    if trims_tail(kind) {
-        rest = before_blanks(rest);
-    }
-    copy_of(alloc, rest)
+    copy_of(alloc, trim_tail(trim_head(text.bytes(), kind), kind))
+}
+
+fn trim_head(text: &[u8], kind: i32) -> &[u8]
+    ensures { result.now ≡ (if trims_head kind then without_head text.now else text.now) }
+{
+    if trims_head(kind) { behind_blanks(text) } else { text }
+}
+
+fn trim_tail(text: &[u8], kind: i32) -> &[u8]
+    ensures { result.now ≡ (if trims_tail kind then without_tail text.now else text.now) }
+{
+    if trims_tail(kind) { before_blanks(text) } else { text }
 }
 
 fn trims_head(kind: i32) -> bool

@@ -1,6 +1,6 @@
 //! `llParseString2List` and `llParseStringKeepNulls`.
 
-ghost use Rattle.std.specs.Prelude.{◌≡◌, ◌≤◌, ◌<◌, ◌++◌, length, map, IfOk, IfErr, OnOk};
+ghost use Rattle.std.specs.Prelude.{◌≡◌, ◌≤◌, ◌<◌, ◌++◌, ◌||◌, nat_lt, length, map, IfOk, IfErr, OnOk};
 ghost use Rattle.std.specs.List.{All};
 ghost use Rattle.std.specs.Option.{option_copied, option_map};
 ghost use Rattle.std.specs.Str.{IsUtf8, encode_utf8_all};
@@ -63,7 +63,12 @@ fn cut(alloc: Global, text: &[u8], marks: &[Mark], keep_nulls: bool) -> Result<I
 fn first_mark<'a>(marks: &'a [Mark], text: &[u8]) -> Option<&'a Mark>
     ensures { option_map spelled_mark (option_copied result) ≡ first_mark_of (map spelled_mark marks.now) text.now }
 {
-    marks.iter().find(|mark| text.starts_with(mark.text.bytes()))
+    'marks: for mark in marks {
+        if text.starts_with(mark.text.bytes()) {
+            return Some(mark);
+        }
+    }
+    None
 }
 
 fn push_piece(alloc: Global, items: &mut Items, piece: &[u8], keep_nulls: bool) -> Result<(), PureFault>
@@ -74,11 +79,18 @@ fn push_piece(alloc: Global, items: &mut Items, piece: &[u8], keep_nulls: bool) 
     ensures fits { OnOk result (list_charge_of items.new ≤ 65536) }
     ensures too_big { IfErr result (λ fault. fault ≡ PureFault.TooBig → IsOverfull (map spelled_string items.old ++ piece_elements keep_nulls piece.now)) }
 {
-    if !keep_nulls && piece.is_empty() {
+    if !is_kept(piece, keep_nulls) {
         return Ok(());
     }
     let text = copy_of(alloc, piece)?;
     push_bounded(items, Atom::Str(text))
+}
+
+// Whether the piece is an element.
+fn is_kept(piece: &[u8], keep_nulls: bool) -> bool
+    ensures { result ≡ (keep_nulls || nat_lt 0 (length piece.now)) }
+{
+    keep_nulls || !piece.is_empty()
 }
 
 fn push_mark(alloc: Global, items: &mut Items, mark: &Mark) -> Result<(), PureFault>
