@@ -193,5 +193,21 @@ piece_elements-encodes keep piece =
 pub mark_elements-encodes : (m : Mark) → mark_elements (spelled_mark m) ≡ map spelled_string (mark_elements m)
 mark_elements-encodes m = sym (map-cond m.spacer (Str m.text))
 
-pub rest_elements : Bool → List (Mark × List ℕ) → List Atom
-unfoldable rest_elements keep rest = flat_map (λ (e : Mark × List ℕ). mark_elements e.0 ++ piece_elements keep e.1) rest
+-- the elements of what stands behind the first piece
+abbrev pub rest_elements : Bool → List (Mark × List ℕ) → List Atom
+rest_elements keep rest = flat_map (λ (e : Mark × List ℕ). mark_elements e.0 ++ piece_elements keep e.1) rest
+
+rest_elements-encodes : (keep : Bool) (rest : List (Mark × List ℕ)) → rest_elements keep (map (λ (e : Mark × List ℕ). (spelled_mark e.0, encode_utf8_all e.1)) rest) ≡ map spelled_string (rest_elements keep rest)
+rest_elements-encodes keep [] = refl
+rest_elements-encodes keep (e ∷ es) =
+    ap (λ t. (t ++ piece_elements keep (encode_utf8_all e.1)) ++ rest_elements keep (map (λ (e : Mark × List ℕ). (spelled_mark e.0, encode_utf8_all e.1)) es)) (mark_elements-encodes e.0)
+    ∙ ap (λ t. (map spelled_string (mark_elements e.0) ++ t) ++ rest_elements keep (map (λ (e : Mark × List ℕ). (spelled_mark e.0, encode_utf8_all e.1)) es)) (piece_elements-encodes keep e.1)
+    ∙ ap (λ t. (map spelled_string (mark_elements e.0) ++ map spelled_string (piece_elements keep e.1)) ++ t) (rest_elements-encodes keep es)
+    ∙ ap (λ t. t ++ map spelled_string (rest_elements keep es)) (sym (map-append spelled_string (mark_elements e.0) (piece_elements keep e.1)))
+    ∙ sym (map-append spelled_string (mark_elements e.0 ++ piece_elements keep e.1) (rest_elements keep es))
+
+pub cut_elements-encodes : (keep : Bool) (cut : Cut) → cut_elements keep (spelled_cut cut) ≡ map spelled_string (cut_elements keep cut)
+cut_elements-encodes keep cut =
+    ap (λ t. t ++ rest_elements keep (map (λ (e : Mark × List ℕ). (spelled_mark e.0, encode_utf8_all e.1)) cut.rest)) (piece_elements-encodes keep cut.first)
+    ∙ ap (λ t. map spelled_string (piece_elements keep cut.first) ++ t) (rest_elements-encodes keep cut.rest)
+    ∙ sym (map-append spelled_string (piece_elements keep cut.first) (rest_elements keep cut.rest))

@@ -3,6 +3,7 @@ pub mod ChargeLemmas
 pub mod CutLemmas
 pub mod JoinLemmas
 pub mod MarkLemmas
+pub mod ParsingLemmas
 pub mod PlaceLemmas
 pub mod RangeLemmas
 pub mod SearchLemmas

@@ -1,5 +1,5 @@
 -- The marks of a list's elements.
-use Rattle.std.proofs.Common.{◌≡◌, ◌∙◌, ℕ, ◌<◌, Bool, true, false, cond, ◌==◌, nat_lt, List, [], ◌∷◌, ◌++◌, length, map, sym, ap, refl, subst, arith}
+use Rattle.std.proofs.Common.{◌≡◌, ◌∙◌, ℕ, ◌<◌, Bool, true, false, cond, ◌==◌, nat_lt, List, [], ◌∷◌, ◌++◌, length, map, take, sym, ap, refl, subst, arith}
 use Rattle.std.specs.List.{All, filter}
 use Rattle.std.specs.Str.{encode_utf8_all}
 use Rattle.std.proofs.lemmas.Bool.{cond-true, cond-false}
@@ -21,7 +21,7 @@ nonempty (c ∷ cs) false empty = grind (arith, nat_tests)
 marks_among-append : (spacer : Bool) (xs ys : List Atom) → marks_among spacer (xs ++ ys) ≡ marks_among spacer xs ++ marks_among spacer ys
 marks_among-append spacer xs ys =
     ap (filter (λ (m : Mark). nat_lt 0 (length m.text))) (map-append (λ (a : Atom). let m : Mark = record { text = text_of_atom a; spacer = spacer } in m) xs ys)
-    ∙ filter-append (λ (m : Mark). nat_lt 0 (length m.text)) _ _
+    ∙ filter-append (λ (m : Mark). nat_lt 0 (length m.text)) (map (λ (a : Atom). let m : Mark = record { text = text_of_atom a; spacer = spacer } in m) xs) (map (λ (a : Atom). let m : Mark = record { text = text_of_atom a; spacer = spacer } in m) ys)
 
 -- an element with an empty text is none
 pub marks_among-empty : (spacer : Bool) (marks old : List Mark) (atoms : List Atom) (a : Atom) (text : List ℕ) → text ≡ text_of_atom a → (length (encode_utf8_all text) == 0) ≡ true
@@ -45,9 +45,9 @@ has-text m some = grind (arith, nat_tests)
 
 marks_among-have : (spacer : Bool) (atoms : List Atom) → All (λ (m : Mark). 0 < length m.text) (marks_among spacer atoms)
 marks_among-have spacer atoms =
-    All-weaker (λ (m : Mark). nat_lt 0 (length m.text) ≡ true) (λ (m : Mark). 0 < length m.text) has-text _ (filter_passes (λ (m : Mark). nat_lt 0 (length m.text)) _)
+    All-weaker (λ (m : Mark). nat_lt 0 (length m.text) ≡ true) (λ (m : Mark). 0 < length m.text) has-text (marks_among spacer atoms) (filter_passes (λ (m : Mark). nat_lt 0 (length m.text)) (map (λ (a : Atom). let m : Mark = record { text = text_of_atom a; spacer = spacer } in m) atoms))
 
 -- each mark has a character
 pub marks_of-have : (separators spacers : List Atom) → All (λ (m : Mark). 0 < length m.text) (marks_of separators spacers)
 marks_of-have separators spacers =
-    All-append (λ (m : Mark). 0 < length m.text) (marks_from false separators) (marks_from true spacers) (marks_among-have false _) (marks_among-have true _)
+    All-append (λ (m : Mark). 0 < length m.text) (marks_from false separators) (marks_from true spacers) (marks_among-have false (take 8 separators)) (marks_among-have true (take 8 spacers))
