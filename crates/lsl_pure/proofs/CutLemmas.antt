@@ -1,10 +1,11 @@
 -- A text's bytes are cut where its characters are.
-use Rattle.std.proofs.Common.{◌≡◌, ◌∙◌, ℕ, zero, suc, ◌+◌, ◌-◌, ◌<◌, ◌≤◌, Bool, true, false, cond, not, ◌||◌, nat_lt, ◌==◌, List, [], ◌∷◌, ◌++◌, length, map, take, drop, Option, Some, None, sym, ap, refl, subst, arith, length-append, nat_eq, Decides}
+use Rattle.std.proofs.Common.{◌≡◌, ◌∙◌, ℕ, zero, suc, ◌+◌, ◌-◌, ◌<◌, ◌≤◌, Bool, true, false, cond, not, ◌||◌, nat_lt, ◌==◌, List, [], ◌∷◌, ◌++◌, length, map, take, drop, Option, Some, None, sym, ap, refl, subst, inl, inr, arith, length-append, nat_eq, Decides}
 use Rattle.std.specs.Char.{encode_utf8}
 use Rattle.std.specs.List.{starts_with, All, find, flat_map}
 use Rattle.std.specs.Option.{option_map, option_map_or}
 use Rattle.std.specs.Str.{encode_utf8_all}
 use Rattle.std.proofs.lemmas.Bool.{cases_Bool, cond-true, cond-false, false≢true}
+use Rattle.std.proofs.lemmas.Bool.Decides.{nat_tests}
 use Rattle.std.proofs.lemmas.List.{append_assoc, append-nil, map-append, take_at, length-take-le}
 use Rattle.std.proofs.lemmas.List.Elements.{All-head, All-tail}
 use Rattle.std.proofs.lemmas.Str.{encode_same, length-le-encodes}
@@ -178,9 +179,14 @@ cut_of-encodes marks cs has = cut_behind-encodes marks cs 0 has (omega arith)
 
 -- and its elements are the same, spelled out
 
+both-nonempty : (m n : ℕ) → 0 < m → nat_lt 0 m ≡ nat_lt 0 (suc n)
+both-nonempty m n some = grind (arith, nat_tests)
+
 nonempty-encodes : (text : List ℕ) → nat_lt 0 (length (encode_utf8_all text)) ≡ nat_lt 0 (length text)
 nonempty-encodes [] = refl
-nonempty-encodes (c ∷ cs) = ap (λ b. nat_lt 0 (length (b ++ encode_utf8_all cs))) (one_character c).spelled
+nonempty-encodes (c ∷ cs) =
+    let some : 0 < length (encode_utf8 c ++ encode_utf8_all cs) = omega (arith, length-append (encode_utf8 c) (encode_utf8_all cs), length-character (encode_utf8 c) (one_character c)) in
+    both-nonempty (length (encode_utf8 c ++ encode_utf8_all cs)) (length cs) some
 
 map-cond : (b : Bool) (a : Atom) → map spelled_string (cond b (a ∷ []) []) ≡ cond b (spelled_string a ∷ []) []
 map-cond true a = refl
@@ -211,3 +217,9 @@ cut_elements-encodes keep cut =
     ap (λ t. t ++ rest_elements keep (map (λ (e : Mark × List ℕ). (spelled_mark e.0, encode_utf8_all e.1)) cut.rest)) (piece_elements-encodes keep cut.first)
     ∙ ap (λ t. map spelled_string (piece_elements keep cut.first) ++ t) (rest_elements-encodes keep cut.rest)
     ∙ sym (map-append spelled_string (piece_elements keep cut.first) (rest_elements keep cut.rest))
+
+pub parsed-spelled : (keep : Bool) (text bytes : List ℕ) (slice marks : List Mark) → bytes ≡ encode_utf8_all text → slice ≡ marks → All HasCharacter marks
+    → cut_elements keep (cut_of (map spelled_mark slice) bytes) ≡ map spelled_string (cut_elements keep (cut_of marks text))
+parsed-spelled keep text bytes slice marks spelled same has =
+    ap (λ b. cut_elements keep (cut_of (map spelled_mark slice) b)) spelled ∙ ap (λ ms. cut_elements keep (cut_of (map spelled_mark ms) (encode_utf8_all text))) same
+    ∙ ap (cut_elements keep) (cut_of-encodes marks text has) ∙ cut_elements-encodes keep (cut_of marks text)

@@ -1,5 +1,6 @@
 pub mod ByteLemmas
 pub mod ChargeLemmas
+pub mod CsvLemmas
 pub mod CutLemmas
 pub mod JoinLemmas
 pub mod MarkLemmas

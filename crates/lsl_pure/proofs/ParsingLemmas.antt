@@ -34,7 +34,7 @@ cutting-start keep marks text items none valid = record {
   same = ap (λ xs. map spelled_string xs ++ cut_elements keep (before_cut (slice_range text 0 0) (cut_of marks text))) none;
 }
 
-slice_range-more : (text : List ℕ) (start at : ℕ) → start ≤ at → at < length text → slice_range text start (at + 1) ≡ slice_range text start at ++ get_or text at 0 ∷ []
+pub slice_range-more : (text : List ℕ) (start at : ℕ) → start ≤ at → at < length text → slice_range text start (at + 1) ≡ slice_range text start at ++ get_or text at 0 ∷ []
 slice_range-more text start at ordered low =
     let next : at + 1 - start ≡ at - start + 1 = omega arith in
     let place : start + (at - start) ≡ at = omega arith in
@@ -155,7 +155,7 @@ cutting-parts keep marks text items start at m cutting stands found =
     ∙ ap (λ t. map spelled_string items ++ t) (sym (cut_elements-mark keep (slice_range text start at) (spelled_mark m) cut) ∙ sym (ap (λ c. cut_elements keep (before_cut (slice_range text start at) c)) step))
     ∙ cutting.same
 
-slice-empty : (text : List ℕ) (k : ℕ) → slice_range text k k ≡ []
+pub slice-empty : (text : List ℕ) (k : ℕ) → slice_range text k k ≡ []
 slice-empty text k = let none : k - k ≡ 0 = omega arith in ap (λ n. take n (drop k text)) none
 
 pub cutting-some : (keep : Bool) (marks : List Mark) (text : List ℕ) (items middle new : List Atom) (start at next : ℕ) (m : Mark) → IsCutting keep marks text items start at → Stands text at m
@@ -185,3 +185,21 @@ cutting-end keep marks text items start at cutting high =
     let nothing : drop at text ≡ [] = drop_all at text high in
     ap (λ t. map spelled_string items ++ t) (sym (append-nil (piece_elements keep (drop start text))) ∙ ap (λ p. piece_elements keep p ++ []) (sym whole ∙ sym (append-nil (slice_range text start at))) ∙ sym (ap (λ t. cut_elements keep (before_cut (slice_range text start at) (cut_behind marks 0 t))) nothing))
     ∙ cutting.same
+
+-- too much before the end is too much
+
+pub overfull-piece : (keep : Bool) (marks : List Mark) (text : List ℕ) (items : List Atom) (start at : ℕ) (m : Mark) → IsCutting keep marks text items start at → Stands text at m
+    → first_mark marks (drop at text) ≡ Some (spelled_mark m) → IsOverfull (map spelled_string items ++ piece_elements keep (slice_range text start at)) → IsOverfull (cut_elements keep (cut_of marks text))
+overfull-piece keep marks text items start at m cutting stands found big =
+    let parts = cutting-parts keep marks text items start at m cutting stands found in
+    let P : List Atom → Type 0 = λ xs. IsOverfull xs in
+    subst P parts (overfull_more ((map spelled_string items ++ piece_elements keep (slice_range text start at)) ++ mark_elements (spelled_mark m)) (cut_elements keep (cut_behind marks 0 (drop (at + length (encode_utf8_all m.text)) text))) (overfull_more (map spelled_string items ++ piece_elements keep (slice_range text start at)) (mark_elements (spelled_mark m)) big))
+
+pub overfull-mark : (keep : Bool) (marks : List Mark) (text : List ℕ) (items middle : List Atom) (start at : ℕ) (m : Mark) → IsCutting keep marks text items start at → Stands text at m
+    → first_mark marks (drop at text) ≡ Some (spelled_mark m) → map spelled_string middle ≡ map spelled_string items ++ piece_elements keep (slice_range text start at)
+    → IsOverfull (map spelled_string middle ++ mark_elements (spelled_mark m)) → IsOverfull (cut_elements keep (cut_of marks text))
+overfull-mark keep marks text items middle start at m cutting stands found first big =
+    let parts = cutting-parts keep marks text items start at m cutting stands found in
+    let P : List Atom → Type 0 = λ xs. IsOverfull xs in
+    let Q : List Atom → Type 0 = λ xs. IsOverfull (xs ++ mark_elements (spelled_mark m)) in
+    subst P parts (overfull_more ((map spelled_string items ++ piece_elements keep (slice_range text start at)) ++ mark_elements (spelled_mark m)) (cut_elements keep (cut_behind marks 0 (drop (at + length (encode_utf8_all m.text)) text))) (subst Q first big))

@@ -3,7 +3,7 @@ use Rattle.std.specs.Prelude.{ℕ, zero, suc, ◌+◌, ◌<◌, length, Bool, �
 use Rattle.std.specs.List.{sum_by}
 use Rattle.std.specs.Str.{encode_utf8_all}
 use Rattle.lsl_value.specs.declared.list.Atom.{Atom}
-use Rattle.lsl_value.specs.declared.list.Atom.TheVariants.{Str}
+use Rattle.lsl_value.specs.declared.list.Atom.TheVariants.{Int, Str, Key}
 use Rattle.lsl_pure.specs.Elements.{text_of_atom}
 use Rattle.lsl_pure.specs.declared.marks.Mark.{Mark}
 
@@ -21,18 +21,22 @@ front_len (suc n) (b ∷ bs) = if is_lead b then suc (front_len n bs) else suc (
 abbrev pub spelled_atom : Atom → List ℕ
 spelled_atom a = encode_utf8_all (text_of_atom a)
 
--- a string element of an element's text in UTF-8
+-- the same element, its text in UTF-8
 abbrev pub spelled_string : Atom → Atom
-spelled_string a = Str (spelled_atom a)
+spelled_string (Int n) = Int n
+spelled_string (Str text) = Str (encode_utf8_all text)
+spelled_string (Key text) = Key (encode_utf8_all text)
 
 -- a mark of the text in UTF-8
 abbrev pub spelled_mark : Mark → Mark
 spelled_mark m = record { text = encode_utf8_all m.text; spacer = m.spacer }
 
--- what a string element is charged whose text is spelled out, in its list
+-- what an element is charged whose text is spelled out, in its list
 abbrev pub spelled_charge : Atom → ℕ
-spelled_charge a = 24 + length (text_of_atom a)
+spelled_charge (Int n) = 16
+spelled_charge (Str bytes) = 24 + length bytes
+spelled_charge (Key bytes) = 24 + length bytes
 
--- a list of string elements, their texts spelled out, is charged too much
+-- a list of elements, their texts spelled out, is charged too much
 abbrev pub IsOverfull : List Atom → Type 0
 IsOverfull atoms = 65536 < 16 + sum_by spelled_charge atoms

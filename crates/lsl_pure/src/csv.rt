@@ -4,7 +4,7 @@ ghost use Rattle.std.specs.Prelude.{◌≡◌, ◌≤◌, ◌<◌, ◌+◌, ◌^
 ghost use Rattle.std.specs.Str.{IsUtf8};
 ghost use Rattle.lsl_value.specs.Atoms.{list_charge_of};
 ghost use Rattle.lsl_value.specs.declared.list.Atom.TheVariants.{Str};
-ghost use Rattle.lsl_pure.specs.Csv.{csv_elements, csv_pieces as csv_pieces_of, depth_behind as depth_behind_of, without_leading_spaces};
+ghost use Rattle.lsl_pure.specs.Csv.{csv_elements, csv_pieces as csv_pieces_of, depth_behind as depth_behind_of, is_outer_comma, without_leading_spaces};
 ghost use Rattle.lsl_pure.specs.Spelling.{spelled_string, IsOverfull};
 
 use crate::PureFault;
@@ -37,7 +37,7 @@ fn csv_pieces(alloc: Global, text: &[u8]) -> Result<Items, PureFault>
     let mut start = 0;
     let mut depth = 0;
     'bytes: for (at, b) in text.iter().enumerate() {
-        if *b == b',' && depth == 0 {
+        if is_outer_comma(depth, *b) {
             push_csv_piece(alloc, &mut items, &text[start..at])?;
             start = at + 1;
         } else {
@@ -46,6 +46,13 @@ fn csv_pieces(alloc: Global, text: &[u8]) -> Result<Items, PureFault>
     }
     push_csv_piece(alloc, &mut items, &text[start..])?;
     Ok(items)
+}
+
+// Whether the byte is a comma with no angle bracket open.
+fn is_outer_comma(depth: usize, b: u8) -> bool
+    ensures { result ≡ is_outer_comma depth b }
+{
+    b == b',' && depth == 0
 }
 
 // How many angle brackets are open behind the byte.
