@@ -10,11 +10,11 @@ use Rattle.std.proofs.lemmas.Str.{encode_ascii, IsCharBoundary-after_ascii, IsCh
 use Rattle.lsl_value.specs.Atoms.{list_charge_of}
 use Rattle.lsl_value.specs.declared.list.Atom.{Atom}
 use Rattle.lsl_value.specs.declared.list.Atom.TheVariants.{Str}
-use Rattle.lsl_pure.specs.Csv.{csv_pieces, depth_behind, into_first, is_outer_comma, without_leading_spaces}
+use Rattle.lsl_pure.specs.Csv.{csv_elements, csv_pieces, depth_behind, into_first, is_outer_comma, without_leading_spaces}
 use Rattle.lsl_pure.specs.Spelling.{IsOverfull, spelled_string}
 use Rattle.lsl_pure.proofs.ChargeLemmas.{overfull_more}
 use Rattle.lsl_pure.proofs.ParsingLemmas.{slice-empty, slice_range-more}
-use Rattle.lsl_pure.proofs.TrimLemmas.{IsHigh, behind_front-encodes, long_character, space-plain}
+use Rattle.lsl_pure.proofs.TrimLemmas.{IsHigh, empty-encodes, behind_front-encodes, long_character, space-plain}
 
 -- characters before the first piece's
 abbrev pub into_front : List ℕ → List (List ℕ) → List (List ℕ)
@@ -155,7 +155,7 @@ pub overfull-csv : (text : List ℕ) (items : List Atom) (start at depth b : ℕ
     → IsOverfull (map spelled_string items ++ Str (without_leading_spaces (slice_range text start at)) ∷ []) → IsOverfull (csv_strings (csv_pieces 0 text))
 overfull-csv text items start at depth b splitting comma big =
     let P : List Atom → Type 0 = λ xs. IsOverfull xs in
-    subst P (splitting-parts text items start at depth b splitting comma) (overfull_more _ (csv_strings (csv_pieces depth (drop (at + 1) text))) big)
+    subst P (splitting-parts text items start at depth b splitting comma) (overfull_more (map spelled_string items ++ Str (without_leading_spaces (slice_range text start at)) ∷ []) (csv_strings (csv_pieces depth (drop (at + 1) text))) big)
 
 pub splitting-end : (text : List ℕ) (items : List Atom) (start at depth : ℕ) → IsSplitting text items start at depth → length text ≤ at
     → map spelled_string items ++ Str (without_leading_spaces (drop start text)) ∷ [] ≡ csv_strings (csv_pieces 0 text)
@@ -216,3 +216,14 @@ pub csv_strings-encodes : (pieces : List (List ℕ)) → csv_strings (map encode
 csv_strings-encodes [] = refl
 csv_strings-encodes (p ∷ ps) =
     ap (λ t. Str t ∷ csv_strings (map encode_utf8_all ps)) (behind_front-encodes (λ c. c == 32) space-plain p) ∙ ap (λ t. Str (encode_utf8_all (without_leading_spaces p)) ∷ t) (csv_strings-encodes ps)
+
+-- the empty text has no element
+pub csv-empty : (text bytes : List ℕ) → bytes ≡ encode_utf8_all text → (length bytes == 0) ≡ true → [] ≡ csv_elements text
+csv-empty text bytes same empty =
+    sym (cond-true (length text == 0) [] (csv_strings (csv_pieces 0 text)) (sym (empty-encodes text) ∙ ap (λ b. length b == 0) (sym same) ∙ empty))
+
+-- any other text has those of its pieces
+pub csv-spelled : (text bytes : List ℕ) → bytes ≡ encode_utf8_all text → (length bytes == 0) ≡ false → csv_strings (csv_pieces 0 bytes) ≡ map spelled_string (csv_elements text)
+csv-spelled text bytes same some =
+    ap (λ b. csv_strings (csv_pieces 0 b)) same ∙ ap csv_strings (csv_pieces-encodes text 0) ∙ csv_strings-encodes (csv_pieces 0 text)
+    ∙ ap (map spelled_string) (sym (cond-false (length text == 0) [] (csv_strings (csv_pieces 0 text)) (sym (empty-encodes text) ∙ ap (λ b. length b == 0) (sym same) ∙ some)))
