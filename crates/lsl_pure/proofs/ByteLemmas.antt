@@ -65,7 +65,7 @@ slice_range-encodes start end text ordered =
     let inner = encode_utf8_all (slice_range text start end) in
     let parts = ap encode_utf8_all (take-more start end text ordered) ∙ encodes-append (take start text) (slice_range text start end) in
     let size : length (encode_utf8_all (take end text)) - length (encode_utf8_all (take start text)) ≡ length inner =
-      omega (arith, ap length parts, length-append (encode_utf8_all (take start text)) inner) in
+    omega (arith, ap length parts, length-append (encode_utf8_all (take start text)) inner) in
     let tail : drop start text ≡ slice_range text start end ++ drop (end - start) (drop start text) = sym (take-append-drop (end - start) (drop start text)) in
     ap (λ n. take n (drop (length (encode_utf8_all (take start text))) (encode_utf8_all text))) size
     ∙ ap (take (length inner)) (drop-encodes start text ∙ ap encode_utf8_all tail ∙ encodes-append (slice_range text start end) (drop (end - start) (drop start text)))
@@ -113,6 +113,12 @@ inserted-scalars k text other whole more =
 pub length-inserted : (k : ℕ) (text other : List ℕ) → length (encode_utf8_all (take k text ++ other ++ drop k text)) ≡ length (encode_utf8_all text) + length (encode_utf8_all other)
 length-inserted k text other =
     let parts = sym (ap encode_utf8_all (take-append-drop k text)) ∙ encodes-append (take k text) (drop k text) in
-    omega (arith, ap length parts, length-append (encode_utf8_all (take k text)) (encode_utf8_all (drop k text)),
-    ap length (encodes-append (take k text ++ other) (drop k text)), length-append (encode_utf8_all (take k text ++ other)) (encode_utf8_all (drop k text)),
-    ap length (encodes-append (take k text) other), length-append (encode_utf8_all (take k text)) (encode_utf8_all other))
+    omega (
+      arith,
+      ap length parts,
+      length-append (encode_utf8_all (take k text)) (encode_utf8_all (drop k text)),
+      ap length (encodes-append (take k text ++ other) (drop k text)),
+      length-append (encode_utf8_all (take k text ++ other)) (encode_utf8_all (drop k text)),
+      ap length (encodes-append (take k text) other),
+      length-append (encode_utf8_all (take k text)) (encode_utf8_all other),
+    )

@@ -25,8 +25,13 @@ length-le-charge (a ∷ atoms) = omega (arith, length-le-charge atoms, least-ite
 
 pub charge-inserted : (xs ys : List Atom) (k : ℕ) → sum_by item_charge_of (inserted xs k ys) ≡ sum_by item_charge_of xs + sum_by item_charge_of ys
 charge-inserted xs ys k =
-    omega (arith, sum_by-append item_charge_of (take k xs ++ ys) (drop k xs), sum_by-append item_charge_of (take k xs) ys,
-    sum_by-append item_charge_of (take k xs) (drop k xs), ap (sum_by item_charge_of) (take-append-drop k xs))
+    omega (
+      arith,
+      sum_by-append item_charge_of (take k xs ++ ys) (drop k xs),
+      sum_by-append item_charge_of (take k xs) ys,
+      sum_by-append item_charge_of (take k xs) (drop k xs),
+      ap (sum_by item_charge_of) (take-append-drop k xs),
+    )
 
 -- a list is charged what its elements are with their texts spelled out
 

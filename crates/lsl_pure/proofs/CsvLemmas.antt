@@ -79,7 +79,7 @@ splitting-inside text items start at depth b next splitting low here inside deep
     let rest = drop (at + 1) text in
     let head : drop at text ≡ b ∷ rest = drop_more text at 0 low ∙ ap (λ c. c ∷ rest) (sym here) in
     let step : csv_pieces depth (drop at text) ≡ into_first b (csv_pieces next rest) =
-      ap (csv_pieces depth) head ∙ cond-false _ _ _ inside ∙ ap (λ d. into_first b (csv_pieces d rest)) (sym deep) in
+    ap (csv_pieces depth) head ∙ cond-false _ _ _ inside ∙ ap (λ d. into_first b (csv_pieces d rest)) (sym deep) in
     let piece : slice_range text start (at + 1) ≡ slice_range text start at ++ b ∷ [] = slice_range-more text start at splitting.ordered low ∙ ap (λ c. slice_range text start at ++ c ∷ []) (sym here) in
     record {
       ordered = omega (arith, splitting.ordered);
@@ -88,8 +88,8 @@ splitting-inside text items start at depth b next splitting low here inside deep
       valid = splitting.valid;
       room = splitting.room;
       same =
-        ap (λ t. map spelled_string items ++ csv_strings t) (ap (λ p. into_front p (csv_pieces next rest)) piece ∙ sym (into_front-first (slice_range text start at) b (csv_pieces next rest)) ∙ sym (ap (into_front (slice_range text start at)) step))
-        ∙ splitting.same;
+          ap (λ t. map spelled_string items ++ csv_strings t) (ap (λ p. into_front p (csv_pieces next rest)) piece ∙ sym (into_front-first (slice_range text start at) b (csv_pieces next rest)) ∙ sym (ap (into_front (slice_range text start at)) step))
+          ∙ splitting.same;
     }
 
 -- a comma at a place
@@ -145,10 +145,10 @@ splitting-comma text items new start at depth b splitting comma pushed room =
       valid = csv_rest-valid text start at depth b splitting.ordered splitting.valid comma;
       room = room;
       same =
-        ap (λ p. map spelled_string new ++ csv_strings (into_front p (csv_pieces depth rest))) (slice-empty text (at + 1))
-        ∙ ap (λ t. map spelled_string new ++ csv_strings t) (into_front-nil (csv_pieces depth rest) (csv_pieces-first depth rest))
-        ∙ ap (λ t. t ++ csv_strings (csv_pieces depth rest)) pushed
-        ∙ splitting-parts text items start at depth b splitting comma;
+          ap (λ p. map spelled_string new ++ csv_strings (into_front p (csv_pieces depth rest))) (slice-empty text (at + 1))
+          ∙ ap (λ t. map spelled_string new ++ csv_strings t) (into_front-nil (csv_pieces depth rest) (csv_pieces-first depth rest))
+          ∙ ap (λ t. t ++ csv_strings (csv_pieces depth rest)) pushed
+          ∙ splitting-parts text items start at depth b splitting comma;
     }
 
 pub overfull-csv : (text : List ℕ) (items : List Atom) (start at depth b : ℕ) → IsSplitting text items start at depth → IsComma text at depth b

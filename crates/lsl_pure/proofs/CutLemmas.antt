@@ -109,7 +109,7 @@ cut-none marks c cs has none there =
     let one = one_character c in
     let spelled : encode_utf8 c ++ encode_utf8_all cs ≡ one.lead ∷ (one.tail ++ encode_utf8_all cs) = ap (λ b. b ++ encode_utf8_all cs) one.spelled in
     let nothing : first_mark (map spelled_mark marks) (one.lead ∷ (one.tail ++ encode_utf8_all cs)) ≡ None =
-      ap (first_mark (map spelled_mark marks)) (sym spelled) ∙ first_mark-encodes marks (c ∷ cs) ∙ ap (option_map spelled_mark) none in
+    ap (first_mark (map spelled_mark marks)) (sym spelled) ∙ first_mark-encodes marks (c ∷ cs) ∙ ap (option_map spelled_mark) none in
     ap (cut_behind (map spelled_mark marks) 0) spelled
     ∙ cut_behind-none (map spelled_mark marks) one.lead (one.tail ++ encode_utf8_all cs) nothing
     ∙ ap (behind_character one.lead) (cut_behind-tail marks one.tail (encode_utf8_all cs) has one.follows ∙ ap (before_cut one.tail) there)
@@ -148,9 +148,9 @@ cut-some marks c cs m has some there =
     let here = standing marks c cs m (found_is marks (c ∷ cs) m has some) in
     let spelled : encode_utf8 c ++ encode_utf8_all cs ≡ one.lead ∷ (one.tail ++ encode_utf8_all cs) = ap (λ b. b ++ encode_utf8_all cs) one.spelled in
     let something : first_mark (map spelled_mark marks) (one.lead ∷ (one.tail ++ encode_utf8_all cs)) ≡ Some (spelled_mark m) =
-      ap (first_mark (map spelled_mark marks)) (sym spelled) ∙ first_mark-encodes marks (c ∷ cs) ∙ ap (option_map spelled_mark) some in
+    ap (first_mark (map spelled_mark marks)) (sym spelled) ∙ first_mark-encodes marks (c ∷ cs) ∙ ap (option_map spelled_mark) some in
     let size : length (encode_utf8_all m.text) - 1 ≡ length one.tail + length (encode_utf8_all (take (length here.others) cs)) =
-      omega (arith, ap (λ t. length (encode_utf8_all t)) here.text, length-append (encode_utf8 c) (encode_utf8_all here.others), length-character (encode_utf8 c) one, ap (λ t. length (encode_utf8_all t)) here.same) in
+    omega (arith, ap (λ t. length (encode_utf8_all t)) here.text, length-append (encode_utf8 c) (encode_utf8_all here.others), length-character (encode_utf8 c) one, ap (λ t. length (encode_utf8_all t)) here.same) in
     let count : length here.others ≡ length m.text - 1 = omega (arith, ap length here.text) in
     ap (cut_behind (map spelled_mark marks) 0) spelled
     ∙ cut_behind-some (map spelled_mark marks) one.lead (one.tail ++ encode_utf8_all cs) (spelled_mark m) something

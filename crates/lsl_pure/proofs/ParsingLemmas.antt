@@ -50,10 +50,10 @@ cutting-none keep marks text items start at cutting low none =
     let next = drop_more text at 0 low in
     let rest = drop (at + 1) text in
     let step : cut_behind marks 0 (drop at text) ≡ behind_character (get_or text at 0) (cut_behind marks 0 rest) =
-      ap (cut_behind marks 0) next ∙ cut_behind-none marks (get_or text at 0) rest (ap (first_mark marks) (sym next) ∙ none) in
+    ap (cut_behind marks 0) next ∙ cut_behind-none marks (get_or text at 0) rest (ap (first_mark marks) (sym next) ∙ none) in
     let same : before_cut (slice_range text start (at + 1)) (cut_behind marks 0 rest) ≡ before_cut (slice_range text start at) (cut_behind marks 0 (drop at text)) =
-      ap (λ p. before_cut p (cut_behind marks 0 rest)) (slice_range-more text start at cutting.ordered low)
-      ∙ sym (before_cut-character (slice_range text start at) (get_or text at 0) (cut_behind marks 0 rest)) ∙ sym (ap (before_cut (slice_range text start at)) step) in
+    ap (λ p. before_cut p (cut_behind marks 0 rest)) (slice_range-more text start at cutting.ordered low)
+    ∙ sym (before_cut-character (slice_range text start at) (get_or text at 0) (cut_behind marks 0 rest)) ∙ sym (ap (before_cut (slice_range text start at)) step) in
     record {
       ordered = omega (arith, cutting.ordered);
       within = omega arith;
@@ -100,7 +100,7 @@ stands_from marks text at m has low found =
     let begins = (starts_with-Decides (drop at text) (encode_utf8_all m.text)).0 is.stands in
     let behind : begins.0 ≡ drop (length (encode_utf8_all m.text)) (drop at text) = sym (front_rest (drop at text) (encode_utf8_all m.text) begins.0 begins.1) in
     let place : get_or text at 0 ≡ get_or (encode_utf8_all m.text ++ begins.0) 0 0 =
-      sym (get_or-drop at text 0 0 ∙ (let here : at + 0 ≡ at = omega arith in ap (λ k. get_or text k 0) here)) ∙ ap (λ t. get_or t 0 0) begins.1 in
+    sym (get_or-drop at text 0 0 ∙ (let here : at + 0 ≡ at = omega arith in ap (λ k. get_or text k 0) here)) ∙ ap (λ t. get_or t 0 0) begins.1 in
     record {
       low = low;
       size = is.has;
@@ -127,7 +127,7 @@ rest-valid text start at m ordered valid stands =
     let P : List ℕ → Type 0 = λ bs. IsUtf8 bs in
     let place : start + (at - start) ≡ at = omega arith in
     let here : IsUtf8 (drop at text) =
-      subst P (drop-drop (at - start) start text ∙ ap (λ n. drop n text) place) (IsUtf8-drop (drop start text) (at - start) valid (boundary-here text start at ordered (omega (arith, stands.low)) stands.leads)) in
+    subst P (drop-drop (at - start) start text ∙ ap (λ n. drop n text) place) (IsUtf8-drop (drop start text) (at - start) valid (boundary-here text start at ordered (omega (arith, stands.low)) stands.leads)) in
     subst P (drop-drop (length (encode_utf8_all m.text)) at text) (utf8-past m.text (drop (length (encode_utf8_all m.text)) (drop at text)) (drop at text) here stands.whole)
 
 -- the elements of a piece, of the mark behind it and of what follows
@@ -147,8 +147,8 @@ cutting-parts keep marks text items start at m cutting stands found =
     let behind : drop (len - 1) rest ≡ drop (at + len) text = drop-drop (len - 1) (at + 1) text ∙ (let sum : at + 1 + (len - 1) ≡ at + len = omega (arith, stands.size) in ap (λ n. drop n text) sum) in
     let cut = cut_behind marks 0 (drop (at + len) text) in
     let step : cut_behind marks 0 (drop at text) ≡ behind_mark (spelled_mark m) cut =
-      ap (cut_behind marks 0) next ∙ cut_behind-some marks (get_or text at 0) rest (spelled_mark m) (ap (first_mark marks) (sym next) ∙ found)
-      ∙ ap (behind_mark (spelled_mark m)) (cut_behind-drop marks (len - 1) rest ∙ ap (cut_behind marks 0) behind) in
+    ap (cut_behind marks 0) next ∙ cut_behind-some marks (get_or text at 0) rest (spelled_mark m) (ap (first_mark marks) (sym next) ∙ found)
+    ∙ ap (behind_mark (spelled_mark m)) (cut_behind-drop marks (len - 1) rest ∙ ap (cut_behind marks 0) behind) in
     let piece = piece_elements keep (slice_range text start at) in
     ap (λ t. t ++ cut_elements keep cut) (append_assoc (map spelled_string items) piece (mark_elements (spelled_mark m)))
     ∙ append_assoc (map spelled_string items) (piece ++ mark_elements (spelled_mark m)) (cut_elements keep cut)
@@ -172,9 +172,9 @@ cutting-some keep marks text items middle new start at next m cutting stands fou
       valid = rest-valid text start at m cutting.ordered cutting.valid stands;
       room = room;
       same =
-        ap (λ t. t ++ cut_elements keep (before_cut (slice_range text (at + len) (at + len)) (cut_behind marks 0 (drop (at + len) text)))) (second ∙ ap (λ t. t ++ mark_elements (spelled_mark m)) first)
-        ∙ ap (λ p. ((map spelled_string items ++ piece_elements keep (slice_range text start at)) ++ mark_elements (spelled_mark m)) ++ cut_elements keep (before_cut p (cut_behind marks 0 (drop (at + len) text)))) (slice-empty text (at + len))
-        ∙ cutting-parts keep marks text items start at m cutting stands found;
+          ap (λ t. t ++ cut_elements keep (before_cut (slice_range text (at + len) (at + len)) (cut_behind marks 0 (drop (at + len) text)))) (second ∙ ap (λ t. t ++ mark_elements (spelled_mark m)) first)
+          ∙ ap (λ p. ((map spelled_string items ++ piece_elements keep (slice_range text start at)) ++ mark_elements (spelled_mark m)) ++ cut_elements keep (before_cut p (cut_behind marks 0 (drop (at + len) text)))) (slice-empty text (at + len))
+          ∙ cutting-parts keep marks text items start at m cutting stands found;
     })
 
 -- at the end of the text

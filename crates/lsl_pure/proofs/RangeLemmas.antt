@@ -15,10 +15,10 @@ clamped-low n (pos p) low = let none : p ≡ 0 = omega (arith, ints) in omega ar
 clamped-low n (negsuc p) low = refl
 
 -- what ends before the start has no place
-clamped-negative : (n l : ℕ) → clamped n (negsuc l +ℤ pos 1) ≡ 0
+pub clamped-negative : (n l : ℕ) → clamped n (negsuc l +ℤ pos 1) ≡ 0
 clamped-negative n l = clamped-low n (negsuc l +ℤ pos 1) (omega (arith, ints))
 
-inside_range : (n k : ℕ) (f l : ℤ) → k < n → int_le f l ≡ true → in_range_between f l k ≡ within (clamped n f) (clamped n (l +ℤ pos 1)) k
+pub inside_range : (n k : ℕ) (f l : ℤ) → k < n → int_le f l ≡ true → in_range_between f l k ≡ within (clamped n f) (clamped n (l +ℤ pos 1)) k
 inside_range n k (pos f) (pos l) low ordered = grind (arith, nat_tests)
 inside_range n k (negsuc f) (pos l) low ordered = grind (arith, nat_tests)
 inside_range n k (pos f) (negsuc l) low ordered = cc
@@ -108,13 +108,13 @@ pub replaced_turned : {X : Type 0} (xs ys rest : List X) (f l first last : ℤ) 
     → turned ≡ not (int_le (place_of n f) (place_of n l)) → turned ≡ true → rest ≡ left xs first last → k ≡ length rest → inserted rest k ys ≡ replaced xs ys first last
 replaced_turned xs ys rest f l first last n k turned f-is l-is size test is same end =
     let order : int_le (place_of (length xs) first) (place_of (length xs) last) ≡ false =
-      ap (λ m. int_le (place_of m first) (place_of m last)) (sym size) ∙ ap (λ z. int_le (place_of n z) (place_of n last)) (sym f-is) ∙ ap (λ z. int_le (place_of n f) (place_of n z)) (sym l-is) ∙ not-true-false turned _ test is in
+    ap (λ m. int_le (place_of m first) (place_of m last)) (sym size) ∙ ap (λ z. int_le (place_of n z) (place_of n last)) (sym f-is) ∙ ap (λ z. int_le (place_of n f) (place_of n z)) (sym l-is) ∙ not-true-false turned _ test is in
     ap (λ m. inserted rest m ys) end ∙ inserted-end rest ys ∙ ap (λ r. r ++ ys) same ∙ sym (cond-false _ _ _ order)
 
 pub replaced_straight : {X : Type 0} (xs ys rest : List X) (f l first last : ℤ) (n start : ℕ) (turned : Bool) → f ≡ first → l ≡ last → n ≡ length xs
     → turned ≡ not (int_le (place_of n f) (place_of n l)) → turned ≡ false → rest ≡ left xs first last → start ≡ clamped n (place_of n f) → inserted rest start ys ≡ replaced xs ys first last
 replaced_straight xs ys rest f l first last n start turned f-is l-is size test is same begin =
     let order : int_le (place_of (length xs) first) (place_of (length xs) last) ≡ true =
-      ap (λ m. int_le (place_of m first) (place_of m last)) (sym size) ∙ ap (λ z. int_le (place_of n z) (place_of n last)) (sym f-is) ∙ ap (λ z. int_le (place_of n f) (place_of n z)) (sym l-is) ∙ not-false-true turned _ test is in
+    ap (λ m. int_le (place_of m first) (place_of m last)) (sym size) ∙ ap (λ z. int_le (place_of n z) (place_of n last)) (sym f-is) ∙ ap (λ z. int_le (place_of n f) (place_of n z)) (sym l-is) ∙ not-false-true turned _ test is in
     let here : start ≡ clamped (length xs) (place_of (length xs) first) = begin ∙ ap (λ z. clamped n (place_of n z)) f-is ∙ ap (λ m. clamped m (place_of m first)) size in
     ap (λ r. inserted r start ys) same ∙ ap (λ m. inserted (left xs first last) m ys) here ∙ sym (cond-true _ _ _ order)

@@ -52,7 +52,7 @@ byte_place-next c cs bytes one same None = refl
 byte_place-next c cs bytes one same (Some k) =
     let size : length bytes ≡ suc (length one.tail) = ap length one.spelled in
     let sum : suc (length one.tail + length (encode_utf8_all (take k cs))) ≡ length (encode_utf8 c ++ encode_utf8_all (take k cs)) =
-      omega (arith, ap length same, length-append (encode_utf8 c) (encode_utf8_all (take k cs))) in
+    omega (arith, ap length same, length-append (encode_utf8 c) (encode_utf8_all (take k cs))) in
     ap Some sum
 
 pub first_place-encodes : (text sought : List ℕ) → first_place nat_eq (encode_utf8_all text) (encode_utf8_all sought) ≡ byte_place text (first_place nat_eq text sought)
@@ -66,7 +66,7 @@ first_place-encodes (c ∷ cs) (d ∷ m) =
     let one = one_character c in
     let spelled : encode_utf8 c ++ encode_utf8_all cs ≡ one.lead ∷ (one.tail ++ encode_utf8_all cs) = ap (λ b. b ++ encode_utf8_all cs) one.spelled in
     let tests : starts_with nat_eq (one.lead ∷ (one.tail ++ encode_utf8_all cs)) (encode_utf8_all (d ∷ m)) ≡ starts_with nat_eq (c ∷ cs) (d ∷ m) =
-      ap (λ t. starts_with nat_eq t (encode_utf8_all (d ∷ m))) (sym spelled) ∙ starts_with-encodes (c ∷ cs) (d ∷ m) in
+    ap (λ t. starts_with nat_eq t (encode_utf8_all (d ∷ m))) (sym spelled) ∙ starts_with-encodes (c ∷ cs) (d ∷ m) in
     ap (λ t. first_place nat_eq t (encode_utf8_all (d ∷ m))) spelled ∙ (elim (cases_Bool (starts_with nat_eq (c ∷ cs) (d ∷ m))) [
       | inl here ↦ cond-true _ _ _ (tests ∙ here) ∙ sym (ap (byte_place (c ∷ cs)) (cond-true _ _ _ here))
       | inr there ↦

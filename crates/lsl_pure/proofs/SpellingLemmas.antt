@@ -40,22 +40,28 @@ one_character c = elim (cases_Bool (nat_lt c 128)) [
   | inr more ↦ elim (cases_Bool (nat_lt c 2048)) [
     | inl two ↦
         record {
-          lead = 192 + c / 64; tail = (128 + c % 64) ∷ [];
+          lead = 192 + c / 64;
+          tail = (128 + c % 64) ∷ [];
           spelled = cond-false _ _ _ more ∙ cond-true _ _ _ two;
-          leads = high-leads (192 + c / 64) (omega arith); follows = (next-follows c, tt)
+          leads = high-leads (192 + c / 64) (omega arith);
+          follows = (next-follows c, tt);
         }
     | inr over ↦ elim (cases_Bool (nat_lt c 65536)) [
       | inl three ↦
           record {
-            lead = 224 + c / 4096; tail = (128 + c / 64 % 64) ∷ (128 + c % 64) ∷ [];
+            lead = 224 + c / 4096;
+            tail = (128 + c / 64 % 64) ∷ (128 + c % 64) ∷ [];
             spelled = cond-false _ _ _ more ∙ cond-false _ _ _ over ∙ cond-true _ _ _ three;
-            leads = high-leads (224 + c / 4096) (omega arith); follows = (next-follows (c / 64), (next-follows c, tt))
+            leads = high-leads (224 + c / 4096) (omega arith);
+            follows = (next-follows (c / 64), (next-follows c, tt));
           }
       | inr four ↦
           record {
-            lead = 240 + c / 262144; tail = (128 + c / 4096 % 64) ∷ (128 + c / 64 % 64) ∷ (128 + c % 64) ∷ [];
+            lead = 240 + c / 262144;
+            tail = (128 + c / 4096 % 64) ∷ (128 + c / 64 % 64) ∷ (128 + c % 64) ∷ [];
             spelled = cond-false _ _ _ more ∙ cond-false _ _ _ over ∙ cond-false _ _ _ four;
-            leads = high-leads (240 + c / 262144) (omega arith); follows = (next-follows (c / 4096), (next-follows (c / 64), (next-follows c, tt)))
+            leads = high-leads (240 + c / 262144) (omega arith);
+            follows = (next-follows (c / 4096), (next-follows (c / 64), (next-follows c, tt)));
           }
     ]
   ]

@@ -30,22 +30,25 @@ long_character c high =
     elim (cases_Bool (nat_lt c 2048)) [
       | inl two ↦
           record {
-            head = 192 + c / 64; others = (128 + c % 64) ∷ [];
+            head = 192 + c / 64;
+            others = (128 + c % 64) ∷ [];
             are = cond-false _ _ _ more ∙ cond-true _ _ _ two;
-            high = (omega arith, (omega arith, tt))
+            high = (omega arith, (omega arith, tt));
           }
       | inr over ↦ elim (cases_Bool (nat_lt c 65536)) [
         | inl three ↦
             record {
-              head = 224 + c / 4096; others = (128 + c / 64 % 64) ∷ (128 + c % 64) ∷ [];
+              head = 224 + c / 4096;
+              others = (128 + c / 64 % 64) ∷ (128 + c % 64) ∷ [];
               are = cond-false _ _ _ more ∙ cond-false _ _ _ over ∙ cond-true _ _ _ three;
-              high = (omega arith, (omega arith, (omega arith, tt)))
+              high = (omega arith, (omega arith, (omega arith, tt)));
             }
         | inr four ↦
             record {
-              head = 240 + c / 262144; others = (128 + c / 4096 % 64) ∷ (128 + c / 64 % 64) ∷ (128 + c % 64) ∷ [];
+              head = 240 + c / 262144;
+              others = (128 + c / 4096 % 64) ∷ (128 + c / 64 % 64) ∷ (128 + c % 64) ∷ [];
               are = cond-false _ _ _ more ∙ cond-false _ _ _ over ∙ cond-false _ _ _ four;
-              high = (omega arith, (omega arith, (omega arith, (omega arith, tt))))
+              high = (omega arith, (omega arith, (omega arith, (omega arith, tt))));
             }
       ]
     ]
@@ -155,7 +158,7 @@ pub trimmed-spelled : (text bytes headless rest : List ℕ) (kind : ℤ) → byt
 trimmed-spelled text bytes headless rest kind same first second =
     let inner = cond (trims_head kind) (without_head text) text in
     let head : headless ≡ encode_utf8_all inner =
-      first ∙ ap (λ b. cond (trims_head kind) (without_head b) b) same ∙ ap (λ t. cond (trims_head kind) t (encode_utf8_all text)) (behind_front-encodes is_blank blank-plain text) ∙ cond-encodes (trims_head kind) (without_head text) text in
+    first ∙ ap (λ b. cond (trims_head kind) (without_head b) b) same ∙ ap (λ t. cond (trims_head kind) t (encode_utf8_all text)) (behind_front-encodes is_blank blank-plain text) ∙ cond-encodes (trims_head kind) (without_head text) text in
     second ∙ ap (λ h. cond (trims_tail kind) (without_tail h) h) head ∙ ap (λ t. cond (trims_tail kind) t (encode_utf8_all inner)) (without_tail-encodes inner) ∙ cond-encodes (trims_tail kind) (without_tail inner) inner
 
 scalars-tail : (text : List ℕ) → all_scalars text ≡ true → all_scalars (without_tail text) ≡ true

@@ -3,6 +3,7 @@ pub mod Csv
 pub mod Cuts
 pub mod Elements
 pub mod Joins
+pub mod Laws
 pub mod Parsing
 pub mod Places
 pub mod Pure

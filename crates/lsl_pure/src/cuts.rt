@@ -27,7 +27,12 @@ pub fn sub_string(alloc: Global, text: &Text, first: i32, last: i32) -> Result<T
 }
 
 /// What doesn't stand in the range. See <https://wiki.secondlife.com/wiki/LlDeleteSubString>.
-pub fn delete_sub_string(alloc: Global, text: &Text, first: i32, last: i32) -> Result<Text, NoMemory>
+pub fn delete_sub_string(
+    alloc: Global,
+    text: &Text,
+    first: i32,
+    last: i32,
+) -> Result<Text, NoMemory>
     ensures { IfOk result (λ rest. rest ≡ left text.now first last) }
 {
     let range = Range::new(count_characters(text), first, last);
@@ -60,7 +65,12 @@ fn outside(alloc: Global, text: &Text, start: usize, end: usize) -> Result<Text,
 
 /// The other text inserted before a place: below 0 is taken as 0, above the end as the end. Too big before
 /// anything is built. See <https://wiki.secondlife.com/wiki/LlInsertString>.
-pub fn insert_string(alloc: Global, text: &Text, place: i32, other: &Text) -> Result<Text, PureFault>
+pub fn insert_string(
+    alloc: Global,
+    text: &Text,
+    place: i32,
+    other: &Text,
+) -> Result<Text, PureFault>
     ensures ok { IfOk result (λ whole. whole ≡ inserted_at text.now place other.now) }
     ensures too_big { IfErr result (λ fault. fault ≡ PureFault.TooBig → MOST_CHARGE < text_charge_of (inserted_at text.now place other.now)) }
 {
@@ -88,13 +98,21 @@ pub fn string_trim(alloc: Global, text: &Text, kind: i32) -> Result<Text, NoMemo
 fn trim_head(text: &[u8], kind: i32) -> &[u8]
     ensures { result.now ≡ (if trims_head kind then without_head text.now else text.now) }
 {
-    if trims_head(kind) { behind_blanks(text) } else { text }
+    if trims_head(kind) {
+        behind_blanks(text)
+    } else {
+        text
+    }
 }
 
 fn trim_tail(text: &[u8], kind: i32) -> &[u8]
     ensures { result.now ≡ (if trims_tail kind then without_tail text.now else text.now) }
 {
-    if trims_tail(kind) { before_blanks(text) } else { text }
+    if trims_tail(kind) {
+        before_blanks(text)
+    } else {
+        text
+    }
 }
 
 fn trims_head(kind: i32) -> bool

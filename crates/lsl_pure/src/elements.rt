@@ -13,8 +13,11 @@ use std::alloc::Global;
 
 /// The type of an integer, of a string and of a key, and of no element.
 const TYPE_INTEGER: i32 = 1;
+
 const TYPE_STRING: i32 = 3;
+
 const TYPE_KEY: i32 = 4;
+
 const TYPE_INVALID: i32 = 0;
 
 /// The element at a place that counts from the end where it is negative.

@@ -3,8 +3,8 @@
 //! [`call`] takes a pure call's arguments and answers with its value. It looks at nothing else and changes nothing.
 #![tactic(auto)]
 
-use std::alloc::AllocFailed;
 use lsl_text::NoMemory;
+use std::alloc::AllocFailed;
 
 mod arguments;
 mod bounds;
@@ -13,6 +13,7 @@ mod cuts;
 mod dispatch;
 mod elements;
 mod joining;
+pub mod laws;
 mod list_cuts;
 mod marks;
 mod parsing;

@@ -31,7 +31,12 @@ pub fn marks(alloc: Global, separators: Items, spacers: Items) -> Result<Vec<Mar
     Ok(marks)
 }
 
-fn push_marks(alloc: Global, marks: &mut Vec<Mark>, listed: Items, spacer: bool) -> Result<(), NoMemory>
+fn push_marks(
+    alloc: Global,
+    marks: &mut Vec<Mark>,
+    listed: Items,
+    spacer: bool,
+) -> Result<(), NoMemory>
     ensures { OnOk result (marks.new.items ≡ marks.old.items ++ marks_from spacer listed) }
 {
     let mut list = listed.into_vec();

@@ -71,7 +71,12 @@ fn first_mark<'a>(marks: &'a [Mark], text: &[u8]) -> Option<&'a Mark>
     None
 }
 
-fn push_piece(alloc: Global, items: &mut Items, piece: &[u8], keep_nulls: bool) -> Result<(), PureFault>
+fn push_piece(
+    alloc: Global,
+    items: &mut Items,
+    piece: &[u8],
+    keep_nulls: bool,
+) -> Result<(), PureFault>
     requires valid { IsUtf8 piece.now }
     requires short { length piece.now ≤ MAX_TEXT_BYTES }
     requires room { list_charge_of items.old ≤ 65536 }

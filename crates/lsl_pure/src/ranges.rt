@@ -47,7 +47,11 @@ pub fn place(n: usize, p: i32) -> i64
     requires { n ≤ 1048576 }
     ensures { result ≡ place_of n p }
 {
-    if p < 0 { i64::from(p) + n as i64 } else { i64::from(p) }
+    if p < 0 {
+        i64::from(p) + n as i64
+    } else {
+        i64::from(p)
+    }
 }
 
 /// The nearest place from 0 to `n`.

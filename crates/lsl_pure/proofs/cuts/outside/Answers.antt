@@ -12,8 +12,17 @@ text_of-requires-clause-valid c =
 
 pub text_of-requires-clause-short : goal.text_of-requires-clause-short
 text_of-requires-clause-short c =
-    omega (arith, ap length c.bytes-bytes.ensures.value, c.bytes-bytes.ensures.valid.within, ap length c.in_ok-extend_from_slice-2.ensures.items, ap length c.in_ok-extend_from_slice.ensures.items, ap length c.in_ok-out.ensures.items,
-    length-append {A = ℕ}, length-take {A = ℕ}, length-drop {A = ℕ})
+    omega (
+      arith,
+      ap length c.bytes-bytes.ensures.value,
+      c.bytes-bytes.ensures.valid.within,
+      ap length c.in_ok-extend_from_slice-2.ensures.items,
+      ap length c.in_ok-extend_from_slice.ensures.items,
+      ap length c.in_ok-out.ensures.items,
+      length-append {A = ℕ},
+      length-take {A = ℕ},
+      length-drop {A = ℕ},
+    )
 
 pub returns : goal.returns
 returns c =

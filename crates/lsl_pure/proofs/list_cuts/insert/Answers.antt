@@ -10,6 +10,21 @@ returns-then-charge-gt-MOST_CHARGE-clause-too_big c = λ _.
 
 pub from_vec-requires : goal.from_vec-requires
 from_vec-requires c =
-    omega (arith, length-le-charge c.args.items, length-le-charge c.args.other, c.if-charge-gt-MOST_CHARGE.false, c.charge.ensures, c.charge-2.ensures,
-    ap length c.in_ok-append-2.ensures.items, ap length c.in_ok-append.ensures.items, ap length c.in_ok-tail.ensures.items, ap length c.in_ok-tail.ensures.tail, ap length c.in_ok-reserve.ensures.items,
-    ap length c.into_vec-list.ensures.value, ap length c.into_vec-more.ensures.value, length-append {A = Atom}, length-take {A = Atom}, length-drop {A = Atom})
+    omega (
+      arith,
+      length-le-charge c.args.items,
+      length-le-charge c.args.other,
+      c.if-charge-gt-MOST_CHARGE.false,
+      c.charge.ensures,
+      c.charge-2.ensures,
+      ap length c.in_ok-append-2.ensures.items,
+      ap length c.in_ok-append.ensures.items,
+      ap length c.in_ok-tail.ensures.items,
+      ap length c.in_ok-tail.ensures.tail,
+      ap length c.in_ok-reserve.ensures.items,
+      ap length c.into_vec-list.ensures.value,
+      ap length c.into_vec-more.ensures.value,
+      length-append {A = Atom},
+      length-take {A = Atom},
+      length-drop {A = Atom},
+    )
