@@ -44,7 +44,7 @@ csv_pieces-first depth [] = record { first = []; others = []; are = refl }
 csv_pieces-first depth (c ∷ cs) =
     first-choice (is_outer_comma depth c) ([] ∷ csv_pieces depth cs) (into_first c (csv_pieces (depth_behind depth c) cs)) (record { first = []; others = csv_pieces depth cs; are = refl }) (first-into c (csv_pieces (depth_behind depth c) cs))
 
-into_front-nil : (pieces : List (List ℕ)) → HasFirst pieces → into_front [] pieces ≡ pieces
+pub into_front-nil : (pieces : List (List ℕ)) → HasFirst pieces → into_front [] pieces ≡ pieces
 into_front-nil pieces has = ap (into_front []) has.are ∙ sym has.are
 
 into_front-first : (p : List ℕ) (c : ℕ) (pieces : List (List ℕ)) → into_front p (into_first c pieces) ≡ into_front (p ++ c ∷ []) pieces

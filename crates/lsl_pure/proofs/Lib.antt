@@ -3,7 +3,9 @@ pub mod ChargeLemmas
 pub mod CsvLemmas
 pub mod CutLemmas
 pub mod JoinLemmas
+pub mod LawCuts
 pub mod LawLemmas
+pub mod LawRoundTrips
 pub mod MarkLemmas
 pub mod ParsingLemmas
 pub mod PlaceLemmas

@@ -63,7 +63,7 @@ cutting-none keep marks text items start at cutting low none =
     }
 
 -- passing over characters
-cut_behind-drop : (marks : List Mark) (n : ℕ) (xs : List ℕ) → cut_behind marks n xs ≡ cut_behind marks 0 (drop n xs)
+pub cut_behind-drop : (marks : List Mark) (n : ℕ) (xs : List ℕ) → cut_behind marks n xs ≡ cut_behind marks 0 (drop n xs)
 cut_behind-drop marks zero [] = refl
 cut_behind-drop marks (suc n) [] = refl
 cut_behind-drop marks zero (x ∷ xs) = refl
