@@ -3,7 +3,7 @@
 use crate::dispatch::answer;
 use crate::{PureFault, call};
 use lsl_value::BuiltinId::*;
-use lsl_value::{Atom, BuiltinId, Items, Text, Value, Values, charge};
+use lsl_value::{Atom, BuiltinId, Items, MAX_ITEMS, Text, Value, Values, charge};
 use std::alloc::Global;
 use std::process::Abort;
 use std::test::Fail;
@@ -33,7 +33,7 @@ fn items(alloc: Global, words: &str) -> Result<Items, Fail> {
         return Ok(items);
     }
     for word in words.split("/") {
-        if !items.is_full() {
+        if items.len() < MAX_ITEMS {
             items.push(atom(alloc, word)?)?;
         }
     }
