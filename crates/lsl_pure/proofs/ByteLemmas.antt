@@ -1,11 +1,10 @@
 -- Parts of a text by the bytes at which they begin and end.
-use Rattle.std.proofs.Common.{◌≡◌, ◌∙◌, ℕ, ◌+◌, ◌-◌, ◌<◌, ◌≤◌, true, ◌&&◌, List, [], ◌∷◌, ◌++◌, length, take, drop, sym, ap, refl, subst, arith, length-append}
+use Rattle.std.proofs.Common.{◌≡◌, ◌∙◌, ℕ, ◌+◌, ◌-◌, ◌≤◌, true, List, [], ◌∷◌, ◌++◌, length, take, drop, sym, ap, refl, arith, length-append}
 use Rattle.std.specs.List.{slice_range}
 use Rattle.std.specs.Str.{encode_utf8_all, all_scalars, chars, IsUtf8}
 use Rattle.std.proofs.lemmas.Bool.{and_parts, and_from}
-use Rattle.std.proofs.lemmas.List.{append_assoc, drop-take, drop_at, length-drop, length-take, take-append-drop, take-take, take_at}
+use Rattle.std.proofs.lemmas.List.{drop-take, drop_at, take-append-drop, take-take, take_at}
 use Rattle.std.proofs.lemmas.Str.{chars-encodes, encodes-append}
-use Rattle.lsl_value.specs.Text.{IsText}
 
 -- parts of characters are characters
 

@@ -1,11 +1,11 @@
 -- Joined texts, and their bytes.
-use Rattle.std.proofs.Common.{◌≡◌, ◌∙◌, ℕ, ◌+◌, ◌<◌, ◌≤◌, Bool, true, false, cond, ℤ, pos, negsuc, List, [], ◌∷◌, ◌++◌, length, map, drop, get_or, Result, Ok, Err, OnOk, IfOk, sym, ap, refl, subst, arith, length-append}
+use Rattle.std.proofs.Common.{◌≡◌, ◌∙◌, ℕ, ◌+◌, ◌<◌, ◌≤◌, true, cond, ℤ, pos, negsuc, List, [], ◌∷◌, ◌++◌, length, map, drop, get_or, Result, Ok, Err, OnOk, IfOk, sym, ap, refl, arith}
 use Rattle.std.specs.Fmt.{signed_decimal}
 use Rattle.std.specs.Prelude.{codes}
 use Rattle.std.specs.Result.{is_ok}
-use Rattle.std.specs.Str.{encode_utf8_all, IsAscii, IsUtf8}
+use Rattle.std.specs.Str.{encode_utf8_all, IsAscii}
 use Rattle.std.proofs.lemmas.List.{append_assoc, drop_more}
-use Rattle.std.proofs.lemmas.Str.{encode_ascii, encodes-IsAscii, encodes-append, encodes_same, IsUtf8-append}
+use Rattle.std.proofs.lemmas.Str.{encode_ascii, encodes-IsAscii, encodes-append, encodes_same}
 use Rattle.lsl_text.specs.Number.{decimal_of}
 use Rattle.lsl_value.specs.declared.list.Atom.{Atom}
 use Rattle.lsl_value.specs.declared.list.Atom.TheVariants.{Int}

@@ -1,14 +1,14 @@
 -- The laws above the calls' definitions.
-use Rattle.std.proofs.Common.{◌≡◌, ◌∙◌, ℕ, zero, suc, ◌+◌, ◌-◌, ◌<◌, ◌≤◌, min, Bool, true, false, cond, not, ◌&&◌, ◌||◌, nat_lt, nat_le, ℤ, pos, negsuc, ◌+ℤ◌, ◌≤ℤ◌, List, [], ◌∷◌, ◌++◌, length, take, drop, sym, ap, refl, subst, arith, length-append}
+use Rattle.std.proofs.Common.{◌≡◌, ◌∙◌, ℕ, ◌+◌, ◌-◌, ◌<◌, ◌≤◌, min, true, false, not, ℤ, pos, negsuc, ◌+ℤ◌, ◌≤ℤ◌, List, ◌++◌, length, take, drop, sym, ap, refl, subst, arith, length-append}
 use Rattle.std.specs.Int.RustNames.{int_le, int_lt}
 use Rattle.std.specs.List.{slice_range}
 use Rattle.std.proofs.lemmas.Bool.{cond-false}
 use Rattle.std.proofs.lemmas.Bool.Decides.{nat_tests}
 use Rattle.std.proofs.lemmas.Int.{ints}
-use Rattle.std.proofs.lemmas.List.{append-nil, append_assoc, drop_at, length-drop, length-take, take_all, take_at}
+use Rattle.std.proofs.lemmas.List.{append_assoc, drop_at, length-drop, length-take, take_all, take_at}
 use Rattle.lsl_pure.specs.Cuts.{taken, left, inserted, inserted_at}
 use Rattle.lsl_pure.specs.Laws.{place_before, place_behind}
-use Rattle.lsl_pure.specs.Places.{place_of, clamped, in_range, in_range_between, pick, within}
+use Rattle.lsl_pure.specs.Places.{place_of, clamped, in_range, pick, within}
 use Rattle.lsl_pure.proofs.PlaceLemmas.{pick-inside, pick-outside, three_parts}
 use Rattle.lsl_pure.proofs.RangeLemmas.{clamped-negative, inside_range}
 

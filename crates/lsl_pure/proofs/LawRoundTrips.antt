@@ -1,17 +1,16 @@
 -- A list's elements and its text: what is joined is found again.
-use Rattle.std.proofs.Common.{◌≡◌, ◌≢◌, ◌∙◌, ℕ, zero, suc, ◌+◌, ◌-◌, ◌<◌, ◌≤◌, Bool, true, false, cond, not, ◌&&◌, ◌||◌, ◌==◌, nat_lt, nat_eq, List, [], ◌∷◌, ◌++◌, length, map, take, drop, Option, Some, None, sym, ap, refl, subst, inl, inr, arith, length-append}
+use Rattle.std.proofs.Common.{◌≡◌, ◌≢◌, ◌∙◌, ℕ, ◌<◌, true, false, ◌&&◌, ◌==◌, nat_eq, List, [], ◌∷◌, ◌++◌, length, map, Some, None, sym, ap, refl, arith, length-append}
 use Rattle.std.specs.Prelude.{slice_index, codes}
-use Rattle.std.specs.List.{All, starts_with, find, flat_map}
-use Rattle.std.specs.Option.{option_map_or}
+use Rattle.std.specs.List.{All}
 use Rattle.std.proofs.lemmas.Bool.{cond-true, cond-false, ne_eqb, eq-eqb}
 use Rattle.std.proofs.lemmas.Bool.Decides.{nat_tests}
-use Rattle.std.proofs.lemmas.List.{append-nil, append_assoc}
+use Rattle.std.proofs.lemmas.List.{append-nil}
 use Rattle.std.proofs.lemmas.List.Elements.{All-head, All-tail}
 use Rattle.lsl_value.specs.declared.list.Atom.{Atom}
 use Rattle.lsl_value.specs.declared.list.Atom.TheVariants.{Str}
 use Rattle.lsl_pure.specs.Csv.{csv_elements, csv_pieces, depth_behind, into_first, is_outer_comma, without_leading_spaces}
 use Rattle.lsl_pure.specs.Elements.{text_of_atom}
-use Rattle.lsl_pure.specs.Joins.{csv_text, dumped, each_behind, joined}
+use Rattle.lsl_pure.specs.Joins.{csv_text, dumped, each_behind}
 use Rattle.lsl_pure.specs.Parsing.{Cut, behind_character, behind_mark, cut_behind, cut_elements, first_mark, parsed}
 use Rattle.lsl_pure.specs.Laws.{IsPlainCharacter, IsPlainText, IsPlainList, string_element}
 use Rattle.lsl_pure.proofs.CsvLemmas.{csv_pieces-first, csv_strings, into_front, into_front-nil}

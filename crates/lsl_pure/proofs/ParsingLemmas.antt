@@ -1,6 +1,6 @@
 -- A text that is cut from its first byte to its last.
-use Rattle.std.proofs.Common.{◌≡◌, ◌∙◌, ℕ, zero, suc, ◌+◌, ◌*◌, ◌-◌, ◌<◌, ◌≤◌, Bool, true, false, List, [], ◌∷◌, ◌++◌, length, map, take, drop, get_or, Option, Some, None, sym, ap, refl, subst, arith, length-append, nat_eq}
-use Rattle.std.specs.List.{All, flat_map, slice_range, starts_with}
+use Rattle.std.proofs.Common.{◌≡◌, ◌∙◌, ℕ, zero, suc, ◌+◌, ◌-◌, ◌<◌, ◌≤◌, Bool, true, List, [], ◌∷◌, ◌++◌, length, map, take, drop, get_or, Some, None, sym, ap, refl, subst, arith, length-append}
+use Rattle.std.specs.List.{All, slice_range}
 use Rattle.std.specs.Char.{encode_utf8}
 use Rattle.std.specs.Str.{encode_utf8_all, IsUtf8, IsCharBoundary}
 use Rattle.std.proofs.lemmas.Bool.Decides.{nat_tests}
@@ -14,7 +14,7 @@ use Rattle.lsl_pure.specs.Parsing.{Cut, first_mark, behind_character, behind_mar
 use Rattle.lsl_pure.specs.Spelling.{is_lead, spelled_mark, spelled_string, IsOverfull}
 use Rattle.lsl_pure.specs.declared.marks.Mark.{Mark}
 use Rattle.lsl_pure.proofs.ChargeLemmas.{overfull_more}
-use Rattle.lsl_pure.proofs.CutLemmas.{HasCharacter, IsFound, before_cut, cut_behind-none, cut_behind-some, found_is, rest_elements}
+use Rattle.lsl_pure.proofs.CutLemmas.{HasCharacter, before_cut, cut_behind-none, cut_behind-some, found_is, rest_elements}
 use Rattle.lsl_pure.proofs.SpellingLemmas.{one_character, starts_with-Decides}
 
 -- the elements so far, with those of the piece that stands open and of what follows it, are those of the whole

@@ -1,5 +1,5 @@
 -- A range of places between two cuts.
-use Rattle.std.proofs.Common.{◌≡◌, ◌∙◌, ℕ, zero, suc, ◌+◌, ◌<◌, ◌≤◌, min, Bool, true, false, cond, not, ◌&&◌, ◌||◌, nat_lt, nat_le, ℤ, pos, negsuc, ◌+ℤ◌, ◌≤ℤ◌, List, ◌++◌, length, take, drop, Result, Ok, Err, IfOk, sym, ap, refl, subst, arith}
+use Rattle.std.proofs.Common.{◌≡◌, ◌∙◌, ℕ, ◌<◌, ◌≤◌, min, Bool, true, false, cond, not, nat_le, ℤ, pos, negsuc, ◌+ℤ◌, ◌≤ℤ◌, List, ◌++◌, length, take, drop, Result, Ok, Err, IfOk, sym, ap, refl, arith}
 use Rattle.std.specs.Int.RustNames.{int_le}
 use Rattle.std.specs.List.{slice_range}
 use Rattle.std.proofs.lemmas.Bool.{cond-true, cond-false, false≢true}

@@ -1,7 +1,7 @@
 -- Characters and bytes: what lists of characters and their UTF-8 have in common.
-use Rattle.std.proofs.Common.{◌≡◌, ◌∙◌, ℕ, zero, suc, ◌+◌, ◌-◌, ◌*◌, ◌/◌, ◌%◌, ◌<◌, ◌≤◌, min, Bool, true, false, cond, not, ◌||◌, ◌==◌, nat_lt, nat_le, List, [], ◌∷◌, ◌++◌, length, take, drop, sym, ap, refl, subst, inl, inr, arith, length-append, nat_eq, Decides}
+use Rattle.std.proofs.Common.{◌≡◌, ◌∙◌, ℕ, zero, suc, ◌+◌, ◌/◌, ◌%◌, ◌<◌, ◌≤◌, min, true, false, cond, nat_lt, List, [], ◌∷◌, ◌++◌, length, take, drop, sym, ap, refl, inl, inr, arith, length-append, nat_eq, Decides}
 use Rattle.std.specs.Char.{encode_utf8}
-use Rattle.std.specs.List.{starts_with, count_by, sum_by}
+use Rattle.std.specs.List.{starts_with, count_by}
 use Rattle.std.specs.Str.{encode_utf8_all, all_scalars, chars, IsAscii}
 use Rattle.std.proofs.lemmas.Bool.{cases_Bool, cond-true, cond-false, false≢true}
 use Rattle.std.proofs.lemmas.Bool.Decides.{nat_tests, same_from_decides, Decides-like, Decides-eqb}

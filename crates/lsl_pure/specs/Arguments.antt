@@ -7,7 +7,7 @@ use Rattle.lsl_value.specs.declared.names.BuiltinId.TheVariants.{Abs, StringLeng
 use Rattle.lsl_value.specs.declared.tagged.Kind.{Kind}
 use Rattle.lsl_value.specs.declared.tagged.Kind.TheVariants.{Int as IntKind, Str as StrKind, List as ListKind}
 use Rattle.lsl_value.specs.declared.tagged.Value.{Value}
-use Rattle.lsl_value.specs.declared.tagged.Value.TheVariants.{Int, Str, Key, List as ListValue}
+use Rattle.lsl_value.specs.declared.tagged.Value.TheVariants.{Int, Str, List as ListValue}
 
 -- the kinds of a pure call's arguments; none for any other call
 abbrev pub parameters_of : BuiltinId → Option (List Kind)

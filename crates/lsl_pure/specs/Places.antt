@@ -1,5 +1,5 @@
 -- Places of a text or a list, and ranges of places.
-use Rattle.std.specs.Prelude.{ℕ, zero, suc, min, ℤ, pos, negsuc, ◌+ℤ◌, nat_lt, nat_le, int_lt, int_le, Bool, ◌&&◌, ◌||◌, if◌then◌else◌, List, [], ◌∷◌, length}
+use Rattle.std.specs.Prelude.{ℕ, zero, suc, min, ℤ, pos, negsuc, ◌+ℤ◌, nat_lt, nat_le, int_lt, int_le, Bool, ◌&&◌, ◌||◌, if◌then◌else◌, List, [], ◌∷◌}
 
 -- a negative place counts from the end of n places
 abbrev pub place_of : ℕ → ℤ → ℤ

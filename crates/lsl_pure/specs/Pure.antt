@@ -1,5 +1,5 @@
 -- The value of each pure call.
-use Rattle.std.specs.Prelude.{ℕ, ℤ, pos, Bool, true, false, List, length, nat_eq, unsigned_abs}
+use Rattle.std.specs.Prelude.{ℤ, pos, true, false, List, length, nat_eq, unsigned_abs}
 use Rattle.std.specs.Int.{w32, cast_signed}
 use Rattle.lsl_value.specs.Equality.{same_atom}
 use Rattle.lsl_value.specs.declared.names.BuiltinId.{BuiltinId}

@@ -1,4 +1,4 @@
-use Rattle.std.proofs.Common.{◌<◌, arith}
+use Rattle.std.proofs.Common.{arith}
 use Rattle.lsl_pure.proofs.ChargeLemmas.{length-le-charge}
 use Rattle.lsl_pure.proofs.bounds.push_bounded.Goals as goal
 

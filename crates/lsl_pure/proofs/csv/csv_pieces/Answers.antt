@@ -1,6 +1,6 @@
-use Rattle.std.proofs.Common.{◌≡◌, ◌∙◌, ◌+◌, get_or, refl, sym}
+use Rattle.std.proofs.Common.{get_or, refl, sym}
 use Rattle.std.proofs.lemmas.Result.{err_from_is_err_and}
-use Rattle.lsl_pure.proofs.CsvLemmas.{IsComma, csv_piece-valid, overfull-csv, splitting-comma, splitting-end, splitting-inside, splitting-start}
+use Rattle.lsl_pure.proofs.CsvLemmas.{IsComma, csv_piece-valid, overfull-csv, splitting-comma, splitting-inside, splitting-start}
 use Rattle.lsl_pure.proofs.csv.csv_pieces.Goals as goal
 use Rattle.lsl_pure.proofs.csv.csv_pieces.Goals.{then-is_outer_comma+in_ok-push_csv_piece, else-is_outer_comma}
 

@@ -1,4 +1,4 @@
-use Rattle.std.proofs.Common.{◌≡◌, ◌∙◌, sym}
+use Rattle.std.proofs.Common.{◌∙◌, sym}
 use Rattle.lsl_pure.specs.Csv.{csv_elements}
 use Rattle.lsl_pure.proofs.ChargeLemmas.{IfErr-strings, IfOk-strings}
 use Rattle.lsl_pure.proofs.CsvLemmas.{csv-empty, csv-spelled}

@@ -1,4 +1,4 @@
-use Rattle.std.proofs.Common.{◌≡◌, ◌∙◌, ◌-◌, sym, ap, take, length, get_or}
+use Rattle.std.proofs.Common.{◌∙◌, ◌-◌, sym, ap, take, length, get_or}
 use Rattle.lsl_pure.specs.Cuts.{without_tail}
 use Rattle.lsl_pure.proofs.TrimLemmas.{last_split, without_tail-blank, without_tail-kept}
 use Rattle.lsl_pure.proofs.cuts.before_blanks.Goals as goal

@@ -1,8 +1,8 @@
-use Rattle.std.proofs.Common.{◌≡◌, ◌∙◌, ◌<◌, ℤ, FitsSigned, to_z, of_z, w32, w64, rules, arith, ap, length, ◌++◌}
+use Rattle.std.proofs.Common.{◌≡◌, ◌∙◌, FitsSigned, w32, w64, rules, arith, ap, length, ◌++◌}
 use Rattle.std.proofs.lemmas.Int.{ints, to_z-of_z}
 use Rattle.std.proofs.lemmas.List.{take_rest}
 use Rattle.lsl_pure.proofs.ByteLemmas.{length-inserted, inserted-spelled, inserted-scalars, IsUtf8-spelled, chars-spelled}
-use Rattle.lsl_pure.specs.Cuts.{inserted, inserted_at}
+use Rattle.lsl_pure.specs.Cuts.{inserted}
 use Rattle.lsl_pure.specs.Places.{clamped}
 use Rattle.lsl_pure.proofs.cuts.insert_string.Goals as goal
 

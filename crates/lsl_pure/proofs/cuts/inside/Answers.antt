@@ -1,6 +1,5 @@
-use Rattle.std.proofs.Common.{◌≡◌, ◌∙◌, List, ℕ, Result, Ok, Err, IfOk, ap, sym}
+use Rattle.std.proofs.Common.{sym}
 use Rattle.std.specs.List.{slice_range}
-use Rattle.std.specs.Str.{encode_utf8_all, chars}
 use Rattle.lsl_pure.proofs.ByteLemmas.{bytes_inside, scalars-inside, IsUtf8-spelled, chars-spelled}
 use Rattle.lsl_pure.proofs.RangeLemmas.{IfOk-same}
 use Rattle.lsl_pure.proofs.cuts.inside.Goals as goal

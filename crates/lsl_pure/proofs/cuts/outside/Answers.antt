@@ -1,5 +1,4 @@
-use Rattle.std.proofs.Common.{◌≡◌, ◌≤◌, ◌++◌, ◌∙◌, List, ℕ, ap, sym, take, drop, length, arith, length-append}
-use Rattle.std.specs.Str.{encode_utf8_all, chars}
+use Rattle.std.proofs.Common.{◌++◌, ◌∙◌, ℕ, ap, take, drop, length, arith, length-append}
 use Rattle.std.proofs.lemmas.List.{length-take, length-drop, take_rest}
 use Rattle.lsl_pure.proofs.ByteLemmas.{outside-spelled, outside-scalars, IsUtf8-spelled, chars-spelled}
 use Rattle.lsl_pure.proofs.cuts.outside.Goals as goal

@@ -1,6 +1,6 @@
-use Rattle.std.proofs.Common.{◌≡◌, ◌∙◌, ◌≤◌, ap, sym, length, to_z, of_z, w32, arith}
+use Rattle.std.proofs.Common.{◌∙◌, ap, sym, length, to_z, of_z, w32, arith}
 use Rattle.std.proofs.lemmas.Int.{to_z-of_z}
-use Rattle.lsl_pure.specs.Cuts.{trimmed, trims_head, trims_tail}
+use Rattle.lsl_pure.specs.Cuts.{trimmed}
 use Rattle.lsl_pure.proofs.ByteLemmas.{IsUtf8-spelled, chars-spelled}
 use Rattle.lsl_pure.proofs.RangeLemmas.{IfOk-same}
 use Rattle.lsl_pure.proofs.TrimLemmas.{trimmed-short, trimmed-spelled, scalars-trimmed}

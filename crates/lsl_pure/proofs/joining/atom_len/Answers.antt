@@ -1,4 +1,4 @@
-use Rattle.std.proofs.Common.{◌≡◌, ◌∙◌, ℤ, ap, length, rules, to_z, of_z, w32, FitsSigned}
+use Rattle.std.proofs.Common.{◌∙◌, ap, length, rules, w32, FitsSigned}
 use Rattle.std.specs.Fmt.{signed_decimal}
 use Rattle.std.proofs.lemmas.Int.{to_z-of_z}
 use Rattle.lsl_pure.proofs.JoinLemmas.{spelled_integer}

@@ -1,9 +1,8 @@
-use Rattle.std.proofs.Common.{◌≡◌, ◌∙◌, List, ℕ, ap, subst, rules, to_z, of_z, w32, FitsSigned}
+use Rattle.std.proofs.Common.{◌∙◌, List, ℕ, ap, subst, rules, w32, FitsSigned}
 use Rattle.std.specs.Fmt.{signed_decimal}
 use Rattle.std.specs.Str.{IsUtf8}
 use Rattle.std.proofs.lemmas.Int.{to_z-of_z}
 use Rattle.std.proofs.lemmas.Str.{IsUtf8-from_ascii}
-use Rattle.lsl_pure.specs.Spelling.{spelled_atom}
 use Rattle.lsl_pure.proofs.JoinLemmas.{spelled_integer, OnOk-appended}
 use Rattle.lsl_pure.proofs.joining.push_atom.Goals as goal
 

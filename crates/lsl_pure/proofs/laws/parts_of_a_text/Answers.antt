@@ -1,5 +1,3 @@
-use Rattle.std.proofs.Common.{w32}
-use Rattle.std.proofs.lemmas.Int.{to_z-of_z}
 use Rattle.lsl_pure.proofs.LawLemmas.{parts-deleted, parts-whole}
 use Rattle.lsl_pure.proofs.laws.parts_of_a_text.Goals as goal
 

@@ -1,4 +1,4 @@
-use Rattle.std.proofs.Common.{◌≡◌, ◌<◌, ◌≤◌, ◌∙◌, length, ap, arith, length-append}
+use Rattle.std.proofs.Common.{length, ap, arith, length-append}
 use Rattle.std.proofs.lemmas.List.{length-take, length-drop}
 use Rattle.lsl_value.specs.declared.list.Atom.{Atom}
 use Rattle.lsl_pure.proofs.ChargeLemmas.{length-le-charge, charge-inserted}

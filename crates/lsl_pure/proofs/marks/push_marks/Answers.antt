@@ -1,5 +1,5 @@
-use Rattle.std.proofs.Common.{◌≡◌, ◌∙◌, sym, ap, length, ◌==◌}
-use Rattle.lsl_pure.proofs.MarkLemmas.{marks_among-empty, marks_among-push}
+use Rattle.std.proofs.Common.{◌∙◌, sym, ap, length, ◌==◌}
+use Rattle.lsl_pure.proofs.MarkLemmas.{marks_among-empty}
 use Rattle.lsl_pure.proofs.marks.push_marks.Goals as goal
 
 pub atoms-preserved : goal.atoms-preserved

@@ -1,10 +1,9 @@
-use Rattle.std.proofs.Common.{◌≡◌, ◌∙◌, ◌+◌, ◌<◌, Some, None, map, drop, length, ap, sym, arith}
-use Rattle.std.specs.Str.{encode_utf8_all}
+use Rattle.std.proofs.Common.{◌≡◌, ◌∙◌, ◌+◌, Some, map, drop, length, ap, sym, arith}
 use Rattle.std.proofs.lemmas.List.{take_rest}
 use Rattle.std.proofs.lemmas.Result.{err_from_is_err_and}
 use Rattle.lsl_pure.specs.Parsing.{first_mark}
 use Rattle.lsl_pure.specs.Spelling.{spelled_mark}
-use Rattle.lsl_pure.proofs.ParsingLemmas.{cutting-end, cutting-none, cutting-some, overfull-mark, overfull-piece, piece-valid, stands_from}
+use Rattle.lsl_pure.proofs.ParsingLemmas.{cutting-none, cutting-some, overfull-mark, overfull-piece, piece-valid, stands_from}
 use Rattle.lsl_pure.proofs.parsing.cut.Goals as goal
 
 pub places-preserved-in-None : goal.places-preserved-in-None

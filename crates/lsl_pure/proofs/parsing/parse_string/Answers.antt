@@ -1,9 +1,7 @@
-use Rattle.std.proofs.Common.{◌≡◌, ◌∙◌, ◌<◌, ℕ, List, length, map, ap, subst, sym}
+use Rattle.std.proofs.Common.{◌∙◌, ◌<◌, List, length, subst, sym}
 use Rattle.std.specs.List.{All}
-use Rattle.lsl_pure.specs.Parsing.{cut_elements, cut_of, marks_of, parsed}
-use Rattle.lsl_pure.specs.Spelling.{spelled_mark, spelled_string}
+use Rattle.lsl_pure.specs.Parsing.{marks_of, parsed}
 use Rattle.lsl_pure.specs.declared.marks.Mark.{Mark}
-use Rattle.lsl_pure.proofs.ByteLemmas.{IsUtf8-spelled}
 use Rattle.lsl_pure.proofs.ChargeLemmas.{IfErr-strings, IfOk-strings}
 use Rattle.lsl_pure.proofs.CutLemmas.{parsed-spelled}
 use Rattle.lsl_pure.proofs.MarkLemmas.{marks_of-have}

@@ -1,7 +1,6 @@
-use Rattle.std.proofs.Common.{◌≡◌, ◌∙◌, ◌<◌, ◌∷◌, [], ◌++◌, true, cond, List, map, ap, sym}
+use Rattle.std.proofs.Common.{◌≡◌, ◌∙◌, ◌<◌, ◌∷◌, [], ◌++◌, cond, map, ap, sym}
 use Rattle.std.specs.Str.{encode_utf8_all}
 use Rattle.lsl_value.specs.Atoms.{list_charge_of}
-use Rattle.lsl_value.specs.declared.list.Atom.{Atom}
 use Rattle.lsl_value.specs.declared.list.Atom.TheVariants.{Str}
 use Rattle.lsl_pure.specs.Parsing.{mark_elements}
 use Rattle.lsl_pure.specs.Spelling.{IsOverfull, spelled_mark, spelled_string}

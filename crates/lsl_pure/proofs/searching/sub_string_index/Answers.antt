@@ -1,4 +1,4 @@
-use Rattle.std.proofs.Common.{◌≡◌, ◌<◌, ◌≤◌, ◌^◌, length, ap, take, arith}
+use Rattle.std.proofs.Common.{◌<◌, ◌^◌, length, ap, take, arith}
 use Rattle.std.proofs.lemmas.List.{length-take}
 use Rattle.std.proofs.lemmas.List.Sums.{count_by-le-length}
 use Rattle.lsl_pure.specs.Spelling.{is_lead}

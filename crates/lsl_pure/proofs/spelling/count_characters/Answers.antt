@@ -1,4 +1,4 @@
-use Rattle.std.proofs.Common.{◌∙◌, ap, length}
+use Rattle.std.proofs.Common.{◌∙◌, ap}
 use Rattle.std.specs.List.{count_by}
 use Rattle.lsl_pure.specs.Spelling.{is_lead}
 use Rattle.lsl_pure.proofs.SpellingLemmas.{count_by-encodes}

@@ -1,6 +1,5 @@
 use Rattle.std.proofs.Common.{◌∙◌, ◌≤◌, ℕ, ap, subst, sym, length}
-use Rattle.std.specs.Bool.{OnTrue}
-use Rattle.std.specs.Str.{encode_utf8_all, IsAscii}
+use Rattle.std.specs.Str.{encode_utf8_all}
 use Rattle.lsl_pure.specs.Spelling.{front_len}
 use Rattle.lsl_pure.proofs.SpellingLemmas.{ascii_offset, front_len-encodes, length-encodes-take}
 use Rattle.lsl_pure.proofs.spelling.offset.Goals as goal

@@ -1,4 +1,4 @@
-use Rattle.std.proofs.Common.{◌≤◌, arith}
+use Rattle.std.proofs.Common.{arith}
 use Rattle.lsl_pure.proofs.ByteLemmas.{offsets-ordered}
 use Rattle.lsl_pure.proofs.spelling.offsets.Goals as goal
 

@@ -1,7 +1,5 @@
-use Rattle.std.proofs.Common.{◌≡◌, ◌∙◌, ℤ, pos, ◌+ℤ◌, true, false, ap, sym, rules, to_z, of_z, w32, w64, FitsSigned, arith}
-use Rattle.std.specs.Int.RustNames.{int_le}
+use Rattle.std.proofs.Common.{pos, ◌+ℤ◌, rules, w32, w64, FitsSigned}
 use Rattle.std.proofs.lemmas.Int.{to_z-of_z, ints}
-use Rattle.lsl_pure.specs.Places.{place_of, clamped}
 use Rattle.lsl_pure.proofs.RangeLemmas.{range_inside, range_outside}
 use Rattle.lsl_pure.proofs.ranges.Range.new.Goals as goal
 
