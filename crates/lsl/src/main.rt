@@ -39,7 +39,52 @@ fn run<R: Files + Print + Eprint + AllocGlobal>(rt: &R, words: &[String]) -> Sta
     let alloc: Global = rt.alloc();
     let status = lsl(alloc, words, &mut shelf, &mut sink, &mut link);
     if status == Status::Usage {
-        let _ = eprintln!(rt; "usage: lsl once FILE");
+        let _ = say_usage(rt);
     }
     status
+}
+
+/// Says in one line how the program is called, with the commands that are built.
+fn say_usage<R: Eprint>(rt: &R) -> io::Result<()> {
+    rt.eprintln("usage: lsl once FILE")
+}
+
+#[cfg(test)]
+mod tests {
+    use super::*;
+    use std::cell::RefCell;
+    use std::fmt::Display;
+    use std::test::Fail;
+
+    /// What was written to standard error.
+    #[derive(Drop)]
+    struct Page {
+        alloc: Global,
+        text: RefCell<String>,
+    }
+
+    impl Eprint for Page {
+        fn eprint<D: Display + Drop>(&self, value: D) -> io::Result<()> {
+            let text = value.to_string(self.alloc)?;
+            let _ = self.text.try_replace(text);
+            Ok(())
+        }
+
+        fn eprintln<D: Display + Drop>(&self, value: D) -> io::Result<()> {
+            self.eprint(value)
+        }
+    }
+
+    #[test]
+    fn the_line_of_usage_names_the_commands(rt: HostRuntime) -> Result<(), Fail> {
+        let page = Page {
+            alloc: rt.alloc(),
+            text: RefCell::new(String::new(rt.alloc())),
+        };
+        say_usage(&page)?;
+        let said = page.text.into_inner();
+        assert!(rt; said.as_str().starts_with("usage: lsl"));
+        assert!(rt; said.as_str().contains("once FILE"));
+        Ok(())
+    }
 }

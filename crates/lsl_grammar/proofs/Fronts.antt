@@ -1,6 +1,6 @@
 -- What begins what begins a text begins one too.
-use Rattle.std.proofs.Common.{◌≡◌, ℕ, zero, suc, true, List, [], ◌∷◌, ◌++◌, ◌⊎◌, inl, inr, ⊎_elim, refl, sym, ap, ◌∙◌, subst, append_assoc}
-use Rattle.lsl_grammar.specs.Language.{among, Lang, ret, one_of, ◌>>=◌ as ◌>=>◌, ◌∣◌, never, Rounds, rounds}
+use Rattle.std.proofs.Common.{◌≡◌, ℕ, zero, suc, List, [], ◌∷◌, ◌++◌, ◌⊎◌, inl, inr, ⊎_elim, refl, sym, ap, ◌∙◌, subst, append_assoc}
+use Rattle.lsl_grammar.specs.Language.{Lang, ret, one_of, ◌>>=◌ as ◌>=>◌, ◌∣◌, never, Rounds, rounds}
 
 pub record Fronts {Tok T : Type 0} (L : Lang Tok T) : Type 0 where
   pub within : (u : List Tok) (x : T) → L.whole u x → L.opens u

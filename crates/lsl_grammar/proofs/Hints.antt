@@ -4,9 +4,9 @@ use Rattle.std.proofs.Common.{◌≡◌, ℕ, zero, suc, ◌≤◌, Bool, true, 
 use Rattle.std.proofs.lemmas.List.{append_cancel_right}
 use Rattle.lsl_grammar.specs.declared.Why.{Why}
 use Rattle.lsl_grammar.specs.declared.Why.TheVariants.{Unexpected, OperandDue, TooDeep}
-use Rattle.lsl_grammar.specs.Language.{among, Lang, one_of, ◌>>=◌ as ◌>=>◌, ◌∣◌, Rounds, rounds}
+use Rattle.lsl_grammar.specs.Language.{among, Lang, one_of, ◌>>=◌ as ◌>=>◌, ◌∣◌, rounds}
 use Rattle.lsl_grammar.specs.Reading.{Read, Reader, ◌>>=◌, begins, ret_r, one_r, then_r, or_r, deep_stop, deep_r, turns_r, rounds_r}
-use Rattle.lsl_grammar.proofs.ReadsLanguage.{Sub, Apart, Stops, Reads, stops_by, cond_true, cond_false, not_both, ok_rest, err_rest, err_parts}
+use Rattle.lsl_grammar.proofs.ReadsLanguage.{Apart, Stops, Reads, stops_by, cond_true, cond_false, err_rest, err_parts}
 use Rattle.lsl_grammar.proofs.Widening.{Mono}
 
 module _ {Tok : Type 0} (kind : Tok → ℕ) (probe : ℕ) where
@@ -87,7 +87,7 @@ module _ {Tok : Type 0} (kind : Tok → ℕ) (probe : ℕ) where
       go (x ∷ ts) rest w true t e =
           let is : ◌≡◌ {A = Why × List Tok} (TooDeep, x ∷ ts) (w, rest) = sym (cond_true (among (kind x) ks) (TooDeep, x ∷ ts) (why, x ∷ ts) t) ∙ e in
           let z : (v : Why × List Tok) → ◌≡◌ {A = Why × List Tok} (TooDeep, x ∷ ts) v → (u : List Tok) × (x ∷ ts ≡ u ++ v.1) × Hint M (deep_r kind why ks) v.0 u v.1 =
-            λ v f. subst (λ (y : Why × List Tok). (u : List Tok) × (x ∷ ts ≡ u ++ y.1) × Hint M (deep_r kind why ks) y.0 u y.1) f ([], refl, covers x t) in
+          λ v f. subst (λ (y : Why × List Tok). (u : List Tok) × (x ∷ ts ≡ u ++ y.1) × Hint M (deep_r kind why ks) y.0 u y.1) f ([], refl, covers x t) in
           z (w, rest) is
       go ts rest w false t e =
           let is : ◌≡◌ {A = Why × List Tok} (why, ts) (w, rest) = sym (cond_false (begins kind ks ts) (TooDeep, ts) (why, ts) t) ∙ e in

@@ -1,6 +1,5 @@
 -- A loop over tokens reads rounds: one round, and then the rounds that are left.
-use Rattle.std.proofs.Common.{◌≡◌, ℕ, zero, suc, ◌<◌, ◌≤◌, true, false, cond, List, [], ◌∷◌, length, Ok, Err, refl, ap, ◌∙◌, arith}
-use Rattle.lsl_grammar.specs.declared.Why.{Why}
+use Rattle.std.proofs.Common.{◌≡◌, ℕ, zero, suc, ◌<◌, ◌≤◌, true, cond, List, [], ◌∷◌, length, Ok, Err, refl, ap, ◌∙◌, arith}
 use Rattle.lsl_grammar.specs.Language.{among}
 use Rattle.lsl_grammar.specs.Reading.{Read, Reader, ◌>>=◌, begins, turns_r, rounds_r}
 use Rattle.lsl_grammar.proofs.ReadsLanguage.{cond_true}

@@ -1,15 +1,15 @@
 -- Two alternatives that two tokens tell apart: the first begins with a token of some kinds and one of others, and in the second
 -- no text goes on so behind such a token, which is a text of the second by itself.
-use Rattle.std.proofs.Common.{◌≡◌, ℕ, zero, suc, ◌<◌, ◌≤◌, Bool, true, false, cond, List, [], ◌∷◌, ◌++◌, length, Ok, Err, ◌⊎◌, inl, inr, ⊎_elim, refl, sym, ap, ◌∙◌, subst, arith, append_assoc, length-append, append-nil}
+use Rattle.std.proofs.Common.{◌≡◌, ℕ, Bool, true, false, cond, List, [], ◌∷◌, ◌++◌, length, Ok, Err, inl, inr, ⊎_elim, refl, sym, ap, ◌∙◌, subst, arith, length-append, append-nil}
 use Rattle.lsl_grammar.specs.declared.Why.{Why}
 use Rattle.lsl_grammar.specs.declared.Why.TheVariants.{Unexpected, OperandDue, TooDeep}
 use Rattle.lsl_grammar.specs.Language.{among, Lang, one_of, ◌>>=◌ as ◌>=>◌, ◌∣◌}
-use Rattle.lsl_grammar.specs.Reading.{Read, Reader, ◌>>=◌, begins, one_r, then_r, pair_next, pair_r}
-use Rattle.lsl_grammar.proofs.ReadsLanguage.{Sub, Apart, Ends, Past, Stops, Reads, ends_of, stops_by, stops_sub, cond_true, cond_false, err_parts}
+use Rattle.lsl_grammar.specs.Reading.{Reader, ◌>>=◌, begins, one_r, then_r, pair_next, pair_r}
+use Rattle.lsl_grammar.proofs.ReadsLanguage.{Sub, Apart, Ends, Past, Stops, ends_of, stops_by, stops_sub, cond_true, cond_false}
 use Rattle.lsl_grammar.proofs.Fronts.{or_fronts}
 use Rattle.lsl_grammar.proofs.Widening.{or_mono, test_refines}
-use Rattle.lsl_grammar.proofs.Hints.{Hint, Tells, Eats, Suits}
-use Rattle.lsl_grammar.proofs.Rule.{sub_left, sub_right, sub_by, apart_by, disjoint, subset, or_full, Solid, solid_sign, no_ends}
+use Rattle.lsl_grammar.proofs.Hints.{Hint, Tells}
+use Rattle.lsl_grammar.proofs.Rule.{sub_left, sub_right, or_full, Solid, solid_sign}
 
 module _ {Tok T : Type 0} (kind : Tok → ℕ) (probe : ℕ) (K J : Tok → Lang Tok T) (k k' : Tok → Reader Tok T) (M M' : Lang Tok T) (q q' : Reader Tok T) (ks ls f c : List ℕ)
     (first : (t : Tok) → Solid kind probe (K t) (J t) (k t) (k' t) ls (ls ++ c))

@@ -1,15 +1,15 @@
 -- A rule of a grammar with its reader, at narrow and at wide limits: all that they owe each other in one record, and each way
 -- to join rules.
-use Rattle.std.proofs.Common.{◌≡◌, ℕ, zero, suc, ◌+◌, ◌<◌, ◌≤◌, ◌==◌, Bool, true, false, cond, ◌||◌, ◌&&◌, not, List, [], ◌∷◌, ◌++◌, length, Ok, Err, ◌⊎◌, inl, inr, ⊎_elim, refl, sym, ap, ◌∙◌, subst, arith, append_assoc, length-append}
+use Rattle.std.proofs.Common.{◌≡◌, ℕ, ◌==◌, Bool, true, false, cond, ◌||◌, ◌&&◌, not, List, [], ◌∷◌, ◌++◌, length, Ok, Err, ◌⊎◌, inl, inr, ⊎_elim, refl, sym, ap, ◌∙◌, subst, arith, length-append}
 use Rattle.std.proofs.lemmas.Bool.{eqb-true, or_left, or_right}
 use Rattle.lsl_grammar.specs.declared.Why.{Why}
-use Rattle.lsl_grammar.specs.declared.Why.TheVariants.{Unexpected, OperandDue, TooDeep}
+use Rattle.lsl_grammar.specs.declared.Why.TheVariants.{Unexpected, TooDeep}
 use Rattle.lsl_grammar.specs.Language.{among, Lang, ret, one_of, ◌>>=◌ as ◌>=>◌, ◌∣◌, never, rounds}
-use Rattle.lsl_grammar.specs.Reading.{Read, Reader, ◌>>=◌, begins, ret_r, one_r, then_r, or_r, deep_stop, deep_r, turns_r, rounds_r}
-use Rattle.lsl_grammar.proofs.ReadsLanguage.{Sub, Apart, Ends, Past, Stops, Reads, ends_of, reads_as, stops_by, cond_true, cond_false, ok_rest, err_rest, err_parts, ret_reads, one_reads, wider, then_reads, or_reads, deep_reads, rounds_reads}
+use Rattle.lsl_grammar.specs.Reading.{Read, Reader, ◌>>=◌, begins, ret_r, one_r, then_r, or_r, deep_stop, deep_r, rounds_r}
+use Rattle.lsl_grammar.proofs.ReadsLanguage.{Sub, Apart, Ends, Reads, reads_as, cond_true, cond_false, err_parts, ret_reads, one_reads, wider, then_reads, or_reads, deep_reads, rounds_reads}
 use Rattle.lsl_grammar.proofs.Fronts.{Fronts, ret_fronts, one_fronts, then_fronts, or_fronts, never_fronts, rounds_fronts}
 use Rattle.lsl_grammar.proofs.Widening.{Mono, same_mono, never_mono, then_mono, or_mono, rounds_mono, Refines, same_refines, refines_as, then_refines, or_refines, rounds_refines, deep_refines}
-use Rattle.lsl_grammar.proofs.Hints.{Hint, Tells, Eats, Suits, ret_tells, one_tells, tells_as, then_tells, or_tells, rounds_tells, deep_tells}
+use Rattle.lsl_grammar.proofs.Hints.{Tells, Eats, Suits, ret_tells, one_tells, tells_as, then_tells, or_tells, rounds_tells, deep_tells}
 
 -- Lists of numbers of kinds, by tests that compute
 

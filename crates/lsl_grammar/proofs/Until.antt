@@ -1,13 +1,12 @@
 -- Rounds up to a closing sign, where each token but that sign begins a round: what is no round is refused by the round itself.
-use Rattle.std.proofs.Common.{◌≡◌, ℕ, zero, suc, ◌<◌, ◌≤◌, Bool, true, false, cond, List, [], ◌∷◌, ◌++◌, length, Ok, Err, inl, inr, refl, sym, ap, ◌∙◌, subst, arith, append_assoc, length-append, append-nil}
+use Rattle.std.proofs.Common.{◌≡◌, ℕ, zero, suc, ◌<◌, ◌≤◌, Bool, true, false, cond, List, [], ◌∷◌, ◌++◌, length, Ok, Err, inl, refl, sym, ap, ◌∙◌, subst, arith, length-append}
 use Rattle.lsl_grammar.specs.declared.Why.{Why}
 use Rattle.lsl_grammar.specs.declared.Why.TheVariants.{Unexpected}
 use Rattle.lsl_grammar.specs.Language.{among, Lang, ret, one_of, ◌>>=◌ as ◌>=>◌, rounds}
 use Rattle.lsl_grammar.specs.Reading.{Read, Reader, ◌>>=◌, begins, ret_r, one_r, then_r, turns_r, rounds_r}
-use Rattle.lsl_grammar.proofs.ReadsLanguage.{Sub, Apart, Reads, cond_true, ok_rest, err_rest, err_parts, rounds_reads}
-use Rattle.lsl_grammar.proofs.Widening.{Refines}
-use Rattle.lsl_grammar.proofs.Hints.{Hint, Tells, Suits, front_hint}
-use Rattle.lsl_grammar.proofs.Rule.{Filled, Rule, sign_full, sign_rule, ret_rule, then_rule, rounds_rule}
+use Rattle.lsl_grammar.proofs.ReadsLanguage.{Sub, Apart, Reads, cond_true, ok_rest, err_parts}
+use Rattle.lsl_grammar.proofs.Hints.{Hint, Tells, front_hint}
+use Rattle.lsl_grammar.proofs.Rule.{Filled, Rule, sign_full, sign_rule, ret_rule, rounds_rule}
 use Rattle.lsl_grammar.proofs.ReadsLanguage.{then_reads}
 use Rattle.lsl_grammar.proofs.Fronts.{then_fronts}
 use Rattle.lsl_grammar.proofs.Widening.{then_mono, then_refines}

@@ -1,9 +1,9 @@
 -- Wider limits: what was a text still is one, and what was read is read again, but where a token stood too deep.
-use Rattle.std.proofs.Common.{◌≡◌, ℕ, zero, suc, Bool, true, false, cond, List, [], ◌∷◌, ◌++◌, length, Ok, Err, ◌⊎◌, inl, inr, ⊎_elim, refl, sym, ap, ◌∙◌, subst}
+use Rattle.std.proofs.Common.{◌≡◌, ℕ, zero, suc, Bool, true, false, cond, List, [], length, Ok, Err, ◌⊎◌, inl, inr, ⊎_elim, refl, sym, ap, ◌∙◌, subst}
 use Rattle.lsl_grammar.specs.declared.Why.{Why}
 use Rattle.lsl_grammar.specs.declared.Why.TheVariants.{TooDeep}
 use Rattle.lsl_grammar.specs.Language.{Lang, ◌>>=◌ as ◌>=>◌, ◌∣◌, never, Rounds, rounds}
-use Rattle.lsl_grammar.specs.Reading.{Read, Reader, ◌>>=◌, begins, then_r, or_r, deep_stop, deep_r, turns_r, rounds_r}
+use Rattle.lsl_grammar.specs.Reading.{Read, Reader, ◌>>=◌, begins, then_r, or_r, deep_r, turns_r, rounds_r}
 use Rattle.lsl_grammar.proofs.ReadsLanguage.{cond_true, cond_false}
 
 -- what the first has, the second has

@@ -54,9 +54,11 @@ then_munches p q m = record { munched = λ ts rest y e o. let (x, e1, e2) = chai
 
 -- what is made of a statement ends as it does
 made_munches : (p : Reads Statement) (g : Statement → Statement) → ((x : Statement) → ends_open (g x) ≡ ends_open x) → Munches p → Munches (then_r p (λ x. ret_r (g x)))
-made_munches p g same m = record { munched = λ ts rest y e o.
-    let (x, e1, e2) = chain (p ts) (λ x. ret_r (g x.0) x.1) (y, rest) e in
-    ap else_next (sym (ok_rest (g x.0) y x.1 rest e2)) ∙ m.munched ts x.1 x.0 e1 (sym (same x.0) ∙ ap ends_open (ok_value (g x.0) y x.1 rest e2) ∙ o) }
+made_munches p g same m = record {
+  munched = λ ts rest y e o.
+      let (x, e1, e2) = chain (p ts) (λ x. ret_r (g x.0) x.1) (y, rest) e in
+      ap else_next (sym (ok_rest (g x.0) y x.1 rest e2)) ∙ m.munched ts x.1 x.0 e1 (sym (same x.0) ∙ ap ends_open (ok_value (g x.0) y x.1 rest e2) ∙ o);
+}
 
 or_munches : (ks : List TokenKind) (p q : Reads Statement) → Munches p → Munches q → Munches (where_r ks p q)
 or_munches ks p q m n = record { munched = λ ts rest x e o. go ts rest x (begins number (codes ks) ts) e o }

@@ -299,9 +299,9 @@ module _ (limit : Option ℕ) (d D : ℕ) (lt : d < D) (b : Below limit d D) whe
   for_whole = sign_whole (ForWord ∷ []) (codes (ParenOpen ∷ [])) _ _ _ _ refl (λ start. sign_rule number probe Unexpected (codes (ParenOpen ∷ [])) (codes (Semicolon ∷ []) ++ codes heads) tail_of _ _ _ _ refl (λ left.
       part_rule number probe (codes heads) tail_of _ _ _ _ (list_up_to Semicolon refl refl refl)
       (λ before. part_rule number probe (codes (Semicolon ∷ [])) tail_of _ _ _ _ e
-        (λ test. sign_rule number probe Unexpected (codes (Semicolon ∷ [])) (codes (ParenClose ∷ []) ++ codes heads) tail_of _ _ _ _ refl (λ middle.
-          part_rule number probe (codes statement_heads) tail_of _ _ _ _ (list_up_to ParenClose refl refl refl) (λ step. made_rule (λ inner. Repeat start.span before test step inner) (λ x. refl)) (λ step. then_full _ _ the_body.full) refl))
-        (λ test. sign_full number probe (codes (Semicolon ∷ [])) _) refl)
+      (λ test. sign_rule number probe Unexpected (codes (Semicolon ∷ [])) (codes (ParenClose ∷ []) ++ codes heads) tail_of _ _ _ _ refl (λ middle.
+      part_rule number probe (codes statement_heads) tail_of _ _ _ _ (list_up_to ParenClose refl refl refl) (λ step. made_rule (λ inner. Repeat start.span before test step inner) (λ x. refl)) (λ step. then_full _ _ the_body.full) refl))
+      (λ test. sign_full number probe (codes (Semicolon ∷ [])) _) refl)
       (λ before. then_full _ _ e.full) refl))
 
   jump_whole : Whole jump_rule jump_rule jump_r jump_r (codes (JumpWord ∷ []))

@@ -84,15 +84,15 @@ abbrev pub group_r : Room_r → Reads Expression
 group_r room = construct_r (ParenOpen ∷ []) room (λ expr unary. do
   start ← sign_r ParenOpen
   where_r types
-    (do
-      kind ← any_r types
-      end ← sign_r ParenClose
-      operand ← unary
-      ret_r (Converted start.span (type_of kind.sort) operand))
-    (do
-      inner ← expr
-      end ← sign_r ParenClose
-      ret_r (Grouped start.span inner)))
+      (do
+        kind ← any_r types
+        end ← sign_r ParenClose
+        operand ← unary
+        ret_r (Converted start.span (type_of kind.sort) operand))
+      (do
+        inner ← expr
+        end ← sign_r ParenClose
+        ret_r (Grouped start.span inner)))
 
 abbrev pub list_r : Room_r → Reads Expression
 list_r room = construct_r (BracketOpen ∷ []) room (λ expr unary. do
@@ -120,10 +120,10 @@ abbrev pub named_r : Room_r → Reads Expression
 named_r room = do
   name ← sign_r Name
   where_r step_signs
-    (do
-      op ← any_r step_signs
-      ret_r (SteppedBehind (name_of name) (step_of op.sort)))
-    (where_r (ParenOpen ∷ [])
+      (do
+        op ← any_r step_signs
+        ret_r (SteppedBehind (name_of name) (step_of op.sort)))
+      (where_r (ParenOpen ∷ [])
       (do
         all ← arguments_r room
         ret_r (Called (name_of name) all))

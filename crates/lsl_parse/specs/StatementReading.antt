@@ -112,13 +112,13 @@ abbrev pub return_r : Reads Expression → Reads Statement
 return_r expr = do
   start ← sign_r ReturnWord
   where_r (Semicolon ∷ [])
-    (do
-      end ← sign_r Semicolon
-      ret_r (Return start.span None))
-    (do
-      value ← expr
-      end ← sign_r Semicolon
-      ret_r (Return start.span (Some value)))
+      (do
+        end ← sign_r Semicolon
+        ret_r (Return start.span None))
+      (do
+        value ← expr
+        end ← sign_r Semicolon
+        ret_r (Return start.span (Some value)))
 
 abbrev pub state_name_r : Reads StateName
 state_name_r = where_r (Name ∷ [])
@@ -162,14 +162,14 @@ declaration_r expr = do
   kind ← any_r types
   name ← sign_r Name
   where_r (Assign ∷ [])
-    (do
-      equals ← sign_r Assign
-      value ← expr
-      end ← sign_r Semicolon
-      ret_r (Declared (type_of kind.sort) (name_of name) (Some value)))
-    (do
-      end ← sign_r Semicolon
-      ret_r (Declared (type_of kind.sort) (name_of name) None))
+      (do
+        equals ← sign_r Assign
+        value ← expr
+        end ← sign_r Semicolon
+        ret_r (Declared (type_of kind.sort) (name_of name) (Some value)))
+      (do
+        end ← sign_r Semicolon
+        ret_r (Declared (type_of kind.sort) (name_of name) None))
 
 abbrev pub label_r : Reads Entry
 label_r = do

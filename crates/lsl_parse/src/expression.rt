@@ -162,7 +162,10 @@ fn integer(tokens: &[Token]) -> Found<'_, Operand>
     ensures { Gives (λ x. (expression_of x.0.expr, x.1.now)) result (integer_r tokens.now) }
 {
     let (token, rest) = take(tokens, &[TokenKind::Int], Why::OperandDue)?;
-    Ok((Operand::integer(names::integer(&token.sort), token.span), rest))
+    Ok((
+        Operand::integer(names::integer(&token.sort), token.span),
+        rest,
+    ))
 }
 
 /// A name with `++`, `--` or arguments behind it, or alone.
@@ -280,12 +283,7 @@ pub fn value(alloc: Global, room: u32, tokens: &[Token]) -> Found<'_, Expr>
 }
 
 /// Expressions, if any, and the closing sign, where their heights don't matter.
-pub fn values(
-    alloc: Global,
-    room: u32,
-    close: TokenKind,
-    tokens: &[Token],
-) -> Found<'_, Vec<Expr>>
+pub fn values(alloc: Global, room: u32, close: TokenKind, tokens: &[Token]) -> Found<'_, Vec<Expr>>
     ensures { Gives (λ x. (expressions_of x.0.items, x.1.now)) result (expressions_r close (expr_r (Some HEIGHT) room) tokens.now) }
 {
     let (operands, rest) = expressions(alloc, room, close, tokens)?;

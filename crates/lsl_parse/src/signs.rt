@@ -69,18 +69,26 @@ pub const HEADING_HEADS: [TokenKind; 5] = [
 pub const LEVELS: u32 = 9;
 
 const PRODUCT: [TokenKind; 3] = [TokenKind::Star, TokenKind::Slash, TokenKind::Percent];
+
 const SUM: [TokenKind; 2] = [TokenKind::Plus, TokenKind::Minus];
+
 const SHIFT: [TokenKind; 2] = [TokenKind::LessLess, TokenKind::MoreMore];
+
 const ORDER: [TokenKind; 4] = [
     TokenKind::Less,
     TokenKind::LessEqual,
     TokenKind::More,
     TokenKind::MoreEqual,
 ];
+
 const EQUALITY: [TokenKind; 2] = [TokenKind::EqualEqual, TokenKind::BangEqual];
+
 const BIT_AND: [TokenKind; 1] = [TokenKind::And];
+
 const BIT_XOR: [TokenKind; 1] = [TokenKind::Caret];
+
 const BIT_OR: [TokenKind; 1] = [TokenKind::Or];
+
 const LOGIC: [TokenKind; 2] = [TokenKind::AndAnd, TokenKind::OrOr];
 
 /// The signs between the operands of a level, from the tightest.

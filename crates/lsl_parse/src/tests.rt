@@ -48,20 +48,41 @@ fn statements_have_their_trees(rt: HostRuntime) -> Result<(), Fail> {
         ("x = y = 1;", "(= x (= y 1))"),
         ("x += 1 - 2 - 3;", "(+= x (- (- 1 2) 3))"),
         ("a || b && c;", "(&& (|| a b) c)"),
-        ("a | b ^ c & d == e < f << g + h * -i;", "(| a (^ b (& c (== d (< e (<< f (+ g (* h (- i)))))))))"),
-        ("a * b + c << d > e != f & g ^ h | i && j;", "(&& (| (^ (& (!= (> (<< (+ (* a b) c) d) e) f) g) h) i) j)"),
+        (
+            "a | b ^ c & d == e < f << g + h * -i;",
+            "(| a (^ b (& c (== d (< e (<< f (+ g (* h (- i)))))))))",
+        ),
+        (
+            "a * b + c << d > e != f & g ^ h | i && j;",
+            "(&& (| (^ (& (!= (> (<< (+ (* a b) c) d) e) f) g) h) i) j)",
+        ),
         ("!~-x;", "(! (~ (- x)))"),
         ("x++; x--; ++x; --x;", "(x ++) (x --) (++ x) (-- x)"),
         ("(integer)\"1\" + 2;", "(+ (integer \"1\") 2)"),
         ("(string)(list)-x;", "(string (list (- x)))"),
-        ("(x = 3) + [] + [1, y, f()] + f(1, g(2));", "(+ (+ (+ (paren (= x 3)) [ ]) [ 1 y (f ) ]) (f 1 (g 2 ) ))"),
+        (
+            "(x = 3) + [] + [1, y, f()] + f(1, g(2));",
+            "(+ (+ (+ (paren (= x 3)) [ ]) [ 1 y (f ) ]) (f 1 (g 2 ) ))",
+        ),
         ("if (a) if (b) ; else f();", "(if a (if b (;) (f )))"),
         ("if (a) { if (b) ; } else ;", "(if a { (if b (;)) } (;))"),
         ("if (a) ; else if (b) ; else ;", "(if a (;) (if b (;) (;)))"),
-        ("while (x) for (;x;) do ; while (y);", "(while x (for [ ] x [ ] (do (;) y)))"),
-        ("for (i = 0, j = 1; i < j; ++i, f()) { }", "(for [ (= i 0) (= j 1) ] (< i j) [ (++ i) (f ) ] { })"),
-        ("integer x; key k = y; @l; jump l; { }", "(integer x) (key k y) (@ l) (jump l) { }"),
-        ("return; return x; state default; state s;", "(return) (return x) (state default) (state s)"),
+        (
+            "while (x) for (;x;) do ; while (y);",
+            "(while x (for [ ] x [ ] (do (;) y)))",
+        ),
+        (
+            "for (i = 0, j = 1; i < j; ++i, f()) { }",
+            "(for [ (= i 0) (= j 1) ] (< i j) [ (++ i) (f ) ] { })",
+        ),
+        (
+            "integer x; key k = y; @l; jump l; { }",
+            "(integer x) (key k y) (@ l) (jump l) { }",
+        ),
+        (
+            "return; return x; state default; state s;",
+            "(return) (return x) (state default) (state s)",
+        ),
     ] {
         let text = format!(in rt.alloc(); "default {{ e() {{ {body} }} }}")?;
         let shown = tree(rt.alloc(), text.as_str())?;
@@ -134,7 +155,10 @@ fn texts_are_refused_at_their_first_fault(rt: HostRuntime) -> Result<(), Fail> {
         ("default { timer() { a + b = 3; } }", (10, 1, 27)),
         ("default { timer() { (a) = 3; } }", (10, 1, 25)),
         ("default { timer() { else ; } }", (10, 1, 21)),
-        ("default { timer() { if (a) ; else ; else ; } }", (10, 1, 37)),
+        (
+            "default { timer() { if (a) ; else ; else ; } }",
+            (10, 1, 37),
+        ),
         ("default { timer() { if (a) integer x; } }", (10, 1, 28)),
         ("default { timer() { if (a) @l; } }", (10, 1, 28)),
         ("default { timer() { if (a) < } }", (12, 1, 28)),
@@ -146,7 +170,10 @@ fn texts_are_refused_at_their_first_fault(rt: HostRuntime) -> Result<(), Fail> {
         ("default { timer() { state 1; } }", (10, 1, 27)),
         ("default { timer() { state s } }", (10, 1, 29)),
         ("default { timer() { integer x = float; } }", (12, 1, 33)),
-        ("default { timer() { integer x = <0, 0, 0>; } }", (12, 1, 33)),
+        (
+            "default { timer() { integer x = <0, 0, 0>; } }",
+            (12, 1, 33),
+        ),
         ("default { timer() { < } }", (12, 1, 21)),
         ("default { timer() { return < } }", (12, 1, 28)),
         // expressions
@@ -197,28 +224,70 @@ fn a_text_that_ends_early_is_refused_at_its_end(rt: HostRuntime) -> Result<(), F
 #[test]
 fn constructs_stand_two_hundred_deep(rt: HostRuntime) -> Result<(), Fail> {
     let alloc = rt.alloc();
-    // what opens a construct, what stands inside, what closes it, the bytes of an opening, and how many stand in one block
-    for (open, inside, close, most) in [
-        ("{", "", "}", 199),
-        ("if(a)", ";", "", 199),
-        ("if(a);else ", ";", "", 199),
-        ("while(a)", ";", "", 199),
-        ("for(;a;)", ";", "", 199),
-        ("(", "a", ")", 199),
-        ("(key)", "a", "", 199),
-        ("- ", "a", "", 199),
-        ("f(", "", ")", 199),
-        ("[", "", "]", 199),
-        ("a=", "a", "", 199),
+    // what opens a construct, what stands inside, and what closes it; the handler's block is one more
+    for (open, inside, close) in [
+        ("{", "", "}"),
+        ("if(a)", ";", ""),
+        ("if(a);else ", ";", ""),
+        ("while(a)", ";", ""),
+        ("for(;a;)", ";", ""),
+        ("(", "a", ")"),
+        ("(key)", "a", ""),
+        ("- ", "a", ""),
+        ("f(", "", ")"),
+        ("[", "", "]"),
+        ("a=", "a", ""),
     ] {
-        let end = if close == "}" || inside == ";" { "" } else { ";" };
-        let accepted = pieces(alloc, &[("default{e(){", 1), (open, most), (inside, 1), (close, most), (end, 1), ("}}", 1)])?;
-        assert_eq!(rt; fault(alloc, accepted.as_str()), (0, 0, 0), "{open} as often as it may be");
-        let refused = pieces(alloc, &[("default{e(){", 1), (open, most + 1), (inside, 1), (close, most + 1), (end, 1), ("}}", 1)])?;
+        let end = if close == "}" || inside == ";" {
+            ""
+        } else {
+            ";"
+        };
+        let accepted = pieces(
+            alloc,
+            &[
+                ("default{e(){", 1),
+                (open, 199),
+                (inside, 1),
+                (close, 199),
+                (end, 1),
+                ("}}", 1),
+            ],
+        )?;
+        assert_eq!(rt;
+            fault(alloc, accepted.as_str()),
+            (0, 0, 0),
+            "{open} as often as it may be"
+        );
+        let refused = pieces(
+            alloc,
+            &[
+                ("default{e(){", 1),
+                (open, 200),
+                (inside, 1),
+                (close, 200),
+                (end, 1),
+                ("}}", 1),
+            ],
+        )?;
         assert_eq!(rt; fault(alloc, refused.as_str()).0, 13, "{open} once more");
     }
+    let bodies = pieces(
+        alloc,
+        &[
+            ("default{e(){", 1),
+            ("do ", 199),
+            (";", 1),
+            ("while(a);", 199),
+            ("}}", 1),
+        ],
+    )?;
+    assert_eq!(rt; fault(alloc, bodies.as_str()), (0, 0, 0));
     // the fault stands at the token that opens the construct
-    let blocks = pieces(alloc, &[("default{state_entry(){", 1), ("{", 200), ("}", 202)])?;
+    let blocks = pieces(
+        alloc,
+        &[("default{state_entry(){", 1), ("{", 200), ("}", 202)],
+    )?;
     assert_eq!(rt; fault(alloc, blocks.as_str()), (13, 1, 222));
     let right_sides = pieces(alloc, &[("default{e(){", 1), ("a=", 200), ("a;}}", 1)])?;
     assert_eq!(rt; fault(alloc, right_sides.as_str()), (13, 1, 412));
@@ -228,7 +297,10 @@ fn constructs_stand_two_hundred_deep(rt: HostRuntime) -> Result<(), Fail> {
     // a body that is a block opens two
     let body = pieces(alloc, &[("default{e(){", 1), ("{", 198), ("if(a){}", 1)])?;
     assert_eq!(rt; fault(alloc, body.as_str()), (13, 1, 216));
-    let body = pieces(alloc, &[("default{e(){", 1), ("{", 197), ("if(a){}", 1), ("}", 199)])?;
+    let body = pieces(
+        alloc,
+        &[("default{e(){", 1), ("{", 197), ("if(a){}", 1), ("}", 199)],
+    )?;
     assert_eq!(rt; fault(alloc, body.as_str()), (0, 0, 0));
     let body = pieces(alloc, &[("default{e(){", 1), ("{", 199), ("if(a)<", 1)])?;
     assert_eq!(rt; fault(alloc, body.as_str()), (12, 1, 217));
@@ -243,7 +315,10 @@ fn heights_and_tokens_have_their_limits(rt: HostRuntime) -> Result<(), Fail> {
     let high = pieces(alloc, &[("default{e(){a", 1), ("+a", 200), (";}}", 1)])?;
     assert_eq!(rt; fault(alloc, high.as_str()), (13, 1, 412));
     // the right operand's height counts, and parentheses pass it on
-    let right = pieces(alloc, &[("default{e(){a*(a", 1), ("+a", 198), (")-a;}}", 1)])?;
+    let right = pieces(
+        alloc,
+        &[("default{e(){a*(a", 1), ("+a", 198), (")-a;}}", 1)],
+    )?;
     assert_eq!(rt; fault(alloc, right.as_str()), (13, 1, 414));
     let many = pieces(alloc, &[("default{timer(){", 1), (";", 32_760), ("}}", 1)])?;
     assert_eq!(rt; fault(alloc, many.as_str()), (0, 0, 0));

@@ -152,23 +152,25 @@ fn two_hundred_literals(rt: HostRuntime) -> Result<(), Fail> {
     Ok(())
 }
 
+/// Whether the words are refused, with nothing written.
+fn refuses(alloc: Global, words: &[&str]) -> Result<bool, AllocError> {
+    let ended = call(alloc, words, Outside::of(LITERAL))?;
+    Ok(ended.status == 1 && ended.sunk.is_empty())
+}
+
 #[test]
 fn bad_words(rt: HostRuntime) -> Result<(), Fail> {
-    for words in [
-        [].as_slice(),
-        ["replay"].as_slice(),
-        ["replay", "w", "x"].as_slice(),
-        ["once"].as_slice(),
-        ["once", ""].as_slice(),
-        ["once", "-x"].as_slice(),
-        ["once", "s.lsl", "s.lsl"].as_slice(),
-        ["Once", "s.lsl"].as_slice(),
-        ["", "s.lsl"].as_slice(),
-    ] {
-        let ended = call(rt.alloc(), words, Outside::of(LITERAL))?;
-        assert_eq!(rt; ended.status, 1, "{words:?}");
-        assert_eq!(rt; ended.sunk.len(), 0, "{words:?}");
-    }
+    let alloc = rt.alloc();
+    assert!(rt; refuses(alloc, &[])?);
+    assert!(rt; refuses(alloc, &["replay"])?);
+    assert!(rt; refuses(alloc, &["replay", "w", "x"])?);
+    assert!(rt; refuses(alloc, &["once"])?);
+    assert!(rt; refuses(alloc, &["once", ""])?);
+    assert!(rt; refuses(alloc, &["once", "-x"])?);
+    assert!(rt; refuses(alloc, &["once", "s.lsl", "s.lsl"])?);
+    assert!(rt; refuses(alloc, &["Once", "s.lsl"])?);
+    assert!(rt; refuses(alloc, &["", "s.lsl"])?);
+    assert!(rt; !refuses(alloc, &["once", "s.lsl"])?);
     Ok(())
 }
 

@@ -1,6 +1,7 @@
 //! Built-in calls: one line for each, with its kinds and where it is done.
 
 ghost use Rattle.std.specs.Prelude.{◌≡◌};
+ghost use Rattle.lsl_value.specs.declared.names.BuiltinId.{BuiltinId as Id};
 ghost use Rattle.lsl_table.specs.Calls.{name_of, row_of};
 ghost use Rattle.lsl_table.specs.Names.{Finds};
 
@@ -96,11 +97,19 @@ macro_rules! row {
 
 /// The row of a call.
 pub trait BuiltinRow {
+    ghost id: { Self → Id };
+
     /// The row. Takes no memory.
-    fn row(self) -> Row;
+    fn row(self) -> Row
+        ensures name { result.name.now ≡ name_of (id self) }
+        ensures params { result.params ≡ (row_of (id self)).params }
+        ensures result_kind { result.result ≡ (row_of (id self)).result }
+        ensures home { result.home ≡ (row_of (id self)).home };
 }
 
 impl BuiltinRow for BuiltinId {
+    ghost id = { λ id. id };
+
     fn row(self) -> Row
         ensures name { result.name.now ≡ name_of self }
         ensures params { result.params ≡ (row_of self).params }

@@ -32,25 +32,57 @@ pub enum AssignOp {
 #[derive(Drop)]
 pub enum Expr {
     /// INT
-    Int { value: i32, span: Span },
+    Int {
+        value: i32,
+        span: Span,
+    },
     /// STRING
-    Str { text: Text, span: Span },
+    Str {
+        text: Text,
+        span: Span,
+    },
     /// NAME
-    Variable { name: Name },
+    Variable {
+        name: Name,
+    },
     /// NAME `++`, NAME `--`
-    StepBehind { name: Name, op: StepOp },
+    StepBehind {
+        name: Name,
+        op: StepOp,
+    },
     /// `++` NAME, `--` NAME
-    StepBefore { op: StepOp, span: Span, name: Name },
+    StepBefore {
+        op: StepOp,
+        span: Span,
+        name: Name,
+    },
     /// NAME `(` .. `)`
-    Call { name: Name, arguments: Vec<Expr> },
+    Call {
+        name: Name,
+        arguments: Vec<Expr>,
+    },
     /// `[` .. `]`
-    List { span: Span, elements: Vec<Expr> },
+    List {
+        span: Span,
+        elements: Vec<Expr>,
+    },
     /// `(` expression `)`
-    Parens { span: Span, inner: Box<Expr> },
+    Parens {
+        span: Span,
+        inner: Box<Expr>,
+    },
     /// `(` TYPE `)` operand
-    Cast { span: Span, kind: Kind, operand: Box<Expr> },
+    Cast {
+        span: Span,
+        kind: Kind,
+        operand: Box<Expr>,
+    },
     /// `-`, `!` or `~` and an operand
-    Unary { op: UnaryOp, span: Span, operand: Box<Expr> },
+    Unary {
+        op: UnaryOp,
+        span: Span,
+        operand: Box<Expr>,
+    },
     /// an operator between two operands
     Binary {
         op: BinaryOp,

@@ -22,9 +22,13 @@ pub enum Item {
         value: Option<Expr>,
     },
     /// `@` NAME `;`
-    Label { name: Name },
+    Label {
+        name: Name,
+    },
     /// a statement
-    Statement { statement: Stmt },
+    Statement {
+        statement: Stmt,
+    },
 }
 
 /// A statement. The span is that of its first token.
@@ -32,11 +36,15 @@ pub enum Item {
 #[derive(Drop)]
 pub enum Stmt {
     /// `{` .. `}`
-    Block { items: Vec<Item> },
+    Block {
+        items: Vec<Item>,
+    },
     /// `;`
     Empty,
     /// an expression and `;`
-    Expression { value: Expr },
+    Expression {
+        value: Expr,
+    },
     /// `if` without an `else`
     If {
         span: Span,
@@ -71,9 +79,18 @@ pub enum Stmt {
         body: Box<Stmt>,
     },
     /// `jump`
-    Jump { span: Span, label: Name },
+    Jump {
+        span: Span,
+        label: Name,
+    },
     /// `return`
-    Return { span: Span, value: Option<Expr> },
+    Return {
+        span: Span,
+        value: Option<Expr>,
+    },
     /// `state`
-    State { span: Span, state: StateName },
+    State {
+        span: Span,
+        state: StateName,
+    },
 }

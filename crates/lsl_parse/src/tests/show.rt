@@ -1,6 +1,8 @@
 //! Trees in a compact form: an operator before its operands, in parentheses.
 
-use lsl_tree::{AssignOp, Atom, Expr, Header, Handler, Item, Param, Simple, StateName, StepOp, Stmt, Tree};
+use lsl_tree::{
+    AssignOp, Atom, Expr, Handler, Header, Item, Param, Simple, StateName, StepOp, Stmt, Tree,
+};
 use lsl_value::{BinaryOp, Kind, UnaryOp};
 use std::alloc::{AllocError, Global};
 
@@ -75,8 +77,14 @@ fn expr(out: &mut String, shown: &Expr) -> Result<(), AllocError> {
         Expr::Int { value, .. } => write!(out, "{value}"),
         Expr::Str { text, .. } => words(out, &["\"", text.as_str(), "\""]),
         Expr::Variable { name } => out.push_str(name.text.as_str()),
-        Expr::StepBehind { name, op } => words(out, &["(", name.text.as_str(), " ", step_sign(*op), ")"]),
-        Expr::StepBefore { op, name, .. } => words(out, &["(", step_sign(*op), " ", name.text.as_str(), ")"]),
+        Expr::StepBehind { name, op } => words(
+            out,
+            &["(", name.text.as_str(), " ", step_sign(*op), ")"],
+        ),
+        Expr::StepBefore { op, name, .. } => words(
+            out,
+            &["(", step_sign(*op), " ", name.text.as_str(), ")"],
+        ),
         Expr::Call { name, arguments } => {
             words(out, &["(", name.text.as_str(), " "])?;
             for argument in arguments {
@@ -108,14 +116,24 @@ fn expr(out: &mut String, shown: &Expr) -> Result<(), AllocError> {
             expr(out, operand)?;
             out.push_str(")")
         }
-        Expr::Binary { op, left, right, .. } => {
+        Expr::Binary {
+            op,
+            left,
+            right,
+            ..
+        } => {
             words(out, &["(", binary_sign(*op), " "])?;
             expr(out, left)?;
             out.push_str(" ")?;
             expr(out, right)?;
             out.push_str(")")
         }
-        Expr::Assign { name, op, value, .. } => {
+        Expr::Assign {
+            name,
+            op,
+            value,
+            ..
+        } => {
             words(out, &["(", assign_sign(*op), " ", name.text.as_str(), " "])?;
             expr(out, value)?;
             out.push_str(")")
@@ -152,7 +170,12 @@ fn stmt(out: &mut String, shown: &Stmt) -> Result<(), AllocError> {
             stmt(out, then)?;
             out.push_str(")")
         }
-        Stmt::IfElse { test, then, otherwise, .. } => {
+        Stmt::IfElse {
+            test,
+            then,
+            otherwise,
+            ..
+        } => {
             out.push_str("(if ")?;
             expr(out, test)?;
             out.push_str(" ")?;
@@ -175,7 +198,13 @@ fn stmt(out: &mut String, shown: &Stmt) -> Result<(), AllocError> {
             expr(out, test)?;
             out.push_str(")")
         }
-        Stmt::For { start, test, step, body, .. } => {
+        Stmt::For {
+            start,
+            test,
+            step,
+            body,
+            ..
+        } => {
             out.push_str("(for ")?;
             exprs(out, start.as_slice())?;
             out.push_str(" ")?;
@@ -188,13 +217,22 @@ fn stmt(out: &mut String, shown: &Stmt) -> Result<(), AllocError> {
         }
         Stmt::Jump { label, .. } => words(out, &["(jump ", label.text.as_str(), ")"]),
         Stmt::Return { value: None, .. } => out.push_str("(return)"),
-        Stmt::Return { value: Some(value), .. } => {
+        Stmt::Return {
+            value: Some(value),
+            ..
+        } => {
             out.push_str("(return ")?;
             expr(out, value)?;
             out.push_str(")")
         }
-        Stmt::State { state: StateName::Default, .. } => out.push_str("(state default)"),
-        Stmt::State { state: StateName::Named(name), .. } => words(out, &["(state ", name.text.as_str(), ")"]),
+        Stmt::State {
+            state: StateName::Default,
+            ..
+        } => out.push_str("(state default)"),
+        Stmt::State {
+            state: StateName::Named(name),
+            ..
+        } => words(out, &["(state ", name.text.as_str(), ")"]),
     }
 }
 
@@ -226,7 +264,10 @@ fn block(out: &mut String, items: &[Item]) -> Result<(), AllocError> {
 fn params(out: &mut String, all: &[Param]) -> Result<(), AllocError> {
     out.push_str("( ")?;
     for param in all {
-        words(out, &[kind_word(param.kind), " ", param.name.text.as_str(), " "])?;
+        words(
+            out,
+            &[kind_word(param.kind), " ", param.name.text.as_str(), " "],
+        )?;
     }
     out.push_str(") ")
 }
@@ -257,7 +298,10 @@ fn simple(out: &mut String, shown: &Simple) -> Result<(), AllocError> {
 fn header(out: &mut String, shown: &Header) -> Result<(), AllocError> {
     match shown {
         Header::Global { global } => {
-            words(out, &["(", kind_word(global.kind), " ", global.name.text.as_str()])?;
+            words(
+                out,
+                &["(", kind_word(global.kind), " ", global.name.text.as_str()],
+            )?;
             if let Some(value) = &global.value {
                 out.push_str(" ")?;
                 simple(out, value)?;

@@ -31,7 +31,7 @@ abbrev pub decreases-for_statement : goal.decreases-for_statement
 decreases-for_statement l = 8 * l.room + 3
 
 abbrev pub decreases-block : goal.decreases-block
-decreases-block l = 8 * l.room + 2
+decreases-block l = 8 * l.room + 1
 
 abbrev pub decreases-body : goal.decreases-body
 decreases-body l = 8 * l.room + 2

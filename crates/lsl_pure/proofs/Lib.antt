@@ -1,0 +1,15 @@
+pub mod ByteLemmas
+pub mod ChargeLemmas
+pub mod CsvLemmas
+pub mod CutLemmas
+pub mod JoinLemmas
+pub mod LawCuts
+pub mod LawLemmas
+pub mod LawRoundTrips
+pub mod MarkLemmas
+pub mod ParsingLemmas
+pub mod PlaceLemmas
+pub mod RangeLemmas
+pub mod SearchLemmas
+pub mod SpellingLemmas
+pub mod TrimLemmas

@@ -1,0 +1,8 @@
+use Rattle.lsl_pure.proofs.LawLemmas.{parts-deleted, parts-whole}
+use Rattle.lsl_pure.proofs.laws.parts_of_a_list.Goals as goal
+
+pub returns-clause-whole : goal.returns-clause-whole
+returns-clause-whole c = parts-whole c.args.items.now c.args.first c.args.last c.requires
+
+pub returns-clause-deleted : goal.returns-clause-deleted
+returns-clause-deleted c = parts-deleted c.args.items.now c.args.first c.args.last c.requires

@@ -1,0 +1,11 @@
+pub mod Arguments
+pub mod Csv
+pub mod Cuts
+pub mod Elements
+pub mod Joins
+pub mod Laws
+pub mod Parsing
+pub mod Places
+pub mod Pure
+pub mod Searches
+pub mod Spelling

@@ -1,0 +1,120 @@
+//! From a call's name to its value.
+
+ghost use Rattle.std.specs.Prelude.{◌≡◌, ◌<◌, ◌≤◌, IfOk, IfErr};
+ghost use Rattle.lsl_value.specs.Values.{charge_of};
+ghost use Rattle.lsl_pure.specs.Arguments.{IsArguments};
+ghost use Rattle.lsl_pure.specs.Pure.{pure_of};
+
+use crate::PureFault;
+use crate::arguments::{first_four, int, list, text};
+use crate::bounds::bounded;
+use crate::csv::csv_to_list;
+use crate::cuts::{delete_sub_string, insert_string, string_trim, sub_string};
+use crate::elements::{entry_type, list_to_integer, list_to_key, list_to_string};
+use crate::joining::{dump_list, list_to_csv};
+use crate::list_cuts::{delete_sub_list, insert_list, replace_list, sub_list};
+use crate::parsing::parse_string;
+use crate::searching::{list_find_list, sub_string_index};
+use crate::spelling::count_characters;
+use lsl_value::{BuiltinId, Value, Values};
+use std::alloc::Global;
+
+/// The value of a pure call, which must be charged at most 65,536. See
+/// <https://wiki.secondlife.com/wiki/Category:LSL_Functions>.
+pub fn call(alloc: Global, id: BuiltinId, args: Values) -> Result<Value, PureFault>
+    requires { IsArguments id args }
+    ensures ok { IfOk result (λ value. value ≡ pure_of id args) }
+    ensures fits { IfOk result (λ value. charge_of value ≤ 65536) }
+    ensures too_big { IfErr result (λ fault. fault ≡ PureFault.TooBig → 65536 < charge_of (pure_of id args)) }
+{
+    answer(alloc, id, args)
+}
+
+/// The same for any call and any arguments.
+pub(crate) fn answer(alloc: Global, id: BuiltinId, args: Values) -> Result<Value, PureFault>
+    ensures ok { IfOk result (λ value. value ≡ pure_of id args) }
+    ensures fits { IfOk result (λ value. charge_of value ≤ 65536) }
+    ensures too_big { IfErr result (λ fault. fault ≡ PureFault.TooBig → 65536 < charge_of (pure_of id args)) }
+{
+    bounded(value(alloc, id, args)?)
+}
+
+// The value, too big or not.
+fn value(alloc: Global, id: BuiltinId, args: Values) -> Result<Value, PureFault>
+    ensures ok { IfOk result (λ value. value ≡ pure_of id args) }
+    ensures too_big { IfErr result (λ fault. fault ≡ PureFault.TooBig → 65536 < charge_of (pure_of id args)) }
+{
+    let (a, b, c, d) = first_four(args);
+    match id {
+        BuiltinId::Abs => Ok(Value::Int(int(a).wrapping_abs())),
+        BuiltinId::StringLength => Ok(Value::Int(count_characters(&text(alloc, a)) as i32)),
+        BuiltinId::GetListLength => Ok(Value::Int(list(alloc, a).len() as i32)),
+        BuiltinId::GetSubString => Ok(Value::Str(sub_string(
+            alloc,
+            &text(alloc, a),
+            int(b),
+            int(c),
+        )?)),
+        BuiltinId::List2List => Ok(Value::List(sub_list(list(alloc, a), int(b), int(c)))),
+        BuiltinId::DeleteSubString => Ok(Value::Str(delete_sub_string(
+            alloc,
+            &text(alloc, a),
+            int(b),
+            int(c),
+        )?)),
+        BuiltinId::DeleteSubList => Ok(Value::List(delete_sub_list(
+            list(alloc, a),
+            int(b),
+            int(c),
+        ))),
+        BuiltinId::InsertString => Ok(Value::Str(insert_string(
+            alloc,
+            &text(alloc, a),
+            int(b),
+            &text(alloc, c),
+        )?)),
+        BuiltinId::ListInsertList => Ok(Value::List(insert_list(
+            list(alloc, a),
+            list(alloc, b),
+            int(c),
+        )?)),
+        BuiltinId::ListReplaceList => Ok(Value::List(replace_list(
+            list(alloc, a),
+            list(alloc, b),
+            int(c),
+            int(d),
+        )?)),
+        BuiltinId::SubStringIndex => Ok(Value::Int(sub_string_index(
+            &text(alloc, a),
+            &text(alloc, b),
+        ))),
+        BuiltinId::ListFindList => Ok(Value::Int(list_find_list(&list(alloc, a), &list(alloc, b)))),
+        BuiltinId::StringTrim => Ok(Value::Str(string_trim(alloc, &text(alloc, a), int(b))?)),
+        BuiltinId::List2Integer => Ok(Value::Int(list_to_integer(&list(alloc, a), int(b)))),
+        BuiltinId::List2String => Ok(Value::Str(list_to_string(alloc, &list(alloc, a), int(b))?)),
+        BuiltinId::List2Key => Ok(Value::Key(list_to_key(alloc, &list(alloc, a), int(b))?)),
+        BuiltinId::GetListEntryType => Ok(Value::Int(entry_type(&list(alloc, a), int(b)))),
+        BuiltinId::DumpList2String => Ok(Value::Str(dump_list(
+            alloc,
+            &list(alloc, a),
+            &text(alloc, b),
+        )?)),
+        BuiltinId::List2Csv => Ok(Value::Str(list_to_csv(alloc, &list(alloc, a))?)),
+        BuiltinId::Csv2List => Ok(Value::List(csv_to_list(alloc, &text(alloc, a))?)),
+        BuiltinId::ParseString2List => Ok(Value::List(parse_string(
+            alloc,
+            &text(alloc, a),
+            list(alloc, b),
+            list(alloc, c),
+            false,
+        )?)),
+        BuiltinId::ParseStringKeepNulls => Ok(Value::List(parse_string(
+            alloc,
+            &text(alloc, a),
+            list(alloc, b),
+            list(alloc, c),
+            true,
+        )?)),
+        _ => Ok(Value::Int(0)),
+    }
+}
