@@ -1,11 +1,17 @@
 -- Scripts that say texts.
-use Rattle.std.proofs.Common.{◌≡◌, ℕ, ◌≤◌, List, [], ◌∷◌, ◌++◌, length, map, ◌+◌, get_or, zero-add, arith, refl, ap, sym, ◌∙◌, subst}
+use Rattle.std.proofs.Common.{◌<◌, zero, suc, take, drop, Option, Some, None, IfSome, ◌≡◌, ℕ, ◌≤◌, List, [], ◌∷◌, ◌++◌, length, map, ◌+◌, get_or, zero-add, arith, refl, ap, sym, ◌∙◌, subst}
 use Rattle.std.specs.Str.{encode_utf8_all}
 use Rattle.std.proofs.lemmas.List.{map-append}
 use Rattle.lsl_tree.specs.declared.expression.Expr.{Expr}
 use Rattle.lsl_tree.specs.Expressions.{Expressions, No_expression, And, expression_of, expressions_of, expressions_behind}
-use Rattle.lsl_tree.specs.Statements.{Entry, Entries, No_entry, Then}
+use Rattle.lsl_tree.specs.declared.statement.Item.{Item}
+use Rattle.lsl_tree.specs.Statements.{Entry, Entries, No_entry, Then, entry_of, entries_of, entries_behind}
 use Rattle.lsl_top.specs.Form.{utf8_of, IsShort, IsLiteralOf, IsSaying, AreSayings, AreLiterals, Says}
+
+-- a fact of a value, where there is one, leads to another
+pub if_some : {A : Type 0} (o : Option A) (P Q : A → Type 0) → IfSome o P → ((x : A) → P x → Q x) → IfSome o Q
+if_some None P Q h f = tt
+if_some (Some x) P Q h f = f x h
 
 AreLiterals-push : (texts : List (List ℕ)) (text : List ℕ) → AreLiterals texts → length text ≤ 1024 → AreLiterals (texts ++ text ∷ [])
 AreLiterals-push [] text all short = (short, tt)
@@ -41,3 +47,38 @@ pub expressions_of-one : (arguments : List Expr) (one : Expr) → length argumen
 expressions_of-one [] one many is = absurd (omega arith)
 expressions_of-one (first ∷ []) one many is = ap (λ (e : Expr). And No_expression (expression_of e)) (sym is)
 expressions_of-one (first ∷ second ∷ rest) one many is = absurd (omega arith)
+
+behind-append : (before : List Item) (item : Item) (rest : List Item) (front : Entries) → entries_behind (before ++ item ∷ rest) front ≡ entries_behind rest (Then (entries_behind before front) (entry_of item))
+behind-append [] item rest front = refl
+behind-append (first ∷ before) item rest front = behind-append before item rest (Then front (entry_of first))
+
+-- what is said behind these statements was said by them too
+pub sayings_front : (rest : List Item) (front : Entries) (texts : List (List ℕ)) → AreSayings (entries_behind rest front) texts → (before : List (List ℕ)) × AreSayings front before
+sayings_front [] front texts said = (texts, said)
+sayings_front (item ∷ rest) front texts said =
+    let inner = sayings_front rest (Then front (entry_of item)) texts said in
+    (inner.1.0, inner.1.2)
+
+-- statements one of which says nothing say nothing
+pub no_sayings : (before rest : List Item) (item : Item) (all : List Item) → all ≡ before ++ item ∷ rest → ((text : List ℕ) → IsSaying (entry_of item) text → ⊥) → (texts : List (List ℕ)) → AreSayings (entries_of all) texts → ⊥
+no_sayings before rest item all split silent texts said =
+    let in_two : entries_of all ≡ entries_behind rest (Then (entries_of before) (entry_of item)) = ap entries_of split ∙ behind-append before item rest No_entry in
+    let inner = sayings_front rest (Then (entries_of before) (entry_of item)) texts (subst (λ (e : Entries). AreSayings e texts) in_two said) in
+    silent inner.1.1 inner.1.3
+
+-- a list at one of its elements
+pub split_at : {A : Type 0} (all : List A) (i : ℕ) (x : A) → i < length all → x ≡ get_or all i x → all ≡ take i all ++ x ∷ drop (suc i) all
+split_at [] i x within is = absurd (omega arith)
+split_at (y ∷ ys) zero x within is = ap (λ z. z ∷ ys) (sym is)
+split_at (y ∷ ys) (suc i) x within is = ap (λ z. y ∷ z) (split_at ys i x (omega arith) is)
+
+pub take_one : {A : Type 0} (all : List A) (i : ℕ) (x : A) → i < length all → x ≡ get_or all i x → take (suc i) all ≡ take i all ++ x ∷ []
+take_one [] i x within is = absurd (omega arith)
+take_one (y ∷ ys) zero x within is = ap (λ z. z ∷ []) (sym is)
+take_one (y ∷ ys) (suc i) x within is = ap (λ z. y ∷ z) (take_one ys i x (omega arith) is)
+
+-- one more statement, and what it says
+pub sayings_more : (body : List Item) (i : ℕ) (item : Item) (before texts : List (List ℕ)) (text : List ℕ) → i < length body → item ≡ get_or body i item → AreSayings (entries_of (take i body)) before → IsSaying (entry_of item) text → texts ≡ before ++ text ∷ [] → AreSayings (entries_of (take (suc i) body)) texts
+sayings_more body i item before texts text within is said saying all =
+    let more : entries_of (take (suc i) body) ≡ Then (entries_of (take i body)) (entry_of item) = ap entries_of (take_one body i item within is) ∙ behind-append (take i body) item [] No_entry in
+    subst (λ (e : Entries). AreSayings e texts) (sym more) (before, text, said, saying, all)

@@ -1,3 +1,4 @@
+pub mod Accepted
 pub mod Forms
 pub mod Programs
 pub mod Courses

@@ -41,10 +41,10 @@ long_fault head file fault many long first = (first.0, kinds fault.kind first.1,
   kinds : (kind : LexKind) → IsFirstFault head kind first.0 → IsFirstFault file kind first.0
   kinds TextTooLong f = (long, f.1)
   kinds NotText f = absurd (omega (arith, f.0))
-  kinds StringEnd f = absurd (omega (arith, f.0.short))
-  kinds CommentEnd f = absurd (omega (arith, f.0.short))
-  kinds FloatLiteral f = absurd (omega (arith, f.0.short))
-  kinds StrayCharacter f = absurd (omega (arith, f.0.short))
+  kinds StringEnd f = absurd (omega (arith, f.source.short))
+  kinds CommentEnd f = absurd (omega (arith, f.source.short))
+  kinds FloatLiteral f = absurd (omega (arith, f.source.short))
+  kinds StrayCharacter f = absurd (omega (arith, f.source.short))
 
 long_refusal : (head file : List ℕ) (fault : BuildFault) → 65536 < length head → 65536 < length file → FirstFault head fault → FirstFault file fault
 long_refusal head file fault many long (inl l) = inl (record { lexical = l.lexical; first = long_fault head file l.lexical many long l.first; fault_is = l.fault_is })

@@ -2,10 +2,10 @@
 //! by the shelf, the sink and the link that it is given, and by nothing else.
 #![tactic(auto)]
 
-ghost use Rattle.std.specs.Prelude.{◌≡◌, ◌≢◌, ◌≤◌, ◌↔◌, ◌⊎◌, ℕ, None};
+ghost use Rattle.std.specs.Prelude.{◌≡◌, ◌≢◌, ◌≤◌, ◌↔◌, ◌⊎◌, ℕ, None, Some};
 ghost use Rattle.lsl_ports.specs.Counts.{NoneFell, Rose};
 ghost use Rattle.lsl_top.specs.Promise.{HasNoScript, HasScript, NamedRose, WritesNothing, WritesPrefix, WritesRefusal, WritesReport, RunsOnce};
-ghost use Rattle.lsl_top.specs.Words.{command_of};
+ghost use Rattle.lsl_top.specs.Words.{Once, command_of};
 
 mod build;
 mod build_fault;
@@ -86,6 +86,7 @@ fn run_once<S: Shelf, K: Sink>(alloc: Global, name: &str, shelf: &mut S, sink: &
     ensures unchanged { S.held shelf.new ≡ S.held shelf.old }
     ensures shelf_counted { NoneFell (S.faults shelf.old) (S.faults shelf.new) }
     ensures sink_counted { K.faults sink.old ≤ K.faults sink.new }
+    ensures complete { HasScript (S.held shelf.old) (Some (Once name.now)) → ¬ Rose (S.faults shelf.old name.now) (S.faults shelf.new name.now) → ¬ Rose (K.faults sink.old) (K.faults sink.new) → (result ≡ Status.Ok) ⊎ (result ≡ Status.NoMemory) }
 {
     match read_all(alloc, shelf, name, MAX_SCRIPT_BYTES) {
         Ok(file) => write_output(alloc, name, file.as_slice(), sink),

@@ -2,7 +2,7 @@
 
 ghost use Rattle.std.specs.Prelude.{◌≡◌, ℕ, List, length, codes, IfOk, IfSome, IsNone, IsTrue, ◌↔◌, MatchOption};
 ghost use Rattle.lsl_tree.specs.Scripts.{script_of};
-ghost use Rattle.lsl_tree.specs.Statements.{Acted, Entries, Simple, entries_of, entry_of};
+ghost use Rattle.lsl_tree.specs.Statements.{Acted, Entries, Simple, entries_of, entry_of, statement_of};
 ghost use Rattle.lsl_tree.specs.Expressions.{And, No_expression, expression_of, expressions_of};
 ghost use Rattle.lsl_top.specs.Form.{AreSayings, HasNoForm, IsForm, IsHandler, IsLiteralOf, IsSaying, IsSpelled};
 
@@ -67,9 +67,17 @@ fn said_text(item: &Item) -> Option<&Text>
     ensures none { IsNone result → (text : List ℕ) → IsSaying (entry_of item.now) text → ⊥ }
 {
     match item {
-        Item::Statement {
-            statement: Stmt::Expression { value },
-        } => said_by(value),
+        Item::Statement { statement } => said_in(statement),
+        _ => None,
+    }
+}
+
+fn said_in(statement: &Stmt) -> Option<&Text>
+    ensures some { IfSome result (λ text. IsSaying (Acted (statement_of statement.now)) text.now) }
+    ensures none { IsNone result → (text : List ℕ) → IsSaying (Acted (statement_of statement.now)) text → ⊥ }
+{
+    match statement {
+        Stmt::Expression { value } => said_by(value),
         _ => None,
     }
 }
