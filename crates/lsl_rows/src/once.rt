@@ -9,7 +9,7 @@ const LITERAL: &[u8] = b"default{state_entry(){llOwnerSay(\"hi\");}}";
 
 const LITERAL_REPORT: &[u8] = b"took 1 state_entry\nowner 1 \"hi\"\ndone 1 1024\nhome 1 \"here\"\n";
 
-const REFUSAL: &[u8] = b"bad script \"s.lsl\" 1:1 fault 90\n";
+const NOT_BUILT: &[u8] = b"bad script \"s.lsl\" 1:1 fault 90\n";
 
 /// A script that says one literal of so many bytes.
 fn long_script(alloc: Global, length: usize) -> Result<Vec<u8>, AllocError> {
@@ -22,57 +22,78 @@ fn long_script(alloc: Global, length: usize) -> Result<Vec<u8>, AllocError> {
 }
 
 #[test]
-fn scripts_and_other_texts(rt: HostRuntime) -> Result<(), Fail> {
-    for (script, status, want) in [
-        (LITERAL, 0, LITERAL_REPORT),
+fn scripts_that_say_texts(rt: HostRuntime) -> Result<(), Fail> {
+    for (script, want) in [
+        (LITERAL, LITERAL_REPORT),
         (
             b"default{state_entry(){}}".as_slice(),
-            0,
             b"took 1 state_entry\ndone 1 1024\nhome 1 \"here\"\n".as_slice(),
         ),
         (
             b" default\t{\nstate_entry ( )\r{ llOwnerSay\x0b( \"a b\" ) ;llOwnerSay(\"\");\x0c} } \n".as_slice(),
-            0,
             b"took 1 state_entry\nowner 1 \"a b\"\nowner 1 \"\"\ndone 1 1024\nhome 1 \"here\"\n".as_slice(),
         ),
-        (b"float x;".as_slice(), 3, REFUSAL),
-        (b"".as_slice(), 3, REFUSAL),
         (
-            b"default{state_entry(){llOwnerSay(\"hi\");}".as_slice(),
-            3,
-            REFUSAL,
+            b"default{state_entry(){/**/llOwnerSay(\"hi\"); // all\n}}".as_slice(),
+            LITERAL_REPORT,
         ),
         (
-            b"default{state_entry(){llOwnerSay(\"hi\");}}}".as_slice(),
-            3,
-            REFUSAL,
+            b"default{state_entry(){llOwnerSay(\"a\\n\\\"\\\\\\t\\q\");}}".as_slice(),
+            b"took 1 state_entry\nowner 1 \"a\\n\\\"\\\\    q\"\ndone 1 1024\nhome 1 \"here\"\n".as_slice(),
         ),
         (
-            b"default{state_entry(){llOwnerSay(\"hi\")}}".as_slice(),
-            3,
-            REFUSAL,
-        ),
-        (
-            b"default{state_entry(){llOwnerSay(hi);}}".as_slice(),
-            3,
-            REFUSAL,
-        ),
-        (
-            b"default{state_entry(){llOwner Say(\"hi\");}}".as_slice(),
-            3,
-            REFUSAL,
-        ),
-        (
-            b"default{state_entry(){/**/llOwnerSay(\"hi\");}}".as_slice(),
-            3,
-            REFUSAL,
+            b"default{state_entry(){llOwnerSay(\"\xc3\xa9\");}}".as_slice(),
+            b"took 1 state_entry\nowner 1 \"\xc3\xa9\"\ndone 1 1024\nhome 1 \"here\"\n".as_slice(),
         ),
     ] {
         let ended = call(rt.alloc(), &["once", "s.lsl"], Outside::of(script))?;
-        assert_eq!(rt; ended.status, status);
+        assert_eq!(rt; ended.status, 0);
         assert_eq!(rt; ended.sunk.as_slice(), want);
         assert_eq!(rt; ended.read_faults, 0);
         assert_eq!(rt; ended.write_faults, 0);
+    }
+    Ok(())
+}
+
+/// The line that refuses a script.
+fn refusal_line(alloc: Global, place: &str, number: u32) -> Result<String, AllocError> {
+    format!(in alloc; "bad script \"s.lsl\" {place} fault {number}\n")
+}
+
+#[test]
+fn refused_scripts(rt: HostRuntime) -> Result<(), Fail> {
+    for (script, place, number) in [
+        ("", "1:1", 11),
+        ("float x;", "1:1", 12),
+        ("default{state_entry(){llOwnerSay(\"hi\");}", "1:41", 11),
+        ("default{state_entry(){llOwnerSay(\"hi\");}}}", "1:42", 10),
+        ("default{state_entry(){llOwnerSay(\"hi\")}}", "1:39", 10),
+        ("default{state_entry(){llOwner Say(\"hi\");}}", "1:31", 10),
+        ("default{state_entry(){llOwnerSay(hi);}}", "1:1", 90),
+        ("default{state_entry(){llOwnerSay();}}", "1:1", 90),
+        ("default{state_entry(){llOwnerSay(\"a\",\"b\");}}", "1:1", 90),
+        ("default{state_entry(){llSay(\"a\");}}", "1:1", 90),
+        ("default{timer(){llOwnerSay(\"a\");}}", "1:1", 90),
+        (
+            "default { timer() { llOwnerSay(\"x); } }",
+            "1:32",
+            2,
+        ),
+        ("/*", "1:1", 3),
+        ("integer x = 1.5;", "1:13", 4),
+        ("default { timer() { x = 1.; } }", "1:25", 4),
+        ("default { timer() { x = y z; } }", "1:27", 10),
+        ("default { timer() { a + b = 3; } }", "1:27", 10),
+        ("default { }", "1:11", 10),
+    ] {
+        let ended = call(
+            rt.alloc(),
+            &["once", "s.lsl"],
+            Outside::of(script.as_bytes()),
+        )?;
+        let line = refusal_line(rt.alloc(), place, number)?;
+        assert_eq!(rt; ended.status, 3, "{script}");
+        assert_eq!(rt; ended.sunk.as_slice(), line.as_bytes(), "{script}");
     }
     Ok(())
 }
@@ -88,12 +109,14 @@ fn every_byte_in_a_literal(rt: HostRuntime) -> Result<(), Fail> {
             &["once", "s.lsl"],
             Outside::of(script.as_slice()),
         )?;
-        if byte == b'"' || byte == b'\\' || byte < 32 || byte > 126 {
+        if byte == b'"' || byte == b'\\' || byte > 127 {
             assert_eq!(rt; ended.status, 3, "byte {byte}");
-            assert_eq!(rt; ended.sunk.as_slice(), REFUSAL, "byte {byte}");
         } else {
             let mut want = Vec::from_slice(rt.alloc(), b"took 1 state_entry\nowner 1 \"")?;
-            want.push(byte)?;
+            match byte {
+                b'\n' => want.extend_from_slice(b"\\n")?,
+                _ => want.push(byte)?,
+            }
             want.extend_from_slice(b"\"\ndone 1 1024\nhome 1 \"here\"\n")?;
             assert_eq!(rt; ended.status, 0, "byte {byte}");
             assert_eq!(rt; ended.sunk.as_slice(), want.as_slice(), "byte {byte}");
@@ -102,32 +125,50 @@ fn every_byte_in_a_literal(rt: HostRuntime) -> Result<(), Fail> {
     Ok(())
 }
 
+/// A handler of empty statements.
+fn many_semicolons(alloc: Global, count: usize, end: &[u8]) -> Result<Vec<u8>, AllocError> {
+    let mut script = Vec::from_slice(alloc, b"default{timer(){")?;
+    script.resize(script.len() + count, b';')?;
+    script.extend_from_slice(end)?;
+    Ok(script)
+}
+
+/// So many blocks in one another, in a handler.
+fn nested_blocks(alloc: Global, count: usize) -> Result<Vec<u8>, AllocError> {
+    let mut script = Vec::from_slice(alloc, b"default{state_entry(){")?;
+    script.resize(script.len() + count, b'{')?;
+    script.resize(script.len() + count + 2, b'}')?;
+    Ok(script)
+}
+
 #[test]
 fn long_literals_and_files(rt: HostRuntime) -> Result<(), Fail> {
-    for (length, status, written) in [
-        (1023, 0, 1079),
-        (1024, 0, 1080),
-        (1025, 3, 32),
-        (70_000, 3, 32),
-    ] {
-        let script = long_script(rt.alloc(), length)?;
-        let ended = call(
-            rt.alloc(),
-            &["once", "s.lsl"],
-            Outside::of(script.as_slice()),
-        )?;
-        assert_eq!(rt; ended.status, status, "{length} bytes");
+    let alloc = rt.alloc();
+    for (length, written) in [(1023, 1079), (1024, 1080)] {
+        let script = long_script(alloc, length)?;
+        let ended = call(alloc, &["once", "s.lsl"], Outside::of(script.as_slice()))?;
+        assert_eq!(rt; ended.status, 0, "{length} bytes");
         assert_eq!(rt; ended.sunk.len(), written, "{length} bytes");
     }
-    for (blanks, status) in [(65_536, 0), (65_537, 3)] {
-        let mut script = Vec::from_slice(rt.alloc(), LITERAL)?;
-        script.resize(blanks, b' ')?;
-        let ended = call(
-            rt.alloc(),
-            &["once", "s.lsl"],
-            Outside::of(script.as_slice()),
-        )?;
-        assert_eq!(rt; ended.status, status, "{blanks} bytes");
+    let mut whole = Vec::from_slice(alloc, LITERAL)?;
+    whole.resize(65_536, b' ')?;
+    let ended = call(alloc, &["once", "s.lsl"], Outside::of(whole.as_slice()))?;
+    assert_eq!(rt; ended.status, 0);
+    let mut beyond = Vec::from_slice(alloc, LITERAL)?;
+    beyond.resize(65_537, b' ')?;
+    for (script, place, number) in [
+        (long_script(alloc, 1025)?, "1:1", 90),
+        (long_script(alloc, 70_000)?, "1:1", 6),
+        (nested_blocks(alloc, 199)?, "1:1", 90),
+        (nested_blocks(alloc, 200)?, "1:222", 13),
+        (beyond, "1:1", 6),
+        (many_semicolons(alloc, 32_760, b"}}")?, "1:1", 90),
+        (many_semicolons(alloc, 32_763, b"")?, "1:32779", 14),
+    ] {
+        let ended = call(alloc, &["once", "s.lsl"], Outside::of(script.as_slice()))?;
+        let line = refusal_line(alloc, place, number)?;
+        assert_eq!(rt; ended.status, 3, "{place} {number}");
+        assert_eq!(rt; ended.sunk.as_slice(), line.as_bytes(), "{place} {number}");
     }
     Ok(())
 }
