@@ -34,7 +34,8 @@ fn handler_body(tree: &Tree) -> Option<&[Item]>
         tree.default.as_slice(),
         tree.states.as_slice(),
     ) {
-        ([], [handler], []) if is_spelled(&handler.name, b"state_entry") && handler.params.is_empty() => {
+        ([], [handler], [])
+            if is_spelled(&handler.name, b"state_entry") && handler.params.is_empty() => {
             Some(handler.body.as_slice())
         }
         _ => None,
@@ -87,7 +88,9 @@ fn said_by(value: &Expr) -> Option<&Text>
     ensures none { IsNone result → (text : List ℕ) → IsSaying (Acted (Simple (expression_of value.now))) text → ⊥ }
 {
     match value {
-        Expr::Call { name, arguments } if is_spelled(name, b"llOwnerSay") => literal(arguments.as_slice()),
+        Expr::Call { name, arguments } if is_spelled(name, b"llOwnerSay") => literal(
+            arguments.as_slice(),
+        ),
         _ => None,
     }
 }
