@@ -1,5 +1,5 @@
 //! The files of the system.
-ghost use Rattle.std.specs.Prelude.{◌≤◌, IfOk, None, length};
+ghost use Rattle.std.specs.Prelude.{◌≡◌, ◌≤◌, IfOk, None, length};
 
 use lsl_ports::{Failed, Shelf};
 use std::fs::File;
@@ -16,7 +16,9 @@ pub struct FileShelf<'a, R: Files> {
 }
 
 impl<'a, R: Files> FileShelf<'a, R> {
-    pub fn new(files: &'a R) -> FileShelf<'a, R> {
+    pub fn new(files: &'a R) -> FileShelf<'a, R>
+        ensures { result.faults ≡ 0 }
+    {
         FileShelf { files, faults: 0 }
     }
 }

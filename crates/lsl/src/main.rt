@@ -1,6 +1,9 @@
 //! The program: the words of its command line, the files of the system and standard output.
 #![tactic(auto)]
 
+ghost use Rattle.std.specs.Prelude.{◌≡◌, ◌↔◌, None};
+ghost use Rattle.lsl_top.specs.Words.{command_of};
+
 mod copying_link;
 mod file_shelf;
 mod output_sink;
@@ -9,51 +12,53 @@ use copying_link::CopyingLink;
 use file_shelf::FileShelf;
 use lsl_top::{Status, lsl};
 use output_sink::OutputSink;
-use std::alloc::Global;
+use std::env;
 use std::io::writer;
 use std::process::ExitCode;
 use std::rt::{Env, Files};
-use std::{env, io};
 
 /// How the process ends where the environment doesn't give the words. No status has this number.
 const NO_WORDS: u8 = 9;
 
 fn main(rt: HostRuntime) -> ExitCode {
-    ExitCode::from(match words_of(&rt) {
-        Ok(words) => run(&rt, words.as_slice()).number(),
-        Err(_) => NO_WORDS,
-    })
+    let Ok(args) = env::args(&rt) else {
+        return ExitCode::from(NO_WORDS);
+    };
+    let Ok(words) = args.skip(1).collect::<Vec<String>>(rt.alloc()) else {
+        return ExitCode::from(NO_WORDS);
+    };
+    ExitCode::from(run(&rt, words.as_slice()).number())
 }
 
-/// The command's words, without the program's name.
-fn words_of<R: Env + AllocGlobal>(rt: &R) -> io::Result<Vec<String>> {
-    Ok(env::args(rt)?.skip(1).collect(rt.alloc())?)
-}
-
-/// Does what the words ask for, and says on standard error how the program is called where they
-/// are no command.
-fn run<R: Files + Print + Eprint + AllocGlobal>(rt: &R, words: &[String]) -> Status {
+/// Does what the words ask for, over the files of the system and standard output.
+fn run<R: Files + Print + Eprint + AllocGlobal>(rt: &R, words: &[String]) -> Status
+    ensures { (result ≡ Status.Usage) ↔ (command_of words.now ≡ None) }
+{
     let mut shelf = FileShelf::new(rt);
     let mut sink = OutputSink::new(writer(rt));
     let mut link = CopyingLink;
-    let alloc: Global = rt.alloc();
-    let status = lsl(alloc, words, &mut shelf, &mut sink, &mut link);
-    if status == Status::Usage {
-        let _ = say_usage(rt);
-    }
-    status
+    let status = lsl(rt.alloc(), words, &mut shelf, &mut sink, &mut link);
+    explained(rt, status)
 }
 
-/// Says in one line how the program is called, with the commands that are built.
-fn say_usage<R: Eprint>(rt: &R) -> io::Result<()> {
-    rt.eprintln("usage: lsl once FILE")
+/// The status. Where the words were no command, one line on standard error says how the program
+/// is called, with the commands that are built.
+fn explained<R: Eprint>(rt: &R, status: Status) -> Status
+    ensures { result ≡ status }
+{
+    if status == Status::Usage {
+        let _ = rt.eprintln("usage: lsl once FILE");
+    }
+    status
 }
 
 #[cfg(test)]
 mod tests {
     use super::*;
+    use std::alloc::Global;
     use std::cell::RefCell;
     use std::fmt::Display;
+    use std::io;
     use std::test::Fail;
 
     /// What was written to standard error.
@@ -66,7 +71,11 @@ mod tests {
     impl Eprint for Page {
         fn eprint<D: Display + Drop>(&self, value: D) -> io::Result<()> {
             let text = value.to_string(self.alloc)?;
-            let _ = self.text.try_replace(text);
+            let mut page = self
+                .text
+                .try_borrow_mut()
+                .map_err(|_| io::Error::from(io::ErrorKind::Other))?;
+            page.push_str(text.as_str())?;
             Ok(())
         }
 
@@ -81,10 +90,10 @@ mod tests {
             alloc: rt.alloc(),
             text: RefCell::new(String::new(rt.alloc())),
         };
-        say_usage(&page)?;
+        let _ = explained(&page, Status::ReadFault);
+        let _ = explained(&page, Status::Usage);
         let said = page.text.into_inner();
-        assert!(rt; said.as_str().starts_with("usage: lsl"));
-        assert!(rt; said.as_str().contains("once FILE"));
+        assert_eq!(rt; said.as_str(), "usage: lsl once FILE");
         Ok(())
     }
 }

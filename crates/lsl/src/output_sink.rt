@@ -1,5 +1,5 @@
 //! Standard output.
-ghost use Rattle.std.specs.Prelude.{None};
+ghost use Rattle.std.specs.Prelude.{◌≡◌, None};
 
 use lsl_ports::{Failed, Sink};
 use std::io::Write;
@@ -12,7 +12,9 @@ pub struct OutputSink<W> {
 }
 
 impl<W> OutputSink<W> {
-    pub fn new(out: W) -> OutputSink<W> {
+    pub fn new(out: W) -> OutputSink<W>
+        ensures { (result.out ≡ out) × (result.faults ≡ 0) }
+    {
         OutputSink { out, faults: 0 }
     }
 }
