@@ -51,12 +51,13 @@ fn read_at<R: Files>(files: &R, name: &str, place: u64, piece: &mut [u8]) -> io:
 mod tests {
     use super::*;
     use std::test::Fail;
-    use std::{fs, process};
+    use std::{env, fs, process};
 
     #[test]
     fn reads_a_file_that_it_wrote(rt: HostRuntime) -> Result<(), Fail> {
         let process = process::id(rt.process());
-        let path = format!(in rt.alloc(); "/tmp/lsl_file_shelf_{process}")?;
+        let name = format!(in rt.alloc(); "lsl_file_shelf_{process}")?;
+        let path = env::temp_dir(&rt)?.join(rt.alloc(), name.as_str())?;
         fs::write(&rt, path.as_str(), b"abcdef".as_slice())?;
         let mut shelf = FileShelf::new(&rt);
         let mut piece = [0u8; 3];
