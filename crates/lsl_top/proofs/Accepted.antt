@@ -1,5 +1,5 @@
 -- A file that is a script of the built part has no first fault.
-use Rattle.std.proofs.Common.{◌≡◌, ℕ, List, Option, Some, None, ◌⊎◌, inl, inr, refl, sym, ◌∙◌, subst}
+use Rattle.std.proofs.Common.{◌≡◌, ℕ, List, Option, Some, None, ◌⊎◌, inl, inr, refl, subst}
 use Rattle.lsl_ports.specs.Shelf.{Files}
 use Rattle.lsl_lex.specs.declared.token_types.Tokens.{Tokens}
 use Rattle.lsl_lex.proofs.Top.{same_tokens, no_fault}
@@ -12,7 +12,7 @@ use Rattle.lsl_top.specs.declared.status.Status.TheVariants.{Ok, Usage, BadWorld
 use Rattle.lsl_top.specs.Faults.{FirstFault}
 use Rattle.lsl_top.specs.Form.{Says, IsForm}
 use Rattle.lsl_top.specs.Promise.{SaysIn, RefusedIn, HasScript, RunsOnce}
-use Rattle.lsl_top.specs.Words.{Command, Once}
+use Rattle.lsl_top.specs.Words.{Once}
 
 pub Says-no_fault : (file : List ℕ) (texts : List (List ℕ)) (fault : BuildFault) → Says file texts → FirstFault file fault → ⊥
 Says-no_fault file texts fault says (inl lexical) = no_fault file says.tokens lexical.lexical says.lexed lexical.first

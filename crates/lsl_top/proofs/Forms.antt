@@ -1,12 +1,12 @@
 -- Scripts that say texts.
-use Rattle.std.proofs.Common.{◌<◌, zero, suc, take, drop, Option, Some, None, IfSome, ◌≡◌, ℕ, ◌≤◌, List, [], ◌∷◌, ◌++◌, length, map, ◌+◌, get_or, zero-add, arith, refl, ap, sym, ◌∙◌, subst}
+use Rattle.std.proofs.Common.{◌<◌, zero, suc, take, drop, Option, Some, None, IfSome, ◌≡◌, ℕ, ◌≤◌, List, [], ◌∷◌, ◌++◌, length, ◌+◌, get_or, zero-add, arith, refl, ap, sym, ◌∙◌, subst}
 use Rattle.std.specs.Str.{encode_utf8_all}
 use Rattle.std.proofs.lemmas.List.{map-append}
 use Rattle.lsl_tree.specs.declared.expression.Expr.{Expr}
 use Rattle.lsl_tree.specs.Expressions.{Expressions, No_expression, And, expression_of, expressions_of, expressions_behind}
 use Rattle.lsl_tree.specs.declared.statement.Item.{Item}
-use Rattle.lsl_tree.specs.Statements.{Entry, Entries, No_entry, Then, entry_of, entries_of, entries_behind}
-use Rattle.lsl_top.specs.Form.{utf8_of, IsShort, IsLiteralOf, IsSaying, AreSayings, AreLiterals, Says}
+use Rattle.lsl_tree.specs.Statements.{Entries, No_entry, Then, entry_of, entries_of, entries_behind}
+use Rattle.lsl_top.specs.Form.{utf8_of, IsLiteralOf, IsSaying, AreSayings, AreLiterals, Says}
 
 -- a fact of a value, where there is one, leads to another
 pub if_some : {A : Type 0} (o : Option A) (P Q : A → Type 0) → IfSome o P → ((x : A) → P x → Q x) → IfSome o Q

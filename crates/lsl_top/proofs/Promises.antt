@@ -1,10 +1,10 @@
 -- From what was read of a file to what its shelf holds.
-use Rattle.std.proofs.Common.{◌≡◌, ℕ, ◌+◌, ◌<◌, ◌≤◌, List, length, take, Option, Some, None, ◌⊎◌, inl, inr, refl, ap, sym, ◌∙◌, subst, arith}
+use Rattle.std.proofs.Common.{◌≡◌, ℕ, ◌<◌, ◌≤◌, List, length, Option, Some, None, ◌⊎◌, inl, inr, sym, ◌∙◌, subst, arith}
 use Rattle.std.proofs.lemmas.List.{take_all, length-take}
 use Rattle.std.proofs.lemmas.Bool.{cases_lt}
 use Rattle.lsl_ports.specs.Shelf.{Files, IsHead, IsHeadOf, head_of}
-use Rattle.lsl_ports.specs.Sink.{Grew, GrewByPrefix}
-use Rattle.lsl_lex.specs.Lexed.{Lexes, LexFirst, IsFirstFault}
+use Rattle.lsl_ports.specs.Sink.{Grew}
+use Rattle.lsl_lex.specs.Lexed.{LexFirst, IsFirstFault}
 use Rattle.lsl_lex.specs.declared.faults.LexFault.{LexFault}
 use Rattle.lsl_lex.specs.declared.faults.LexKind.{LexKind}
 use Rattle.lsl_lex.specs.declared.faults.LexKind.TheVariants.{NotText, StringEnd, CommentEnd, FloatLiteral, StrayCharacter, TextTooLong}
@@ -12,11 +12,10 @@ use Rattle.lsl_top.specs.declared.build_fault.BuildFault.{BuildFault}
 use Rattle.lsl_top.specs.declared.status.Status.{Status}
 use Rattle.lsl_top.specs.declared.status.Status.TheVariants.{Ok, Usage, BadWorld, BadScript, ReadFault, WriteFault, BadImage, NoMemory}
 use Rattle.lsl_top.specs.Answer.{IsReport, IsRefusal, Wrote}
-use Rattle.lsl_top.specs.Faults.{IsLexical, IsSyntactic, IsOutside, FirstFault}
-use Rattle.lsl_top.specs.Form.{Says, SaysNothing}
-use Rattle.lsl_top.specs.Journal.{report_of, refusal_of}
+use Rattle.lsl_top.specs.Faults.{FirstFault}
+use Rattle.lsl_top.specs.Form.{Says}
 use Rattle.lsl_top.specs.Promise.{SaysIn, RefusedIn, Accepts, Refuses, OutputOf, RunsOnce}
-use Rattle.lsl_top.specs.Words.{Command, Once}
+use Rattle.lsl_top.specs.Words.{Once}
 use Rattle.lsl_top.proofs.Forms.{AreLiterals-from_says}
 
 -- a head that is short is the file

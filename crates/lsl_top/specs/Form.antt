@@ -8,7 +8,7 @@ use Rattle.lsl_lex.specs.declared.token_types.Tokens.{Tokens}
 use Rattle.lsl_tree.specs.declared.expression.Name.{Name}
 use Rattle.lsl_tree.specs.Expressions.{Expressions, Called, Quoted, And, No_expression}
 use Rattle.lsl_tree.specs.Statements.{Entry, Entries, Acted, Simple, No_entry, Then}
-use Rattle.lsl_tree.specs.Scripts.{Script, Handling}
+use Rattle.lsl_tree.specs.Scripts.{Script}
 use Rattle.lsl_parse.specs.Faults.{Derives}
 
 -- texts as bytes

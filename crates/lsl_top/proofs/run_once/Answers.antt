@@ -1,4 +1,4 @@
-use Rattle.std.proofs.Common.{Option, List, ℕ, subst}
+use Rattle.std.proofs.Common.{subst}
 use Rattle.lsl_top.specs.declared.status.Status.{Status}
 use Rattle.lsl_top.specs.Answer.{Wrote}
 use Rattle.lsl_top.proofs.Accepted.{once_complete}

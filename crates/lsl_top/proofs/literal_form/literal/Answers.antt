@@ -1,4 +1,4 @@
-use Rattle.std.proofs.Common.{◌≡◌, length, subst}
+use Rattle.std.proofs.Common.{subst}
 use Rattle.lsl_tree.specs.Expressions.{Expressions}
 use Rattle.lsl_top.specs.Form.{IsLiteralOf}
 use Rattle.lsl_top.proofs.Forms.{length-literal, expressions_of-one}

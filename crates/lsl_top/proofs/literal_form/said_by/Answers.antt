@@ -1,8 +1,8 @@
 use Rattle.std.proofs.Common.{◌≡◌, ◌∙◌, ap, sym, subst, rules, codes}
 use Rattle.lsl_tree.specs.Expressions.{Expression, Expressions, Called, expression_of, expressions_of}
-use Rattle.lsl_tree.specs.Statements.{Entry, Acted, Simple}
+use Rattle.lsl_tree.specs.Statements.{Acted, Simple}
 use Rattle.lsl_parse.proofs.Views.{expression_of-Call}
-use Rattle.lsl_top.specs.Form.{IsLiteralOf, IsSaying, IsSpelled}
+use Rattle.lsl_top.specs.Form.{IsLiteralOf, IsSpelled}
 use Rattle.lsl_top.proofs.Forms.{if_some}
 use Rattle.lsl_top.proofs.literal_form.said_by.Goals as goal
 
