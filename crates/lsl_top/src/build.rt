@@ -1,6 +1,6 @@
 //! The compiler of the built part: scripts that say literal texts.
 
-ghost use Rattle.std.specs.Prelude.{◌≡◌, ℕ, List, IfOk, IsErrOf, IfErr};
+ghost use Rattle.std.specs.Prelude.{◌≡◌, ℕ, List, IfOk, IsErrOf};
 ghost use Rattle.lsl_text.specs.declared.Refusal.TheVariants as refusals;
 ghost use Rattle.lsl_top.specs.Faults.{FirstFault, lexical_fault_of, lexical_number_of, refused_with, syntax_fault_of};
 ghost use Rattle.lsl_top.specs.Form.{utf8_of, Says};
@@ -13,7 +13,7 @@ use crate::program::unit_of;
 use lsl_code::Woven;
 use lsl_lex::{LexFault, LexKind, lex};
 use lsl_parse::{ParseFault, parse};
-use lsl_text::{NoMemory, Refusal};
+use lsl_text::Refusal;
 use lsl_value::Text;
 use std::alloc::Global;
 
