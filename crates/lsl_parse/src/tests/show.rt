@@ -1,9 +1,9 @@
 //! Trees in a compact form: an operator before its operands, in parentheses.
 
 use lsl_tree::{
-    AssignOp, Atom, Expr, Handler, Header, Item, Param, Simple, StateName, StepOp, Stmt, Tree,
+    AssignOp, Atom, Expr, Handler, Header, Item, Name, Param, Simple, StateName, StepOp, Stmt, Tree,
 };
-use lsl_value::{BinaryOp, Kind, UnaryOp};
+use lsl_value::{BinaryOp, Kind, Text, UnaryOp};
 use std::alloc::{AllocError, Global};
 
 fn unary_sign(op: UnaryOp) -> &'static str {
@@ -64,29 +64,34 @@ fn kind_word(kind: Kind) -> &'static str {
     }
 }
 
-fn words(out: &mut String, all: &[&str]) -> Result<(), AllocError> {
-    for word in all {
-        out.push_str(word)?;
-    }
-    Ok(())
+fn quoted(out: &mut String, text: &Text) -> Result<(), AllocError> {
+    let text = text.as_str();
+    write!(out, "\"{text}\"")
+}
+
+fn name_of(name: &Name) -> &str {
+    name.text.as_str()
 }
 
 #[cycle(show_expression)]
 fn expr(out: &mut String, shown: &Expr) -> Result<(), AllocError> {
     match shown {
         Expr::Int { value, .. } => write!(out, "{value}"),
-        Expr::Str { text, .. } => words(out, &["\"", text.as_str(), "\""]),
+        Expr::Str { text, .. } => quoted(out, text),
         Expr::Variable { name } => out.push_str(name.text.as_str()),
-        Expr::StepBehind { name, op } => words(
-            out,
-            &["(", name.text.as_str(), " ", step_sign(*op), ")"],
-        ),
-        Expr::StepBefore { op, name, .. } => words(
-            out,
-            &["(", step_sign(*op), " ", name.text.as_str(), ")"],
-        ),
+        Expr::StepBehind { name, op } => {
+            let name = name_of(name);
+            let sign = step_sign(*op);
+            write!(out, "({name} {sign})")
+        }
+        Expr::StepBefore { op, name, .. } => {
+            let name = name_of(name);
+            let sign = step_sign(*op);
+            write!(out, "({sign} {name})")
+        }
         Expr::Call { name, arguments } => {
-            words(out, &["(", name.text.as_str(), " "])?;
+            let name = name_of(name);
+            write!(out, "({name} ")?;
             for argument in arguments {
                 expr(out, argument)?;
                 out.push_str(" ")?;
@@ -107,12 +112,14 @@ fn expr(out: &mut String, shown: &Expr) -> Result<(), AllocError> {
             out.push_str(")")
         }
         Expr::Cast { kind, operand, .. } => {
-            words(out, &["(", kind_word(*kind), " "])?;
+            let word = kind_word(*kind);
+            write!(out, "({word} ")?;
             expr(out, operand)?;
             out.push_str(")")
         }
         Expr::Unary { op, operand, .. } => {
-            words(out, &["(", unary_sign(*op), " "])?;
+            let sign = unary_sign(*op);
+            write!(out, "({sign} ")?;
             expr(out, operand)?;
             out.push_str(")")
         }
@@ -122,7 +129,8 @@ fn expr(out: &mut String, shown: &Expr) -> Result<(), AllocError> {
             right,
             ..
         } => {
-            words(out, &["(", binary_sign(*op), " "])?;
+            let sign = binary_sign(*op);
+            write!(out, "({sign} ")?;
             expr(out, left)?;
             out.push_str(" ")?;
             expr(out, right)?;
@@ -134,7 +142,9 @@ fn expr(out: &mut String, shown: &Expr) -> Result<(), AllocError> {
             value,
             ..
         } => {
-            words(out, &["(", assign_sign(*op), " ", name.text.as_str(), " "])?;
+            let sign = assign_sign(*op);
+            let name = name_of(name);
+            write!(out, "({sign} {name} ")?;
             expr(out, value)?;
             out.push_str(")")
         }
@@ -215,7 +225,10 @@ fn stmt(out: &mut String, shown: &Stmt) -> Result<(), AllocError> {
             stmt(out, body)?;
             out.push_str(")")
         }
-        Stmt::Jump { label, .. } => words(out, &["(jump ", label.text.as_str(), ")"]),
+        Stmt::Jump { label, .. } => {
+            let label = name_of(label);
+            write!(out, "(jump {label})")
+        }
         Stmt::Return { value: None, .. } => out.push_str("(return)"),
         Stmt::Return {
             value: Some(value),
@@ -232,7 +245,10 @@ fn stmt(out: &mut String, shown: &Stmt) -> Result<(), AllocError> {
         Stmt::State {
             state: StateName::Named(name),
             ..
-        } => words(out, &["(state ", name.text.as_str(), ")"]),
+        } => {
+            let name = name_of(name);
+            write!(out, "(state {name})")
+        }
     }
 }
 
@@ -240,14 +256,19 @@ fn stmt(out: &mut String, shown: &Stmt) -> Result<(), AllocError> {
 fn item(out: &mut String, shown: &Item) -> Result<(), AllocError> {
     match shown {
         Item::Declaration { kind, name, value } => {
-            words(out, &["(", kind_word(*kind), " ", name.text.as_str()])?;
+            let word = kind_word(*kind);
+            let name = name_of(name);
+            write!(out, "({word} {name}")?;
             if let Some(value) = value {
                 out.push_str(" ")?;
                 expr(out, value)?;
             }
             out.push_str(")")
         }
-        Item::Label { name } => words(out, &["(@ ", name.text.as_str(), ")"]),
+        Item::Label { name } => {
+            let name = name_of(name);
+            write!(out, "(@ {name})")
+        }
         Item::Statement { statement } => stmt(out, statement),
     }
 }
@@ -264,10 +285,9 @@ fn block(out: &mut String, items: &[Item]) -> Result<(), AllocError> {
 fn params(out: &mut String, all: &[Param]) -> Result<(), AllocError> {
     out.push_str("( ")?;
     for param in all {
-        words(
-            out,
-            &[kind_word(param.kind), " ", param.name.text.as_str(), " "],
-        )?;
+        let word = kind_word(param.kind);
+        let name = name_of(&param.name);
+        write!(out, "{word} {name} ")?;
     }
     out.push_str(") ")
 }
@@ -276,7 +296,7 @@ fn atom(out: &mut String, shown: &Atom) -> Result<(), AllocError> {
     match shown {
         Atom::Int { value, .. } => write!(out, "{value}"),
         Atom::Negative { value, .. } => write!(out, "-{value}"),
-        Atom::Str { text, .. } => words(out, &["\"", text.as_str(), "\""]),
+        Atom::Str { text, .. } => quoted(out, text),
         Atom::Constant { name } => out.push_str(name.text.as_str()),
     }
 }
@@ -298,10 +318,9 @@ fn simple(out: &mut String, shown: &Simple) -> Result<(), AllocError> {
 fn header(out: &mut String, shown: &Header) -> Result<(), AllocError> {
     match shown {
         Header::Global { global } => {
-            words(
-                out,
-                &["(", kind_word(global.kind), " ", global.name.text.as_str()],
-            )?;
+            let word = kind_word(global.kind);
+            let name = name_of(&global.name);
+            write!(out, "({word} {name}")?;
             if let Some(value) = &global.value {
                 out.push_str(" ")?;
                 simple(out, value)?;
@@ -310,9 +329,11 @@ fn header(out: &mut String, shown: &Header) -> Result<(), AllocError> {
         Header::Function { function } => {
             out.push_str("(")?;
             if let Some(kind) = function.kind {
-                words(out, &[kind_word(kind), " "])?;
+                let word = kind_word(kind);
+                write!(out, "{word} ")?;
             }
-            words(out, &[function.name.text.as_str(), " "])?;
+            let name = name_of(&function.name);
+            write!(out, "{name} ")?;
             params(out, function.params.as_slice())?;
             block(out, function.body.as_slice())?;
         }
@@ -322,7 +343,8 @@ fn header(out: &mut String, shown: &Header) -> Result<(), AllocError> {
 
 fn handlers(out: &mut String, all: &[Handler]) -> Result<(), AllocError> {
     for handler in all {
-        words(out, &[" (", handler.name.text.as_str(), " "])?;
+        let name = name_of(&handler.name);
+        write!(out, " ({name} ")?;
         params(out, handler.params.as_slice())?;
         block(out, handler.body.as_slice())?;
         out.push_str(")")?;
@@ -339,7 +361,8 @@ pub fn shown(alloc: Global, tree: &Tree) -> Result<String, AllocError> {
     out.push_str("default")?;
     handlers(&mut out, tree.default.as_slice())?;
     for state in &tree.states {
-        words(&mut out, &[" (state ", state.name.text.as_str()])?;
+        let name = name_of(&state.name);
+        write!(out, " (state {name}")?;
         handlers(&mut out, state.handlers.as_slice())?;
         out.push_str(")")?;
     }
