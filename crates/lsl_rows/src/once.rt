@@ -128,10 +128,17 @@ fn every_byte_in_a_literal(rt: HostRuntime) -> Result<(), Fail> {
     Ok(())
 }
 
+fn push_many(out: &mut Vec<u8>, byte: u8, count: usize) -> Result<(), AllocError> {
+    for _ in 0..count {
+        out.push(byte)?;
+    }
+    Ok(())
+}
+
 /// A handler of empty statements.
 fn many_semicolons(alloc: Global, count: usize, end: &[u8]) -> Result<Vec<u8>, AllocError> {
     let mut script = Vec::from_slice(alloc, b"default{timer(){")?;
-    script.resize(script.len() + count, b';')?;
+    push_many(&mut script, b';', count)?;
     script.extend_from_slice(end)?;
     Ok(script)
 }
@@ -139,8 +146,9 @@ fn many_semicolons(alloc: Global, count: usize, end: &[u8]) -> Result<Vec<u8>, A
 /// So many blocks in one another, in a handler.
 fn nested_blocks(alloc: Global, count: usize) -> Result<Vec<u8>, AllocError> {
     let mut script = Vec::from_slice(alloc, b"default{state_entry(){")?;
-    script.resize(script.len() + count, b'{')?;
-    script.resize(script.len() + count + 2, b'}')?;
+    push_many(&mut script, b'{', count)?;
+    push_many(&mut script, b'}', count)?;
+    script.extend_from_slice(b"}}")?;
     Ok(script)
 }
 
