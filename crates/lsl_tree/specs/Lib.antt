@@ -1,3 +1,7 @@
+pub mod Actions
 pub mod Expressions
-pub mod Statements
+pub mod Nodes
+pub mod Program
 pub mod Scripts
+pub mod Shape
+pub mod Statements

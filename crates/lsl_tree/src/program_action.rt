@@ -1,0 +1,88 @@
+//! Statements of a checked program.
+
+use crate::program_node::{Callee, Node};
+use lsl_value::Kind;
+
+/// An expression that stands as a statement: its value is dropped, or there is none.
+#[derive(Drop)]
+pub enum Effect {
+    Value {
+        node: Node,
+    },
+    /// A call without a result, on this line of the text.
+    Call {
+        callee: Callee,
+        line: u32,
+        arguments: Vec<Node>,
+    },
+}
+
+/// A statement. Lines are those of the text, at which a script may wait.
+#[derive(Drop)]
+pub enum Action {
+    /// Statements of one block. The labels that stand directly in it are visible in all of it.
+    Block {
+        actions: Vec<Action>,
+    },
+    Effect {
+        effect: Effect,
+    },
+    /// A declaration, which stores the value in its slot.
+    Declare {
+        slot: usize,
+        value: Node,
+    },
+    /// The place of the label of this number: none of an enclosing block has the same number.
+    Label {
+        label: usize,
+    },
+    If {
+        test: Node,
+        then: Box<Action>,
+    },
+    IfElse {
+        test: Node,
+        then: Box<Action>,
+        otherwise: Box<Action>,
+    },
+    /// `while` and `for`: the steps are done between two rounds.
+    Loop {
+        line: u32,
+        test: Node,
+        steps: Vec<Effect>,
+        body: Box<Action>,
+    },
+    /// `do`: the body comes before its first test.
+    Do {
+        line: u32,
+        body: Box<Action>,
+        test: Node,
+    },
+    /// Goes on behind the label of this number.
+    Jump {
+        line: u32,
+        label: usize,
+    },
+    Return,
+    ReturnValue {
+        value: Node,
+    },
+    /// Goes to the state of this number.
+    State {
+        state: usize,
+    },
+}
+
+/// A function, or the handler of an event.
+#[derive(Drop)]
+pub struct Routine {
+    /// Where its name stands in the text.
+    pub line: u32,
+    /// The kind of its result, if it has one.
+    pub kind: Option<Kind>,
+    /// How many of the slots are parameters: they are the first.
+    pub params: usize,
+    /// The kinds of parameters and local variables, in the order of declaration.
+    pub slots: Vec<Kind>,
+    pub body: Vec<Action>,
+}

@@ -1,0 +1,92 @@
+//! Expressions of a checked program. Each gives a value.
+
+use crate::expression::StepOp;
+use lsl_value::{BinaryOp, BuiltinId, ConstantId, Kind, Text, UnaryOp};
+
+/// Where a variable's value is kept: among the globals, or among the slots of the function in hand.
+#[derive(Clone, Copy, Debug, PartialEq, Eq, Hash)]
+pub enum Place {
+    Global(usize),
+    Slot(usize),
+}
+
+/// What a call calls: the program's function of this number, or a built-in call.
+#[derive(Clone, Copy, Debug, PartialEq, Eq, Hash)]
+pub enum Callee {
+    Function(usize),
+    Builtin(BuiltinId),
+}
+
+/// An expression. Where its form doesn't tell its kind, it holds it; a cast that nobody wrote is a node like any other.
+#[derive(Drop)]
+pub enum Node {
+    Int {
+        value: i32,
+    },
+    Str {
+        text: Text,
+    },
+    Constant {
+        id: ConstantId,
+        kind: Kind,
+    },
+    Variable {
+        place: Place,
+        kind: Kind,
+    },
+    /// A call with a result of this kind, on this line of the text.
+    Call {
+        callee: Callee,
+        kind: Kind,
+        line: u32,
+        arguments: Vec<Node>,
+    },
+    List {
+        elements: Vec<Node>,
+    },
+    /// The operand as a value of this kind.
+    Cast {
+        kind: Kind,
+        operand: Box<Node>,
+    },
+    Unary {
+        op: UnaryOp,
+        operand: Box<Node>,
+    },
+    Binary {
+        op: BinaryOp,
+        kind: Kind,
+        left: Box<Node>,
+        right: Box<Node>,
+    },
+    /// Stores the value, and gives it.
+    Assign {
+        place: Place,
+        kind: Kind,
+        value: Box<Node>,
+    },
+    /// `x++`, `x--`: steps an integer variable, and gives what it held before.
+    StepBehind {
+        place: Place,
+        op: StepOp,
+    },
+}
+
+impl Node {
+    ghost use Rattle.std.specs.Prelude.{◌≡◌};
+    ghost use Rattle.lsl_tree.specs.Nodes.{node_of, kind_of};
+
+    /// The kind of the expression's value. Takes no memory.
+    pub fn kind(&self) -> Kind
+        ensures { result ≡ kind_of (node_of self.now) }
+    {
+        match self {
+            Node::Int { .. } | Node::StepBehind { .. } | Node::Unary { .. } => Kind::Int,
+            Node::Str { .. } => Kind::Str,
+            Node::List { .. } => Kind::List,
+            Node::Constant { kind, .. } | Node::Variable { kind, .. } => *kind,
+            Node::Call { kind, .. } | Node::Cast { kind, .. } => *kind,
+            Node::Binary { kind, .. } | Node::Assign { kind, .. } => *kind,
+        }
+    }
+}
