@@ -6,17 +6,15 @@ use Rattle.lsl_text.specs.declared.Span.{Span}
 use Rattle.lsl_lex.specs.declared.token_types.Token.{Token}
 use Rattle.lsl_tree.specs.Scripts.{Script}
 use Rattle.lsl_grammar.specs.declared.Why.{Why}
-use Rattle.lsl_grammar.specs.Reading.{Read}
 use Rattle.lsl_parse.specs.declared.limits.TheConstants.{DEPTH, TOKENS}
 use Rattle.lsl_parse.specs.declared.fault.ParseKind.{ParseKind}
-use Rattle.lsl_parse.specs.declared.fault.ParseKind.TheVariants.{TooLarge}
 use Rattle.lsl_parse.specs.declared.fault.ParseFault.{ParseFault}
 use Rattle.lsl_parse.specs.ScriptGrammar.{script}
 use Rattle.lsl_parse.specs.ScriptReading.{all_r}
 use Rattle.lsl_parse.specs.Faults.{Derives, ParseFirst, IsFirst, IsThat, span_at}
 use Rattle.lsl_parse.specs.FaultReading.{fault_kind, large_fault, stop_fault, answer_to, answer_of}
 use Rattle.lsl_parse.proofs.Top.{Narrow, Reading, take_length}
-use Rattle.lsl_parse.proofs.FirstFault.{nothing_behind, found, every, every_same, every_none, first_stop, large_stop, large_script, one_first, no_first}
+use Rattle.lsl_parse.proofs.FirstFault.{nothing_behind, found, every, first_stop, large_stop, large_script, one_first, no_first}
 
 -- the fault of a stop is the first
 pub stop_first : (ts rest : List Token) (w : Why) (end : Span) → all_r Narrow DEPTH ts ≡ Err (w, rest) → IsFirst ts end (stop_fault ts end w rest)

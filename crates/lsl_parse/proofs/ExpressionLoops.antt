@@ -11,7 +11,7 @@ use Rattle.lsl_parse.specs.declared.kind.TokenKind.TheVariants.{Comma}
 use Rattle.lsl_parse.specs.Kinds.{codes, number}
 use Rattle.lsl_parse.specs.Operators.{signs}
 use Rattle.lsl_parse.specs.ExpressionGrammar.{sign, fits, gate, operation, level, expr}
-use Rattle.lsl_parse.specs.ExpressionReading.{while_r, next_r, next_operand_r, level_rule_r, unary_rule_r, expr_rule_r, Room_r, Full_r, Inside_r, room_r, expr_r, unary_r, level_r}
+use Rattle.lsl_parse.specs.ExpressionReading.{while_r, next_r, next_operand_r, level_rule_r, unary_rule_r, expr_rule_r, Inside_r, room_r, expr_r, unary_r, level_r}
 use Rattle.lsl_parse.proofs.ExpressionRules.{heads, tails, expr_tails, U, Ur, next_solid, operation_solid, level_solid, unary_solid, below_all, expr_is_read}
 
 -- with room for a construct, its parts have one less

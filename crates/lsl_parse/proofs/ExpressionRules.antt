@@ -1,19 +1,19 @@
 -- Each rule of expressions is read.
-use Rattle.std.proofs.Common.{◌≡◌, ℕ, zero, suc, ◌<◌, Bool, true, false, Option, None, Some, List, [], ◌∷◌, ◌++◌, inl, inr, refl, arith}
+use Rattle.std.proofs.Common.{◌≡◌, ℕ, zero, suc, ◌<◌, Bool, true, false, Option, None, List, [], ◌∷◌, ◌++◌, inl, inr, refl, arith}
 use Rattle.lsl_lex.specs.declared.token_types.Token.{Token}
-use Rattle.lsl_tree.specs.Expressions.{Expression, Expressions, Number, Quoted, Variable, SteppedBehind, SteppedBefore, Called, Listed, Grouped, Converted, Prefixed, Joined, Assigned, No_expression, And}
+use Rattle.lsl_tree.specs.Expressions.{Expression, Number, Quoted, Variable, SteppedBehind, SteppedBefore, Called, Listed, Grouped, Converted, Prefixed, Joined, Assigned, No_expression, And}
 use Rattle.lsl_grammar.specs.declared.Why.TheVariants.{Unexpected, OperandDue}
-use Rattle.lsl_grammar.specs.Language.{among, ret, ◌>>=◌ as ◌>=>◌, ◌∣◌}
-use Rattle.lsl_grammar.specs.Reading.{ret_r, then_r}
-use Rattle.lsl_grammar.proofs.ReadsLanguage.{Sub, Apart}
-use Rattle.lsl_grammar.proofs.Rule.{subset, disjoint, sub_by, apart_by, sub_left, sub_right, append_none, Rule, Solid, ret_rule, sign_rule, solid_sign, solid_then, solid_ret, solid_rounds, solid_or, or_more, solid_shut, solid_wider}
+use Rattle.lsl_grammar.specs.Language.{among, ret, ◌>>=◌ as ◌>=>◌}
+use Rattle.lsl_grammar.specs.Reading.{then_r}
+use Rattle.lsl_grammar.proofs.ReadsLanguage.{Apart}
+use Rattle.lsl_grammar.proofs.Rule.{disjoint, sub_by, apart_by, sub_left, sub_right, append_none, Rule, Solid, ret_rule, sign_rule, solid_sign, solid_then, solid_ret, solid_rounds, solid_or, or_more, solid_shut}
 use Rattle.lsl_grammar.proofs.Pair.{pair_solid}
 use Rattle.lsl_parse.specs.declared.kind.TokenKind.{TokenKind}
 use Rattle.lsl_parse.specs.declared.kind.TokenKind.TheVariants.{Name, Int, Str, PlusPlus, MinusMinus, Minus, Bang, Tilde, ParenOpen, ParenClose, BracketOpen, BracketClose, Comma}
 use Rattle.lsl_parse.specs.Kinds.{code, codes, number, types, type_of, name_of, text_of, integer_of}
 use Rattle.lsl_parse.specs.Operators.{prefix_signs, prefix_of, step_signs, step_of, assign_signs, assign_of, levels, signs, operator_of}
-use Rattle.lsl_parse.specs.ExpressionGrammar.{Language, any, sign, series, listing, expressions, construct, prefix, step_before, group, list, string, integer, arguments, named, unary_rule, fits, gate, operation, level, assignment, expr_rule, room_of, expr}
-use Rattle.lsl_parse.specs.ExpressionReading.{Reads, any_r, sign_r, next_r, series_r, listing_r, expressions_r, construct_r, prefix_r, step_before_r, group_r, list_r, string_r, integer_r, arguments_r, named_r, unary_rule_r, gate_r, operation_r, next_operand_r, level_rule_r, value_r, assignment_r, expr_rule_r, room_r, expr_r}
+use Rattle.lsl_parse.specs.ExpressionGrammar.{Language, any, sign, series, listing, expressions, construct, prefix, step_before, group, list, string, integer, arguments, named, unary_rule, fits, gate, operation, level, expr_rule, room_of, expr}
+use Rattle.lsl_parse.specs.ExpressionReading.{Reads, any_r, next_r, series_r, listing_r, expressions_r, construct_r, prefix_r, step_before_r, group_r, list_r, string_r, integer_r, arguments_r, named_r, unary_rule_r, gate_r, next_operand_r, level_rule_r, expr_rule_r, room_r, expr_r}
 
 -- an operand begins with an INT
 abbrev pub probe : ℕ

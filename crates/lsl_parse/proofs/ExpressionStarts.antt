@@ -1,5 +1,5 @@
 -- What begins no expression is refused at once, as an operand that is due, and each of the first tokens begins one.
-use Rattle.std.proofs.Common.{◌≡◌, ℕ, zero, suc, Bool, true, false, cond, Option, None, Some, List, [], ◌∷◌, ◌++◌, Ok, Err, inl, inr, ⊎_elim, refl, ap, ◌∙◌}
+use Rattle.std.proofs.Common.{◌≡◌, ℕ, zero, suc, true, false, Option, List, [], ◌∷◌, ◌++◌, Err, inl, inr, ⊎_elim, refl, ap, ◌∙◌}
 use Rattle.lsl_lex.specs.declared.token_types.Token.{Token}
 use Rattle.lsl_tree.specs.Expressions.{Expression, Number}
 use Rattle.lsl_grammar.specs.declared.Why.{Why}
@@ -12,9 +12,9 @@ use Rattle.lsl_parse.specs.declared.kind.TokenKind.{TokenKind}
 use Rattle.lsl_parse.specs.declared.kind.TokenKind.TheVariants.{Name, Int, Str, ParenOpen, BracketOpen}
 use Rattle.lsl_parse.specs.Kinds.{codes, number, integer_of}
 use Rattle.lsl_parse.specs.Operators.{prefix_signs, step_signs, assign_signs, levels, signs}
-use Rattle.lsl_parse.specs.ExpressionGrammar.{Language, unary_rule, level, room_of, expr}
+use Rattle.lsl_parse.specs.ExpressionGrammar.{Language, level, expr}
 use Rattle.lsl_parse.specs.ExpressionReading.{Reads, while_r, next_operand_r, unary_rule_r, level_rule_r, Room_r, room_r, expr_r}
-use Rattle.lsl_parse.proofs.ExpressionRules.{heads, U, Ur, E}
+use Rattle.lsl_parse.proofs.ExpressionRules.{heads, U}
 
 pub no_test : (all ks : List TokenKind) (t : Token) → subset (codes ks) (codes all) ≡ true → among (number t) (codes all) ≡ false → among (number t) (codes ks) ≡ false
 no_test all ks t s e = stops_sub number (codes ks) (codes all) (t ∷ []) (sub_by (codes ks) (codes all) s) e

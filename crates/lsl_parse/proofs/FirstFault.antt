@@ -1,24 +1,24 @@
 -- The reader of whole texts: what it reads is their tree, and where it stops is their first fault; there are no others.
-use Rattle.std.proofs.Common.{◌≡◌, ℕ, zero, suc, ◌+◌, ◌-◌, ◌<◌, ◌≤◌, List, [], ◌∷◌, ◌++◌, length, take, Ok, Err, inl, inr, ⊎_elim, refl, sym, ap, ◌∙◌, subst, arith, length-append, append-nil}
+use Rattle.std.proofs.Common.{◌≡◌, ℕ, ◌+◌, ◌<◌, ◌≤◌, List, [], ◌∷◌, length, take, Ok, Err, ⊎_elim, refl, sym, ap, ◌∙◌, subst, arith, length-append, append-nil}
 use Rattle.std.proofs.lemmas.Bool.{cases_lt}
 use Rattle.lsl_text.specs.declared.Span.{Span}
 use Rattle.lsl_lex.specs.declared.token_types.Token.{Token}
 use Rattle.lsl_tree.specs.Scripts.{Script}
 use Rattle.lsl_grammar.specs.declared.Why.{Why}
 use Rattle.lsl_grammar.specs.declared.Why.TheVariants as why
-use Rattle.lsl_grammar.specs.Reading.{Read, ◌>>=◌}
+use Rattle.lsl_grammar.specs.Reading.{◌>>=◌}
 use Rattle.lsl_grammar.proofs.ReadsLanguage.{ok_parts, err_parts}
 use Rattle.lsl_grammar.proofs.Rule.{no_ends}
-use Rattle.lsl_parse.specs.declared.limits.TheConstants.{DEPTH, HEIGHT, TOKENS}
+use Rattle.lsl_parse.specs.declared.limits.TheConstants.{DEPTH, TOKENS}
 use Rattle.lsl_parse.specs.declared.fault.ParseKind.{ParseKind}
 use Rattle.lsl_parse.specs.declared.fault.ParseKind.TheVariants.{Unexpected, EndOfText, FloatType, TooDeep, TooLarge}
 use Rattle.lsl_parse.specs.Kinds.{number}
 use Rattle.lsl_parse.specs.ScriptGrammar.{script}
 use Rattle.lsl_parse.specs.ScriptReading.{script_r, end_r, all_r}
-use Rattle.lsl_parse.specs.Faults.{Derives, Shallow, Within, Open, Breaks, ParseFirst, span_at}
+use Rattle.lsl_parse.specs.Faults.{Derives, Shallow, Within, Breaks, ParseFirst, span_at}
 use Rattle.lsl_parse.specs.FaultReading.{fault_kind}
 use Rattle.lsl_parse.proofs.ExpressionRules.{probe}
-use Rattle.lsl_parse.proofs.Top.{Narrow, Reading, wide_rule, wide_same, not_open, foreign_behind, foreign_breaks, front, first_at, too_many, Stopped, stop_of, shallow_open, span-at, length_take_all, take_length}
+use Rattle.lsl_parse.proofs.Top.{Narrow, Reading, wide_rule, wide_same, not_open, foreign_behind, foreign_breaks, front, first_at, too_many, Stopped, stop_of, shallow_open, span-at, length_take_all}
 
 narrow : (u : List Token) (x : Script) → (script Narrow DEPTH).whole u x → Shallow u
 narrow u x w = (wide_rule Narrow DEPTH (DEPTH + 2) (omega arith)).reads.within u x w

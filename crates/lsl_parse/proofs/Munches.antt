@@ -2,17 +2,16 @@
 use Rattle.std.proofs.Common.{◌≡◌, ℕ, zero, suc, Bool, true, false, cond, Option, None, Some, List, [], ◌∷◌, Ok, Err, refl, sym, ap, ◌∙◌}
 use Rattle.lsl_text.specs.declared.Span.{Span}
 use Rattle.lsl_lex.specs.declared.token_types.Token.{Token}
-use Rattle.lsl_tree.specs.declared.statement.StateName.TheVariants as state
 use Rattle.lsl_tree.specs.Expressions.{Expression}
 use Rattle.lsl_tree.specs.Statements.{Statement, Braces, Nothing, Simple, When, Either, Whilst, Until, Repeat, Jump, Return, Change, ends_open}
 use Rattle.lsl_grammar.specs.declared.Why.{Why}
-use Rattle.lsl_grammar.specs.Reading.{Read, ◌>>=◌, begins, ret_r, one_r, then_r, or_r, deep_r}
+use Rattle.lsl_grammar.specs.Reading.{Read, ◌>>=◌, begins, ret_r, then_r, deep_r}
 use Rattle.lsl_grammar.proofs.ReadsLanguage.{ok_value, ok_rest, not_both}
 use Rattle.lsl_parse.specs.declared.kind.TokenKind.{TokenKind}
-use Rattle.lsl_parse.specs.declared.kind.TokenKind.TheVariants.{Name, DefaultWord, StateWord, IfWord, ElseWord, ForWord, DoWord, WhileWord, JumpWord, ReturnWord, ParenOpen, ParenClose, BraceOpen, Semicolon}
+use Rattle.lsl_parse.specs.declared.kind.TokenKind.TheVariants.{Name, StateWord, IfWord, ElseWord, ForWord, DoWord, WhileWord, JumpWord, ReturnWord, ParenOpen, ParenClose, BraceOpen, Semicolon}
 use Rattle.lsl_parse.specs.Kinds.{codes, number, name_of}
 use Rattle.lsl_parse.specs.ExpressionReading.{Reads, sign_r, where_r, expressions_r, expr_r}
-use Rattle.lsl_parse.specs.StatementReading.{statement_heads, Home_r, Shut_r, Holds_r, body_r, block_r, braces_r, else_r, if_r, while_rule_r, do_r, for_r, jump_r, return_r, state_name_r, state_r, simple_r, statement_rule_r, home_r}
+use Rattle.lsl_parse.specs.StatementReading.{statement_heads, Home_r, body_r, block_r, braces_r, else_r, if_r, while_rule_r, do_r, for_r, jump_r, return_r, state_name_r, state_r, simple_r, statement_rule_r, home_r}
 
 -- an `else` stands next
 abbrev pub else_next : List Token → Bool

@@ -7,7 +7,7 @@ use Rattle.lsl_tree.specs.declared.script.Param.{Param}
 use Rattle.lsl_tree.specs.Scripts.{Heading, Handling, Standing}
 use Rattle.lsl_grammar.specs.Language.{among, ret, ◌>>=◌ as ◌>=>◌}
 use Rattle.lsl_grammar.specs.Reading.{begins}
-use Rattle.lsl_grammar.proofs.Rule.{disjoint, Solid}
+use Rattle.lsl_grammar.proofs.Rule.{Solid}
 use Rattle.lsl_grammar.proofs.Until.{shrinks}
 use Rattle.lsl_grammar.proofs.Loops.{rounds_step}
 use Rattle.lsl_parse.specs.declared.kind.TokenKind.{TokenKind}

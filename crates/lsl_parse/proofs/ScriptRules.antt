@@ -1,23 +1,22 @@
 -- Each rule of whole scripts is read.
-use Rattle.std.proofs.Common.{◌≡◌, ℕ, suc, ◌<◌, Bool, true, false, Option, None, Some, List, [], ◌∷◌, ◌++◌, inr, refl}
+use Rattle.std.proofs.Common.{◌≡◌, ℕ, suc, ◌<◌, true, false, Option, None, Some, List, [], ◌∷◌, ◌++◌, inr, refl}
 use Rattle.lsl_value.specs.declared.tagged.Kind.{Kind}
 use Rattle.lsl_tree.specs.declared.expression.Name.{Name as Named}
 use Rattle.lsl_tree.specs.declared.script.Atom.TheVariants as part
 use Rattle.lsl_tree.specs.Scripts.{Single, Several, GlobalNamed, FunctionNamed, Heading, Handling, Standing, Script}
 use Rattle.lsl_grammar.specs.declared.Why.TheVariants.{Unexpected, OperandDue}
-use Rattle.lsl_grammar.specs.Language.{among, ret, ◌>>=◌ as ◌>=>◌, rounds}
+use Rattle.lsl_grammar.specs.Language.{among, ret, ◌>>=◌ as ◌>=>◌}
 use Rattle.lsl_grammar.specs.Reading.{ret_r, then_r}
-use Rattle.lsl_grammar.proofs.ReadsLanguage.{Sub}
-use Rattle.lsl_grammar.proofs.Rule.{subset, disjoint, apart_by, sub_left, sub_right, Filled, Rule, Solid, then_rule, rounds_rule, ret_rule, sign_rule, sign_full, solid_sign, solid_then, solid_ret, solid_rounds, solid_or}
+use Rattle.lsl_grammar.proofs.Rule.{disjoint, apart_by, sub_left, sub_right, Filled, Rule, Solid, then_rule, rounds_rule, ret_rule, sign_rule, sign_full, solid_sign, solid_then, solid_ret, solid_or}
 use Rattle.lsl_parse.specs.declared.kind.TokenKind.{TokenKind}
 use Rattle.lsl_parse.specs.declared.kind.TokenKind.TheVariants.{Name, Int, Str, DefaultWord, StateWord, Minus, Assign, ParenOpen, ParenClose, BracketOpen, BracketClose, BraceOpen, BraceClose, Semicolon}
 use Rattle.lsl_parse.specs.Kinds.{codes, number, types, type_of, name_of, text_of, integer_of}
-use Rattle.lsl_parse.specs.ExpressionGrammar.{Language, any, sign, listing}
-use Rattle.lsl_parse.specs.ExpressionReading.{Reads, any_r, sign_r, listing_r}
+use Rattle.lsl_parse.specs.ExpressionGrammar.{Language}
+use Rattle.lsl_parse.specs.ExpressionReading.{Reads}
 use Rattle.lsl_parse.specs.StatementGrammar.{block, home_of}
 use Rattle.lsl_parse.specs.StatementReading.{block_r, home_r}
-use Rattle.lsl_parse.specs.ScriptGrammar.{added, many, negative, text, constant, whole_number, atom, initial, param, params, global_behind, function_behind, heading, handler, handlers, standing, script_rule, script}
-use Rattle.lsl_parse.specs.ScriptReading.{next_r, many_r, negative_r, text_r, constant_r, whole_number_r, atom_r, initial_r, param_r, params_r, global_behind_r, function_behind_r, heading_r, handler_r, handlers_r, standing_r, heading_heads, script_rule_r, script_r}
+use Rattle.lsl_parse.specs.ScriptGrammar.{added, many, atom, initial, param, params, global_behind, function_behind, heading, handler, handlers, standing, script_rule, script}
+use Rattle.lsl_parse.specs.ScriptReading.{next_r, many_r, atom_r, initial_r, param_r, params_r, global_behind_r, function_behind_r, heading_r, handler_r, handlers_r, standing_r, heading_heads, script_rule_r, script_r}
 use Rattle.lsl_parse.proofs.ExpressionRules.{probe, listing_solid}
 use Rattle.lsl_parse.proofs.StatementRules.{block_is_read}
 

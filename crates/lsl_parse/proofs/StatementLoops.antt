@@ -1,5 +1,5 @@
 -- What the loop over a block rests on.
-use Rattle.std.proofs.Common.{◌≡◌, ℕ, zero, suc, ◌+◌, ◌-◌, ◌<◌, ◌==◌, Bool, true, false, not, Option, None, List, [], ◌∷◌, length, Ok, refl, sym, ap, ◌∙◌, arith}
+use Rattle.std.proofs.Common.{◌≡◌, ℕ, zero, suc, ◌+◌, ◌-◌, ◌<◌, ◌==◌, true, not, Option, None, List, length, Ok, refl, sym, ap, arith}
 use Rattle.lsl_lex.specs.declared.token_types.Token.{Token}
 use Rattle.lsl_tree.specs.Statements.{Entries, Then}
 use Rattle.lsl_grammar.specs.Language.{among, ret, ◌>>=◌ as ◌>=>◌}
@@ -8,7 +8,7 @@ use Rattle.lsl_grammar.proofs.Until.{shrinks}
 use Rattle.lsl_grammar.proofs.Loops.{rounds_step}
 use Rattle.lsl_parse.specs.declared.kind.TokenKind.{TokenKind}
 use Rattle.lsl_parse.specs.declared.kind.TokenKind.TheVariants.{BraceClose}
-use Rattle.lsl_parse.specs.Kinds.{code, codes, kind_of, number}
+use Rattle.lsl_parse.specs.Kinds.{code, codes, number}
 use Rattle.lsl_parse.specs.ExpressionGrammar.{expr}
 use Rattle.lsl_parse.specs.ExpressionReading.{while_r, expr_r}
 use Rattle.lsl_parse.specs.StatementGrammar.{statement_rule, entry_rule, home_of}

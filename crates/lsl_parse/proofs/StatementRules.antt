@@ -1,13 +1,13 @@
 -- Each rule of statements and blocks is read.
-use Rattle.std.proofs.Common.{◌≡◌, ℕ, zero, suc, ◌≤◌, ◌<◌, Bool, true, false, cond, Option, None, Some, List, [], ◌∷◌, ◌++◌, Ok, Err, inl, inr, ⊎_elim, refl, sym, ap, ◌∙◌, subst, arith}
+use Rattle.std.proofs.Common.{◌≡◌, ℕ, zero, suc, ◌<◌, Bool, true, false, cond, Option, None, Some, List, [], ◌∷◌, ◌++◌, Ok, Err, inl, inr, ⊎_elim, refl, sym, ap, ◌∙◌, subst, arith}
 use Rattle.lsl_text.specs.declared.Span.{Span}
 use Rattle.lsl_lex.specs.declared.token_types.Token.{Token}
 use Rattle.lsl_tree.specs.declared.statement.StateName.TheVariants as state
-use Rattle.lsl_tree.specs.Expressions.{Expression, Expressions, No_expression, And}
-use Rattle.lsl_tree.specs.Statements.{Statement, Braces, Nothing, Simple, When, Either, Whilst, Until, Repeat, Jump, Return, Change, Entry, Declared, Labelled, Acted, Entries, No_entry, Then, ends_open}
+use Rattle.lsl_tree.specs.Expressions.{Expression, No_expression, And}
+use Rattle.lsl_tree.specs.Statements.{Statement, Braces, Nothing, Simple, When, Either, Whilst, Until, Repeat, Jump, Return, Change, Declared, Labelled, Acted, Entries, No_entry, Then, ends_open}
 use Rattle.lsl_grammar.specs.declared.Why.TheVariants.{Unexpected, OperandDue}
 use Rattle.lsl_grammar.specs.Language.{among, ret, ◌>>=◌ as ◌>=>◌, ◌∣◌}
-use Rattle.lsl_grammar.specs.Reading.{Read, ◌>>=◌, begins, ret_r, then_r, or_r, deep_r}
+use Rattle.lsl_grammar.specs.Reading.{Read, ◌>>=◌, begins, ret_r, then_r, or_r}
 use Rattle.lsl_grammar.proofs.ReadsLanguage.{Sub, Apart, one_reads, cond_false}
 use Rattle.lsl_grammar.proofs.Hints.{Eats}
 use Rattle.lsl_grammar.proofs.Rule.{subset, disjoint, sub_by, apart_by, sub_left, sub_right, append_cases, Filled, then_full, or_full, never_full, Rule, Solid, rule_as, wider_rule, then_rule, or_rule, deep_rule, ret_rule, sign_rule, sign_full, one_full, one_eats, deep_eats, or_eats, then_eats, part_rule, solid_sign, solid_then, solid_ret, solid_or, solid_shut, probe_aside, apart_aside}
@@ -16,12 +16,12 @@ use Rattle.lsl_parse.specs.declared.kind.TokenKind.{TokenKind}
 use Rattle.lsl_parse.specs.declared.kind.TokenKind.TheVariants.{Name, DefaultWord, StateWord, IfWord, ElseWord, ForWord, DoWord, WhileWord, JumpWord, ReturnWord, Assign, Comma, ParenOpen, ParenClose, BraceOpen, BraceClose, Semicolon, At}
 use Rattle.lsl_parse.specs.Kinds.{code, codes, kind_of, number, types, type_of, name_of}
 use Rattle.lsl_parse.specs.ExpressionGrammar.{Language, any, sign, expressions, expr}
-use Rattle.lsl_parse.specs.ExpressionReading.{Reads, any_r, sign_r, where_r, expressions_r, expr_r}
-use Rattle.lsl_parse.specs.StatementGrammar.{block, body, braces, else_behind, else_part, if_rule, while_rule, do_rule, for_rule, jump_rule, return_rule, state_name, state_rule, simple, statement_rule, declaration, label, acted, entry_rule, home_of}
-use Rattle.lsl_parse.specs.StatementReading.{statement_heads, not_end, Home_r, next_entry_r, block_r, body_r, braces_r, else_r, if_r, while_rule_r, do_r, for_r, jump_r, return_r, state_name_r, state_r, simple_r, statement_rule_r, declaration_r, label_r, acted_r, entry_rule_r, home_r, statement_r}
+use Rattle.lsl_parse.specs.ExpressionReading.{Reads, any_r, sign_r, expressions_r, expr_r}
+use Rattle.lsl_parse.specs.StatementGrammar.{block, body, braces, else_behind, else_part, if_rule, while_rule, do_rule, for_rule, jump_rule, return_rule, state_name, state_rule, simple, statement_rule, declaration, label, entry_rule, home_of}
+use Rattle.lsl_parse.specs.StatementReading.{statement_heads, not_end, Home_r, next_entry_r, block_r, body_r, braces_r, else_r, if_r, while_rule_r, do_r, for_r, jump_r, return_r, state_name_r, state_r, simple_r, statement_rule_r, declaration_r, label_r, entry_rule_r, home_r}
 use Rattle.lsl_parse.proofs.ExpressionRules.{probe, heads, expr_tails, listing_solid, expr_is_read}
 use Rattle.lsl_parse.proofs.ExpressionStarts.{no_test, expr_misses, expr_covers}
-use Rattle.lsl_parse.proofs.Munches.{else_next, Munches, body_munches}
+use Rattle.lsl_parse.proofs.Munches.{else_next, body_munches}
 
 abbrev pub else_tail : List ℕ
 else_tail = codes (ElseWord ∷ [])

@@ -1,18 +1,17 @@
 -- The whole text, and its first fault.
-use Rattle.std.proofs.Common.{◌≡◌, ℕ, zero, suc, ◌+◌, ◌-◌, ◌<◌, ◌≤◌, ◌==◌, pos, Bool, true, false, cond, ◌||◌, Option, None, Some, List, [], ◌∷◌, ◌++◌, length, take, drop, Ok, Err, ◌⊎◌, inl, inr, ⊎_elim, refl, sym, ap, ◌∙◌, subst, arith, append_assoc, length-append, append-nil}
+use Rattle.std.proofs.Common.{◌≡◌, ℕ, zero, suc, ◌+◌, ◌<◌, ◌≤◌, ◌==◌, pos, Bool, true, false, cond, ◌||◌, Option, None, Some, List, [], ◌∷◌, ◌++◌, length, take, drop, Ok, Err, inl, inr, ⊎_elim, refl, sym, ap, ◌∙◌, subst, arith, append_assoc, length-append, append-nil}
 use Rattle.std.specs.Prelude.{slice_get}
 use Rattle.std.proofs.lemmas.List.{append_cancel_right, take-append-drop, take-append-le}
-use Rattle.std.proofs.lemmas.Bool.{cases_lt, eqb-true}
+use Rattle.std.proofs.lemmas.Bool.{eqb-true}
 use Rattle.lsl_text.specs.declared.Span.{Span}
-use Rattle.lsl_lex.specs.declared.token_types.Sort.{Sort}
 use Rattle.lsl_lex.specs.declared.token_types.Sort.TheVariants as sort
 use Rattle.lsl_lex.specs.declared.token_types.Token.{Token}
 use Rattle.lsl_tree.specs.Scripts.{Script}
 use Rattle.lsl_grammar.specs.declared.Why.{Why}
 use Rattle.lsl_grammar.specs.declared.Why.TheVariants as why
 use Rattle.lsl_grammar.specs.Language.{among}
-use Rattle.lsl_grammar.specs.Reading.{Read, ◌>>=◌}
-use Rattle.lsl_grammar.proofs.ReadsLanguage.{Ends, Past, ok_parts, err_parts, cond_true, cond_false}
+use Rattle.lsl_grammar.specs.Reading.{Read}
+use Rattle.lsl_grammar.proofs.ReadsLanguage.{Past}
 use Rattle.lsl_grammar.proofs.Widening.{Sinks}
 use Rattle.lsl_grammar.proofs.Hints.{Hint}
 use Rattle.lsl_grammar.proofs.Rule.{Rule, no_ends, or_cases}
@@ -20,11 +19,11 @@ use Rattle.lsl_parse.specs.declared.limits.TheConstants.{DEPTH, HEIGHT, TOKENS}
 use Rattle.lsl_parse.specs.declared.kind.TokenKind.{TokenKind}
 use Rattle.lsl_parse.specs.declared.kind.TokenKind.TheVariants as kinds
 use Rattle.lsl_parse.specs.declared.fault.ParseKind.{ParseKind}
-use Rattle.lsl_parse.specs.declared.fault.ParseKind.TheVariants.{Unexpected, EndOfText, FloatType, TooDeep, TooLarge}
+use Rattle.lsl_parse.specs.declared.fault.ParseKind.TheVariants.{Unexpected, FloatType, TooLarge}
 use Rattle.lsl_parse.specs.Kinds.{code, codes, kind_of, number}
 use Rattle.lsl_parse.specs.ScriptGrammar.{script}
-use Rattle.lsl_parse.specs.ScriptReading.{heading_heads, script_r, end_r, all_r}
-use Rattle.lsl_parse.specs.Faults.{Derives, Shallow, Within, Open, WantsOperand, refused_words, IsFloatType, IsFloatTypeAt, Breaks, ParseFirst, span_at}
+use Rattle.lsl_parse.specs.ScriptReading.{heading_heads, script_r}
+use Rattle.lsl_parse.specs.Faults.{Derives, Shallow, Open, WantsOperand, refused_words, IsFloatType, IsFloatTypeAt, Breaks, ParseFirst, span_at}
 use Rattle.lsl_parse.specs.FaultReading.{fault_kind}
 use Rattle.lsl_parse.proofs.ExpressionRules.{probe}
 use Rattle.lsl_parse.proofs.ScriptRules.{script_is_read}

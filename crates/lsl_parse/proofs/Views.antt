@@ -1,5 +1,5 @@
 -- Trees that hold vectors, seen as trees.
-use Rattle.std.proofs.Common.{◌≡◌, ℕ, List, [], ◌∷◌, ◌++◌, refl, ap, ◌∙◌, Vec, Global}
+use Rattle.std.proofs.Common.{◌≡◌, List, [], ◌∷◌, ◌++◌, refl, ap, ◌∙◌, Vec, Global}
 use mathlib.Core.Former.{Count}
 use Rattle.lsl_text.specs.declared.Span.{Span}
 use Rattle.lsl_tree.specs.declared.expression.Name.{Name}
@@ -8,8 +8,8 @@ use Rattle.lsl_tree.specs.declared.expression.Expr.TheVariants as shape
 use Rattle.lsl_tree.specs.declared.statement.Item.{Item}
 use Rattle.lsl_tree.specs.declared.statement.Stmt.{Stmt, Block', Row_of-Item, end_of-Item, more_of-Item, items-the_row-Item, items_hidden-the_row-Item-0}
 use Rattle.lsl_tree.specs.declared.statement.Stmt.TheVariants as form
-use Rattle.lsl_tree.specs.Expressions.{Expression, Expressions, expression_of, expressions_of, expressions_behind, row_expressions, Called, Listed, No_expression, And}
-use Rattle.lsl_tree.specs.Statements.{Statement, Entry, Entries, statement_of, entry_of, entries_of, entries_behind, row_entries, Braces, No_entry, Then}
+use Rattle.lsl_tree.specs.Expressions.{Expressions, expression_of, expressions_of, expressions_behind, row_expressions, Called, Listed, No_expression, And}
+use Rattle.lsl_tree.specs.Statements.{Entries, statement_of, entry_of, entries_of, entries_behind, row_entries, Braces, No_entry, Then}
 
 row_items : (n : _) (row : Row_of-Expr n) (es : Expressions) → row_expressions row es ≡ expressions_behind (items-the_row-Expr n row) es
 row_items n end_of-Expr es = refl

@@ -5,7 +5,7 @@ use Rattle.lsl_tree.specs.Expressions.{Expression, Expressions, Number, Quoted, 
 use Rattle.lsl_grammar.specs.Language.{Lang, ret, one_of, ◌>>=◌, ◌∣◌, never, rounds}
 use Rattle.lsl_parse.specs.declared.kind.TokenKind.{TokenKind}
 use Rattle.lsl_parse.specs.declared.kind.TokenKind.TheVariants.{Name, Int, Str, ParenOpen, ParenClose, BracketOpen, BracketClose, Comma}
-use Rattle.lsl_parse.specs.Kinds.{code, codes, number, types, type_of, name_of, text_of, integer_of}
+use Rattle.lsl_parse.specs.Kinds.{codes, number, types, type_of, name_of, text_of, integer_of}
 use Rattle.lsl_parse.specs.Operators.{prefix_signs, prefix_of, step_signs, step_of, assign_signs, assign_of, levels, signs, operator_of}
 
 abbrev pub Language : Type 0 → Type 1

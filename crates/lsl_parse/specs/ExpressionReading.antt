@@ -2,12 +2,11 @@
 use Rattle.std.specs.Prelude.{ℕ, zero, suc, Bool, true, false, Option, List, [], ◌∷◌}
 use Rattle.lsl_lex.specs.declared.token_types.Token.{Token}
 use Rattle.lsl_tree.specs.Expressions.{Expression, Expressions, Number, Quoted, Variable, SteppedBehind, SteppedBefore, Called, Listed, Grouped, Converted, Prefixed, Joined, Assigned, No_expression, And}
-use Rattle.lsl_grammar.specs.declared.Why.{Why}
 use Rattle.lsl_grammar.specs.declared.Why.TheVariants.{Unexpected, OperandDue}
 use Rattle.lsl_grammar.specs.Reading.{Reader, ret_r, one_r, then_r, or_r, deep_r, rounds_r, pair_r}
 use Rattle.lsl_parse.specs.declared.kind.TokenKind.{TokenKind}
 use Rattle.lsl_parse.specs.declared.kind.TokenKind.TheVariants.{Name, Int, Str, ParenOpen, ParenClose, BracketOpen, BracketClose, Comma}
-use Rattle.lsl_parse.specs.Kinds.{code, codes, number, types, type_of, name_of, text_of, integer_of}
+use Rattle.lsl_parse.specs.Kinds.{codes, number, types, type_of, name_of, text_of, integer_of}
 use Rattle.lsl_parse.specs.Operators.{prefix_signs, prefix_of, step_signs, step_of, assign_signs, assign_of, levels, signs, operator_of}
 use Rattle.lsl_parse.specs.ExpressionGrammar.{fits}
 

@@ -1,5 +1,5 @@
 -- The answer that the reader of whole texts gives.
-use Rattle.std.specs.Prelude.{ℕ, ◌+◌, nat_lt, cond, Some, List, [], ◌∷◌, length, Result, Ok, Err}
+use Rattle.std.specs.Prelude.{◌+◌, nat_lt, cond, Some, List, [], ◌∷◌, length, Result, Ok, Err}
 use Rattle.lsl_text.specs.declared.Span.{Span}
 use Rattle.lsl_lex.specs.declared.token_types.Token.{Token}
 use Rattle.lsl_tree.specs.Scripts.{Script}

@@ -1,5 +1,5 @@
 -- The grammar of statements and blocks. Each rule is a language; the one with fewer constructs around it is handed in.
-use Rattle.std.specs.Prelude.{ℕ, zero, suc, Bool, true, false, Option, None, Some, List, [], ◌∷◌}
+use Rattle.std.specs.Prelude.{ℕ, zero, suc, Bool, true, false, Option, None, Some}
 use Rattle.lsl_text.specs.declared.Span.{Span}
 use Rattle.lsl_tree.specs.declared.statement.StateName.TheVariants as state
 use Rattle.lsl_tree.specs.declared.statement.StateName.{StateName}

@@ -1,7 +1,6 @@
 -- Reading statements and blocks by the next token, one reader for each rule of the grammar.
 use Rattle.std.specs.Prelude.{ℕ, zero, suc, Option, None, Some, List, [], ◌∷◌}
 use Rattle.lsl_text.specs.declared.Span.{Span}
-use Rattle.lsl_lex.specs.declared.token_types.Token.{Token}
 use Rattle.lsl_tree.specs.declared.statement.StateName.TheVariants as state
 use Rattle.lsl_tree.specs.declared.statement.StateName.{StateName}
 use Rattle.lsl_tree.specs.Expressions.{Expression}

@@ -40,11 +40,46 @@ fn pieces(alloc: Global, parts: &[(&str, u32)]) -> Result<String, AllocError> {
     Ok(text)
 }
 
+/// The tree of a handler with these statements, in the compact form.
+fn body_tree(alloc: Global, body: &str) -> Result<String, Fail> {
+    let text = format!(in alloc; "default {{ e() {{ {body} }} }}")?;
+    tree(alloc, text.as_str())
+}
+
+/// The compact form of a handler, from that of its statements.
+fn body_shown(alloc: Global, statements: &str) -> Result<String, Fail> {
+    Ok(if statements.is_empty() {
+        format!(in alloc; "default (e ( ) {{ }})")?
+    } else {
+        format!(in alloc; "default (e ( ) {{ {statements} }})")?
+    })
+}
+
+/// A handler with this many constructs in one another: what opens each, what stands inside all, what closes each, and what ends all.
+fn nested<'a>(
+    alloc: Global,
+    open: &'a str,
+    inside: &'a str,
+    close: &'a str,
+    end: &'a str,
+    count: u32,
+) -> Result<String, AllocError> {
+    pieces(
+        alloc,
+        &[
+            ("default{e(){", 1),
+            (open, count),
+            (inside, 1),
+            (close, count),
+            (end, 1),
+            ("}}", 1),
+        ],
+    )
+}
+
 #[test]
-fn statements_have_their_trees(rt: HostRuntime) -> Result<(), Fail> {
+fn expressions_have_their_trees(rt: HostRuntime) -> Result<(), Fail> {
     for (body, want) in [
-        ("", ""),
-        (";", "(;)"),
         ("x = y = 1;", "(= x (= y 1))"),
         ("x += 1 - 2 - 3;", "(+= x (- (- 1 2) 3))"),
         ("a || b && c;", "(&& (|| a b) c)"),
@@ -64,6 +99,19 @@ fn statements_have_their_trees(rt: HostRuntime) -> Result<(), Fail> {
             "(x = 3) + [] + [1, y, f()] + f(1, g(2));",
             "(+ (+ (+ (paren (= x 3)) [ ]) [ 1 y (f ) ]) (f 1 (g 2 ) ))",
         ),
+    ] {
+        let shown = body_tree(rt.alloc(), body)?;
+        let want = body_shown(rt.alloc(), want)?;
+        assert_eq!(rt; shown.as_str(), want.as_str(), "of {body}");
+    }
+    Ok(())
+}
+
+#[test]
+fn statements_have_their_trees(rt: HostRuntime) -> Result<(), Fail> {
+    for (body, want) in [
+        ("", ""),
+        (";", "(;)"),
         ("if (a) if (b) ; else f();", "(if a (if b (;) (f )))"),
         ("if (a) { if (b) ; } else ;", "(if a { (if b (;)) } (;))"),
         ("if (a) ; else if (b) ; else ;", "(if a (;) (if b (;) (;)))"),
@@ -84,13 +132,8 @@ fn statements_have_their_trees(rt: HostRuntime) -> Result<(), Fail> {
             "(return) (return x) (state default) (state s)",
         ),
     ] {
-        let text = format!(in rt.alloc(); "default {{ e() {{ {body} }} }}")?;
-        let shown = tree(rt.alloc(), text.as_str())?;
-        let want = if want.is_empty() {
-            format!(in rt.alloc(); "default (e ( ) {{ }})")?
-        } else {
-            format!(in rt.alloc(); "default (e ( ) {{ {want} }})")?
-        };
+        let shown = body_tree(rt.alloc(), body)?;
+        let want = body_shown(rt.alloc(), want)?;
         assert_eq!(rt; shown.as_str(), want.as_str(), "of {body}");
     }
     Ok(())
@@ -118,9 +161,8 @@ fn scripts_have_their_trees(rt: HostRuntime) -> Result<(), Fail> {
 }
 
 #[test]
-fn texts_are_refused_at_their_first_fault(rt: HostRuntime) -> Result<(), Fail> {
+fn scripts_are_refused_at_their_first_fault(rt: HostRuntime) -> Result<(), Fail> {
     for (text, want) in [
-        // files that aren't scripts
         ("", (11, 1, 1)),
         ("default", (11, 1, 8)),
         ("default { }", (10, 1, 11)),
@@ -140,7 +182,15 @@ fn texts_are_refused_at_their_first_fault(rt: HostRuntime) -> Result<(), Fail> {
         ("default { e(integer a,) { } }", (10, 1, 23)),
         ("default { e(rotation r) { } }", (12, 1, 13)),
         ("default { e() { } } <", (10, 1, 21)),
-        // globals
+    ] {
+        assert_eq!(rt; fault(rt.alloc(), text), want, "of {text}");
+    }
+    Ok(())
+}
+
+#[test]
+fn globals_are_refused_at_their_first_fault(rt: HostRuntime) -> Result<(), Fail> {
+    for (text, want) in [
         ("integer x = ;", (10, 1, 13)),
         ("integer x = < 1, 2, 3 >;", (12, 1, 13)),
         ("integer x = -<;", (12, 1, 14)),
@@ -150,7 +200,15 @@ fn texts_are_refused_at_their_first_fault(rt: HostRuntime) -> Result<(), Fail> {
         ("list x = [<", (12, 1, 11)),
         ("list x = [1, ];", (10, 1, 14)),
         ("integer x, y;", (10, 1, 10)),
-        // statements
+    ] {
+        assert_eq!(rt; fault(rt.alloc(), text), want, "of {text}");
+    }
+    Ok(())
+}
+
+#[test]
+fn statements_are_refused_at_their_first_fault(rt: HostRuntime) -> Result<(), Fail> {
+    for (text, want) in [
         ("default { timer() { x = y z; } }", (10, 1, 27)),
         ("default { timer() { a + b = 3; } }", (10, 1, 27)),
         ("default { timer() { (a) = 3; } }", (10, 1, 25)),
@@ -176,7 +234,15 @@ fn texts_are_refused_at_their_first_fault(rt: HostRuntime) -> Result<(), Fail> {
         ),
         ("default { timer() { < } }", (12, 1, 21)),
         ("default { timer() { return < } }", (12, 1, 28)),
-        // expressions
+    ] {
+        assert_eq!(rt; fault(rt.alloc(), text), want, "of {text}");
+    }
+    Ok(())
+}
+
+#[test]
+fn expressions_are_refused_at_their_first_fault(rt: HostRuntime) -> Result<(), Fail> {
+    for (text, want) in [
         ("default { timer() { (float)x; } }", (12, 1, 22)),
         ("default { timer() { (integer)<1; } }", (12, 1, 30)),
         ("default { timer() { f(a < <; } }", (12, 1, 27)),
@@ -224,66 +290,36 @@ fn a_text_that_ends_early_is_refused_at_its_end(rt: HostRuntime) -> Result<(), F
 #[test]
 fn constructs_stand_two_hundred_deep(rt: HostRuntime) -> Result<(), Fail> {
     let alloc = rt.alloc();
-    // what opens a construct, what stands inside, and what closes it; the handler's block is one more
-    for (open, inside, close) in [
-        ("{", "", "}"),
-        ("if(a)", ";", ""),
-        ("if(a);else ", ";", ""),
-        ("while(a)", ";", ""),
-        ("for(;a;)", ";", ""),
-        ("(", "a", ")"),
-        ("(key)", "a", ""),
-        ("- ", "a", ""),
-        ("f(", "", ")"),
-        ("[", "", "]"),
-        ("a=", "a", ""),
+    // the handler's block is one more
+    for (open, inside, close, end) in [
+        ("{", "", "}", ""),
+        ("if(a)", "", "", ";"),
+        ("if(a);else ", "", "", ";"),
+        ("while(a)", "", "", ";"),
+        ("for(;a;)", "", "", ";"),
+        ("(", "a", ")", ";"),
+        ("(key)", "a", "", ";"),
+        ("- ", "a", "", ";"),
+        ("f(", "", ")", ";"),
+        ("[", "", "]", ";"),
+        ("a=", "a", "", ";"),
+        ("do ", ";", "while(a);", ""),
     ] {
-        let end = if close == "}" || inside == ";" {
-            ""
-        } else {
-            ";"
-        };
-        let accepted = pieces(
-            alloc,
-            &[
-                ("default{e(){", 1),
-                (open, 199),
-                (inside, 1),
-                (close, 199),
-                (end, 1),
-                ("}}", 1),
-            ],
-        )?;
+        let accepted = nested(alloc, open, inside, close, end, 199)?;
         assert_eq!(rt;
             fault(alloc, accepted.as_str()),
             (0, 0, 0),
             "{open} as often as it may be"
         );
-        let refused = pieces(
-            alloc,
-            &[
-                ("default{e(){", 1),
-                (open, 200),
-                (inside, 1),
-                (close, 200),
-                (end, 1),
-                ("}}", 1),
-            ],
-        )?;
+        let refused = nested(alloc, open, inside, close, end, 200)?;
         assert_eq!(rt; fault(alloc, refused.as_str()).0, 13, "{open} once more");
     }
-    let bodies = pieces(
-        alloc,
-        &[
-            ("default{e(){", 1),
-            ("do ", 199),
-            (";", 1),
-            ("while(a);", 199),
-            ("}}", 1),
-        ],
-    )?;
-    assert_eq!(rt; fault(alloc, bodies.as_str()), (0, 0, 0));
-    // the fault stands at the token that opens the construct
+    Ok(())
+}
+
+#[test]
+fn too_deep_is_told_at_the_opening_token(rt: HostRuntime) -> Result<(), Fail> {
+    let alloc = rt.alloc();
     let blocks = pieces(
         alloc,
         &[("default{state_entry(){", 1), ("{", 200), ("}", 202)],
@@ -291,10 +327,17 @@ fn constructs_stand_two_hundred_deep(rt: HostRuntime) -> Result<(), Fail> {
     assert_eq!(rt; fault(alloc, blocks.as_str()), (13, 1, 222));
     let right_sides = pieces(alloc, &[("default{e(){", 1), ("a=", 200), ("a;}}", 1)])?;
     assert_eq!(rt; fault(alloc, right_sides.as_str()), (13, 1, 412));
+    let step = pieces(alloc, &[("default{e(){", 1), ("(", 199), ("++a", 1)])?;
+    assert_eq!(rt; fault(alloc, step.as_str()), (13, 1, 212));
     // a token that cannot go on at any depth is no matter of depth
     let unclosed = pieces(alloc, &[("default{e(){", 1), ("{", 199), (")", 1)])?;
     assert_eq!(rt; fault(alloc, unclosed.as_str()), (10, 1, 212));
-    // a body that is a block opens two
+    Ok(())
+}
+
+#[test]
+fn a_body_that_is_a_block_opens_two(rt: HostRuntime) -> Result<(), Fail> {
+    let alloc = rt.alloc();
     let body = pieces(alloc, &[("default{e(){", 1), ("{", 198), ("if(a){}", 1)])?;
     assert_eq!(rt; fault(alloc, body.as_str()), (13, 1, 216));
     let body = pieces(
@@ -308,7 +351,7 @@ fn constructs_stand_two_hundred_deep(rt: HostRuntime) -> Result<(), Fail> {
 }
 
 #[test]
-fn heights_and_tokens_have_their_limits(rt: HostRuntime) -> Result<(), Fail> {
+fn heights_have_their_limit(rt: HostRuntime) -> Result<(), Fail> {
     let alloc = rt.alloc();
     let low = pieces(alloc, &[("default{e(){a", 1), ("+a", 199), (";}}", 1)])?;
     assert_eq!(rt; fault(alloc, low.as_str()), (0, 0, 0));
@@ -320,6 +363,12 @@ fn heights_and_tokens_have_their_limits(rt: HostRuntime) -> Result<(), Fail> {
         &[("default{e(){a*(a", 1), ("+a", 198), (")-a;}}", 1)],
     )?;
     assert_eq!(rt; fault(alloc, right.as_str()), (13, 1, 414));
+    Ok(())
+}
+
+#[test]
+fn tokens_have_their_limit(rt: HostRuntime) -> Result<(), Fail> {
+    let alloc = rt.alloc();
     let many = pieces(alloc, &[("default{timer(){", 1), (";", 32_760), ("}}", 1)])?;
     assert_eq!(rt; fault(alloc, many.as_str()), (0, 0, 0));
     let more = pieces(alloc, &[("default{timer(){", 1), (";", 32_763)])?;

@@ -1,4 +1,4 @@
-use Rattle.std.proofs.Common.{◌≡◌, ◌<◌, ◌≤◌, Some, [], length, Ok, Err, sym, ap, ◌∙◌, subst, rules, arith}
+use Rattle.std.proofs.Common.{◌≡◌, ◌<◌, ◌≤◌, Some, [], length, Ok, Err, sym, ap, ◌∙◌, subst, rules}
 use Rattle.lsl_parse.specs.declared.limits.TheConstants.{DEPTH, HEIGHT, TOKENS}
 use Rattle.lsl_tree.specs.Scripts.{script_of}
 use Rattle.lsl_parse.specs.ScriptReading.{all_r}

@@ -1,4 +1,4 @@
-use Rattle.std.proofs.Common.{◌≡◌, ◌-◌, ◌+◌, ◌*◌, Some, [], ◌∷◌, Ok, sym, ap, ◌∙◌, arith, rules}
+use Rattle.std.proofs.Common.{◌≡◌, ◌-◌, Some, [], ◌∷◌, Ok, sym, ap, ◌∙◌, arith, rules}
 use Rattle.lsl_parse.specs.declared.limits.TheConstants.{HEIGHT}
 use Rattle.lsl_parse.specs.declared.kind.TokenKind.TheVariants.{Comma}
 use Rattle.lsl_tree.specs.Expressions.{expression_of, expressions_of, And}

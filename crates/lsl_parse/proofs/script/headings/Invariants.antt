@@ -1,4 +1,4 @@
-use Rattle.std.proofs.Common.{◌≡◌, Some, [], ◌∷◌, map, length}
+use Rattle.std.proofs.Common.{◌≡◌, Some, [], map, length}
 use Rattle.lsl_parse.specs.declared.limits.TheConstants.{HEIGHT}
 use Rattle.lsl_tree.specs.Scripts.{heading_of}
 use Rattle.lsl_parse.specs.StatementReading.{home_r}

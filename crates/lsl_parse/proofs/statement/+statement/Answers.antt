@@ -1,4 +1,4 @@
-use Rattle.std.proofs.Common.{◌≡◌, ◌-◌, Some, [], ◌∷◌, Ok, sym, ap, ◌∙◌, arith, rules}
+use Rattle.std.proofs.Common.{◌≡◌, Some, Ok, sym, ap, ◌∙◌, arith, rules}
 use Rattle.lsl_parse.specs.declared.limits.TheConstants.{HEIGHT}
 use Rattle.lsl_tree.specs.Statements.{entry_of, entries_of, Braces, Then}
 use Rattle.lsl_parse.specs.ExpressionReading.{while_r}

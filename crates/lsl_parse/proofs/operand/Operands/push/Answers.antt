@@ -1,6 +1,5 @@
-use Rattle.std.proofs.Common.{◌≡◌, ◌∙◌, ap, arith, rules, min, max}
-use Rattle.lsl_tree.specs.Expressions.{height, highest, expression_of, expressions_of, And}
-use Rattle.lsl_parse.specs.declared.limits.TheConstants.{HEIGHT}
+use Rattle.std.proofs.Common.{ap, arith, rules}
+use Rattle.lsl_tree.specs.Expressions.{highest}
 use Rattle.lsl_parse.proofs.Views.{expressions_of-push}
 use Rattle.lsl_parse.proofs.operand.Operands.push.Goals as goal
 
