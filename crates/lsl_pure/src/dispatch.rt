@@ -16,6 +16,7 @@ use crate::list_cuts::{delete_sub_list, insert_list, replace_list, sub_list};
 use crate::parsing::parse_string;
 use crate::searching::{list_find_list, sub_string_index};
 use crate::spelling::count_characters;
+use lsl_value::BuiltinId::*;
 use lsl_value::{BuiltinId, Value, Values};
 use std::alloc::Global;
 
@@ -46,69 +47,49 @@ fn value(alloc: Global, id: BuiltinId, args: Values) -> Result<Value, PureFault>
 {
     let (a, b, c, d) = first_four(args);
     match id {
-        BuiltinId::Abs => Ok(Value::Int(int(a).wrapping_abs())),
-        BuiltinId::StringLength => Ok(Value::Int(count_characters(&text(alloc, a)) as i32)),
-        BuiltinId::GetListLength => Ok(Value::Int(list(alloc, a).len() as i32)),
-        BuiltinId::GetSubString => Ok(Value::Str(sub_string(
+        Abs => Ok(Value::Int(int(a).wrapping_abs())),
+        StringLength => Ok(Value::Int(count_characters(&text(alloc, a)) as i32)),
+        GetListLength => Ok(Value::Int(list(alloc, a).len() as i32)),
+        GetSubString => Ok(Value::Str(sub_string(alloc, &text(alloc, a), int(b), int(c))?)),
+        List2List => Ok(Value::List(sub_list(list(alloc, a), int(b), int(c)))),
+        DeleteSubString => Ok(Value::Str(delete_sub_string(
             alloc,
             &text(alloc, a),
             int(b),
             int(c),
         )?)),
-        BuiltinId::List2List => Ok(Value::List(sub_list(list(alloc, a), int(b), int(c)))),
-        BuiltinId::DeleteSubString => Ok(Value::Str(delete_sub_string(
-            alloc,
-            &text(alloc, a),
-            int(b),
-            int(c),
-        )?)),
-        BuiltinId::DeleteSubList => Ok(Value::List(delete_sub_list(
-            list(alloc, a),
-            int(b),
-            int(c),
-        ))),
-        BuiltinId::InsertString => Ok(Value::Str(insert_string(
+        DeleteSubList => Ok(Value::List(delete_sub_list(list(alloc, a), int(b), int(c)))),
+        InsertString => Ok(Value::Str(insert_string(
             alloc,
             &text(alloc, a),
             int(b),
             &text(alloc, c),
         )?)),
-        BuiltinId::ListInsertList => Ok(Value::List(insert_list(
-            list(alloc, a),
-            list(alloc, b),
-            int(c),
-        )?)),
-        BuiltinId::ListReplaceList => Ok(Value::List(replace_list(
+        ListInsertList => Ok(Value::List(insert_list(list(alloc, a), list(alloc, b), int(c))?)),
+        ListReplaceList => Ok(Value::List(replace_list(
             list(alloc, a),
             list(alloc, b),
             int(c),
             int(d),
         )?)),
-        BuiltinId::SubStringIndex => Ok(Value::Int(sub_string_index(
-            &text(alloc, a),
-            &text(alloc, b),
-        ))),
-        BuiltinId::ListFindList => Ok(Value::Int(list_find_list(&list(alloc, a), &list(alloc, b)))),
-        BuiltinId::StringTrim => Ok(Value::Str(string_trim(alloc, &text(alloc, a), int(b))?)),
-        BuiltinId::List2Integer => Ok(Value::Int(list_to_integer(&list(alloc, a), int(b)))),
-        BuiltinId::List2String => Ok(Value::Str(list_to_string(alloc, &list(alloc, a), int(b))?)),
-        BuiltinId::List2Key => Ok(Value::Key(list_to_key(alloc, &list(alloc, a), int(b))?)),
-        BuiltinId::GetListEntryType => Ok(Value::Int(entry_type(&list(alloc, a), int(b)))),
-        BuiltinId::DumpList2String => Ok(Value::Str(dump_list(
-            alloc,
-            &list(alloc, a),
-            &text(alloc, b),
-        )?)),
-        BuiltinId::List2Csv => Ok(Value::Str(list_to_csv(alloc, &list(alloc, a))?)),
-        BuiltinId::Csv2List => Ok(Value::List(csv_to_list(alloc, &text(alloc, a))?)),
-        BuiltinId::ParseString2List => Ok(Value::List(parse_string(
+        SubStringIndex => Ok(Value::Int(sub_string_index(&text(alloc, a), &text(alloc, b)))),
+        ListFindList => Ok(Value::Int(list_find_list(&list(alloc, a), &list(alloc, b)))),
+        StringTrim => Ok(Value::Str(string_trim(alloc, &text(alloc, a), int(b))?)),
+        List2Integer => Ok(Value::Int(list_to_integer(&list(alloc, a), int(b)))),
+        List2String => Ok(Value::Str(list_to_string(alloc, &list(alloc, a), int(b))?)),
+        List2Key => Ok(Value::Key(list_to_key(alloc, &list(alloc, a), int(b))?)),
+        GetListEntryType => Ok(Value::Int(entry_type(&list(alloc, a), int(b)))),
+        DumpList2String => Ok(Value::Str(dump_list(alloc, &list(alloc, a), &text(alloc, b))?)),
+        List2Csv => Ok(Value::Str(list_to_csv(alloc, &list(alloc, a))?)),
+        Csv2List => Ok(Value::List(csv_to_list(alloc, &text(alloc, a))?)),
+        ParseString2List => Ok(Value::List(parse_string(
             alloc,
             &text(alloc, a),
             list(alloc, b),
             list(alloc, c),
             false,
         )?)),
-        BuiltinId::ParseStringKeepNulls => Ok(Value::List(parse_string(
+        ParseStringKeepNulls => Ok(Value::List(parse_string(
             alloc,
             &text(alloc, a),
             list(alloc, b),
