@@ -1,0 +1,26 @@
+-- Forms of checked statements.
+use Rattle.std.specs.Prelude.{Option, Some, None, List, [], ◌∷◌}
+use Rattle.lsl_value.specs.declared.tagged.Kind.{Kind}
+use Rattle.lsl_tree.specs.Actions.{Effected, Act, Acts, Block, Does, Gives, No_act, Next}
+use Rattle.lsl_type.specs.declared.frame.Home.{Home}
+use Rattle.lsl_type.specs.declared.frame.Home.TheVariants.{Handler, Function}
+use Rattle.lsl_type.specs.Conversions.{empty_node}
+
+-- the kind that is returned, if any is
+abbrev pub home_kind : Home → Option Kind
+home_kind Handler = None
+home_kind (Function kind) = kind
+
+-- these effects behind other statements
+abbrev pub effects_after : Acts → List Effected → Acts
+effects_after acts [] = acts
+effects_after acts (x ∷ xs) = effects_after (Next acts (Does x)) xs
+
+-- a `for` is a block of its first list and its loop
+abbrev pub for_of : List Effected → Act → Act
+for_of start loop = Block (Next (effects_after No_act start) loop)
+
+-- a function with a kind that runs off its end returns the kind's empty value
+abbrev pub ended : Option Kind → Acts → Acts
+ended None acts = acts
+ended (Some kind) acts = Next acts (Gives (empty_node kind))

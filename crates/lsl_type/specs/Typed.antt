@@ -1,0 +1,32 @@
+-- Which program a script is, and the first fault of a script that is none.
+use Rattle.std.specs.Prelude.{◌≡◌, ℕ, length}
+use Rattle.lsl_text.specs.declared.Refusal.{Refusal}
+use Rattle.lsl_text.specs.declared.Refusal.TheVariants.{NoMemory, Fault}
+use Rattle.lsl_value.specs.declared.names.BuiltinId.{BuiltinId}
+use Rattle.lsl_tree.specs.Scripts.{Script}
+use Rattle.lsl_tree.specs.Program.{Checked}
+use Rattle.lsl_type.specs.declared.faults.TypeFault.{TypeFault}
+use Rattle.lsl_type.specs.ScriptRules.{script}
+use Rattle.lsl_type.specs.Table.{params_of}
+
+-- the script is this program
+abbrev pub Typed : Script → Checked → Type 0
+Typed tree program = (script tree).types program
+
+-- the script's first fault is this one
+abbrev pub TypeFirst : Script → TypeFault → Type 0
+TypeFirst tree fault = (script tree).breaks fault
+
+-- why there is no program: the first fault, or want of memory
+abbrev pub IsRefused : Script → Refusal TypeFault → Type 0
+IsRefused tree (Fault fault) = TypeFirst tree fault
+IsRefused tree NoMemory = Unit {0}
+
+-- this fault, or want of memory
+abbrev pub IsThat : TypeFault → Refusal TypeFault → Type 0
+IsThat fault (Fault other) = other ≡ fault
+IsThat fault NoMemory = Unit {0}
+
+-- how many parameters a built-in call has
+abbrev pub param_count_of : BuiltinId → ℕ
+param_count_of id = length (params_of id)
