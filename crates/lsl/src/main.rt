@@ -47,7 +47,7 @@ fn explained<R: Eprint>(rt: &R, status: Status) -> Status
     ensures { result ≡ status }
 {
     if status == Status::Usage {
-        let _ = rt.eprintln("usage: lsl once FILE");
+        let _ = rt.eprintln("usage: lsl once FILE | lsl check FILE");
     }
     status
 }
@@ -93,7 +93,7 @@ mod tests {
         let _ = explained(&page, Status::ReadFault);
         let _ = explained(&page, Status::Usage);
         let said = page.text.into_inner();
-        assert_eq!(rt; said.as_str(), "usage: lsl once FILE");
+        assert_eq!(rt; said.as_str(), "usage: lsl once FILE | lsl check FILE");
         Ok(())
     }
 }

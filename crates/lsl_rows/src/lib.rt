@@ -2,6 +2,14 @@
 #![tactic(auto)]
 
 #[cfg(test)]
+mod check;
+#[cfg(test)]
 mod once;
 #[cfg(test)]
 mod outside;
+#[cfg(test)]
+mod printed;
+#[cfg(test)]
+mod programs;
+#[cfg(test)]
+mod scripts;

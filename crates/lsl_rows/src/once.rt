@@ -1,6 +1,7 @@
 //! `once FILE` on scripts that say literal texts, and on other texts.
 
-use crate::outside::{Outside, call};
+use crate::outside::{Outside, call, refusal_line};
+use crate::scripts::{long_script, many_semicolons, nested_blocks};
 use lsl_top::Status;
 use std::alloc::{AllocError, Global};
 use std::test::Fail;
@@ -10,16 +11,6 @@ const LITERAL: &[u8] = b"default{state_entry(){llOwnerSay(\"hi\");}}";
 const LITERAL_REPORT: &[u8] = b"took 1 state_entry\nowner 1 \"hi\"\ndone 1 1024\nhome 1 \"here\"\n";
 
 const NOT_BUILT: &[u8] = b"bad script \"s.lsl\" 1:1 fault 90\n";
-
-/// A script that says one literal of so many bytes.
-fn long_script(alloc: Global, length: usize) -> Result<Vec<u8>, AllocError> {
-    let mut script = Vec::from_slice(alloc, b"default{state_entry(){llOwnerSay(\"")?;
-    for _ in 0..length {
-        script.push(b'x')?;
-    }
-    script.extend_from_slice(b"\");}}")?;
-    Ok(script)
-}
 
 #[test]
 fn scripts_that_say_texts(rt: HostRuntime) -> Result<(), Fail> {
@@ -55,11 +46,6 @@ fn scripts_that_say_texts(rt: HostRuntime) -> Result<(), Fail> {
     Ok(())
 }
 
-/// The line that refuses a script.
-fn refusal_line(alloc: Global, place: &str, number: u32) -> Result<String, AllocError> {
-    format!(in alloc; "bad script \"s.lsl\" {place} fault {number}\n")
-}
-
 #[test]
 fn refused_scripts(rt: HostRuntime) -> Result<(), Fail> {
     for (script, place, number) in [
@@ -71,14 +57,16 @@ fn refused_scripts(rt: HostRuntime) -> Result<(), Fail> {
         ("default{state_entry(){llOwner Say(\"hi\");}}", "1:31", 10),
         ("default", "1:8", 11),
         ("default { timer() { } }", "1:1", 90),
-        ("default{state_entry(){llOwnerSay(hi);}}", "1:1", 90),
-        ("default{state_entry(){llOwnerSay();}}", "1:1", 90),
+        ("default{state_entry(){llOwnerSay(hi);}}", "1:34", 20),
+        ("default{state_entry(){llOwnerSay();}}", "1:23", 25),
         (
             "default{state_entry(){llOwnerSay(\"a\",\"b\");}}",
-            "1:1",
-            90,
+            "1:23",
+            25,
         ),
-        ("default{state_entry(){llSay(\"a\");}}", "1:1", 90),
+        ("default{state_entry(){llOwnerSay(1);}}", "1:34", 22),
+        ("default{state_entry(){llOwnerSay(NULL_KEY);}}", "1:1", 90),
+        ("default{state_entry(){llSay(1,\"a\");}}", "1:1", 90),
         ("default{timer(){llOwnerSay(\"a\");}}", "1:1", 90),
         ("default { timer() { llOwnerSay(\"x); } }", "1:32", 2),
         ("/*", "1:1", 3),
@@ -126,30 +114,6 @@ fn every_byte_in_a_literal(rt: HostRuntime) -> Result<(), Fail> {
         }
     }
     Ok(())
-}
-
-fn push_many(out: &mut Vec<u8>, byte: u8, count: usize) -> Result<(), AllocError> {
-    for _ in 0..count {
-        out.push(byte)?;
-    }
-    Ok(())
-}
-
-/// A handler of empty statements.
-fn many_semicolons(alloc: Global, count: usize, end: &[u8]) -> Result<Vec<u8>, AllocError> {
-    let mut script = Vec::from_slice(alloc, b"default{timer(){")?;
-    push_many(&mut script, b';', count)?;
-    script.extend_from_slice(end)?;
-    Ok(script)
-}
-
-/// So many blocks in one another, in a handler.
-fn nested_blocks(alloc: Global, count: usize) -> Result<Vec<u8>, AllocError> {
-    let mut script = Vec::from_slice(alloc, b"default{state_entry(){")?;
-    push_many(&mut script, b'{', count)?;
-    push_many(&mut script, b'}', count)?;
-    script.extend_from_slice(b"}}")?;
-    Ok(script)
 }
 
 #[test]
@@ -222,6 +186,11 @@ fn bad_words(rt: HostRuntime) -> Result<(), Fail> {
     assert!(rt; refuses(alloc, &["once", "s.lsl", "s.lsl"])?);
     assert!(rt; refuses(alloc, &["Once", "s.lsl"])?);
     assert!(rt; refuses(alloc, &["", "s.lsl"])?);
+    assert!(rt; refuses(alloc, &["check"])?);
+    assert!(rt; refuses(alloc, &["check", ""])?);
+    assert!(rt; refuses(alloc, &["check", "-x"])?);
+    assert!(rt; refuses(alloc, &["check", "s.lsl", "s.lsl"])?);
+    assert!(rt; !refuses(alloc, &["check", "s.lsl"])?);
     assert!(rt; !refuses(alloc, &["once", "s.lsl"])?);
     Ok(())
 }

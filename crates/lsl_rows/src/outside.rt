@@ -84,3 +84,8 @@ pub fn call(alloc: Global, words: &[&str], outside: Outside<'_>) -> Result<Ended
         write_faults: sink.fault_count(),
     })
 }
+
+/// The line that refuses the script `s.lsl` for a fault at this place.
+pub fn refusal_line(alloc: Global, place: &str, number: u32) -> Result<String, AllocError> {
+    format!(in alloc; "bad script \"s.lsl\" {place} fault {number}\n")
+}

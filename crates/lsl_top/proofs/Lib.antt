@@ -4,3 +4,4 @@ pub mod Programs
 pub mod Courses
 pub mod Halting
 pub mod Promises
+pub mod Reports

@@ -11,11 +11,13 @@ use Rattle.lsl_lex.specs.declared.faults.LexKind.TheVariants.{NotText, StringEnd
 use Rattle.lsl_top.specs.declared.build_fault.BuildFault.{BuildFault}
 use Rattle.lsl_top.specs.declared.status.Status.{Status}
 use Rattle.lsl_top.specs.declared.status.Status.TheVariants.{Ok, Usage, BadWorld, BadScript, ReadFault, WriteFault, BadImage, NoMemory}
-use Rattle.lsl_top.specs.Answer.{IsReport, IsRefusal, Wrote}
+use Rattle.lsl_tree.specs.Scripts.{Script}
+use Rattle.lsl_tree.specs.Program.{Checked}
+use Rattle.lsl_top.specs.Accepted.{IsAccepted}
+use Rattle.lsl_top.specs.Answer.{IsReport, IsFault, IsRefusal, Wrote}
 use Rattle.lsl_top.specs.Faults.{FirstFault}
-use Rattle.lsl_top.specs.Form.{Says}
-use Rattle.lsl_top.specs.Promise.{SaysIn, RefusedIn, Accepts, Refuses, OutputOf, RunsOnce}
-use Rattle.lsl_top.specs.Words.{Once}
+use Rattle.lsl_top.specs.Promise.{ReportIn, FaultIn, Reports, Refuses, OutputOf, Runs}
+use Rattle.lsl_top.specs.Words.{Command, Once, Check, file_of}
 use Rattle.lsl_top.proofs.Forms.{AreLiterals-from_says}
 
 -- a head that is short is the file
@@ -28,11 +30,18 @@ head_short file short = take_all 65537 file (omega arith)
 head_long : (file : List ℕ) → 65536 < length file → 65536 < length (head_of 65536 file)
 head_long file long = omega (arith, length-take 65537 file)
 
-says_in : (file : Option (List ℕ)) (head : List ℕ) (texts : List (List ℕ)) → IsHeadOf 65536 file head → Says head texts → SaysIn file texts
-says_in None head texts h says = h
-says_in (Some file) head texts h says =
-    let whole : head_of 65536 file ≡ file = head_whole file (subst (λ z. length z ≤ 65536) h says.lexed.source.short) in
-    subst (λ z. Says z texts) (h ∙ whole) says
+accepted_whole : (file : List ℕ) (script : Script) (program : Checked) → IsAccepted (head_of 65536 file) script program → head_of 65536 file ≡ file
+accepted_whole file script program accepted = head_whole file accepted.lexed.source.short
+
+report_whole : (command : Command) (file lines : List ℕ) → IsReport command (head_of 65536 file) lines → head_of 65536 file ≡ file
+report_whole (Once name) file lines (texts, says, same) = accepted_whole file says.script says.program says.accepted
+report_whole (Check name) file lines (program, accepted, same) = accepted_whole file accepted.0 program accepted.1
+
+report_in : (file : Option (List ℕ)) (command : Command) (head lines : List ℕ) → IsHeadOf 65536 file head → IsReport command head lines → ReportIn file command lines
+report_in None command head lines h report = h
+report_in (Some file) command head lines h report =
+    let whole : head_of 65536 file ≡ file = report_whole command file lines (subst (λ z. IsReport command z lines) h report) in
+    subst (λ z. IsReport command z lines) (h ∙ whole) report
 
 -- bytes that are too many have the lexical fault of that, and no other
 long_fault : (head file : List ℕ) (fault : LexFault) → 65536 < length head → 65536 < length file → LexFirst head fault → LexFirst file fault
@@ -45,37 +54,48 @@ long_fault head file fault many long first = (first.0, kinds fault.kind first.1,
   kinds FloatLiteral f = absurd (omega (arith, f.source.short))
   kinds StrayCharacter f = absurd (omega (arith, f.source.short))
 
-long_refusal : (head file : List ℕ) (fault : BuildFault) → 65536 < length head → 65536 < length file → FirstFault head fault → FirstFault file fault
-long_refusal head file fault many long (inl l) = inl (record { lexical = l.lexical; first = long_fault head file l.lexical many long l.first; fault_is = l.fault_is })
-long_refusal head file fault many long (inr (inl s)) = absurd (omega (arith, s.lexed.source.short))
-long_refusal head file fault many long (inr (inr o)) = absurd (omega (arith, o.lexed.source.short))
+long_first : (head file : List ℕ) (fault : BuildFault) → 65536 < length head → 65536 < length file → FirstFault head fault → FirstFault file fault
+long_first head file fault many long (inl l) = inl (record { lexical = l.lexical; first = long_fault head file l.lexical many long l.first; fault_is = l.fault_is })
+long_first head file fault many long (inr (inl s)) = absurd (omega (arith, s.lexed.source.short))
+long_first head file fault many long (inr (inr s)) = absurd (omega (arith, s.lexed.source.short))
 
-refused_in : (file : Option (List ℕ)) (head : List ℕ) (fault : BuildFault) → IsHeadOf 65536 file head → FirstFault head fault → RefusedIn file fault
-refused_in None head fault h first = h
-refused_in (Some file) head fault h first = elim (cases_lt 65536 (length file)) [
-  | inl long ↦ long_refusal head file fault (subst (λ z. 65536 < length z) (sym h) (head_long file long)) long first
-  | inr short ↦ subst (λ z. FirstFault z fault) (h ∙ head_short file short) first
+long_refusal : (command : Command) (head file : List ℕ) (fault : BuildFault) → 65536 < length head → 65536 < length file → IsFault command head fault → IsFault command file fault
+long_refusal (Once name) head file fault many long (inl first) = inl (long_first head file fault many long first)
+long_refusal (Once name) head file fault many long (inr outside) = absurd (omega (arith, outside.accepted.lexed.source.short))
+long_refusal (Check name) head file fault many long first = long_first head file fault many long first
+
+fault_in : (file : Option (List ℕ)) (command : Command) (head : List ℕ) (fault : BuildFault) → IsHeadOf 65536 file head → IsFault command head fault → FaultIn file command fault
+fault_in None command head fault h refused = h
+fault_in (Some file) command head fault h refused = elim (cases_lt 65536 (length file)) [
+  | inl long ↦ long_refusal command head file fault (subst (λ z. 65536 < length z) (sym h) (head_long file long)) long refused
+  | inr short ↦ subst (λ z. IsFault command z fault) (h ∙ head_short file short) refused
 ]
 
-accepts : (held : Option Files) (name head : List ℕ) (texts : List (List ℕ)) → IsHead held name 65536 head → Says head texts → Accepts held name texts
-accepts None name head texts h says = AreLiterals-from_says head texts says
-accepts (Some files) name head texts h says = says_in (files name) head texts h says
+reports : (held : Option Files) (command : Command) (head lines : List ℕ) → IsHead held (file_of command) 65536 head → IsReport command head lines → Reports held command lines
+reports None (Once name) head lines h (texts, says, same) = (texts, AreLiterals-from_says head texts says, same)
+reports None (Check name) head lines h (program, accepted, same) = same
+reports (Some files) command head lines h report = report_in (files (file_of command)) command head lines h report
 
-refuses : (held : Option Files) (name head : List ℕ) (fault : BuildFault) → IsHead held name 65536 head → FirstFault head fault → Refuses held name fault
-refuses None name head fault h first = tt
-refuses (Some files) name head fault h first = refused_in (files name) head fault h first
+refuses : (held : Option Files) (command : Command) (head : List ℕ) (fault : BuildFault) → IsHead held (file_of command) 65536 head → IsFault command head fault → Refuses held command fault
+refuses None command head fault h refused = tt
+refuses (Some files) command head fault h refused = fault_in (files (file_of command)) command head fault h refused
 
-output_of : (held : Option Files) (name head lines : List ℕ) → IsHead held name 65536 head → IsReport head lines ⊎ IsRefusal name head lines → OutputOf held (Once name) lines
-output_of held name head lines h (inl r) = inl (r.0, accepts held name head r.0 h r.1, r.2)
-output_of held name head lines h (inr r) = inr (r.0, refuses held name head r.0 h r.1, r.2)
+output_of : (held : Option Files) (command : Command) (head lines : List ℕ) → IsHead held (file_of command) 65536 head → IsReport command head lines ⊎ IsRefusal command head lines → OutputOf held command lines
+output_of held command head lines h (inl report) = inl (reports held command head lines h report)
+output_of held command head lines h (inr r) = inr (r.0, refuses held command head r.0 h r.1, r.2)
 
 -- what was written for the bytes that were read keeps the promise for the file
-pub RunsOnce-from_wrote : (held : Option Files) (name head : List ℕ) (old new : Option (List ℕ)) (status : Status) → IsHead held name 65536 head → Wrote name head old status new → RunsOnce held name old status new
-RunsOnce-from_wrote held name head old new Ok h w = (w.1.0, accepts held name head w.1.0 h w.1.1, subst (λ z. Grew old new z) w.1.2 w.2)
-RunsOnce-from_wrote held name head old new BadScript h w = (w.1.0, refuses held name head w.1.0 h w.1.1, subst (λ z. Grew old new z) w.1.2 w.2)
-RunsOnce-from_wrote held name head old new WriteFault h w = (w.0, output_of held name head w.0 h w.1, w.2)
-RunsOnce-from_wrote held name head old new NoMemory h w = w
-RunsOnce-from_wrote held name head old new Usage h w = w
-RunsOnce-from_wrote held name head old new BadWorld h w = w
-RunsOnce-from_wrote held name head old new ReadFault h w = absurd w
-RunsOnce-from_wrote held name head old new BadImage h w = w
+pub Runs-from_wrote : (held : Option Files) (command : Command) (head : List ℕ) (old new : Option (List ℕ)) (status : Status) → IsHead held (file_of command) 65536 head → Wrote command head old status new → Runs held command old status new
+Runs-from_wrote held command head old new Ok h w = (w.0, reports held command head w.0 h w.1, w.2)
+Runs-from_wrote held command head old new BadScript h w = (w.1.0, refuses held command head w.1.0 h w.1.1, subst (λ z. Grew old new z) w.1.2 w.2)
+Runs-from_wrote held command head old new WriteFault h w = (w.0, output_of held command head w.0 h w.1, w.2)
+Runs-from_wrote held command head old new NoMemory h w = w
+Runs-from_wrote held command head old new Usage h w = w
+Runs-from_wrote held command head old new BadWorld h w = w
+Runs-from_wrote held command head old new ReadFault h w = absurd w
+Runs-from_wrote held command head old new BadImage h w = w
+
+-- the same of the bytes of the file that was read
+pub Runs-from_read : (held : Option Files) (command : Command) (name head bytes : List ℕ) (old new : Option (List ℕ)) (status : Status) → name ≡ file_of command → IsHead held name 65536 head → bytes ≡ head → Wrote command bytes old status new → Runs held command old status new
+Runs-from_read held command name head bytes old new status named h same wrote =
+    Runs-from_wrote held command head old new status (subst (λ z. IsHead held z 65536 head) named h) (subst (λ z. Wrote command z old status new) same wrote)

@@ -1,39 +1,48 @@
 -- What is written for a file that was read.
 use Rattle.std.specs.Prelude.{◌≡◌, ℕ, ◌⊎◌, List, Option}
 use Rattle.lsl_ports.specs.Sink.{Grew, GrewByPrefix}
+use Rattle.lsl_tree.specs.Program.{Checked}
 use Rattle.lsl_top.specs.declared.status.Status.{Status}
 use Rattle.lsl_top.specs.declared.status.Status.TheVariants.{Ok, Usage, BadWorld, BadScript, ReadFault, WriteFault, BadImage, NoMemory}
 use Rattle.lsl_top.specs.declared.build_fault.BuildFault.{BuildFault}
-use Rattle.lsl_top.specs.Faults.{FirstFault}
+use Rattle.lsl_top.specs.Accepted.{Accepted}
+use Rattle.lsl_top.specs.Faults.{FirstFault, IsOutside}
 use Rattle.lsl_top.specs.Form.{Says}
-use Rattle.lsl_top.specs.Journal.{report_of, refusal_of}
+use Rattle.lsl_top.specs.Journal.{report_of, accepted_line, refusal_of}
+use Rattle.lsl_top.specs.Words.{Command, Once, Check, file_of}
 
--- the file is a script, and these lines are its report
-abbrev pub IsReport : List ℕ → List ℕ → Type 0
-IsReport file lines = (texts : List (List ℕ)) × Says file texts × (lines ≡ report_of texts)
+-- the command does what it is for with the file, and these lines are its report
+abbrev pub IsReport : Command → List ℕ → List ℕ → Type 0
+IsReport (Once name) file lines = (texts : List (List ℕ)) × Says file texts × (lines ≡ report_of texts)
+IsReport (Check name) file lines = (program : Checked) × Accepted file program × (lines ≡ accepted_line name)
 
--- these lines refuse the file for its first fault
-abbrev pub IsRefusal : List ℕ → List ℕ → List ℕ → Type 0
-IsRefusal name file lines = (fault : BuildFault) × FirstFault file fault × (lines ≡ refusal_of name fault)
+-- the command refuses the file for this fault: its first, or for a run that it is outside the built part
+abbrev pub IsFault : Command → List ℕ → BuildFault → Type 0
+IsFault (Once name) file fault = FirstFault file fault ⊎ IsOutside file fault
+IsFault (Check name) file fault = FirstFault file fault
+
+-- these lines refuse the file for its fault
+abbrev pub IsRefusal : Command → List ℕ → List ℕ → Type 0
+IsRefusal command file lines = (fault : BuildFault) × IsFault command file fault × (lines ≡ refusal_of (file_of command) fault)
 
 -- the lines for a file, and the status where they are written
-abbrev pub Answers : List ℕ → List ℕ → Status → List ℕ → Type 0
-Answers name file Ok lines = IsReport file lines
-Answers name file BadScript lines = IsRefusal name file lines
-Answers name file Usage lines = ⊥
-Answers name file BadWorld lines = ⊥
-Answers name file ReadFault lines = ⊥
-Answers name file WriteFault lines = ⊥
-Answers name file BadImage lines = ⊥
-Answers name file NoMemory lines = ⊥
+abbrev pub Answers : Command → List ℕ → Status → List ℕ → Type 0
+Answers command file Ok lines = IsReport command file lines
+Answers command file BadScript lines = IsRefusal command file lines
+Answers command file Usage lines = ⊥
+Answers command file BadWorld lines = ⊥
+Answers command file ReadFault lines = ⊥
+Answers command file WriteFault lines = ⊥
+Answers command file BadImage lines = ⊥
+Answers command file NoMemory lines = ⊥
 
 -- what the sink has taken at each status
-abbrev pub Wrote : List ℕ → List ℕ → Option (List ℕ) → Status → Option (List ℕ) → Type 0
-Wrote name file old Ok new = (lines : List ℕ) × IsReport file lines × Grew old new lines
-Wrote name file old BadScript new = (lines : List ℕ) × IsRefusal name file lines × Grew old new lines
-Wrote name file old WriteFault new = (lines : List ℕ) × (IsReport file lines ⊎ IsRefusal name file lines) × GrewByPrefix old new lines
-Wrote name file old NoMemory new = new ≡ old
-Wrote name file old Usage new = ⊥
-Wrote name file old BadWorld new = ⊥
-Wrote name file old ReadFault new = ⊥
-Wrote name file old BadImage new = ⊥
+abbrev pub Wrote : Command → List ℕ → Option (List ℕ) → Status → Option (List ℕ) → Type 0
+Wrote command file old Ok new = (lines : List ℕ) × IsReport command file lines × Grew old new lines
+Wrote command file old BadScript new = (lines : List ℕ) × IsRefusal command file lines × Grew old new lines
+Wrote command file old WriteFault new = (lines : List ℕ) × (IsReport command file lines ⊎ IsRefusal command file lines) × GrewByPrefix old new lines
+Wrote command file old NoMemory new = new ≡ old
+Wrote command file old Usage new = ⊥
+Wrote command file old BadWorld new = ⊥
+Wrote command file old ReadFault new = ⊥
+Wrote command file old BadImage new = ⊥

@@ -1,4 +1,5 @@
--- The first fault of a file: a lexical one, else a syntax fault, else fault 90 at its start where the script is outside the built part.
+-- The first fault of a file: a lexical one, else a syntax fault, else one of names and kinds. A run of an accepted script that is outside the
+-- built part has fault 90 at its start.
 use Rattle.std.specs.Prelude.{◌≡◌, ℕ, List, ◌⊎◌}
 use Rattle.lsl_text.specs.declared.Refusal.{Refusal}
 use Rattle.lsl_text.specs.declared.Refusal.TheVariants as refusals
@@ -8,11 +9,16 @@ use Rattle.lsl_lex.specs.declared.faults.LexKind.{LexKind}
 use Rattle.lsl_lex.specs.declared.faults.LexKind.TheVariants.{NotText, StringEnd, CommentEnd, FloatLiteral, StrayCharacter, TextTooLong}
 use Rattle.lsl_lex.specs.declared.token_types.Tokens.{Tokens}
 use Rattle.lsl_tree.specs.Scripts.{Script}
+use Rattle.lsl_tree.specs.Program.{Checked}
 use Rattle.lsl_parse.specs.Faults.{Derives, IsFirst}
 use Rattle.lsl_parse.specs.FaultNumbers.{number_of}
 use Rattle.lsl_parse.specs.declared.fault.ParseFault.{ParseFault}
+use Rattle.lsl_type.specs.Typed.{TypeFirst}
+use Rattle.lsl_type.specs.FaultNumbers.{number_of as semantic_number_of}
+use Rattle.lsl_type.specs.declared.faults.TypeFault.{TypeFault}
 use Rattle.lsl_top.specs.declared.build_fault.BuildFault.{BuildFault}
 use Rattle.lsl_top.specs.declared.build_fault.TheConstants.{NOT_YET}
+use Rattle.lsl_top.specs.Accepted.{IsAccepted}
 use Rattle.lsl_top.specs.Form.{HasNoForm}
 
 abbrev pub lexical_number_of : LexKind → ℕ
@@ -28,6 +34,9 @@ lexical_fault_of fault = record { number = lexical_number_of fault.kind; span = 
 
 abbrev pub syntax_fault_of : ParseFault → BuildFault
 syntax_fault_of fault = record { number = number_of fault.kind; span = fault.span }
+
+abbrev pub semantic_fault_of : TypeFault → BuildFault
+semantic_fault_of fault = record { number = semantic_number_of fault.kind; span = fault.span }
 
 -- a refusal with another fault in it
 abbrev pub refused_with : {F : Type 0} → (F → BuildFault) → Refusal F → Refusal BuildFault
@@ -48,14 +57,23 @@ pub record IsSyntactic (file : List ℕ) (fault : BuildFault) : Type 0 where
   pub first : IsFirst tokens.list tokens.end syntactic
   pub fault_is : fault ≡ syntax_fault_of syntactic
 
--- the file is a script, and outside the built part
-pub record IsOutside (file : List ℕ) (fault : BuildFault) : Type 0 where
+-- the first fault of names and kinds of the file's script
+pub record IsSemantic (file : List ℕ) (fault : BuildFault) : Type 0 where
   pub tokens : Tokens
   pub lexed : Lexes file tokens
   pub script : Script
   pub derived : Derives tokens.list script
-  pub formless : HasNoForm script
-  pub fault_is : fault ≡ NOT_YET
+  pub semantic : TypeFault
+  pub first : TypeFirst script semantic
+  pub fault_is : fault ≡ semantic_fault_of semantic
 
 abbrev pub FirstFault : List ℕ → BuildFault → Type 0
-FirstFault file fault = IsLexical file fault ⊎ (IsSyntactic file fault ⊎ IsOutside file fault)
+FirstFault file fault = IsLexical file fault ⊎ (IsSyntactic file fault ⊎ IsSemantic file fault)
+
+-- the file is accepted, and outside the built part
+pub record IsOutside (file : List ℕ) (fault : BuildFault) : Type 0 where
+  pub script : Script
+  pub program : Checked
+  pub accepted : IsAccepted file script program
+  pub formless : HasNoForm script
+  pub fault_is : fault ≡ NOT_YET

@@ -3,13 +3,12 @@
 use Rattle.std.specs.Prelude.{◌≡◌, ℕ, ◌≤◌, List, [], ◌∷◌, ◌++◌, length, map, codes}
 use Rattle.std.specs.Str.{encode_utf8_all}
 use Rattle.lsl_text.specs.declared.Span.{Span}
-use Rattle.lsl_lex.specs.Lexed.{Lexes}
-use Rattle.lsl_lex.specs.declared.token_types.Tokens.{Tokens}
 use Rattle.lsl_tree.specs.declared.expression.Name.{Name}
 use Rattle.lsl_tree.specs.Expressions.{Expressions, Called, Quoted, And, No_expression}
 use Rattle.lsl_tree.specs.Statements.{Entry, Entries, Acted, Simple, No_entry, Then}
 use Rattle.lsl_tree.specs.Scripts.{Script}
-use Rattle.lsl_parse.specs.Faults.{Derives}
+use Rattle.lsl_tree.specs.Program.{Checked}
+use Rattle.lsl_top.specs.Accepted.{IsAccepted}
 
 -- texts as bytes
 abbrev pub utf8_of : List (List ℕ) → List (List ℕ)
@@ -62,16 +61,11 @@ abbrev pub AreLiterals : List (List ℕ) → Type 0
 AreLiterals [] = Unit {0}
 AreLiterals (text ∷ texts) = (length text ≤ 1024) × AreLiterals texts
 
--- the file is a script of the built part, which says these texts, given in bytes
+-- the file is an accepted script of the built part, which says these texts, given in bytes
 pub record Says (file : List ℕ) (texts : List (List ℕ)) : Type 0 where
-  pub tokens : Tokens
-  pub lexed : Lexes file tokens
   pub script : Script
-  pub derived : Derives tokens.list script
+  pub program : Checked
+  pub accepted : IsAccepted file script program
   pub said : List (List ℕ)
   pub form : IsForm script said
   pub bytes : texts ≡ utf8_of said
-
--- the file is no script of the built part
-abbrev pub SaysNothing : List ℕ → Type 0
-SaysNothing file = (texts : List (List ℕ)) → Says file texts → ⊥

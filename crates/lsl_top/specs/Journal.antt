@@ -20,6 +20,10 @@ report_of texts =
     ++ (line (codes "done 1 1024")
     ++ line (codes "home 1 " ++ quoted (codes "here"))))
 
+-- the line of a script that is accepted
+abbrev pub accepted_line : List ℕ → List ℕ
+accepted_line file = line (codes "accepted " ++ quoted file)
+
 -- where a fault stands, and its number
 abbrev pub place_of : ℕ → ℕ → ℕ → List ℕ
 place_of line_number col number = codes " " ++ (decimal line_number ++ (codes ":" ++ (decimal col ++ (codes " fault " ++ (decimal number ++ 10 ∷ [])))))

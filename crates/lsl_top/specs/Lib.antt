@@ -1,3 +1,4 @@
+pub mod Accepted
 pub mod Form
 pub mod Words
 pub mod Meant

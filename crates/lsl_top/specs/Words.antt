@@ -6,6 +6,13 @@ use Rattle.std.specs.Str.{bytes_eq}
 pub data Command : Type 0 where
   -- runs the script of a file
   Once : (file : List ℕ) → Command
+  -- accepts the script of a file, or refuses it
+  Check : (file : List ℕ) → Command
+
+-- the file that a command names
+abbrev pub file_of : Command → List ℕ
+file_of (Once file) = file
+file_of (Check file) = file
 
 -- a word that may name a file: it isn't empty, and doesn't begin with `-`
 abbrev pub names_file : List ℕ → Bool
@@ -13,7 +20,7 @@ names_file [] = false
 names_file (c ∷ word) = not (c == 45)
 
 abbrev pub command_in : List (List ℕ) → Option Command
-command_in (word ∷ file ∷ []) = if bytes_eq word (codes "once") && names_file file then Some (Once file) else None
+command_in (word ∷ file ∷ []) = if bytes_eq word (codes "once") && names_file file then Some (Once file) else if bytes_eq word (codes "check") && names_file file then Some (Check file) else None
 command_in _ = None
 
 -- what the words ask for, or none where they are no command

@@ -1,34 +1,31 @@
-//! The compiler of the built part: scripts that say literal texts.
+//! Scripts read as syntax trees and checked programs, or their first faults.
 
-ghost use Rattle.std.specs.Prelude.{◌≡◌, ℕ, List, IfOk, IsErrOf};
+ghost use Rattle.std.specs.Prelude.{◌≡◌, IfOk, IsErrOf};
 ghost use Rattle.lsl_text.specs.declared.Refusal.TheVariants as refusals;
-ghost use Rattle.lsl_top.specs.Faults.{FirstFault, lexical_fault_of, lexical_number_of, refused_with, syntax_fault_of};
-ghost use Rattle.lsl_top.specs.Form.{utf8_of, Says};
-ghost use Rattle.lsl_top.specs.Program.{HasHandler};
+ghost use Rattle.lsl_tree.specs.Program.{checked_of};
+ghost use Rattle.lsl_tree.specs.Scripts.{script_of};
+ghost use Rattle.lsl_top.specs.Accepted.{IsAccepted};
+ghost use Rattle.lsl_top.specs.Faults.{FirstFault, lexical_fault_of, lexical_number_of, refused_with, semantic_fault_of, syntax_fault_of};
 ghost use Rattle.lsl_top.specs.declared.build_fault.BuildFault.{BuildFault as Fault};
 
-use crate::build_fault::{BuildFault, NOT_YET};
-use crate::literal_form::texts_of;
-use crate::program::unit_of;
-use lsl_code::Woven;
+use crate::build_fault::BuildFault;
 use lsl_lex::{LexFault, LexKind, lex};
 use lsl_parse::{ParseFault, parse};
 use lsl_text::Refusal;
-use lsl_value::Text;
+use lsl_tree::{Program, Tree};
+use lsl_type::{TypeFault, check};
 use std::alloc::Global;
 
-/// The unit of a script, or its first fault. It takes memory for the tokens, the tree, the texts and the code.
-pub fn build(alloc: Global, file: &[u8]) -> Result<Woven, Refusal<BuildFault>>
-    ensures ok { IfOk result (λ unit. (texts : List (List ℕ)) × Says file.now (utf8_of texts) × HasHandler unit texts) }
-    ensures first { (fault : Fault) → IsErrOf result (refusals.Fault fault) → FirstFault file.now fault }
-{
-    let texts = read_script(alloc, file)?;
-    Ok(unit_of(alloc, texts)?)
+/// A script that is accepted: its syntax tree, and its checked program.
+#[derive(Drop)]
+pub struct Built {
+    pub tree: Tree,
+    pub program: Program,
 }
 
-/// The texts that a script says, or its first fault.
-fn read_script(alloc: Global, file: &[u8]) -> Result<Vec<Text>, Refusal<BuildFault>>
-    ensures ok { IfOk result (λ texts. Says file.now (utf8_of texts.items)) }
+/// The script of a file, or its first fault. It takes memory for the tokens, the tree and the program.
+pub fn build(alloc: Global, file: &[u8]) -> Result<Built, Refusal<BuildFault>>
+    ensures ok { IfOk result (λ built. IsAccepted file.now (script_of built.tree) (checked_of built.program)) }
     ensures first { (fault : Fault) → IsErrOf result (refusals.Fault fault) → FirstFault file.now fault }
 {
     let tokens = match lex(alloc, file) {
@@ -39,9 +36,9 @@ fn read_script(alloc: Global, file: &[u8]) -> Result<Vec<Text>, Refusal<BuildFau
         Ok(tree) => tree,
         Err(refusal) => return Err(syntactic(refusal)),
     };
-    match texts_of(alloc, &tree)? {
-        Some(texts) => Ok(texts),
-        None => Err(Refusal::Fault(NOT_YET)),
+    match check(alloc, &tree) {
+        Ok(program) => Ok(Built { tree, program }),
+        Err(refusal) => Err(semantic(refusal)),
     }
 }
 
@@ -72,6 +69,18 @@ fn lexical(refusal: Refusal<LexFault>) -> Refusal<BuildFault>
 
 fn syntactic(refusal: Refusal<ParseFault>) -> Refusal<BuildFault>
     ensures { result ≡ refused_with syntax_fault_of refusal }
+{
+    match refusal {
+        Refusal::Fault(fault) => Refusal::Fault(BuildFault {
+            number: fault.kind.number(),
+            span: fault.span,
+        }),
+        Refusal::NoMemory => Refusal::NoMemory,
+    }
+}
+
+fn semantic(refusal: Refusal<TypeFault>) -> Refusal<BuildFault>
+    ensures { result ≡ refused_with semantic_fault_of refusal }
 {
     match refusal {
         Refusal::Fault(fault) => Refusal::Fault(BuildFault {

@@ -1,7 +1,7 @@
 //! The lines that a command writes.
 ghost use Rattle.std.specs.Prelude.{◌≡◌, ℕ, List, IfOk, OnOk, ◌++◌};
 ghost use Rattle.lsl_top.specs.Form.{utf8_of};
-ghost use Rattle.lsl_top.specs.Journal.{place_of, refusal_of, report_of};
+ghost use Rattle.lsl_top.specs.Journal.{accepted_line, place_of, refusal_of, report_of};
 ghost use Rattle.lsl_top.specs.Program.{HasHandler};
 
 use crate::build_fault::BuildFault;
@@ -21,6 +21,17 @@ pub fn run_report(alloc: Global, unit: &Woven) -> Result<Vec<u8>, NoMemory>
     push_all_said(alloc, unit, &mut out)?;
     out.extend_from_slice(b"done 1 1024\n")?;
     out.extend_from_slice(b"home 1 \"here\"\n")?;
+    Ok(out)
+}
+
+/// The line of a file that is accepted. It takes memory for the line.
+pub fn acceptance(alloc: Global, file: &str) -> Result<Vec<u8>, NoMemory>
+    ensures { IfOk result (λ line. line.items ≡ accepted_line file.now) }
+{
+    let mut out = Vec::new(alloc);
+    out.extend_from_slice(b"accepted ")?;
+    push_quoted(&mut out, file.as_bytes())?;
+    out.push(b'\n')?;
     Ok(out)
 }
 

@@ -4,8 +4,9 @@
 
 ghost use Rattle.std.specs.Prelude.{◌≡◌, ◌≢◌, ◌≤◌, ◌↔◌, ◌⊎◌, ℕ, None, Some};
 ghost use Rattle.lsl_ports.specs.Counts.{NoneFell, Rose};
-ghost use Rattle.lsl_top.specs.Promise.{HasNoScript, HasScript, NamedRose, WritesNothing, WritesPrefix, WritesRefusal, WritesReport, RunsOnce};
-ghost use Rattle.lsl_top.specs.Words.{Once, command_of};
+ghost use Rattle.lsl_top.specs.Promise.{HasNoScript, HasScript, NamedRose, WritesNothing, WritesPrefix, WritesRefusal, WritesReport, Runs};
+ghost use Rattle.lsl_top.specs.Meant.{asked_by};
+ghost use Rattle.lsl_top.specs.Words.{command_of, file_of};
 
 mod build;
 mod build_fault;
@@ -38,10 +39,10 @@ pub fn lsl<S: Shelf, K: Sink, L: Link>(
 ) -> Status
     // The words are no command.
     ensures usage { (result ≡ Status.Usage) ↔ (command_of words.now ≡ None) }
-    // The file is a script, and the sink grew by exactly its report.
+    // The file is a script, and the sink grew by exactly the report of its run or its check.
     ensures ok { result ≡ Status.Ok
         → WritesReport (S.held shelf.old) (command_of words.now) (K.sunk sink.old) (K.sunk sink.new) }
-    // The file isn't accepted, and the sink grew by exactly its refusal for its first fault.
+    // The file isn't accepted, or is to be run and is outside the built part, and the sink grew by exactly its refusal for that fault.
     ensures bad_script { result ≡ Status.BadScript
         → WritesRefusal (S.held shelf.old) (command_of words.now) (K.sunk sink.old) (K.sunk sink.new) }
     // The shelf failed at the very file that the words name.
@@ -56,7 +57,7 @@ pub fn lsl<S: Shelf, K: Sink, L: Link>(
     ensures never { (result ≢ Status.BadWorld) × (result ≢ Status.BadImage) }
 
     // Where neither the count of the file's faults nor the sink's rose, a script that the shelf
-    // tells of is run, and any other file is refused, but for want of memory.
+    // tells of is run or accepted, and any other file is refused, but for want of memory.
     ensures complete { HasScript (S.held shelf.old) (command_of words.now)
         → ¬ NamedRose (command_of words.now) (S.faults shelf.old) (S.faults shelf.new)
         → ¬ Rose (K.faults sink.old) (K.faults sink.new)
@@ -74,22 +75,28 @@ pub fn lsl<S: Shelf, K: Sink, L: Link>(
     let _ = link;
     match parse_words(words) {
         None => Status::Usage,
-        Some(Command::Once(name)) => run_once(alloc, name, shelf, sink),
+        Some(command) => run(alloc, command, shelf, sink),
     }
 }
 
-/// Runs the script of a file, and writes its journal and its home.
-fn run_once<S: Shelf, K: Sink>(alloc: Global, name: &str, shelf: &mut S, sink: &mut K) -> Status
-    ensures once { RunsOnce (S.held shelf.old) name.now (K.sunk sink.old) result (K.sunk sink.new) }
-    ensures read_fault { result ≡ Status.ReadFault → Rose (S.faults shelf.old name.now) (S.faults shelf.new name.now) }
+/// Does what a command asks for with the bytes of its file.
+fn run<S: Shelf, K: Sink>(
+    alloc: Global,
+    command: Command<'_>,
+    shelf: &mut S,
+    sink: &mut K,
+) -> Status
+    ensures runs { Runs (S.held shelf.old) (asked_by command.entry) (K.sunk sink.old) result (K.sunk sink.new) }
+    ensures read_fault { result ≡ Status.ReadFault → Rose (S.faults shelf.old (file_of (asked_by command.entry))) (S.faults shelf.new (file_of (asked_by command.entry))) }
     ensures write_fault { result ≡ Status.WriteFault → Rose (K.faults sink.old) (K.faults sink.new) }
     ensures unchanged { S.held shelf.new ≡ S.held shelf.old }
     ensures shelf_counted { NoneFell (S.faults shelf.old) (S.faults shelf.new) }
     ensures sink_counted { K.faults sink.old ≤ K.faults sink.new }
-    ensures complete { HasScript (S.held shelf.old) (Some (Once name.now)) → ¬ Rose (S.faults shelf.old name.now) (S.faults shelf.new name.now) → ¬ Rose (K.faults sink.old) (K.faults sink.new) → (result ≡ Status.Ok) ⊎ (result ≡ Status.NoMemory) }
+    ensures complete { HasScript (S.held shelf.old) (Some (asked_by command.entry)) → ¬ Rose (S.faults shelf.old (file_of (asked_by command.entry))) (S.faults shelf.new (file_of (asked_by command.entry))) → ¬ Rose (K.faults sink.old) (K.faults sink.new) → (result ≡ Status.Ok) ⊎ (result ≡ Status.NoMemory) }
+    ensures refused { HasNoScript (S.held shelf.old) (Some (asked_by command.entry)) → ¬ Rose (S.faults shelf.old (file_of (asked_by command.entry))) (S.faults shelf.new (file_of (asked_by command.entry))) → ¬ Rose (K.faults sink.old) (K.faults sink.new) → (result ≡ Status.BadScript) ⊎ (result ≡ Status.NoMemory) }
 {
-    match read_all(alloc, shelf, name, MAX_SCRIPT_BYTES) {
-        Ok(file) => write_output(alloc, name, file.as_slice(), sink),
+    match read_all(alloc, shelf, command.file(), MAX_SCRIPT_BYTES) {
+        Ok(file) => write_output(alloc, command, file.as_slice(), sink),
         Err(ShelfFault::Failed) => Status::ReadFault,
         Err(ShelfFault::NoMemory) => Status::NoMemory,
     }
