@@ -12,7 +12,7 @@ is_fresh() {
 }
 
 if ! is_fresh; then
-    echo "lsl: proving and building the program, for some minutes the first time" >&2
+    echo "lsl: proving and building the program, for half an hour the first time on a machine" >&2
     begun=$(date +%s)
     rm -f "$binary"
     (cd "$top/crates/lsl" && rt run -- once hello.lsl) >/dev/null 2>&1
