@@ -1,77 +1,53 @@
--- Checked statements without where they lie in memory.
-use Rattle.std.specs.Prelude.{ℕ, Option, List, [], ◌∷◌, map}
-use Rattle.lsl_value.specs.declared.tagged.Kind.{Kind}
-use Rattle.lsl_tree.specs.declared.program_node.Callee.{Callee}
-use Rattle.lsl_tree.specs.declared.program_action.Effect.{Effect}
-use Rattle.lsl_tree.specs.declared.program_action.Effect.TheVariants as effect
-use Rattle.lsl_tree.specs.declared.program_action.Action.{Action, Block', If', IfElse', Loop', Do', Row_of-Action, end_of-Action, more_of-Action}
+-- Checked statements without where they lie in memory, under the names that the code has.
+use Rattle.std.specs.Prelude.{ℕ, List, [], ◌∷◌, map}
+use Rattle.lsl_tree.specs.declared.program_action.Action as declared
 use Rattle.lsl_tree.specs.declared.program_action.Action.TheVariants as form
-use Rattle.lsl_tree.specs.declared.program_action.Routine.{Routine}
-use Rattle.lsl_tree.specs.Nodes.{Typed, TypedList, node_of, nodes_of}
-
--- an expression whose value is dropped, or a call without a result
-pub data Effected : Type 0 where
-  Valued : Typed → Effected
-  Performed : Callee → ℕ → TypedList → Effected
-
-abbrev pub effect_of : Effect → Effected
-effect_of (effect.Value t) = Valued (node_of t)
-effect_of (effect.Call c l v) = Performed c l (nodes_of v.items)
+use Rattle.lsl_tree.specs.Effects as effect
+use Rattle.lsl_tree.specs.Nodes.{Node, node_of}
 
 mutual
-  pub data Act : Type 0 where
-    Block : Acts → Act
-    Does : Effected → Act
-    Declares : ℕ → Typed → Act
-    Label : ℕ → Act
-    If : Typed → Act → Act
-    IfElse : Typed → Act → Act → Act
-    Loop : ℕ → Typed → List Effected → Act → Act
-    Do : ℕ → Act → Typed → Act
-    Jumps : ℕ → ℕ → Act
-    Returns : Act
-    Gives : Typed → Act
-    Goes : ℕ → Act
+  pub data Action : Type 0 where
+    Block : Actions → Action
+    Effect : effect.Effect → Action
+    Declare : ℕ → Node → Action
+    Label : ℕ → Action
+    If : Node → Action → Action
+    IfElse : Node → Action → Action → Action
+    Loop : ℕ → Node → List effect.Effect → Action → Action
+    Do : ℕ → Action → Node → Action
+    Jump : ℕ → ℕ → Action
+    Return : Action
+    ReturnValue : Node → Action
+    State : ℕ → Action
 
   -- from the last to the first
-  pub data Acts : Type 0 where
-    No_act : Acts
-    Next : Acts → Act → Acts
+  pub data Actions : Type 0 where
+    NoAction : Actions
+    AndAction : Actions → Action → Actions
 
 abbrev mutual
-  pub act_of : Action → Act
-  act_of (Block' m row) = Block (row_acts row No_act)
-  act_of (form.Effect e) = Does (effect_of e)
-  act_of (form.Declare s v) = Declares s (node_of v)
-  act_of (form.Label n) = Label n
-  act_of (If' t p a) = If (node_of t) (act_of a)
-  act_of (IfElse' t p a q b) = IfElse (node_of t) (act_of a) (act_of b)
-  act_of (Loop' l t v p a) = Loop l (node_of t) (map effect_of v.items) (act_of a)
-  act_of (Do' l p a t) = Do l (act_of a) (node_of t)
-  act_of (form.Jump l n) = Jumps l n
-  act_of form.Return = Returns
-  act_of (form.ReturnValue v) = Gives (node_of v)
-  act_of (form.State n) = Goes n
+  pub action_of : declared.Action → Action
+  action_of (declared.Block' m row) = Block (row_actions row NoAction)
+  action_of (form.Effect e) = Effect (effect.effect_of e)
+  action_of (form.Declare s v) = Declare s (node_of v)
+  action_of (form.Label n) = Label n
+  action_of (declared.If' t p a) = If (node_of t) (action_of a)
+  action_of (declared.IfElse' t p a q b) = IfElse (node_of t) (action_of a) (action_of b)
+  action_of (declared.Loop' l t v p a) = Loop l (node_of t) (map effect.effect_of v.items) (action_of a)
+  action_of (declared.Do' l p a t) = Do l (action_of a) (node_of t)
+  action_of (form.Jump l n) = Jump l n
+  action_of form.Return = Return
+  action_of (form.ReturnValue v) = ReturnValue (node_of v)
+  action_of (form.State n) = State n
 
   -- these behind others
-  pub row_acts : {m : _} → Row_of-Action m → Acts → Acts
-  row_acts end_of-Action es = es
-  row_acts (more_of-Action e rest) es = row_acts rest (Next es (act_of e))
+  pub row_actions : {m : _} → declared.Row_of-Action m → Actions → Actions
+  row_actions declared.end_of-Action es = es
+  row_actions (declared.more_of-Action e rest) es = row_actions rest (AndAction es (action_of e))
 
-abbrev pub acts_behind : List Action → Acts → Acts
-acts_behind [] es = es
-acts_behind (x ∷ xs) es = acts_behind xs (Next es (act_of x))
+abbrev pub actions_behind : List declared.Action → Actions → Actions
+actions_behind [] es = es
+actions_behind (x ∷ xs) es = actions_behind xs (AndAction es (action_of x))
 
-abbrev pub acts_of : List Action → Acts
-acts_of xs = acts_behind xs No_act
-
--- a function or a handler
-pub record Coded : Type 0 where
-  pub line : ℕ
-  pub kind : Option Kind
-  pub params : ℕ
-  pub slots : List Kind
-  pub body : Acts
-
-abbrev pub routine_of : Routine → Coded
-routine_of r = record { line = r.line; kind = r.kind; params = r.params; slots = r.slots.items; body = acts_of r.body.items }
+abbrev pub actions_of : List declared.Action → Actions
+actions_of xs = actions_behind xs NoAction

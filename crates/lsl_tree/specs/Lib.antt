@@ -1,7 +1,11 @@
 pub mod Actions
+pub mod Effects
 pub mod Expressions
+pub mod Initials
+pub mod Kinded
 pub mod Nodes
 pub mod Program
 pub mod Scripts
 pub mod Shape
+pub mod Signatures
 pub mod Statements

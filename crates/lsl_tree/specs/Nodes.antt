@@ -1,4 +1,4 @@
--- Checked expressions without where they lie in memory.
+-- Checked expressions without where they lie in memory, under the names that the code has.
 use Rattle.std.specs.Prelude.{ℕ, ℤ, List, [], ◌∷◌}
 use Rattle.lsl_value.specs.declared.operators.UnaryOp.{UnaryOp}
 use Rattle.lsl_value.specs.declared.operators.BinaryOp.{BinaryOp}
@@ -8,64 +8,69 @@ use Rattle.lsl_value.specs.declared.tagged.Kind.TheVariants as kind
 use Rattle.lsl_tree.specs.declared.expression.StepOp.{StepOp}
 use Rattle.lsl_tree.specs.declared.program_node.Place.{Place}
 use Rattle.lsl_tree.specs.declared.program_node.Callee.{Callee}
-use Rattle.lsl_tree.specs.declared.program_node.Node.{Node, Call', List', Cast', Unary', Binary', Assign', Row_of-Node, end_of-Node, more_of-Node}
-use Rattle.lsl_tree.specs.declared.program_node.Node.TheVariants as shape
+use Rattle.lsl_tree.specs.declared.program_node.Node as declared
+use Rattle.lsl_tree.specs.declared.program_node.Node.TheVariants as form
 
 mutual
-  pub data Typed : Type 0 where
-    Integer : ℤ → Typed
-    Literal : List ℕ → Typed
-    Constant : ConstantId → Kind → Typed
-    Read : Place → Kind → Typed
-    Result : Callee → Kind → ℕ → TypedList → Typed
-    Elements : TypedList → Typed
-    Turned : Kind → Typed → Typed
-    Signed : UnaryOp → Typed → Typed
-    Operated : BinaryOp → Kind → Typed → Typed → Typed
-    Stored : Place → Kind → Typed → Typed
-    Stepped : Place → StepOp → Typed
+  pub data Node : Type 0 where
+    Int : ℤ → Node
+    Str : List ℕ → Node
+    Constant : ConstantId → Kind → Node
+    Variable : Place → Kind → Node
+    Call : Callee → Kind → ℕ → Nodes → Node
+    ListLiteral : Nodes → Node
+    Cast : Kind → Node → Node
+    Unary : UnaryOp → Node → Node
+    Binary : BinaryOp → Kind → Node → Node → Node
+    Assign : Place → Kind → Node → Node
+    StepBehind : Place → StepOp → Node
 
   -- from the last to the first
-  pub data TypedList : Type 0 where
-    None_typed : TypedList
-    Behind : TypedList → Typed → TypedList
+  pub data Nodes : Type 0 where
+    NoNode : Nodes
+    AndNode : Nodes → Node → Nodes
 
 abbrev mutual
-  pub node_of : Node → Typed
-  node_of (shape.Int n) = Integer n
-  node_of (shape.Str t) = Literal t
-  node_of (shape.Constant i k) = Constant i k
-  node_of (shape.Variable p k) = Read p k
-  node_of (Call' c k l m row) = Result c k l (row_nodes row None_typed)
-  node_of (List' m row) = Elements (row_nodes row None_typed)
-  node_of (Cast' k p e) = Turned k (node_of e)
-  node_of (Unary' o p e) = Signed o (node_of e)
-  node_of (Binary' o k p a q b) = Operated o k (node_of a) (node_of b)
-  node_of (Assign' x k p e) = Stored x k (node_of e)
-  node_of (shape.StepBehind x o) = Stepped x o
+  pub node_of : declared.Node → Node
+  node_of (form.Int n) = Int n
+  node_of (form.Str t) = Str t
+  node_of (form.Constant i k) = Constant i k
+  node_of (form.Variable p k) = Variable p k
+  node_of (declared.Call' c k l m row) = Call c k l (row_nodes row NoNode)
+  node_of (declared.List' m row) = ListLiteral (row_nodes row NoNode)
+  node_of (declared.Cast' k p e) = Cast k (node_of e)
+  node_of (declared.Unary' o p e) = Unary o (node_of e)
+  node_of (declared.Binary' o k p a q b) = Binary o k (node_of a) (node_of b)
+  node_of (declared.Assign' x k p e) = Assign x k (node_of e)
+  node_of (form.StepBehind x o) = StepBehind x o
 
   -- these behind others
-  pub row_nodes : {m : _} → Row_of-Node m → TypedList → TypedList
-  row_nodes end_of-Node ts = ts
-  row_nodes (more_of-Node t rest) ts = row_nodes rest (Behind ts (node_of t))
+  pub row_nodes : {m : _} → declared.Row_of-Node m → Nodes → Nodes
+  row_nodes declared.end_of-Node ts = ts
+  row_nodes (declared.more_of-Node t rest) ts = row_nodes rest (AndNode ts (node_of t))
 
-abbrev pub nodes_behind : List Node → TypedList → TypedList
+abbrev pub nodes_behind : List declared.Node → Nodes → Nodes
 nodes_behind [] ts = ts
-nodes_behind (x ∷ xs) ts = nodes_behind xs (Behind ts (node_of x))
+nodes_behind (x ∷ xs) ts = nodes_behind xs (AndNode ts (node_of x))
 
-abbrev pub nodes_of : List Node → TypedList
-nodes_of xs = nodes_behind xs None_typed
+abbrev pub nodes_of : List declared.Node → Nodes
+nodes_of xs = nodes_behind xs NoNode
 
 -- the kind of an expression's value
-abbrev pub kind_of : Typed → Kind
-kind_of (Integer n) = kind.Int
-kind_of (Literal t) = kind.Str
-kind_of (Constant i k) = k
-kind_of (Read p k) = k
-kind_of (Result c k l ts) = k
-kind_of (Elements ts) = kind.List
-kind_of (Turned k t) = k
-kind_of (Signed o t) = kind.Int
-kind_of (Operated o k a b) = k
-kind_of (Stored p k t) = k
-kind_of (Stepped p o) = kind.Int
+abbrev pub node_kind_of : Node → Kind
+node_kind_of (Int n) = kind.Int
+node_kind_of (Str t) = kind.Str
+node_kind_of (Constant i k) = k
+node_kind_of (Variable p k) = k
+node_kind_of (Call c k l ts) = k
+node_kind_of (ListLiteral ts) = kind.List
+node_kind_of (Cast k t) = k
+node_kind_of (Unary o t) = kind.Int
+node_kind_of (Binary o k a b) = k
+node_kind_of (Assign p k t) = k
+node_kind_of (StepBehind p o) = kind.Int
+
+-- the kinds of these values, the last one first: so they lie on a stack
+abbrev pub stack_of : Nodes → List Kind
+stack_of NoNode = []
+stack_of (AndNode ts t) = node_kind_of t ∷ stack_of ts

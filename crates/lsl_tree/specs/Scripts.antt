@@ -6,9 +6,7 @@ use Rattle.lsl_tree.specs.declared.expression.Name.{Name}
 use Rattle.lsl_tree.specs.declared.script.Atom.{Atom}
 use Rattle.lsl_tree.specs.declared.script.Simple.{Simple}
 use Rattle.lsl_tree.specs.declared.script.Simple.TheVariants as simple
-use Rattle.lsl_tree.specs.declared.script.Global.{Global}
 use Rattle.lsl_tree.specs.declared.script.Param.{Param}
-use Rattle.lsl_tree.specs.declared.script.Function.{Function}
 use Rattle.lsl_tree.specs.declared.script.Header.{Header}
 use Rattle.lsl_tree.specs.declared.script.Header.TheVariants as header
 use Rattle.lsl_tree.specs.declared.script.Handler.{Handler}

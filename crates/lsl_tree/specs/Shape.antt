@@ -1,80 +1,100 @@
--- What every checked program keeps beside the kinds: calls have as many arguments as parameters, labels are in scope,
--- and functions and states exist.
-use Rattle.std.specs.Prelude.{◌≡◌, ℕ, ◌+◌, ◌<◌, ◌≤◌, Some, List, [], ◌∷◌, ◌++◌, map, length, slice_get, Contains, All}
-use Rattle.lsl_value.specs.declared.names.BuiltinId.{BuiltinId}
+-- What every checked program keeps beside the kinds: counts of arguments, results where they are needed, labels in scope.
+use Rattle.std.specs.Prelude.{◌≡◌, ◌≢◌, ℕ, ◌+◌, ◌<◌, ◌≤◌, Bool, true, false, Some, None, is_some, List, [], ◌∷◌, ◌++◌, length, Contains, All}
+use Rattle.std.specs.List.{AllPairs}
 use Rattle.lsl_tree.specs.declared.program_node.Callee.{Callee}
-use Rattle.lsl_tree.specs.declared.program_node.Callee.TheVariants.{Function, Builtin}
-use Rattle.lsl_tree.specs.Nodes.{Typed, TypedList, Integer, Literal, Constant, Read, Result, Elements, Turned, Signed, Operated, Stored, Stepped, None_typed, Behind}
-use Rattle.lsl_tree.specs.Actions.{Effected, Valued, Performed, Act, Acts, Block, Does, Declares, Label, If, IfElse, Loop, Do, Jumps, Returns, Gives, Goes, No_act, Next, Coded}
-use Rattle.lsl_tree.specs.Program.{NamedCode, EventCode, CodedState, Checked}
+use Rattle.lsl_tree.specs.Nodes as node
+use Rattle.lsl_tree.specs.Nodes.{Node, Nodes, NoNode, AndNode}
+use Rattle.lsl_tree.specs.Effects as effect
+use Rattle.lsl_tree.specs.Effects.{Effect}
+use Rattle.lsl_tree.specs.Actions as action
+use Rattle.lsl_tree.specs.Actions.{Action, Actions, NoAction, AndAction}
+use Rattle.lsl_tree.specs.Program.{Routine, Program}
+use Rattle.lsl_tree.specs.Signatures.{Signature, callee_signature, function_signatures, routines_of, handlers_of}
 
-abbrev pub argument_count : TypedList → ℕ
-argument_count None_typed = 0
-argument_count (Behind ts t) = argument_count ts + 1
+abbrev pub argument_count : Nodes → ℕ
+argument_count NoNode = 0
+argument_count (AndNode ts t) = argument_count ts + 1
+
+abbrev pub label_of : Action → List ℕ → List ℕ
+label_of (action.Label n) more = n ∷ more
+label_of a more = more
 
 -- the labels that stand directly in a block
-abbrev pub labels_in : Acts → List ℕ
-labels_in No_act = []
-labels_in (Next acts (Label n)) = n ∷ labels_in acts
-labels_in (Next acts act) = labels_in acts
+abbrev pub labels_in : Actions → List ℕ
+labels_in NoAction = []
+labels_in (AndAction actions a) = label_of a (labels_in actions)
 
--- `functions` has the counts of the functions' parameters, and `states` is how many states there are
-module _ (functions : List ℕ) (builtins : BuiltinId → ℕ) (states : ℕ) where
-  abbrev pub FitsCallee : Callee → ℕ → Type 0
-  FitsCallee (Function n) count = slice_get functions n ≡ Some count
-  FitsCallee (Builtin id) count = builtins id ≡ count
+-- no number stands there twice
+abbrev pub Differ : List ℕ → Type 0
+Differ = AllPairs (λ a b. a ≢ b)
+
+-- what a routine's body can name, and whether the routine gives a value
+pub record Outline : Type 0 where
+  pub functions : List Signature
+  pub states : ℕ
+  pub gives : Bool
+
+module _ (o : Outline) where
+  -- a function or built-in call with so many parameters, which gives a value or gives none
+  abbrev pub FitsCallee : Callee → ℕ → Bool → Type 0
+  FitsCallee c count gives =
+      (g : Signature) × (callee_signature o.functions c ≡ Some g) × (length g.params ≡ count) × (is_some g.result ≡ gives)
 
   abbrev mutual
-    pub IsShapedNode : Typed → Type 0
-    IsShapedNode (Integer n) = Unit {0}
-    IsShapedNode (Literal t) = Unit {0}
-    IsShapedNode (Constant i k) = Unit {0}
-    IsShapedNode (Read p k) = Unit {0}
-    IsShapedNode (Result c k l ts) = FitsCallee c (argument_count ts) × AreShapedNodes ts
-    IsShapedNode (Elements ts) = AreShapedNodes ts
-    IsShapedNode (Turned k t) = IsShapedNode t
-    IsShapedNode (Signed o t) = IsShapedNode t
-    IsShapedNode (Operated o k a b) = IsShapedNode a × IsShapedNode b
-    IsShapedNode (Stored p k t) = IsShapedNode t
-    IsShapedNode (Stepped p o) = Unit {0}
+    pub IsShapedNode : Node → Type 0
+    IsShapedNode (node.Int n) = Unit {0}
+    IsShapedNode (node.Str t) = Unit {0}
+    IsShapedNode (node.Constant i k) = Unit {0}
+    IsShapedNode (node.Variable p k) = Unit {0}
+    IsShapedNode (node.Call c k l ts) = FitsCallee c (argument_count ts) true × AreShapedNodes ts
+    IsShapedNode (node.ListLiteral ts) = AreShapedNodes ts
+    IsShapedNode (node.Cast k t) = IsShapedNode t
+    IsShapedNode (node.Unary op t) = IsShapedNode t
+    IsShapedNode (node.Binary op k a b) = IsShapedNode a × IsShapedNode b
+    IsShapedNode (node.Assign p k t) = IsShapedNode t
+    IsShapedNode (node.StepBehind p op) = Unit {0}
 
-    pub AreShapedNodes : TypedList → Type 0
-    AreShapedNodes None_typed = Unit {0}
-    AreShapedNodes (Behind ts t) = AreShapedNodes ts × IsShapedNode t
+    pub AreShapedNodes : Nodes → Type 0
+    AreShapedNodes NoNode = Unit {0}
+    AreShapedNodes (AndNode ts t) = AreShapedNodes ts × IsShapedNode t
 
-  abbrev pub IsShapedEffect : Effected → Type 0
-  IsShapedEffect (Valued t) = IsShapedNode t
-  IsShapedEffect (Performed c l ts) = FitsCallee c (argument_count ts) × AreShapedNodes ts
+  abbrev pub IsShapedEffect : Effect → Type 0
+  IsShapedEffect (effect.Value t) = IsShapedNode t
+  IsShapedEffect (effect.Call c l ts) = FitsCallee c (argument_count ts) false × AreShapedNodes ts
 
   -- a statement in blocks with these labels
   abbrev mutual
-    pub IsShapedAct : List ℕ → Act → Type 0
-    IsShapedAct labels (Block acts) = AreShapedActs (labels_in acts ++ labels) acts
-    IsShapedAct labels (Does x) = IsShapedEffect x
-    IsShapedAct labels (Declares s t) = IsShapedNode t
-    IsShapedAct labels (Label n) = Unit {0}
-    IsShapedAct labels (If t a) = IsShapedNode t × IsShapedAct labels a
-    IsShapedAct labels (IfElse t a b) = IsShapedNode t × IsShapedAct labels a × IsShapedAct labels b
-    IsShapedAct labels (Loop l t xs a) = IsShapedNode t × All IsShapedEffect xs × IsShapedAct labels a
-    IsShapedAct labels (Do l a t) = IsShapedAct labels a × IsShapedNode t
-    IsShapedAct labels (Jumps l n) = Contains labels n
-    IsShapedAct labels Returns = Unit {0}
-    IsShapedAct labels (Gives t) = IsShapedNode t
-    IsShapedAct labels (Goes n) = n < states
+    pub IsShapedAction : List ℕ → Action → Type 0
+    IsShapedAction labels (action.Block xs) = Differ (labels_in xs ++ labels) × AreShapedActions (labels_in xs ++ labels) xs
+    IsShapedAction labels (action.Effect x) = IsShapedEffect x
+    IsShapedAction labels (action.Declare s t) = IsShapedNode t
+    IsShapedAction labels (action.Label n) = Unit {0}
+    IsShapedAction labels (action.If t a) = IsShapedNode t × IsShapedAction labels a
+    IsShapedAction labels (action.IfElse t a b) = IsShapedNode t × IsShapedAction labels a × IsShapedAction labels b
+    IsShapedAction labels (action.Loop l t xs a) = IsShapedNode t × All IsShapedEffect xs × IsShapedAction labels a
+    IsShapedAction labels (action.Do l a t) = IsShapedAction labels a × IsShapedNode t
+    IsShapedAction labels (action.Jump l n) = Contains labels n
+    IsShapedAction labels action.Return = o.gives ≡ false
+    IsShapedAction labels (action.ReturnValue t) = (o.gives ≡ true) × IsShapedNode t
+    IsShapedAction labels (action.State n) = n < o.states
 
-    pub AreShapedActs : List ℕ → Acts → Type 0
-    AreShapedActs labels No_act = Unit {0}
-    AreShapedActs labels (Next acts act) = AreShapedActs labels acts × IsShapedAct labels act
+    pub AreShapedActions : List ℕ → Actions → Type 0
+    AreShapedActions labels NoAction = Unit {0}
+    AreShapedActions labels (AndAction xs a) = AreShapedActions labels xs × IsShapedAction labels a
 
-  -- a routine's body is a block of its own, and its first slots are its parameters
-  pub record IsShapedCode (c : Coded) : Type 0 where
-    pub body : AreShapedActs (labels_in c.body) c.body
-    pub params : c.params ≤ length c.slots
+-- the last statement returns a value
+abbrev pub ends_with_value : Actions → Bool
+ends_with_value (AndAction xs (action.ReturnValue t)) = true
+ends_with_value xs = false
 
-abbrev pub parameter_counts : Checked → List ℕ
-parameter_counts p = map (λ f. f.code.params) p.functions
+-- a routine's body is one block, and where the routine gives a value, so does the body's end
+pub record IsShapedRoutine (functions : List Signature) (states : ℕ) (r : Routine) : Type 0 where
+  pub body : IsShapedAction (record { functions = functions; states = states; gives = is_some r.kind }) [] (action.Block r.body)
+  pub ending : is_some r.kind ≡ true → ends_with_value r.body ≡ true
+  pub params : r.params ≤ length r.slots
 
--- each routine of the program keeps to it
-pub record IsShaped (builtins : BuiltinId → ℕ) (p : Checked) : Type 0 where
-  pub functions : All (λ f. IsShapedCode (parameter_counts p) builtins (length p.states) f.code) p.functions
-  pub handlers : All (λ s. All (λ h. IsShapedCode (parameter_counts p) builtins (length p.states) h.code) s.handlers) p.states
+-- each routine of the program keeps to it, no handler gives a value, and there is a state
+pub record IsShaped (p : Program) : Type 0 where
+  pub routines : All (IsShapedRoutine (function_signatures p) (length p.states)) (routines_of p)
+  pub handlers : All (λ h. h.routine.kind ≡ None) (handlers_of p.states)
+  pub states : 1 ≤ length p.states

@@ -74,11 +74,11 @@ pub enum Node {
 
 impl Node {
     ghost use Rattle.std.specs.Prelude.{◌≡◌};
-    ghost use Rattle.lsl_tree.specs.Nodes.{node_of, kind_of};
+    ghost use Rattle.lsl_tree.specs.Nodes.{node_of, node_kind_of};
 
     /// The kind of the expression's value. Takes no memory.
     pub fn kind(&self) -> Kind
-        ensures { result ≡ kind_of (node_of self.now) }
+        ensures { result ≡ node_kind_of (node_of self.now) }
     {
         match self {
             Node::Int { .. } | Node::StepBehind { .. } | Node::Unary { .. } => Kind::Int,
