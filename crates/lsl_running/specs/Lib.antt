@@ -1,0 +1,4 @@
+pub mod Calling
+pub mod Charging
+pub mod Results
+pub mod Values
