@@ -7,73 +7,73 @@ use Rattle.lsl_value.specs.declared.tagged.Kind.{Kind}
 use Rattle.lsl_tree.specs.declared.expression.Name.{Name}
 use Rattle.lsl_tree.specs.declared.expression.StepOp.{StepOp}
 use Rattle.lsl_tree.specs.declared.expression.AssignOp.{AssignOp}
-use Rattle.lsl_tree.specs.declared.expression.Expr.{Expr, Call', List', Parens', Cast', Unary', Binary', Assign', Row_of-Expr, end_of-Expr, more_of-Expr}
-use Rattle.lsl_tree.specs.declared.expression.Expr.TheVariants as shape
+use Rattle.lsl_tree.specs.declared.expression.Expr as declared
+use Rattle.lsl_tree.specs.declared.expression.Expr.TheVariants as variant
 
 mutual
-  pub data Expression : Type 0 where
-    Number : ℤ → Span → Expression
-    Quoted : List ℕ → Span → Expression
-    Variable : Name → Expression
-    SteppedBehind : Name → StepOp → Expression
-    SteppedBefore : StepOp → Span → Name → Expression
-    Called : Name → Expressions → Expression
-    Listed : Span → Expressions → Expression
-    Grouped : Span → Expression → Expression
-    Converted : Span → Kind → Expression → Expression
-    Prefixed : UnaryOp → Span → Expression → Expression
-    Joined : BinaryOp → Span → Expression → Expression → Expression
-    Assigned : Name → AssignOp → Span → Expression → Expression
+  pub data Expr : Type 0 where
+    Int : ℤ → Span → Expr
+    Str : List ℕ → Span → Expr
+    Variable : Name → Expr
+    StepBehind : Name → StepOp → Expr
+    StepBefore : StepOp → Span → Name → Expr
+    Call : Name → Exprs → Expr
+    ListLiteral : Span → Exprs → Expr
+    Parens : Span → Expr → Expr
+    Cast : Span → Kind → Expr → Expr
+    Unary : UnaryOp → Span → Expr → Expr
+    Binary : BinaryOp → Span → Expr → Expr → Expr
+    Assign : Name → AssignOp → Span → Expr → Expr
 
   -- from the last to the first
-  pub data Expressions : Type 0 where
-    No_expression : Expressions
-    And : Expressions → Expression → Expressions
+  pub data Exprs : Type 0 where
+    NoExpr : Exprs
+    AndExpr : Exprs → Expr → Exprs
 
 abbrev mutual
-  pub expression_of : Expr → Expression
-  expression_of (shape.Int n s) = Number n s
-  expression_of (shape.Str t s) = Quoted t s
-  expression_of (shape.Variable n) = Variable n
-  expression_of (shape.StepBehind n o) = SteppedBehind n o
-  expression_of (shape.StepBefore o s n) = SteppedBefore o s n
-  expression_of (Call' n m row) = Called n (row_expressions row No_expression)
-  expression_of (List' s m row) = Listed s (row_expressions row No_expression)
-  expression_of (Parens' s p e) = Grouped s (expression_of e)
-  expression_of (Cast' s k p e) = Converted s k (expression_of e)
-  expression_of (Unary' o s p e) = Prefixed o s (expression_of e)
-  expression_of (Binary' o s p a q b) = Joined o s (expression_of a) (expression_of b)
-  expression_of (Assign' n o s p e) = Assigned n o s (expression_of e)
+  pub expr_of : declared.Expr → Expr
+  expr_of (variant.Int n s) = Int n s
+  expr_of (variant.Str t s) = Str t s
+  expr_of (variant.Variable n) = Variable n
+  expr_of (variant.StepBehind n o) = StepBehind n o
+  expr_of (variant.StepBefore o s n) = StepBefore o s n
+  expr_of (declared.Call' n m row) = Call n (row_exprs row NoExpr)
+  expr_of (declared.List' s m row) = ListLiteral s (row_exprs row NoExpr)
+  expr_of (declared.Parens' s p e) = Parens s (expr_of e)
+  expr_of (declared.Cast' s k p e) = Cast s k (expr_of e)
+  expr_of (declared.Unary' o s p e) = Unary o s (expr_of e)
+  expr_of (declared.Binary' o s p a q b) = Binary o s (expr_of a) (expr_of b)
+  expr_of (declared.Assign' n o s p e) = Assign n o s (expr_of e)
 
   -- these behind others
-  pub row_expressions : {m : _} → Row_of-Expr m → Expressions → Expressions
-  row_expressions end_of-Expr es = es
-  row_expressions (more_of-Expr e rest) es = row_expressions rest (And es (expression_of e))
+  pub row_exprs : {m : _} → declared.Row_of-Expr m → Exprs → Exprs
+  row_exprs declared.end_of-Expr es = es
+  row_exprs (declared.more_of-Expr e rest) es = row_exprs rest (AndExpr es (expr_of e))
 
-abbrev pub expressions_behind : List Expr → Expressions → Expressions
-expressions_behind [] es = es
-expressions_behind (x ∷ xs) es = expressions_behind xs (And es (expression_of x))
+abbrev pub exprs_behind : List declared.Expr → Exprs → Exprs
+exprs_behind [] es = es
+exprs_behind (x ∷ xs) es = exprs_behind xs (AndExpr es (expr_of x))
 
-abbrev pub expressions_of : List Expr → Expressions
-expressions_of xs = expressions_behind xs No_expression
+abbrev pub exprs_of : List declared.Expr → Exprs
+exprs_of xs = exprs_behind xs NoExpr
 
 -- a literal or a variable has height 1, and any other node one more than its highest part, or 1 where it has none;
 -- parentheses are no node
 abbrev mutual
-  pub height : Expression → ℕ
-  height (Number n s) = 1
-  height (Quoted t s) = 1
+  pub height : Expr → ℕ
+  height (Int n s) = 1
+  height (Str t s) = 1
   height (Variable n) = 1
-  height (SteppedBehind n o) = 2
-  height (SteppedBefore o s n) = 2
-  height (Called n es) = 1 + highest es
-  height (Listed s es) = 1 + highest es
-  height (Grouped s e) = height e
-  height (Converted s k e) = 1 + height e
-  height (Prefixed o s e) = 1 + height e
-  height (Joined o s a b) = 1 + max (height a) (height b)
-  height (Assigned n o s e) = 1 + max 1 (height e)
+  height (StepBehind n o) = 2
+  height (StepBefore o s n) = 2
+  height (Call n es) = 1 + highest es
+  height (ListLiteral s es) = 1 + highest es
+  height (Parens s e) = height e
+  height (Cast s k e) = 1 + height e
+  height (Unary o s e) = 1 + height e
+  height (Binary o s a b) = 1 + max (height a) (height b)
+  height (Assign n o s e) = 1 + max 1 (height e)
 
-  pub highest : Expressions → ℕ
-  highest No_expression = 0
-  highest (And es e) = max (highest es) (height e)
+  pub highest : Exprs → ℕ
+  highest NoExpr = 0
+  highest (AndExpr es e) = max (highest es) (height e)
