@@ -3,7 +3,7 @@ use Rattle.std.proofs.Common.{◌≡◌, ℕ, ◌+◌, ◌<◌, ◌≤◌, List,
 use Rattle.std.proofs.lemmas.Bool.{cases_lt}
 use Rattle.lsl_text.specs.declared.Span.{Span}
 use Rattle.lsl_lex.specs.declared.token_types.Token.{Token}
-use Rattle.lsl_tree.specs.Scripts.{Script}
+use Rattle.lsl_tree.specs.Scripts.{Tree}
 use Rattle.lsl_grammar.specs.declared.Why.{Why}
 use Rattle.lsl_grammar.specs.declared.Why.TheVariants as why
 use Rattle.lsl_grammar.specs.Reading.{◌>>=◌}
@@ -12,7 +12,7 @@ use Rattle.lsl_grammar.proofs.Rule.{no_ends}
 use Rattle.lsl_parse.specs.declared.limits.TheConstants.{DEPTH, TOKENS}
 use Rattle.lsl_parse.specs.declared.fault.ParseKind.{ParseKind}
 use Rattle.lsl_parse.specs.declared.fault.ParseKind.TheVariants.{Unexpected, EndOfText, FloatType, TooDeep, TooLarge}
-use Rattle.lsl_parse.specs.Kinds.{number}
+use Rattle.lsl_parse.specs.Kinds.{token_code}
 use Rattle.lsl_parse.specs.ScriptGrammar.{script}
 use Rattle.lsl_parse.specs.ScriptReading.{script_r, end_r, all_r}
 use Rattle.lsl_parse.specs.Faults.{Derives, Shallow, Within, Breaks, ParseFirst, span_at}
@@ -20,48 +20,48 @@ use Rattle.lsl_parse.specs.FaultReading.{fault_kind}
 use Rattle.lsl_parse.proofs.ExpressionRules.{probe}
 use Rattle.lsl_parse.proofs.Top.{Narrow, Reading, wide_rule, wide_same, not_open, foreign_behind, foreign_breaks, front, first_at, too_many, Stopped, stop_of, shallow_open, span-at, length_take_all}
 
-narrow : (u : List Token) (x : Script) → (script Narrow DEPTH).whole u x → Shallow u
+narrow : (u : List Token) (x : Tree) → (script Narrow DEPTH).whole u x → Shallow u
 narrow u x w = (wide_rule Narrow DEPTH (DEPTH + 2) (omega arith)).reads.within u x w
 
-pub found : (ts rest : List Token) (x : Script) → all_r Narrow DEPTH ts ≡ Ok (x, rest) → (script Narrow DEPTH).whole ts x
+pub found : (ts rest : List Token) (x : Tree) → all_r Narrow DEPTH ts ≡ Ok (x, rest) → (script Narrow DEPTH).whole ts x
 unfolding all_r
 found ts rest x e = go (script_r Narrow DEPTH ts) refl e
   where
     go : (o : Reading) → script_r Narrow DEPTH ts ≡ o → (o >>= λ y. end_r y.0 y.1) ≡ Ok (x, rest) → (script Narrow DEPTH).whole ts x
     go (Ok (y, [])) f e =
         let (u, s, w) = (wide_rule Narrow DEPTH (DEPTH + 2) (omega arith)).reads.sound ts [] y f in
-        let same : y ≡ x = ap (λ (z : Script × List Token). z.0) (ok_parts (y, []) (x, rest) e) in
+        let same : y ≡ x = ap (λ (z : Tree × List Token). z.0) (ok_parts (y, []) (x, rest) e) in
         subst (λ z. (script Narrow DEPTH).whole ts z) same (subst (λ l. (script Narrow DEPTH).whole l y) (sym (s ∙ append-nil u)) w)
     go (Ok (y, t ∷ m)) f e = absurd (cc)
     go (Err y) f e = absurd (cc)
 
 -- where the reader of whole texts ends, nothing is left
-pub nothing_behind : (ts : List Token) (x : Script) (t : Token) (m : List Token) → all_r Narrow DEPTH ts ≡ Ok (x, t ∷ m) → ⊥
+pub nothing_behind : (ts : List Token) (x : Tree) (t : Token) (m : List Token) → all_r Narrow DEPTH ts ≡ Ok (x, t ∷ m) → ⊥
 unfolding all_r
 nothing_behind ts x t m e = go (script_r Narrow DEPTH ts) e
   where
     go : (o : Reading) → (o >>= λ y. end_r y.0 y.1) ≡ Ok (x, t ∷ m) → ⊥
     go (Ok (y, [])) e =
-        let rest : ◌≡◌ {A = List Token} [] (t ∷ m) = ap (λ (z : Script × List Token). z.1) (ok_parts (y, []) (x, t ∷ m) e) in
+        let rest : ◌≡◌ {A = List Token} [] (t ∷ m) = ap (λ (z : Tree × List Token). z.1) (ok_parts (y, []) (x, t ∷ m) e) in
         cc
     go (Ok (y, s ∷ l)) e = cc
     go (Err y) e = cc
 
-pub every : (ts : List Token) (x : Script) → Derives ts x → all_r Narrow DEPTH ts ≡ Ok (x, [])
+pub every : (ts : List Token) (x : Tree) → Derives ts x → all_r Narrow DEPTH ts ≡ Ok (x, [])
 unfolding all_r
 every ts x d =
     let read : script_r Narrow DEPTH ts ≡ Ok (x, []) = ap (script_r Narrow DEPTH) (sym (append-nil ts)) ∙ (wide_rule Narrow DEPTH (DEPTH + 2) (omega arith)).reads.complete ts [] x d.derived refl in
     ap (λ o. o >>= λ y. end_r y.0 y.1) read
 
 -- tokens behind a whole script
-behind : (ts : List Token) (y : Script) (t : Token) (m : List Token) → script_r Narrow DEPTH ts ≡ Ok (y, t ∷ m) → Stopped ts (why.Unexpected, t ∷ m)
+behind : (ts : List Token) (y : Tree) (t : Token) (m : List Token) → script_r Narrow DEPTH ts ≡ Ok (y, t ∷ m) → Stopped ts (why.Unexpected, t ∷ m)
 behind ts y t m f =
     let (u, s, w) = (wide_rule Narrow DEPTH (DEPTH + 2) (omega arith)).reads.sound ts (t ∷ m) y f in
     record {
       front = u;
       there = s;
       opens = narrow u y w;
-      breaks = foreign_breaks ts u m t s (not_open ts u m t (Ok (y, t ∷ m)) s (wide_same ts (Ok (y, t ∷ m)) f (λ z. z)) (no_ends number probe t m)) (foreign_behind ts u m t y s w);
+      breaks = foreign_breaks ts u m t s (not_open ts u m t (Ok (y, t ∷ m)) s (wide_same ts (Ok (y, t ∷ m)) f (λ z. z)) (no_ends token_code probe t m)) (foreign_behind ts u m t y s w);
     }
 
 pub stopped : (ts rest : List Token) (w : Why) → all_r Narrow DEPTH ts ≡ Err (w, rest) → Stopped ts (w, rest)
@@ -70,9 +70,9 @@ stopped ts rest w e = go (script_r Narrow DEPTH ts) refl e
   where
     go : (o : Reading) → script_r Narrow DEPTH ts ≡ o → (o >>= λ y. end_r y.0 y.1) ≡ Err (w, rest) → Stopped ts (w, rest)
     go (Ok (y, [])) f e = absurd (cc)
-    go (Ok (y, t ∷ m)) f e = subst (Stopped ts) (err_parts {T = Script} (why.Unexpected, t ∷ m) (w, rest) e) (behind ts y t m f)
+    go (Ok (y, t ∷ m)) f e = subst (Stopped ts) (err_parts {T = Tree} (why.Unexpected, t ∷ m) (w, rest) e) (behind ts y t m f)
     go (Err x) f e =
-        let same : x ≡ (w, rest) = err_parts {T = Script} x (w, rest) e in
+        let same : x ≡ (w, rest) = err_parts {T = Tree} x (w, rest) e in
         stop_of ts w rest (f ∙ ap (λ z. Err z) same)
 
 -- A script has no fault, and other tokens have one
@@ -134,7 +134,7 @@ one_first p q ts k l f g =
     same e = (e, same_kind q ts k l (subst (λ n. Breaks ts n k) e f.here) g.here)
 
 -- and a script has none
-pub no_first : (p : ℕ) (ts : List Token) (k : ParseKind) (x : Script) → Derives ts x → ParseFirst ts p k → ⊥
+pub no_first : (p : ℕ) (ts : List Token) (k : ParseKind) (x : Tree) → Derives ts x → ParseFirst ts p k → ⊥
 no_first p ts k x d f = go k f.here
   where
     within : Shallow (take (p + 1) ts)
@@ -147,15 +147,15 @@ no_first p ts k x d f = go k f.here
     go TooDeep b = b.2 within
     go TooLarge b = omega (arith, b.0, b.2, d.counted)
 
-pub unambiguous : (ts : List Token) (x y : Script) → Derives ts x → Derives ts y → x ≡ y
-unambiguous ts x y d e = ap (λ (z : Script × List Token). z.0) (ok_parts (x, []) (y, []) (sym (every ts x d) ∙ every ts y e))
+pub unambiguous : (ts : List Token) (x y : Tree) → Derives ts x → Derives ts y → x ≡ y
+unambiguous ts x y d e = ap (λ (z : Tree × List Token). z.0) (ok_parts (x, []) (y, []) (sym (every ts x d) ∙ every ts y e))
 
 -- As the clauses of the parser say it
 
-pub every_same : (ts : List Token) (x y : Script) → all_r Narrow DEPTH ts ≡ Ok (x, []) → Derives ts y → x ≡ y
-every_same ts x y e d = ap (λ (z : Script × List Token). z.0) (ok_parts (x, []) (y, []) (sym e ∙ every ts y d))
+pub every_same : (ts : List Token) (x y : Tree) → all_r Narrow DEPTH ts ≡ Ok (x, []) → Derives ts y → x ≡ y
+every_same ts x y e d = ap (λ (z : Tree × List Token). z.0) (ok_parts (x, []) (y, []) (sym e ∙ every ts y d))
 
-pub every_none : (ts rest : List Token) (y : Script) (w : Why) → all_r Narrow DEPTH ts ≡ Err (w, rest) → Derives ts y → ⊥
+pub every_none : (ts rest : List Token) (y : Tree) (w : Why) → all_r Narrow DEPTH ts ≡ Err (w, rest) → Derives ts y → ⊥
 every_none ts rest y w f d = let both = sym f ∙ every ts y d in cc
 
 -- a stop at a token that may stand there
@@ -171,5 +171,5 @@ large_stop ts rest w e lt =
     let h = stopped ts rest w e in
     too_many ts h.front rest h.there h.opens (omega (arith, ap length h.there, length-append h.front rest, lt))
 
-pub large_script : (ts : List Token) (x : Script) → all_r Narrow DEPTH ts ≡ Ok (x, []) → TOKENS < length ts → ParseFirst ts TOKENS TooLarge
+pub large_script : (ts : List Token) (x : Tree) → all_r Narrow DEPTH ts ≡ Ok (x, []) → TOKENS < length ts → ParseFirst ts TOKENS TooLarge
 large_script ts x e lt = too_many ts ts [] (sym (append-nil ts)) (narrow ts x (found ts [] x e)) lt

@@ -5,7 +5,6 @@ pub mod StatementRules
 pub mod ScriptRules
 pub mod Top
 pub mod FirstFault
-pub mod Views
 pub mod ExpressionLoops
 pub mod StatementLoops
 pub mod ScriptLoops

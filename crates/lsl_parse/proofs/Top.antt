@@ -6,7 +6,7 @@ use Rattle.std.proofs.lemmas.Bool.{eqb-true}
 use Rattle.lsl_text.specs.declared.Span.{Span}
 use Rattle.lsl_lex.specs.declared.token_types.Sort.TheVariants as sort
 use Rattle.lsl_lex.specs.declared.token_types.Token.{Token}
-use Rattle.lsl_tree.specs.Scripts.{Script}
+use Rattle.lsl_tree.specs.Scripts.{Tree}
 use Rattle.lsl_grammar.specs.declared.Why.{Why}
 use Rattle.lsl_grammar.specs.declared.Why.TheVariants as why
 use Rattle.lsl_grammar.specs.Language.{among}
@@ -20,9 +20,9 @@ use Rattle.lsl_parse.specs.declared.kind.TokenKind.{TokenKind}
 use Rattle.lsl_parse.specs.declared.kind.TokenKind.TheVariants as kinds
 use Rattle.lsl_parse.specs.declared.fault.ParseKind.{ParseKind}
 use Rattle.lsl_parse.specs.declared.fault.ParseKind.TheVariants.{Unexpected, FloatType, TooLarge}
-use Rattle.lsl_parse.specs.Kinds.{code, codes, kind_of, number}
+use Rattle.lsl_parse.specs.Kinds.{code, codes, token_kind, token_code}
 use Rattle.lsl_parse.specs.ScriptGrammar.{script}
-use Rattle.lsl_parse.specs.ScriptReading.{heading_heads, script_r}
+use Rattle.lsl_parse.specs.ScriptReading.{header_heads, script_r}
 use Rattle.lsl_parse.specs.Faults.{Derives, Shallow, Open, WantsOperand, refused_words, IsFloatType, IsFloatTypeAt, Breaks, ParseFirst, span_at}
 use Rattle.lsl_parse.specs.FaultReading.{fault_kind}
 use Rattle.lsl_parse.proofs.ExpressionRules.{probe}
@@ -73,9 +73,9 @@ abbrev pub Narrow : Option ℕ
 Narrow = Some HEIGHT
 
 abbrev pub Reading : Type 0
-Reading = Read Token Script
+Reading = Read Token Tree
 
-pub wide_rule : (limit : Option ℕ) (d D : ℕ) → suc d < D → Rule number probe (script limit d) (script None D) (script_r limit d) (script_r None D) (codes heading_heads ++ codes (kinds.DefaultWord ∷ [])) (λ _. codes (kinds.StateWord ∷ []))
+pub wide_rule : (limit : Option ℕ) (d D : ℕ) → suc d < D → Rule token_code probe (script limit d) (script None D) (script_r limit d) (script_r None D) (codes header_heads ++ codes (kinds.DefaultWord ∷ [])) (λ _. codes (kinds.StateWord ∷ []))
 wide_rule limit d D lt = script_is_read limit d D lt
 
 -- each front of what begins a script begins one
@@ -110,7 +110,7 @@ not_shallow ts u rest t o s e h w =
     h (subst (Past rest) (ap (script_r Narrow DEPTH) all ∙ e) ((wide_rule Narrow DEPTH (DEPTH + 2) (omega arith)).reads.past (u ++ t ∷ []) rest w))
 
 -- what an operand's token would do in place of the one at which reading stopped
-no_operand : (u : List Token) → ((D : ℕ) → suc DEPTH < D → (i : Token) → number i ≡ probe → Past [] (script_r None D (u ++ i ∷ [])) → ⊥) → WantsOperand u → ⊥
+no_operand : (u : List Token) → ((D : ℕ) → suc DEPTH < D → (i : Token) → token_code i ≡ probe → Past [] (script_r None D (u ++ i ∷ [])) → ⊥) → WantsOperand u → ⊥
 no_operand u h w =
     let e = w.goes_on.0 in
     let D = e + DEPTH + 2 in
@@ -124,15 +124,15 @@ foreign ts u m t s e = no_operand u (λ D lt i k past.
     let f : script_r None D ts ≡ Err (why.Unexpected, t ∷ m) = wide_same ts (Err (why.Unexpected, t ∷ m)) e (λ z. let y : ◌≡◌ {A = Why} why.Unexpected why.TooDeep = z in cc) D lt in
     let (v, s', h) = (wide_rule None D (D + 2) (omega arith)).tells.tell ts (t ∷ m) why.Unexpected f in
     let same : v ≡ u = append_cancel_right v u (t ∷ m) (sym s' ∙ s) in
-    no_ends number probe i [] (subst (Past []) (ap (λ l. script_r None D (l ++ i ∷ [])) (sym same) ∙ h i [] k) past))
+    no_ends token_code probe i [] (subst (Past []) (ap (λ l. script_r None D (l ++ i ∷ [])) (sym same) ∙ h i [] k) past))
 
 -- a token behind a whole script
-pub foreign_behind : (ts u m : List Token) (t : Token) (x : Script) → ts ≡ u ++ t ∷ m → (script Narrow DEPTH).whole u x → WantsOperand u → ⊥
+pub foreign_behind : (ts u m : List Token) (t : Token) (x : Tree) → ts ≡ u ++ t ∷ m → (script Narrow DEPTH).whole u x → WantsOperand u → ⊥
 foreign_behind ts u m t x s w = no_operand u (λ D lt i k past.
     let whole : (script None D).whole u x = (wide_rule Narrow DEPTH D lt).mono.whole u x w in
-    let stop : among (number i) (codes (kinds.StateWord ∷ [])) ≡ false = ap (λ n. among n (codes (kinds.StateWord ∷ []))) k in
+    let stop : among (token_code i) (codes (kinds.StateWord ∷ [])) ≡ false = ap (λ n. among n (codes (kinds.StateWord ∷ []))) k in
     let read : script_r None D (u ++ i ∷ []) ≡ Ok (x, i ∷ []) = (wide_rule None D (D + 2) (omega arith)).reads.complete u (i ∷ []) x whole stop in
-    no_ends number probe i [] (subst (Past []) read past))
+    no_ends token_code probe i [] (subst (Past []) read past))
 
 -- The fault of a stop
 
@@ -186,31 +186,31 @@ module _ (ts u m : List Token) (t : Token) (s : ts ≡ u ++ t ∷ m) (closed : O
       never (subst (λ z. IsFloatType u z) same (subst (λ l. IsFloatType l f.token) before_it f.refused))
 
   pub foreign_breaks : (WantsOperand u → ⊥) → Breaks ts (length u) (fault_kind why.Unexpected (t ∷ m))
-  foreign_breaks never = go (among (number t) (codes refused_words)) refl
+  foreign_breaks never = go (among (token_code t) (codes refused_words)) refl
     where
-      go : (b : Bool) → among (number t) (codes refused_words) ≡ b → Breaks ts (length u) (cond b FloatType Unexpected)
+      go : (b : Bool) → among (token_code t) (codes refused_words) ≡ b → Breaks ts (length u) (cond b FloatType Unexpected)
       go true e = (below, not_open_at, float_type (inl e))
       go false e = (below, not_open_at, no_float_type (λ f. ⊎_elim (λ h. let both = sym h ∙ e in cc) (λ (k, w). never w) f))
 
   due_breaks : WantsOperand u → Breaks ts (length u) (fault_kind why.OperandDue (t ∷ m))
-  due_breaks w = go (among (number t) (codes (kinds.Less ∷ refused_words))) refl
+  due_breaks w = go (among (token_code t) (codes (kinds.Less ∷ refused_words))) refl
     where
-      less_or : among (number t) (codes (kinds.Less ∷ refused_words)) ≡ true → IsFloatType u t
-      less_or h = by (among (number t) (codes refused_words)) refl
+      less_or : among (token_code t) (codes (kinds.Less ∷ refused_words)) ≡ true → IsFloatType u t
+      less_or h = by (among (token_code t) (codes refused_words)) refl
         where
-          by : (b : Bool) → among (number t) (codes refused_words) ≡ b → IsFloatType u t
+          by : (b : Bool) → among (token_code t) (codes refused_words) ≡ b → IsFloatType u t
           by true e = inl e
-          by false e = inr (is_less (kind_of t.sort) (among_more (number t) (code kinds.Less) (codes refused_words) h (λ z. let both = sym z ∙ e in cc)), w)
+          by false e = inr (is_less (token_kind t.sort) (among_more (token_code t) (code kinds.Less) (codes refused_words) h (λ z. let both = sym z ∙ e in cc)), w)
 
-      in_them : IsFloatType u t → among (number t) (codes (kinds.Less ∷ refused_words)) ≡ true
-      in_them (inl h) = either (number t == code kinds.Less) h
+      in_them : IsFloatType u t → among (token_code t) (codes (kinds.Less ∷ refused_words)) ≡ true
+      in_them (inl h) = either (token_code t == code kinds.Less) h
         where
-          either : (b : Bool) → among (number t) (codes refused_words) ≡ true → (b || among (number t) (codes refused_words)) ≡ true
+          either : (b : Bool) → among (token_code t) (codes refused_words) ≡ true → (b || among (token_code t) (codes refused_words)) ≡ true
           either true h = refl
           either false h = h
       in_them (inr (k, _)) = ap (λ z. among (code z) (codes (kinds.Less ∷ refused_words))) k
 
-      go : (b : Bool) → among (number t) (codes (kinds.Less ∷ refused_words)) ≡ b → Breaks ts (length u) (cond b FloatType Unexpected)
+      go : (b : Bool) → among (token_code t) (codes (kinds.Less ∷ refused_words)) ≡ b → Breaks ts (length u) (cond b FloatType Unexpected)
       go true e = (below, not_open_at, float_type (less_or e))
       go false e = (below, not_open_at, no_float_type (λ f. let both = sym (in_them f) ∙ e in cc))
 
@@ -230,20 +230,20 @@ module _ (ts : List Token) where
       let same : v ≡ u = append_cancel_right v u rest (sym s' ∙ s) in
       record { front = u; there = s; opens = subst Shallow same o; breaks = by w rest e u s h }
     where
-      no_tree : (u : List Token) (w : Why) → script_r Narrow DEPTH ts ≡ Err (w, []) → (tree : Script) → Derives ts tree → ⊥
+      no_tree : (u : List Token) (w : Why) → script_r Narrow DEPTH ts ≡ Err (w, []) → (tree : Tree) → Derives ts tree → ⊥
       no_tree u w e tree d = let g : script_r Narrow DEPTH ts ≡ Ok (tree, []) = ap (script_r Narrow DEPTH) (sym (append-nil ts)) ∙ (wide_rule Narrow DEPTH (DEPTH + 2) (omega arith)).reads.complete ts [] tree d.derived refl in let both = sym e ∙ g in cc
 
       at_end : (u : List Token) → ts ≡ u ++ [] → length u ≡ length ts
       at_end u s = ap length (sym (append-nil u) ∙ sym s)
 
       closed_at : (w : Why) (t : Token) (m u : List Token) → script_r Narrow DEPTH ts ≡ Err (w, t ∷ m) → ts ≡ u ++ t ∷ m → (w ≡ why.TooDeep → ⊥) → Open (u ++ t ∷ []) → ⊥
-      closed_at w t m u e s other = not_open ts u m t (Err (w, t ∷ m)) s (wide_same ts (Err (w, t ∷ m)) e other) (no_ends number probe t m)
+      closed_at w t m u e s other = not_open ts u m t (Err (w, t ∷ m)) s (wide_same ts (Err (w, t ∷ m)) e other) (no_ends token_code probe t m)
 
       the_int : Token → Token
       the_int t = record { sort = sort.Int (pos 0); span = t.span }
 
-      by : (w : Why) (rest : List Token) → script_r Narrow DEPTH ts ≡ Err (w, rest) → (u : List Token) → ts ≡ u ++ rest → Hint number probe (script None (DEPTH + 2)) (script_r Narrow DEPTH) w u rest → Breaks ts (length u) (fault_kind w rest)
+      by : (w : Why) (rest : List Token) → script_r Narrow DEPTH ts ≡ Err (w, rest) → (u : List Token) → ts ≡ u ++ rest → Hint token_code probe (script None (DEPTH + 2)) (script_r Narrow DEPTH) w u rest → Breaks ts (length u) (fault_kind w rest)
       by w [] e u s h = (at_end u s, no_tree u w e)
-      by why.TooDeep (t ∷ m) e u s h = (omega (arith, ap length s, place_below u m t), (DEPTH + 2, subst ((script None (DEPTH + 2)).opens) (sym (ap (take (length u + 1)) s ∙ take_one u m t)) h), λ o. not_shallow ts u m t (Err (why.TooDeep, t ∷ m)) s e (no_ends number probe t m) (subst Shallow (ap (take (length u + 1)) s ∙ take_one u m t) o))
+      by why.TooDeep (t ∷ m) e u s h = (omega (arith, ap length s, place_below u m t), (DEPTH + 2, subst ((script None (DEPTH + 2)).opens) (sym (ap (take (length u + 1)) s ∙ take_one u m t)) h), λ o. not_shallow ts u m t (Err (why.TooDeep, t ∷ m)) s e (no_ends token_code probe t m) (subst Shallow (ap (take (length u + 1)) s ∙ take_one u m t) o))
       by why.Unexpected (t ∷ m) e u s h = foreign_breaks ts u m t s (closed_at why.Unexpected t m u e s (λ z. cc)) (foreign ts u m t s e)
       by why.OperandDue (t ∷ m) e u s h = due_breaks ts u m t s (closed_at why.OperandDue t m u e s (λ z. cc)) (record { operand = the_int t; integer = refl; goes_on = (DEPTH + 2, h (the_int t) refl) })

@@ -1,52 +1,53 @@
 -- Reading expressions by the next token, one reader for each rule of the grammar.
 use Rattle.std.specs.Prelude.{ℕ, zero, suc, Bool, true, false, Option, List, [], ◌∷◌}
 use Rattle.lsl_lex.specs.declared.token_types.Token.{Token}
-use Rattle.lsl_tree.specs.Expressions.{Expression, Expressions, Number, Quoted, Variable, SteppedBehind, SteppedBefore, Called, Listed, Grouped, Converted, Prefixed, Joined, Assigned, No_expression, And}
+use Rattle.lsl_tree.specs.Expressions as tree
+use Rattle.lsl_tree.specs.Expressions.{Expr, Exprs, NoExpr, AndExpr}
 use Rattle.lsl_grammar.specs.declared.Why.TheVariants.{Unexpected, OperandDue}
 use Rattle.lsl_grammar.specs.Reading.{Reader, ret_r, one_r, then_r, or_r, deep_r, rounds_r, pair_r}
 use Rattle.lsl_parse.specs.declared.kind.TokenKind.{TokenKind}
 use Rattle.lsl_parse.specs.declared.kind.TokenKind.TheVariants.{Name, Int, Str, ParenOpen, ParenClose, BracketOpen, BracketClose, Comma}
-use Rattle.lsl_parse.specs.Kinds.{codes, number, types, type_of, name_of, text_of, integer_of}
+use Rattle.lsl_parse.specs.Kinds.{codes, token_code, types, type_of, name_of, text_of, integer_of}
 use Rattle.lsl_parse.specs.Operators.{prefix_signs, prefix_of, step_signs, step_of, assign_signs, assign_of, levels, signs, operator_of}
 use Rattle.lsl_parse.specs.ExpressionGrammar.{fits}
 
-abbrev pub Reads : Type 0 → Type 0
-Reads T = Reader Token T
+abbrev pub TokenReader : Type 0 → Type 0
+TokenReader T = Reader Token T
 
 infixl 10 ◌>>=◌
-abbrev pub ◌>>=◌ : {A B : Type 0} → Reads A → (A → Reads B) → Reads B
+abbrev pub ◌>>=◌ : {A B : Type 0} → TokenReader A → (A → TokenReader B) → TokenReader B
 p >>= q = then_r p q
 
-abbrev pub any_r : List TokenKind → Reads Token
-any_r ks = one_r number Unexpected (codes ks)
+abbrev pub any_r : List TokenKind → TokenReader Token
+any_r ks = one_r token_code Unexpected (codes ks)
 
-abbrev pub sign_r : TokenKind → Reads Token
+abbrev pub sign_r : TokenKind → TokenReader Token
 sign_r k = any_r (k ∷ [])
 
 -- the first where the next token is of these kinds
-abbrev pub where_r : {T : Type 0} → List TokenKind → Reads T → Reads T → Reads T
-where_r ks p q = or_r number (codes ks) p q
+abbrev pub where_r : {T : Type 0} → List TokenKind → TokenReader T → TokenReader T → TokenReader T
+where_r ks p q = or_r token_code (codes ks) p q
 
 -- rounds as long as the next token is of these kinds
-abbrev pub while_r : {A : Type 0} → List TokenKind → (A → Reads A) → A → Reads A
-while_r ks round a = rounds_r number (codes ks) round a
+abbrev pub while_r : {A : Type 0} → List TokenKind → (A → TokenReader A) → A → TokenReader A
+while_r ks round a = rounds_r token_code (codes ks) round a
 
 -- what would begin with these kinds stands too deep
-abbrev pub shut_r : {T : Type 0} → List TokenKind → Reads T
-shut_r ks = deep_r number Unexpected (codes ks)
+abbrev pub shut_r : {T : Type 0} → List TokenKind → TokenReader T
+shut_r ks = deep_r token_code Unexpected (codes ks)
 
-abbrev pub next_r : {A B : Type 0} → (A → B → A) → Reads B → A → Reads A
-next_r add element before = do
+abbrev pub comma_r : {A B : Type 0} → (A → B → A) → TokenReader B → A → TokenReader A
+comma_r add element before = do
   comma ← sign_r Comma
   next ← element
   ret_r (add before next)
 
-abbrev pub series_r : {A B : Type 0} → (A → B → A) → A → Reads B → Reads A
+abbrev pub series_r : {A B : Type 0} → (A → B → A) → A → TokenReader B → TokenReader A
 series_r add none element = do
   first ← element
-  while_r (Comma ∷ []) (next_r add element) (add none first)
+  while_r (Comma ∷ []) (comma_r add element) (add none first)
 
-abbrev pub listing_r : {A B : Type 0} → TokenKind → (A → B → A) → A → Reads B → Reads A
+abbrev pub listing_r : {A B : Type 0} → TokenKind → (A → B → A) → A → TokenReader B → TokenReader A
 listing_r close add none element = where_r (close ∷ [])
     (do
       end ← sign_r close
@@ -56,30 +57,30 @@ listing_r close add none element = where_r (close ∷ [])
       end ← sign_r close
       ret_r all)
 
-abbrev pub expressions_r : TokenKind → Reads Expression → Reads Expressions
-expressions_r close expr = listing_r close And No_expression expr
+abbrev pub expressions_r : TokenKind → TokenReader Expr → TokenReader Exprs
+expressions_r close expr = listing_r close AndExpr NoExpr expr
 
 pub data Room_r : Type 0 where
   Full_r : Room_r
-  Inside_r : (expr unary : Reads Expression) → Room_r
+  Inside_r : (expr unary : TokenReader Expr) → Room_r
 
-abbrev pub construct_r : {T : Type 0} → List TokenKind → Room_r → (Reads Expression → Reads Expression → Reads T) → Reads T
+abbrev pub construct_r : {T : Type 0} → List TokenKind → Room_r → (TokenReader Expr → TokenReader Expr → TokenReader T) → TokenReader T
 construct_r ks Full_r rule = shut_r ks
 construct_r ks (Inside_r expr unary) rule = rule expr unary
 
-abbrev pub prefix_r : Room_r → Reads Expression
+abbrev pub prefix_r : Room_r → TokenReader Expr
 prefix_r room = construct_r prefix_signs room (λ expr unary. do
   op ← any_r prefix_signs
   operand ← unary
-  ret_r (Prefixed (prefix_of op.sort) op.span operand))
+  ret_r (tree.Unary (prefix_of op.sort) op.span operand))
 
-abbrev pub step_before_r : Room_r → Reads Expression
+abbrev pub step_before_r : Room_r → TokenReader Expr
 step_before_r room = construct_r step_signs room (λ expr unary. do
   op ← any_r step_signs
   name ← sign_r Name
-  ret_r (SteppedBefore (step_of op.sort) op.span (name_of name)))
+  ret_r (tree.StepBefore (step_of op.sort) op.span (name_of name)))
 
-abbrev pub group_r : Room_r → Reads Expression
+abbrev pub group_r : Room_r → TokenReader Expr
 group_r room = construct_r (ParenOpen ∷ []) room (λ expr unary. do
   start ← sign_r ParenOpen
   where_r types
@@ -87,48 +88,48 @@ group_r room = construct_r (ParenOpen ∷ []) room (λ expr unary. do
         kind ← any_r types
         end ← sign_r ParenClose
         operand ← unary
-        ret_r (Converted start.span (type_of kind.sort) operand))
+        ret_r (tree.Cast start.span (type_of kind.sort) operand))
       (do
         inner ← expr
         end ← sign_r ParenClose
-        ret_r (Grouped start.span inner)))
+        ret_r (tree.Parens start.span inner)))
 
-abbrev pub list_r : Room_r → Reads Expression
+abbrev pub list_r : Room_r → TokenReader Expr
 list_r room = construct_r (BracketOpen ∷ []) room (λ expr unary. do
   start ← sign_r BracketOpen
   all ← expressions_r BracketClose expr
-  ret_r (Listed start.span all))
+  ret_r (tree.ListLiteral start.span all))
 
-abbrev pub string_r : Reads Expression
+abbrev pub string_r : TokenReader Expr
 string_r = do
   t ← sign_r Str
-  ret_r (Quoted (text_of t.sort) t.span)
+  ret_r (tree.Str (text_of t.sort) t.span)
 
 -- the last of the operands: where it isn't there either, an operand was due
-abbrev pub integer_r : Reads Expression
+abbrev pub integer_r : TokenReader Expr
 integer_r = do
-  n ← one_r number OperandDue (codes (Int ∷ []))
-  ret_r (Number (integer_of n.sort) n.span)
+  n ← one_r token_code OperandDue (codes (Int ∷ []))
+  ret_r (tree.Int (integer_of n.sort) n.span)
 
-abbrev pub arguments_r : Room_r → Reads Expressions
+abbrev pub arguments_r : Room_r → TokenReader Exprs
 arguments_r room = construct_r (ParenOpen ∷ []) room (λ expr unary. do
   start ← sign_r ParenOpen
   expressions_r ParenClose expr)
 
-abbrev pub named_r : Room_r → Reads Expression
+abbrev pub named_r : Room_r → TokenReader Expr
 named_r room = do
   name ← sign_r Name
   where_r step_signs
       (do
         op ← any_r step_signs
-        ret_r (SteppedBehind (name_of name) (step_of op.sort)))
+        ret_r (tree.StepBehind (name_of name) (step_of op.sort)))
       (where_r (ParenOpen ∷ [])
       (do
         all ← arguments_r room
-        ret_r (Called (name_of name) all))
-      (ret_r (Variable (name_of name))))
+        ret_r (tree.Call (name_of name) all))
+      (ret_r (tree.Variable (name_of name))))
 
-abbrev pub unary_rule_r : Room_r → Reads Expression
+abbrev pub unary_rule_r : Room_r → TokenReader Expr
 unary_rule_r room =
     where_r prefix_signs (prefix_r room)
     (where_r step_signs (step_before_r room)
@@ -137,48 +138,48 @@ unary_rule_r room =
     (where_r (Str ∷ []) string_r
     (where_r (Name ∷ []) (named_r room) integer_r)))))
 
-abbrev pub gate_r : {T : Type 0} → List TokenKind → Bool → Reads T → Reads T
+abbrev pub gate_r : {T : Type 0} → List TokenKind → Bool → TokenReader T → TokenReader T
 gate_r ks true rule = rule
 gate_r ks false rule = shut_r ks
 
-abbrev pub operation_r : Reads Expression → List TokenKind → Expression → Reads Expression
+abbrev pub operation_r : TokenReader Expr → List TokenKind → Expr → TokenReader Expr
 operation_r operand ks left = do
   op ← any_r ks
   right ← operand
-  ret_r (Joined (operator_of op.sort) op.span left right)
+  ret_r (tree.Binary (operator_of op.sort) op.span left right)
 
-abbrev pub next_operand_r : Option ℕ → Reads Expression → List TokenKind → Expression → Reads Expression
+abbrev pub next_operand_r : Option ℕ → TokenReader Expr → List TokenKind → Expr → TokenReader Expr
 next_operand_r limit operand ks left = gate_r ks (fits limit left) (operation_r operand ks left)
 
-abbrev pub level_rule_r : Option ℕ → Reads Expression → ℕ → Reads Expression
+abbrev pub level_rule_r : Option ℕ → TokenReader Expr → ℕ → TokenReader Expr
 level_rule_r limit unary zero = unary
 level_rule_r limit unary (suc n) = do
   first ← level_rule_r limit unary n
   while_r (signs n) (next_operand_r limit (level_rule_r limit unary n) (signs n)) first
 
-abbrev pub value_r : Room_r → Token → Reads Expression
+abbrev pub value_r : Room_r → Token → TokenReader Expr
 value_r room name = construct_r assign_signs room (λ expr unary. do
   op ← any_r assign_signs
   value ← expr
-  ret_r (Assigned (name_of name) (assign_of op.sort) op.span value))
+  ret_r (tree.Assign (name_of name) (assign_of op.sort) op.span value))
 
-abbrev pub assignment_r : Room_r → Reads Expression
+abbrev pub assignment_r : Room_r → TokenReader Expr
 assignment_r room = do
   name ← sign_r Name
   value_r room name
 
-abbrev pub expr_rule_r : Option ℕ → Room_r → Reads Expression
-expr_rule_r limit room = pair_r number (codes (Name ∷ [])) (codes assign_signs) (assignment_r room) (level_rule_r limit (unary_rule_r room) levels)
+abbrev pub expr_rule_r : Option ℕ → Room_r → TokenReader Expr
+expr_rule_r limit room = pair_r token_code (codes (Name ∷ [])) (codes assign_signs) (assignment_r room) (level_rule_r limit (unary_rule_r room) levels)
 
 abbrev pub room_r : Option ℕ → ℕ → Room_r
 room_r limit zero = Full_r
 room_r limit (suc d) = Inside_r (expr_rule_r limit (room_r limit d)) (unary_rule_r (room_r limit d))
 
-unfoldable pub expr_r : Option ℕ → ℕ → Reads Expression
+unfoldable pub expr_r : Option ℕ → ℕ → TokenReader Expr
 expr_r limit d = expr_rule_r limit (room_r limit d)
 
-unfoldable pub unary_r : Option ℕ → ℕ → Reads Expression
+unfoldable pub unary_r : Option ℕ → ℕ → TokenReader Expr
 unary_r limit d = unary_rule_r (room_r limit d)
 
-unfoldable pub level_r : Option ℕ → ℕ → ℕ → Reads Expression
+unfoldable pub level_r : Option ℕ → ℕ → ℕ → TokenReader Expr
 level_r limit d n = level_rule_r limit (unary_rule_r (room_r limit d)) n

@@ -4,7 +4,7 @@ use Rattle.lsl_text.specs.declared.Span.{Span}
 use Rattle.lsl_text.specs.declared.Refusal.{Refusal}
 use Rattle.lsl_text.specs.declared.Refusal.TheVariants as refusal
 use Rattle.lsl_lex.specs.declared.token_types.Token.{Token}
-use Rattle.lsl_tree.specs.Scripts.{Script}
+use Rattle.lsl_tree.specs.Scripts.{Tree}
 use Rattle.lsl_grammar.specs.Language.{among}
 use Rattle.lsl_parse.specs.declared.limits.TheConstants.{DEPTH, HEIGHT, TOKENS}
 use Rattle.lsl_parse.specs.declared.kind.TokenKind.{TokenKind}
@@ -12,11 +12,11 @@ use Rattle.lsl_parse.specs.declared.kind.TokenKind.TheVariants.{Int, FloatWord, 
 use Rattle.lsl_parse.specs.declared.fault.ParseKind.{ParseKind}
 use Rattle.lsl_parse.specs.declared.fault.ParseKind.TheVariants.{Unexpected, EndOfText, FloatType, TooDeep, TooLarge}
 use Rattle.lsl_parse.specs.declared.fault.ParseFault.{ParseFault}
-use Rattle.lsl_parse.specs.Kinds.{codes, kind_of, number}
+use Rattle.lsl_parse.specs.Kinds.{codes, token_kind, token_code}
 use Rattle.lsl_parse.specs.ScriptGrammar.{script}
 
 -- the tokens are a script with this tree, within the limits
-pub record Derives (tokens : List Token) (tree : Script) : Type 0 where
+pub record Derives (tokens : List Token) (tree : Tree) : Type 0 where
   pub derived : (script (Some HEIGHT) DEPTH).whole tokens tree
   pub counted : length tokens ≤ TOKENS
 
@@ -36,7 +36,7 @@ Open tokens = (depth : ℕ) × (script None depth).opens tokens
 -- behind these tokens an operand may begin: an INT would go on
 pub record WantsOperand (tokens : List Token) : Type 0 where
   pub operand : Token
-  pub integer : kind_of operand.sort ≡ Int
+  pub integer : token_kind operand.sort ≡ Int
   pub goes_on : Open (tokens ++ operand ∷ [])
 
 -- the words of types that aren't in the language
@@ -45,7 +45,7 @@ refused_words = FloatWord ∷ VectorWord ∷ RotationWord ∷ QuaternionWord ∷
 
 -- behind these tokens the next one asks for what isn't in the language
 abbrev pub IsFloatType : List Token → Token → Type 0
-IsFloatType before t = (among (number t) (codes refused_words) ≡ true) ⊎ ((kind_of t.sort ≡ Less) × WantsOperand before)
+IsFloatType before t = (among (token_code t) (codes refused_words) ≡ true) ⊎ ((token_kind t.sort ≡ Less) × WantsOperand before)
 
 pub record IsFloatTypeAt (tokens : List Token) (place : ℕ) : Type 0 where
   pub token : Token
@@ -54,7 +54,7 @@ pub record IsFloatTypeAt (tokens : List Token) (place : ℕ) : Type 0 where
 
 -- what is wrong with the token at this place, or with the end
 abbrev pub Breaks : List Token → ℕ → ParseKind → Type 0
-Breaks tokens place EndOfText = (place ≡ length tokens) × ((tree : Script) → Derives tokens tree → ⊥)
+Breaks tokens place EndOfText = (place ≡ length tokens) × ((tree : Tree) → Derives tokens tree → ⊥)
 Breaks tokens place Unexpected = (place < length tokens) × (Open (take (place + 1) tokens) → ⊥) × (IsFloatTypeAt tokens place → ⊥)
 Breaks tokens place FloatType = (place < length tokens) × (Open (take (place + 1) tokens) → ⊥) × IsFloatTypeAt tokens place
 Breaks tokens place TooDeep = (place < length tokens) × Open (take (place + 1) tokens) × (Shallow (take (place + 1) tokens) → ⊥)
@@ -81,5 +81,5 @@ IfFault refusal.NoMemory P = Unit {0}
 IfFault (refusal.Fault f) P = P f
 
 -- the fault is of this kind, and its span that of the token at this place
-abbrev pub IsThat : List Token → Span → ℕ → ParseKind → ParseFault → Type 0
-IsThat tokens end place kind fault = (fault.kind ≡ kind) × (fault.span ≡ span_at tokens end place)
+abbrev pub IsFaultAt : List Token → Span → ℕ → ParseKind → ParseFault → Type 0
+IsFaultAt tokens end place kind fault = (fault.kind ≡ kind) × (fault.span ≡ span_at tokens end place)

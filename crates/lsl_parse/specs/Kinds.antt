@@ -9,7 +9,7 @@ use Rattle.lsl_tree.specs.declared.expression.Name.{Name as Named}
 use Rattle.lsl_parse.specs.declared.kind.TokenKind.{TokenKind}
 use Rattle.lsl_parse.specs.declared.kind.TokenKind.TheVariants.{Name, Int, Str, IntegerWord, StringWord, KeyWord, ListWord, FloatWord, VectorWord, RotationWord, QuaternionWord, DefaultWord, StateWord, IfWord, ElseWord, ForWord, DoWord, WhileWord, JumpWord, ReturnWord, PlusPlus, MinusMinus, PlusAssign, MinusAssign, StarAssign, SlashAssign, PercentAssign, EqualEqual, BangEqual, LessEqual, MoreEqual, LessLess, MoreMore, AndAnd, OrOr, Plus, Minus, Star, Slash, Percent, Assign, Less, More, Bang, Tilde, And, Or, Caret, ParenOpen, ParenClose, BracketOpen, BracketClose, BraceOpen, BraceClose, Comma, Semicolon, At}
 
--- the number of a kind
+-- the token_code of a kind
 abbrev pub code : TokenKind → ℕ
 code Name = 0
 code Int = 1
@@ -73,68 +73,68 @@ abbrev pub codes : List TokenKind → List ℕ
 codes [] = []
 codes (k ∷ ks) = code k ∷ codes ks
 
-abbrev pub kind_of : Sort → TokenKind
-kind_of (sort.Name t) = Name
-kind_of (sort.Int n) = Int
-kind_of (sort.Str t) = Str
-kind_of sort.IntegerWord = IntegerWord
-kind_of sort.StringWord = StringWord
-kind_of sort.KeyWord = KeyWord
-kind_of sort.ListWord = ListWord
-kind_of sort.FloatWord = FloatWord
-kind_of sort.VectorWord = VectorWord
-kind_of sort.RotationWord = RotationWord
-kind_of sort.QuaternionWord = QuaternionWord
-kind_of sort.DefaultWord = DefaultWord
-kind_of sort.StateWord = StateWord
-kind_of sort.IfWord = IfWord
-kind_of sort.ElseWord = ElseWord
-kind_of sort.ForWord = ForWord
-kind_of sort.DoWord = DoWord
-kind_of sort.WhileWord = WhileWord
-kind_of sort.JumpWord = JumpWord
-kind_of sort.ReturnWord = ReturnWord
-kind_of sort.PlusPlus = PlusPlus
-kind_of sort.MinusMinus = MinusMinus
-kind_of sort.PlusAssign = PlusAssign
-kind_of sort.MinusAssign = MinusAssign
-kind_of sort.StarAssign = StarAssign
-kind_of sort.SlashAssign = SlashAssign
-kind_of sort.PercentAssign = PercentAssign
-kind_of sort.EqualEqual = EqualEqual
-kind_of sort.BangEqual = BangEqual
-kind_of sort.LessEqual = LessEqual
-kind_of sort.MoreEqual = MoreEqual
-kind_of sort.LessLess = LessLess
-kind_of sort.MoreMore = MoreMore
-kind_of sort.AndAnd = AndAnd
-kind_of sort.OrOr = OrOr
-kind_of sort.Plus = Plus
-kind_of sort.Minus = Minus
-kind_of sort.Star = Star
-kind_of sort.Slash = Slash
-kind_of sort.Percent = Percent
-kind_of sort.Assign = Assign
-kind_of sort.Less = Less
-kind_of sort.More = More
-kind_of sort.Bang = Bang
-kind_of sort.Tilde = Tilde
-kind_of sort.And = And
-kind_of sort.Or = Or
-kind_of sort.Caret = Caret
-kind_of sort.ParenOpen = ParenOpen
-kind_of sort.ParenClose = ParenClose
-kind_of sort.BracketOpen = BracketOpen
-kind_of sort.BracketClose = BracketClose
-kind_of sort.BraceOpen = BraceOpen
-kind_of sort.BraceClose = BraceClose
-kind_of sort.Comma = Comma
-kind_of sort.Semicolon = Semicolon
-kind_of sort.At = At
+abbrev pub token_kind : Sort → TokenKind
+token_kind (sort.Name t) = Name
+token_kind (sort.Int n) = Int
+token_kind (sort.Str t) = Str
+token_kind sort.IntegerWord = IntegerWord
+token_kind sort.StringWord = StringWord
+token_kind sort.KeyWord = KeyWord
+token_kind sort.ListWord = ListWord
+token_kind sort.FloatWord = FloatWord
+token_kind sort.VectorWord = VectorWord
+token_kind sort.RotationWord = RotationWord
+token_kind sort.QuaternionWord = QuaternionWord
+token_kind sort.DefaultWord = DefaultWord
+token_kind sort.StateWord = StateWord
+token_kind sort.IfWord = IfWord
+token_kind sort.ElseWord = ElseWord
+token_kind sort.ForWord = ForWord
+token_kind sort.DoWord = DoWord
+token_kind sort.WhileWord = WhileWord
+token_kind sort.JumpWord = JumpWord
+token_kind sort.ReturnWord = ReturnWord
+token_kind sort.PlusPlus = PlusPlus
+token_kind sort.MinusMinus = MinusMinus
+token_kind sort.PlusAssign = PlusAssign
+token_kind sort.MinusAssign = MinusAssign
+token_kind sort.StarAssign = StarAssign
+token_kind sort.SlashAssign = SlashAssign
+token_kind sort.PercentAssign = PercentAssign
+token_kind sort.EqualEqual = EqualEqual
+token_kind sort.BangEqual = BangEqual
+token_kind sort.LessEqual = LessEqual
+token_kind sort.MoreEqual = MoreEqual
+token_kind sort.LessLess = LessLess
+token_kind sort.MoreMore = MoreMore
+token_kind sort.AndAnd = AndAnd
+token_kind sort.OrOr = OrOr
+token_kind sort.Plus = Plus
+token_kind sort.Minus = Minus
+token_kind sort.Star = Star
+token_kind sort.Slash = Slash
+token_kind sort.Percent = Percent
+token_kind sort.Assign = Assign
+token_kind sort.Less = Less
+token_kind sort.More = More
+token_kind sort.Bang = Bang
+token_kind sort.Tilde = Tilde
+token_kind sort.And = And
+token_kind sort.Or = Or
+token_kind sort.Caret = Caret
+token_kind sort.ParenOpen = ParenOpen
+token_kind sort.ParenClose = ParenClose
+token_kind sort.BracketOpen = BracketOpen
+token_kind sort.BracketClose = BracketClose
+token_kind sort.BraceOpen = BraceOpen
+token_kind sort.BraceClose = BraceClose
+token_kind sort.Comma = Comma
+token_kind sort.Semicolon = Semicolon
+token_kind sort.At = At
 
--- the number of a token's kind
-abbrev pub number : Token → ℕ
-number t = code (kind_of t.sort)
+-- the token_code of a token's kind
+abbrev pub token_code : Token → ℕ
+token_code t = code (token_kind t.sort)
 
 -- the characters of a name or a string
 abbrev pub text_of : Sort → List ℕ

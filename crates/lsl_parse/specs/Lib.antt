@@ -6,7 +6,7 @@ pub mod StatementGrammar
 pub mod StatementReading
 pub mod ScriptGrammar
 pub mod ScriptReading
-pub mod Gives
+pub mod Parses
 pub mod FaultNumbers
 pub mod Faults
 pub mod FaultReading

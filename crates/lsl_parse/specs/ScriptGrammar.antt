@@ -5,12 +5,13 @@ use Rattle.lsl_tree.specs.declared.expression.Name.{Name as Named}
 use Rattle.lsl_tree.specs.declared.script.Atom.{Atom}
 use Rattle.lsl_tree.specs.declared.script.Atom.TheVariants as part
 use Rattle.lsl_tree.specs.declared.script.Param.{Param}
-use Rattle.lsl_tree.specs.Scripts.{Initial, Single, Several, Heading, GlobalNamed, FunctionNamed, Handling, Standing, Script}
+use Rattle.lsl_tree.specs.Scripts as tree
+use Rattle.lsl_tree.specs.Scripts.{Simple, Header, Handler, State, Tree}
 use Rattle.lsl_grammar.specs.Language.{ret, ◌>>=◌, ◌∣◌, rounds}
 use Rattle.lsl_parse.specs.declared.kind.TokenKind.TheVariants.{Name, Int, Str, DefaultWord, StateWord, Minus, Assign, ParenOpen, ParenClose, BracketOpen, BracketClose, BraceOpen, BraceClose, Semicolon}
 use Rattle.lsl_parse.specs.Kinds.{types, type_of, name_of, text_of, integer_of}
 use Rattle.lsl_parse.specs.ExpressionGrammar.{Language, any, sign, listing}
-use Rattle.lsl_parse.specs.StatementGrammar.{Home, block, home_of}
+use Rattle.lsl_parse.specs.StatementGrammar.{StmtRoom, block, stmt_room_of}
 
 -- one more at the end
 abbrev pub added : {A : Type 0} → List A → A → List A
@@ -49,15 +50,15 @@ abbrev pub atom : Language Atom
 atom = negative ∣ text ∣ constant ∣ whole_number
 
 -- atom | '[' [ atom { ',' atom } ] ']'
-abbrev pub initial : Language Initial
+abbrev pub initial : Language Simple
 initial =
     (do
       start ← sign BracketOpen
       all ← listing BracketClose added [] atom
-      ret (Several start.span all))
+      ret (tree.Atoms start.span all))
     ∣ (do
       one ← atom
-      ret (Single one))
+      ret (tree.Atom one))
 
 -- TYPE NAME
 abbrev pub param : Language Param
@@ -73,69 +74,69 @@ params = do
   listing ParenClose added [] param
 
 -- [ '=' simple ] ';' behind a global's name
-abbrev pub global_behind : Kind → Named → Language Heading
+abbrev pub global_behind : Kind → Named → Language Header
 global_behind kind name =
     (do
       equals ← sign Assign
       value ← initial
       end ← sign Semicolon
-      ret (GlobalNamed kind name (Some value)))
+      ret (tree.Global kind name (Some value)))
     ∣ (do
       end ← sign Semicolon
-      ret (GlobalNamed kind name None))
+      ret (tree.Global kind name None))
 
 -- '(' [ params ] ')' block behind a function's name
-abbrev pub function_behind : Home → Option Kind → Named → Language Heading
-function_behind home kind name = do
+abbrev pub function_behind : StmtRoom → Option Kind → Named → Language Header
+function_behind room kind name = do
   all ← params
-  inner ← block home
-  ret (FunctionNamed kind name all inner)
+  inner ← block room
+  ret (tree.Function kind name all inner)
 
 -- global | function
-abbrev pub heading : Home → Language Heading
-heading home =
+abbrev pub header : StmtRoom → Language Header
+header room =
     (do
       kind ← any types
       name ← sign Name
-      function_behind home (Some (type_of kind.sort)) (name_of name) ∣ global_behind (type_of kind.sort) (name_of name))
+      function_behind room (Some (type_of kind.sort)) (name_of name) ∣ global_behind (type_of kind.sort) (name_of name))
     ∣ (do
       name ← sign Name
-      function_behind home None (name_of name))
+      function_behind room None (name_of name))
 
 -- NAME '(' [ params ] ')' block
-abbrev pub handler : Home → Language Handling
-handler home = do
+abbrev pub handler : StmtRoom → Language Handler
+handler room = do
   name ← sign Name
   all ← params
-  inner ← block home
+  inner ← block room
   ret (record { name = name_of name; params = all; body = inner })
 
 -- '{' handler { handler } '}'
-abbrev pub handlers : Home → Language (List Handling)
-handlers home = do
+abbrev pub handlers : StmtRoom → Language (List Handler)
+handlers room = do
   start ← sign BraceOpen
-  first ← handler home
-  all ← many (handler home) (first ∷ [])
+  first ← handler room
+  all ← many (handler room) (first ∷ [])
   end ← sign BraceClose
   ret all
 
 -- 'state' NAME body
-abbrev pub standing : Home → Language Standing
-standing home = do
+abbrev pub state : StmtRoom → Language State
+state room = do
   word ← sign StateWord
   name ← sign Name
-  all ← handlers home
+  all ← handlers room
   ret (record { name = name_of name; handlers = all })
 
 -- { global | function } 'default' body { 'state' NAME body }
-abbrev pub script_rule : Home → Language Script
-script_rule home = do
-  headings ← many (heading home) []
+abbrev pub script_rule : StmtRoom → Language Tree
+script_rule room = do
+  headers ← many (header room) []
   word ← sign DefaultWord
-  start ← handlers home
-  states ← many (standing home) []
-  ret (record { headings = headings; start = start; states = states })
+  start ← handlers room
+  states ← many (state room) []
+  ret (record { headers = headers; default = start; states = states })
 
 -- a script, with so many constructs in one another, and heights below the limit
-unfoldable pub script : Option ℕ → ℕ → Language Script
-script limit d = script_rule (home_of limit d)
+unfoldable pub script : Option ℕ → ℕ → Language Tree
+script limit d = script_rule (stmt_room_of limit d)

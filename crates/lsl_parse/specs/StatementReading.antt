@@ -3,15 +3,16 @@ use Rattle.std.specs.Prelude.{ℕ, zero, suc, Option, None, Some, List, [], ◌�
 use Rattle.lsl_text.specs.declared.Span.{Span}
 use Rattle.lsl_tree.specs.declared.statement.StateName.TheVariants as state
 use Rattle.lsl_tree.specs.declared.statement.StateName.{StateName}
-use Rattle.lsl_tree.specs.Expressions.{Expression}
-use Rattle.lsl_tree.specs.Statements.{Statement, Braces, Nothing, Simple, When, Either, Whilst, Until, Repeat, Jump, Return, Change, Entry, Declared, Labelled, Acted, Entries, No_entry, Then}
+use Rattle.lsl_tree.specs.Expressions.{Expr}
+use Rattle.lsl_tree.specs.Statements as tree
+use Rattle.lsl_tree.specs.Statements.{Stmt, Item, Items, NoItem, AndItem}
 use Rattle.lsl_grammar.specs.declared.Why.{Why}
 use Rattle.lsl_grammar.specs.declared.Why.TheVariants.{Unexpected, OperandDue}
 use Rattle.lsl_grammar.specs.Reading.{ret_r, deep_r}
 use Rattle.lsl_parse.specs.declared.kind.TokenKind.{TokenKind}
 use Rattle.lsl_parse.specs.declared.kind.TokenKind.TheVariants.{Name, Int, Str, IntegerWord, StringWord, KeyWord, ListWord, FloatWord, VectorWord, RotationWord, QuaternionWord, DefaultWord, StateWord, IfWord, ElseWord, ForWord, DoWord, WhileWord, JumpWord, ReturnWord, PlusPlus, MinusMinus, PlusAssign, MinusAssign, StarAssign, SlashAssign, PercentAssign, EqualEqual, BangEqual, LessEqual, MoreEqual, LessLess, MoreMore, AndAnd, OrOr, Plus, Minus, Star, Slash, Percent, Assign, Less, More, Bang, Tilde, And, Or, Caret, ParenOpen, ParenClose, BracketOpen, BracketClose, BraceOpen, BraceClose, Comma, Semicolon, At}
-use Rattle.lsl_parse.specs.Kinds.{codes, number, types, type_of, name_of}
-use Rattle.lsl_parse.specs.ExpressionReading.{Reads, ◌>>=◌, any_r, sign_r, where_r, while_r, expressions_r, expr_r}
+use Rattle.lsl_parse.specs.Kinds.{codes, token_code, types, type_of, name_of}
+use Rattle.lsl_parse.specs.ExpressionReading.{TokenReader, ◌>>=◌, any_r, sign_r, where_r, while_r, expressions_r, expr_r}
 
 -- the first tokens of a statement
 abbrev pub statement_heads : List TokenKind
@@ -21,105 +22,105 @@ statement_heads = BraceOpen ∷ IfWord ∷ WhileWord ∷ DoWord ∷ ForWord ∷ 
 abbrev pub not_end : List TokenKind
 not_end = Name ∷ Int ∷ Str ∷ IntegerWord ∷ StringWord ∷ KeyWord ∷ ListWord ∷ FloatWord ∷ VectorWord ∷ RotationWord ∷ QuaternionWord ∷ DefaultWord ∷ StateWord ∷ IfWord ∷ ElseWord ∷ ForWord ∷ DoWord ∷ WhileWord ∷ JumpWord ∷ ReturnWord ∷ PlusPlus ∷ MinusMinus ∷ PlusAssign ∷ MinusAssign ∷ StarAssign ∷ SlashAssign ∷ PercentAssign ∷ EqualEqual ∷ BangEqual ∷ LessEqual ∷ MoreEqual ∷ LessLess ∷ MoreMore ∷ AndAnd ∷ OrOr ∷ Plus ∷ Minus ∷ Star ∷ Slash ∷ Percent ∷ Assign ∷ Less ∷ More ∷ Bang ∷ Tilde ∷ And ∷ Or ∷ Caret ∷ ParenOpen ∷ ParenClose ∷ BracketOpen ∷ BracketClose ∷ BraceOpen ∷ Comma ∷ Semicolon ∷ At ∷ []
 
-pub data Home_r : Type 0 where
-  Shut_r : Home_r
-  Holds_r : (entry : Reads Entry) → (statement : Reads Statement) → Home_r
+pub data StmtRoom_r : Type 0 where
+  Shut_r : StmtRoom_r
+  Holds_r : (item : TokenReader Item) → (statement : TokenReader Stmt) → StmtRoom_r
 
-abbrev pub enclosed_r : {T : Type 0} → Why → List TokenKind → Home_r → (Reads Entry → Reads Statement → Reads T) → Reads T
-enclosed_r why ks Shut_r rule = deep_r number why (codes ks)
-enclosed_r why ks (Holds_r entry statement) rule = rule entry statement
+abbrev pub enclosed_r : {T : Type 0} → Why → List TokenKind → StmtRoom_r → (TokenReader Item → TokenReader Stmt → TokenReader T) → TokenReader T
+enclosed_r why ks Shut_r rule = deep_r token_code why (codes ks)
+enclosed_r why ks (Holds_r item statement) rule = rule item statement
 
-abbrev pub next_entry_r : Reads Entry → Entries → Reads Entries
-next_entry_r entry before = do
-  next ← entry
-  ret_r (Then before next)
+abbrev pub next_item_r : TokenReader Item → Items → TokenReader Items
+next_item_r item before = do
+  next ← item
+  ret_r (AndItem before next)
 
-abbrev pub entries_r : Reads Entry → Reads Entries
-entries_r entry = while_r not_end (next_entry_r entry) No_entry
+abbrev pub items_r : TokenReader Item → TokenReader Items
+items_r item = while_r not_end (next_item_r item) NoItem
 
-abbrev pub block_r : Home_r → Reads Entries
-block_r home = enclosed_r Unexpected (BraceOpen ∷ []) home (λ entry statement. do
+abbrev pub block_r : StmtRoom_r → TokenReader Items
+block_r room = enclosed_r Unexpected (BraceOpen ∷ []) room (λ item statement. do
   start ← sign_r BraceOpen
-  all ← entries_r entry
+  all ← items_r item
   end ← sign_r BraceClose
   ret_r all)
 
-abbrev pub body_r : Home_r → Reads Statement
-body_r home = enclosed_r OperandDue statement_heads home (λ entry statement. statement)
+abbrev pub body_r : StmtRoom_r → TokenReader Stmt
+body_r room = enclosed_r OperandDue statement_heads room (λ item statement. statement)
 
-abbrev pub braces_r : Home_r → Reads Statement
-braces_r home = do
-  all ← block_r home
-  ret_r (Braces all)
+abbrev pub braces_r : StmtRoom_r → TokenReader Stmt
+braces_r room = do
+  all ← block_r room
+  ret_r (tree.Block all)
 
-abbrev pub else_r : Home_r → Span → Expression → Statement → Reads Statement
-else_r home start test first = where_r (ElseWord ∷ [])
+abbrev pub else_r : StmtRoom_r → Span → Expr → Stmt → TokenReader Stmt
+else_r room start test first = where_r (ElseWord ∷ [])
     (do
       other ← sign_r ElseWord
-      second ← body_r home
-      ret_r (Either start test first second))
-    (ret_r (When start test first))
+      second ← body_r room
+      ret_r (tree.IfElse start test first second))
+    (ret_r (tree.If start test first))
 
-abbrev pub if_r : Reads Expression → Home_r → Reads Statement
-if_r expr home = do
+abbrev pub if_r : TokenReader Expr → StmtRoom_r → TokenReader Stmt
+if_r expr room = do
   start ← sign_r IfWord
   left ← sign_r ParenOpen
   test ← expr
   right ← sign_r ParenClose
-  first ← body_r home
-  else_r home start.span test first
+  first ← body_r room
+  else_r room start.span test first
 
-abbrev pub while_rule_r : Reads Expression → Home_r → Reads Statement
-while_rule_r expr home = do
+abbrev pub while_rule_r : TokenReader Expr → StmtRoom_r → TokenReader Stmt
+while_rule_r expr room = do
   start ← sign_r WhileWord
   left ← sign_r ParenOpen
   test ← expr
   right ← sign_r ParenClose
-  inner ← body_r home
-  ret_r (Whilst start.span test inner)
+  inner ← body_r room
+  ret_r (tree.While start.span test inner)
 
-abbrev pub do_r : Reads Expression → Home_r → Reads Statement
-do_r expr home = do
+abbrev pub do_r : TokenReader Expr → StmtRoom_r → TokenReader Stmt
+do_r expr room = do
   start ← sign_r DoWord
-  inner ← body_r home
+  inner ← body_r room
   word ← sign_r WhileWord
   left ← sign_r ParenOpen
   test ← expr
   right ← sign_r ParenClose
   end ← sign_r Semicolon
-  ret_r (Until start.span inner test)
+  ret_r (tree.Do start.span inner test)
 
-abbrev pub for_r : Reads Expression → Home_r → Reads Statement
-for_r expr home = do
+abbrev pub for_r : TokenReader Expr → StmtRoom_r → TokenReader Stmt
+for_r expr room = do
   start ← sign_r ForWord
   left ← sign_r ParenOpen
   before ← expressions_r Semicolon expr
   test ← expr
   middle ← sign_r Semicolon
   step ← expressions_r ParenClose expr
-  inner ← body_r home
-  ret_r (Repeat start.span before test step inner)
+  inner ← body_r room
+  ret_r (tree.For start.span before test step inner)
 
-abbrev pub jump_r : Reads Statement
+abbrev pub jump_r : TokenReader Stmt
 jump_r = do
   start ← sign_r JumpWord
   name ← sign_r Name
   end ← sign_r Semicolon
-  ret_r (Jump start.span (name_of name))
+  ret_r (tree.Jump start.span (name_of name))
 
-abbrev pub return_r : Reads Expression → Reads Statement
+abbrev pub return_r : TokenReader Expr → TokenReader Stmt
 return_r expr = do
   start ← sign_r ReturnWord
   where_r (Semicolon ∷ [])
       (do
         end ← sign_r Semicolon
-        ret_r (Return start.span None))
+        ret_r (tree.Return start.span None))
       (do
         value ← expr
         end ← sign_r Semicolon
-        ret_r (Return start.span (Some value)))
+        ret_r (tree.Return start.span (Some value)))
 
-abbrev pub state_name_r : Reads StateName
+abbrev pub state_name_r : TokenReader StateName
 state_name_r = where_r (Name ∷ [])
     (do
       name ← sign_r Name
@@ -128,35 +129,35 @@ state_name_r = where_r (Name ∷ [])
       word ← sign_r DefaultWord
       ret_r state.Default)
 
-abbrev pub state_r : Reads Statement
-state_r = do
+abbrev pub state_rule_r : TokenReader Stmt
+state_rule_r = do
   start ← sign_r StateWord
   name ← state_name_r
   end ← sign_r Semicolon
-  ret_r (Change start.span name)
+  ret_r (tree.State start.span name)
 
-abbrev pub simple_r : Reads Expression → Reads Statement
+abbrev pub simple_r : TokenReader Expr → TokenReader Stmt
 simple_r expr = where_r (Semicolon ∷ [])
     (do
       end ← sign_r Semicolon
-      ret_r Nothing)
+      ret_r tree.Empty)
     (do
       value ← expr
       end ← sign_r Semicolon
-      ret_r (Simple value))
+      ret_r (tree.Expression value))
 
-abbrev pub statement_rule_r : Reads Expression → Home_r → Reads Statement
-statement_rule_r expr home =
-    where_r (BraceOpen ∷ []) (braces_r home)
-    (where_r (IfWord ∷ []) (if_r expr home)
-    (where_r (WhileWord ∷ []) (while_rule_r expr home)
-    (where_r (DoWord ∷ []) (do_r expr home)
-    (where_r (ForWord ∷ []) (for_r expr home)
+abbrev pub statement_rule_r : TokenReader Expr → StmtRoom_r → TokenReader Stmt
+statement_rule_r expr room =
+    where_r (BraceOpen ∷ []) (braces_r room)
+    (where_r (IfWord ∷ []) (if_r expr room)
+    (where_r (WhileWord ∷ []) (while_rule_r expr room)
+    (where_r (DoWord ∷ []) (do_r expr room)
+    (where_r (ForWord ∷ []) (for_r expr room)
     (where_r (JumpWord ∷ []) jump_r
     (where_r (ReturnWord ∷ []) (return_r expr)
-    (where_r (StateWord ∷ []) state_r (simple_r expr))))))))
+    (where_r (StateWord ∷ []) state_rule_r (simple_r expr))))))))
 
-abbrev pub declaration_r : Reads Expression → Reads Entry
+abbrev pub declaration_r : TokenReader Expr → TokenReader Item
 declaration_r expr = do
   kind ← any_r types
   name ← sign_r Name
@@ -165,32 +166,32 @@ declaration_r expr = do
         equals ← sign_r Assign
         value ← expr
         end ← sign_r Semicolon
-        ret_r (Declared (type_of kind.sort) (name_of name) (Some value)))
+        ret_r (tree.Declaration (type_of kind.sort) (name_of name) (Some value)))
       (do
         end ← sign_r Semicolon
-        ret_r (Declared (type_of kind.sort) (name_of name) None))
+        ret_r (tree.Declaration (type_of kind.sort) (name_of name) None))
 
-abbrev pub label_r : Reads Entry
+abbrev pub label_r : TokenReader Item
 label_r = do
   start ← sign_r At
   name ← sign_r Name
   end ← sign_r Semicolon
-  ret_r (Labelled (name_of name))
+  ret_r (tree.Label (name_of name))
 
-abbrev pub acted_r : Reads Statement → Reads Entry
-acted_r statement = do
+abbrev pub statement_item_r : TokenReader Stmt → TokenReader Item
+statement_item_r statement = do
   action ← statement
-  ret_r (Acted action)
+  ret_r (tree.Statement action)
 
-abbrev pub entry_rule_r : Reads Expression → Reads Statement → Reads Entry
-entry_rule_r expr statement = where_r types (declaration_r expr) (where_r (At ∷ []) label_r (acted_r statement))
+abbrev pub item_rule_r : TokenReader Expr → TokenReader Stmt → TokenReader Item
+item_rule_r expr statement = where_r types (declaration_r expr) (where_r (At ∷ []) label_r (statement_item_r statement))
 
-abbrev pub home_r : Option ℕ → ℕ → Home_r
-home_r limit zero = Shut_r
-home_r limit (suc d) = Holds_r (entry_rule_r (expr_r limit d) (statement_rule_r (expr_r limit d) (home_r limit d))) (statement_rule_r (expr_r limit d) (home_r limit d))
+abbrev pub stmt_room_r : Option ℕ → ℕ → StmtRoom_r
+stmt_room_r limit zero = Shut_r
+stmt_room_r limit (suc d) = Holds_r (item_rule_r (expr_r limit d) (statement_rule_r (expr_r limit d) (stmt_room_r limit d))) (statement_rule_r (expr_r limit d) (stmt_room_r limit d))
 
-unfoldable pub statement_r : Option ℕ → ℕ → Reads Statement
-statement_r limit d = statement_rule_r (expr_r limit d) (home_r limit d)
+unfoldable pub statement_r : Option ℕ → ℕ → TokenReader Stmt
+statement_r limit d = statement_rule_r (expr_r limit d) (stmt_room_r limit d)
 
-unfoldable pub entry_r : Option ℕ → ℕ → Reads Entry
-entry_r limit d = entry_rule_r (expr_r limit d) (statement_rule_r (expr_r limit d) (home_r limit d))
+unfoldable pub item_r : Option ℕ → ℕ → TokenReader Item
+item_r limit d = item_rule_r (expr_r limit d) (statement_rule_r (expr_r limit d) (stmt_room_r limit d))

@@ -1,13 +1,13 @@
 //! Token lists as trees, or their first fault.
 
 ghost use Rattle.std.specs.Prelude.{◌≡◌, ◌<◌, ℕ, [], length, ◌∷◌, Some, IfOk, IfErr, MatchResult, if◌then◌else◌};
-ghost use Rattle.lsl_tree.specs.Scripts.{Script, script_of};
+ghost use Rattle.lsl_tree.specs.Scripts.{Tree, tree_of};
 ghost use Rattle.lsl_parse.specs.declared.fault.ParseKind.{ParseKind};
 ghost use Rattle.lsl_parse.specs.declared.limits.TheConstants.{HEIGHT, TOKENS};
 ghost use Rattle.lsl_parse.specs.ScriptReading.{all_r, end_r};
-ghost use Rattle.lsl_parse.specs.Faults.{Derives, ParseFirst, IsFirst, IsThat, IfFault, span_at};
+ghost use Rattle.lsl_parse.specs.Faults.{Derives, ParseFirst, IsFirst, IsFaultAt, IfFault, span_at};
 ghost use Rattle.lsl_parse.specs.FaultReading.{fault_kind, stop_fault, large_fault};
-ghost use Rattle.lsl_parse.specs.Gives.{Gives};
+ghost use Rattle.lsl_parse.specs.Parses.{Parses};
 
 use crate::fault::{ParseFault, ParseKind};
 use crate::kind::{TokenKind, kind_of};
@@ -22,7 +22,7 @@ use std::alloc::Global;
 
 /// A script with nothing behind it.
 fn whole<'a>(alloc: Global, tokens: &'a [Token]) -> Result<Tree, Refusal<Stop<'a>>>
-    ensures { Gives (λ t. (script_of t, [])) result (all_r (Some HEIGHT) DEPTH tokens.now) }
+    ensures { Parses (λ t. (tree_of t, [])) result (all_r (Some HEIGHT) DEPTH tokens.now) }
 {
     let (tree, rest) = script(alloc, DEPTH, tokens)?;
     ended(tree, rest)
@@ -30,7 +30,7 @@ fn whole<'a>(alloc: Global, tokens: &'a [Token]) -> Result<Tree, Refusal<Stop<'a
 
 /// The tree, where nothing stands behind it.
 fn ended<'a>(tree: Tree, rest: &'a [Token]) -> Result<Tree, Refusal<Stop<'a>>>
-    ensures { Gives (λ t. (script_of t, [])) result (end_r (script_of tree) rest.now) }
+    ensures { Parses (λ t. (tree_of t, [])) result (end_r (tree_of tree) rest.now) }
 {
     match rest {
         [] => Ok(tree),
@@ -67,7 +67,7 @@ fn foreign(token: &Token, due: bool) -> ParseKind
 
 /// The fault that a stop is.
 fn kind_of_stop(stop: Stop) -> ParseKind
-    ensures { result ≡ fault_kind stop.entry.why stop.entry.rest.now }
+    ensures { result ≡ fault_kind stop.item.why stop.item.rest.now }
 {
     match stop.rest {
         [] => ParseKind::EndOfText,
@@ -92,7 +92,7 @@ fn large_fault_of(tokens: &[Token], end: Span) -> ParseFault
 
 /// The fault of a stop, or that of the first token too many, which comes before it.
 fn fault_of(tokens: &[Token], end: Span, stop: Stop) -> ParseFault
-    ensures { result ≡ stop_fault tokens.now end stop.entry.why stop.entry.rest.now }
+    ensures { result ≡ stop_fault tokens.now end stop.item.why stop.item.rest.now }
 {
     if TOKENS + stop.rest.len() < tokens.len() {
         return large_fault_of(tokens, end);
@@ -108,13 +108,13 @@ fn fault_of(tokens: &[Token], end: Span, stop: Stop) -> ParseFault
 /// Takes memory for the tree: names and strings are copied. Time is linear in the tokens, and no more than 200 constructs deep.
 pub fn parse(alloc: Global, tokens: &Tokens) -> Result<Tree, Refusal<ParseFault>>
     // What is found is the tree of the tokens.
-    ensures found { IfOk result (λ tree. Derives tokens.now.list (script_of tree)) }
+    ensures found { IfOk result (λ tree. Derives tokens.now.list (tree_of tree)) }
     // Tokens that have a tree are accepted with it, unless memory runs out.
-    ensures every { (script : Script) → Derives tokens.now.list script → MatchResult result (λ tree. script_of tree ≡ script) (λ refusal. refusal ≡ Refusal.NoMemory) }
+    ensures every { (script : Tree) → Derives tokens.now.list script → MatchResult result (λ tree. tree_of tree ≡ script) (λ refusal. refusal ≡ Refusal.NoMemory) }
     // A fault is the first one.
     ensures first { IfErr result (λ refusal. IfFault refusal (IsFirst tokens.now.list tokens.now.end)) }
     // Tokens that have a first fault are refused with it, unless memory runs out.
-    ensures only { (place : ℕ) (kind : ParseKind) → ParseFirst tokens.now.list place kind → MatchResult result (λ _. ⊥) (λ refusal. IfFault refusal (IsThat tokens.now.list tokens.now.end place kind)) }
+    ensures only { (place : ℕ) (kind : ParseKind) → ParseFirst tokens.now.list place kind → MatchResult result (λ _. ⊥) (λ refusal. IfFault refusal (IsFaultAt tokens.now.list tokens.now.end place kind)) }
 {
     let list = tokens.list.as_slice();
     match whole(alloc, list) {

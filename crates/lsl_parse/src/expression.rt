@@ -5,14 +5,13 @@
 
 ghost use Rattle.std.specs.Prelude.{◌≡◌, [], ◌∷◌, Some, Ok};
 ghost use Rattle.lsl_grammar.specs.Reading.{pair_next, begins};
-ghost use Rattle.lsl_tree.specs.Expressions.{expression_of, expressions_of};
+ghost use Rattle.lsl_tree.specs.Expressions.{expr_of, exprs_of, AndExpr, NoExpr};
 ghost use Rattle.lsl_parse.specs.declared.limits.TheConstants.{HEIGHT};
 ghost use Rattle.lsl_parse.specs.declared.kind.TokenKind.TheVariants.{Name};
-ghost use Rattle.lsl_parse.specs.Kinds.{codes, number};
+ghost use Rattle.lsl_parse.specs.Kinds.{codes, token_code};
 ghost use Rattle.lsl_parse.specs.Operators.{assign_signs, signs};
 ghost use Rattle.lsl_parse.specs.ExpressionReading.{expr_r, unary_r, level_r, room_r, prefix_r, step_before_r, group_r, list_r, string_r, integer_r, arguments_r, named_r, assignment_r, expressions_r, series_r, next_operand_r};
-ghost use Rattle.lsl_tree.specs.Expressions.{And, No_expression};
-ghost use Rattle.lsl_parse.specs.Gives.{Gives};
+ghost use Rattle.lsl_parse.specs.Parses.{Parses};
 
 use crate::kind::{TokenKind, kind_of, same_kind};
 use crate::names;
@@ -31,7 +30,7 @@ use std::alloc::Global;
 
 /// Whether a name and the sign of an assignment stand next.
 fn assigns(tokens: &[Token]) -> bool
-    ensures { result ≡ pair_next number (codes (Name ∷ [])) (codes assign_signs) tokens.now }
+    ensures { result ≡ pair_next token_code (codes (Name ∷ [])) (codes assign_signs) tokens.now }
 {
     match tokens {
         [first, rest @ ..] => {
@@ -44,7 +43,7 @@ fn assigns(tokens: &[Token]) -> bool
 /// An expression.
 #[cycle(expression)]
 pub fn expr(alloc: Global, room: u32, tokens: &[Token]) -> Found<'_, Operand>
-    ensures { Gives (λ x. (expression_of x.0.expr, x.1.now)) result (expr_r (Some HEIGHT) room tokens.now) }
+    ensures { Parses (λ x. (expr_of x.0.expr, x.1.now)) result (expr_r (Some HEIGHT) room tokens.now) }
 {
     if assigns(tokens) {
         assignment(alloc, room, tokens)
@@ -55,7 +54,7 @@ pub fn expr(alloc: Global, room: u32, tokens: &[Token]) -> Found<'_, Operand>
 
 #[cycle(expression)]
 fn assignment(alloc: Global, room: u32, tokens: &[Token]) -> Found<'_, Operand>
-    ensures { Gives (λ x. (expression_of x.0.expr, x.1.now)) result (assignment_r (room_r (Some HEIGHT) room) tokens.now) }
+    ensures { Parses (λ x. (expr_of x.0.expr, x.1.now)) result (assignment_r (room_r (Some HEIGHT) room) tokens.now) }
 {
     let (name, rest) = sign(tokens, TokenKind::Name)?;
     if room == 0 {
@@ -70,7 +69,7 @@ fn assignment(alloc: Global, room: u32, tokens: &[Token]) -> Found<'_, Operand>
 
 #[cycle(expression)]
 fn unary(alloc: Global, room: u32, tokens: &[Token]) -> Found<'_, Operand>
-    ensures { Gives (λ x. (expression_of x.0.expr, x.1.now)) result (unary_r (Some HEIGHT) room tokens.now) }
+    ensures { Parses (λ x. (expr_of x.0.expr, x.1.now)) result (unary_r (Some HEIGHT) room tokens.now) }
 {
     if next_among(tokens, &PREFIX_SIGNS) {
         prefix(alloc, room, tokens)
@@ -91,7 +90,7 @@ fn unary(alloc: Global, room: u32, tokens: &[Token]) -> Found<'_, Operand>
 
 #[cycle(expression)]
 fn prefix(alloc: Global, room: u32, tokens: &[Token]) -> Found<'_, Operand>
-    ensures { Gives (λ x. (expression_of x.0.expr, x.1.now)) result (prefix_r (room_r (Some HEIGHT) room) tokens.now) }
+    ensures { Parses (λ x. (expr_of x.0.expr, x.1.now)) result (prefix_r (room_r (Some HEIGHT) room) tokens.now) }
 {
     if room == 0 {
         return Err(Refusal::Fault(shut(tokens, &PREFIX_SIGNS, Why::Unexpected)));
@@ -103,7 +102,7 @@ fn prefix(alloc: Global, room: u32, tokens: &[Token]) -> Found<'_, Operand>
 }
 
 fn step_before(alloc: Global, room: u32, tokens: &[Token]) -> Found<'_, Operand>
-    ensures { Gives (λ x. (expression_of x.0.expr, x.1.now)) result (step_before_r (room_r (Some HEIGHT) room) tokens.now) }
+    ensures { Parses (λ x. (expr_of x.0.expr, x.1.now)) result (step_before_r (room_r (Some HEIGHT) room) tokens.now) }
 {
     if room == 0 {
         return Err(Refusal::Fault(shut(tokens, &STEP_SIGNS, Why::Unexpected)));
@@ -117,7 +116,7 @@ fn step_before(alloc: Global, room: u32, tokens: &[Token]) -> Found<'_, Operand>
 /// A cast, or an expression in parentheses.
 #[cycle(expression)]
 fn group(alloc: Global, room: u32, tokens: &[Token]) -> Found<'_, Operand>
-    ensures { Gives (λ x. (expression_of x.0.expr, x.1.now)) result (group_r (room_r (Some HEIGHT) room) tokens.now) }
+    ensures { Parses (λ x. (expr_of x.0.expr, x.1.now)) result (group_r (room_r (Some HEIGHT) room) tokens.now) }
 {
     if room == 0 {
         return Err(Refusal::Fault(shut(tokens, &[TokenKind::ParenOpen], Why::Unexpected)));
@@ -139,7 +138,7 @@ fn group(alloc: Global, room: u32, tokens: &[Token]) -> Found<'_, Operand>
 
 #[cycle(expression)]
 fn list(alloc: Global, room: u32, tokens: &[Token]) -> Found<'_, Operand>
-    ensures { Gives (λ x. (expression_of x.0.expr, x.1.now)) result (list_r (room_r (Some HEIGHT) room) tokens.now) }
+    ensures { Parses (λ x. (expr_of x.0.expr, x.1.now)) result (list_r (room_r (Some HEIGHT) room) tokens.now) }
 {
     if room == 0 {
         return Err(Refusal::Fault(shut(tokens, &[TokenKind::BracketOpen], Why::Unexpected)));
@@ -150,7 +149,7 @@ fn list(alloc: Global, room: u32, tokens: &[Token]) -> Found<'_, Operand>
 }
 
 fn string(alloc: Global, tokens: &[Token]) -> Found<'_, Operand>
-    ensures { Gives (λ x. (expression_of x.0.expr, x.1.now)) result (string_r tokens.now) }
+    ensures { Parses (λ x. (expr_of x.0.expr, x.1.now)) result (string_r tokens.now) }
 {
     let (token, rest) = sign(tokens, TokenKind::Str)?;
     let text = names::text(alloc, &token.sort)?;
@@ -159,7 +158,7 @@ fn string(alloc: Global, tokens: &[Token]) -> Found<'_, Operand>
 
 /// The last of the operands: where it isn't there either, an operand was due.
 fn integer(tokens: &[Token]) -> Found<'_, Operand>
-    ensures { Gives (λ x. (expression_of x.0.expr, x.1.now)) result (integer_r tokens.now) }
+    ensures { Parses (λ x. (expr_of x.0.expr, x.1.now)) result (integer_r tokens.now) }
 {
     let (token, rest) = take(tokens, &[TokenKind::Int], Why::OperandDue)?;
     Ok((
@@ -171,7 +170,7 @@ fn integer(tokens: &[Token]) -> Found<'_, Operand>
 /// A name with `++`, `--` or arguments behind it, or alone.
 #[cycle(expression)]
 fn named(alloc: Global, room: u32, tokens: &[Token]) -> Found<'_, Operand>
-    ensures { Gives (λ x. (expression_of x.0.expr, x.1.now)) result (named_r (room_r (Some HEIGHT) room) tokens.now) }
+    ensures { Parses (λ x. (expr_of x.0.expr, x.1.now)) result (named_r (room_r (Some HEIGHT) room) tokens.now) }
 {
     let (name, rest) = sign(tokens, TokenKind::Name)?;
     if next_among(rest, &STEP_SIGNS) {
@@ -190,7 +189,7 @@ fn named(alloc: Global, room: u32, tokens: &[Token]) -> Found<'_, Operand>
 
 #[cycle(expression)]
 fn arguments(alloc: Global, room: u32, tokens: &[Token]) -> Found<'_, Operands>
-    ensures { Gives (λ x. (expressions_of x.0.exprs.items, x.1.now)) result (arguments_r (room_r (Some HEIGHT) room) tokens.now) }
+    ensures { Parses (λ x. (exprs_of x.0.exprs.items, x.1.now)) result (arguments_r (room_r (Some HEIGHT) room) tokens.now) }
 {
     if room == 0 {
         return Err(Refusal::Fault(shut(tokens, &[TokenKind::ParenOpen], Why::Unexpected)));
@@ -207,7 +206,7 @@ pub fn expressions(
     close: TokenKind,
     tokens: &[Token],
 ) -> Found<'_, Operands>
-    ensures { Gives (λ x. (expressions_of x.0.exprs.items, x.1.now)) result (expressions_r close (expr_r (Some HEIGHT) room) tokens.now) }
+    ensures { Parses (λ x. (exprs_of x.0.exprs.items, x.1.now)) result (expressions_r close (expr_r (Some HEIGHT) room) tokens.now) }
 {
     if next_is(tokens, close) {
         let (_, rest) = sign(tokens, close)?;
@@ -222,7 +221,7 @@ pub fn expressions(
 /// Expressions between commas.
 #[cycle(expression)]
 fn series(alloc: Global, room: u32, tokens: &[Token]) -> Found<'_, Operands>
-    ensures { Gives (λ x. (expressions_of x.0.exprs.items, x.1.now)) result (series_r And No_expression (expr_r (Some HEIGHT) room) tokens.now) }
+    ensures { Parses (λ x. (exprs_of x.0.exprs.items, x.1.now)) result (series_r AndExpr NoExpr (expr_r (Some HEIGHT) room) tokens.now) }
 {
     let (first, mut rest) = expr(alloc, room, tokens)?;
     let mut all = Operands::new(alloc);
@@ -245,7 +244,7 @@ fn operation(
     left: Operand,
     tokens: &[Token],
 ) -> Found<'_, Operand>
-    ensures { Gives (λ x. (expression_of x.0.expr, x.1.now)) result (next_operand_r (Some HEIGHT) (level_r (Some HEIGHT) room n) (signs n) (expression_of left.expr) tokens.now) }
+    ensures { Parses (λ x. (expr_of x.0.expr, x.1.now)) result (next_operand_r (Some HEIGHT) (level_r (Some HEIGHT) room n) (signs n) (expr_of left.expr) tokens.now) }
 {
     let kinds = level_signs(n);
     if !left.may_be_left() {
@@ -260,7 +259,7 @@ fn operation(
 /// Operands with the operators of the tightest `n` levels between them.
 #[cycle(expression)]
 fn level(alloc: Global, room: u32, n: u32, tokens: &[Token]) -> Found<'_, Operand>
-    ensures { Gives (λ x. (expression_of x.0.expr, x.1.now)) result (level_r (Some HEIGHT) room n tokens.now) }
+    ensures { Parses (λ x. (expr_of x.0.expr, x.1.now)) result (level_r (Some HEIGHT) room n tokens.now) }
 {
     if n == 0 {
         return unary(alloc, room, tokens);
@@ -276,7 +275,7 @@ fn level(alloc: Global, room: u32, n: u32, tokens: &[Token]) -> Found<'_, Operan
 
 /// An expression, where its height doesn't matter.
 pub fn value(alloc: Global, room: u32, tokens: &[Token]) -> Found<'_, Expr>
-    ensures { Gives (λ x. (expression_of x.0, x.1.now)) result (expr_r (Some HEIGHT) room tokens.now) }
+    ensures { Parses (λ x. (expr_of x.0, x.1.now)) result (expr_r (Some HEIGHT) room tokens.now) }
 {
     let (operand, rest) = expr(alloc, room, tokens)?;
     Ok((operand.expr, rest))
@@ -284,7 +283,7 @@ pub fn value(alloc: Global, room: u32, tokens: &[Token]) -> Found<'_, Expr>
 
 /// Expressions, if any, and the closing sign, where their heights don't matter.
 pub fn values(alloc: Global, room: u32, close: TokenKind, tokens: &[Token]) -> Found<'_, Vec<Expr>>
-    ensures { Gives (λ x. (expressions_of x.0.items, x.1.now)) result (expressions_r close (expr_r (Some HEIGHT) room) tokens.now) }
+    ensures { Parses (λ x. (exprs_of x.0.items, x.1.now)) result (expressions_r close (expr_r (Some HEIGHT) room) tokens.now) }
 {
     let (operands, rest) = expressions(alloc, room, close, tokens)?;
     Ok((operands.exprs, rest))

@@ -1,7 +1,7 @@
 //! What a token is, without what it holds.
 
 ghost use Rattle.std.specs.Prelude.{◌≡◌, ◌==◌};
-ghost use Rattle.lsl_parse.specs.Kinds.{code, kind_of as kind_of_sort};
+ghost use Rattle.lsl_parse.specs.Kinds.{code, token_kind as kind_of_sort};
 
 use lsl_lex::Sort;
 

@@ -1,7 +1,8 @@
 //! Expressions with their heights, as they are put together.
 
 ghost use Rattle.std.specs.Prelude.{◌≡◌, ◌+◌, IfOk, OnOk, min};
-ghost use Rattle.lsl_tree.specs.Expressions.{height as height_of, highest as highest_of, expression_of, expressions_of, Number, Quoted, Variable, SteppedBehind, SteppedBefore, Called, Listed, Grouped, Converted, Prefixed, Joined, Assigned, No_expression, And};
+ghost use Rattle.lsl_tree.specs.Expressions as tree;
+ghost use Rattle.lsl_tree.specs.Expressions.{height as height_of, highest as highest_of, expr_of, exprs_of, NoExpr, AndExpr};
 ghost use Rattle.lsl_parse.specs.declared.limits.TheConstants.{HEIGHT};
 ghost use Rattle.lsl_parse.specs.ExpressionGrammar.{fits};
 
@@ -16,7 +17,7 @@ use std::alloc::Global;
 pub struct Operand {
     pub expr: Expr,
     pub height: u32,
-    ghost capped: { height ≡ min (height_of (expression_of expr)) HEIGHT },
+    ghost capped: { height ≡ min (height_of (expr_of expr)) HEIGHT },
 }
 
 /// Expressions and the height of the highest; heights from the limit on count as the limit.
@@ -24,7 +25,7 @@ pub struct Operand {
 pub struct Operands {
     pub exprs: Vec<Expr>,
     pub highest: u32,
-    ghost capped: { highest ≡ min (highest_of (expressions_of exprs.items)) HEIGHT },
+    ghost capped: { highest ≡ min (highest_of (exprs_of exprs.items)) HEIGHT },
 }
 
 /// One more than a height, up to the limit.
@@ -36,7 +37,7 @@ fn raised(height: u32) -> u32
 
 impl Operands {
     pub fn new(alloc: Global) -> Operands
-        ensures { expressions_of result.exprs.items ≡ No_expression }
+        ensures { exprs_of result.exprs.items ≡ NoExpr }
     {
         Operands {
             exprs: Vec::new(alloc),
@@ -46,7 +47,7 @@ impl Operands {
 
     /// One more at the end.
     pub fn push(&mut self, next: Operand) -> Result<(), NoMemory>
-        ensures { OnOk result (expressions_of self.new.exprs.items ≡ And (expressions_of self.old.exprs.items) (expression_of next.expr)) }
+        ensures { OnOk result (exprs_of self.new.exprs.items ≡ AndExpr (exprs_of self.old.exprs.items) (expr_of next.expr)) }
     {
         let Operand { expr, height } = next;
         self.exprs.push(expr)?;
@@ -58,13 +59,13 @@ impl Operands {
 impl Operand {
     /// Whether it may stand left of an operator.
     pub fn may_be_left(&self) -> bool
-        ensures { result ≡ fits (Some HEIGHT) (expression_of self.now.expr) }
+        ensures { result ≡ fits (Some HEIGHT) (expr_of self.now.expr) }
     {
         self.height < HEIGHT
     }
 
     pub fn integer(value: i32, span: Span) -> Operand
-        ensures { expression_of result.expr ≡ Number value span }
+        ensures { expr_of result.expr ≡ tree.Int value span }
     {
         Operand {
             expr: Expr::Int { value, span },
@@ -73,7 +74,7 @@ impl Operand {
     }
 
     pub fn string(text: Text, span: Span) -> Operand
-        ensures { expression_of result.expr ≡ Quoted text span }
+        ensures { expr_of result.expr ≡ tree.Str text span }
     {
         Operand {
             expr: Expr::Str { text, span },
@@ -82,7 +83,7 @@ impl Operand {
     }
 
     pub fn variable(name: Name) -> Operand
-        ensures { expression_of result.expr ≡ Variable name }
+        ensures { expr_of result.expr ≡ tree.Variable name }
     {
         Operand {
             expr: Expr::Variable { name },
@@ -91,7 +92,7 @@ impl Operand {
     }
 
     pub fn step_behind(name: Name, op: StepOp) -> Operand
-        ensures { expression_of result.expr ≡ SteppedBehind name op }
+        ensures { expr_of result.expr ≡ tree.StepBehind name op }
     {
         Operand {
             expr: Expr::StepBehind { name, op },
@@ -100,7 +101,7 @@ impl Operand {
     }
 
     pub fn step_before(op: StepOp, span: Span, name: Name) -> Operand
-        ensures { expression_of result.expr ≡ SteppedBefore op span name }
+        ensures { expr_of result.expr ≡ tree.StepBefore op span name }
     {
         Operand {
             expr: Expr::StepBefore { op, span, name },
@@ -109,7 +110,7 @@ impl Operand {
     }
 
     pub fn call(name: Name, arguments: Operands) -> Operand
-        ensures { expression_of result.expr ≡ Called name (expressions_of arguments.exprs.items) }
+        ensures { expr_of result.expr ≡ tree.Call name (exprs_of arguments.exprs.items) }
     {
         let Operands { exprs, highest } = arguments;
         Operand {
@@ -122,7 +123,7 @@ impl Operand {
     }
 
     pub fn list(span: Span, elements: Operands) -> Operand
-        ensures { expression_of result.expr ≡ Listed span (expressions_of elements.exprs.items) }
+        ensures { expr_of result.expr ≡ tree.ListLiteral span (exprs_of elements.exprs.items) }
     {
         let Operands { exprs, highest } = elements;
         Operand {
@@ -135,7 +136,7 @@ impl Operand {
     }
 
     pub fn parens(alloc: Global, span: Span, inner: Operand) -> Result<Operand, NoMemory>
-        ensures { IfOk result (λ o. expression_of o.expr ≡ Grouped span (expression_of inner.expr)) }
+        ensures { IfOk result (λ o. expr_of o.expr ≡ tree.Parens span (expr_of inner.expr)) }
     {
         let Operand { expr, height } = inner;
         let inner = Box::new(alloc, expr)?;
@@ -151,7 +152,7 @@ impl Operand {
         kind: Kind,
         operand: Operand,
     ) -> Result<Operand, NoMemory>
-        ensures { IfOk result (λ o. expression_of o.expr ≡ Converted span kind (expression_of operand.expr)) }
+        ensures { IfOk result (λ o. expr_of o.expr ≡ tree.Cast span kind (expr_of operand.expr)) }
     {
         let Operand { expr, height } = operand;
         let operand = Box::new(alloc, expr)?;
@@ -171,7 +172,7 @@ impl Operand {
         span: Span,
         operand: Operand,
     ) -> Result<Operand, NoMemory>
-        ensures { IfOk result (λ o. expression_of o.expr ≡ Prefixed op span (expression_of operand.expr)) }
+        ensures { IfOk result (λ o. expr_of o.expr ≡ tree.Unary op span (expr_of operand.expr)) }
     {
         let Operand { expr, height } = operand;
         let operand = Box::new(alloc, expr)?;
@@ -188,7 +189,7 @@ impl Operand {
         left: Operand,
         right: Operand,
     ) -> Result<Operand, NoMemory>
-        ensures { IfOk result (λ o. expression_of o.expr ≡ Joined op span (expression_of left.expr) (expression_of right.expr)) }
+        ensures { IfOk result (λ o. expr_of o.expr ≡ tree.Binary op span (expr_of left.expr) (expr_of right.expr)) }
     {
         let height = raised(left.height.max(right.height));
         let left = Box::new(alloc, left.expr)?;
@@ -211,7 +212,7 @@ impl Operand {
         span: Span,
         value: Operand,
     ) -> Result<Operand, NoMemory>
-        ensures { IfOk result (λ o. expression_of o.expr ≡ Assigned name op span (expression_of value.expr)) }
+        ensures { IfOk result (λ o. expr_of o.expr ≡ tree.Assign name op span (expr_of value.expr)) }
     {
         let height = raised(value.height.max(1));
         let value = Box::new(alloc, value.expr)?;

@@ -4,19 +4,19 @@ ghost use Rattle.std.specs.Prelude.{◌≡◌, [], ◌∷◌, Some, None, Ok, ma
 ghost use Rattle.lsl_value.specs.declared.tagged.Kind.{Kind};
 ghost use Rattle.lsl_tree.specs.declared.script.Atom.{Atom};
 ghost use Rattle.lsl_tree.specs.declared.script.Param.{Param};
-ghost use Rattle.lsl_tree.specs.Scripts.{initial_of, heading_of, handling_of, standing_of, script_of};
+ghost use Rattle.lsl_tree.specs.Scripts.{simple_of, header_of, handler_of, state_of, tree_of};
 ghost use Rattle.lsl_parse.specs.declared.limits.TheConstants.{HEIGHT};
 ghost use Rattle.lsl_parse.specs.declared.kind.TokenKind.TheVariants.{Name, StateWord};
 ghost use Rattle.lsl_parse.specs.Kinds.{name_of};
 ghost use Rattle.lsl_parse.specs.ScriptGrammar.{added};
 ghost use Rattle.lsl_parse.specs.ExpressionReading.{series_r, listing_r};
-ghost use Rattle.lsl_parse.specs.StatementReading.{home_r};
-ghost use Rattle.lsl_parse.specs.ScriptReading.{atom_r, initial_r, param_r, params_r, global_behind_r, function_behind_r, heading_r, handler_r, handlers_r, standing_r, many_r, heading_heads, script_r};
-ghost use Rattle.lsl_parse.specs.Gives.{Gives};
+ghost use Rattle.lsl_parse.specs.StatementReading.{stmt_room_r};
+ghost use Rattle.lsl_parse.specs.ScriptReading.{atom_r, initial_r, param_r, params_r, global_behind_r, function_behind_r, header_r, handler_r, handlers_r, state_r, many_r, header_heads, script_r};
+ghost use Rattle.lsl_parse.specs.Parses.{Parses};
 
 use crate::kind::TokenKind;
 use crate::names;
-use crate::signs::{HEADING_HEADS, TYPES, type_kind};
+use crate::signs::{HEADER_HEADS, TYPES, type_kind};
 use crate::statement::block;
 use crate::steps::{any, next_among, next_is, sign, take};
 use crate::stop::Found;
@@ -28,7 +28,7 @@ use std::alloc::Global as Memory;
 
 /// A part of a global's initial value.
 fn atom(alloc: Memory, tokens: &[Token]) -> Found<'_, Atom>
-    ensures { Gives (λ x. (x.0, x.1.now)) result (atom_r tokens.now) }
+    ensures { Parses (λ x. (x.0, x.1.now)) result (atom_r tokens.now) }
 {
     if next_is(tokens, TokenKind::Minus) {
         let (minus, rest) = sign(tokens, TokenKind::Minus)?;
@@ -55,7 +55,7 @@ fn atom(alloc: Memory, tokens: &[Token]) -> Found<'_, Atom>
 
 /// Parts between commas.
 fn atom_series(alloc: Memory, tokens: &[Token]) -> Found<'_, Vec<Atom>>
-    ensures { Gives (λ x. (x.0.items, x.1.now)) result (series_r added [] atom_r tokens.now) }
+    ensures { Parses (λ x. (x.0.items, x.1.now)) result (series_r added [] atom_r tokens.now) }
 {
     let (first, mut rest) = atom(alloc, tokens)?;
     let mut all = Vec::new(alloc);
@@ -71,7 +71,7 @@ fn atom_series(alloc: Memory, tokens: &[Token]) -> Found<'_, Vec<Atom>>
 
 /// Parts, if any, and the closing bracket.
 fn atoms(alloc: Memory, tokens: &[Token]) -> Found<'_, Vec<Atom>>
-    ensures { Gives (λ x. (x.0.items, x.1.now)) result (listing_r TokenKind.BracketClose added [] atom_r tokens.now) }
+    ensures { Parses (λ x. (x.0.items, x.1.now)) result (listing_r TokenKind.BracketClose added [] atom_r tokens.now) }
 {
     if next_is(tokens, TokenKind::BracketClose) {
         let (_, rest) = sign(tokens, TokenKind::BracketClose)?;
@@ -85,7 +85,7 @@ fn atoms(alloc: Memory, tokens: &[Token]) -> Found<'_, Vec<Atom>>
 
 /// A global's initial value.
 fn initial(alloc: Memory, tokens: &[Token]) -> Found<'_, Simple>
-    ensures { Gives (λ x. (initial_of x.0, x.1.now)) result (initial_r tokens.now) }
+    ensures { Parses (λ x. (simple_of x.0, x.1.now)) result (initial_r tokens.now) }
 {
     if next_is(tokens, TokenKind::BracketOpen) {
         let (start, rest) = sign(tokens, TokenKind::BracketOpen)?;
@@ -99,7 +99,7 @@ fn initial(alloc: Memory, tokens: &[Token]) -> Found<'_, Simple>
 }
 
 fn param(alloc: Memory, tokens: &[Token]) -> Found<'_, Param>
-    ensures { Gives (λ x. (x.0, x.1.now)) result (param_r tokens.now) }
+    ensures { Parses (λ x. (x.0, x.1.now)) result (param_r tokens.now) }
 {
     let (kind, rest) = any(tokens, &TYPES)?;
     let (name, rest) = sign(rest, TokenKind::Name)?;
@@ -110,7 +110,7 @@ fn param(alloc: Memory, tokens: &[Token]) -> Found<'_, Param>
 
 /// Parameters between commas.
 fn param_series(alloc: Memory, tokens: &[Token]) -> Found<'_, Vec<Param>>
-    ensures { Gives (λ x. (x.0.items, x.1.now)) result (series_r added [] param_r tokens.now) }
+    ensures { Parses (λ x. (x.0.items, x.1.now)) result (series_r added [] param_r tokens.now) }
 {
     let (first, mut rest) = param(alloc, tokens)?;
     let mut all = Vec::new(alloc);
@@ -126,7 +126,7 @@ fn param_series(alloc: Memory, tokens: &[Token]) -> Found<'_, Vec<Param>>
 
 /// Parameters in parentheses.
 fn params(alloc: Memory, tokens: &[Token]) -> Found<'_, Vec<Param>>
-    ensures { Gives (λ x. (x.0.items, x.1.now)) result (params_r tokens.now) }
+    ensures { Parses (λ x. (x.0.items, x.1.now)) result (params_r tokens.now) }
 {
     let (_, rest) = sign(tokens, TokenKind::ParenOpen)?;
     if next_is(rest, TokenKind::ParenClose) {
@@ -146,7 +146,7 @@ fn global_behind<'a>(
     token: &'a Token,
     tokens: &'a [Token],
 ) -> Found<'a, Header>
-    ensures { Gives (λ x. (heading_of x.0, x.1.now)) result (global_behind_r kind (name_of token.now) tokens.now) }
+    ensures { Parses (λ x. (header_of x.0, x.1.now)) result (global_behind_r kind (name_of token.now) tokens.now) }
 {
     if next_is(tokens, TokenKind::Assign) {
         let (_, rest) = sign(tokens, TokenKind::Assign)?;
@@ -173,7 +173,7 @@ fn function_behind<'a>(
     token: &'a Token,
     tokens: &'a [Token],
 ) -> Found<'a, Header>
-    ensures { Gives (λ x. (heading_of x.0, x.1.now)) result (function_behind_r (home_r (Some HEIGHT) room) kind (name_of token.now) tokens.now) }
+    ensures { Parses (λ x. (header_of x.0, x.1.now)) result (function_behind_r (stmt_room_r (Some HEIGHT) room) kind (name_of token.now) tokens.now) }
 {
     let (params, rest) = params(alloc, tokens)?;
     let (body, rest) = block(alloc, room, rest)?;
@@ -188,8 +188,8 @@ fn function_behind<'a>(
 }
 
 /// A global or a function.
-fn heading(alloc: Memory, room: u32, tokens: &[Token]) -> Found<'_, Header>
-    ensures { Gives (λ x. (heading_of x.0, x.1.now)) result (heading_r (home_r (Some HEIGHT) room) tokens.now) }
+fn header(alloc: Memory, room: u32, tokens: &[Token]) -> Found<'_, Header>
+    ensures { Parses (λ x. (header_of x.0, x.1.now)) result (header_r (stmt_room_r (Some HEIGHT) room) tokens.now) }
 {
     if next_among(tokens, &TYPES) {
         let (kind, rest) = any(tokens, &TYPES)?;
@@ -207,13 +207,13 @@ fn heading(alloc: Memory, room: u32, tokens: &[Token]) -> Found<'_, Header>
 }
 
 /// Globals and functions, as many as stand here.
-fn headings(alloc: Memory, room: u32, tokens: &[Token]) -> Found<'_, Vec<Header>>
-    ensures { Gives (λ x. (map heading_of x.0.items, x.1.now)) result (many_r heading_heads (heading_r (home_r (Some HEIGHT) room)) [] tokens.now) }
+fn headers(alloc: Memory, room: u32, tokens: &[Token]) -> Found<'_, Vec<Header>>
+    ensures { Parses (λ x. (map header_of x.0.items, x.1.now)) result (many_r header_heads (header_r (stmt_room_r (Some HEIGHT) room)) [] tokens.now) }
 {
     let mut all = Vec::new(alloc);
     let mut rest = tokens;
-    'all: while next_among(rest, &HEADING_HEADS) {
-        let (next, after) = heading(alloc, room, rest)?;
+    'all: while next_among(rest, &HEADER_HEADS) {
+        let (next, after) = header(alloc, room, rest)?;
         all.push(next)?;
         rest = after;
     }
@@ -221,7 +221,7 @@ fn headings(alloc: Memory, room: u32, tokens: &[Token]) -> Found<'_, Vec<Header>
 }
 
 fn handler(alloc: Memory, room: u32, tokens: &[Token]) -> Found<'_, Handler>
-    ensures { Gives (λ x. (handling_of x.0, x.1.now)) result (handler_r (home_r (Some HEIGHT) room) tokens.now) }
+    ensures { Parses (λ x. (handler_of x.0, x.1.now)) result (handler_r (stmt_room_r (Some HEIGHT) room) tokens.now) }
 {
     let (token, rest) = sign(tokens, TokenKind::Name)?;
     let (params, rest) = params(alloc, rest)?;
@@ -237,7 +237,7 @@ fn more_handlers(
     first: Handler,
     tokens: &[Token],
 ) -> Found<'_, Vec<Handler>>
-    ensures { Gives (λ x. (map handling_of x.0.items, x.1.now)) result (many_r (Name ∷ []) (handler_r (home_r (Some HEIGHT) room)) (handling_of first ∷ []) tokens.now) }
+    ensures { Parses (λ x. (map handler_of x.0.items, x.1.now)) result (many_r (Name ∷ []) (handler_r (stmt_room_r (Some HEIGHT) room)) (handler_of first ∷ []) tokens.now) }
 {
     let mut all = Vec::new(alloc);
     all.push(first)?;
@@ -252,7 +252,7 @@ fn more_handlers(
 
 /// The handlers of a state, in its braces.
 fn handlers(alloc: Memory, room: u32, tokens: &[Token]) -> Found<'_, Vec<Handler>>
-    ensures { Gives (λ x. (map handling_of x.0.items, x.1.now)) result (handlers_r (home_r (Some HEIGHT) room) tokens.now) }
+    ensures { Parses (λ x. (map handler_of x.0.items, x.1.now)) result (handlers_r (stmt_room_r (Some HEIGHT) room) tokens.now) }
 {
     let (_, rest) = sign(tokens, TokenKind::BraceOpen)?;
     let (first, rest) = handler(alloc, room, rest)?;
@@ -263,7 +263,7 @@ fn handlers(alloc: Memory, room: u32, tokens: &[Token]) -> Found<'_, Vec<Handler
 
 /// A state other than `default`.
 fn state(alloc: Memory, room: u32, tokens: &[Token]) -> Found<'_, State>
-    ensures { Gives (λ x. (standing_of x.0, x.1.now)) result (standing_r (home_r (Some HEIGHT) room) tokens.now) }
+    ensures { Parses (λ x. (state_of x.0, x.1.now)) result (state_r (stmt_room_r (Some HEIGHT) room) tokens.now) }
 {
     let (_, rest) = sign(tokens, TokenKind::StateWord)?;
     let (token, rest) = sign(rest, TokenKind::Name)?;
@@ -274,7 +274,7 @@ fn state(alloc: Memory, room: u32, tokens: &[Token]) -> Found<'_, State>
 
 /// States, as many as stand here.
 fn states(alloc: Memory, room: u32, tokens: &[Token]) -> Found<'_, Vec<State>>
-    ensures { Gives (λ x. (map standing_of x.0.items, x.1.now)) result (many_r (StateWord ∷ []) (standing_r (home_r (Some HEIGHT) room)) [] tokens.now) }
+    ensures { Parses (λ x. (map state_of x.0.items, x.1.now)) result (many_r (StateWord ∷ []) (state_r (stmt_room_r (Some HEIGHT) room)) [] tokens.now) }
 {
     let mut all = Vec::new(alloc);
     let mut rest = tokens;
@@ -288,9 +288,9 @@ fn states(alloc: Memory, room: u32, tokens: &[Token]) -> Found<'_, Vec<State>>
 
 /// A script, and what stands behind it.
 pub fn script(alloc: Memory, room: u32, tokens: &[Token]) -> Found<'_, Tree>
-    ensures { Gives (λ x. (script_of x.0, x.1.now)) result (script_r (Some HEIGHT) room tokens.now) }
+    ensures { Parses (λ x. (tree_of x.0, x.1.now)) result (script_r (Some HEIGHT) room tokens.now) }
 {
-    let (headers, rest) = headings(alloc, room, tokens)?;
+    let (headers, rest) = headers(alloc, room, tokens)?;
     let (_, rest) = sign(rest, TokenKind::DefaultWord)?;
     let (default, rest) = handlers(alloc, room, rest)?;
     let (states, rest) = states(alloc, room, rest)?;

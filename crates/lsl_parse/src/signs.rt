@@ -57,7 +57,7 @@ pub const STATEMENT_HEADS: [TokenKind; 19] = [
 ];
 
 /// The first tokens of a global or a function.
-pub const HEADING_HEADS: [TokenKind; 5] = [
+pub const HEADER_HEADS: [TokenKind; 5] = [
     TokenKind::IntegerWord,
     TokenKind::StringWord,
     TokenKind::KeyWord,

@@ -5,12 +5,12 @@
 ghost use Rattle.std.specs.Prelude.{◌≡◌, [], ◌∷◌, Some, Ok};
 ghost use Rattle.lsl_grammar.specs.Language.{among};
 ghost use Rattle.lsl_grammar.specs.Reading.{begins};
-ghost use Rattle.lsl_tree.specs.Statements.{statement_of, entry_of, entries_of};
+ghost use Rattle.lsl_tree.specs.Statements.{stmt_of, item_of, items_of};
 ghost use Rattle.lsl_parse.specs.declared.limits.TheConstants.{HEIGHT};
-ghost use Rattle.lsl_parse.specs.Kinds.{code, codes, number};
+ghost use Rattle.lsl_parse.specs.Kinds.{code, codes, token_code};
 ghost use Rattle.lsl_parse.specs.ExpressionReading.{expr_r};
-ghost use Rattle.lsl_parse.specs.StatementReading.{not_end, home_r, statement_r, entry_r, entries_r, block_r, body_r, braces_r, if_r, while_rule_r, do_r, for_r, jump_r, return_r, state_name_r, state_r, simple_r, declaration_r, label_r};
-ghost use Rattle.lsl_parse.specs.Gives.{Gives};
+ghost use Rattle.lsl_parse.specs.StatementReading.{not_end, stmt_room_r, statement_r, item_r, items_r, block_r, body_r, braces_r, if_r, while_rule_r, do_r, for_r, jump_r, return_r, state_name_r, state_rule_r, simple_r, declaration_r, label_r};
+ghost use Rattle.lsl_parse.specs.Parses.{Parses};
 
 use crate::expression::{value, values};
 use crate::kind::{TokenKind, kind_of, same_kind};
@@ -27,7 +27,7 @@ use std::alloc::Global;
 /// A statement.
 #[cycle(statement)]
 fn statement(alloc: Global, room: u32, tokens: &[Token]) -> Found<'_, Stmt>
-    ensures { Gives (λ x. (statement_of x.0, x.1.now)) result (statement_r (Some HEIGHT) room tokens.now) }
+    ensures { Parses (λ x. (stmt_of x.0, x.1.now)) result (statement_r (Some HEIGHT) room tokens.now) }
 {
     if next_is(tokens, TokenKind::BraceOpen) {
         braces(alloc, room, tokens)
@@ -52,7 +52,7 @@ fn statement(alloc: Global, room: u32, tokens: &[Token]) -> Found<'_, Stmt>
 
 #[cycle(statement)]
 fn braces(alloc: Global, room: u32, tokens: &[Token]) -> Found<'_, Stmt>
-    ensures { Gives (λ x. (statement_of x.0, x.1.now)) result (braces_r (home_r (Some HEIGHT) room) tokens.now) }
+    ensures { Parses (λ x. (stmt_of x.0, x.1.now)) result (braces_r (stmt_room_r (Some HEIGHT) room) tokens.now) }
 {
     let (items, rest) = block(alloc, room, tokens)?;
     Ok((Stmt::Block { items }, rest))
@@ -61,13 +61,13 @@ fn braces(alloc: Global, room: u32, tokens: &[Token]) -> Found<'_, Stmt>
 /// A block: what stands between its braces.
 #[cycle(statement)]
 pub fn block(alloc: Global, room: u32, tokens: &[Token]) -> Found<'_, Vec<Item>>
-    ensures { Gives (λ x. (entries_of x.0.items, x.1.now)) result (block_r (home_r (Some HEIGHT) room) tokens.now) }
+    ensures { Parses (λ x. (items_of x.0.items, x.1.now)) result (block_r (stmt_room_r (Some HEIGHT) room) tokens.now) }
 {
     if room == 0 {
         return Err(Refusal::Fault(shut(tokens, &[TokenKind::BraceOpen], Why::Unexpected)));
     }
     let (_, rest) = sign(tokens, TokenKind::BraceOpen)?;
-    let (all, rest) = entries(alloc, room - 1, rest)?;
+    let (all, rest) = items(alloc, room - 1, rest)?;
     let (_, rest) = sign(rest, TokenKind::BraceClose)?;
     Ok((all, rest))
 }
@@ -81,7 +81,7 @@ fn is_not_end(kind: TokenKind) -> bool
 
 /// Whether the block doesn't end here.
 fn block_goes_on(tokens: &[Token]) -> bool
-    ensures { result ≡ begins number (codes not_end) tokens.now }
+    ensures { result ≡ begins token_code (codes not_end) tokens.now }
 {
     match tokens {
         [first, ..] => is_not_end(kind_of(&first.sort)),
@@ -91,13 +91,13 @@ fn block_goes_on(tokens: &[Token]) -> bool
 
 /// What stands in a block up to its end.
 #[cycle(statement)]
-fn entries(alloc: Global, room: u32, tokens: &[Token]) -> Found<'_, Vec<Item>>
-    ensures { Gives (λ x. (entries_of x.0.items, x.1.now)) result (entries_r (entry_r (Some HEIGHT) room) tokens.now) }
+fn items(alloc: Global, room: u32, tokens: &[Token]) -> Found<'_, Vec<Item>>
+    ensures { Parses (λ x. (items_of x.0.items, x.1.now)) result (items_r (item_r (Some HEIGHT) room) tokens.now) }
 {
     let mut all = Vec::new(alloc);
     let mut rest = tokens;
     'all: while block_goes_on(rest) {
-        let (next, after) = entry(alloc, room, rest)?;
+        let (next, after) = item(alloc, room, rest)?;
         all.push(next)?;
         rest = after;
     }
@@ -106,8 +106,8 @@ fn entries(alloc: Global, room: u32, tokens: &[Token]) -> Found<'_, Vec<Item>>
 
 /// A declaration, a label or a statement.
 #[cycle(statement)]
-fn entry(alloc: Global, room: u32, tokens: &[Token]) -> Found<'_, Item>
-    ensures { Gives (λ x. (entry_of x.0, x.1.now)) result (entry_r (Some HEIGHT) room tokens.now) }
+fn item(alloc: Global, room: u32, tokens: &[Token]) -> Found<'_, Item>
+    ensures { Parses (λ x. (item_of x.0, x.1.now)) result (item_r (Some HEIGHT) room tokens.now) }
 {
     if next_among(tokens, &TYPES) {
         declaration(alloc, room, tokens)
@@ -120,7 +120,7 @@ fn entry(alloc: Global, room: u32, tokens: &[Token]) -> Found<'_, Item>
 }
 
 fn declaration(alloc: Global, room: u32, tokens: &[Token]) -> Found<'_, Item>
-    ensures { Gives (λ x. (entry_of x.0, x.1.now)) result (declaration_r (expr_r (Some HEIGHT) room) tokens.now) }
+    ensures { Parses (λ x. (item_of x.0, x.1.now)) result (declaration_r (expr_r (Some HEIGHT) room) tokens.now) }
 {
     let (kind, rest) = any(tokens, &TYPES)?;
     let (name, rest) = sign(rest, TokenKind::Name)?;
@@ -141,7 +141,7 @@ fn declaration(alloc: Global, room: u32, tokens: &[Token]) -> Found<'_, Item>
 }
 
 fn label(alloc: Global, tokens: &[Token]) -> Found<'_, Item>
-    ensures { Gives (λ x. (entry_of x.0, x.1.now)) result (label_r tokens.now) }
+    ensures { Parses (λ x. (item_of x.0, x.1.now)) result (label_r tokens.now) }
 {
     let (_, rest) = sign(tokens, TokenKind::At)?;
     let (name, rest) = sign(rest, TokenKind::Name)?;
@@ -153,7 +153,7 @@ fn label(alloc: Global, tokens: &[Token]) -> Found<'_, Item>
 /// The body of an `if`, `else`, `while`, `do` or `for`.
 #[cycle(statement)]
 fn body(alloc: Global, room: u32, tokens: &[Token]) -> Found<'_, Stmt>
-    ensures { Gives (λ x. (statement_of x.0, x.1.now)) result (body_r (home_r (Some HEIGHT) room) tokens.now) }
+    ensures { Parses (λ x. (stmt_of x.0, x.1.now)) result (body_r (stmt_room_r (Some HEIGHT) room) tokens.now) }
 {
     if room == 0 {
         return Err(Refusal::Fault(shut(tokens, &STATEMENT_HEADS, Why::OperandDue)));
@@ -163,7 +163,7 @@ fn body(alloc: Global, room: u32, tokens: &[Token]) -> Found<'_, Stmt>
 
 #[cycle(statement)]
 fn if_statement(alloc: Global, room: u32, tokens: &[Token]) -> Found<'_, Stmt>
-    ensures { Gives (λ x. (statement_of x.0, x.1.now)) result (if_r (expr_r (Some HEIGHT) room) (home_r (Some HEIGHT) room) tokens.now) }
+    ensures { Parses (λ x. (stmt_of x.0, x.1.now)) result (if_r (expr_r (Some HEIGHT) room) (stmt_room_r (Some HEIGHT) room) tokens.now) }
 {
     let (start, rest) = sign(tokens, TokenKind::IfWord)?;
     let (_, rest) = sign(rest, TokenKind::ParenOpen)?;
@@ -192,7 +192,7 @@ fn if_statement(alloc: Global, room: u32, tokens: &[Token]) -> Found<'_, Stmt>
 
 #[cycle(statement)]
 fn while_statement(alloc: Global, room: u32, tokens: &[Token]) -> Found<'_, Stmt>
-    ensures { Gives (λ x. (statement_of x.0, x.1.now)) result (while_rule_r (expr_r (Some HEIGHT) room) (home_r (Some HEIGHT) room) tokens.now) }
+    ensures { Parses (λ x. (stmt_of x.0, x.1.now)) result (while_rule_r (expr_r (Some HEIGHT) room) (stmt_room_r (Some HEIGHT) room) tokens.now) }
 {
     let (start, rest) = sign(tokens, TokenKind::WhileWord)?;
     let (_, rest) = sign(rest, TokenKind::ParenOpen)?;
@@ -206,7 +206,7 @@ fn while_statement(alloc: Global, room: u32, tokens: &[Token]) -> Found<'_, Stmt
 
 #[cycle(statement)]
 fn do_statement(alloc: Global, room: u32, tokens: &[Token]) -> Found<'_, Stmt>
-    ensures { Gives (λ x. (statement_of x.0, x.1.now)) result (do_r (expr_r (Some HEIGHT) room) (home_r (Some HEIGHT) room) tokens.now) }
+    ensures { Parses (λ x. (stmt_of x.0, x.1.now)) result (do_r (expr_r (Some HEIGHT) room) (stmt_room_r (Some HEIGHT) room) tokens.now) }
 {
     let (start, rest) = sign(tokens, TokenKind::DoWord)?;
     let (inner, rest) = body(alloc, room, rest)?;
@@ -222,7 +222,7 @@ fn do_statement(alloc: Global, room: u32, tokens: &[Token]) -> Found<'_, Stmt>
 
 #[cycle(statement)]
 fn for_statement(alloc: Global, room: u32, tokens: &[Token]) -> Found<'_, Stmt>
-    ensures { Gives (λ x. (statement_of x.0, x.1.now)) result (for_r (expr_r (Some HEIGHT) room) (home_r (Some HEIGHT) room) tokens.now) }
+    ensures { Parses (λ x. (stmt_of x.0, x.1.now)) result (for_r (expr_r (Some HEIGHT) room) (stmt_room_r (Some HEIGHT) room) tokens.now) }
 {
     let (word, rest) = sign(tokens, TokenKind::ForWord)?;
     let (_, rest) = sign(rest, TokenKind::ParenOpen)?;
@@ -246,7 +246,7 @@ fn for_statement(alloc: Global, room: u32, tokens: &[Token]) -> Found<'_, Stmt>
 }
 
 fn jump(alloc: Global, tokens: &[Token]) -> Found<'_, Stmt>
-    ensures { Gives (λ x. (statement_of x.0, x.1.now)) result (jump_r tokens.now) }
+    ensures { Parses (λ x. (stmt_of x.0, x.1.now)) result (jump_r tokens.now) }
 {
     let (start, rest) = sign(tokens, TokenKind::JumpWord)?;
     let (name, rest) = sign(rest, TokenKind::Name)?;
@@ -257,7 +257,7 @@ fn jump(alloc: Global, tokens: &[Token]) -> Found<'_, Stmt>
 }
 
 fn return_statement(alloc: Global, room: u32, tokens: &[Token]) -> Found<'_, Stmt>
-    ensures { Gives (λ x. (statement_of x.0, x.1.now)) result (return_r (expr_r (Some HEIGHT) room) tokens.now) }
+    ensures { Parses (λ x. (stmt_of x.0, x.1.now)) result (return_r (expr_r (Some HEIGHT) room) tokens.now) }
 {
     let (start, rest) = sign(tokens, TokenKind::ReturnWord)?;
     let span = start.span;
@@ -275,7 +275,7 @@ fn return_statement(alloc: Global, room: u32, tokens: &[Token]) -> Found<'_, Stm
 
 /// The state that a script goes to.
 fn state_name(alloc: Global, tokens: &[Token]) -> Found<'_, StateName>
-    ensures { Gives (λ x. (x.0, x.1.now)) result (state_name_r tokens.now) }
+    ensures { Parses (λ x. (x.0, x.1.now)) result (state_name_r tokens.now) }
 {
     if next_is(tokens, TokenKind::Name) {
         let (name, rest) = sign(tokens, TokenKind::Name)?;
@@ -288,7 +288,7 @@ fn state_name(alloc: Global, tokens: &[Token]) -> Found<'_, StateName>
 }
 
 fn state_change(alloc: Global, tokens: &[Token]) -> Found<'_, Stmt>
-    ensures { Gives (λ x. (statement_of x.0, x.1.now)) result (state_r tokens.now) }
+    ensures { Parses (λ x. (stmt_of x.0, x.1.now)) result (state_rule_r tokens.now) }
 {
     let (start, rest) = sign(tokens, TokenKind::StateWord)?;
     let (state, rest) = state_name(alloc, rest)?;
@@ -299,7 +299,7 @@ fn state_change(alloc: Global, tokens: &[Token]) -> Found<'_, Stmt>
 
 /// An expression, if any, and `;`.
 fn simple(alloc: Global, room: u32, tokens: &[Token]) -> Found<'_, Stmt>
-    ensures { Gives (λ x. (statement_of x.0, x.1.now)) result (simple_r (expr_r (Some HEIGHT) room) tokens.now) }
+    ensures { Parses (λ x. (stmt_of x.0, x.1.now)) result (simple_r (expr_r (Some HEIGHT) room) tokens.now) }
 {
     if next_is(tokens, TokenKind::Semicolon) {
         let (_, rest) = sign(tokens, TokenKind::Semicolon)?;

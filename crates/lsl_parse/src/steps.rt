@@ -3,9 +3,9 @@
 ghost use Rattle.std.specs.Prelude.{◌≡◌, [], ◌∷◌};
 ghost use Rattle.lsl_grammar.specs.Language.{among};
 ghost use Rattle.lsl_grammar.specs.Reading.{begins, one_r, deep_stop};
-ghost use Rattle.lsl_parse.specs.Kinds.{code, codes, number};
+ghost use Rattle.lsl_parse.specs.Kinds.{code, codes, token_code};
 ghost use Rattle.lsl_parse.specs.ExpressionReading.{sign_r, any_r};
-ghost use Rattle.lsl_parse.specs.Gives.{Gives};
+ghost use Rattle.lsl_parse.specs.Parses.{Parses};
 
 use crate::kind::{TokenKind, kind_of, same_kind};
 use crate::stop::{Found, Stop};
@@ -25,7 +25,7 @@ fn is_among(kind: TokenKind, kinds: &[TokenKind]) -> bool
 
 /// Whether the next token is of one of these kinds.
 pub fn next_among(tokens: &[Token], kinds: &[TokenKind]) -> bool
-    ensures { result ≡ begins number (codes kinds.now) tokens.now }
+    ensures { result ≡ begins token_code (codes kinds.now) tokens.now }
 {
     match tokens {
         [first, ..] => is_among(kind_of(&first.sort), kinds),
@@ -35,7 +35,7 @@ pub fn next_among(tokens: &[Token], kinds: &[TokenKind]) -> bool
 
 /// Whether the next token is of this kind.
 pub fn next_is(tokens: &[Token], kind: TokenKind) -> bool
-    ensures { result ≡ begins number (codes (kind ∷ [])) tokens.now }
+    ensures { result ≡ begins token_code (codes (kind ∷ [])) tokens.now }
 {
     match tokens {
         [first, ..] => same_kind(kind_of(&first.sort), kind),
@@ -45,7 +45,7 @@ pub fn next_is(tokens: &[Token], kind: TokenKind) -> bool
 
 /// The next token, which must be of one of these kinds.
 pub fn take<'a>(tokens: &'a [Token], kinds: &[TokenKind], why: Why) -> Found<'a, &'a Token>
-    ensures { Gives (λ x. (x.0.now, x.1.now)) result (one_r number why (codes kinds.now) tokens.now) }
+    ensures { Parses (λ x. (x.0.now, x.1.now)) result (one_r token_code why (codes kinds.now) tokens.now) }
 {
     match tokens {
         [first, rest @ ..] if is_among(kind_of(&first.sort), kinds) => Ok((first, rest)),
@@ -55,21 +55,21 @@ pub fn take<'a>(tokens: &'a [Token], kinds: &[TokenKind], why: Why) -> Found<'a,
 
 /// The next token, which must be of one of these kinds, and where an operand isn't due.
 pub fn any<'a>(tokens: &'a [Token], kinds: &[TokenKind]) -> Found<'a, &'a Token>
-    ensures { Gives (λ x. (x.0.now, x.1.now)) result (any_r kinds.now tokens.now) }
+    ensures { Parses (λ x. (x.0.now, x.1.now)) result (any_r kinds.now tokens.now) }
 {
     take(tokens, kinds, Why::Unexpected)
 }
 
 /// The next token, which must be of this kind.
 pub fn sign(tokens: &[Token], kind: TokenKind) -> Found<'_, &Token>
-    ensures { Gives (λ x. (x.0.now, x.1.now)) result (sign_r kind tokens.now) }
+    ensures { Parses (λ x. (x.0.now, x.1.now)) result (sign_r kind tokens.now) }
 {
     any(tokens, &[kind])
 }
 
 /// What begins with these kinds would be too deep here; where none of them stands, that is why.
 pub fn shut<'a>(tokens: &'a [Token], kinds: &[TokenKind], why: Why) -> Stop<'a>
-    ensures { (result.why, result.rest.now) ≡ deep_stop number why (codes kinds.now) tokens.now }
+    ensures { (result.why, result.rest.now) ≡ deep_stop token_code why (codes kinds.now) tokens.now }
 {
     let why = if next_among(tokens, kinds) {
         Why::TooDeep

@@ -3,9 +3,9 @@ use Rattle.std.proofs.Common.{◌<◌, zero, suc, take, drop, Option, Some, None
 use Rattle.std.specs.Str.{encode_utf8_all}
 use Rattle.std.proofs.lemmas.List.{map-append}
 use Rattle.lsl_tree.specs.declared.expression.Expr.{Expr}
-use Rattle.lsl_tree.specs.Expressions.{Expressions, No_expression, And, expression_of, expressions_of, expressions_behind}
+use Rattle.lsl_tree.specs.Expressions.{Exprs, NoExpr, AndExpr, expr_of, exprs_of, exprs_behind}
 use Rattle.lsl_tree.specs.declared.statement.Item.{Item}
-use Rattle.lsl_tree.specs.Statements.{Entries, No_entry, Then, entry_of, entries_of, entries_behind}
+use Rattle.lsl_tree.specs.Statements.{Items, NoItem, AndItem, item_of, items_of, items_behind}
 use Rattle.lsl_top.specs.Form.{utf8_of, IsLiteralOf, IsSaying, AreSayings, AreLiterals, Says}
 
 -- a fact of a value, where there is one, leads to another
@@ -17,9 +17,9 @@ AreLiterals-push : (texts : List (List ℕ)) (text : List ℕ) → AreLiterals t
 AreLiterals-push [] text all short = (short, tt)
 AreLiterals-push (first ∷ texts) text all short = (all.0, AreLiterals-push texts text all.1 short)
 
-literals_of_sayings : (body : Entries) (texts : List (List ℕ)) → AreSayings body texts → AreLiterals (utf8_of texts)
-literals_of_sayings No_entry texts none = subst (λ z. AreLiterals (utf8_of z)) (sym none) tt
-literals_of_sayings (Then entries entry) texts said =
+literals_of_sayings : (body : Items) (texts : List (List ℕ)) → AreSayings body texts → AreLiterals (utf8_of texts)
+literals_of_sayings NoItem texts none = subst (λ z. AreLiterals (utf8_of z)) (sym none) tt
+literals_of_sayings (AndItem entries entry) texts said =
     let before = literals_of_sayings entries said.0 said.2 in
     let all : AreLiterals (utf8_of said.0 ++ encode_utf8_all said.1 ∷ []) = AreLiterals-push (utf8_of said.0) (encode_utf8_all said.1) before said.3.literal.short in
     subst (λ z. AreLiterals (utf8_of z)) (sym said.4) (subst AreLiterals (sym (map-append encode_utf8_all said.0 (said.1 ∷ []))) all)
@@ -28,42 +28,42 @@ literals_of_sayings (Then entries entry) texts said =
 pub AreLiterals-from_says : (file : List ℕ) (texts : List (List ℕ)) → Says file texts → AreLiterals texts
 AreLiterals-from_says file texts says = subst AreLiterals (sym says.bytes) (literals_of_sayings says.form.body says.said says.form.sayings)
 
-count : Expressions → ℕ
-count No_expression = 0
-count (And before last) = count before + 1
+count : Exprs → ℕ
+count NoExpr = 0
+count (AndExpr before last) = count before + 1
 
-count-expressions_behind : (all : List Expr) (front : Expressions) → count (expressions_behind all front) ≡ length all + count front
+count-expressions_behind : (all : List Expr) (front : Exprs) → count (exprs_behind all front) ≡ length all + count front
 unfolding count
 count-expressions_behind [] front = sym (zero-add (count front))
-count-expressions_behind (first ∷ all) front = count-expressions_behind all (And front (expression_of first)) ∙ omega arith
+count-expressions_behind (first ∷ all) front = count-expressions_behind all (AndExpr front (expr_of first)) ∙ omega arith
 
 -- arguments that are one literal are one
-pub length-literal : (arguments : List Expr) (text : List ℕ) → IsLiteralOf (expressions_of arguments) text → length arguments ≡ 1
+pub length-literal : (arguments : List Expr) (text : List ℕ) → IsLiteralOf (exprs_of arguments) text → length arguments ≡ 1
 unfolding count
-length-literal arguments text literal = omega (arith, sym (count-expressions_behind arguments No_expression) ∙ ap count literal.quoted)
+length-literal arguments text literal = omega (arith, sym (count-expressions_behind arguments NoExpr) ∙ ap count literal.quoted)
 
 -- one argument
-pub expressions_of-one : (arguments : List Expr) (one : Expr) → length arguments ≡ 1 → one ≡ get_or arguments 0 one → expressions_of arguments ≡ And No_expression (expression_of one)
-expressions_of-one [] one many is = absurd (omega arith)
-expressions_of-one (first ∷ []) one many is = ap (λ (e : Expr). And No_expression (expression_of e)) (sym is)
-expressions_of-one (first ∷ second ∷ rest) one many is = absurd (omega arith)
+pub exprs_of-one : (arguments : List Expr) (one : Expr) → length arguments ≡ 1 → one ≡ get_or arguments 0 one → exprs_of arguments ≡ AndExpr NoExpr (expr_of one)
+exprs_of-one [] one many is = absurd (omega arith)
+exprs_of-one (first ∷ []) one many is = ap (λ (e : Expr). AndExpr NoExpr (expr_of e)) (sym is)
+exprs_of-one (first ∷ second ∷ rest) one many is = absurd (omega arith)
 
-behind-append : (before : List Item) (item : Item) (rest : List Item) (front : Entries) → entries_behind (before ++ item ∷ rest) front ≡ entries_behind rest (Then (entries_behind before front) (entry_of item))
+behind-append : (before : List Item) (item : Item) (rest : List Item) (front : Items) → items_behind (before ++ item ∷ rest) front ≡ items_behind rest (AndItem (items_behind before front) (item_of item))
 behind-append [] item rest front = refl
-behind-append (first ∷ before) item rest front = behind-append before item rest (Then front (entry_of first))
+behind-append (first ∷ before) item rest front = behind-append before item rest (AndItem front (item_of first))
 
 -- what is said behind these statements was said by them too
-pub sayings_front : (rest : List Item) (front : Entries) (texts : List (List ℕ)) → AreSayings (entries_behind rest front) texts → (before : List (List ℕ)) × AreSayings front before
+pub sayings_front : (rest : List Item) (front : Items) (texts : List (List ℕ)) → AreSayings (items_behind rest front) texts → (before : List (List ℕ)) × AreSayings front before
 sayings_front [] front texts said = (texts, said)
 sayings_front (item ∷ rest) front texts said =
-    let inner = sayings_front rest (Then front (entry_of item)) texts said in
+    let inner = sayings_front rest (AndItem front (item_of item)) texts said in
     (inner.1.0, inner.1.2)
 
 -- statements one of which says nothing say nothing
-pub no_sayings : (before rest : List Item) (item : Item) (all : List Item) → all ≡ before ++ item ∷ rest → ((text : List ℕ) → IsSaying (entry_of item) text → ⊥) → (texts : List (List ℕ)) → AreSayings (entries_of all) texts → ⊥
+pub no_sayings : (before rest : List Item) (item : Item) (all : List Item) → all ≡ before ++ item ∷ rest → ((text : List ℕ) → IsSaying (item_of item) text → ⊥) → (texts : List (List ℕ)) → AreSayings (items_of all) texts → ⊥
 no_sayings before rest item all split silent texts said =
-    let in_two : entries_of all ≡ entries_behind rest (Then (entries_of before) (entry_of item)) = ap entries_of split ∙ behind-append before item rest No_entry in
-    let inner = sayings_front rest (Then (entries_of before) (entry_of item)) texts (subst (λ (e : Entries). AreSayings e texts) in_two said) in
+    let in_two : items_of all ≡ items_behind rest (AndItem (items_of before) (item_of item)) = ap items_of split ∙ behind-append before item rest NoItem in
+    let inner = sayings_front rest (AndItem (items_of before) (item_of item)) texts (subst (λ (e : Items). AreSayings e texts) in_two said) in
     silent inner.1.1 inner.1.3
 
 -- a list at one of its elements
@@ -78,7 +78,7 @@ take_one (y ∷ ys) zero x within is = ap (λ z. z ∷ []) (sym is)
 take_one (y ∷ ys) (suc i) x within is = ap (λ z. y ∷ z) (take_one ys i x (omega arith) is)
 
 -- one more statement, and what it says
-pub sayings_more : (body : List Item) (i : ℕ) (item : Item) (before texts : List (List ℕ)) (text : List ℕ) → i < length body → item ≡ get_or body i item → AreSayings (entries_of (take i body)) before → IsSaying (entry_of item) text → texts ≡ before ++ text ∷ [] → AreSayings (entries_of (take (suc i) body)) texts
+pub sayings_more : (body : List Item) (i : ℕ) (item : Item) (before texts : List (List ℕ)) (text : List ℕ) → i < length body → item ≡ get_or body i item → AreSayings (items_of (take i body)) before → IsSaying (item_of item) text → texts ≡ before ++ text ∷ [] → AreSayings (items_of (take (suc i) body)) texts
 sayings_more body i item before texts text within is said saying all =
-    let more : entries_of (take (suc i) body) ≡ Then (entries_of (take i body)) (entry_of item) = ap entries_of (take_one body i item within is) ∙ behind-append (take i body) item [] No_entry in
-    subst (λ (e : Entries). AreSayings e texts) (sym more) (before, text, said, saying, all)
+    let more : items_of (take (suc i) body) ≡ AndItem (items_of (take i body)) (item_of item) = ap items_of (take_one body i item within is) ∙ behind-append (take i body) item [] NoItem in
+    subst (λ (e : Items). AreSayings e texts) (sym more) (before, text, said, saying, all)

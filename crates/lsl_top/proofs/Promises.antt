@@ -11,8 +11,8 @@ use Rattle.lsl_lex.specs.declared.faults.LexKind.TheVariants.{NotText, StringEnd
 use Rattle.lsl_top.specs.declared.build_fault.BuildFault.{BuildFault}
 use Rattle.lsl_top.specs.declared.status.Status.{Status}
 use Rattle.lsl_top.specs.declared.status.Status.TheVariants.{Ok, Usage, BadWorld, BadScript, ReadFault, WriteFault, BadImage, NoMemory}
-use Rattle.lsl_tree.specs.Scripts.{Script}
-use Rattle.lsl_tree.specs.Program.{Checked}
+use Rattle.lsl_tree.specs.Scripts.{Tree}
+use Rattle.lsl_tree.specs.Program.{Program}
 use Rattle.lsl_top.specs.Accepted.{IsAccepted}
 use Rattle.lsl_top.specs.Answer.{IsReport, IsFault, IsRefusal, Wrote}
 use Rattle.lsl_top.specs.Faults.{FirstFault}
@@ -30,7 +30,7 @@ head_short file short = take_all 65537 file (omega arith)
 head_long : (file : List ℕ) → 65536 < length file → 65536 < length (head_of 65536 file)
 head_long file long = omega (arith, length-take 65537 file)
 
-accepted_whole : (file : List ℕ) (script : Script) (program : Checked) → IsAccepted (head_of 65536 file) script program → head_of 65536 file ≡ file
+accepted_whole : (file : List ℕ) (script : Tree) (program : Program) → IsAccepted (head_of 65536 file) script program → head_of 65536 file ≡ file
 accepted_whole file script program accepted = head_whole file accepted.lexed.source.short
 
 report_whole : (command : Command) (file lines : List ℕ) → IsReport command (head_of 65536 file) lines → head_of 65536 file ≡ file

@@ -1,8 +1,8 @@
 -- The report of a run of an accepted script.
 use Rattle.std.proofs.Common.{◌≡◌, ℕ, List, refl, sym, subst}
 use Rattle.std.specs.Prelude.{Result, Ok, Err, IfOk}
-use Rattle.lsl_tree.specs.Scripts.{Script}
-use Rattle.lsl_tree.specs.Program.{Checked}
+use Rattle.lsl_tree.specs.Scripts.{Tree}
+use Rattle.lsl_tree.specs.Program.{Program}
 use Rattle.lsl_top.specs.Accepted.{IsAccepted}
 use Rattle.lsl_top.specs.Answer.{IsReport}
 use Rattle.lsl_top.specs.Form.{IsForm, Says, utf8_of}
@@ -10,7 +10,7 @@ use Rattle.lsl_top.specs.Journal.{report_of}
 use Rattle.lsl_top.specs.Words.{Command, Once}
 
 -- what a run of a script reports is the report of the command that asked for it
-pub IsReport-run : {A E : Type 0} (r : Result A E) (bytes : A → List ℕ) (command : Command) (name file : List ℕ) (script : Script) (program : Checked)
+pub IsReport-run : {A E : Type 0} (r : Result A E) (bytes : A → List ℕ) (command : Command) (name file : List ℕ) (script : Tree) (program : Program)
     → command ≡ Once name → IsAccepted file script program
     → IfOk r (λ lines. (said : List (List ℕ)) × IsForm script said × (bytes lines ≡ report_of (utf8_of said)))
     → IfOk r (λ lines. IsReport command file (bytes lines))

@@ -2,18 +2,18 @@
 use Rattle.std.specs.Prelude.{ℕ, List}
 use Rattle.lsl_lex.specs.Lexed.{Lexes}
 use Rattle.lsl_lex.specs.declared.token_types.Tokens.{Tokens}
-use Rattle.lsl_tree.specs.Scripts.{Script}
-use Rattle.lsl_tree.specs.Program.{Checked}
+use Rattle.lsl_tree.specs.Scripts.{Tree}
+use Rattle.lsl_tree.specs.Program.{Program}
 use Rattle.lsl_parse.specs.Faults.{Derives}
 use Rattle.lsl_type.specs.Typed.{Typed}
 
 -- the file's tokens are derived as this script, which the rules of names and kinds make this program
-pub record IsAccepted (file : List ℕ) (script : Script) (program : Checked) : Type 0 where
+pub record IsAccepted (file : List ℕ) (script : Tree) (program : Program) : Type 0 where
   pub tokens : Tokens
   pub lexed : Lexes file tokens
   pub derived : Derives tokens.list script
   pub typed : Typed script program
 
 -- the file is accepted as this program
-abbrev pub Accepted : List ℕ → Checked → Type 0
-Accepted file program = (script : Script) × IsAccepted file script program
+abbrev pub Accepted : List ℕ → Program → Type 0
+Accepted file program = (script : Tree) × IsAccepted file script program

@@ -1,7 +1,7 @@
 -- What is written for a file that was read.
 use Rattle.std.specs.Prelude.{◌≡◌, ℕ, ◌⊎◌, List, Option}
 use Rattle.lsl_ports.specs.Sink.{Grew, GrewByPrefix}
-use Rattle.lsl_tree.specs.Program.{Checked}
+use Rattle.lsl_tree.specs.Program.{Program}
 use Rattle.lsl_top.specs.declared.status.Status.{Status}
 use Rattle.lsl_top.specs.declared.status.Status.TheVariants.{Ok, Usage, BadWorld, BadScript, ReadFault, WriteFault, BadImage, NoMemory}
 use Rattle.lsl_top.specs.declared.build_fault.BuildFault.{BuildFault}
@@ -14,7 +14,7 @@ use Rattle.lsl_top.specs.Words.{Command, Once, Check, file_of}
 -- the command does what it is for with the file, and these lines are its report
 abbrev pub IsReport : Command → List ℕ → List ℕ → Type 0
 IsReport (Once name) file lines = (texts : List (List ℕ)) × Says file texts × (lines ≡ report_of texts)
-IsReport (Check name) file lines = (program : Checked) × Accepted file program × (lines ≡ accepted_line name)
+IsReport (Check name) file lines = (program : Program) × Accepted file program × (lines ≡ accepted_line name)
 
 -- the command refuses the file for this fault: its first, or for a run that it is outside the built part
 abbrev pub IsFault : Command → List ℕ → BuildFault → Type 0

@@ -8,8 +8,8 @@ use Rattle.lsl_lex.specs.declared.faults.LexFault.{LexFault}
 use Rattle.lsl_lex.specs.declared.faults.LexKind.{LexKind}
 use Rattle.lsl_lex.specs.declared.faults.LexKind.TheVariants.{NotText, StringEnd, CommentEnd, FloatLiteral, StrayCharacter, TextTooLong}
 use Rattle.lsl_lex.specs.declared.token_types.Tokens.{Tokens}
-use Rattle.lsl_tree.specs.Scripts.{Script}
-use Rattle.lsl_tree.specs.Program.{Checked}
+use Rattle.lsl_tree.specs.Scripts.{Tree}
+use Rattle.lsl_tree.specs.Program.{Program}
 use Rattle.lsl_parse.specs.Faults.{Derives, IsFirst}
 use Rattle.lsl_parse.specs.FaultNumbers.{number_of}
 use Rattle.lsl_parse.specs.declared.fault.ParseFault.{ParseFault}
@@ -61,7 +61,7 @@ pub record IsSyntactic (file : List ℕ) (fault : BuildFault) : Type 0 where
 pub record IsSemantic (file : List ℕ) (fault : BuildFault) : Type 0 where
   pub tokens : Tokens
   pub lexed : Lexes file tokens
-  pub script : Script
+  pub script : Tree
   pub derived : Derives tokens.list script
   pub semantic : TypeFault
   pub first : TypeFirst script semantic
@@ -72,8 +72,8 @@ FirstFault file fault = IsLexical file fault ⊎ (IsSyntactic file fault ⊎ IsS
 
 -- the file is accepted, and outside the built part
 pub record IsOutside (file : List ℕ) (fault : BuildFault) : Type 0 where
-  pub script : Script
-  pub program : Checked
+  pub script : Tree
+  pub program : Program
   pub accepted : IsAccepted file script program
   pub formless : HasNoForm script
   pub fault_is : fault ≡ NOT_YET

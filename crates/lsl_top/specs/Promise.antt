@@ -3,7 +3,7 @@ use Rattle.std.specs.Prelude.{◌≡◌, ℕ, ◌⊎◌, List, Option, Some, Non
 use Rattle.lsl_ports.specs.Counts.{Rose}
 use Rattle.lsl_ports.specs.Shelf.{Files}
 use Rattle.lsl_ports.specs.Sink.{Grew, GrewByPrefix}
-use Rattle.lsl_tree.specs.Program.{Checked}
+use Rattle.lsl_tree.specs.Program.{Program}
 use Rattle.lsl_top.specs.declared.build_fault.BuildFault.{BuildFault}
 use Rattle.lsl_top.specs.Accepted.{Accepted}
 use Rattle.lsl_top.specs.Answer.{IsReport, IsFault}
@@ -65,7 +65,7 @@ NamedRose (Some command) old new = Rose (old (file_of command)) (new (file_of co
 -- the file is a script for the command: for a run one of the built part, for a check any that is accepted
 abbrev pub IsScript : Command → List ℕ → Type 0
 IsScript (Once name) file = (texts : List (List ℕ)) × Says file texts
-IsScript (Check name) file = (program : Checked) × Accepted file program
+IsScript (Check name) file = (program : Program) × Accepted file program
 
 abbrev pub ScriptIn : Option (List ℕ) → Command → Type 0
 ScriptIn None command = ⊥

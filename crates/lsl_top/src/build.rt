@@ -2,8 +2,8 @@
 
 ghost use Rattle.std.specs.Prelude.{◌≡◌, IfOk, IsErrOf};
 ghost use Rattle.lsl_text.specs.declared.Refusal.TheVariants as refusals;
-ghost use Rattle.lsl_tree.specs.Program.{checked_of};
-ghost use Rattle.lsl_tree.specs.Scripts.{script_of};
+ghost use Rattle.lsl_tree.specs.Program.{program_of};
+ghost use Rattle.lsl_tree.specs.Scripts.{tree_of};
 ghost use Rattle.lsl_top.specs.Accepted.{IsAccepted};
 ghost use Rattle.lsl_top.specs.Faults.{FirstFault, lexical_fault_of, lexical_number_of, refused_with, semantic_fault_of, syntax_fault_of};
 ghost use Rattle.lsl_top.specs.declared.build_fault.BuildFault.{BuildFault as Fault};
@@ -25,7 +25,7 @@ pub struct Built {
 
 /// The script of a file, or its first fault. It takes memory for the tokens, the tree and the program.
 pub fn build(alloc: Global, file: &[u8]) -> Result<Built, Refusal<BuildFault>>
-    ensures ok { IfOk result (λ built. IsAccepted file.now (script_of built.tree) (checked_of built.program)) }
+    ensures ok { IfOk result (λ built. IsAccepted file.now (tree_of built.tree) (program_of built.program)) }
     ensures first { (fault : Fault) → IsErrOf result (refusals.Fault fault) → FirstFault file.now fault }
 {
     let tokens = match lex(alloc, file) {

@@ -3,7 +3,7 @@ ghost use Rattle.std.specs.Prelude.{◌≡◌, ◌≤◌, ℕ, List, IfOk, IsErr
 ghost use Rattle.lsl_text.specs.declared.Refusal.TheVariants as refusals;
 ghost use Rattle.lsl_ports.specs.Counts.{Rose};
 ghost use Rattle.lsl_ports.specs.Sink.{GrewByPrefix};
-ghost use Rattle.lsl_tree.specs.Scripts.{script_of};
+ghost use Rattle.lsl_tree.specs.Scripts.{tree_of};
 ghost use Rattle.lsl_top.specs.Answer.{Answers, IsFault, IsReport, Wrote};
 ghost use Rattle.lsl_top.specs.Form.{HasNoForm, IsForm, utf8_of};
 ghost use Rattle.lsl_top.specs.Journal as journal;
@@ -32,8 +32,8 @@ pub struct Output {
 
 /// The report of a run of this script, or fault 90 where it is outside the built part.
 fn run(alloc: Global, tree: &Tree) -> Result<Vec<u8>, Refusal<BuildFault>>
-    ensures ok { IfOk result (λ lines. (said : List (List ℕ)) × IsForm (script_of tree.now) said × (lines.items ≡ journal.report_of (utf8_of said))) }
-    ensures fault { (fault : Fault) → IsErrOf result (refusals.Fault fault) → HasNoForm (script_of tree.now) × (fault ≡ faults.NOT_YET) }
+    ensures ok { IfOk result (λ lines. (said : List (List ℕ)) × IsForm (tree_of tree.now) said × (lines.items ≡ journal.report_of (utf8_of said))) }
+    ensures fault { (fault : Fault) → IsErrOf result (refusals.Fault fault) → HasNoForm (tree_of tree.now) × (fault ≡ faults.NOT_YET) }
 {
     match texts_of(alloc, tree)? {
         Some(texts) => {

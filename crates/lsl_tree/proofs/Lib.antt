@@ -1,0 +1,2 @@
+pub mod ProgramRows
+pub mod SyntaxRows

@@ -3,8 +3,10 @@ use Rattle.std.proofs.Common.{◌≡◌, ℕ, ◌-◌, List, [], ◌∷◌, ◌+
 use Rattle.std.specs.Prelude.{Ok, Err}
 use Rattle.std.proofs.lemmas.Grind.{common_steps}
 use Rattle.lsl_value.specs.declared.tagged.Kind.{Kind}
-use Rattle.lsl_tree.specs.Statements.{Entry, Entries, Declared, Labelled, Acted, No_entry, Then, Braces}
-use Rattle.lsl_tree.specs.Actions.{Act, Acts, Label, Block}
+use Rattle.lsl_tree.specs.Statements as stmt
+use Rattle.lsl_tree.specs.Statements.{Item, Items, NoItem, AndItem}
+use Rattle.lsl_tree.specs.Actions as action
+use Rattle.lsl_tree.specs.Actions.{Action, Actions}
 use Rattle.lsl_text.specs.declared.Refusal.{Refusal}
 use Rattle.lsl_type.specs.declared.faults.TypeFault.{TypeFault}
 use Rattle.lsl_type.specs.declared.frame.Home.{Home}
@@ -14,9 +16,9 @@ use Rattle.lsl_type.specs.Scope.{FrameView, with_slots, with_passed, opened, lab
 use Rattle.lsl_type.specs.declared.faults.TypeKind.TheVariants.{DoubleName}
 use Rattle.lsl_type.specs.Judgement.{at}
 use Rattle.lsl_type.specs.Known.{KnownView}
-use Rattle.lsl_type.specs.Blocks.{Outer_of, closed, earliest}
-use Rattle.lsl_type.specs.Verdict.{Verdict, ◌>>=◌, must_r, Fails}
-use Rattle.lsl_type.specs.ActionVerdicts.{statement_r, entries_r, item_r, initialised_r, label_r}
+use Rattle.lsl_type.specs.Blocks.{IsOuter, closed, earliest}
+use Rattle.lsl_type.specs.Verdict.{Verdict, ◌>>=◌, must_verdict, Refuses}
+use Rattle.lsl_type.specs.ActionVerdicts.{statement_verdict, items_verdict, item_verdict, initialised_verdict, label_verdict}
 use Rattle.lsl_type.proofs.Deciding.{ok_same, ok_not_err}
 use Rattle.lsl_type.proofs.Steps.{fails_first, ok_behind}
 
@@ -53,9 +55,9 @@ pub parts_ok : {A B : Type 0} (v : Verdict A) (q : A → Verdict B) (u : B) → 
 parts_ok (Ok t) q u h = (t, refl, h)
 parts_ok (Err f) q u h = absurd (ok_not_err u f (sym h))
 
-item_extends : (known : KnownView) (home : Home) (f : FrameView) (e : Entry) (u : Act × FrameView) → item_r known home f e ≡ Ok u → Extends f u.1
-item_extends known home f (Declared k x v) u h =
-    let p = parts_ok (initialised_r known f k x v) _ u h in
+item_extends : (known : KnownView) (home : Home) (f : FrameView) (e : Item) (u : Action × FrameView) → item_verdict known home f e ≡ Ok u → Extends f u.1
+item_extends known home f (stmt.Declaration k x v) u h =
+    let p = parts_ok (initialised_verdict known f k x v) _ u h in
     subst (Extends f) (ap (λ z. z.1) (ok_same _ u p.2)) (record {
       more_names = _ ∷ [];
       more_variables = _ ∷ [];
@@ -67,11 +69,11 @@ item_extends known home f (Declared k x v) u h =
       first_variable = refl;
       first_label = refl;
     })
-item_extends known home f (Labelled x) u h =
-    let v : Verdict (Unit {0}) = must_r (not (is_since f.passed f.first_label (spelled x))) (at DoubleName x.span) in
-    let p = parts_ok v (λ w. label_r f x >>= λ n. Ok (Label n, with_passed f (spelled x))) u h in
-    let q = parts_ok (label_r f x) (λ n. Ok (Label n, with_passed f (spelled x))) u p.2 in
-    subst (Extends f) (ap (λ (z : Act × FrameView). z.1) (ok_same (Label q.0, with_passed f (spelled x)) u q.2)) (record {
+item_extends known home f (stmt.Label x) u h =
+    let v : Verdict (Unit {0}) = must_verdict (not (is_since f.passed f.first_label (spelled x))) (at DoubleName x.span) in
+    let p = parts_ok v (λ w. label_verdict f x >>= λ n. Ok (action.Label n, with_passed f (spelled x))) u h in
+    let q = parts_ok (label_verdict f x) (λ n. Ok (action.Label n, with_passed f (spelled x))) u p.2 in
+    subst (Extends f) (ap (λ (z : Action × FrameView). z.1) (ok_same (action.Label q.0, with_passed f (spelled x)) u q.2)) (record {
       more_names = [];
       more_variables = [];
       more_passed = spelled x ∷ [];
@@ -82,8 +84,8 @@ item_extends known home f (Labelled x) u h =
       first_variable = refl;
       first_label = refl;
     })
-item_extends known home f (Acted a) u h =
-    let p = parts_ok (statement_r known home f a) _ u h in
+item_extends known home f (stmt.Statement a) u h =
+    let p = parts_ok (statement_verdict known home f a) _ u h in
     subst (Extends f) (ap (λ z. z.1) (ok_same _ u p.2)) (record {
       more_names = [];
       more_variables = [];
@@ -96,13 +98,13 @@ item_extends known home f (Acted a) u h =
       first_label = refl;
     })
 
-pub entries_extend : (known : KnownView) (home : Home) (f : FrameView) (es : Entries) (u : Acts × FrameView) → entries_r known home f es ≡ Ok u → Extends f u.1
-entries_extend known home f No_entry u h = subst (Extends f) (ap (λ z. z.1) (ok_same _ u h)) (Extends-same f)
-entries_extend known home f (Then es e) u h =
-    let p = parts_ok (entries_r known home f es) _ u h in
-    let q = parts_ok (item_r known home p.0.1 e) _ u p.2 in
+pub items_extend : (known : KnownView) (home : Home) (f : FrameView) (es : Items) (u : Actions × FrameView) → items_verdict known home f es ≡ Ok u → Extends f u.1
+items_extend known home f NoItem u h = subst (Extends f) (ap (λ z. z.1) (ok_same _ u h)) (Extends-same f)
+items_extend known home f (AndItem es e) u h =
+    let p = parts_ok (items_verdict known home f es) _ u h in
+    let q = parts_ok (item_verdict known home p.0.1 e) _ u p.2 in
     let last = ap (λ z. z.1) (ok_same _ u q.2) in
-    Extends-then f p.0.1 u.1 (entries_extend known home f es p.0 p.1) (subst (Extends p.0.1) last (item_extends known home p.0.1 e q.0 q.1))
+    Extends-then f p.0.1 u.1 (items_extend known home f es p.0 p.1) (subst (Extends p.0.1) last (item_extends known home p.0.1 e q.0 q.1))
 
 drop_front : {X : Type 0} (xs ys : List X) → drop (length (xs ++ ys) - length ys) (xs ++ ys) ≡ ys
 drop_front xs ys = grind (arith, common_steps)
@@ -125,7 +127,7 @@ frame_with names variables slots labels passed v l = record {
 }
 
 -- behind a block there is what was before it, and its slots
-pub closed-opened : (f g : FrameView) (es : Entries) (o : Outer) → Outer_of o f → Extends (opened f es) g → closed g o ≡ with_slots f g.slots
+pub closed-opened : (f g : FrameView) (es : Items) (o : Outer) → IsOuter o f → Extends (opened f es) g → closed g o ≡ with_slots f g.slots
 closed-opened f g es o was e =
     ap (λ z. frame_with z (take o.variables g.scope.variables) g.slots (earliest o.labels g.labels) (earliest o.passed g.passed) o.first_variable o.first_label)
     (earliest_front o.names g.scope.names e.more_names f.scope.names was.names e.names)
@@ -138,25 +140,25 @@ closed-opened f g es o was e =
     ∙ (ap (λ z. frame_with f.scope.names f.scope.variables g.slots f.labels f.passed z o.first_label) was.first_variable
     ∙ ap (λ z. frame_with f.scope.names f.scope.variables g.slots f.labels f.passed f.first_variable z) was.first_label))))
 
-abbrev acted : Act → List Kind → Verdict (Act × List Kind)
+abbrev acted : Action → List Kind → Verdict (Action × List Kind)
 acted a slots = Ok (a, slots)
 
 -- a block is in order where what stands in it is
-pub block_ok : (known : KnownView) (home : Home) (f inner g : FrameView) (es : Entries) (acts : Acts) (act : Act) (slots : List Kind) → inner ≡ opened f es
-    → entries_r known home inner es ≡ Ok (acts, g) → act ≡ Block acts → slots ≡ g.slots → statement_r known home f (Braces es) ≡ Ok (act, slots)
+pub block_ok : (known : KnownView) (home : Home) (f inner g : FrameView) (es : Items) (acts : Actions) (act : Action) (slots : List Kind) → inner ≡ opened f es
+    → items_verdict known home inner es ≡ Ok (acts, g) → act ≡ action.Block acts → slots ≡ g.slots → statement_verdict known home f (stmt.Block es) ≡ Ok (act, slots)
 block_ok known home f inner g es acts act slots begins h is left =
-    ok_behind (entries_r known home (opened f es) es) (acts, g) (λ u. Ok (Block u.0, u.1.slots)) (Ok (act, slots))
-    (subst (λ z. entries_r known home z es ≡ Ok (acts, g)) begins h)
-    (ap (λ (a : Act). acted a g.slots) (sym is) ∙ ap (λ (l : List Kind). acted act l) (sym left))
+    ok_behind (items_verdict known home (opened f es) es) (acts, g) (λ u. Ok (action.Block u.0, u.1.slots)) (Ok (act, slots))
+    (subst (λ z. items_verdict known home z es ≡ Ok (acts, g)) begins h)
+    (ap (λ (a : Action). acted a g.slots) (sym is) ∙ ap (λ (l : List Kind). acted act l) (sym left))
 
-pub block_fails : (known : KnownView) (home : Home) (f inner : FrameView) (es : Entries) (e : Refusal TypeFault) → inner ≡ opened f es
-    → Fails e (entries_r known home inner es) → Fails e (statement_r known home f (Braces es))
+pub block_fails : (known : KnownView) (home : Home) (f inner : FrameView) (es : Items) (e : Refusal TypeFault) → inner ≡ opened f es
+    → Refuses e (items_verdict known home inner es) → Refuses e (statement_verdict known home f (stmt.Block es))
 block_fails known home f inner es e begins h =
-    fails_first e (entries_r known home (opened f es) es) (λ u. Ok (Block u.0, u.1.slots)) (subst (λ z. Fails e (entries_r known home z es)) begins h)
+    fails_first e (items_verdict known home (opened f es) es) (λ u. Ok (action.Block u.0, u.1.slots)) (subst (λ z. Refuses e (items_verdict known home z es)) begins h)
 
 -- and leaves what there was before it, and its slots
-pub block_leaves : (known : KnownView) (home : Home) (f inner g after : FrameView) (es : Entries) (acts : Acts) (o : Outer) → inner ≡ opened f es → Outer_of o f
-    → entries_r known home inner es ≡ Ok (acts, g) → after ≡ closed g o → after ≡ with_slots f after.slots
+pub block_leaves : (known : KnownView) (home : Home) (f inner g after : FrameView) (es : Items) (acts : Actions) (o : Outer) → inner ≡ opened f es → IsOuter o f
+    → items_verdict known home inner es ≡ Ok (acts, g) → after ≡ closed g o → after ≡ with_slots f after.slots
 block_leaves known home f inner g after es acts o begins was h ends =
-    let more : Extends (opened f es) g = entries_extend known home (opened f es) es (acts, g) (subst (λ z. entries_r known home z es ≡ Ok (acts, g)) begins h) in
+    let more : Extends (opened f es) g = items_extend known home (opened f es) es (acts, g) (subst (λ z. items_verdict known home z es ≡ Ok (acts, g)) begins h) in
     ends ∙ (closed-opened f g es o was more ∙ ap (λ l. with_slots f l) (sym (ap (λ (z : FrameView). z.slots) ends)))

@@ -4,8 +4,11 @@ use Rattle.std.specs.Prelude.{map}
 use Rattle.lsl_tree.specs.declared.script.Param.{Param}
 use Rattle.lsl_tree.specs.declared.statement.Item.{Item}
 use Rattle.lsl_tree.specs.declared.program_action.Effect.{Effect}
-use Rattle.lsl_tree.specs.Statements.{Entry, Entries, No_entry, Then, Declared, Labelled, Acted, entry_of, entries_behind, entries_of}
-use Rattle.lsl_tree.specs.Actions.{Acts, Next, Does, effect_of}
+use Rattle.lsl_tree.specs.Statements as stmt
+use Rattle.lsl_tree.specs.Statements.{Items, NoItem, AndItem, item_of, items_behind, items_of}
+use Rattle.lsl_tree.specs.Actions as action
+use Rattle.lsl_tree.specs.Actions.{Actions, AndAction}
+use Rattle.lsl_tree.specs.Effects.{effect_of}
 use Rattle.lsl_type.specs.Scope.{FrameView, with_local, with_locals, spelled, labels_with, labels_of}
 use Rattle.lsl_type.specs.ActionForms.{effects_after}
 use Rattle.lsl_type.proofs.Walks.{left, drop_all}
@@ -21,27 +24,27 @@ locals_end f ps i whole h inv = sym (ap (with_locals f) (drop_all ps i h)) ∙ i
 -- the labels of some entries, behind other names
 abbrev pub labels_behind : List Item → List (List ℕ) → List (List ℕ)
 labels_behind [] names = names
-labels_behind (x ∷ xs) names = labels_behind xs (labels_with (entry_of x) names)
+labels_behind (x ∷ xs) names = labels_behind xs (labels_with (item_of x) names)
 
-with-append : (e : Entry) (xs ys : List (List ℕ)) → labels_with e (xs ++ ys) ≡ labels_with e xs ++ ys
-with-append (Declared k x v) xs ys = refl
-with-append (Labelled x) xs ys = refl
-with-append (Acted s) xs ys = refl
+with-append : (e : stmt.Item) (xs ys : List (List ℕ)) → labels_with e (xs ++ ys) ≡ labels_with e xs ++ ys
+with-append (stmt.Declaration k x v) xs ys = refl
+with-append (stmt.Label x) xs ys = refl
+with-append (stmt.Statement s) xs ys = refl
 
-behind_walk : (xs : List Item) (es : Entries) (names : List (List ℕ)) → labels_behind xs (labels_of es ++ names) ≡ labels_of (entries_behind xs es) ++ names
+behind_walk : (xs : List Item) (es : Items) (names : List (List ℕ)) → labels_behind xs (labels_of es ++ names) ≡ labels_of (items_behind xs es) ++ names
 behind_walk [] es names = refl
-behind_walk (x ∷ xs) es names = ap (labels_behind xs) (with-append (entry_of x) (labels_of es) names) ∙ behind_walk xs (Then es (entry_of x)) names
+behind_walk (x ∷ xs) es names = ap (labels_behind xs) (with-append (item_of x) (labels_of es) names) ∙ behind_walk xs (AndItem es (item_of x)) names
 
-pub labels_walk : (xs : List Item) (names : List (List ℕ)) → labels_behind xs names ≡ labels_of (entries_of xs) ++ names
-labels_walk xs names = behind_walk xs No_entry names
+pub labels_walk : (xs : List Item) (names : List (List ℕ)) → labels_behind xs names ≡ labels_of (items_of xs) ++ names
+labels_walk xs names = behind_walk xs NoItem names
 
 pub labels_next : (names : List (List ℕ)) (xs : List Item) (i : ℕ) (x : Item) (whole : List (List ℕ)) → i < length xs → x ≡ get_or xs i x
-    → labels_behind (drop i xs) names ≡ whole → labels_behind (drop (i + 1) xs) (labels_with (entry_of x) names) ≡ whole
+    → labels_behind (drop i xs) names ≡ whole → labels_behind (drop (i + 1) xs) (labels_with (item_of x) names) ≡ whole
 labels_next names xs i x whole h e inv = sym (ap (λ l. labels_behind l names) (left xs i x h e)) ∙ inv
 
 pub labels_end : (names : List (List ℕ)) (xs : List Item) (i : ℕ) (whole : List (List ℕ)) → length xs ≤ i → labels_behind (drop i xs) names ≡ whole → names ≡ whole
 labels_end names xs i whole h inv = sym (ap (λ l. labels_behind l names) (drop_all xs i h)) ∙ inv
 
-pub effects_after-push : (acts : Acts) (xs : List Effect) (x : Effect) → effects_after acts (map effect_of (xs ++ x ∷ [])) ≡ Next (effects_after acts (map effect_of xs)) (Does (effect_of x))
+pub effects_after-push : (acts : Actions) (xs : List Effect) (x : Effect) → effects_after acts (map effect_of (xs ++ x ∷ [])) ≡ AndAction (effects_after acts (map effect_of xs)) (action.Effect (effect_of x))
 effects_after-push acts [] x = refl
-effects_after-push acts (y ∷ xs) x = effects_after-push (Next acts (Does (effect_of y))) xs x
+effects_after-push acts (y ∷ xs) x = effects_after-push (AndAction acts (action.Effect (effect_of y))) xs x

@@ -7,29 +7,29 @@ use Rattle.lsl_tree.specs.declared.script.Handler.{Handler}
 use Rattle.lsl_tree.specs.declared.script.Header.{Header}
 use Rattle.lsl_tree.specs.declared.script.State.{State}
 use Rattle.lsl_tree.specs.declared.script.Param.{Param}
-use Rattle.lsl_tree.specs.Statements.{Entries}
-use Rattle.lsl_tree.specs.Actions.{Acts}
-use Rattle.lsl_tree.specs.Scripts.{heading_of, handling_of, standing_of}
-use Rattle.lsl_tree.specs.Program.{NamedCode, EventCode, CodedState}
+use Rattle.lsl_tree.specs.Statements.{Items}
+use Rattle.lsl_tree.specs.Actions.{Actions}
+use Rattle.lsl_tree.specs.Scripts.{header_of, handler_of, state_of}
+use Rattle.lsl_tree.specs.Program.{NamedRoutine, EventRoutine, ProgramState}
 use Rattle.lsl_type.specs.Known.{KnownView}
 use Rattle.lsl_type.specs.declared.blocks.Outer.{Outer}
 use Rattle.lsl_type.specs.declared.frame.Home.{Home}
 use Rattle.lsl_type.specs.declared.frame.Variable.{Variable}
-use Rattle.lsl_type.specs.Blocks.{Outer_of, closed, IsResting}
+use Rattle.lsl_type.specs.Blocks.{IsOuter, closed, IsResting}
 use Rattle.lsl_type.specs.Scope.{ScopeView, FrameView, spelled, with_local, with_locals, with_slots, opened}
-use Rattle.lsl_type.specs.ActionVerdicts.{entries_r}
-use Rattle.lsl_type.proofs.BlockLemmas.{closed-opened, entries_extend}
+use Rattle.lsl_type.specs.ActionVerdicts.{items_verdict}
+use Rattle.lsl_type.proofs.BlockLemmas.{closed-opened, items_extend}
 use Rattle.lsl_type.specs.Verdict.{Verdict}
-use Rattle.lsl_type.specs.ScriptVerdicts.{function_body_r, handler_body_r, state_body_r}
+use Rattle.lsl_type.specs.ScriptVerdicts.{function_body_verdict, handler_body_verdict, state_body_verdict}
 
-abbrev pub function_next : KnownView → ScopeView → List NamedCode → Header → Verdict (List NamedCode)
-function_next known s before x = function_body_r known s before (heading_of x)
+abbrev pub function_next : KnownView → ScopeView → List NamedRoutine → Header → Verdict (List NamedRoutine)
+function_next known s before x = function_body_verdict known s before (header_of x)
 
-abbrev pub handler_next : KnownView → ScopeView → List EventCode → Handler → Verdict (List EventCode)
-handler_next known s before x = handler_body_r known s before (handling_of x)
+abbrev pub handler_next : KnownView → ScopeView → List EventRoutine → Handler → Verdict (List EventRoutine)
+handler_next known s before x = handler_body_verdict known s before (handler_of x)
 
-abbrev pub state_next : KnownView → ScopeView → List CodedState → State → Verdict (List CodedState)
-state_next known s before x = state_body_r known s before (standing_of x)
+abbrev pub state_next : KnownView → ScopeView → List ProgramState → State → Verdict (List ProgramState)
+state_next known s before x = state_body_verdict known s before (state_of x)
 
 -- more variables, and nothing else but slots
 record Grows (f g : FrameView) : Type 0 where
@@ -93,13 +93,13 @@ same_frame names names' variables variables' slots slots' labels labels' passed 
     ∙ ap (λ z. framed names' variables' slots' labels' passed' v' z) g)))))
 
 -- what is left of a frame's inner block and parameters is the frame
-pub body_leaves : (known : KnownView) (home : Home) (f begun inner g after : FrameView) (ps : List Param) (es : Entries) (acts : Acts) (o : Outer)
+pub body_leaves : (known : KnownView) (home : Home) (f begun inner g after : FrameView) (ps : List Param) (es : Items) (acts : Actions) (o : Outer)
     (names : List (List ℕ)) (variables : List Variable) (slots : List Kind) (n m : ℕ)
-    → IsResting f → begun ≡ with_locals f ps → inner ≡ opened begun es → Outer_of o begun → entries_r known home inner es ≡ Ok (acts, g) → after ≡ closed g o
+    → IsResting f → begun ≡ with_locals f ps → inner ≡ opened begun es → IsOuter o begun → items_verdict known home inner es ≡ Ok (acts, g) → after ≡ closed g o
     → n ≡ length f.scope.names → m ≡ length f.scope.variables → names ≡ drop (length after.scope.names - n) after.scope.names → variables ≡ take m after.scope.variables → slots ≡ []
     → framed names variables slots after.labels after.passed after.first_variable after.first_label ≡ f
 body_leaves known home f begun inner g after ps es acts o names variables slots n m resting begins opens was runs ends counted numbered left kept none =
-    let more = entries_extend known home (opened begun es) es (acts, g) (subst (λ z. entries_r known home z es ≡ Ok (acts, g)) opens runs) in
+    let more = items_extend known home (opened begun es) es (acts, g) (subst (λ z. items_verdict known home z es ≡ Ok (acts, g)) opens runs) in
     let back : after ≡ with_slots begun g.slots = ends ∙ closed-opened begun g es o was more in
     let grown : Grows f begun = subst (Grows f) (sym begins) (locals_grow f ps) in
     same_frame names f.scope.names variables f.scope.variables slots f.slots after.labels f.labels after.passed f.passed after.first_variable f.first_variable after.first_label f.first_label

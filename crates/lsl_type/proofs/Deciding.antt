@@ -4,7 +4,7 @@ use Rattle.std.specs.Prelude.{Ok, Err}
 use Rattle.lsl_type.specs.declared.faults.TypeFault.{TypeFault}
 use Rattle.lsl_type.specs.Judgement.{Judgement, gives, the_one, must, entry, faulty, each}
 use Rattle.lsl_type.specs.Judgement as rule
-use Rattle.lsl_type.specs.Verdict.{Verdict, ◌>>=◌, the_one_r, must_r, each_r}
+use Rattle.lsl_type.specs.Verdict.{Verdict, ◌>>=◌, the_one_verdict, must_verdict, each_verdict}
 
 pub record Decides {T : Type 0} (J : Judgement T) (v : Verdict T) : Type 0 where
   pub ok : (t : T) → v ≡ Ok t → J.types t
@@ -59,7 +59,7 @@ then_decides {A} {B} J K (Err g) q dj dk = record {
 }
 
 pub the_one_decides : {T : Type 0} (P : T → Type 0) (fault : TypeFault) (o : Option T)
-    → ((t : T) → o ≡ Some t → P t) → ((t : T) → P t → o ≡ Some t) → Decides (the_one P fault) (the_one_r o fault)
+    → ((t : T) → o ≡ Some t → P t) → ((t : T) → P t → o ≡ Some t) → Decides (the_one P fault) (the_one_verdict o fault)
 the_one_decides {T} P fault None some found = record {
   ok = λ t e. absurd (ok_not_err t fault (sym e));
   err = λ f e. (λ t p. let h : None ≡ Some t = found t p in cc, sym (err_same T fault f e));
@@ -73,7 +73,7 @@ the_one_decides {T} P fault (Some x) some found = record {
   breaks = λ f h. absurd (h.0 x (some x refl));
 }
 
-pub must_decides : (P : Type 0) (fault : TypeFault) (b : Bool) → (b ≡ true → P) → (P → b ≡ true) → Decides (must P fault) (must_r b fault)
+pub must_decides : (P : Type 0) (fault : TypeFault) (b : Bool) → (b ≡ true → P) → (P → b ≡ true) → Decides (must P fault) (must_verdict b fault)
 must_decides P fault true holds test = record {
   ok = λ t e. holds refl;
   err = λ f e. absurd (ok_not_err tt f e);
@@ -88,15 +88,15 @@ must_decides P fault false holds test = record {
 }
 
 -- a test that is computed
-pub test_decides : (fault : TypeFault) (b : Bool) → Decides (must (b ≡ true) fault) (must_r b fault)
+pub test_decides : (fault : TypeFault) (b : Bool) → Decides (must (b ≡ true) fault) (must_verdict b fault)
 test_decides fault b = must_decides (b ≡ true) fault b (λ h. h) (λ h. h)
 
 -- a relation that a test excludes
-pub must_not_decides : (P : Type 0) (fault : TypeFault) (b : Bool) → (b ≡ true → P) → (P → b ≡ true) → Decides (must (P → ⊥) fault) (must_r (not b) fault)
+pub must_not_decides : (P : Type 0) (fault : TypeFault) (b : Bool) → (b ≡ true → P) → (P → b ≡ true) → Decides (must (P → ⊥) fault) (must_verdict (not b) fault)
 must_not_decides P fault true holds test = must_decides (P → ⊥) fault false (λ h. absurd (cc)) (λ n. absurd (n (holds refl)))
 must_not_decides P fault false holds test = must_decides (P → ⊥) fault true (λ h p. let e : false ≡ true = test p in cc) (λ n. refl)
 
-pub entry_decides : {T : Type 0} (o : Option T) (fault : TypeFault) → Decides (entry o fault) (the_one_r o fault)
+pub entry_decides : {T : Type 0} (o : Option T) (fault : TypeFault) → Decides (entry o fault) (the_one_verdict o fault)
 entry_decides {T} None fault = record {
   ok = λ t e. absurd (ok_not_err t fault (sym e));
   err = λ f e. (refl, sym (err_same T fault f e));
@@ -111,9 +111,9 @@ entry_decides (Some x) fault = record {
 }
 
 pub each_decides : {X S : Type 0} (rule : S → X → Judgement S) (q : S → X → Verdict S)
-    → ((s : S) (x : X) → Decides (rule s x) (q s x)) → (s : S) (xs : List X) → Decides (each rule s xs) (each_r q s xs)
+    → ((s : S) (x : X) → Decides (rule s x) (q s x)) → (s : S) (xs : List X) → Decides (each rule s xs) (each_verdict q s xs)
 each_decides rule q d s [] = gives_decides s
-each_decides rule q d s (x ∷ xs) = then_decides (rule s x) (λ n. each rule n xs) (q s x) (λ n. each_r q n xs) (d s x) (λ n. each_decides rule q d n xs)
+each_decides rule q d s (x ∷ xs) = then_decides (rule s x) (λ n. each rule n xs) (q s x) (λ n. each_verdict q n xs) (d s x) (λ n. each_decides rule q d n xs)
 
 -- a verdict that is the same
 pub decides_as : {T : Type 0} (J : Judgement T) (v w : Verdict T) → v ≡ w → Decides J w → Decides J v

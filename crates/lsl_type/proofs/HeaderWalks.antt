@@ -12,40 +12,41 @@ use Rattle.lsl_tree.specs.declared.script.Atom.{Atom}
 use Rattle.lsl_tree.specs.declared.script.Handler.{Handler}
 use Rattle.lsl_tree.specs.declared.script.Header.{Header}
 use Rattle.lsl_tree.specs.declared.script.State.{State}
-use Rattle.lsl_tree.specs.Scripts.{heading_of, handling_of, standing_of}
+use Rattle.lsl_tree.specs.Scripts.{header_of, handler_of, state_of}
 use Rattle.lsl_tree.specs.declared.program.Part.{Part}
 use Rattle.lsl_type.specs.declared.faults.TypeKind.TheVariants.{WrongKind}
 use Rattle.lsl_type.specs.Known.{HeadersView}
 use Rattle.lsl_type.specs.Sameness.{same_event, same_kind, same_kinds}
-use Rattle.lsl_type.specs.Conversions.{part_kind_of, is_no_list}
+use Rattle.lsl_tree.specs.Initials.{part_kind_of}
+use Rattle.lsl_type.specs.Conversions.{is_no_list}
 use Rattle.lsl_type.specs.Spans.{atom_span}
 use Rattle.lsl_type.specs.Judgement.{at}
-use Rattle.lsl_type.specs.Verdict.{Verdict, ◌>>=◌, must_r}
-use Rattle.lsl_type.specs.HeaderVerdicts.{flat_parts_r, header_r, state_r, handler_r, has_event}
+use Rattle.lsl_type.specs.Verdict.{Verdict, ◌>>=◌, must_verdict}
+use Rattle.lsl_type.specs.HeaderVerdicts.{flat_parts_verdict, header_verdict, state_verdict, handler_verdict, has_event}
 use Rattle.lsl_type.proofs.ScriptLemmas.{event_same, same_event-same}
 use Rattle.lsl_type.proofs.Walks.{left, drop_all}
 
 abbrev pub part_flat_r : Part → Atom → Verdict (Unit {0})
-part_flat_r p a = must_r (is_no_list (part_kind_of p)) (at (WrongKind None (Some ListKind)) (atom_span a))
+part_flat_r p a = must_verdict (is_no_list (part_kind_of p)) (at (WrongKind None (Some ListKind)) (atom_span a))
 
 pub parts_next : (i : ℕ) (xs : List Atom) (x : Atom) (ps : List Part) (p : Part) (whole : Verdict (Unit {0}))
     → i < length xs → x ≡ get_or xs i x → i < length ps → p ≡ get_or ps i p
-    → flat_parts_r (drop i xs) (drop i ps) ≡ whole
-    → (part_flat_r p x >>= λ u. flat_parts_r (drop (i + 1) xs) (drop (i + 1) ps)) ≡ whole
+    → flat_parts_verdict (drop i xs) (drop i ps) ≡ whole
+    → (part_flat_r p x >>= λ u. flat_parts_verdict (drop (i + 1) xs) (drop (i + 1) ps)) ≡ whole
 parts_next i xs x ps p whole hx ex hp ep inv =
-    sym (ap (λ l. flat_parts_r l (p ∷ drop (i + 1) ps)) (left xs i x hx ex)) ∙ (sym (ap (λ l. flat_parts_r (drop i xs) l) (left ps i p hp ep)) ∙ inv)
+    sym (ap (λ l. flat_parts_verdict l (p ∷ drop (i + 1) ps)) (left xs i x hx ex)) ∙ (sym (ap (λ l. flat_parts_verdict (drop i xs) l) (left ps i p hp ep)) ∙ inv)
 
-pub parts_end : (i : ℕ) (xs : List Atom) (ps : List Part) (whole : Verdict (Unit {0})) → length xs ≤ i → flat_parts_r (drop i xs) (drop i ps) ≡ whole → whole ≡ Ok tt
-parts_end i xs ps whole h inv = sym inv ∙ ap (λ l. flat_parts_r l (drop i ps)) (drop_all xs i h)
+pub parts_end : (i : ℕ) (xs : List Atom) (ps : List Part) (whole : Verdict (Unit {0})) → length xs ≤ i → flat_parts_verdict (drop i xs) (drop i ps) ≡ whole → whole ≡ Ok tt
+parts_end i xs ps whole h inv = sym inv ∙ ap (λ l. flat_parts_verdict l (drop i ps)) (drop_all xs i h)
 
 abbrev pub header_next : HeadersView → Header → Verdict HeadersView
-header_next h x = header_r h (heading_of x)
+header_next h x = header_verdict h (header_of x)
 
 abbrev pub state_next : List (List ℕ) → State → Verdict (List (List ℕ))
-state_next names x = state_r names (standing_of x)
+state_next names x = state_verdict names (state_of x)
 
 abbrev pub handler_next : List EventId → Handler → Verdict (List EventId)
-handler_next events x = handler_r events (handling_of x)
+handler_next events x = handler_verdict events (handler_of x)
 
 -- tests of events and kinds
 list_any-same : {X : Type 0} (p q : X → Bool) → ((x : X) → p x ≡ q x) → (xs : List X) → list_any p xs ≡ list_any q xs

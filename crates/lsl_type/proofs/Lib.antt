@@ -14,6 +14,5 @@ pub mod Steps
 pub mod TableLemmas
 pub mod Top
 pub mod ValueShapes
-pub mod Views
 pub mod Walks
 pub mod Yielding

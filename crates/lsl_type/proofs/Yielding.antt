@@ -2,7 +2,7 @@
 use Rattle.std.proofs.Common.{◌≡◌, ℕ, ◌+◌, Bool, true, false, Option, Some, None, List, [], ◌∷◌, ◌++◌, length, refl, sym, ap, ◌∙◌, subst, arith, append_assoc, append-nil}
 use Rattle.std.specs.Prelude.{Ok, Err}
 use Rattle.lsl_type.specs.declared.faults.TypeFault.{TypeFault}
-use Rattle.lsl_type.specs.Verdict.{Verdict, ◌>>=◌, the_one_r, must_r, each_r}
+use Rattle.lsl_type.specs.Verdict.{Verdict, ◌>>=◌, the_one_verdict, must_verdict, each_verdict}
 use Rattle.lsl_type.proofs.Deciding.{ok_same, ok_not_err}
 
 pub record Yields {T : Type 0} (P : T → Type 0) (v : Verdict T) : Type 0 where
@@ -28,19 +28,19 @@ both_yield P Q v a b = record { ok = λ t e. (a.ok t e, b.ok t e) }
 pub weaker_yields : {T : Type 0} (P Q : T → Type 0) (v : Verdict T) → Yields P v → ((t : T) → P t → Q t) → Yields Q v
 weaker_yields P Q v a w = record { ok = λ t e. w t (a.ok t e) }
 
-pub the_one_yields : {T : Type 0} (P : T → Type 0) (o : Option T) (fault : TypeFault) → ((t : T) → o ≡ Some t → P t) → Yields P (the_one_r o fault)
+pub the_one_yields : {T : Type 0} (P : T → Type 0) (o : Option T) (fault : TypeFault) → ((t : T) → o ≡ Some t → P t) → Yields P (the_one_verdict o fault)
 the_one_yields P (Some x) fault h = gives_yields P x (h x refl)
 the_one_yields P None fault h = faulty_yields P fault
 
-pub must_yields : (b : Bool) (fault : TypeFault) → Yields (λ u. b ≡ true) (must_r b fault)
+pub must_yields : (b : Bool) (fault : TypeFault) → Yields (λ u. b ≡ true) (must_verdict b fault)
 must_yields true fault = gives_yields (λ u. true ≡ true) tt refl
 must_yields false fault = faulty_yields (λ u. false ≡ true) fault
 
 -- what each step keeps
 pub each_yields : {X S : Type 0} (P : S → Type 0) (q : S → X → Verdict S) → ((s : S) (x : X) → P s → Yields P (q s x))
-    → (s : S) (xs : List X) → P s → Yields P (each_r q s xs)
+    → (s : S) (xs : List X) → P s → Yields P (each_verdict q s xs)
 each_yields P q step s [] p = gives_yields P s p
-each_yields P q step s (x ∷ xs) p = then_yields P P (q s x) (λ n. each_r q n xs) (step s x p) (λ n r. each_yields P q step n xs r)
+each_yields P q step s (x ∷ xs) p = then_yields P P (q s x) (λ n. each_verdict q n xs) (step s x p) (λ n r. each_yields P q step n xs r)
 
 -- what the steps add
 pub gathered : {X Y : Type 0} → (X → List Y) → List X → List Y
@@ -48,17 +48,17 @@ gathered w [] = []
 gathered w (x ∷ xs) = w x ++ gathered w xs
 
 pub each_gathers : {X S Y : Type 0} (m : S → List Y) (w : X → List Y) (q : S → X → Verdict S) → ((s : S) (x : X) → Yields (λ n. m n ≡ m s ++ w x) (q s x))
-    → (s : S) (xs : List X) → Yields (λ n. m n ≡ m s ++ gathered w xs) (each_r q s xs)
+    → (s : S) (xs : List X) → Yields (λ n. m n ≡ m s ++ gathered w xs) (each_verdict q s xs)
 unfolding gathered
 each_gathers m w q step s [] = gives_yields (λ n. m n ≡ m s ++ []) s (sym (append-nil (m s)))
 each_gathers m w q step s (x ∷ xs) =
-    then_yields (λ n. m n ≡ m s ++ w x) (λ n. m n ≡ m s ++ (w x ++ gathered w xs)) (q s x) (λ n. each_r q n xs) (step s x) (λ n h.
-    weaker_yields (λ r. m r ≡ m n ++ gathered w xs) (λ r. m r ≡ m s ++ (w x ++ gathered w xs)) (each_r q n xs) (each_gathers m w q step n xs) (λ r e.
+    then_yields (λ n. m n ≡ m s ++ w x) (λ n. m n ≡ m s ++ (w x ++ gathered w xs)) (q s x) (λ n. each_verdict q n xs) (step s x) (λ n h.
+    weaker_yields (λ r. m r ≡ m n ++ gathered w xs) (λ r. m r ≡ m s ++ (w x ++ gathered w xs)) (each_verdict q n xs) (each_gathers m w q step n xs) (λ r e.
     e ∙ (ap (λ l. l ++ gathered w xs) h ∙ append_assoc (m s) (w x) (gathered w xs))))
 
 pub each_counts : {X S : Type 0} (m : S → ℕ) (q : S → X → Verdict S) → ((s : S) (x : X) → Yields (λ n. m n ≡ m s + 1) (q s x))
-    → (s : S) (xs : List X) → Yields (λ n. m n ≡ m s + length xs) (each_r q s xs)
+    → (s : S) (xs : List X) → Yields (λ n. m n ≡ m s + length xs) (each_verdict q s xs)
 each_counts m q step s [] = gives_yields (λ n. m n ≡ m s + 0) s (omega arith)
 each_counts m q step s (x ∷ xs) =
-    then_yields (λ n. m n ≡ m s + 1) (λ n. m n ≡ m s + length (x ∷ xs)) (q s x) (λ n. each_r q n xs) (step s x) (λ n h.
-    weaker_yields (λ r. m r ≡ m n + length xs) (λ r. m r ≡ m s + length (x ∷ xs)) (each_r q n xs) (each_counts m q step n xs) (λ r e. omega (arith, e, h)))
+    then_yields (λ n. m n ≡ m s + 1) (λ n. m n ≡ m s + length (x ∷ xs)) (q s x) (λ n. each_verdict q n xs) (step s x) (λ n h.
+    weaker_yields (λ r. m r ≡ m n + length xs) (λ r. m r ≡ m s + length (x ∷ xs)) (each_verdict q n xs) (each_counts m q step n xs) (λ r e. omega (arith, e, h)))

@@ -1,7 +1,9 @@
 -- Forms of checked statements.
 use Rattle.std.specs.Prelude.{Option, Some, None, List, [], ◌∷◌}
 use Rattle.lsl_value.specs.declared.tagged.Kind.{Kind}
-use Rattle.lsl_tree.specs.Actions.{Effected, Act, Acts, Block, Does, Gives, No_act, Next}
+use Rattle.lsl_tree.specs.Effects.{Effect}
+use Rattle.lsl_tree.specs.Actions as action
+use Rattle.lsl_tree.specs.Actions.{Action, Actions, NoAction, AndAction}
 use Rattle.lsl_type.specs.declared.frame.Home.{Home}
 use Rattle.lsl_type.specs.declared.frame.Home.TheVariants.{Handler, Function}
 use Rattle.lsl_type.specs.Conversions.{empty_node}
@@ -12,15 +14,15 @@ home_kind Handler = None
 home_kind (Function kind) = kind
 
 -- these effects behind other statements
-abbrev pub effects_after : Acts → List Effected → Acts
+abbrev pub effects_after : Actions → List Effect → Actions
 effects_after acts [] = acts
-effects_after acts (x ∷ xs) = effects_after (Next acts (Does x)) xs
+effects_after acts (x ∷ xs) = effects_after (AndAction acts (action.Effect x)) xs
 
 -- a `for` is a block of its first list and its loop
-abbrev pub for_of : List Effected → Act → Act
-for_of start loop = Block (Next (effects_after No_act start) loop)
+abbrev pub for_of : List Effect → Action → Action
+for_of start loop = action.Block (AndAction (effects_after NoAction start) loop)
 
 -- a function with a kind that runs off its end returns the kind's empty value
-abbrev pub ended : Option Kind → Acts → Acts
+abbrev pub ended : Option Kind → Actions → Actions
 ended None acts = acts
-ended (Some kind) acts = Next acts (Gives (empty_node kind))
+ended (Some kind) acts = AndAction acts (action.ReturnValue (empty_node kind))

@@ -4,7 +4,7 @@ use Rattle.lsl_type.specs.declared.blocks.Outer.{Outer}
 use Rattle.lsl_type.specs.Scope.{FrameView}
 
 -- how much there was of a frame
-pub record Outer_of (o : Outer) (f : FrameView) : Type 0 where
+pub record IsOuter (o : Outer) (f : FrameView) : Type 0 where
   pub names : o.names ≡ length f.scope.names
   pub variables : o.variables ≡ length f.scope.variables
   pub labels : o.labels ≡ length f.labels

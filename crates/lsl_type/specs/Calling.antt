@@ -3,12 +3,12 @@ use Rattle.std.specs.Prelude.{List}
 use Rattle.lsl_value.specs.declared.tagged.Kind.{Kind}
 use Rattle.lsl_type.specs.declared.calls.Params.{Params}
 use Rattle.lsl_type.specs.declared.calls.Params.TheVariants.{Function, Builtin}
-use Rattle.lsl_type.specs.declared.calls.Calling.{Calling}
-use Rattle.lsl_type.specs.Known.{Called_as}
+use Rattle.lsl_type.specs.declared.calls.Calling as declared
+use Rattle.lsl_type.specs.Known.{Calling}
 
 abbrev pub kinds_in : Params → List Kind
 kinds_in (Function kinds) = kinds.now
 kinds_in (Builtin kinds) = kinds
 
-abbrev pub calling_of : Calling → Called_as
+abbrev pub calling_of : declared.Calling → Calling
 calling_of c = record { callee = c.callee; signature = record { params = kinds_in c.params; result = c.result } }

@@ -11,14 +11,17 @@ use Rattle.lsl_tree.specs.declared.script.Param.{Param}
 use Rattle.lsl_tree.specs.declared.program.Part.{Part}
 use Rattle.lsl_tree.specs.declared.program.Part.TheVariants as part
 use Rattle.lsl_tree.specs.declared.program_node.Place.TheVariants.{Global}
-use Rattle.lsl_tree.specs.Scripts.{Initial, Single, Several, Heading, GlobalNamed, FunctionNamed, Handling, Standing}
-use Rattle.lsl_tree.specs.Program.{First, One, Parts}
+use Rattle.lsl_tree.specs.Scripts as source
+use Rattle.lsl_tree.specs.Scripts.{Simple, Header, Handler, State}
+use Rattle.lsl_tree.specs.Program as program
+use Rattle.lsl_tree.specs.Program.{Initial}
 use Rattle.lsl_type.specs.declared.faults.TypeKind.TheVariants.{DoubleName, WrongKind, NotConstant, WrongHandler}
 use Rattle.lsl_type.specs.declared.frame.Variable.{Variable}
 use Rattle.lsl_type.specs.Scope.{ScopeView, spelled, IsVariable}
 use Rattle.lsl_type.specs.Known.{HeadersView, with_global, with_function, kinds_of}
 use Rattle.lsl_type.specs.Table.{IsReserved, IsConstant, IsEvent, event_params_of, constant_kind_of}
-use Rattle.lsl_type.specs.Conversions.{first_as_kind, first_kind_of, empty_first, part_kind_of, is_no_list}
+use Rattle.lsl_tree.specs.Initials.{initial_kind_of, part_kind_of}
+use Rattle.lsl_type.specs.Conversions.{initial_as_kind, empty_initial, is_no_list}
 use Rattle.lsl_type.specs.Spans.{atom_span, initial_span}
 use Rattle.lsl_type.specs.Judgement.{at, Judgement, gives, ◌>>=◌, the_one, must, entry, each}
 
@@ -49,14 +52,14 @@ flat_parts (a ∷ rest) (p ∷ ps) = do
   flat ← must (is_no_list (part_kind_of p) ≡ true) (at (WrongKind None (Some ListKind)) (atom_span a))
   flat_parts rest ps
 
-abbrev pub initial : ScopeView → Initial → Judgement First
-initial s (Single a) = do
+abbrev pub initial : ScopeView → Simple → Judgement Initial
+initial s (source.Atom a) = do
   p ← initial_part s a
-  gives (One p)
-initial s (Several span atoms) = do
+  gives (program.Single p)
+initial s (source.Atoms span atoms) = do
   ps ← each (next_part s) [] atoms
   flat ← flat_parts atoms ps
-  gives (Parts ps)
+  gives (program.ListLiteral ps)
 
 -- a global's or function's name is neither reserved nor that of an earlier one
 abbrev pub IsUnused : HeadersView → Name → Type 0
@@ -68,25 +71,25 @@ param names p = do
   fresh ← must ((IsReserved (spelled p.name) → ⊥) × (Contains names (spelled p.name) → ⊥)) (at DoubleName p.name.span)
   gives (spelled p.name ∷ names)
 
-abbrev pub first_become : Kind → First → Span → Judgement First
-first_become k found span = entry (first_as_kind k found) (at (WrongKind (Some k) (Some (first_kind_of found))) span)
+abbrev pub initial_become : Kind → Initial → Span → Judgement Initial
+initial_become k found span = entry (initial_as_kind k found) (at (WrongKind (Some k) (Some (initial_kind_of found))) span)
 
-abbrev pub header : HeadersView → Heading → Judgement HeadersView
-header h (GlobalNamed k x None) = do
+abbrev pub header : HeadersView → Header → Judgement HeadersView
+header h (source.Global k x None) = do
   unused ← must (IsUnused h x) (at DoubleName x.span)
-  gives (with_global h (spelled x) k (empty_first k))
-header h (GlobalNamed k x (Some v)) = do
+  gives (with_global h (spelled x) k (empty_initial k))
+header h (source.Global k x (Some v)) = do
   found ← initial h.scope v
   unused ← must (IsUnused h x) (at DoubleName x.span)
-  value ← first_become k found (initial_span v)
+  value ← initial_become k found (initial_span v)
   gives (with_global h (spelled x) k value)
-header h (FunctionNamed k x params body) = do
+header h (source.Function k x params body) = do
   unused ← must (IsUnused h x) (at DoubleName x.span)
   names ← each param [] params
   gives (with_function h (spelled x) k params)
 
 -- a state has one handler of an event, with the event's parameters
-abbrev pub handler : List EventId → Handling → Judgement (List EventId)
+abbrev pub handler : List EventId → Handler → Judgement (List EventId)
 handler events h = do
   event ← the_one (IsEvent (spelled h.name)) (at WrongHandler h.name.span)
   first ← must (Contains events event → ⊥) (at DoubleName h.name.span)
@@ -95,7 +98,7 @@ handler events h = do
   gives (events ++ event ∷ [])
 
 -- states have names of their own
-abbrev pub state : List (List ℕ) → Standing → Judgement (List (List ℕ))
+abbrev pub state : List (List ℕ) → State → Judgement (List (List ℕ))
 state names s = do
   fresh ← must (Contains names (spelled s.name) → ⊥) (at DoubleName s.name.span)
   events ← each handler [] s.handlers

@@ -13,18 +13,21 @@ use Rattle.lsl_tree.specs.declared.program.Part.{Part}
 use Rattle.lsl_tree.specs.declared.program.Part.TheVariants as part
 use Rattle.lsl_tree.specs.declared.program_node.Place.{Place}
 use Rattle.lsl_tree.specs.declared.program_node.Place.TheVariants.{Global, Slot}
-use Rattle.lsl_tree.specs.Scripts.{Initial, Single, Several, Heading, GlobalNamed, FunctionNamed, Handling, Standing}
-use Rattle.lsl_tree.specs.Program.{First, One, Parts}
+use Rattle.lsl_tree.specs.Scripts as source
+use Rattle.lsl_tree.specs.Scripts.{Simple, Header, Handler, State}
+use Rattle.lsl_tree.specs.Program as program
+use Rattle.lsl_tree.specs.Program.{Initial}
 use Rattle.lsl_type.specs.declared.faults.TypeKind.TheVariants.{DoubleName, WrongKind, NotConstant, WrongHandler}
 use Rattle.lsl_type.specs.declared.frame.Variable.{Variable}
 use Rattle.lsl_type.specs.Scope.{ScopeView, spelled, variable_of}
 use Rattle.lsl_type.specs.Known.{HeadersView, with_global, with_function, kinds_of}
 use Rattle.lsl_type.specs.Table.{is_reserved, constant_of, event_of, event_params_of, constant_kind_of}
-use Rattle.lsl_type.specs.Conversions.{first_as_kind, first_kind_of, empty_first, part_kind_of, is_no_list}
+use Rattle.lsl_tree.specs.Initials.{initial_kind_of, part_kind_of}
+use Rattle.lsl_type.specs.Conversions.{initial_as_kind, empty_initial, is_no_list}
 use Rattle.lsl_type.specs.Spans.{atom_span, initial_span}
 use Rattle.lsl_type.specs.Judgement.{at}
 use Rattle.lsl_type.specs.Names.{nearest}
-use Rattle.lsl_type.specs.Verdict.{Verdict, ◌>>=◌, the_one_r, must_r, each_r}
+use Rattle.lsl_type.specs.Verdict.{Verdict, ◌>>=◌, the_one_verdict, must_verdict, each_verdict}
 use Rattle.lsl_type.specs.Sameness.{same_event, same_kinds}
 use Rattle.std.specs.List.{list_any}
 
@@ -39,18 +42,18 @@ part_of v = part_at v.place v.kind where
   part_at (Global number) k = Some (part.Global number k)
   part_at (Slot number) k = None
 
-abbrev pub constant_initial_r : Name → Verdict Part
-constant_initial_r x = the_one_r (constant_part (constant_of (spelled x))) (at NotConstant x.span)
+abbrev pub constant_initial_verdict : Name → Verdict Part
+constant_initial_verdict x = the_one_verdict (constant_part (constant_of (spelled x))) (at NotConstant x.span)
 
 abbrev pub part_by : Option Variable → Name → Verdict Part
-part_by (Some v) x = the_one_r (part_of v) (at NotConstant x.span)
-part_by None x = constant_initial_r x
+part_by (Some v) x = the_one_verdict (part_of v) (at NotConstant x.span)
+part_by None x = constant_initial_verdict x
 
-abbrev pub initial_part_r : ScopeView → Atom → Verdict Part
-initial_part_r s (atom.Int n span) = Ok (part.Int n)
-initial_part_r s (atom.Negative n span) = Ok (part.Negative n)
-initial_part_r s (atom.Str t span) = Ok (part.Str t)
-initial_part_r s (atom.Constant x) = part_by (variable_of s (spelled x)) x
+abbrev pub initial_part_verdict : ScopeView → Atom → Verdict Part
+initial_part_verdict s (atom.Int n span) = Ok (part.Int n)
+initial_part_verdict s (atom.Negative n span) = Ok (part.Negative n)
+initial_part_verdict s (atom.Str t span) = Ok (part.Str t)
+initial_part_verdict s (atom.Constant x) = part_by (variable_of s (spelled x)) x
 
 abbrev pub is_unused : HeadersView → Name → Bool
 is_unused h x = not (is_reserved (spelled x) || (is_some (nearest (spelled x) h.scope.names) || is_some (nearest (spelled x) h.functions)))
@@ -58,59 +61,59 @@ is_unused h x = not (is_reserved (spelled x) || (is_some (nearest (spelled x) h.
 abbrev pub has_event : List EventId → EventId → Bool
 has_event events event = list_any (λ e. same_event e event) events
 
-abbrev pub next_part_r : ScopeView → List Part → Atom → Verdict (List Part)
-next_part_r s before a = do
-  p ← initial_part_r s a
+abbrev pub next_part_verdict : ScopeView → List Part → Atom → Verdict (List Part)
+next_part_verdict s before a = do
+  p ← initial_part_verdict s a
   Ok (before ++ p ∷ [])
 
-abbrev pub flat_parts_r : List Atom → List Part → Verdict (Unit {0})
-flat_parts_r [] ps = Ok tt
-flat_parts_r (a ∷ rest) [] = Ok tt
-flat_parts_r (a ∷ rest) (p ∷ ps) = do
-  flat ← must_r (is_no_list (part_kind_of p)) (at (WrongKind None (Some ListKind)) (atom_span a))
-  flat_parts_r rest ps
+abbrev pub flat_parts_verdict : List Atom → List Part → Verdict (Unit {0})
+flat_parts_verdict [] ps = Ok tt
+flat_parts_verdict (a ∷ rest) [] = Ok tt
+flat_parts_verdict (a ∷ rest) (p ∷ ps) = do
+  flat ← must_verdict (is_no_list (part_kind_of p)) (at (WrongKind None (Some ListKind)) (atom_span a))
+  flat_parts_verdict rest ps
 
-abbrev pub initial_r : ScopeView → Initial → Verdict First
-initial_r s (Single a) = do
-  p ← initial_part_r s a
-  Ok (One p)
-initial_r s (Several span atoms) = do
-  ps ← each_r (next_part_r s) [] atoms
-  flat ← flat_parts_r atoms ps
-  Ok (Parts ps)
+abbrev pub initial_verdict : ScopeView → Simple → Verdict Initial
+initial_verdict s (source.Atom a) = do
+  p ← initial_part_verdict s a
+  Ok (program.Single p)
+initial_verdict s (source.Atoms span atoms) = do
+  ps ← each_verdict (next_part_verdict s) [] atoms
+  flat ← flat_parts_verdict atoms ps
+  Ok (program.ListLiteral ps)
 
-abbrev pub param_r : List (List ℕ) → Param → Verdict (List (List ℕ))
-param_r names p = do
-  fresh ← must_r (not (is_reserved (spelled p.name) || is_some (nearest (spelled p.name) names))) (at DoubleName p.name.span)
+abbrev pub param_verdict : List (List ℕ) → Param → Verdict (List (List ℕ))
+param_verdict names p = do
+  fresh ← must_verdict (not (is_reserved (spelled p.name) || is_some (nearest (spelled p.name) names))) (at DoubleName p.name.span)
   Ok (spelled p.name ∷ names)
 
-abbrev pub first_become_r : Kind → First → Span → Verdict First
-first_become_r k found span = the_one_r (first_as_kind k found) (at (WrongKind (Some k) (Some (first_kind_of found))) span)
+abbrev pub initial_become_verdict : Kind → Initial → Span → Verdict Initial
+initial_become_verdict k found span = the_one_verdict (initial_as_kind k found) (at (WrongKind (Some k) (Some (initial_kind_of found))) span)
 
-abbrev pub header_r : HeadersView → Heading → Verdict HeadersView
-header_r h (GlobalNamed k x None) = do
-  unused ← must_r (is_unused h x) (at DoubleName x.span)
-  Ok (with_global h (spelled x) k (empty_first k))
-header_r h (GlobalNamed k x (Some v)) = do
-  found ← initial_r h.scope v
-  unused ← must_r (is_unused h x) (at DoubleName x.span)
-  value ← first_become_r k found (initial_span v)
+abbrev pub header_verdict : HeadersView → Header → Verdict HeadersView
+header_verdict h (source.Global k x None) = do
+  unused ← must_verdict (is_unused h x) (at DoubleName x.span)
+  Ok (with_global h (spelled x) k (empty_initial k))
+header_verdict h (source.Global k x (Some v)) = do
+  found ← initial_verdict h.scope v
+  unused ← must_verdict (is_unused h x) (at DoubleName x.span)
+  value ← initial_become_verdict k found (initial_span v)
   Ok (with_global h (spelled x) k value)
-header_r h (FunctionNamed k x params body) = do
-  unused ← must_r (is_unused h x) (at DoubleName x.span)
-  names ← each_r param_r [] params
+header_verdict h (source.Function k x params body) = do
+  unused ← must_verdict (is_unused h x) (at DoubleName x.span)
+  names ← each_verdict param_verdict [] params
   Ok (with_function h (spelled x) k params)
 
-abbrev pub handler_r : List EventId → Handling → Verdict (List EventId)
-handler_r events h = do
-  event ← the_one_r (event_of (spelled h.name)) (at WrongHandler h.name.span)
-  first ← must_r (not (has_event events event)) (at DoubleName h.name.span)
-  kinds ← must_r (same_kinds (kinds_of h.params) (event_params_of event)) (at WrongHandler h.name.span)
-  names ← each_r param_r [] h.params
+abbrev pub handler_verdict : List EventId → Handler → Verdict (List EventId)
+handler_verdict events h = do
+  event ← the_one_verdict (event_of (spelled h.name)) (at WrongHandler h.name.span)
+  first ← must_verdict (not (has_event events event)) (at DoubleName h.name.span)
+  kinds ← must_verdict (same_kinds (kinds_of h.params) (event_params_of event)) (at WrongHandler h.name.span)
+  names ← each_verdict param_verdict [] h.params
   Ok (events ++ event ∷ [])
 
-abbrev pub state_r : List (List ℕ) → Standing → Verdict (List (List ℕ))
-state_r names s = do
-  fresh ← must_r (not (is_some (nearest (spelled s.name) names))) (at DoubleName s.name.span)
-  events ← each_r handler_r [] s.handlers
+abbrev pub state_verdict : List (List ℕ) → State → Verdict (List (List ℕ))
+state_verdict names s = do
+  fresh ← must_verdict (not (is_some (nearest (spelled s.name) names))) (at DoubleName s.name.span)
+  events ← each_verdict handler_verdict [] s.handlers
   Ok (spelled s.name ∷ names)

@@ -6,71 +6,68 @@ use Rattle.lsl_tree.specs.declared.script.Param.{Param}
 use Rattle.lsl_tree.specs.declared.program_node.Callee.{Callee}
 use Rattle.lsl_tree.specs.declared.program_node.Callee.TheVariants.{Function, Builtin}
 use Rattle.lsl_tree.specs.declared.program_node.Place.TheVariants.{Global}
-use Rattle.lsl_tree.specs.Program.{First, first_of}
-use Rattle.lsl_type.specs.declared.known.Signature.{Signature}
+use Rattle.lsl_tree.specs.Signatures.{Signature}
+use Rattle.lsl_tree.specs.Program.{Initial, initial_of}
+use Rattle.lsl_type.specs.declared.known.Signature as declared_signature
 use Rattle.lsl_type.specs.declared.known.Known.{Known}
 use Rattle.lsl_type.specs.declared.known.Headers.{Headers}
 use Rattle.lsl_type.specs.Names.{IsNearest}
 use Rattle.lsl_type.specs.Scope.{ScopeView, scope_of, declared}
 use Rattle.lsl_type.specs.Table.{builtin_of, IsBuiltin, params_of, result_of}
 
-pub record SignatureView : Type 0 where
-  pub params : List Kind
-  pub result : Option Kind
-
 -- functions by number, and the states but `default`
 pub record KnownView : Type 0 where
   pub functions : List (List ℕ)
-  pub signatures : List SignatureView
+  pub signatures : List Signature
   pub states : List (List ℕ)
 
 -- what the globals and functions so far declare
 pub record HeadersView : Type 0 where
   pub scope : ScopeView
-  pub globals : List First
+  pub globals : List Initial
   pub functions : List (List ℕ)
-  pub signatures : List SignatureView
+  pub signatures : List Signature
 
-abbrev pub signature_view : Signature → SignatureView
-signature_view s = record { params = s.params.items; result = s.result }
+abbrev pub known_signature_of : declared_signature.Signature → Signature
+known_signature_of s = record { params = s.params.items; result = s.result }
 
 abbrev pub known_of : Known → KnownView
-known_of k = record { functions = k.functions; signatures = map signature_view k.signatures.items; states = k.states }
+known_of k = record { functions = k.functions; signatures = map known_signature_of k.signatures.items; states = k.states }
 
 abbrev pub headers_of : Headers → HeadersView
 headers_of h = record {
   scope = scope_of h.scope;
-  globals = map first_of h.globals.items;
+  globals = map initial_of h.globals.items;
   functions = h.functions;
-  signatures = map signature_view h.signatures.items;
+  signatures = map known_signature_of h.signatures.items;
 }
 
 -- what a called name stands for, and how it is called
-pub record Called_as : Type 0 where
+pub record Calling : Type 0 where
   pub callee : Callee
-  pub signature : SignatureView
+  pub signature : Signature
 
-abbrev pub IsFunction : KnownView → List ℕ → ℕ → SignatureView → Type 0
+abbrev pub IsFunction : KnownView → List ℕ → ℕ → Signature → Type 0
 IsFunction k name number s = IsNearest name k.functions number × (slice_get k.signatures number ≡ Some s)
 
 -- a function of the script, or else a built-in call
-abbrev pub IsCallable : KnownView → List ℕ → Called_as → Type 0
+abbrev pub IsCallable : KnownView → List ℕ → Calling → Type 0
 IsCallable k name c =
     ((number : ℕ) × IsFunction k name number c.signature × (c.callee ≡ Function number))
-    ⊎ (((number : ℕ) (s : SignatureView) → IsFunction k name number s → ⊥)
+    ⊎ (((number : ℕ) (s : Signature) → IsFunction k name number s → ⊥)
     × ((id : _) × IsBuiltin name id × (c ≡ record { callee = Builtin id; signature = record { params = params_of id; result = result_of id } })))
 
-abbrev pub function_of : KnownView → ℕ → Option Called_as
+abbrev pub function_of : KnownView → ℕ → Option Calling
 function_of k number = option_map (λ s. record { callee = Function number; signature = s }) (slice_get k.signatures number)
 
-abbrev pub builtin_called_of : List ℕ → Option Called_as
+abbrev pub builtin_called_of : List ℕ → Option Calling
 builtin_called_of name = option_map (λ id. record { callee = Builtin id; signature = record { params = params_of id; result = result_of id } }) (builtin_of name)
 
 abbrev pub kinds_of : List Param → List Kind
 kinds_of ps = map (λ p. p.kind) ps
 
 -- one more global, with its initial value
-abbrev pub with_global : HeadersView → List ℕ → Kind → First → HeadersView
+abbrev pub with_global : HeadersView → List ℕ → Kind → Initial → HeadersView
 with_global h name k value = record h {
   scope = declared h.scope name (record { place = Global (length h.globals); kind = k });
   globals = h.globals ++ value ∷ [];

@@ -6,7 +6,8 @@ use Rattle.lsl_value.specs.declared.tagged.Kind.{Kind}
 use Rattle.lsl_tree.specs.declared.expression.Name.{Name}
 use Rattle.lsl_tree.specs.declared.script.Param.{Param}
 use Rattle.lsl_tree.specs.declared.program_node.Place.TheVariants.{Slot}
-use Rattle.lsl_tree.specs.Statements.{Entry, Entries, No_entry, Then, Declared, Labelled, Acted}
+use Rattle.lsl_tree.specs.Statements as stmt
+use Rattle.lsl_tree.specs.Statements.{Item, Items, NoItem, AndItem}
 use Rattle.lsl_type.specs.declared.frame.Variable.{Variable}
 use Rattle.lsl_type.specs.declared.frame.Frame.{Frame}
 use Rattle.lsl_type.specs.declared.frame.Scope.{Scope}
@@ -84,17 +85,17 @@ abbrev pub with_passed : FrameView → List ℕ → FrameView
 with_passed f name = record f { passed = name ∷ f.passed }
 
 -- the labels that stand directly in a block, the last first
-abbrev pub labels_with : Entry → List (List ℕ) → List (List ℕ)
-labels_with (Declared k x v) names = names
-labels_with (Labelled x) names = spelled x ∷ names
-labels_with (Acted s) names = names
+abbrev pub labels_with : Item → List (List ℕ) → List (List ℕ)
+labels_with (stmt.Declaration k x v) names = names
+labels_with (stmt.Label x) names = spelled x ∷ names
+labels_with (stmt.Statement s) names = names
 
-abbrev pub labels_of : Entries → List (List ℕ)
-labels_of No_entry = []
-labels_of (Then es e) = labels_with e (labels_of es)
+abbrev pub labels_of : Items → List (List ℕ)
+labels_of NoItem = []
+labels_of (AndItem es e) = labels_with e (labels_of es)
 
 -- where a block begins
-abbrev pub opened : FrameView → Entries → FrameView
+abbrev pub opened : FrameView → Items → FrameView
 opened f es = record f {
   labels = labels_of es ++ f.labels;
   first_variable = length f.scope.names;

@@ -2,22 +2,24 @@
 use Rattle.lsl_text.specs.declared.Span.{Span}
 use Rattle.lsl_tree.specs.declared.script.Atom.{Atom}
 use Rattle.lsl_tree.specs.declared.script.Atom.TheVariants as atom
-use Rattle.lsl_tree.specs.Expressions.{Expression, Number, Quoted, Variable, SteppedBehind, SteppedBefore, Called, Listed, Grouped, Converted, Prefixed, Joined, Assigned}
-use Rattle.lsl_tree.specs.Scripts.{Initial, Single, Several}
+use Rattle.lsl_tree.specs.Expressions as expr
+use Rattle.lsl_tree.specs.Expressions.{Expr}
+use Rattle.lsl_tree.specs.Scripts as source
+use Rattle.lsl_tree.specs.Scripts.{Simple}
 
-abbrev pub first_span : Expression → Span
-first_span (Number n s) = s
-first_span (Quoted t s) = s
-first_span (Variable x) = x.span
-first_span (SteppedBehind x o) = x.span
-first_span (SteppedBefore o s x) = s
-first_span (Called x es) = x.span
-first_span (Listed s es) = s
-first_span (Grouped s e) = s
-first_span (Converted s k e) = s
-first_span (Prefixed o s e) = s
-first_span (Joined o s a b) = first_span a
-first_span (Assigned x o s e) = x.span
+abbrev pub first_span : Expr → Span
+first_span (expr.Int n s) = s
+first_span (expr.Str t s) = s
+first_span (expr.Variable x) = x.span
+first_span (expr.StepBehind x o) = x.span
+first_span (expr.StepBefore o s x) = s
+first_span (expr.Call x es) = x.span
+first_span (expr.ListLiteral s es) = s
+first_span (expr.Parens s e) = s
+first_span (expr.Cast s k e) = s
+first_span (expr.Unary o s e) = s
+first_span (expr.Binary o s a b) = first_span a
+first_span (expr.Assign x o s e) = x.span
 
 abbrev pub atom_span : Atom → Span
 atom_span (atom.Int n s) = s
@@ -25,6 +27,6 @@ atom_span (atom.Negative n s) = s
 atom_span (atom.Str t s) = s
 atom_span (atom.Constant x) = x.span
 
-abbrev pub initial_span : Initial → Span
-initial_span (Single a) = atom_span a
-initial_span (Several s atoms) = s
+abbrev pub initial_span : Simple → Span
+initial_span (source.Atom a) = atom_span a
+initial_span (source.Atoms s atoms) = s

@@ -3,24 +3,24 @@ use Rattle.std.specs.Prelude.{◌≡◌, ℕ, length}
 use Rattle.lsl_text.specs.declared.Refusal.{Refusal}
 use Rattle.lsl_text.specs.declared.Refusal.TheVariants.{NoMemory, Fault}
 use Rattle.lsl_value.specs.declared.names.BuiltinId.{BuiltinId}
-use Rattle.lsl_tree.specs.Scripts.{Script}
-use Rattle.lsl_tree.specs.Program.{Checked}
+use Rattle.lsl_tree.specs.Scripts.{Tree}
+use Rattle.lsl_tree.specs.Program.{Program}
 use Rattle.lsl_type.specs.declared.faults.TypeFault.{TypeFault}
 use Rattle.lsl_type.specs.ScriptRules.{script}
 use Rattle.lsl_type.specs.Table.{params_of}
 
 -- the script is this program
-abbrev pub Typed : Script → Checked → Type 0
+abbrev pub Typed : Tree → Program → Type 0
 Typed tree program = (script tree).types program
 
 -- the script's first fault is this one
-abbrev pub TypeFirst : Script → TypeFault → Type 0
+abbrev pub TypeFirst : Tree → TypeFault → Type 0
 TypeFirst tree fault = (script tree).breaks fault
 
 -- why there is no program: the first fault, or want of memory
-abbrev pub IsRefused : Script → Refusal TypeFault → Type 0
-IsRefused tree (Fault fault) = TypeFirst tree fault
-IsRefused tree NoMemory = Unit {0}
+abbrev pub IsTypeRefusal : Tree → Refusal TypeFault → Type 0
+IsTypeRefusal tree (Fault fault) = TypeFirst tree fault
+IsTypeRefusal tree NoMemory = Unit {0}
 
 -- this fault, or want of memory
 abbrev pub IsThat : TypeFault → Refusal TypeFault → Type 0

@@ -6,9 +6,11 @@ use Rattle.lsl_value.specs.declared.operators.BinaryOp.{BinaryOp}
 use Rattle.lsl_value.specs.declared.tagged.Kind.{Kind}
 use Rattle.lsl_value.specs.declared.tagged.Kind.TheVariants.{List as ListKind}
 use Rattle.lsl_value.specs.OperatorRows.{result_kind_of, casts_of}
-use Rattle.lsl_tree.specs.Expressions.{Expression, Expressions, Number, Quoted, Variable, SteppedBehind, SteppedBefore, Called, Listed, Grouped, Converted, Prefixed, Joined, Assigned, No_expression, And}
-use Rattle.lsl_tree.specs.Nodes.{Typed, TypedList, Integer, Literal, Elements, Turned, Signed, Operated, None_typed, Behind, kind_of}
-use Rattle.lsl_tree.specs.Actions.{Effected, Valued}
+use Rattle.lsl_tree.specs.Expressions as expr
+use Rattle.lsl_tree.specs.Expressions.{Expr, Exprs, NoExpr, AndExpr}
+use Rattle.lsl_tree.specs.Nodes as node
+use Rattle.lsl_tree.specs.Nodes.{Node, Nodes, NoNode, AndNode, node_kind_of}
+use Rattle.lsl_tree.specs.Effects.{Effect, Value}
 use Rattle.lsl_type.specs.declared.faults.TypeKind.TheVariants.{WrongKind, NoOperator, NoCast}
 use Rattle.lsl_type.specs.Scope.{ScopeView}
 use Rattle.lsl_type.specs.Known.{KnownView}
@@ -16,88 +18,88 @@ use Rattle.lsl_type.specs.Conversions.{is_int, is_no_list}
 use Rattle.lsl_type.specs.Spans.{first_span}
 use Rattle.lsl_type.specs.Judgement.{at, Judgement, gives, ◌>>=◌, must, entry}
 use Rattle.lsl_type.specs.VariableRules.{target, stored, read, step_behind, step_before}
-use Rattle.lsl_type.specs.CallRules.{callable, called_as, performed_as}
+use Rattle.lsl_type.specs.CallRules.{callable, call_value, call_effect}
 
 -- no element of a list is a list
-abbrev pub flat : Expressions → TypedList → Judgement (Unit {0})
-flat No_expression ts = gives tt
-flat (And es e) None_typed = gives tt
-flat (And es e) (Behind ts t) = do
+abbrev pub flat : Exprs → Nodes → Judgement (Unit {0})
+flat NoExpr ts = gives tt
+flat (AndExpr es e) NoNode = gives tt
+flat (AndExpr es e) (AndNode ts t) = do
   before ← flat es ts
-  must (is_no_list (kind_of t) ≡ true) (at (WrongKind None (Some ListKind)) (first_span e))
+  must (is_no_list (node_kind_of t) ≡ true) (at (WrongKind None (Some ListKind)) (first_span e))
 
-abbrev pub converted : Span → Kind → Typed → Judgement Typed
+abbrev pub converted : Span → Kind → Node → Judgement Node
 converted span kind t = do
-  row ← must (casts_of (kind_of t) kind ≡ true) (at NoCast span)
-  gives (Turned kind t)
+  row ← must (casts_of (node_kind_of t) kind ≡ true) (at NoCast span)
+  gives (node.Cast kind t)
 
-abbrev pub prefixed : UnaryOp → Span → Typed → Judgement Typed
+abbrev pub prefixed : UnaryOp → Span → Node → Judgement Node
 prefixed op span t = do
-  row ← must (is_int (kind_of t) ≡ true) (at NoOperator span)
-  gives (Signed op t)
+  row ← must (is_int (node_kind_of t) ≡ true) (at NoOperator span)
+  gives (node.Unary op t)
 
-abbrev pub joined : BinaryOp → Span → Typed → Typed → Judgement Typed
+abbrev pub joined : BinaryOp → Span → Node → Node → Judgement Node
 joined op span left right = do
-  kind ← entry (result_kind_of op (kind_of left) (kind_of right)) (at NoOperator span)
-  gives (Operated op kind left right)
+  kind ← entry (result_kind_of op (node_kind_of left) (node_kind_of right)) (at NoOperator span)
+  gives (node.Binary op kind left right)
 
-abbrev pub listed : Expressions → TypedList → Judgement Typed
+abbrev pub listed : Exprs → Nodes → Judgement Node
 listed es ts = do
   elements ← flat es ts
-  gives (Elements ts)
+  gives (node.ListLiteral ts)
 
 abbrev mutual
   -- an expression whose value is needed
-  pub value : KnownView → ScopeView → Expression → Judgement Typed
-  value known s (Number n span) = gives (Integer n)
-  value known s (Quoted text span) = gives (Literal text)
-  value known s (Variable x) = read s x
-  value known s (SteppedBehind x op) = step_behind s x op
-  value known s (SteppedBefore op span x) = step_before s x op
-  value known s (Called x es) = do
+  pub value : KnownView → ScopeView → Expr → Judgement Node
+  value known s (expr.Int n span) = gives (node.Int n)
+  value known s (expr.Str text span) = gives (node.Str text)
+  value known s (expr.Variable x) = read s x
+  value known s (expr.StepBehind x op) = step_behind s x op
+  value known s (expr.StepBefore op span x) = step_before s x op
+  value known s (expr.Call x es) = do
     ts ← values known s es
     c ← callable known x
-    called_as c x es ts
-  value known s (Listed span es) = do
+    call_value c x es ts
+  value known s (expr.ListLiteral span es) = do
     ts ← values known s es
     listed es ts
-  value known s (Grouped span e) = value known s e
-  value known s (Converted span kind e) = do
+  value known s (expr.Parens span e) = value known s e
+  value known s (expr.Cast span kind e) = do
     t ← value known s e
     converted span kind t
-  value known s (Prefixed op span e) = do
+  value known s (expr.Unary op span e) = do
     t ← value known s e
     prefixed op span t
-  value known s (Joined op span a b) = do
+  value known s (expr.Binary op span a b) = do
     left ← value known s a
     right ← value known s b
     joined op span left right
-  value known s (Assigned x op span e) = do
+  value known s (expr.Assign x op span e) = do
     t ← target s x
     right ← value known s e
     stored t x op span right (first_span e)
 
-  pub values : KnownView → ScopeView → Expressions → Judgement TypedList
-  values known s No_expression = gives None_typed
-  values known s (And es e) = do
+  pub values : KnownView → ScopeView → Exprs → Judgement Nodes
+  values known s NoExpr = gives NoNode
+  values known s (AndExpr es e) = do
     before ← values known s es
     last ← value known s e
-    gives (Behind before last)
+    gives (AndNode before last)
 
 -- an expression that stands as a statement: it need not have a value
-abbrev pub effect : KnownView → ScopeView → Expression → Judgement Effected
-effect known s (Grouped span e) = effect known s e
-effect known s (Called x es) = do
+abbrev pub effect : KnownView → ScopeView → Expr → Judgement Effect
+effect known s (expr.Parens span e) = effect known s e
+effect known s (expr.Call x es) = do
   ts ← values known s es
   c ← callable known x
-  performed_as c x es ts
+  call_effect c x es ts
 effect known s e = do
   t ← value known s e
-  gives (Valued t)
+  gives (Value t)
 
-abbrev pub effects : KnownView → ScopeView → Expressions → Judgement (List Effected)
-effects known s No_expression = gives []
-effects known s (And es e) = do
+abbrev pub effects : KnownView → ScopeView → Exprs → Judgement (List Effect)
+effects known s NoExpr = gives []
+effects known s (AndExpr es e) = do
   before ← effects known s es
   last ← effect known s e
   gives (before ++ last ∷ [])

@@ -6,9 +6,12 @@ use Rattle.lsl_value.specs.declared.operators.BinaryOp.{BinaryOp}
 use Rattle.lsl_value.specs.declared.tagged.Kind.{Kind}
 use Rattle.lsl_value.specs.declared.tagged.Kind.TheVariants.{List as ListKind}
 use Rattle.lsl_value.specs.OperatorRows.{result_kind_of, casts_of}
-use Rattle.lsl_tree.specs.Expressions.{Expression, Expressions, Number, Quoted, Variable, SteppedBehind, SteppedBefore, Called, Listed, Grouped, Converted, Prefixed, Joined, Assigned, No_expression, And}
-use Rattle.lsl_tree.specs.Nodes.{Typed, TypedList, Integer, Literal, Elements, Turned, Signed, Operated, None_typed, Behind, kind_of}
-use Rattle.lsl_tree.specs.Actions.{Effected, Valued}
+use Rattle.lsl_tree.specs.Expressions as expr
+use Rattle.lsl_tree.specs.Expressions.{Expr, Exprs, NoExpr, AndExpr}
+use Rattle.lsl_tree.specs.Nodes as node
+use Rattle.lsl_tree.specs.Nodes.{Node, Nodes, NoNode, AndNode, node_kind_of}
+use Rattle.lsl_tree.specs.Effects as effect
+use Rattle.lsl_tree.specs.Effects.{Effect}
 use Rattle.lsl_type.specs.declared.faults.TypeKind.TheVariants.{WrongKind, NoOperator, NoCast}
 use Rattle.lsl_type.specs.Scope.{ScopeView}
 use Rattle.lsl_type.specs.Known.{KnownView}
@@ -16,87 +19,87 @@ use Rattle.lsl_type.specs.Conversions.{is_int, is_no_list}
 use Rattle.lsl_type.specs.Spans.{first_span}
 use Rattle.lsl_type.specs.Judgement.{at}
 use Rattle.std.specs.Prelude.{Ok}
-use Rattle.lsl_type.specs.Verdict.{Verdict, ◌>>=◌, the_one_r, must_r}
-use Rattle.lsl_type.specs.VariableVerdicts.{target_r, stored_r, read_r, step_behind_r, step_before_r}
-use Rattle.lsl_type.specs.CallVerdicts.{callable_r, called_as_r, performed_as_r}
+use Rattle.lsl_type.specs.Verdict.{Verdict, ◌>>=◌, the_one_verdict, must_verdict}
+use Rattle.lsl_type.specs.VariableVerdicts.{target_verdict, stored_verdict, read_verdict, step_behind_verdict, step_before_verdict}
+use Rattle.lsl_type.specs.CallVerdicts.{callable_verdict, call_value_verdict, call_effect_verdict}
 
-abbrev pub flat_r : Expressions → TypedList → Verdict (Unit {0})
-flat_r No_expression ts = Ok tt
-flat_r (And es e) None_typed = Ok tt
-flat_r (And es e) (Behind ts t) = do
-  before ← flat_r es ts
-  must_r (is_no_list (kind_of t)) (at (WrongKind None (Some ListKind)) (first_span e))
+abbrev pub flat_verdict : Exprs → Nodes → Verdict (Unit {0})
+flat_verdict NoExpr ts = Ok tt
+flat_verdict (AndExpr es e) NoNode = Ok tt
+flat_verdict (AndExpr es e) (AndNode ts t) = do
+  before ← flat_verdict es ts
+  must_verdict (is_no_list (node_kind_of t)) (at (WrongKind None (Some ListKind)) (first_span e))
 
-abbrev pub converted_r : Span → Kind → Typed → Verdict Typed
-converted_r span kind t = do
-  row ← must_r (casts_of (kind_of t) kind) (at NoCast span)
-  Ok (Turned kind t)
+abbrev pub converted_verdict : Span → Kind → Node → Verdict Node
+converted_verdict span kind t = do
+  row ← must_verdict (casts_of (node_kind_of t) kind) (at NoCast span)
+  Ok (node.Cast kind t)
 
-abbrev pub prefixed_r : UnaryOp → Span → Typed → Verdict Typed
-prefixed_r op span t = do
-  row ← must_r (is_int (kind_of t)) (at NoOperator span)
-  Ok (Signed op t)
+abbrev pub prefixed_verdict : UnaryOp → Span → Node → Verdict Node
+prefixed_verdict op span t = do
+  row ← must_verdict (is_int (node_kind_of t)) (at NoOperator span)
+  Ok (node.Unary op t)
 
-abbrev pub joined_r : BinaryOp → Span → Typed → Typed → Verdict Typed
-joined_r op span left right = do
-  kind ← the_one_r (result_kind_of op (kind_of left) (kind_of right)) (at NoOperator span)
-  Ok (Operated op kind left right)
+abbrev pub joined_verdict : BinaryOp → Span → Node → Node → Verdict Node
+joined_verdict op span left right = do
+  kind ← the_one_verdict (result_kind_of op (node_kind_of left) (node_kind_of right)) (at NoOperator span)
+  Ok (node.Binary op kind left right)
 
-abbrev pub listed_r : Expressions → TypedList → Verdict Typed
-listed_r es ts = do
-  elements ← flat_r es ts
-  Ok (Elements ts)
+abbrev pub listed_verdict : Exprs → Nodes → Verdict Node
+listed_verdict es ts = do
+  elements ← flat_verdict es ts
+  Ok (node.ListLiteral ts)
 
 abbrev mutual
-  pub value_r : KnownView → ScopeView → Expression → Verdict Typed
-  value_r known s (Number n span) = Ok (Integer n)
-  value_r known s (Quoted text span) = Ok (Literal text)
-  value_r known s (Variable x) = read_r s x
-  value_r known s (SteppedBehind x op) = step_behind_r s x op
-  value_r known s (SteppedBefore op span x) = step_before_r s x op
-  value_r known s (Called x es) = do
-    ts ← values_r known s es
-    c ← callable_r known x
-    called_as_r c x es ts
-  value_r known s (Listed span es) = do
-    ts ← values_r known s es
-    listed_r es ts
-  value_r known s (Grouped span e) = value_r known s e
-  value_r known s (Converted span kind e) = do
-    t ← value_r known s e
-    converted_r span kind t
-  value_r known s (Prefixed op span e) = do
-    t ← value_r known s e
-    prefixed_r op span t
-  value_r known s (Joined op span a b) = do
-    left ← value_r known s a
-    right ← value_r known s b
-    joined_r op span left right
-  value_r known s (Assigned x op span e) = do
-    t ← target_r s x
-    right ← value_r known s e
-    stored_r t x op span right (first_span e)
+  pub value_verdict : KnownView → ScopeView → Expr → Verdict Node
+  value_verdict known s (expr.Int n span) = Ok (node.Int n)
+  value_verdict known s (expr.Str text span) = Ok (node.Str text)
+  value_verdict known s (expr.Variable x) = read_verdict s x
+  value_verdict known s (expr.StepBehind x op) = step_behind_verdict s x op
+  value_verdict known s (expr.StepBefore op span x) = step_before_verdict s x op
+  value_verdict known s (expr.Call x es) = do
+    ts ← values_verdict known s es
+    c ← callable_verdict known x
+    call_value_verdict c x es ts
+  value_verdict known s (expr.ListLiteral span es) = do
+    ts ← values_verdict known s es
+    listed_verdict es ts
+  value_verdict known s (expr.Parens span e) = value_verdict known s e
+  value_verdict known s (expr.Cast span kind e) = do
+    t ← value_verdict known s e
+    converted_verdict span kind t
+  value_verdict known s (expr.Unary op span e) = do
+    t ← value_verdict known s e
+    prefixed_verdict op span t
+  value_verdict known s (expr.Binary op span a b) = do
+    left ← value_verdict known s a
+    right ← value_verdict known s b
+    joined_verdict op span left right
+  value_verdict known s (expr.Assign x op span e) = do
+    t ← target_verdict s x
+    right ← value_verdict known s e
+    stored_verdict t x op span right (first_span e)
 
-  pub values_r : KnownView → ScopeView → Expressions → Verdict TypedList
-  values_r known s No_expression = Ok None_typed
-  values_r known s (And es e) = do
-    before ← values_r known s es
-    last ← value_r known s e
-    Ok (Behind before last)
+  pub values_verdict : KnownView → ScopeView → Exprs → Verdict Nodes
+  values_verdict known s NoExpr = Ok NoNode
+  values_verdict known s (AndExpr es e) = do
+    before ← values_verdict known s es
+    last ← value_verdict known s e
+    Ok (AndNode before last)
 
-abbrev pub effect_r : KnownView → ScopeView → Expression → Verdict Effected
-effect_r known s (Grouped span e) = effect_r known s e
-effect_r known s (Called x es) = do
-  ts ← values_r known s es
-  c ← callable_r known x
-  performed_as_r c x es ts
-effect_r known s e = do
-  t ← value_r known s e
-  Ok (Valued t)
+abbrev pub effect_verdict : KnownView → ScopeView → Expr → Verdict Effect
+effect_verdict known s (expr.Parens span e) = effect_verdict known s e
+effect_verdict known s (expr.Call x es) = do
+  ts ← values_verdict known s es
+  c ← callable_verdict known x
+  call_effect_verdict c x es ts
+effect_verdict known s e = do
+  t ← value_verdict known s e
+  Ok (effect.Value t)
 
-abbrev pub effects_r : KnownView → ScopeView → Expressions → Verdict (List Effected)
-effects_r known s No_expression = Ok []
-effects_r known s (And es e) = do
-  before ← effects_r known s es
-  last ← effect_r known s e
+abbrev pub effects_verdict : KnownView → ScopeView → Exprs → Verdict (List Effect)
+effects_verdict known s NoExpr = Ok []
+effects_verdict known s (AndExpr es e) = do
+  before ← effects_verdict known s es
+  last ← effect_verdict known s e
   Ok (before ++ last ∷ [])

@@ -9,7 +9,8 @@ use Rattle.lsl_tree.specs.declared.expression.Name.{Name}
 use Rattle.lsl_tree.specs.declared.expression.AssignOp.{AssignOp}
 use Rattle.lsl_tree.specs.declared.expression.StepOp.{StepOp}
 use Rattle.lsl_tree.specs.declared.program_node.Place.{Place}
-use Rattle.lsl_tree.specs.Nodes.{Typed, Read, Operated, Stored, Stepped, kind_of}
+use Rattle.lsl_tree.specs.Nodes as node
+use Rattle.lsl_tree.specs.Nodes.{Node, node_kind_of}
 use Rattle.lsl_type.specs.declared.faults.TypeKind.TheVariants.{UnknownName, WrongKind, NoOperator, NotVariable}
 use Rattle.lsl_type.specs.declared.frame.Variable.{Variable as VariableOf}
 use Rattle.lsl_type.specs.Scope.{ScopeView, spelled, IsVariable}
@@ -29,11 +30,11 @@ abbrev pub target : ScopeView → Name → Judgement Target
 target s x = the_one (IsTarget s x) (at UnknownName x.span)
 
 -- a constant can't be assigned
-abbrev pub IsKept : Target → VariableOf → Type 0
-IsKept t v = t ≡ Kept v
+abbrev pub KeepsVariable : Target → VariableOf → Type 0
+KeepsVariable t v = t ≡ Kept v
 
 abbrev pub variable : Target → Name → Judgement VariableOf
-variable t x = the_one (IsKept t) (at NotVariable x.span)
+variable t x = the_one (KeepsVariable t) (at NotVariable x.span)
 
 -- and no variable but an integer can be stepped
 abbrev pub IsCounter : Target → Place → Type 0
@@ -43,40 +44,40 @@ abbrev pub counter : Target → Name → Judgement Place
 counter t x = the_one (IsCounter t) (at NotVariable x.span)
 
 -- the node as one of the wanted kind, by the implicit cast if need be
-abbrev pub become : Kind → Typed → Span → Judgement Typed
-become k t span = entry (as_kind k t) (at (WrongKind (Some k) (Some (kind_of t))) span)
+abbrev pub become : Kind → Node → Span → Judgement Node
+become k t span = entry (as_kind k t) (at (WrongKind (Some k) (Some (node_kind_of t))) span)
 
 -- `x op= e` is `x = x op e`, where the operator gives the variable's kind
-abbrev pub compound : BinaryOp → VariableOf → Typed → Span → Judgement Typed
+abbrev pub compound : BinaryOp → VariableOf → Node → Span → Judgement Node
 compound op v t sign = do
-  row ← must (result_kind_of op v.kind (kind_of t) ≡ Some v.kind) (at NoOperator sign)
-  gives (Stored v.place v.kind (Operated op v.kind (Read v.place v.kind) t))
+  row ← must (result_kind_of op v.kind (node_kind_of t) ≡ Some v.kind) (at NoOperator sign)
+  gives (node.Assign v.place v.kind (node.Binary op v.kind (node.Variable v.place v.kind) t))
 
 -- an assignment of a value, by an operator or by none
-abbrev pub assigned : Option BinaryOp → VariableOf → Typed → Span → Span → Judgement Typed
+abbrev pub assigned : Option BinaryOp → VariableOf → Node → Span → Span → Judgement Node
 assigned None v t sign first = do
   cast ← become v.kind t first
-  gives (Stored v.place v.kind cast)
+  gives (node.Assign v.place v.kind cast)
 assigned (Some op) v t sign first = compound op v t sign
 
 -- an assignment to what a name stands for
-abbrev pub stored : Target → Name → AssignOp → Span → Typed → Span → Judgement Typed
+abbrev pub stored : Target → Name → AssignOp → Span → Node → Span → Judgement Node
 stored t x op span right first = do
   v ← variable t x
   assigned (operator_before op) v right span first
 
-abbrev pub read : ScopeView → Name → Judgement Typed
+abbrev pub read : ScopeView → Name → Judgement Node
 read s x = do
   t ← target s x
   gives (read_of t)
 
-abbrev pub step_behind : ScopeView → Name → StepOp → Judgement Typed
+abbrev pub step_behind : ScopeView → Name → StepOp → Judgement Node
 step_behind s x op = do
   t ← target s x
   place ← counter t x
-  gives (Stepped place op)
+  gives (node.StepBehind place op)
 
-abbrev pub step_before : ScopeView → Name → StepOp → Judgement Typed
+abbrev pub step_before : ScopeView → Name → StepOp → Judgement Node
 step_before s x op = do
   t ← target s x
   place ← counter t x

@@ -1,18 +1,21 @@
 //! Statements: what they stand for, or their first fault.
 
 ghost use Rattle.std.specs.Prelude.{◌≡◌, ◌++◌, map, length, OnOk, IfOk, not};
-ghost use Rattle.lsl_tree.specs.Expressions.{expression_of, expressions_of};
-ghost use Rattle.lsl_tree.specs.Statements.{statement_of, entry_of, entries_of, value_of, Braces};
+ghost use Rattle.lsl_tree.specs.Expressions.{expr_of, exprs_of};
+ghost use Rattle.lsl_tree.specs.Statements as stmt;
+ghost use Rattle.lsl_tree.specs.Statements.{stmt_of, item_of, items_of, value_of};
 ghost use Rattle.lsl_tree.specs.Nodes.{node_of};
-ghost use Rattle.lsl_tree.specs.Actions.{effect_of, act_of, acts_of, If, IfElse, Loop, Do};
+ghost use Rattle.lsl_tree.specs.Effects.{effect_of};
+ghost use Rattle.lsl_tree.specs.Actions as action;
+ghost use Rattle.lsl_tree.specs.Actions.{action_of, actions_of};
 ghost use Rattle.lsl_type.specs.Known.{known_of};
 ghost use Rattle.lsl_type.specs.Scope.{scope_of, frame_of, with_slots, spelled, is_since, is_since_number};
 ghost use Rattle.lsl_type.specs.Judgement.{at};
 ghost use Rattle.lsl_type.specs.Spans.{first_span};
-ghost use Rattle.lsl_type.specs.Verdict.{Rules, must_r};
-ghost use Rattle.lsl_type.specs.ValueVerdicts.{effect_r, effects_r};
+ghost use Rattle.lsl_type.specs.Verdict.{Rules, must_verdict};
+ghost use Rattle.lsl_type.specs.ValueVerdicts.{effect_verdict, effects_verdict};
 ghost use Rattle.lsl_type.specs.ActionForms.{home_kind, effects_after, for_of};
-ghost use Rattle.lsl_type.specs.ActionVerdicts.{label_r, jump_r, named_state_r, change_r, returned_r, returned_value_r, returned_nothing_r, initialised_r, declared_r, labelled_r, statement_r, entries_r, item_r, is_fresh};
+ghost use Rattle.lsl_type.specs.ActionVerdicts.{label_verdict, jump_verdict, named_state_verdict, change_verdict, returned_verdict, returned_value_verdict, returned_nothing_verdict, initialised_verdict, declared_verdict, labelled_verdict, statement_verdict, items_verdict, item_verdict, is_fresh};
 
 use crate::conversions::{as_kind, empty_node};
 use crate::faults::{Refused, TypeKind, fault};
@@ -33,7 +36,7 @@ pub(crate) fn effect(
     scope: &Scope,
     expr: &Expr,
 ) -> Result<Effect, Refused>
-    ensures { Rules effect_of result (effect_r (known_of known.now) (scope_of scope.now) (expression_of expr.now)) }
+    ensures { Rules effect_of result (effect_verdict (known_of known.now) (scope_of scope.now) (expr_of expr.now)) }
 {
     match expr {
         Expr::Parens { inner, .. } => effect(alloc, known, scope, inner),
@@ -55,7 +58,7 @@ fn effects(
     scope: &Scope,
     exprs: &[Expr],
 ) -> Result<Vec<Effect>, Refused>
-    ensures { Rules (λ v. map effect_of v.items) result (effects_r (known_of known.now) (scope_of scope.now) (expressions_of exprs.now)) }
+    ensures { Rules (λ v. map effect_of v.items) result (effects_verdict (known_of known.now) (scope_of scope.now) (exprs_of exprs.now)) }
 {
     let mut effects = Vec::with_capacity(alloc, exprs.len())?;
     for expr in exprs {
@@ -73,7 +76,7 @@ pub(crate) fn statement(
     frame: &mut Frame,
     stmt: &Stmt,
 ) -> Result<Action, Refused>
-    ensures found { Rules (λ a. (act_of a, frame.new.slots.items)) result (statement_r (known_of known.now) home (frame_of frame.old) (statement_of stmt.now)) }
+    ensures found { Rules (λ a. (action_of a, frame.new.slots.items)) result (statement_verdict (known_of known.now) home (frame_of frame.old) (stmt_of stmt.now)) }
     ensures unchanged { OnOk result (frame_of frame.new ≡ with_slots (frame_of frame.old) frame.new.slots.items) }
 {
     match stmt {
@@ -139,7 +142,7 @@ fn block(
     frame: &mut Frame,
     items: &[Item],
 ) -> Result<Action, Refused>
-    ensures found { Rules (λ a. (act_of a, frame.new.slots.items)) result (statement_r (known_of known.now) home (frame_of frame.old) (Braces (entries_of items.now))) }
+    ensures found { Rules (λ a. (action_of a, frame.new.slots.items)) result (statement_verdict (known_of known.now) home (frame_of frame.old) (stmt.Block (items_of items.now))) }
     ensures unchanged { OnOk result (frame_of frame.new ≡ with_slots (frame_of frame.old) frame.new.slots.items) }
 {
     let outer = frame.open(alloc, items)?;
@@ -157,7 +160,7 @@ pub(crate) fn entries(
     frame: &mut Frame,
     items: &[Item],
 ) -> Result<Vec<Action>, Refused>
-    ensures { Rules (λ v. (acts_of v.items, frame_of frame.new)) result (entries_r (known_of known.now) home (frame_of frame.old) (entries_of items.now)) }
+    ensures { Rules (λ v. (actions_of v.items, frame_of frame.new)) result (items_verdict (known_of known.now) home (frame_of frame.old) (items_of items.now)) }
 {
     let mut actions = Vec::with_capacity(alloc, items.len())?;
     for entry in items {
@@ -174,7 +177,7 @@ fn item(
     frame: &mut Frame,
     item: &Item,
 ) -> Result<Action, Refused>
-    ensures { Rules (λ a. (act_of a, frame_of frame.new)) result (item_r (known_of known.now) home (frame_of frame.old) (entry_of item.now)) }
+    ensures { Rules (λ a. (action_of a, frame_of frame.new)) result (item_verdict (known_of known.now) home (frame_of frame.old) (item_of item.now)) }
 {
     match item {
         Item::Declaration { kind, name, value } => declaration(
@@ -193,7 +196,7 @@ fn declaration(
     name: &Name,
     value: &Option<Expr>,
 ) -> Result<Action, Refused>
-    ensures { Rules (λ a. (act_of a, frame_of frame.new)) result (declared_r (known_of known.now) (frame_of frame.old) kind name.now (value_of value.now)) }
+    ensures { Rules (λ a. (action_of a, frame_of frame.new)) result (declared_verdict (known_of known.now) (frame_of frame.old) kind name.now (value_of value.now)) }
 {
     let value = initialised(alloc, known, frame, kind, name, value)?;
     let slot = frame.slots.len();
@@ -209,7 +212,7 @@ fn initialised(
     name: &Name,
     initial: &Option<Expr>,
 ) -> Result<Node, Refused>
-    ensures { Rules node_of result (initialised_r (known_of known.now) (frame_of frame.now) kind name.now (value_of initial.now)) }
+    ensures { Rules node_of result (initialised_verdict (known_of known.now) (frame_of frame.now) kind name.now (value_of initial.now)) }
 {
     match initial {
         None => {
@@ -225,7 +228,7 @@ fn initialised(
 }
 
 fn label(alloc: Global, frame: &mut Frame, name: &Name) -> Result<Action, Refused>
-    ensures { Rules (λ a. (act_of a, frame_of frame.new)) result (labelled_r (frame_of frame.old) name.now) }
+    ensures { Rules (λ a. (action_of a, frame_of frame.new)) result (labelled_verdict (frame_of frame.old) name.now) }
 {
     frame.unpassed(name)?;
     let label = frame.label(name)?;
@@ -236,7 +239,7 @@ fn label(alloc: Global, frame: &mut Frame, name: &Name) -> Result<Action, Refuse
 impl Frame {
     /// The number of a label in the blocks around.
     fn label(&self, name: &Name) -> Result<usize, Refused>
-        ensures { Rules (λ n. n) result (label_r (frame_of self.now) name.now) }
+        ensures { Rules (λ n. n) result (label_verdict (frame_of self.now) name.now) }
     {
         match self.labels.find(name.text.as_str()) {
             Some(number) => Ok(number),
@@ -246,7 +249,7 @@ impl Frame {
 
     /// A local variable may have this name here.
     fn fresh(&self, name: &Name) -> Result<(), Refused>
-        ensures { Rules (λ u. u) result (must_r (is_fresh (frame_of self.now) name.now) (at TypeKind.DoubleName name.now.span)) }
+        ensures { Rules (λ u. u) result (must_verdict (is_fresh (frame_of self.now) name.now) (at TypeKind.DoubleName name.now.span)) }
     {
         let text = name.text.as_str();
         if is_reserved(text) || since(self.scope.names.find(text), self.first_variable) {
@@ -258,7 +261,7 @@ impl Frame {
 
     /// The block has no label of this name yet.
     fn unpassed(&self, name: &Name) -> Result<(), Refused>
-        ensures { Rules (λ u. u) result (must_r (not (is_since self.now.passed self.now.first_label (spelled name.now))) (at TypeKind.DoubleName name.now.span)) }
+        ensures { Rules (λ u. u) result (must_verdict (not (is_since self.now.passed self.now.first_label (spelled name.now))) (at TypeKind.DoubleName name.now.span)) }
     {
         if since(self.passed.find(name.text.as_str()), self.first_label) {
             Err(fault(TypeKind::DoubleName, name.span))
@@ -278,7 +281,7 @@ fn since(number: Option<usize>, first: usize) -> bool
 }
 
 fn branch(alloc: Global, test: Node, then: Action) -> Result<Action, NoMemory>
-    ensures { IfOk result (λ a. act_of a ≡ If (node_of test) (act_of then)) }
+    ensures { IfOk result (λ a. action_of a ≡ action.If (node_of test) (action_of then)) }
 {
     Ok(Action::If {
         test,
@@ -287,7 +290,7 @@ fn branch(alloc: Global, test: Node, then: Action) -> Result<Action, NoMemory>
 }
 
 fn branches(alloc: Global, test: Node, then: Action, otherwise: Action) -> Result<Action, NoMemory>
-    ensures { IfOk result (λ a. act_of a ≡ IfElse (node_of test) (act_of then) (act_of otherwise)) }
+    ensures { IfOk result (λ a. action_of a ≡ action.IfElse (node_of test) (action_of then) (action_of otherwise)) }
 {
     Ok(Action::IfElse {
         test,
@@ -304,7 +307,7 @@ fn repeated(
     steps: Vec<Effect>,
     body: Action,
 ) -> Result<Action, NoMemory>
-    ensures { IfOk result (λ a. act_of a ≡ Loop span.line (node_of test) (map effect_of steps.items) (act_of body)) }
+    ensures { IfOk result (λ a. action_of a ≡ action.Loop span.line (node_of test) (map effect_of steps.items) (action_of body)) }
 {
     Ok(Action::Loop {
         line: span.line,
@@ -316,7 +319,7 @@ fn repeated(
 
 /// A loop that tests behind each round.
 fn done_once(alloc: Global, span: Span, body: Action, test: Node) -> Result<Action, NoMemory>
-    ensures { IfOk result (λ a. act_of a ≡ Do span.line (act_of body) (node_of test)) }
+    ensures { IfOk result (λ a. action_of a ≡ action.Do span.line (action_of body) (node_of test)) }
 {
     Ok(Action::Do {
         line: span.line,
@@ -326,7 +329,7 @@ fn done_once(alloc: Global, span: Span, body: Action, test: Node) -> Result<Acti
 }
 
 fn jump(frame: &Frame, span: Span, label: &Name) -> Result<Action, Refused>
-    ensures { Rules act_of result (jump_r (frame_of frame.now) span label.now) }
+    ensures { Rules action_of result (jump_verdict (frame_of frame.now) span label.now) }
 {
     Ok(Action::Jump {
         line: span.line,
@@ -335,7 +338,7 @@ fn jump(frame: &Frame, span: Span, label: &Name) -> Result<Action, Refused>
 }
 
 fn change(known: &Known, home: Home, span: Span, state: &StateName) -> Result<Action, Refused>
-    ensures { Rules act_of result (change_r (known_of known.now) home span state.now) }
+    ensures { Rules action_of result (change_verdict (known_of known.now) home span state.now) }
 {
     match home {
         Home::Handler => Ok(Action::State {
@@ -346,7 +349,7 @@ fn change(known: &Known, home: Home, span: Span, state: &StateName) -> Result<Ac
 }
 
 fn named_state(known: &Known, state: &StateName) -> Result<usize, Refused>
-    ensures { Rules (λ n. n) result (named_state_r (known_of known.now) state.now) }
+    ensures { Rules (λ n. n) result (named_state_verdict (known_of known.now) state.now) }
 {
     match state {
         StateName::Default => Ok(0),
@@ -374,7 +377,7 @@ fn returned(
     span: Span,
     expr: &Option<Expr>,
 ) -> Result<Action, Refused>
-    ensures { Rules act_of result (returned_r (known_of known.now) home (scope_of scope.now) span (value_of expr.now)) }
+    ensures { Rules action_of result (returned_verdict (known_of known.now) home (scope_of scope.now) span (value_of expr.now)) }
 {
     match expr {
         None => return_nothing(home, span),
@@ -386,7 +389,7 @@ fn returned(
 }
 
 fn return_nothing(home: Home, span: Span) -> Result<Action, Refused>
-    ensures { Rules act_of result (returned_nothing_r (home_kind home) span) }
+    ensures { Rules action_of result (returned_nothing_verdict (home_kind home) span) }
 {
     match home_kind(home) {
         None => Ok(Action::Return),
@@ -407,7 +410,7 @@ fn return_value(
     node: Node,
     expr: &Expr,
 ) -> Result<Action, Refused>
-    ensures { Rules act_of result (returned_value_r home span (node_of node) (first_span (expression_of expr.now))) }
+    ensures { Rules action_of result (returned_value_verdict home span (node_of node) (first_span (expr_of expr.now))) }
 {
     match home_kind(home) {
         None => {
@@ -425,7 +428,7 @@ fn return_value(
 
 /// The effects, and behind them a statement.
 fn after_effects(alloc: Global, effects: Vec<Effect>, action: Action) -> Result<Action, NoMemory>
-    ensures { IfOk result (λ a. act_of a ≡ for_of (map effect_of effects.items) (act_of action)) }
+    ensures { IfOk result (λ a. action_of a ≡ for_of (map effect_of effects.items) (action_of action)) }
 {
     let mut actions = Vec::with_capacity(alloc, effects.len())?;
     push_effects(&mut actions, effects)?;
@@ -434,7 +437,7 @@ fn after_effects(alloc: Global, effects: Vec<Effect>, action: Action) -> Result<
 }
 
 fn push_effects(actions: &mut Vec<Action>, effects: Vec<Effect>) -> Result<(), NoMemory>
-    ensures { OnOk result (acts_of actions.new.items ≡ effects_after (acts_of actions.old.items) (map effect_of effects.items)) }
+    ensures { OnOk result (actions_of actions.new.items ≡ effects_after (actions_of actions.old.items) (map effect_of effects.items)) }
 {
     for effect in effects {
         actions.push(Action::Effect { effect })?;

@@ -1,9 +1,9 @@
 //! What is visible as blocks begin and end.
 
 ghost use Rattle.std.specs.Prelude.{◌≡◌, length, OnOk, IfOk, [], ◌++◌, ◌∷◌};
-ghost use Rattle.lsl_tree.specs.Statements.{entry_of, entries_of};
+ghost use Rattle.lsl_tree.specs.Statements.{item_of, items_of};
 ghost use Rattle.lsl_type.specs.Scope.{frame_of, scope_of, spelled, with_local, with_locals, with_passed, opened, entered, labels_with, labels_of};
-ghost use Rattle.lsl_type.specs.Blocks.{Outer_of, closed};
+ghost use Rattle.lsl_type.specs.Blocks.{IsOuter, closed};
 
 use crate::frame::{Frame, Scope, Variable};
 use crate::names::Names;
@@ -61,8 +61,8 @@ impl Frame {
 
     /// Begins a block.
     pub(crate) fn open(&mut self, alloc: Global, items: &[Item]) -> Result<Outer, NoMemory>
-        ensures opened { OnOk result (frame_of self.new ≡ opened (frame_of self.old) (entries_of items.now)) }
-        ensures outer { IfOk result (λ outer. Outer_of outer (frame_of self.old)) }
+        ensures opened { OnOk result (frame_of self.new ≡ opened (frame_of self.old) (items_of items.now)) }
+        ensures outer { IfOk result (λ outer. IsOuter outer (frame_of self.old)) }
     {
         let outer = Outer {
             names: self.scope.names.len(),
@@ -93,7 +93,7 @@ impl Frame {
 
 /// The labels that stand directly in a block.
 fn push_labels(alloc: Global, labels: &mut Names, items: &[Item]) -> Result<(), NoMemory>
-    ensures { OnOk result (labels.new ≡ labels_of (entries_of items.now) ++ labels.old) }
+    ensures { OnOk result (labels.new ≡ labels_of (items_of items.now) ++ labels.old) }
 {
     for item in items {
         push_label(alloc, labels, item)?;
@@ -102,7 +102,7 @@ fn push_labels(alloc: Global, labels: &mut Names, items: &[Item]) -> Result<(), 
 }
 
 fn push_label(alloc: Global, labels: &mut Names, item: &Item) -> Result<(), NoMemory>
-    ensures { OnOk result (labels.new ≡ labels_with (entry_of item.now) labels.old) }
+    ensures { OnOk result (labels.new ≡ labels_with (item_of item.now) labels.old) }
 {
     if let Item::Label { name } = item {
         labels.push(alloc, name.text.as_str())?;

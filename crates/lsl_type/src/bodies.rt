@@ -1,16 +1,17 @@
 //! Bodies, and the whole script.
 
 ghost use Rattle.std.specs.Prelude.{◌≡◌, ◌++◌, ◌∷◌, map, [], IfOk, OnOk, length};
-ghost use Rattle.lsl_tree.specs.Scripts.{heading_of, handling_of, standing_of, script_of};
-ghost use Rattle.lsl_tree.specs.Statements.{entries_of};
-ghost use Rattle.lsl_tree.specs.Actions.{routine_of, acts_of};
-ghost use Rattle.lsl_tree.specs.Program.{named_code_of, event_code_of, coded_state_of, checked_of};
+ghost use Rattle.lsl_tree.specs.Scripts.{header_of, handler_of, state_of, tree_of};
+ghost use Rattle.lsl_tree.specs.Statements.{items_of};
+ghost use Rattle.lsl_tree.specs.Program as program;
+ghost use Rattle.lsl_tree.specs.Program.{routine_of, function_of, program_of};
+ghost use Rattle.lsl_tree.specs.Actions.{actions_of};
 ghost use Rattle.lsl_type.specs.Scope.{scope_of, frame_of};
 ghost use Rattle.lsl_type.specs.Known.{headers_of, known_of};
 ghost use Rattle.lsl_type.specs.Blocks.{IsResting};
-ghost use Rattle.lsl_type.specs.Verdict.{Rules, each_r};
+ghost use Rattle.lsl_type.specs.Verdict.{Rules, each_verdict};
 ghost use Rattle.lsl_type.specs.ActionForms.{ended};
-ghost use Rattle.lsl_type.specs.ScriptVerdicts.{body_r, function_code_r, function_body_r, handler_code_r, handler_body_r, state_code_r, state_body_r, bodies_r, script_r};
+ghost use Rattle.lsl_type.specs.ScriptVerdicts.{body_verdict, function_routine_verdict, function_body_verdict, handler_routine_verdict, handler_body_verdict, program_state_verdict, state_body_verdict, bodies_verdict, script_verdict};
 ghost use Rattle.lsl_type.specs.ScriptRules.{default_name};
 
 use crate::actions::entries;
@@ -32,7 +33,7 @@ use std::mem;
 
 /// The program of a script, or its first fault.
 pub(crate) fn program(alloc: Global, tree: &Tree) -> Result<Program, Refused>
-    ensures { Rules checked_of result (script_r (script_of tree.now)) }
+    ensures { Rules program_of result (script_verdict (tree_of tree.now)) }
 {
     let headers = headers(alloc, tree.headers.as_slice())?;
     handlers(alloc, tree.default.as_slice())?;
@@ -42,7 +43,7 @@ pub(crate) fn program(alloc: Global, tree: &Tree) -> Result<Program, Refused>
 
 /// The program, once it is known what the script declares.
 fn bodies(alloc: Global, headers: Headers, states: Names, tree: &Tree) -> Result<Program, Refused>
-    ensures { Rules checked_of result (bodies_r (headers_of headers) states (script_of tree.now)) }
+    ensures { Rules program_of result (bodies_verdict (headers_of headers) states (tree_of tree.now)) }
 {
     let Headers {
         scope,
@@ -73,7 +74,7 @@ fn function_bodies(
     list: &[Header],
 ) -> Result<Vec<NamedRoutine>, Refused>
     requires { IsResting (frame_of frame.old) }
-    ensures found { Rules (λ v. map named_code_of v.items) result (each_r (function_body_r (known_of known.now) (scope_of frame.old.scope)) [] (map heading_of list.now)) }
+    ensures found { Rules (λ v. map function_of v.items) result (each_verdict (function_body_verdict (known_of known.now) (scope_of frame.old.scope)) [] (map header_of list.now)) }
     ensures unchanged { OnOk result (frame_of frame.new ≡ frame_of frame.old) }
 {
     let mut functions = Vec::new(alloc);
@@ -92,7 +93,7 @@ fn add_body(
     header: &Header,
 ) -> Result<(), Refused>
     requires { IsResting (frame_of frame.old) }
-    ensures found { Rules (λ _. map named_code_of functions.new.items) result (function_body_r (known_of known.now) (scope_of frame.old.scope) (map named_code_of functions.old.items) (heading_of header.now)) }
+    ensures found { Rules (λ _. map function_of functions.new.items) result (function_body_verdict (known_of known.now) (scope_of frame.old.scope) (map function_of functions.old.items) (header_of header.now)) }
     ensures unchanged { OnOk result (frame_of frame.new ≡ frame_of frame.old) }
 {
     match header {
@@ -111,7 +112,7 @@ fn function_body(
     function: &Function,
 ) -> Result<NamedRoutine, Refused>
     requires { IsResting (frame_of frame.old) }
-    ensures found { Rules named_code_of result (function_code_r (known_of known.now) (scope_of frame.old.scope) function.now.kind function.now.name function.now.params.items (entries_of function.now.body.items)) }
+    ensures found { Rules function_of result (function_routine_verdict (known_of known.now) (scope_of frame.old.scope) function.now.kind function.now.name function.now.params.items (items_of function.now.body.items)) }
     ensures unchanged { OnOk result (frame_of frame.new ≡ frame_of frame.old) }
 {
     let home = Home::Function {
@@ -140,7 +141,7 @@ fn handler_bodies(
     list: &[Handler],
 ) -> Result<Vec<EventRoutine>, Refused>
     requires { IsResting (frame_of frame.old) }
-    ensures found { Rules (λ v. map event_code_of v.items) result (each_r (handler_body_r (known_of known.now) (scope_of frame.old.scope)) [] (map handling_of list.now)) }
+    ensures found { Rules (λ v. map program.handler_of v.items) result (each_verdict (handler_body_verdict (known_of known.now) (scope_of frame.old.scope)) [] (map handler_of list.now)) }
     ensures unchanged { OnOk result (frame_of frame.new ≡ frame_of frame.old) }
 {
     let mut routines = Vec::with_capacity(alloc, list.len())?;
@@ -157,7 +158,7 @@ fn handler_body(
     handler: &Handler,
 ) -> Result<EventRoutine, Refused>
     requires { IsResting (frame_of frame.old) }
-    ensures found { Rules event_code_of result (handler_code_r (known_of known.now) (scope_of frame.old.scope) (handling_of handler.now)) }
+    ensures found { Rules program.handler_of result (handler_routine_verdict (known_of known.now) (scope_of frame.old.scope) (handler_of handler.now)) }
     ensures unchanged { OnOk result (frame_of frame.new ≡ frame_of frame.old) }
 {
     let Some(event) = event(handler.name.text.as_str()) else {
@@ -184,7 +185,7 @@ fn state_bodies(
     list: &[State],
 ) -> Result<Vec<ProgramState>, Refused>
     requires { IsResting (frame_of frame.old) }
-    ensures { Rules (λ v. map coded_state_of v.items) result (each_r (state_body_r (known_of known.now) (scope_of frame.old.scope)) (record { name = default_name; handlers = map event_code_of start.items } ∷ []) (map standing_of list.now)) }
+    ensures { Rules (λ v. map program.state_of v.items) result (each_verdict (state_body_verdict (known_of known.now) (scope_of frame.old.scope)) (record { name = default_name; handlers = map program.handler_of start.items } ∷ []) (map state_of list.now)) }
 {
     let mut states = Vec::with_capacity(alloc, list.len())?;
     states.push(ProgramState {
@@ -204,7 +205,7 @@ fn state_body(
     state: &State,
 ) -> Result<ProgramState, Refused>
     requires { IsResting (frame_of frame.old) }
-    ensures found { Rules coded_state_of result (state_code_r (known_of known.now) (scope_of frame.old.scope) (standing_of state.now)) }
+    ensures found { Rules program.state_of result (program_state_verdict (known_of known.now) (scope_of frame.old.scope) (state_of state.now)) }
     ensures unchanged { OnOk result (frame_of frame.new ≡ frame_of frame.old) }
 {
     let handlers = handler_bodies(alloc, known, frame, state.handlers.as_slice())?;
@@ -232,7 +233,7 @@ fn body(
     items: &[Item],
 ) -> Result<Routine, Refused>
     requires { IsResting (frame_of frame.old) }
-    ensures found { Rules routine_of result (body_r (known_of known.now) (scope_of frame.old.scope) home name.now kind params.now (entries_of items.now)) }
+    ensures found { Rules routine_of result (body_verdict (known_of known.now) (scope_of frame.old.scope) home name.now kind params.now (items_of items.now)) }
     ensures unchanged { OnOk result (frame_of frame.new ≡ frame_of frame.old) }
 {
     let names = frame.scope.names.len();
@@ -255,7 +256,7 @@ fn body(
 
 /// A function with a kind that runs off its end returns the kind's empty value.
 fn end(alloc: Global, kind: Option<Kind>, body: &mut Vec<Action>) -> Result<(), NoMemory>
-    ensures { OnOk result (acts_of body.new.items ≡ ended kind (acts_of body.old.items)) }
+    ensures { OnOk result (actions_of body.new.items ≡ ended kind (actions_of body.old.items)) }
 {
     if let Some(kind) = kind {
         body.push(Action::ReturnValue {

@@ -2,16 +2,16 @@
 
 ghost use Rattle.std.specs.Prelude.{◌≡◌, length, slice_get};
 ghost use Rattle.std.specs.Option.{option_map, option_and_then};
-ghost use Rattle.lsl_tree.specs.Expressions.{expression_of, expressions_of};
+ghost use Rattle.lsl_tree.specs.Expressions.{expr_of, exprs_of};
 ghost use Rattle.lsl_tree.specs.Nodes.{node_of, nodes_of};
-ghost use Rattle.lsl_tree.specs.Actions.{effect_of};
+ghost use Rattle.lsl_tree.specs.Effects.{effect_of};
 ghost use Rattle.lsl_type.specs.Names.{nearest};
 ghost use Rattle.lsl_type.specs.Scope.{spelled};
 ghost use Rattle.lsl_type.specs.Spans.{first_span};
 ghost use Rattle.lsl_type.specs.Known.{known_of, function_of};
 ghost use Rattle.lsl_type.specs.Calling.{calling_of, kinds_in};
 ghost use Rattle.lsl_type.specs.Verdict.{Rules};
-ghost use Rattle.lsl_type.specs.CallVerdicts.{callable_r, builtin_callable_r, counted_r, called_as_r, performed_as_r, arguments_r, argument_r};
+ghost use Rattle.lsl_type.specs.CallVerdicts.{callable_verdict, builtin_callable_verdict, counted_verdict, call_value_verdict, call_effect_verdict, arguments_verdict, argument_verdict};
 
 use crate::conversions::as_kind;
 use crate::faults::{Refused, TypeKind, fault};
@@ -51,7 +51,7 @@ impl Params<'_> {
 impl Known {
     /// What a called name stands for.
     pub(crate) fn callable(&self, name: &Name) -> Result<Calling<'_>, Refused>
-        ensures { Rules calling_of result (callable_r (known_of self.now) name.now) }
+        ensures { Rules calling_of result (callable_verdict (known_of self.now) name.now) }
     {
         match self.function(name) {
             Some(calling) => Ok(calling),
@@ -73,7 +73,7 @@ impl Known {
 }
 
 fn builtin_callable<'a>(name: &Name) -> Result<Calling<'a>, Refused>
-    ensures { Rules calling_of result (builtin_callable_r name.now) }
+    ensures { Rules calling_of result (builtin_callable_verdict name.now) }
 {
     match builtin(name.text.as_str()) {
         Some(id) => Ok(Calling {
@@ -88,7 +88,7 @@ fn builtin_callable<'a>(name: &Name) -> Result<Calling<'a>, Refused>
 impl Calling<'_> {
     /// There are as many arguments as parameters.
     fn count(&self, name: &Name, nodes: &[Node]) -> Result<(), Refused>
-        ensures { Rules (λ u. u) result (counted_r (calling_of self.now) (nodes_of nodes.now) name.now) }
+        ensures { Rules (λ u. u) result (counted_verdict (calling_of self.now) (nodes_of nodes.now) name.now) }
     {
         if nodes.len() == self.params.kinds().len() {
             Ok(())
@@ -106,7 +106,7 @@ impl Calling<'_> {
         nodes: Vec<Node>,
     ) -> Result<Node, Refused>
         requires { length exprs.now ≡ length nodes.items }
-        ensures { Rules node_of result (called_as_r (calling_of self.now) name.now (expressions_of exprs.now) (nodes_of nodes.items)) }
+        ensures { Rules node_of result (call_value_verdict (calling_of self.now) name.now (exprs_of exprs.now) (nodes_of nodes.items)) }
     {
         self.count(name, nodes.as_slice())?;
         let Some(kind) = self.result else {
@@ -130,7 +130,7 @@ impl Calling<'_> {
         nodes: Vec<Node>,
     ) -> Result<Effect, Refused>
         requires { length exprs.now ≡ length nodes.items }
-        ensures { Rules effect_of result (performed_as_r (calling_of self.now) name.now (expressions_of exprs.now) (nodes_of nodes.items)) }
+        ensures { Rules effect_of result (call_effect_verdict (calling_of self.now) name.now (exprs_of exprs.now) (nodes_of nodes.items)) }
     {
         self.count(name, nodes.as_slice())?;
         let arguments = arguments(alloc, self.params.kinds(), exprs, nodes)?;
@@ -162,7 +162,7 @@ fn arguments(
     nodes: Vec<Node>,
 ) -> Result<Vec<Node>, Refused>
     requires { length exprs.now ≡ length nodes.items }
-    ensures { Rules (λ v. nodes_of v.items) result (arguments_r params.now (expressions_of exprs.now) (nodes_of nodes.items)) }
+    ensures { Rules (λ v. nodes_of v.items) result (arguments_verdict params.now (exprs_of exprs.now) (nodes_of nodes.items)) }
 {
     let mut done = Vec::with_capacity(alloc, exprs.len())?;
     let mut rest = nodes.into_iter();
@@ -182,7 +182,7 @@ fn kind_at(params: &[Kind], i: usize) -> Option<Kind>
 }
 
 fn argument(alloc: Global, kind: Option<Kind>, node: Node, expr: &Expr) -> Result<Node, Refused>
-    ensures { Rules node_of result (argument_r kind (node_of node) (first_span (expression_of expr.now))) }
+    ensures { Rules node_of result (argument_verdict kind (node_of node) (first_span (expr_of expr.now))) }
 {
     match kind {
         None => Ok(node),

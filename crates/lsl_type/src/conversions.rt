@@ -2,12 +2,12 @@
 
 ghost use Rattle.std.specs.Prelude.{◌≡◌, Some, None, IfOk};
 ghost use Rattle.lsl_text.specs.declared.Refusal.TheVariants.{Fault};
-ghost use Rattle.lsl_tree.specs.Expressions.{expression_of};
-ghost use Rattle.lsl_tree.specs.Nodes.{node_of, Turned};
+ghost use Rattle.lsl_tree.specs.Expressions.{expr_of};
+ghost use Rattle.lsl_tree.specs.Nodes.{Cast, node_of};
 ghost use Rattle.lsl_type.specs.Conversions.{empty_node};
 ghost use Rattle.lsl_type.specs.Spans.{first_span};
 ghost use Rattle.lsl_type.specs.Verdict.{Rules};
-ghost use Rattle.lsl_type.specs.VariableVerdicts.{become_r};
+ghost use Rattle.lsl_type.specs.VariableVerdicts.{become_verdict};
 
 use crate::faults::{Refused, TypeKind, fault};
 use crate::spans::first_span;
@@ -18,7 +18,7 @@ use std::alloc::Global;
 
 /// The node of the expression as one of this kind, by the cast that nobody wrote if need be.
 pub(crate) fn as_kind(alloc: Global, kind: Kind, node: Node, expr: &Expr) -> Result<Node, Refused>
-    ensures { Rules node_of result (become_r kind (node_of node) (first_span (expression_of expr.now))) }
+    ensures { Rules node_of result (become_verdict kind (node_of node) (first_span (expr_of expr.now))) }
 {
     let found = node.kind();
     if found == kind {
@@ -35,7 +35,7 @@ pub(crate) fn as_kind(alloc: Global, kind: Kind, node: Node, expr: &Expr) -> Res
 }
 
 pub(crate) fn cast(alloc: Global, kind: Kind, node: Node) -> Result<Node, NoMemory>
-    ensures { IfOk result (λ n. node_of n ≡ Turned kind (node_of node)) }
+    ensures { IfOk result (λ n. node_of n ≡ Cast kind (node_of node)) }
 {
     Ok(Node::Cast {
         kind,

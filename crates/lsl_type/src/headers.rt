@@ -1,19 +1,21 @@
 //! Headers: what globals, functions, states and handlers declare, or their first fault.
 
 ghost use Rattle.std.specs.Prelude.{◌≡◌, ◌||◌, not, map, [], is_some, length, OnOk, IfOk, ◌∷◌, ◌++◌, Some, None};
-ghost use Rattle.lsl_tree.specs.Scripts.{heading_of, handling_of, standing_of, initial_of, initial_value_of, GlobalNamed, FunctionNamed};
-ghost use Rattle.lsl_tree.specs.Statements.{entries_of};
-ghost use Rattle.lsl_tree.specs.Program.{first_of};
+ghost use Rattle.lsl_tree.specs.Scripts as source;
+ghost use Rattle.lsl_tree.specs.Scripts.{header_of, handler_of, state_of, simple_of, initial_value_of};
+ghost use Rattle.lsl_tree.specs.Statements.{items_of};
+ghost use Rattle.lsl_tree.specs.Program.{initial_of};
 ghost use Rattle.lsl_type.specs.Judgement.{at};
 ghost use Rattle.lsl_type.specs.Names.{nearest};
 ghost use Rattle.lsl_type.specs.Scope.{scope_of, spelled};
 ghost use Rattle.lsl_type.specs.Known.{headers_of, with_global, with_function, no_headers, kinds_of};
 ghost use Rattle.lsl_type.specs.Table.{event_params_of, is_reserved};
-ghost use Rattle.lsl_type.specs.Conversions.{empty_first, part_kind_of, first_kind_of, cast_first, is_no_list};
+ghost use Rattle.lsl_tree.specs.Initials.{part_kind_of, initial_kind_of};
+ghost use Rattle.lsl_type.specs.Conversions.{empty_initial, cast_initial, is_no_list};
 ghost use Rattle.lsl_type.specs.Spans.{initial_span, atom_span};
-ghost use Rattle.lsl_type.specs.Verdict.{Rules, each_r, must_r, the_one_r};
+ghost use Rattle.lsl_type.specs.Verdict.{Rules, each_verdict, must_verdict, the_one_verdict};
 ghost use Rattle.lsl_type.specs.Sameness.{same_kinds};
-ghost use Rattle.lsl_type.specs.HeaderVerdicts.{initial_part_r, next_part_r, initial_r, flat_parts_r, param_r, header_r, handler_r, state_r, is_unused, has_event, part_by, constant_initial_r, first_become_r};
+ghost use Rattle.lsl_type.specs.HeaderVerdicts.{initial_part_verdict, next_part_verdict, initial_verdict, flat_parts_verdict, param_verdict, header_verdict, handler_verdict, state_verdict, is_unused, has_event, part_by, constant_initial_verdict, initial_become_verdict};
 
 use crate::faults::{Refused, TypeKind, fault};
 use crate::frame::{Scope, Variable};
@@ -31,7 +33,7 @@ use std::alloc::Global;
 
 /// What the globals and functions of a script declare.
 pub(crate) fn headers(alloc: Global, list: &[Header]) -> Result<Headers, Refused>
-    ensures { Rules headers_of result (each_r header_r no_headers (map heading_of list.now)) }
+    ensures { Rules headers_of result (each_verdict header_verdict no_headers (map header_of list.now)) }
 {
     let mut headers = Headers {
         scope: Scope {
@@ -50,7 +52,7 @@ pub(crate) fn headers(alloc: Global, list: &[Header]) -> Result<Headers, Refused
 
 impl Headers {
     fn add(&mut self, alloc: Global, header: &Header) -> Result<(), Refused>
-        ensures { Rules (λ _. headers_of self.new) result (header_r (headers_of self.old) (heading_of header.now)) }
+        ensures { Rules (λ _. headers_of self.new) result (header_verdict (headers_of self.old) (header_of header.now)) }
     {
         match header {
             Header::Global { global } => self.add_global(alloc, global),
@@ -59,7 +61,7 @@ impl Headers {
     }
 
     fn add_global(&mut self, alloc: Global, global: &GlobalHeader) -> Result<(), Refused>
-        ensures { Rules (λ _. headers_of self.new) result (header_r (headers_of self.old) (GlobalNamed global.now.kind global.now.name (initial_value_of global.now.value))) }
+        ensures { Rules (λ _. headers_of self.new) result (header_verdict (headers_of self.old) (source.Global global.now.kind global.now.name (initial_value_of global.now.value))) }
     {
         let value = match &global.value {
             None => {
@@ -81,7 +83,7 @@ impl Headers {
     }
 
     fn add_function(&mut self, alloc: Global, function: &Function) -> Result<(), Refused>
-        ensures { Rules (λ _. headers_of self.new) result (header_r (headers_of self.old) (FunctionNamed function.now.kind function.now.name function.now.params.items (entries_of function.now.body.items))) }
+        ensures { Rules (λ _. headers_of self.new) result (header_verdict (headers_of self.old) (source.Function function.now.kind function.now.name function.now.params.items (items_of function.now.body.items))) }
     {
         self.unused(&function.name)?;
         params(alloc, function.params.as_slice())?;
@@ -96,7 +98,7 @@ impl Headers {
 
     /// A global or function may have this name.
     fn unused(&self, name: &Name) -> Result<(), Refused>
-        ensures { Rules (λ u. u) result (must_r (is_unused (headers_of self.now) name.now) (at TypeKind.DoubleName name.now.span)) }
+        ensures { Rules (λ u. u) result (must_verdict (is_unused (headers_of self.now) name.now) (at TypeKind.DoubleName name.now.span)) }
     {
         let text = name.text.as_str();
         let taken = self.scope.names.find(text).is_some() || self.functions.find(text).is_some();
@@ -116,7 +118,7 @@ fn kinds(alloc: Global, params: &[Param]) -> Result<Vec<Kind>, NoMemory>
 
 /// Parameters: none has a reserved name, or that of another.
 fn params(alloc: Global, params: &[Param]) -> Result<Names, Refused>
-    ensures { Rules (λ n. n) result (each_r param_r [] params.now) }
+    ensures { Rules (λ n. n) result (each_verdict param_verdict [] params.now) }
 {
     let mut names = Names::new(alloc);
     for param in params {
@@ -126,7 +128,7 @@ fn params(alloc: Global, params: &[Param]) -> Result<Names, Refused>
 }
 
 fn add_param(alloc: Global, names: &mut Names, param: &Param) -> Result<(), Refused>
-    ensures { Rules (λ _. names.new) result (param_r names.old param.now) }
+    ensures { Rules (λ _. names.new) result (param_verdict names.old param.now) }
 {
     let name = param.name.text.as_str();
     if is_reserved(name) || names.find(name).is_some() {
@@ -138,7 +140,7 @@ fn add_param(alloc: Global, names: &mut Names, param: &Param) -> Result<(), Refu
 
 /// A global's initial value.
 fn initial(alloc: Global, scope: &Scope, value: &Simple) -> Result<Initial, Refused>
-    ensures { Rules first_of result (initial_r (scope_of scope.now) (initial_of value.now)) }
+    ensures { Rules initial_of result (initial_verdict (scope_of scope.now) (simple_of value.now)) }
 {
     match value {
         Simple::Atom { atom } => Ok(Initial::Part {
@@ -153,7 +155,7 @@ fn initial(alloc: Global, scope: &Scope, value: &Simple) -> Result<Initial, Refu
 }
 
 fn parts(alloc: Global, scope: &Scope, atoms: &[Atom]) -> Result<Vec<Part>, Refused>
-    ensures found { Rules (λ v. v.items) result (each_r (next_part_r (scope_of scope.now)) [] atoms.now) }
+    ensures found { Rules (λ v. v.items) result (each_verdict (next_part_verdict (scope_of scope.now)) [] atoms.now) }
     ensures counted { IfOk result (λ v. length v.items ≡ length atoms.now) }
 {
     let mut parts = Vec::with_capacity(alloc, atoms.len())?;
@@ -164,7 +166,7 @@ fn parts(alloc: Global, scope: &Scope, atoms: &[Atom]) -> Result<Vec<Part>, Refu
 }
 
 fn part(alloc: Global, scope: &Scope, atom: &Atom) -> Result<Part, Refused>
-    ensures { Rules (λ p. p) result (initial_part_r (scope_of scope.now) atom.now) }
+    ensures { Rules (λ p. p) result (initial_part_verdict (scope_of scope.now) atom.now) }
 {
     match atom {
         Atom::Int { value, .. } => Ok(Part::Int { value: *value }),
@@ -186,7 +188,7 @@ fn part(alloc: Global, scope: &Scope, atom: &Atom) -> Result<Part, Refused>
 }
 
 fn constant_part(name: &Name) -> Result<Part, Refused>
-    ensures { Rules (λ p. p) result (constant_initial_r name.now) }
+    ensures { Rules (λ p. p) result (constant_initial_verdict name.now) }
 {
     match constant(name.text.as_str()) {
         Some(id) => Ok(Part::Constant {
@@ -210,7 +212,7 @@ fn part_kind(part: &Part) -> Kind
 /// No part of a list is a list.
 fn flat_parts(atoms: &[Atom], parts: &[Part]) -> Result<(), Refused>
     requires { length parts.now ≡ length atoms.now }
-    ensures { Rules (λ u. u) result (flat_parts_r atoms.now parts.now) }
+    ensures { Rules (λ u. u) result (flat_parts_verdict atoms.now parts.now) }
 {
     for (i, atom) in atoms.iter().enumerate() {
         flat_part(&parts[i], atom)?;
@@ -219,7 +221,7 @@ fn flat_parts(atoms: &[Atom], parts: &[Part]) -> Result<(), Refused>
 }
 
 fn flat_part(part: &Part, atom: &Atom) -> Result<(), Refused>
-    ensures { Rules (λ u. u) result (must_r (is_no_list (part_kind_of part.now)) (at (TypeKind.WrongKind None (Some Kind.List)) (atom_span atom.now))) }
+    ensures { Rules (λ u. u) result (must_verdict (is_no_list (part_kind_of part.now)) (at (TypeKind.WrongKind None (Some Kind.List)) (atom_span atom.now))) }
 {
     match part_kind(part) {
         Kind::List => {
@@ -234,7 +236,7 @@ fn flat_part(part: &Part, atom: &Atom) -> Result<(), Refused>
 }
 
 fn initial_kind(initial: &Initial) -> Kind
-    ensures { result ≡ first_kind_of (first_of initial.now) }
+    ensures { result ≡ initial_kind_of (initial_of initial.now) }
 {
     match initial {
         Initial::Part { part } => part_kind(part),
@@ -245,7 +247,7 @@ fn initial_kind(initial: &Initial) -> Kind
 
 /// The initial value as one of this kind.
 fn initial_as_kind(kind: Kind, initial: Initial, value: &Simple) -> Result<Initial, Refused>
-    ensures { Rules first_of result (first_become_r kind (first_of initial) (initial_span (initial_of value.now))) }
+    ensures { Rules initial_of result (initial_become_verdict kind (initial_of initial) (initial_span (simple_of value.now))) }
 {
     let found = initial_kind(&initial);
     if found == kind {
@@ -262,7 +264,7 @@ fn initial_as_kind(kind: Kind, initial: Initial, value: &Simple) -> Result<Initi
 }
 
 fn cast_initial(kind: Kind, initial: Initial) -> Initial
-    ensures { first_of result ≡ cast_first kind (first_of initial) }
+    ensures { initial_of result ≡ cast_initial kind (initial_of initial) }
 {
     match initial {
         Initial::Part { part } | Initial::Cast { part, .. } => Initial::Cast { kind, part },
@@ -272,7 +274,7 @@ fn cast_initial(kind: Kind, initial: Initial) -> Initial
 
 /// The empty value of a kind.
 fn empty_initial(alloc: Global, kind: Kind) -> Initial
-    ensures { first_of result ≡ empty_first kind }
+    ensures { initial_of result ≡ empty_initial kind }
 {
     match kind {
         Kind::Int => Initial::Part {
@@ -297,7 +299,7 @@ fn empty_initial(alloc: Global, kind: Kind) -> Initial
 
 /// The states behind `default`, and their handlers.
 pub(crate) fn states(alloc: Global, list: &[State]) -> Result<Names, Refused>
-    ensures { Rules (λ n. n) result (each_r state_r [] (map standing_of list.now)) }
+    ensures { Rules (λ n. n) result (each_verdict state_verdict [] (map state_of list.now)) }
 {
     let mut names = Names::new(alloc);
     for state in list {
@@ -307,7 +309,7 @@ pub(crate) fn states(alloc: Global, list: &[State]) -> Result<Names, Refused>
 }
 
 fn add_state(alloc: Global, names: &mut Names, state: &State) -> Result<(), Refused>
-    ensures { Rules (λ _. names.new) result (state_r names.old (standing_of state.now)) }
+    ensures { Rules (λ _. names.new) result (state_verdict names.old (state_of state.now)) }
 {
     let name = state.name.text.as_str();
     if names.find(name).is_some() {
@@ -320,7 +322,7 @@ fn add_state(alloc: Global, names: &mut Names, state: &State) -> Result<(), Refu
 
 /// The events of a state's handlers.
 pub(crate) fn handlers(alloc: Global, list: &[Handler]) -> Result<Vec<EventId>, Refused>
-    ensures { Rules (λ v. v.items) result (each_r handler_r [] (map handling_of list.now)) }
+    ensures { Rules (λ v. v.items) result (each_verdict handler_verdict [] (map handler_of list.now)) }
 {
     let mut events = Vec::new(alloc);
     for handler in list {
@@ -332,7 +334,7 @@ pub(crate) fn handlers(alloc: Global, list: &[Handler]) -> Result<Vec<EventId>, 
 
 /// The event of a handler, which has the event's parameters and is the first of the event in its state.
 fn handler_event(alloc: Global, events: &[EventId], handler: &Handler) -> Result<EventId, Refused>
-    ensures { Rules (λ event. events.now ++ event ∷ []) result (handler_r events.now (handling_of handler.now)) }
+    ensures { Rules (λ event. events.now ++ event ∷ []) result (handler_verdict events.now (handler_of handler.now)) }
 {
     let name = &handler.name;
     let Some(event) = event(name.text.as_str()) else {

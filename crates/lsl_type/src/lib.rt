@@ -3,11 +3,12 @@
 
 ghost use Rattle.std.specs.Prelude.{◌≡◌, IfOk, IfErr, MatchResult};
 ghost use Rattle.lsl_text.specs.declared.Refusal.TheVariants.{NoMemory};
-ghost use Rattle.lsl_tree.specs.Scripts.{script_of};
-ghost use Rattle.lsl_tree.specs.Program.{Checked, checked_of};
-ghost use Rattle.lsl_tree.specs.Shape.{IsShaped};
+ghost use Rattle.lsl_tree.specs.Scripts.{tree_of};
+ghost use Rattle.lsl_tree.specs.Program as program;
+ghost use Rattle.lsl_tree.specs.Program.{program_of};
+ghost use Rattle.lsl_type.specs.Shape.{IsShaped};
 ghost use Rattle.lsl_type.specs.declared.faults.TypeFault.{TypeFault};
-ghost use Rattle.lsl_type.specs.Typed.{Typed, TypeFirst, IsRefused, IsThat, param_count_of};
+ghost use Rattle.lsl_type.specs.Typed.{Typed, TypeFirst, IsTypeRefusal, IsThat, param_count_of};
 
 use lsl_tree::{Program, Tree};
 use std::alloc::Global;
@@ -35,11 +36,11 @@ pub use crate::faults::{Refused, TypeFault, TypeKind};
 /// then bodies; in each part what stands in it comes before the part itself, from left to right. Takes memory for the
 /// program and for tables of names; each name is looked up in a table.
 pub fn check(alloc: Global, tree: &Tree) -> Result<Program, Refused>
-    ensures found { IfOk result (λ p. Typed (script_of tree.now) (checked_of p)) }
-    ensures every { (program : Checked) → Typed (script_of tree.now) program → MatchResult result (λ p. checked_of p ≡ program) (λ e. e ≡ NoMemory) }
-    ensures shaped { IfOk result (λ p. IsShaped param_count_of (checked_of p)) }
-    ensures first { IfErr result (IsRefused (script_of tree.now)) }
-    ensures only { (fault : TypeFault) → TypeFirst (script_of tree.now) fault → MatchResult result (λ _. ⊥) (IsThat fault) }
+    ensures found { IfOk result (λ p. Typed (tree_of tree.now) (program_of p)) }
+    ensures every { (p : program.Program) → Typed (tree_of tree.now) p → MatchResult result (λ q. program_of q ≡ p) (λ e. e ≡ NoMemory) }
+    ensures shaped { IfOk result (λ p. IsShaped param_count_of (program_of p)) }
+    ensures first { IfErr result (IsTypeRefusal (tree_of tree.now)) }
+    ensures only { (fault : TypeFault) → TypeFirst (tree_of tree.now) fault → MatchResult result (λ _. ⊥) (IsThat fault) }
 {
     bodies::program(alloc, tree)
 }

@@ -3,7 +3,7 @@
 ghost use Rattle.std.specs.Prelude.{◌≡◌, ◌↔◌, IsTrue, OnOk};
 ghost use Rattle.lsl_type.specs.Scope.{scope_of, frame_of, spelled, variable_of, declared};
 ghost use Rattle.lsl_type.specs.Verdict.{Rules};
-ghost use Rattle.lsl_type.specs.VariableVerdicts.{constant_target_r, target_r, variable_r, counter_r};
+ghost use Rattle.lsl_type.specs.VariableVerdicts.{constant_target_verdict, target_verdict, variable_verdict, counter_verdict};
 
 use crate::faults::{Refused, TypeKind, fault};
 use crate::frame::{Scope, Target, Variable};
@@ -24,7 +24,7 @@ impl Scope {
 
     /// What the name stands for where no call is meant.
     pub(crate) fn target(&self, name: &Name) -> Result<Target, Refused>
-        ensures { Rules (λ t. t) result (target_r (scope_of self.now) name.now) }
+        ensures { Rules (λ t. t) result (target_verdict (scope_of self.now) name.now) }
     {
         match self.variable(name) {
             Some(variable) => Ok(Target::Kept(variable)),
@@ -48,7 +48,7 @@ impl Scope {
 }
 
 fn constant_target(name: &Name) -> Result<Target, Refused>
-    ensures { Rules (λ t. t) result (constant_target_r name.now) }
+    ensures { Rules (λ t. t) result (constant_target_verdict name.now) }
 {
     match constant(name.text.as_str()) {
         Some(id) => Ok(Target::Fixed(id)),
@@ -58,7 +58,7 @@ fn constant_target(name: &Name) -> Result<Target, Refused>
 
 /// The variable that is assigned: a constant can't be.
 pub(crate) fn assignable(target: Target, name: &Name) -> Result<Variable, Refused>
-    ensures { Rules (λ v. v) result (variable_r target name.now) }
+    ensures { Rules (λ v. v) result (variable_verdict target name.now) }
 {
     match target {
         Target::Kept(variable) => Ok(variable),
@@ -68,7 +68,7 @@ pub(crate) fn assignable(target: Target, name: &Name) -> Result<Variable, Refuse
 
 /// Where the variable that is stepped is kept: it is an integer.
 pub(crate) fn counter(target: Target, name: &Name) -> Result<Place, Refused>
-    ensures { Rules (λ p. p) result (counter_r target name.now) }
+    ensures { Rules (λ p. p) result (counter_verdict target name.now) }
 {
     match target {
         Target::Kept(

@@ -1,8 +1,8 @@
 //! Where the first token of a value stands.
 
 ghost use Rattle.std.specs.Prelude.{◌≡◌};
-ghost use Rattle.lsl_tree.specs.Expressions.{expression_of};
-ghost use Rattle.lsl_tree.specs.Scripts.{initial_of};
+ghost use Rattle.lsl_tree.specs.Expressions.{expr_of};
+ghost use Rattle.lsl_tree.specs.Scripts.{simple_of};
 ghost use Rattle.lsl_type.specs.Spans.{first_span, atom_span, initial_span};
 
 use lsl_text::Span;
@@ -10,7 +10,7 @@ use lsl_tree::{Atom, Expr, Simple};
 
 /// The first token of the expression: of an operator that of its left operand.
 pub(crate) fn first_span(expr: &Expr) -> Span
-    ensures { result ≡ first_span (expression_of expr.now) }
+    ensures { result ≡ first_span (expr_of expr.now) }
 {
     match expr {
         Expr::Int { span, .. } | Expr::Str { span, .. } | Expr::StepBefore { span, .. } => *span,
@@ -32,7 +32,7 @@ pub(crate) fn atom_span(atom: &Atom) -> Span
 }
 
 pub(crate) fn initial_span(value: &Simple) -> Span
-    ensures { result ≡ initial_span (initial_of value.now) }
+    ensures { result ≡ initial_span (simple_of value.now) }
 {
     match value {
         Simple::Atom { atom } => atom_span(atom),

@@ -1,17 +1,17 @@
 //! Expressions: what they stand for, or their first fault.
 
 ghost use Rattle.std.specs.Prelude.{◌≡◌, length, IfOk, Some, None};
-ghost use Rattle.lsl_tree.specs.Expressions.{expression_of, expressions_of};
-ghost use Rattle.lsl_tree.specs.Nodes.{node_of, nodes_of, kind_of, Operated, Stored};
+ghost use Rattle.lsl_tree.specs.Expressions.{expr_of, exprs_of};
+ghost use Rattle.lsl_tree.specs.Nodes.{Binary, Assign, node_of, nodes_of, node_kind_of};
 ghost use Rattle.lsl_type.specs.Known.{known_of};
 ghost use Rattle.lsl_type.specs.Scope.{scope_of};
 ghost use Rattle.lsl_type.specs.Spans.{first_span};
 ghost use Rattle.lsl_type.specs.Conversions.{step_operator, operator_before, is_no_list};
-ghost use Rattle.lsl_type.specs.Verdict.{Rules, must_r};
+ghost use Rattle.lsl_type.specs.Verdict.{Rules, must_verdict};
 ghost use Rattle.lsl_type.specs.Judgement.{at};
 ghost use Rattle.lsl_type.specs.Sameness.{is_kind};
-ghost use Rattle.lsl_type.specs.VariableVerdicts.{stored_r, compound_r, read_r, step_behind_r, step_before_r};
-ghost use Rattle.lsl_type.specs.ValueVerdicts.{value_r, values_r, listed_r, converted_r, prefixed_r, joined_r, flat_r};
+ghost use Rattle.lsl_type.specs.VariableVerdicts.{stored_verdict, compound_verdict, read_verdict, step_behind_verdict, step_before_verdict};
+ghost use Rattle.lsl_type.specs.ValueVerdicts.{value_verdict, values_verdict, listed_verdict, converted_verdict, prefixed_verdict, joined_verdict, flat_verdict};
 
 use crate::conversions::{as_kind, cast};
 use crate::faults::{Refused, TypeKind, fault};
@@ -33,7 +33,7 @@ pub(crate) fn value(
     scope: &Scope,
     expr: &Expr,
 ) -> Result<Node, Refused>
-    ensures { Rules node_of result (value_r (known_of known.now) (scope_of scope.now) (expression_of expr.now)) }
+    ensures { Rules node_of result (value_verdict (known_of known.now) (scope_of scope.now) (expr_of expr.now)) }
 {
     match expr {
         Expr::Int { value, .. } => Ok(Node::Int { value: *value }),
@@ -96,7 +96,7 @@ pub(crate) fn values(
     scope: &Scope,
     exprs: &[Expr],
 ) -> Result<Vec<Node>, Refused>
-    ensures found { Rules (λ v. nodes_of v.items) result (values_r (known_of known.now) (scope_of scope.now) (expressions_of exprs.now)) }
+    ensures found { Rules (λ v. nodes_of v.items) result (values_verdict (known_of known.now) (scope_of scope.now) (exprs_of exprs.now)) }
     ensures counted { IfOk result (λ v. length exprs.now ≡ length v.items) }
 {
     let mut nodes = Vec::with_capacity(alloc, exprs.len())?;
@@ -107,7 +107,7 @@ pub(crate) fn values(
 }
 
 fn read(scope: &Scope, name: &Name) -> Result<Node, Refused>
-    ensures { Rules node_of result (read_r (scope_of scope.now) name.now) }
+    ensures { Rules node_of result (read_verdict (scope_of scope.now) name.now) }
 {
     match scope.target(name)? {
         Target::Kept(Variable { place, kind }) => Ok(Node::Variable { place, kind }),
@@ -119,7 +119,7 @@ fn read(scope: &Scope, name: &Name) -> Result<Node, Refused>
 }
 
 fn step_behind(scope: &Scope, name: &Name, op: StepOp) -> Result<Node, Refused>
-    ensures { Rules node_of result (step_behind_r (scope_of scope.now) name.now op) }
+    ensures { Rules node_of result (step_behind_verdict (scope_of scope.now) name.now op) }
 {
     let target = scope.target(name)?;
     let place = counter(target, name)?;
@@ -128,7 +128,7 @@ fn step_behind(scope: &Scope, name: &Name, op: StepOp) -> Result<Node, Refused>
 
 /// `++x` is `x = x + 1`.
 fn step_before(alloc: Global, scope: &Scope, name: &Name, op: StepOp) -> Result<Node, Refused>
-    ensures { Rules node_of result (step_before_r (scope_of scope.now) name.now op) }
+    ensures { Rules node_of result (step_before_verdict (scope_of scope.now) name.now op) }
 {
     let target = scope.target(name)?;
     let place = counter(target, name)?;
@@ -162,7 +162,7 @@ fn step_operator(op: StepOp) -> BinaryOp
 /// A list of these elements: none of them is a list.
 fn listed(exprs: &[Expr], nodes: Vec<Node>) -> Result<Node, Refused>
     requires { length exprs.now ≡ length nodes.items }
-    ensures { Rules node_of result (listed_r (expressions_of exprs.now) (nodes_of nodes.items)) }
+    ensures { Rules node_of result (listed_verdict (exprs_of exprs.now) (nodes_of nodes.items)) }
 {
     flat(exprs, nodes.as_slice())?;
     Ok(Node::List { elements: nodes })
@@ -170,7 +170,7 @@ fn listed(exprs: &[Expr], nodes: Vec<Node>) -> Result<Node, Refused>
 
 fn flat(exprs: &[Expr], nodes: &[Node]) -> Result<(), Refused>
     requires { length exprs.now ≡ length nodes.now }
-    ensures { Rules (λ u. u) result (flat_r (expressions_of exprs.now) (nodes_of nodes.now)) }
+    ensures { Rules (λ u. u) result (flat_verdict (exprs_of exprs.now) (nodes_of nodes.now)) }
 {
     for (i, expr) in exprs.iter().enumerate() {
         element(&nodes[i], expr)?;
@@ -180,7 +180,7 @@ fn flat(exprs: &[Expr], nodes: &[Node]) -> Result<(), Refused>
 
 /// An element of a list is no list.
 fn element(node: &Node, expr: &Expr) -> Result<(), Refused>
-    ensures { Rules (λ u. u) result (must_r (is_no_list (kind_of (node_of node.now))) (at (TypeKind.WrongKind None (Some Kind.List)) (first_span (expression_of expr.now)))) }
+    ensures { Rules (λ u. u) result (must_verdict (is_no_list (node_kind_of (node_of node.now))) (at (TypeKind.WrongKind None (Some Kind.List)) (first_span (expr_of expr.now)))) }
 {
     match node.kind() {
         Kind::List => {
@@ -195,7 +195,7 @@ fn element(node: &Node, expr: &Expr) -> Result<(), Refused>
 }
 
 fn converted(alloc: Global, span: Span, kind: Kind, node: Node) -> Result<Node, Refused>
-    ensures { Rules node_of result (converted_r span kind (node_of node)) }
+    ensures { Rules node_of result (converted_verdict span kind (node_of node)) }
 {
     if node.kind().casts_to(kind) {
         Ok(cast(alloc, kind, node)?)
@@ -205,7 +205,7 @@ fn converted(alloc: Global, span: Span, kind: Kind, node: Node) -> Result<Node, 
 }
 
 fn prefixed(alloc: Global, op: UnaryOp, span: Span, node: Node) -> Result<Node, Refused>
-    ensures { Rules node_of result (prefixed_r op span (node_of node)) }
+    ensures { Rules node_of result (prefixed_verdict op span (node_of node)) }
 {
     match node.kind() {
         Kind::Int => Ok(Node::Unary {
@@ -217,7 +217,7 @@ fn prefixed(alloc: Global, op: UnaryOp, span: Span, node: Node) -> Result<Node, 
 }
 
 fn joined(alloc: Global, op: BinaryOp, span: Span, left: Node, right: Node) -> Result<Node, Refused>
-    ensures { Rules node_of result (joined_r op span (node_of left) (node_of right)) }
+    ensures { Rules node_of result (joined_verdict op span (node_of left) (node_of right)) }
 {
     match op.result_kind(left.kind(), right.kind()) {
         Some(kind) => Ok(binary(alloc, op, kind, left, right)?),
@@ -232,7 +232,7 @@ fn binary(
     left: Node,
     right: Node,
 ) -> Result<Node, NoMemory>
-    ensures { IfOk result (λ n. node_of n ≡ Operated op kind (node_of left) (node_of right)) }
+    ensures { IfOk result (λ n. node_of n ≡ Binary op kind (node_of left) (node_of right)) }
 {
     Ok(Node::Binary {
         op,
@@ -252,7 +252,7 @@ fn stored(
     node: Node,
     expr: &Expr,
 ) -> Result<Node, Refused>
-    ensures { Rules node_of result (stored_r target name.now op sign (node_of node) (first_span (expression_of expr.now))) }
+    ensures { Rules node_of result (stored_verdict target name.now op sign (node_of node) (first_span (expr_of expr.now))) }
 {
     let variable = assignable(target, name)?;
     match operator_before(op) {
@@ -271,7 +271,7 @@ fn compound(
     sign: Span,
     node: Node,
 ) -> Result<Node, Refused>
-    ensures { Rules node_of result (compound_r op variable (node_of node) sign) }
+    ensures { Rules node_of result (compound_verdict op variable (node_of node) sign) }
 {
     let Variable { place, kind } = variable;
     if is_kind(op.result_kind(kind, node.kind()), kind) {
@@ -293,7 +293,7 @@ fn is_kind(found: Option<Kind>, kind: Kind) -> bool
 }
 
 fn assign(alloc: Global, variable: Variable, node: Node) -> Result<Node, NoMemory>
-    ensures { IfOk result (λ n. node_of n ≡ Stored variable.place variable.kind (node_of node)) }
+    ensures { IfOk result (λ n. node_of n ≡ Assign variable.place variable.kind (node_of node)) }
 {
     Ok(Node::Assign {
         place: variable.place,

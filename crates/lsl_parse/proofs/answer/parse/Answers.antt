@@ -1,6 +1,6 @@
 use Rattle.std.proofs.Common.{◌≡◌, ◌<◌, ◌≤◌, Some, [], length, Ok, Err, sym, ap, ◌∙◌, subst, rules}
 use Rattle.lsl_parse.specs.declared.limits.TheConstants.{DEPTH, HEIGHT, TOKENS}
-use Rattle.lsl_tree.specs.Scripts.{script_of}
+use Rattle.lsl_tree.specs.Scripts.{tree_of}
 use Rattle.lsl_parse.specs.ScriptReading.{all_r}
 use Rattle.lsl_parse.specs.Faults.{IsFirst}
 use Rattle.lsl_parse.specs.FaultReading.{large_fault, stop_fault}
@@ -12,40 +12,40 @@ pub returns-then-list-gt-TOKENS-clause-first : goal.returns-then-list-gt-TOKENS-
 returns-then-list-gt-TOKENS-clause-first c =
     let ts = c.args.tokens.now.list in
     let end = c.args.tokens.now.end in
-    let read : all_r (Some HEIGHT) DEPTH ts ≡ Ok (script_of c.in-Ok.tree, []) = ap (all_r (Some HEIGHT) DEPTH) (sym c.as_slice-list.ensures) ∙ c.in-Ok.ensures in
+    let read : all_r (Some HEIGHT) DEPTH ts ≡ Ok (tree_of c.in-Ok.tree, []) = ap (all_r (Some HEIGHT) DEPTH) (sym c.as_slice-list.ensures) ∙ c.in-Ok.ensures in
     let many : TOKENS < length ts = subst (λ l. TOKENS < length l) c.as_slice-list.ensures c.if-list-gt-TOKENS.true in
     let is : c.large_fault_of.result ≡ large_fault ts end = c.large_fault_of.ensures ∙ ap (λ l. large_fault l end) c.as_slice-list.ensures in
-    subst (IsFirst ts end) (sym is) (large_first ts (script_of c.in-Ok.tree) end read many)
+    subst (IsFirst ts end) (sym is) (large_first ts (tree_of c.in-Ok.tree) end read many)
 
 pub returns-then-list-gt-TOKENS-clause-only : goal.returns-then-list-gt-TOKENS-clause-only
 returns-then-list-gt-TOKENS-clause-only c =
     let ts = c.args.tokens.now.list in
     let end = c.args.tokens.now.end in
-    let read : all_r (Some HEIGHT) DEPTH ts ≡ Ok (script_of c.in-Ok.tree, []) = ap (all_r (Some HEIGHT) DEPTH) (sym c.as_slice-list.ensures) ∙ c.in-Ok.ensures in
+    let read : all_r (Some HEIGHT) DEPTH ts ≡ Ok (tree_of c.in-Ok.tree, []) = ap (all_r (Some HEIGHT) DEPTH) (sym c.as_slice-list.ensures) ∙ c.in-Ok.ensures in
     let many : TOKENS < length ts = subst (λ l. TOKENS < length l) c.as_slice-list.ensures c.if-list-gt-TOKENS.true in
     let is : c.large_fault_of.result ≡ large_fault ts end = c.large_fault_of.ensures ∙ ap (λ l. large_fault l end) c.as_slice-list.ensures in
-    let first : IsFirst ts end c.large_fault_of.result = subst (IsFirst ts end) (sym is) (large_first ts (script_of c.in-Ok.tree) end read many) in
+    let first : IsFirst ts end c.large_fault_of.result = subst (IsFirst ts end) (sym is) (large_first ts (tree_of c.in-Ok.tree) end read many) in
     λ place kind f. first_only ts end c.large_fault_of.result place kind first f
 
 pub returns-else-list-gt-TOKENS-clause-found : goal.returns-else-list-gt-TOKENS-clause-found
 returns-else-list-gt-TOKENS-clause-found c =
     let ts = c.args.tokens.now.list in
-    let read : all_r (Some HEIGHT) DEPTH ts ≡ Ok (script_of c.in-Ok.tree, []) = ap (all_r (Some HEIGHT) DEPTH) (sym c.as_slice-list.ensures) ∙ c.in-Ok.ensures in
+    let read : all_r (Some HEIGHT) DEPTH ts ≡ Ok (tree_of c.in-Ok.tree, []) = ap (all_r (Some HEIGHT) DEPTH) (sym c.as_slice-list.ensures) ∙ c.in-Ok.ensures in
     let few : length ts ≤ TOKENS = subst (λ l. length l ≤ TOKENS) c.as_slice-list.ensures c.if-list-gt-TOKENS.false in
-    found_tree ts (script_of c.in-Ok.tree) read few
+    found_tree ts (tree_of c.in-Ok.tree) read few
 
 pub returns-else-list-gt-TOKENS-clause-every : goal.returns-else-list-gt-TOKENS-clause-every
 returns-else-list-gt-TOKENS-clause-every c =
     let ts = c.args.tokens.now.list in
-    let read : all_r (Some HEIGHT) DEPTH ts ≡ Ok (script_of c.in-Ok.tree, []) = ap (all_r (Some HEIGHT) DEPTH) (sym c.as_slice-list.ensures) ∙ c.in-Ok.ensures in
-    λ script d. every_same ts (script_of c.in-Ok.tree) script read d
+    let read : all_r (Some HEIGHT) DEPTH ts ≡ Ok (tree_of c.in-Ok.tree, []) = ap (all_r (Some HEIGHT) DEPTH) (sym c.as_slice-list.ensures) ∙ c.in-Ok.ensures in
+    λ script d. every_same ts (tree_of c.in-Ok.tree) script read d
 
 pub returns-else-list-gt-TOKENS-clause-only : goal.returns-else-list-gt-TOKENS-clause-only
 returns-else-list-gt-TOKENS-clause-only c =
     let ts = c.args.tokens.now.list in
-    let read : all_r (Some HEIGHT) DEPTH ts ≡ Ok (script_of c.in-Ok.tree, []) = ap (all_r (Some HEIGHT) DEPTH) (sym c.as_slice-list.ensures) ∙ c.in-Ok.ensures in
+    let read : all_r (Some HEIGHT) DEPTH ts ≡ Ok (tree_of c.in-Ok.tree, []) = ap (all_r (Some HEIGHT) DEPTH) (sym c.as_slice-list.ensures) ∙ c.in-Ok.ensures in
     let few : length ts ≤ TOKENS = subst (λ l. length l ≤ TOKENS) c.as_slice-list.ensures c.if-list-gt-TOKENS.false in
-    λ place kind f. no_first place ts kind (script_of c.in-Ok.tree) (found_tree ts (script_of c.in-Ok.tree) read few) f
+    λ place kind f. no_first place ts kind (tree_of c.in-Ok.tree) (found_tree ts (tree_of c.in-Ok.tree) read few) f
 
 pub returns-in-Err-Fault-clause-every : goal.returns-in-Err-Fault-clause-every
 returns-in-Err-Fault-clause-every c =

@@ -1,9 +1,9 @@
 use Rattle.std.proofs.Common.{◌≡◌, ◌-◌, Some, [], ◌∷◌, Ok, sym, ap, ◌∙◌, arith, rules}
 use Rattle.lsl_parse.specs.declared.limits.TheConstants.{HEIGHT}
 use Rattle.lsl_parse.specs.declared.kind.TokenKind.TheVariants.{Comma}
-use Rattle.lsl_tree.specs.Expressions.{expression_of, expressions_of, And}
+use Rattle.lsl_tree.specs.Expressions.{expr_of, exprs_of, AndExpr}
 use Rattle.lsl_parse.specs.Operators.{signs}
-use Rattle.lsl_parse.specs.ExpressionReading.{expr_r, unary_r, level_r, while_r, next_r, next_operand_r}
+use Rattle.lsl_parse.specs.ExpressionReading.{expr_r, unary_r, level_r, while_r, comma_r, next_operand_r}
 use Rattle.lsl_parse.proofs.ExpressionLoops.{room_inside, level_next, next_less, next_step, operand_less, operand_step}
 use Rattle.lsl_parse.proofs.expression.+expression.Goals as goal
 
@@ -92,25 +92,25 @@ level-operations-init t c = let e = level_next (Some HEIGHT) c.args.room c.args.
 pub level-operations-smaller : goal.level-operations-smaller
 level-operations-smaller t c =
     let m = c.args.n - 1 in
-    let now : next_operand_r (Some HEIGHT) (level_r (Some HEIGHT) c.args.room m) (signs m) (expression_of c.operations.left.expr) c.operations.rest.now ≡ Ok (expression_of c.in_ok-joined.joined.expr, c.in_ok-joined.after.now) = search rules in
-    operand_less (Some HEIGHT) c.args.room m (expression_of c.operations.left.expr) (expression_of c.in_ok-joined.joined.expr) c.operations.rest.now c.in_ok-joined.after.now now
+    let now : next_operand_r (Some HEIGHT) (level_r (Some HEIGHT) c.args.room m) (signs m) (expr_of c.operations.left.expr) c.operations.rest.now ≡ Ok (expr_of c.in_ok-joined.joined.expr, c.in_ok-joined.after.now) = search rules in
+    operand_less (Some HEIGHT) c.args.room m (expr_of c.operations.left.expr) (expr_of c.in_ok-joined.joined.expr) c.operations.rest.now c.in_ok-joined.after.now now
 
 pub level-operations-preserved : goal.level-operations-preserved
 level-operations-preserved t c =
     let m = c.args.n - 1 in
-    let now : next_operand_r (Some HEIGHT) (level_r (Some HEIGHT) c.args.room m) (signs m) (expression_of c.operations.left.expr) c.operations.rest.now ≡ Ok (expression_of c.in_ok-joined.joined.expr, c.in_ok-joined.after.now) = search rules in
-    sym (operand_step (Some HEIGHT) c.args.room m (expression_of c.operations.left.expr) (expression_of c.in_ok-joined.joined.expr) c.operations.rest.now c.in_ok-joined.after.now (search rules) now) ∙ c.operations.invariant
+    let now : next_operand_r (Some HEIGHT) (level_r (Some HEIGHT) c.args.room m) (signs m) (expr_of c.operations.left.expr) c.operations.rest.now ≡ Ok (expr_of c.in_ok-joined.joined.expr, c.in_ok-joined.after.now) = search rules in
+    sym (operand_step (Some HEIGHT) c.args.room m (expr_of c.operations.left.expr) (expr_of c.in_ok-joined.joined.expr) c.operations.rest.now c.in_ok-joined.after.now (search rules) now) ∙ c.operations.invariant
 
 pub series-more-smaller : goal.series-more-smaller
 series-more-smaller t c =
-    let now : next_r And (expr_r (Some HEIGHT) c.args.room) (expressions_of c.more.all.exprs.items) c.more.rest.now ≡ Ok (And (expressions_of c.more.all.exprs.items) (expression_of c.in_ok-next.next.expr), c.in_ok-next.after.now) = search rules in
-    next_less (Some HEIGHT) c.args.room (expressions_of c.more.all.exprs.items) (And (expressions_of c.more.all.exprs.items) (expression_of c.in_ok-next.next.expr)) c.more.rest.now c.in_ok-next.after.now now
+    let now : comma_r AndExpr (expr_r (Some HEIGHT) c.args.room) (exprs_of c.more.all.exprs.items) c.more.rest.now ≡ Ok (AndExpr (exprs_of c.more.all.exprs.items) (expr_of c.in_ok-next.next.expr), c.in_ok-next.after.now) = search rules in
+    next_less (Some HEIGHT) c.args.room (exprs_of c.more.all.exprs.items) (AndExpr (exprs_of c.more.all.exprs.items) (expr_of c.in_ok-next.next.expr)) c.more.rest.now c.in_ok-next.after.now now
 
 pub series-more-preserved : goal.series-more-preserved
 series-more-preserved t c =
     let d = c.args.room in
-    let before = expressions_of c.more.all.exprs.items in
-    let now : next_r And (expr_r (Some HEIGHT) d) before c.more.rest.now ≡ Ok (And before (expression_of c.in_ok-next.next.expr), c.in_ok-next.after.now) = search rules in
-    ap (λ x. while_r (Comma ∷ []) (next_r And (expr_r (Some HEIGHT) d)) x c.in_ok-next.after.now) c.in_ok-push-2.ensures
-    ∙ sym (next_step (Some HEIGHT) d before (And before (expression_of c.in_ok-next.next.expr)) c.more.rest.now c.in_ok-next.after.now (search rules) now)
+    let before = exprs_of c.more.all.exprs.items in
+    let now : comma_r AndExpr (expr_r (Some HEIGHT) d) before c.more.rest.now ≡ Ok (AndExpr before (expr_of c.in_ok-next.next.expr), c.in_ok-next.after.now) = search rules in
+    ap (λ x. while_r (Comma ∷ []) (comma_r AndExpr (expr_r (Some HEIGHT) d)) x c.in_ok-next.after.now) c.in_ok-push-2.ensures
+    ∙ sym (next_step (Some HEIGHT) d before (AndExpr before (expr_of c.in_ok-next.next.expr)) c.more.rest.now c.in_ok-next.after.now (search rules) now)
     ∙ c.more.invariant

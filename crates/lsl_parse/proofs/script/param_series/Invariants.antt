@@ -1,13 +1,13 @@
 use Rattle.std.proofs.Common.{◌≡◌, [], ◌∷◌, length}
 use Rattle.lsl_parse.specs.declared.kind.TokenKind.TheVariants.{Comma}
-use Rattle.lsl_parse.specs.ExpressionReading.{while_r, next_r, series_r}
+use Rattle.lsl_parse.specs.ExpressionReading.{while_r, comma_r, series_r}
 use Rattle.lsl_parse.specs.ScriptGrammar.{added}
 use Rattle.lsl_parse.specs.ScriptReading.{param_r}
 use Rattle.lsl_parse.proofs.script.param_series.Given as goal
 
 -- what is still to be read gives the whole
 abbrev pub invariant-more : goal.invariant-more
-invariant-more l = while_r (Comma ∷ []) (next_r added param_r) l.all.items l.rest ≡ series_r added [] param_r l.tokens
+invariant-more l = while_r (Comma ∷ []) (comma_r added param_r) l.all.items l.rest ≡ series_r added [] param_r l.tokens
 
 abbrev pub decreases-more : goal.decreases-more
 decreases-more l = length l.rest

@@ -1,14 +1,14 @@
 use Rattle.std.proofs.Common.{◌≡◌, Some, [], ◌∷◌, map, length}
 use Rattle.lsl_parse.specs.declared.limits.TheConstants.{HEIGHT}
 use Rattle.lsl_parse.specs.declared.kind.TokenKind.TheVariants.{StateWord}
-use Rattle.lsl_tree.specs.Scripts.{standing_of}
-use Rattle.lsl_parse.specs.StatementReading.{home_r}
-use Rattle.lsl_parse.specs.ScriptReading.{many_r, standing_r}
+use Rattle.lsl_tree.specs.Scripts.{state_of}
+use Rattle.lsl_parse.specs.StatementReading.{stmt_room_r}
+use Rattle.lsl_parse.specs.ScriptReading.{many_r, state_r}
 use Rattle.lsl_parse.proofs.script.states.Given as goal
 
 -- what is still to be read gives the whole
 abbrev pub invariant-all : goal.invariant-all
-invariant-all l = many_r (StateWord ∷ []) (standing_r (home_r (Some HEIGHT) l.room)) (map standing_of l.all.items) l.rest ≡ many_r (StateWord ∷ []) (standing_r (home_r (Some HEIGHT) l.room)) [] l.tokens
+invariant-all l = many_r (StateWord ∷ []) (state_r (stmt_room_r (Some HEIGHT) l.room)) (map state_of l.all.items) l.rest ≡ many_r (StateWord ∷ []) (state_r (stmt_room_r (Some HEIGHT) l.room)) [] l.tokens
 
 abbrev pub decreases-all : goal.decreases-all
 decreases-all l = length l.rest

@@ -1,16 +1,16 @@
 use Rattle.std.proofs.Common.{◌≡◌, ◌+◌, ◌*◌, Some, length}
 use Rattle.lsl_parse.specs.declared.limits.TheConstants.{HEIGHT}
-use Rattle.lsl_tree.specs.Statements.{entries_of}
+use Rattle.lsl_tree.specs.Statements.{items_of}
 use Rattle.lsl_parse.specs.ExpressionReading.{while_r}
-use Rattle.lsl_parse.specs.StatementReading.{not_end, next_entry_r, entry_r, entries_r}
+use Rattle.lsl_parse.specs.StatementReading.{not_end, next_item_r, item_r, items_r}
 use Rattle.lsl_parse.proofs.statement.+statement.Given as goal
 
 -- an open construct leaves less room, and the functions that open none have their order
-abbrev pub decreases-entries : goal.decreases-entries
-decreases-entries l = 8 * l.room + 6
+abbrev pub decreases-items : goal.decreases-items
+decreases-items l = 8 * l.room + 6
 
-abbrev pub decreases-entry : goal.decreases-entry
-decreases-entry l = 8 * l.room + 5
+abbrev pub decreases-item : goal.decreases-item
+decreases-item l = 8 * l.room + 5
 
 abbrev pub decreases-statement : goal.decreases-statement
 decreases-statement l = 8 * l.room + 4
@@ -37,8 +37,8 @@ abbrev pub decreases-body : goal.decreases-body
 decreases-body l = 8 * l.room + 2
 
 -- what is still to be read gives the whole
-abbrev pub invariant-entries-all : goal.invariant-entries-all
-invariant-entries-all l = while_r not_end (next_entry_r (entry_r (Some HEIGHT) l.room)) (entries_of l.all.items) l.rest ≡ entries_r (entry_r (Some HEIGHT) l.room) l.tokens
+abbrev pub invariant-items-all : goal.invariant-items-all
+invariant-items-all l = while_r not_end (next_item_r (item_r (Some HEIGHT) l.room)) (items_of l.all.items) l.rest ≡ items_r (item_r (Some HEIGHT) l.room) l.tokens
 
-abbrev pub decreases-entries-all : goal.decreases-entries-all
-decreases-entries-all l = length l.rest
+abbrev pub decreases-items-all : goal.decreases-items-all
+decreases-items-all l = length l.rest

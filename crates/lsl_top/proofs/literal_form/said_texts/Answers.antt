@@ -1,5 +1,5 @@
 use Rattle.std.proofs.Common.{◌≡◌, ◌∙◌, ◌∷◌, ◌++◌, [], List, ℕ, suc, take, drop, ap, subst, sym, refl, rules, add-one}
-use Rattle.lsl_tree.specs.Statements.{entries_of}
+use Rattle.lsl_tree.specs.Statements.{items_of}
 use Rattle.lsl_top.specs.Form.{AreSayings}
 use Rattle.lsl_top.proofs.Forms.{no_sayings, sayings_more, split_at}
 use Rattle.lsl_top.proofs.literal_form.said_texts.Goals as goal
@@ -18,4 +18,4 @@ loop-item-preserved c =
     let copied : c.in_ok-copy-in-Some.field-0 ≡ c.in-Some.text.now = c.in_ok-copy-in-Some.ensures in
     let all = pushed ∙ ap (λ (t : List ℕ). c.loop-item.texts.items ++ t ∷ []) copied in
     let more = sayings_more body i c.item-item.result c.loop-item.texts.items c.push.new.self.items c.in-Some.text.now c.loop-item-test.true c.item-item.is c.loop-item.invariant c.in-Some.ensures.some all in
-    subst (λ (n : ℕ). AreSayings (entries_of (take n body)) c.push.new.self.items) (sym (add-one i)) more
+    subst (λ (n : ℕ). AreSayings (items_of (take n body)) c.push.new.self.items) (sym (add-one i)) more

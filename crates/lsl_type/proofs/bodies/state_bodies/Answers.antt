@@ -1,12 +1,13 @@
 use Rattle.std.proofs.Common.{◌<◌, ◌≤◌, List, [], ◌∷◌, ◌++◌, Ok, length, ap, ◌∙◌, subst, arith}
 use Rattle.std.specs.Prelude.{map}
 use Rattle.std.proofs.lemmas.Result.{err_from_is_err_and}
-use Rattle.lsl_tree.specs.Scripts.{standing_of}
-use Rattle.lsl_tree.specs.Program.{CodedState, event_code_of, coded_state_of}
+use Rattle.lsl_tree.specs.Scripts.{state_of}
+use Rattle.lsl_tree.specs.Program as program
+use Rattle.lsl_tree.specs.Program.{ProgramState, handler_of}
 use Rattle.lsl_type.specs.Known.{known_of}
 use Rattle.lsl_type.specs.Scope.{scope_of}
-use Rattle.lsl_type.specs.Verdict.{Verdict, ◌>>=◌, Fails, each_r}
-use Rattle.lsl_type.specs.ScriptVerdicts.{state_code_r, state_body_r}
+use Rattle.lsl_type.specs.Verdict.{Verdict, ◌>>=◌, Refuses, each_verdict}
+use Rattle.lsl_type.specs.ScriptVerdicts.{program_state_verdict, state_body_verdict}
 use Rattle.lsl_type.specs.ScriptRules.{default_name}
 use Rattle.lsl_type.proofs.BodyWalks.{state_next}
 use Rattle.lsl_type.proofs.Walks.{each_stop, each_end, each_map, fails_as}
@@ -17,24 +18,24 @@ returns-in_err-state_body c =
     let known = known_of c.args.known.now in
     let s = scope_of c.args.frame.now.scope in
     let xs = c.args.list.now in
-    let before = map coded_state_of c.loop-state.states.items in
-    let first : List CodedState = record { name = default_name; handlers = map event_code_of c.args.start.items } ∷ [] in
+    let before = map program.state_of c.loop-state.states.items in
+    let first : List ProgramState = record { name = default_name; handlers = map handler_of c.args.start.items } ∷ [] in
     let x = c.state-item.result in
     let e = c.in_err-state_body.field-0.0 in
     let lt : c.loop-state.state-index < length xs = omega arith in
     let p = err_from_is_err_and c.from_residual-in_err-state_body.result c.from_residual-in_err-state_body.ensures.1 in
-    let found = subst (λ scope. Fails e (state_code_r known scope (standing_of x))) (ap (λ f. f.scope) c.loop-state.invariant.unchanged) c.in_err-state_body.ensures.found in
-    rw (p.1, p.2) (fails_as e (state_code_r known s (standing_of x)) (each_r (state_body_r known s) first (map standing_of xs)) found (λ f v.
-    each_map (state_body_r known s) standing_of first xs
+    let found = subst (λ scope. Refuses e (program_state_verdict known scope (state_of x))) (ap (λ f. f.scope) c.loop-state.invariant.unchanged) c.in_err-state_body.ensures.found in
+    rw (p.1, p.2) (fails_as e (program_state_verdict known s (state_of x)) (each_verdict (state_body_verdict known s) first (map state_of xs)) found (λ f v.
+    each_map (state_body_verdict known s) state_of first xs
     ∙ each_stop (state_next known s) before f xs c.loop-state.state-index x _ lt c.state-item.is
-    (ap (λ (w : Verdict CodedState). w >>= λ u. Ok (before ++ u ∷ [])) v) c.loop-state.invariant.same))
+    (ap (λ (w : Verdict ProgramState). w >>= λ u. Ok (before ++ u ∷ [])) v) c.loop-state.invariant.same))
 
 pub returns : goal.returns
 returns c =
     let known = known_of c.args.known.now in
     let s = scope_of c.args.frame.now.scope in
     let xs = c.args.list.now in
-    let first : List CodedState = record { name = default_name; handlers = map event_code_of c.args.start.items } ∷ [] in
+    let first : List ProgramState = record { name = default_name; handlers = map handler_of c.args.start.items } ∷ [] in
     let over : length xs ≤ c.loop-state.state-index = omega arith in
-    each_map (state_body_r known s) standing_of first xs
-    ∙ each_end (state_next known s) (map coded_state_of c.loop-state.states.items) xs c.loop-state.state-index _ over c.loop-state.invariant.same
+    each_map (state_body_verdict known s) state_of first xs
+    ∙ each_end (state_next known s) (map program.state_of c.loop-state.states.items) xs c.loop-state.state-index _ over c.loop-state.invariant.same

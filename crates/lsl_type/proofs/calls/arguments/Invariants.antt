@@ -1,6 +1,6 @@
 use Rattle.std.proofs.Common.{◌≡◌, length, drop}
 use Rattle.std.specs.Vec.Iter.{into_iter_items}
-use Rattle.lsl_tree.specs.Nodes.{nodes_of, None_typed}
+use Rattle.lsl_tree.specs.Nodes.{nodes_of, NoNode}
 use Rattle.lsl_type.proofs.Walks.{arguments_from}
 use Rattle.lsl_type.proofs.calls.arguments.Given as goal
 
@@ -8,5 +8,5 @@ abbrev pub invariant-loop-i : goal.invariant-loop-i
 invariant-loop-i l = record {
   counted : length (drop l.i l.exprs) ≡ length (into_iter_items l.rest);
   same : arguments_from l.params l.i (nodes_of l.done.items) (drop l.i l.exprs) (into_iter_items l.rest)
-      ≡ arguments_from l.params 0 None_typed l.exprs (into_iter_items l.initial.rest);
+      ≡ arguments_from l.params 0 NoNode l.exprs (into_iter_items l.initial.rest);
 }

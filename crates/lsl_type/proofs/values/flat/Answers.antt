@@ -1,9 +1,9 @@
 use Rattle.std.proofs.Common.{◌<◌, ◌≤◌, ◌+◌, length, drop, sym, ap, ◌∙◌, arith}
 use Rattle.std.proofs.lemmas.Result.{err_from_is_err_and}
-use Rattle.lsl_tree.specs.Expressions.{expressions_of}
+use Rattle.lsl_tree.specs.Expressions.{exprs_of}
 use Rattle.lsl_tree.specs.Nodes.{nodes_of}
 use Rattle.lsl_type.specs.Verdict.{Verdict, ◌>>=◌}
-use Rattle.lsl_type.specs.ValueVerdicts.{flat_r}
+use Rattle.lsl_type.specs.ValueVerdicts.{flat_verdict}
 use Rattle.lsl_type.proofs.Walks.{flat_of, flat_from, element_r, flat_next, flat_end, fails_as}
 use Rattle.lsl_type.proofs.values.flat.Goals as goal
 
@@ -14,7 +14,7 @@ returns-in_err-element c =
     let hx : c.loop-i.i < length xs = omega arith in
     let hm : c.loop-i.i < length ms = omega arith in
     let p = err_from_is_err_and c.from_residual.result c.from_residual.ensures.1 in
-    rw (p.1, p.2) (fails_as c.in_err-element.field-0.0 (element_r c.index-nodes-i.result c.index-exprs-i.result) (flat_r (expressions_of xs) (nodes_of ms)) c.in_err-element.ensures (λ f v.
+    rw (p.1, p.2) (fails_as c.in_err-element.field-0.0 (element_r c.index-nodes-i.result c.index-exprs-i.result) (flat_verdict (exprs_of xs) (nodes_of ms)) c.in_err-element.ensures (λ f v.
     flat_of xs ms c.requires
     ∙ (sym (flat_next c.loop-i.i xs c.index-exprs-i.result ms c.index-nodes-i.result _ hx c.index-exprs-i.is hm c.index-nodes-i.is c.loop-i.invariant)
     ∙ ap (λ (w : Verdict (Unit {0})). w >>= λ u. flat_from (drop (c.loop-i.i + 1) xs) (drop (c.loop-i.i + 1) ms)) v)))

@@ -1,5 +1,5 @@
 use Rattle.std.proofs.Common.{rules}
-use Rattle.lsl_type.proofs.Views.{node_of-List}
+use Rattle.lsl_tree.proofs.ProgramRows.{node_of-List}
 use Rattle.lsl_type.proofs.values.listed.Goals as goal
 
 pub returns : goal.returns

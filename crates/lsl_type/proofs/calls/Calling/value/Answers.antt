@@ -1,5 +1,5 @@
 use Rattle.std.proofs.Common.{rules}
-use Rattle.lsl_type.proofs.Views.{node_of-Call}
+use Rattle.lsl_tree.proofs.ProgramRows.{node_of-Call}
 use Rattle.lsl_type.proofs.calls.Calling.value.Goals as goal
 
 pub returns : goal.returns

@@ -10,6 +10,6 @@ abbrev pub Fails : {Y : Type 0} → Refusal Stop → Read Token Y → Type 0
 Fails refusal.NoMemory read = Unit {0}
 Fails (refusal.Fault s) read = read ≡ Err (s.why, s.rest.now)
 
-abbrev pub Gives : {X Y : Type 0} → (X → Y × List Token) → Result X (Refusal Stop) → Read Token Y → Type 0
-Gives view (Ok x) read = read ≡ Ok (view x)
-Gives view (Err e) read = Fails e read
+abbrev pub Parses : {X Y : Type 0} → (X → Y × List Token) → Result X (Refusal Stop) → Read Token Y → Type 0
+Parses view (Ok x) read = read ≡ Ok (view x)
+Parses view (Err e) read = Fails e read
