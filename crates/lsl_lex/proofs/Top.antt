@@ -8,6 +8,7 @@ use Rattle.lsl_text.specs.Place.{span_of}
 use Rattle.lsl_text.specs.declared.Refusal.{Refusal}
 use Rattle.lsl_text.specs.declared.Refusal.TheVariants.{Fault, NoMemory}
 use Rattle.lsl_lex.specs.Fault.{Case}
+use Rattle.lsl_lex.specs.Limits.{source_bytes}
 use Rattle.lsl_lex.specs.Lexed.{Lexes, NoneBefore, StopsAt, IsFirstFault, LexFirst, IsRefused}
 use Rattle.lsl_lex.specs.Pieces.{Cuts}
 use Rattle.lsl_lex.specs.declared.faults.LexFault.{LexFault}
@@ -29,8 +30,8 @@ same_tokens text a b h k =
 
 -- what the three kinds of first faults say
 data First (text : List ℕ) (kind : LexKind) (front : List ℕ) : Type 0 where
-  long : kind ≡ TextTooLong → 65536 < length text → front ≡ [] → First text kind front
-  broken : (n : ℕ) → kind ≡ NotText → length text ≤ 65536 → IsValidUpTo text n → front ≡ take n text → First text kind front
+  long : kind ≡ TextTooLong → source_bytes < length text → front ≡ [] → First text kind front
+  broken : (n : ℕ) → kind ≡ NotText → length text ≤ source_bytes → IsValidUpTo text n → front ≡ take n text → First text kind front
   stopped : StopsAt text kind front → First text kind front
 
 first_of : (text : List ℕ) (kind : LexKind) (front : List ℕ) → IsFirstFault text kind front → First text kind front
@@ -107,7 +108,7 @@ only_first text (Ok found) ok err fault h = no_fault text found fault ok h
 only_first text (Err (Fault first)) ok err fault h = inl (ap (λ z. Fault z) (same_fault text first fault err h))
 only_first text (Err NoMemory) ok err fault h = inr refl
 
-pub not_text_first : (text : List ℕ) (n : ℕ) (fault : LexFault) → length text ≤ 65536 → IsValidUpTo text n → fault.kind ≡ NotText → fault.span ≡ span_of (take n text) [] → LexFirst text fault
+pub not_text_first : (text : List ℕ) (n : ℕ) (fault : LexFault) → length text ≤ source_bytes → IsValidUpTo text n → fault.kind ≡ NotText → fault.span ≡ span_of (take n text) [] → LexFirst text fault
 not_text_first text n fault short valid kind span =
     let P : LexKind → Type 0 = λ k. IsFirstFault text k (take n text) in
     let first : IsFirstFault text NotText (take n text) = (short, n, valid, refl) in

@@ -5,6 +5,7 @@ use Rattle.lsl_text.specs.Place.{span_of}
 use Rattle.lsl_text.specs.declared.Refusal.{Refusal}
 use Rattle.lsl_text.specs.declared.Refusal.TheVariants.{Fault, NoMemory}
 use Rattle.lsl_lex.specs.Fault.{Case}
+use Rattle.lsl_lex.specs.Limits.{source_bytes}
 use Rattle.lsl_lex.specs.Pieces.{Cuts}
 use Rattle.lsl_lex.specs.declared.faults.LexFault.{LexFault}
 use Rattle.lsl_lex.specs.declared.faults.LexKind.{LexKind}
@@ -14,7 +15,7 @@ use Rattle.lsl_lex.specs.declared.token_types.Tokens.{Tokens}
 
 -- a text of at most 65,536 bytes of UTF-8
 pub record IsSource (text : List ℕ) : Type 0 where
-  pub short : length text ≤ 65536
+  pub short : length text ≤ source_bytes
   pub valid : IsUtf8 text
 
 -- a text of UTF-8 ends with these bytes
@@ -38,8 +39,8 @@ pub record StopsAt (text : List ℕ) (kind : LexKind) (front : List ℕ) : Type 
 
 -- behind this front of the text stands its first fault, of this kind
 abbrev pub IsFirstFault : List ℕ → LexKind → List ℕ → Type 0
-IsFirstFault text TextTooLong front = (65536 < length text) × (front ≡ [])
-IsFirstFault text NotText front = (length text ≤ 65536) × (n : ℕ) × IsValidUpTo text n × (front ≡ take n text)
+IsFirstFault text TextTooLong front = (source_bytes < length text) × (front ≡ [])
+IsFirstFault text NotText front = (length text ≤ source_bytes) × (n : ℕ) × IsValidUpTo text n × (front ≡ take n text)
 IsFirstFault text kind front = StopsAt text kind front
 
 -- the first fault of the text; its span is empty, and stands where the fault does

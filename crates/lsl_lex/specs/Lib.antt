@@ -1,6 +1,8 @@
 pub mod Bytes
 pub mod Fault
+pub mod Kinds
 pub mod Lexed
+pub mod Limits
 pub mod Pieces
 pub mod Reading
 pub mod Strings

@@ -1,6 +1,7 @@
 //! Comments.
 
 ghost use Rattle.std.specs.Prelude.{◌≡◌, ◌≤◌, length, IfSome};
+ghost use Rattle.lsl_lex.specs.Limits.{source_bytes};
 ghost use Rattle.lsl_lex.specs.Reading.{Finds, close_of, block_comment, line_comment};
 
 use crate::bytes::line_length;
@@ -12,7 +13,7 @@ use lsl_text::Refusal;
 #[tactic(auto, unfolding(crate::specs::Reading::block_comment))]
 pub fn block_comment(text: &[u8]) -> Result<Piece, Refusal<LexKind>>
     requires long { 2 ≤ length text.now }
-    requires short { length text.now ≤ 65536 }
+    requires short { length text.now ≤ source_bytes }
     ensures { Finds result (block_comment text.now) }
 {
     match close_length(&text[2..]) {
@@ -28,7 +29,7 @@ pub fn block_comment(text: &[u8]) -> Result<Piece, Refusal<LexKind>>
 #[tactic(auto, unfolding(crate::specs::Reading::line_comment))]
 pub fn line_comment(text: &[u8]) -> Result<Piece, Refusal<LexKind>>
     requires long { 2 ≤ length text.now }
-    requires short { length text.now ≤ 65536 }
+    requires short { length text.now ≤ source_bytes }
     ensures { Finds result (line_comment text.now) }
 {
     Ok(Piece {

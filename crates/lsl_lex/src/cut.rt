@@ -3,6 +3,7 @@
 ghost use Rattle.std.specs.Prelude.{◌≡◌, ◌+◌, ◌≤◌, ◌++◌, length, IfOk, IfErr, OnOk};
 ghost use Rattle.lsl_text.specs.Place.{IsAt};
 ghost use Rattle.lsl_lex.specs.Lexed.{IsSource, Lexes, IsRefused};
+ghost use Rattle.lsl_lex.specs.Limits.{source_bytes};
 ghost use Rattle.lsl_lex.specs.Pieces.{token_of};
 ghost use Rattle.lsl_lex.specs.Reading.{fault_of, refusal_of};
 
@@ -68,7 +69,7 @@ fn refused_at(cursor: &Cursor, refusal: Refusal<LexKind>) -> Refusal<LexFault>
 
 /// Moves the cursor on by so many bytes of the text.
 pub fn advance(cursor: &mut Cursor, text: &[u8], count: usize)
-    requires short { length text.now ≤ 65536 }
+    requires short { length text.now ≤ source_bytes }
     requires within { cursor.old.offset + count ≤ length text.now }
     requires place { IsAt text.now cursor.old }
     ensures next { cursor.new.offset ≡ cursor.old.offset + count }

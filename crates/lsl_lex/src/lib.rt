@@ -6,6 +6,7 @@ ghost use Rattle.std.specs.Prelude.{◌≡◌, ◌≤◌, ◌⊎◌, [], length,
 ghost use Rattle.lsl_text.specs.Place.{span_of};
 ghost use Rattle.lsl_text.specs.declared.Refusal.TheVariants.{Fault, NoMemory};
 ghost use Rattle.lsl_lex.specs.Lexed.{Lexes, LexFirst, IsRefused};
+ghost use Rattle.lsl_lex.specs.Limits.{source_bytes};
 ghost use Rattle.lsl_lex.specs.declared.faults.LexFault.{LexFault};
 ghost use Rattle.lsl_lex.specs.declared.token_types.Tokens.{Tokens};
 
@@ -60,7 +61,7 @@ pub fn lex(alloc: Global, text: &[u8]) -> Result<Tokens, Refusal<LexFault>>
 
 // The fault behind the longest front that is UTF-8.
 fn not_text(text: &[u8], place: usize) -> LexFault
-    requires short { length text.now ≤ 65536 }
+    requires short { length text.now ≤ source_bytes }
     requires within { place ≤ length text.now }
     ensures kind { result.kind ≡ LexKind.NotText }
     ensures span { result.span ≡ span_of (take place text.now) [] }

@@ -3,6 +3,7 @@
 ghost use Rattle.std.specs.Prelude.{◌≡◌, ◌≤◌, ◌==◌, length, slice_index};
 ghost use Rattle.std.specs.Bool.{OnTrue};
 ghost use Rattle.lsl_text.specs.Number.{begins_hexadecimal, leading_integer_of};
+ghost use Rattle.lsl_lex.specs.Limits.{source_bytes};
 ghost use Rattle.lsl_lex.specs.declared.token_types.Sort.TheVariants.{Int};
 ghost use Rattle.lsl_lex.specs.Reading.{Finds, number};
 
@@ -15,7 +16,7 @@ use lsl_text::{Refusal, leading_integer};
 /// The integer at the front of a text that begins with a digit.
 #[tactic(auto, unfolding(crate::specs::Reading::number))]
 pub fn number(text: &[u8]) -> Result<Piece, Refusal<LexKind>>
-    requires short { length text.now ≤ 65536 }
+    requires short { length text.now ≤ source_bytes }
     ensures { Finds result (number text.now) }
 {
     if begins_hexadecimal(text) {

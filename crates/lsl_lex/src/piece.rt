@@ -5,6 +5,7 @@ ghost use Rattle.std.specs.Bool.{OnTrue};
 ghost use Rattle.std.specs.List.{AllPass};
 ghost use Rattle.lsl_lex.specs.Bytes.{is_name_byte};
 ghost use Rattle.lsl_lex.specs.Lexed.{EndsText};
+ghost use Rattle.lsl_lex.specs.Limits.{source_bytes};
 ghost use Rattle.lsl_lex.specs.Reading.{Finds, row_of, name, piece};
 ghost use Rattle.lsl_lex.specs.Tokens.{words};
 ghost use Rattle.lsl_lex.specs.declared.token_types.Sort.TheVariants.{Name};
@@ -14,10 +15,11 @@ use crate::comments::{block_comment, line_comment};
 use crate::faults::LexKind;
 use crate::numbers::number;
 use crate::signs::sign;
-use crate::strings::{string, text_of};
+use crate::strings::string;
 use crate::token_types::Sort;
 use crate::words::word;
 use lsl_text::{NoMemory, Refusal};
+use lsl_value::Text;
 use std::alloc::Global;
 
 /// What the front of a text is: a blank or a comment gives nothing, a token its sort.
@@ -31,7 +33,7 @@ pub struct Piece {
 #[tactic(auto, unfolding(crate::specs::Reading::piece))]
 pub fn next(alloc: Global, text: &[u8]) -> Result<Piece, Refusal<LexKind>>
     requires some { 0 < length text.now }
-    requires short { length text.now ≤ 65536 }
+    requires short { length text.now ≤ source_bytes }
     requires valid { EndsText text.now }
     ensures { Finds result (piece text.now) }
 {
@@ -70,7 +72,7 @@ fn opens(text: &[u8], second: u8) -> bool
 
 #[tactic(auto, unfolding(crate::specs::Reading::name))]
 fn name(alloc: Global, text: &[u8]) -> Result<Piece, Refusal<LexKind>>
-    requires { length text.now ≤ 65536 }
+    requires { length text.now ≤ source_bytes }
     ensures { Finds result (name text.now) }
 {
     let length = name_length(text);
@@ -82,14 +84,14 @@ fn name(alloc: Global, text: &[u8]) -> Result<Piece, Refusal<LexKind>>
 }
 
 fn word_or_name(alloc: Global, bytes: &[u8]) -> Result<Sort, NoMemory>
-    requires short { length bytes.now ≤ 65536 }
+    requires short { length bytes.now ≤ source_bytes }
     requires name { AllPass is_name_byte bytes.now }
     ensures { IfOk result (λ sort. sort ≡ unwrap_or (row_of words bytes.now) (Name bytes.now)) }
 {
     match std::str::from_utf8(bytes) {
         Ok(text) => match word(text) {
             Some(sort) => Ok(sort),
-            None => Ok(Sort::Name(text_of(alloc, bytes)?)),
+            None => Ok(Sort::Name(Text::from_string(String::from_str(alloc, text)?))),
         },
         Err(_) => unreachable!(),
     }

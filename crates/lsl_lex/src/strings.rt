@@ -3,6 +3,7 @@
 ghost use Rattle.std.specs.Prelude.{◌≡◌, ◌+◌, ◌<◌, ◌≤◌, ◌++◌, [], ◌∷◌, length, slice_index, IfOk, IfSome, OnOk};
 ghost use Rattle.std.specs.Str.{IsUtf8, chars};
 ghost use Rattle.lsl_lex.specs.Lexed.{EndsText};
+ghost use Rattle.lsl_lex.specs.Limits.{source_bytes};
 ghost use Rattle.lsl_lex.specs.Reading.{Finds, quote_of, part_of, string};
 ghost use Rattle.lsl_lex.specs.Strings.{escape_of, escapes_read};
 
@@ -17,7 +18,7 @@ use std::alloc::Global;
 #[tactic(auto, unfolding(crate::specs::Reading::string))]
 pub fn string(alloc: Global, text: &[u8]) -> Result<Piece, Refusal<LexKind>>
     requires quote { slice_index text.now 0 ≡ 34 }
-    requires short { length text.now ≤ 65536 }
+    requires short { length text.now ≤ source_bytes }
     requires valid { EndsText text.now }
     ensures { Finds result (string text.now) }
 {
@@ -31,30 +32,34 @@ pub fn string(alloc: Global, text: &[u8]) -> Result<Piece, Refusal<LexKind>>
     }
 }
 
-// A body with no backslash is taken as it stands.
+// A body with no backslash is taken as it stands, and copied once.
 fn body_text(alloc: Global, body: &[u8]) -> Result<Text, NoMemory>
-    requires short { length body.now ≤ 65536 }
+    requires short { length body.now ≤ source_bytes }
     requires valid { IsUtf8 body.now }
     ensures { IfOk result (λ text. text ≡ escapes_read (chars body.now)) }
 {
     if !body.contains(&b'\\') {
-        return text_of(alloc, body);
+        return plain_text(alloc, body);
     }
     escaped_text(alloc, body)
 }
 
+// The characters are written once, and become the text as they are.
 fn escaped_text(alloc: Global, body: &[u8]) -> Result<Text, NoMemory>
-    requires short { length body.now ≤ 65536 }
+    requires short { length body.now ≤ source_bytes }
     requires valid { IsUtf8 body.now }
     ensures { IfOk result (λ text. text ≡ escapes_read (chars body.now)) }
 {
     let bytes = without_escapes(alloc, body)?;
-    text_of(alloc, bytes.as_slice())
+    match String::from_utf8(bytes) {
+        Ok(text) => Ok(Text::from_string(text)),
+        Err(_) => unreachable!(),
+    }
 }
 
-/// The text of these bytes.
-pub fn text_of(alloc: Global, bytes: &[u8]) -> Result<Text, NoMemory>
-    requires short { length bytes.now ≤ 1048576 }
+// The text of these bytes.
+fn plain_text(alloc: Global, bytes: &[u8]) -> Result<Text, NoMemory>
+    requires short { length bytes.now ≤ source_bytes }
     requires valid { IsUtf8 bytes.now }
     ensures { IfOk result (λ text. text ≡ chars bytes.now) }
 {

@@ -6,4 +6,4 @@ use Rattle.lsl_lex.proofs.strings.body_text.Goals as goal
 pub returns-then-not-contains : goal.returns-then-not-contains
 returns-then-not-contains c =
     let same = plain_body c.args.body.now c.requires.valid (sym c.contains.ensures.value ∙ c.if-not-contains.true) in
-    subst (λ (l : List ℕ). IfOk c.text_of.result (λ text. text ≡ l)) same c.text_of.ensures
+    subst (λ (l : List ℕ). IfOk c.plain_text.result (λ text. text ≡ l)) same c.plain_text.ensures

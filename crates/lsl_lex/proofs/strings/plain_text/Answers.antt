@@ -1,5 +1,5 @@
 use Rattle.std.proofs.lemmas.Str.{chars_from_encodes}
-use Rattle.lsl_lex.proofs.strings.text_of.Goals as goal
+use Rattle.lsl_lex.proofs.strings.plain_text.Goals as goal
 
 pub returns : goal.returns
 returns c =
