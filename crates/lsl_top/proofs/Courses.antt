@@ -4,17 +4,17 @@ use Rattle.std.specs.Prelude.{slice_get}
 use Rattle.lsl_value.specs.declared.names.BuiltinId.TheVariants as calls
 use Rattle.lsl_value.specs.declared.tagged.Value.{Value}
 use Rattle.lsl_value.specs.declared.tagged.Value.TheVariants as values
-use Rattle.lsl_code.specs.declared.instructions.Instr.{Instr}
-use Rattle.lsl_code.specs.declared.instructions.Instr.TheVariants.{Str, Host, Tick, Return}
-use Rattle.lsl_code.specs.declared.results.Call.{Call}
-use Rattle.lsl_code.specs.declared.results.Outcome.{Outcome}
-use Rattle.lsl_code.specs.declared.results.Outcome.TheVariants as outcomes
-use Rattle.lsl_code.specs.Bodies.{Body}
-use Rattle.lsl_code.specs.Machine.{Active, Plain, Stepped, Goes, Asks, Halts, Ends, performed, step_of, step_at, Reaches}
-use Rattle.lsl_machine.specs.declared.standing.Standing.TheVariants.{Ready, AtTick, Asking}
-use Rattle.lsl_machine.specs.declared.standing.Halt.TheVariants as halts
-use Rattle.lsl_machine.specs.State.{State}
-use Rattle.lsl_machine.specs.Run.{ComesTo, started}
+use Rattle.lsl_literal_code.specs.declared.instructions.Instr.{Instr}
+use Rattle.lsl_literal_code.specs.declared.instructions.Instr.TheVariants.{Str, Host, Tick, Return}
+use Rattle.lsl_literal_code.specs.declared.results.Call.{Call}
+use Rattle.lsl_literal_code.specs.declared.results.Outcome.{Outcome}
+use Rattle.lsl_literal_code.specs.declared.results.Outcome.TheVariants as outcomes
+use Rattle.lsl_literal_code.specs.Bodies.{Body}
+use Rattle.lsl_literal_code.specs.Machine.{Active, Plain, Stepped, Goes, Asks, Halts, Ends, performed, step_of, step_at, Reaches}
+use Rattle.lsl_literal_machine.specs.declared.standing.Standing.TheVariants.{Ready, AtTick, Asking}
+use Rattle.lsl_literal_machine.specs.declared.standing.Halt.TheVariants as halts
+use Rattle.lsl_literal_machine.specs.State.{State}
+use Rattle.lsl_literal_machine.specs.Run.{ComesTo, started}
 use Rattle.lsl_top.specs.Program.{saying_code, handler_code, handler_body}
 
 -- the instructions up to where these texts were said

@@ -4,17 +4,17 @@ use Rattle.std.specs.List.{flat_map}
 use Rattle.std.specs.Str.{encode_utf8_all}
 use Rattle.lsl_value.specs.declared.tagged.Value.{Value}
 use Rattle.lsl_value.specs.declared.tagged.Value.TheVariants as values
-use Rattle.lsl_code.specs.declared.instructions.Instr.TheVariants.{Return}
-use Rattle.lsl_code.specs.declared.results.Call.{Call}
-use Rattle.lsl_code.specs.declared.results.Outcome.{Outcome}
-use Rattle.lsl_code.specs.declared.units.Woven.{Woven}
-use Rattle.lsl_code.specs.Bodies.{Body}
-use Rattle.lsl_code.specs.Machine.{Active, begun as begun_at}
-use Rattle.lsl_machine.specs.declared.standing.Standing.{Standing}
-use Rattle.lsl_machine.specs.declared.standing.Standing.TheVariants.{Ready, AtTick, Asking, Ended, Lost}
-use Rattle.lsl_machine.specs.declared.standing.Halt.TheVariants as halts
-use Rattle.lsl_machine.specs.State.{State, CanRun, IsBegun, answered}
-use Rattle.lsl_machine.specs.Run.{ComesTo, started}
+use Rattle.lsl_literal_code.specs.declared.instructions.Instr.TheVariants.{Return}
+use Rattle.lsl_literal_code.specs.declared.results.Call.{Call}
+use Rattle.lsl_literal_code.specs.declared.results.Outcome.{Outcome}
+use Rattle.lsl_literal_code.specs.declared.units.Woven.{Woven}
+use Rattle.lsl_literal_code.specs.Bodies.{Body}
+use Rattle.lsl_literal_code.specs.Machine.{Active, begun as begun_at}
+use Rattle.lsl_literal_machine.specs.declared.standing.Standing.{Standing}
+use Rattle.lsl_literal_machine.specs.declared.standing.Standing.TheVariants.{Ready, AtTick, Asking, Ended, Lost}
+use Rattle.lsl_literal_machine.specs.declared.standing.Halt.TheVariants as halts
+use Rattle.lsl_literal_machine.specs.State.{State, CanRun, IsBegun, answered}
+use Rattle.lsl_literal_machine.specs.Run.{ComesTo, started}
 use Rattle.lsl_top.specs.Form.{utf8_of}
 use Rattle.lsl_top.specs.Journal.{owner_line}
 use Rattle.lsl_top.specs.Program.{saying_code, handler_code, handler_body, HasHandler}

@@ -2,9 +2,9 @@
 use Rattle.std.proofs.Common.{◌≡◌, ℕ, ◌+◌, ◌<◌, eqb, take, get_or, Bool, true, ◌&&◌, List, [], ◌∷◌, ◌++◌, length, map, refl, ap, sym, ◌∙◌, append_assoc, Some, max, count_by}
 use Rattle.lsl_value.specs.declared.tagged.Kind.{Kind}
 use Rattle.lsl_value.specs.declared.tagged.Kind.TheVariants as kinds
-use Rattle.lsl_code.specs.declared.instructions.Instr.TheVariants.{Return}
-use Rattle.lsl_code.specs.declared.functions.FunctionCode.{FunctionCode}
-use Rattle.lsl_code.specs.Bodies.{plain_body, fits_unit, fits_function, fits_from, each_point_once, most_operands, is_tick_of}
+use Rattle.lsl_literal_code.specs.declared.instructions.Instr.TheVariants.{Return}
+use Rattle.lsl_literal_code.specs.declared.functions.FunctionCode.{FunctionCode}
+use Rattle.lsl_literal_code.specs.Bodies.{plain_body, fits_unit, fits_function, fits_from, each_point_once, most_operands, is_tick_of}
 use Rattle.std.proofs.lemmas.List.{take_more}
 use Rattle.lsl_top.specs.Program.{saying_code, saying_stacks, handler_code, handler_stacks, handler_most, handler_body}
 

@@ -3,11 +3,11 @@ use Rattle.std.specs.Prelude.{◌≡◌, ℕ, List, [], ◌∷◌, ◌++◌, map
 use Rattle.lsl_value.specs.declared.names.BuiltinId.TheVariants as calls
 use Rattle.lsl_value.specs.declared.tagged.Kind.{Kind}
 use Rattle.lsl_value.specs.declared.tagged.Kind.TheVariants as kinds
-use Rattle.lsl_code.specs.declared.instructions.Instr.{Instr}
-use Rattle.lsl_code.specs.declared.instructions.Instr.TheVariants.{Str, Host, Tick, Return}
-use Rattle.lsl_code.specs.declared.units.Woven.{Woven}
-use Rattle.lsl_code.specs.Bodies.{Body}
-use Rattle.lsl_machine.specs.State.{bodies_of}
+use Rattle.lsl_literal_code.specs.declared.instructions.Instr.{Instr}
+use Rattle.lsl_literal_code.specs.declared.instructions.Instr.TheVariants.{Str, Host, Tick, Return}
+use Rattle.lsl_literal_code.specs.declared.units.Woven.{Woven}
+use Rattle.lsl_literal_code.specs.Bodies.{Body}
+use Rattle.lsl_literal_machine.specs.State.{bodies_of}
 
 -- the instructions that say these texts
 abbrev pub saying_code : List (List ℕ) → List Instr

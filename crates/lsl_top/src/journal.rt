@@ -6,7 +6,7 @@ ghost use Rattle.lsl_top.specs.Program.{HasHandler};
 
 use crate::build_fault::BuildFault;
 use crate::running::push_all_said;
-use lsl_code::Woven;
+use lsl_literal_code::Woven;
 use lsl_text::{NoMemory, push_decimal, push_quoted};
 use std::alloc::Global;
 

@@ -1,9 +1,9 @@
 //! The code of a script that says texts.
 ghost use Rattle.std.specs.Prelude.{◌≡◌, ◌++◌, [], IfOk, map};
-ghost use Rattle.lsl_code.specs.Bodies.{plain_body};
+ghost use Rattle.lsl_literal_code.specs.Bodies.{plain_body};
 ghost use Rattle.lsl_top.specs.Program.{handler_body, handler_code, handler_most, handler_stacks, HasHandler};
 
-use lsl_code::{FunctionCode, Instr, Point, Sequence, Unit, Woven};
+use lsl_literal_code::{FunctionCode, Instr, Point, Sequence, Unit, Woven};
 use lsl_text::NoMemory;
 use lsl_value::{BuiltinId, Kind, Text, Values};
 use std::alloc::Global;

@@ -7,8 +7,8 @@ ghost use Rattle.lsl_top.specs.Form.{utf8_of};
 ghost use Rattle.lsl_top.specs.Journal.{owner_line};
 ghost use Rattle.lsl_top.specs.Program.{HasHandler};
 
-use lsl_code::Woven;
-use lsl_machine::{Halt, Machine};
+use lsl_literal_code::Woven;
+use lsl_literal_machine::{Halt, Machine};
 use lsl_text::{NoMemory, push_quoted};
 use lsl_value::{Text, Value, Values};
 use std::alloc::{AllocError, Global};

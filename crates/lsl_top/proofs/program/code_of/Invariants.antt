@@ -1,5 +1,5 @@
 use Rattle.std.proofs.Common.{◌≡◌, ◌++◌, ◌∷◌}
-use Rattle.lsl_code.specs.declared.instructions.Instr.TheVariants.{Tick}
+use Rattle.lsl_literal_code.specs.declared.instructions.Instr.TheVariants.{Tick}
 use Rattle.lsl_top.specs.Program.{saying_code}
 use Rattle.lsl_top.proofs.program.code_of.Given as goal
 

@@ -1,7 +1,7 @@
 use Rattle.std.proofs.Common.{Option, None, refl, subst, sym}
 use Rattle.lsl_value.specs.declared.tagged.Value.{Value}
-use Rattle.lsl_machine.specs.declared.standing.Standing.{Standing}
-use Rattle.lsl_machine.specs.State.{Wants, bodies_of}
+use Rattle.lsl_literal_machine.specs.declared.standing.Standing.{Standing}
+use Rattle.lsl_literal_machine.specs.State.{Wants, bodies_of}
 use Rattle.lsl_top.proofs.Halting.{SaidSoFar-begun, SaidSoFar-tick, SaidSoFar-answered, smaller_tick, smaller_answered, asked_said, written_at_end}
 use Rattle.lsl_top.proofs.running.push_all_said.Goals as goal
 

@@ -1,5 +1,5 @@
 use Rattle.std.proofs.Common.{List, ℕ, ◌-◌, ◌*◌}
-use Rattle.lsl_machine.specs.State.{IsOf, bodies_of}
+use Rattle.lsl_literal_machine.specs.State.{IsOf, bodies_of}
 use Rattle.lsl_top.specs.Program.{HasHandler}
 use Rattle.lsl_top.proofs.Halting.{SaidSoFar, code_length, progress}
 use Rattle.lsl_top.proofs.running.push_all_said.Given as goal
