@@ -1,0 +1,13 @@
+pub mod Acts
+pub mod Bodies
+pub mod Drafts
+pub mod Effects
+pub mod Fits
+pub mod Forward
+pub mod Kinds
+pub mod Laws
+pub mod Machine
+pub mod Pieces
+pub mod Runs
+pub mod Units
+pub mod Wholes

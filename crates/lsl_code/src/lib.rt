@@ -1,0 +1,15 @@
+//! Compiled code: instructions, functions, units that are well formed by their type, and what a machine that runs them comes to
+//! (in `specs/`). Nothing here runs a unit.
+#![tactic(auto)]
+
+mod functions;
+mod instructions;
+mod sequence;
+mod signatures;
+mod units;
+
+pub use crate::functions::{FunctionCode, Handler, Point, StateCode};
+pub use crate::instructions::Instr;
+pub use crate::sequence::Sequence;
+pub use crate::signatures::{Names, Signature};
+pub use crate::units::Unit;
