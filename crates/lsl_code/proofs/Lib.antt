@@ -1,0 +1,11 @@
+pub mod Acts
+pub mod Asked
+pub mod Asking
+pub mod Due
+pub mod FewCalls
+pub mod Further
+pub mod Keeping
+pub mod Ranks
+pub mod Resuming
+pub mod Running
+pub mod Sinking

@@ -4,6 +4,7 @@
 
 mod functions;
 mod instructions;
+pub mod laws;
 mod sequence;
 mod signatures;
 mod units;

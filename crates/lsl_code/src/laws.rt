@@ -1,0 +1,23 @@
+//! Laws of code and of its runs.
+
+ghost use Rattle.lsl_code.specs.Laws.{IsStepAndRun, MoreTicks, MoreAnswers, AsksSoOften};
+
+/// Where control goes back only behind ticks, a run is one step, and the run from there.
+pub fn runs_are_steps()
+    ensures { IsStepAndRun }
+{}
+
+/// A run with more ticks is the run with fewer, gone on from where it was cut.
+pub fn more_ticks()
+    ensures { MoreTicks }
+{}
+
+/// A run with further answers is the run without them, gone on from where it asked.
+pub fn more_answers()
+    ensures { MoreAnswers }
+{}
+
+/// Between two ticks a run asks at most 2,048 times as often as its code has instructions that ask.
+pub fn a_segment_asks_so_often()
+    ensures { AsksSoOften }
+{}
