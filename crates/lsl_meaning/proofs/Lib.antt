@@ -1,0 +1,4 @@
+pub mod More
+pub mod MoreExpressions
+pub mod MoreStatements
+pub mod MoreHandlers

@@ -1,2 +1,4 @@
-//! What a checked script means, evaluated from its text alone. The definitions stand in specs/.
+//! What a checked script means, evaluated from its text alone. The definitions stand in specs/, and laws over them in `laws`.
 #![tactic(auto)]
+
+pub mod laws;
