@@ -78,7 +78,7 @@ fn joined_text(alloc: Global, items: &Items) -> Result<Text, NoMemory>
     requires { list_charge_of items.now ≤ 65536 }
     ensures { IfOk result (λ text. text ≡ flat_map text_of_atom items.now) }
 {
-    let mut text = Text::new(alloc);
+    let mut text = Text::new();
     for atom in items.as_slice() {
         push_atom(alloc, &mut text, atom)?;
     }

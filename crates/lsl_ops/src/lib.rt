@@ -8,8 +8,6 @@ mod comparisons;
 mod faults;
 mod integers;
 mod sums;
-#[cfg(test)]
-mod tests;
 
 pub use crate::binaries::binary;
 pub use crate::casts::cast;

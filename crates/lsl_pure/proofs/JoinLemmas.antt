@@ -10,7 +10,7 @@ use Rattle.lsl_text.specs.Number.{decimal_of}
 use Rattle.lsl_value.specs.declared.list.Atom.{Atom}
 use Rattle.lsl_value.specs.declared.list.Atom.TheVariants.{Int}
 use Rattle.lsl_pure.specs.Joins.{dumped, joined, each_behind}
-use Rattle.lsl_pure.specs.Elements.{text_of_atom}
+use Rattle.lsl_value.specs.Atoms.{text_of_atom}
 use Rattle.lsl_pure.specs.Spelling.{spelled_atom}
 
 decimal_is : (n : ℤ) → signed_decimal n ≡ decimal_of n

@@ -9,7 +9,7 @@ use Rattle.std.proofs.lemmas.List.Elements.{All-head, All-tail}
 use Rattle.lsl_value.specs.declared.list.Atom.{Atom}
 use Rattle.lsl_value.specs.declared.list.Atom.TheVariants.{Str}
 use Rattle.lsl_pure.specs.Csv.{csv_elements, csv_pieces, depth_behind, into_first, is_outer_comma, without_leading_spaces}
-use Rattle.lsl_pure.specs.Elements.{text_of_atom}
+use Rattle.lsl_value.specs.Atoms.{text_of_atom}
 use Rattle.lsl_pure.specs.Joins.{csv_text, dumped, each_behind}
 use Rattle.lsl_pure.specs.Parsing.{Cut, behind_character, behind_mark, cut_behind, cut_elements, first_mark, parsed}
 use Rattle.lsl_pure.specs.Laws.{IsPlainCharacter, IsPlainText, IsPlainList, string_element}

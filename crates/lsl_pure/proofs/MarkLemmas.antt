@@ -7,7 +7,7 @@ use Rattle.std.proofs.lemmas.Bool.Decides.{nat_tests}
 use Rattle.std.proofs.lemmas.List.{append-nil, append_assoc, map-append}
 use Rattle.std.proofs.lemmas.List.Elements.{All-append, All-weaker, filter-append, filter_passes}
 use Rattle.lsl_value.specs.declared.list.Atom.{Atom}
-use Rattle.lsl_pure.specs.Elements.{text_of_atom}
+use Rattle.lsl_value.specs.Atoms.{text_of_atom}
 use Rattle.lsl_pure.specs.Parsing.{marks_among, marks_from, marks_of}
 use Rattle.lsl_pure.specs.declared.marks.Mark.{Mark}
 use Rattle.lsl_pure.proofs.TrimLemmas.{empty-encodes}

@@ -1,7 +1,6 @@
 -- Elements of a list: the one at a place, and what it is as an integer, a text, a key and a type.
 use Rattle.std.specs.Prelude.{ℕ, ℤ, pos, negsuc, List, [], length, Option, Some, None, slice_get}
-use Rattle.std.specs.Str.{encode_utf8_all}
-use Rattle.lsl_text.specs.Number.{decimal_of, leading_integer_of}
+use Rattle.lsl_value.specs.Atoms.{integer_of_atom, text_of_atom}
 use Rattle.lsl_value.specs.declared.list.Atom.{Atom}
 use Rattle.lsl_value.specs.declared.list.Atom.TheVariants.{Int, Str, Key}
 use Rattle.lsl_pure.specs.Places.{place_of}
@@ -14,17 +13,9 @@ element_from_start atoms (negsuc k) = None
 abbrev pub element_at : List Atom → ℤ → Option Atom
 element_at atoms p = element_from_start atoms (place_of (length atoms) p)
 
--- an element's text: an integer in decimal, a text or key as it is
-abbrev pub text_of_atom : Atom → List ℕ
-text_of_atom (Int n) = decimal_of n
-text_of_atom (Str text) = text
-text_of_atom (Key text) = text
-
--- 0 for a key or no element
+-- 0 for no element
 abbrev pub integer_of : Option Atom → ℤ
-integer_of (Some (Int n)) = n
-integer_of (Some (Str text)) = leading_integer_of (encode_utf8_all text)
-integer_of (Some (Key text)) = pos 0
+integer_of (Some atom) = integer_of_atom atom
 integer_of None = pos 0
 
 -- no character for no element

@@ -1,7 +1,7 @@
 -- Texts of a list's elements, joined.
 use Rattle.std.specs.Prelude.{ℕ, List, [], ◌∷◌, ◌++◌, map, codes}
 use Rattle.lsl_value.specs.declared.list.Atom.{Atom}
-use Rattle.lsl_pure.specs.Elements.{text_of_atom}
+use Rattle.lsl_value.specs.Atoms.{text_of_atom}
 
 -- each text behind a separator
 abbrev pub each_behind : List ℕ → List (List ℕ) → List ℕ

@@ -3,7 +3,7 @@ use Rattle.std.specs.Prelude.{◌≡◌, ◌≢◌, ℕ, ℤ, pos, int_lt, Bool,
 use Rattle.std.specs.List.{All}
 use Rattle.lsl_value.specs.declared.list.Atom.{Atom}
 use Rattle.lsl_value.specs.declared.list.Atom.TheVariants.{Str}
-use Rattle.lsl_pure.specs.Elements.{text_of_atom}
+use Rattle.lsl_value.specs.Atoms.{text_of_atom}
 use Rattle.lsl_pure.specs.Parsing.{Cut, first_mark}
 use Rattle.lsl_pure.specs.Places.{place_of}
 use Rattle.lsl_pure.specs.declared.marks.Mark.{Mark}

@@ -4,7 +4,7 @@ use Rattle.std.specs.List.{find, flat_map, starts_with}
 use Rattle.std.specs.Option.{option_map_or}
 use Rattle.lsl_value.specs.declared.list.Atom.{Atom}
 use Rattle.lsl_value.specs.declared.list.Atom.TheVariants.{Str}
-use Rattle.lsl_pure.specs.Elements.{text_of_atom}
+use Rattle.lsl_value.specs.Atoms.{text_of_atom}
 use Rattle.lsl_pure.specs.declared.marks.Mark.{Mark}
 
 -- a text's first piece, and the marks behind it, each with the piece that follows it

@@ -2,9 +2,10 @@
 use Rattle.std.specs.Prelude.{ℕ, zero, suc, ◌+◌, ◌<◌, length, Bool, ◌||◌, nat_lt, nat_le, if◌then◌else◌, List, [], ◌∷◌}
 use Rattle.std.specs.List.{sum_by}
 use Rattle.std.specs.Str.{encode_utf8_all}
+use Rattle.lsl_value.specs.Limits.{most_charge}
 use Rattle.lsl_value.specs.declared.list.Atom.{Atom}
 use Rattle.lsl_value.specs.declared.list.Atom.TheVariants.{Int, Str, Key}
-use Rattle.lsl_pure.specs.Elements.{text_of_atom}
+use Rattle.lsl_value.specs.Atoms.{text_of_atom}
 use Rattle.lsl_pure.specs.declared.marks.Mark.{Mark}
 
 -- the byte begins a character
@@ -39,4 +40,4 @@ spelled_charge (Key bytes) = 24 + length bytes
 
 -- a list of elements, their texts spelled out, is charged too much
 abbrev pub IsOverfull : List Atom → Type 0
-IsOverfull atoms = 65536 < 16 + sum_by spelled_charge atoms
+IsOverfull atoms = most_charge < 16 + sum_by spelled_charge atoms

@@ -44,12 +44,12 @@ pub fn int(value: Value) -> i32
 }
 
 /// The value's text. A value of another kind has the empty one.
-pub fn text(alloc: Global, value: Value) -> Text
+pub fn text(value: Value) -> Text
     ensures { result ≡ text_of value }
 {
     match value {
         Value::Str(text) => text,
-        _ => Text::new(alloc),
+        _ => Text::new(),
     }
 }
 

@@ -3,14 +3,15 @@
 ghost use Rattle.std.specs.Prelude.{◌≡◌, ◌≤◌, ◌<◌, ◌+◌, ◌^◌, ◌∷◌, [], ◌++◌, length, map, IfOk, IfErr, OnOk};
 ghost use Rattle.std.specs.Str.{IsUtf8};
 ghost use Rattle.lsl_value.specs.Atoms.{list_charge_of};
+ghost use Rattle.lsl_value.specs.Limits.{most_charge, most_text_bytes};
 ghost use Rattle.lsl_value.specs.declared.list.Atom.TheVariants.{Str};
 ghost use Rattle.lsl_pure.specs.Csv.{csv_elements, csv_pieces as csv_pieces_of, depth_behind as depth_behind_of, is_outer_comma, without_leading_spaces};
 ghost use Rattle.lsl_pure.specs.Spelling.{spelled_string, IsOverfull};
 
 use crate::PureFault;
-use crate::bounds::{MOST_CHARGE, push_bounded};
+use crate::bounds::push_bounded;
 use crate::spelling::copy_of;
-use lsl_value::{Atom, Items, MAX_TEXT_BYTES, Text};
+use lsl_value::{Atom, Items, Text};
 use std::alloc::Global;
 
 /// The pieces between commas that don't stand inside angle brackets, without leading spaces, as strings; none for
@@ -18,7 +19,7 @@ use std::alloc::Global;
 /// <https://wiki.secondlife.com/wiki/LlCSV2List>.
 pub fn csv_to_list(alloc: Global, text: &Text) -> Result<Items, PureFault>
     ensures ok { IfOk result (λ items. items ≡ csv_elements text.now) }
-    ensures too_big { IfErr result (λ fault. fault ≡ PureFault.TooBig → MOST_CHARGE < list_charge_of (csv_elements text.now)) }
+    ensures too_big { IfErr result (λ fault. fault ≡ PureFault.TooBig → most_charge < list_charge_of (csv_elements text.now)) }
 {
     let bytes = text.bytes();
     if bytes.is_empty() {
@@ -29,7 +30,7 @@ pub fn csv_to_list(alloc: Global, text: &Text) -> Result<Items, PureFault>
 
 fn csv_pieces(alloc: Global, text: &[u8]) -> Result<Items, PureFault>
     requires valid { IsUtf8 text.now }
-    requires short { length text.now ≤ MAX_TEXT_BYTES }
+    requires short { length text.now ≤ most_text_bytes }
     ensures ok { IfOk result (λ items. map spelled_string items ≡ map (λ piece. Str (without_leading_spaces piece)) (csv_pieces_of 0 text.now)) }
     ensures too_big { IfErr result (λ fault. fault ≡ PureFault.TooBig → IsOverfull (map (λ piece. Str (without_leading_spaces piece)) (csv_pieces_of 0 text.now))) }
 {
@@ -69,10 +70,10 @@ fn depth_behind(depth: usize, b: u8) -> usize
 
 fn push_csv_piece(alloc: Global, items: &mut Items, piece: &[u8]) -> Result<(), PureFault>
     requires valid { IsUtf8 piece.now }
-    requires short { length piece.now ≤ MAX_TEXT_BYTES }
-    requires room { list_charge_of items.old ≤ 65536 }
+    requires short { length piece.now ≤ most_text_bytes }
+    requires room { list_charge_of items.old ≤ most_charge }
     ensures ok { OnOk result (map spelled_string items.new ≡ map spelled_string items.old ++ Str (without_leading_spaces piece.now) ∷ []) }
-    ensures fits { OnOk result (list_charge_of items.new ≤ 65536) }
+    ensures fits { OnOk result (list_charge_of items.new ≤ most_charge) }
     ensures too_big { IfErr result (λ fault. fault ≡ PureFault.TooBig → IsOverfull (map spelled_string items.old ++ Str (without_leading_spaces piece.now) ∷ [])) }
 {
     let text = copy_of(alloc, behind_spaces(piece))?;

@@ -2,16 +2,15 @@
 
 ghost use Rattle.std.specs.Prelude.{◌≡◌, ◌≤◌, ◌<◌, ◌++◌, if◌then◌else◌, length, take, drop, slice_range, IfOk, IfErr};
 ghost use Rattle.std.specs.Str.{encode_utf8_all};
+ghost use Rattle.lsl_value.specs.Limits.{most_charge};
 ghost use Rattle.lsl_value.specs.Text.{text_charge_of};
 ghost use Rattle.lsl_pure.specs.Cuts.{taken, left, inserted_at, trimmed, trims_head, trims_tail, without_head, without_tail};
-ghost use Rattle.lsl_text.specs.Number.{is_blank};
 
 use crate::PureFault;
-use crate::bounds::MOST_CHARGE;
 use crate::ranges::{Range, clamp};
 use crate::spelling::{copy_of, count_characters, offset, offsets, text_of};
-use lsl_text::NoMemory;
-use lsl_value::Text;
+use lsl_text::{NoMemory, behind_blanks, is_blank};
+use lsl_value::{MOST_CHARGE, Text};
 use std::alloc::Global;
 
 /// What stands in the range. See <https://wiki.secondlife.com/wiki/LlGetSubString>.
@@ -60,7 +59,7 @@ fn outside(alloc: Global, text: &Text, start: usize, end: usize) -> Result<Text,
     let mut out = Vec::with_capacity(alloc, bytes.len() - (to - from))?;
     out.extend_from_slice(&bytes[..from])?;
     out.extend_from_slice(&bytes[to..])?;
-    Ok(text_of(out))
+    text_of(out)
 }
 
 /// The other text inserted before a place: below 0 is taken as 0, above the end as the end. Too big before
@@ -72,7 +71,7 @@ pub fn insert_string(
     other: &Text,
 ) -> Result<Text, PureFault>
     ensures ok { IfOk result (λ whole. whole ≡ inserted_at text.now place other.now) }
-    ensures too_big { IfErr result (λ fault. fault ≡ PureFault.TooBig → MOST_CHARGE < text_charge_of (inserted_at text.now place other.now)) }
+    ensures too_big { IfErr result (λ fault. fault ≡ PureFault.TooBig → most_charge < text_charge_of (inserted_at text.now place other.now)) }
 {
     let bytes = text.bytes();
     let more = other.bytes();
@@ -84,7 +83,7 @@ pub fn insert_string(
     out.extend_from_slice(&bytes[..at])?;
     out.extend_from_slice(more)?;
     out.extend_from_slice(&bytes[at..])?;
-    Ok(text_of(out))
+    Ok(text_of(out)?)
 }
 
 /// The text without the blanks at its head for bit 1, at its tail for bit 2. See
@@ -125,25 +124,6 @@ fn trims_tail(kind: i32) -> bool
     ensures { result ≡ trims_tail kind }
 {
     kind.cast_unsigned() / 2 % 2 == 1
-}
-
-fn is_blank(b: u8) -> bool
-    ensures { result ≡ is_blank b }
-{
-    (9 <= b && b <= 13) || b == b' '
-}
-
-fn behind_blanks(text: &[u8]) -> &[u8]
-    ensures { result.now ≡ without_head text.now }
-{
-    let mut rest = text;
-    'blanks: while let [b, more @ ..] = rest {
-        if !is_blank(*b) {
-            break;
-        }
-        rest = more;
-    }
-    rest
 }
 
 fn before_blanks(text: &[u8]) -> &[u8]

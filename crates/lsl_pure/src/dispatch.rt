@@ -1,6 +1,7 @@
 //! From a call's name to its value.
 
 ghost use Rattle.std.specs.Prelude.{◌≡◌, ◌<◌, ◌≤◌, IfOk, IfErr};
+ghost use Rattle.lsl_value.specs.Limits.{most_charge};
 ghost use Rattle.lsl_value.specs.Values.{charge_of};
 ghost use Rattle.lsl_pure.specs.Arguments.{IsArguments};
 ghost use Rattle.lsl_pure.specs.Pure.{pure_of};
@@ -25,8 +26,8 @@ use std::alloc::Global;
 pub fn call(alloc: Global, id: BuiltinId, args: Values) -> Result<Value, PureFault>
     requires { IsArguments id args }
     ensures ok { IfOk result (λ value. value ≡ pure_of id args) }
-    ensures fits { IfOk result (λ value. charge_of value ≤ 65536) }
-    ensures too_big { IfErr result (λ fault. fault ≡ PureFault.TooBig → 65536 < charge_of (pure_of id args)) }
+    ensures fits { IfOk result (λ value. charge_of value ≤ most_charge) }
+    ensures too_big { IfErr result (λ fault. fault ≡ PureFault.TooBig → most_charge < charge_of (pure_of id args)) }
 {
     answer(alloc, id, args)
 }
@@ -34,8 +35,8 @@ pub fn call(alloc: Global, id: BuiltinId, args: Values) -> Result<Value, PureFau
 /// The same for any call and any arguments.
 pub(crate) fn answer(alloc: Global, id: BuiltinId, args: Values) -> Result<Value, PureFault>
     ensures ok { IfOk result (λ value. value ≡ pure_of id args) }
-    ensures fits { IfOk result (λ value. charge_of value ≤ 65536) }
-    ensures too_big { IfErr result (λ fault. fault ≡ PureFault.TooBig → 65536 < charge_of (pure_of id args)) }
+    ensures fits { IfOk result (λ value. charge_of value ≤ most_charge) }
+    ensures too_big { IfErr result (λ fault. fault ≡ PureFault.TooBig → most_charge < charge_of (pure_of id args)) }
 {
     bounded(value(alloc, id, args)?)
 }
@@ -43,27 +44,27 @@ pub(crate) fn answer(alloc: Global, id: BuiltinId, args: Values) -> Result<Value
 // The value, too big or not.
 fn value(alloc: Global, id: BuiltinId, args: Values) -> Result<Value, PureFault>
     ensures ok { IfOk result (λ value. value ≡ pure_of id args) }
-    ensures too_big { IfErr result (λ fault. fault ≡ PureFault.TooBig → 65536 < charge_of (pure_of id args)) }
+    ensures too_big { IfErr result (λ fault. fault ≡ PureFault.TooBig → most_charge < charge_of (pure_of id args)) }
 {
     let (a, b, c, d) = first_four(args);
     match id {
         Abs => Ok(Value::Int(int(a).wrapping_abs())),
-        StringLength => Ok(Value::Int(count_characters(&text(alloc, a)) as i32)),
+        StringLength => Ok(Value::Int(count_characters(&text(a)) as i32)),
         GetListLength => Ok(Value::Int(list(alloc, a).len() as i32)),
-        GetSubString => Ok(Value::Str(sub_string(alloc, &text(alloc, a), int(b), int(c))?)),
-        List2List => Ok(Value::List(sub_list(list(alloc, a), int(b), int(c)))),
+        GetSubString => Ok(Value::Str(sub_string(alloc, &text(a), int(b), int(c))?)),
+        List2List => Ok(Value::List(sub_list(list(alloc, a), int(b), int(c))?)),
         DeleteSubString => Ok(Value::Str(delete_sub_string(
             alloc,
-            &text(alloc, a),
+            &text(a),
             int(b),
             int(c),
         )?)),
-        DeleteSubList => Ok(Value::List(delete_sub_list(list(alloc, a), int(b), int(c)))),
+        DeleteSubList => Ok(Value::List(delete_sub_list(list(alloc, a), int(b), int(c))?)),
         InsertString => Ok(Value::Str(insert_string(
             alloc,
-            &text(alloc, a),
+            &text(a),
             int(b),
-            &text(alloc, c),
+            &text(c),
         )?)),
         ListInsertList => Ok(Value::List(insert_list(list(alloc, a), list(alloc, b), int(c))?)),
         ListReplaceList => Ok(Value::List(replace_list(
@@ -72,28 +73,28 @@ fn value(alloc: Global, id: BuiltinId, args: Values) -> Result<Value, PureFault>
             int(c),
             int(d),
         )?)),
-        SubStringIndex => Ok(Value::Int(sub_string_index(&text(alloc, a), &text(alloc, b)))),
+        SubStringIndex => Ok(Value::Int(sub_string_index(&text(a), &text(b)))),
         ListFindList => Ok(Value::Int(list_find_list(&list(alloc, a), &list(alloc, b)))),
-        StringTrim => Ok(Value::Str(string_trim(alloc, &text(alloc, a), int(b))?)),
+        StringTrim => Ok(Value::Str(string_trim(alloc, &text(a), int(b))?)),
         List2Integer => Ok(Value::Int(list_to_integer(&list(alloc, a), int(b)))),
         List2String => Ok(Value::Str(list_to_string(alloc, &list(alloc, a), int(b))?)),
-        List2Key => Ok(Value::Key(list_to_key(alloc, &list(alloc, a), int(b))?)),
+        List2Key => Ok(Value::Key(list_to_key(&list(alloc, a), int(b))?)),
         GetListEntryType => Ok(Value::Int(entry_type(&list(alloc, a), int(b)))),
-        DumpList2String => Ok(Value::Str(dump_list(alloc, &list(alloc, a), &text(alloc, b))?)),
+        DumpList2String => Ok(Value::Str(dump_list(alloc, &list(alloc, a), &text(b))?)),
         List2Csv => Ok(Value::Str(list_to_csv(alloc, &list(alloc, a))?)),
-        Csv2List => Ok(Value::List(csv_to_list(alloc, &text(alloc, a))?)),
+        Csv2List => Ok(Value::List(csv_to_list(alloc, &text(a))?)),
         ParseString2List => Ok(Value::List(parse_string(
             alloc,
-            &text(alloc, a),
-            list(alloc, b),
-            list(alloc, c),
+            &text(a),
+            &list(alloc, b),
+            &list(alloc, c),
             false,
         )?)),
         ParseStringKeepNulls => Ok(Value::List(parse_string(
             alloc,
-            &text(alloc, a),
-            list(alloc, b),
-            list(alloc, c),
+            &text(a),
+            &list(alloc, b),
+            &list(alloc, c),
             true,
         )?)),
         _ => Ok(Value::Int(0)),

@@ -1,13 +1,11 @@
 //! Elements of a list as integers, texts, keys and types, and the absolute value.
 
 ghost use Rattle.std.specs.Prelude.{◌≡◌, IfOk};
-ghost use Rattle.lsl_pure.specs.Elements.{element_at, integer_of, string_of, key_of, type_of, text_of_atom};
-ghost use Rattle.lsl_text.specs.Number.{decimal_of};
+ghost use Rattle.lsl_pure.specs.Elements.{element_at, integer_of, string_of, key_of, type_of};
 ghost use Rattle.std.specs.Option.{option_copied};
 
 use crate::ranges::place;
-use itoa::Buffer;
-use lsl_text::{NoMemory, leading_integer};
+use lsl_text::NoMemory;
 use lsl_value::{Atom, Items, Text};
 use std::alloc::Global;
 
@@ -36,9 +34,8 @@ pub fn list_to_integer(items: &Items, at: i32) -> i32
     ensures { result ≡ integer_of (element_at items.now at) }
 {
     match element(items, at) {
-        Some(Atom::Int(n)) => *n,
-        Some(Atom::Str(text)) => leading_integer(text.bytes()),
-        Some(Atom::Key(_)) | None => 0,
+        Some(atom) => atom.integer(),
+        None => 0,
     }
 }
 
@@ -47,19 +44,19 @@ pub fn list_to_string(alloc: Global, items: &Items, at: i32) -> Result<Text, NoM
     ensures { IfOk result (λ text. text ≡ string_of (element_at items.now at)) }
 {
     match element(items, at) {
-        Some(atom) => text_of_element(alloc, atom),
-        None => Ok(Text::new(alloc)),
+        Some(atom) => atom.text(alloc),
+        None => Ok(Text::new()),
     }
 }
 
 /// The key of a key's or string's text, of the empty text for an integer or no element. See
 /// <https://wiki.secondlife.com/wiki/LlList2Key>.
-pub fn list_to_key(alloc: Global, items: &Items, at: i32) -> Result<Text, NoMemory>
+pub fn list_to_key(items: &Items, at: i32) -> Result<Text, NoMemory>
     ensures { IfOk result (λ text. text ≡ key_of (element_at items.now at)) }
 {
     match element(items, at) {
-        Some(Atom::Str(text) | Atom::Key(text)) => text.copy(alloc),
-        Some(Atom::Int(_)) | None => Ok(Text::new(alloc)),
+        Some(Atom::Str(text) | Atom::Key(text)) => text.copy(),
+        Some(Atom::Int(_)) | None => Ok(Text::new()),
     }
 }
 
@@ -74,22 +71,4 @@ pub fn entry_type(items: &Items, at: i32) -> i32
         Some(Atom::Key(_)) => TYPE_KEY,
         None => TYPE_INVALID,
     }
-}
-
-/// A copy of the element's text: an integer in decimal, a string or key as it is.
-pub fn text_of_element(alloc: Global, atom: &Atom) -> Result<Text, NoMemory>
-    ensures { IfOk result (λ text. text ≡ text_of_atom atom.now) }
-{
-    match atom {
-        Atom::Int(n) => decimal(alloc, *n),
-        Atom::Str(text) | Atom::Key(text) => text.copy(alloc),
-    }
-}
-
-/// The number in decimal.
-pub fn decimal(alloc: Global, n: i32) -> Result<Text, NoMemory>
-    ensures { IfOk result (λ text. text ≡ decimal_of n) }
-{
-    let mut buffer = Buffer::new();
-    Ok(Text::from_ascii(buffer.format(n).as_bytes().to_vec(alloc)?))
 }

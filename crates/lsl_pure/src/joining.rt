@@ -2,26 +2,23 @@
 
 ghost use Rattle.std.specs.Prelude.{◌≡◌, ◌≤◌, ◌<◌, ◌+◌, ◌*◌, ◌++◌, length, IfOk, IfErr, OnOk, map};
 ghost use Rattle.std.specs.Str.{encode_utf8_all, IsUtf8};
+ghost use Rattle.lsl_value.specs.Limits.{most_charge, most_items, most_text_bytes};
 ghost use Rattle.lsl_value.specs.Text.{text_charge_of};
 ghost use Rattle.lsl_pure.specs.Spelling.{spelled_atom};
 ghost use Rattle.lsl_pure.specs.Joins.{dumped, csv_text, joined, each_behind};
 
 use crate::PureFault;
-use crate::bounds::MOST_CHARGE;
 use crate::spelling::text_of;
 use itoa::Buffer;
 use lsl_text::NoMemory;
-use lsl_value::{Atom, Items, Text};
+use lsl_value::{Atom, Items, MOST_CHARGE, TEXT_CHARGE, Text};
 use std::alloc::Global;
-
-/// What a text without characters is charged.
-const TEXT_CHARGE: u64 = 16;
 
 /// The elements' texts with the separator between them. Too big before anything is built; one piece of memory. See
 /// <https://wiki.secondlife.com/wiki/LlDumpList2String>.
 pub fn dump_list(alloc: Global, items: &Items, separator: &Text) -> Result<Text, PureFault>
     ensures ok { IfOk result (λ text. text ≡ dumped items.now separator.now) }
-    ensures too_big { IfErr result (λ fault. fault ≡ PureFault.TooBig → MOST_CHARGE < text_charge_of (dumped items.now separator.now)) }
+    ensures too_big { IfErr result (λ fault. fault ≡ PureFault.TooBig → most_charge < text_charge_of (dumped items.now separator.now)) }
 {
     join(alloc, items.as_slice(), separator.bytes())
 }
@@ -29,20 +26,20 @@ pub fn dump_list(alloc: Global, items: &Items, separator: &Text) -> Result<Text,
 /// The elements' texts with a comma and a space between them. See <https://wiki.secondlife.com/wiki/LlList2CSV>.
 pub fn list_to_csv(alloc: Global, items: &Items) -> Result<Text, PureFault>
     ensures ok { IfOk result (λ text. text ≡ csv_text items.now) }
-    ensures too_big { IfErr result (λ fault. fault ≡ PureFault.TooBig → MOST_CHARGE < text_charge_of (csv_text items.now)) }
+    ensures too_big { IfErr result (λ fault. fault ≡ PureFault.TooBig → most_charge < text_charge_of (csv_text items.now)) }
 {
     join(alloc, items.as_slice(), b", ")
 }
 
 fn join(alloc: Global, atoms: &[Atom], separator: &[u8]) -> Result<Text, PureFault>
     requires valid { IsUtf8 separator.now }
-    requires short { length separator.now ≤ 1048576 }
-    requires few { length atoms.now ≤ 65536 }
+    requires short { length separator.now ≤ most_text_bytes }
+    requires few { length atoms.now ≤ most_items }
     ensures ok { IfOk result (λ text. encode_utf8_all text ≡ joined separator.now (map spelled_atom atoms.now)) }
-    ensures too_big { IfErr result (λ fault. fault ≡ PureFault.TooBig → MOST_CHARGE < 16 + length (joined separator.now (map spelled_atom atoms.now))) }
+    ensures too_big { IfErr result (λ fault. fault ≡ PureFault.TooBig → most_charge < 16 + length (joined separator.now (map spelled_atom atoms.now))) }
 {
     match atoms {
-        [] => Ok(Text::new(alloc)),
+        [] => Ok(Text::new()),
         [first, others @ ..] => {
             let size = atom_len(first) + others_len(others, separator);
             if TEXT_CHARGE + size as u64 > MOST_CHARGE {
@@ -51,15 +48,15 @@ fn join(alloc: Global, atoms: &[Atom], separator: &[u8]) -> Result<Text, PureFau
             let mut out = Vec::with_capacity(alloc, size)?;
             push_atom(&mut out, first)?;
             push_others(&mut out, others, separator)?;
-            Ok(text_of(out))
+            Ok(text_of(out)?)
         }
     }
 }
 
 // How many bytes these elements' texts have, each behind the separator.
 fn others_len(atoms: &[Atom], separator: &[u8]) -> usize
-    requires short { length separator.now ≤ 1048576 }
-    requires few { length atoms.now ≤ 65536 }
+    requires short { length separator.now ≤ most_text_bytes }
+    requires few { length atoms.now ≤ most_items }
     ensures value { result ≡ length (each_behind separator.now (map spelled_atom atoms.now)) }
     ensures within { result ≤ 65536 * 2097152 }
 {
@@ -87,7 +84,7 @@ fn push_others(out: &mut Vec<u8>, atoms: &[Atom], separator: &[u8]) -> Result<()
 // How many bytes the element's text has.
 fn atom_len(atom: &Atom) -> usize
     ensures value { result ≡ length (spelled_atom atom.now) }
-    ensures within { result ≤ 1048576 }
+    ensures within { result ≤ most_text_bytes }
 {
     match atom {
         Atom::Int(n) => {

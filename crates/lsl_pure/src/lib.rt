@@ -20,10 +20,7 @@ mod parsing;
 mod ranges;
 mod searching;
 mod spelling;
-#[cfg(test)]
-mod tests;
 
-pub use crate::bounds::MOST_CHARGE;
 pub use crate::dispatch::call;
 
 /// Why a pure call has no value: it is charged more than 65,536, or memory is wanting.

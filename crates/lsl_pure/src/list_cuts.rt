@@ -1,21 +1,20 @@
 //! Parts of a list: `llList2List`, `llDeleteSubList`, `llListInsertList` and `llListReplaceList`. Elements are
-//! moved, and none is copied.
+//! moved, or copied where another list shares them.
 
 ghost use Rattle.std.specs.Prelude.{◌≡◌, ◌≤◌, ◌<◌, ◌++◌, length, take, drop, slice_range, IfOk, IfErr};
 ghost use Rattle.lsl_value.specs.Atoms.{list_charge_of};
+ghost use Rattle.lsl_value.specs.Limits.{most_charge};
 ghost use Rattle.lsl_pure.specs.Cuts.{taken, left, inserted, inserted_before, replaced};
 
 use crate::PureFault;
-use crate::bounds::MOST_CHARGE;
 use crate::ranges::{Range, clamp, place};
-use lsl_value::{Atom, Items};
+use lsl_text::NoMemory;
+use lsl_value::{Items, LIST_CHARGE, MOST_CHARGE};
 
-/// What a list without elements is charged.
-const LIST_CHARGE: u64 = 16;
-
-/// What stands in the range. Takes no memory. See <https://wiki.secondlife.com/wiki/LlList2List>.
-pub fn sub_list(items: Items, first: i32, last: i32) -> Items
-    ensures { result ≡ taken items first last }
+/// What stands in the range: copies it alone where another list shares the elements. See
+/// <https://wiki.secondlife.com/wiki/LlList2List>.
+pub fn sub_list(items: Items, first: i32, last: i32) -> Result<Items, NoMemory>
+    ensures { IfOk result (λ part. part ≡ taken items first last) }
 {
     let range = Range::new(items.len(), first, last);
     if range.turned {
@@ -25,9 +24,9 @@ pub fn sub_list(items: Items, first: i32, last: i32) -> Items
     }
 }
 
-/// What doesn't stand in the range. Takes no memory. See <https://wiki.secondlife.com/wiki/LlDeleteSubList>.
-pub fn delete_sub_list(items: Items, first: i32, last: i32) -> Items
-    ensures { result ≡ left items first last }
+/// What doesn't stand in the range. See <https://wiki.secondlife.com/wiki/LlDeleteSubList>.
+pub fn delete_sub_list(items: Items, first: i32, last: i32) -> Result<Items, NoMemory>
+    ensures { IfOk result (λ rest. rest ≡ left items first last) }
 {
     let range = Range::new(items.len(), first, last);
     if range.turned {
@@ -37,30 +36,20 @@ pub fn delete_sub_list(items: Items, first: i32, last: i32) -> Items
     }
 }
 
-fn inside(items: Items, start: usize, end: usize) -> Items
+fn inside(items: Items, start: usize, end: usize) -> Result<Items, NoMemory>
     requires ordered { start ≤ end }
     requires within { end ≤ length items }
-    ensures { result ≡ slice_range items start end }
+    ensures { IfOk result (λ part. part ≡ slice_range items start end) }
 {
-    let mut list = items.into_vec();
-    list.truncate(end);
-    drop_front(&mut list, start);
-    Items::from_vec(list)
+    Items::from_vec(items.cut(start, end)?)
 }
 
-fn drop_front(list: &mut Vec<Atom>, n: usize)
-    requires { n ≤ length list.old.items }
-    ensures { list.new.items ≡ drop n list.old.items }
-{
-    list.drain(..n);
-}
-
-fn outside(items: Items, start: usize, end: usize) -> Items
+fn outside(items: Items, start: usize, end: usize) -> Result<Items, NoMemory>
     requires ordered { start ≤ end }
     requires within { end ≤ length items }
-    ensures { result ≡ take start items ++ drop end items }
+    ensures { IfOk result (λ rest. rest ≡ take start items ++ drop end items) }
 {
-    let mut list = items.into_vec();
+    let mut list = items.into_vec()?;
     list.drain(start..end);
     Items::from_vec(list)
 }
@@ -69,7 +58,7 @@ fn outside(items: Items, start: usize, end: usize) -> Items
 /// before anything is built. See <https://wiki.secondlife.com/wiki/LlListInsertList>.
 pub fn insert_list(items: Items, other: Items, at: i32) -> Result<Items, PureFault>
     ensures ok { IfOk result (λ whole. whole ≡ inserted_before items at other) }
-    ensures too_big { IfErr result (λ fault. fault ≡ PureFault.TooBig → MOST_CHARGE < list_charge_of (inserted_before items at other)) }
+    ensures too_big { IfErr result (λ fault. fault ≡ PureFault.TooBig → most_charge < list_charge_of (inserted_before items at other)) }
 {
     let len = items.len();
     insert(items, clamp(len, place(len, at)), other)
@@ -79,31 +68,32 @@ pub fn insert_list(items: Items, other: Items, at: i32) -> Result<Items, PureFau
 /// <https://wiki.secondlife.com/wiki/LlListReplaceList>.
 pub fn replace_list(items: Items, other: Items, first: i32, last: i32) -> Result<Items, PureFault>
     ensures ok { IfOk result (λ whole. whole ≡ replaced items other first last) }
-    ensures too_big { IfErr result (λ fault. fault ≡ PureFault.TooBig → MOST_CHARGE < list_charge_of (replaced items other first last)) }
+    ensures too_big { IfErr result (λ fault. fault ≡ PureFault.TooBig → most_charge < list_charge_of (replaced items other first last)) }
 {
     let range = Range::new(items.len(), first, last);
     if range.turned {
-        let rest = inside(items, range.start, range.end);
+        let rest = inside(items, range.start, range.end)?;
         let len = rest.len();
         insert(rest, len, other)
     } else {
-        insert(outside(items, range.start, range.end), range.start, other)
+        let rest = outside(items, range.start, range.end)?;
+        insert(rest, range.start, other)
     }
 }
 
 fn insert(items: Items, at: usize, other: Items) -> Result<Items, PureFault>
     requires { at ≤ length items }
     ensures ok { IfOk result (λ whole. whole ≡ inserted items at other) }
-    ensures too_big { IfErr result (λ fault. fault ≡ PureFault.TooBig → MOST_CHARGE < list_charge_of (inserted items at other)) }
+    ensures too_big { IfErr result (λ fault. fault ≡ PureFault.TooBig → most_charge < list_charge_of (inserted items at other)) }
 {
     if items.charge() + (other.charge() - LIST_CHARGE) > MOST_CHARGE {
         return Err(PureFault::TooBig);
     }
-    let mut list = items.into_vec();
-    let mut more = other.into_vec();
+    let mut list = items.into_vec()?;
+    let mut more = other.into_vec()?;
     list.reserve(more.len())?;
     let mut tail = list.split_off(at)?;
     list.append(&mut more)?;
     list.append(&mut tail)?;
-    Ok(Items::from_vec(list))
+    Ok(Items::from_vec(list)?)
 }

@@ -1,12 +1,10 @@
 //! The texts at which a text is parsed.
 
-ghost use Rattle.std.specs.Prelude.{◌≡◌, ◌<◌, ◌++◌, length, IfOk, OnOk};
+ghost use Rattle.std.specs.Prelude.{◌≡◌, ◌<◌, ◌++◌, length, take, IfOk, OnOk};
 ghost use Rattle.std.specs.List.{All};
 ghost use Rattle.std.specs.Str.{IsUtf8, encode_utf8_all};
-ghost use Rattle.lsl_pure.specs.Elements.{text_of_atom};
 ghost use Rattle.lsl_pure.specs.Parsing.{marks_of, marks_from};
 
-use crate::elements::decimal;
 use lsl_text::NoMemory;
 use lsl_value::{Atom, Items, Text};
 use std::alloc::Global;
@@ -22,8 +20,8 @@ pub struct Mark {
 }
 
 /// The first eight separators and behind them the first eight spacers, without the empty ones.
-pub fn marks(alloc: Global, separators: Items, spacers: Items) -> Result<Vec<Mark>, NoMemory>
-    ensures { IfOk result (λ marks. marks.items ≡ marks_of separators spacers) }
+pub fn marks(alloc: Global, separators: &Items, spacers: &Items) -> Result<Vec<Mark>, NoMemory>
+    ensures { IfOk result (λ marks. marks.items ≡ marks_of separators.now spacers.now) }
 {
     let mut marks = Vec::with_capacity(alloc, 2 * MOST_MARKS)?;
     push_marks(alloc, &mut marks, separators, false)?;
@@ -34,15 +32,13 @@ pub fn marks(alloc: Global, separators: Items, spacers: Items) -> Result<Vec<Mar
 fn push_marks(
     alloc: Global,
     marks: &mut Vec<Mark>,
-    listed: Items,
+    listed: &Items,
     spacer: bool,
 ) -> Result<(), NoMemory>
-    ensures { OnOk result (marks.new.items ≡ marks.old.items ++ marks_from spacer listed) }
+    ensures { OnOk result (marks.new.items ≡ marks.old.items ++ marks_from spacer listed.now) }
 {
-    let mut list = listed.into_vec();
-    list.truncate(MOST_MARKS);
-    'atoms: for atom in list {
-        let text = into_text(alloc, atom)?;
+    'atoms: for atom in first_eight(listed) {
+        let text = atom.text(alloc)?;
         if !text.bytes().is_empty() {
             marks.push(Mark { text, spacer })?;
         }
@@ -50,12 +46,9 @@ fn push_marks(
     Ok(())
 }
 
-// The element's text.
-fn into_text(alloc: Global, atom: Atom) -> Result<Text, NoMemory>
-    ensures { IfOk result (λ text. text ≡ text_of_atom atom) }
+fn first_eight(listed: &Items) -> &[Atom]
+    ensures { result.now ≡ take 8 listed.now }
 {
-    match atom {
-        Atom::Int(n) => decimal(alloc, n),
-        Atom::Str(text) | Atom::Key(text) => Ok(text),
-    }
+    let atoms = listed.as_slice();
+    &atoms[..atoms.len().min(MOST_MARKS)]
 }

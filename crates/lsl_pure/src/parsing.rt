@@ -5,14 +5,15 @@ ghost use Rattle.std.specs.List.{All};
 ghost use Rattle.std.specs.Option.{option_copied, option_map};
 ghost use Rattle.std.specs.Str.{IsUtf8, encode_utf8_all};
 ghost use Rattle.lsl_value.specs.Atoms.{list_charge_of};
+ghost use Rattle.lsl_value.specs.Limits.{most_charge, most_text_bytes};
 ghost use Rattle.lsl_pure.specs.Parsing.{parsed, cut_of, cut_elements, piece_elements, mark_elements, first_mark as first_mark_of};
 ghost use Rattle.lsl_pure.specs.Spelling.{spelled_mark, spelled_string, IsOverfull};
 
 use crate::PureFault;
-use crate::bounds::{MOST_CHARGE, push_bounded};
+use crate::bounds::push_bounded;
 use crate::marks::{Mark, marks};
 use crate::spelling::copy_of;
-use lsl_value::{Atom, Items, MAX_TEXT_BYTES, Text};
+use lsl_value::{Atom, Items, Text};
 use std::alloc::Global;
 
 /// The pieces of the text between the separators and spacers, and the spacers themselves, all as strings: from left
@@ -23,12 +24,12 @@ use std::alloc::Global;
 pub fn parse_string(
     alloc: Global,
     text: &Text,
-    separators: Items,
-    spacers: Items,
+    separators: &Items,
+    spacers: &Items,
     keep_nulls: bool,
 ) -> Result<Items, PureFault>
-    ensures ok { IfOk result (λ items. items ≡ parsed keep_nulls text.now separators spacers) }
-    ensures too_big { IfErr result (λ fault. fault ≡ PureFault.TooBig → MOST_CHARGE < list_charge_of (parsed keep_nulls text.now separators spacers)) }
+    ensures ok { IfOk result (λ items. items ≡ parsed keep_nulls text.now separators.now spacers.now) }
+    ensures too_big { IfErr result (λ fault. fault ≡ PureFault.TooBig → most_charge < list_charge_of (parsed keep_nulls text.now separators.now spacers.now)) }
 {
     let marks = marks(alloc, separators, spacers)?;
     cut(alloc, text.bytes(), marks.as_slice(), keep_nulls)
@@ -36,7 +37,7 @@ pub fn parse_string(
 
 fn cut(alloc: Global, text: &[u8], marks: &[Mark], keep_nulls: bool) -> Result<Items, PureFault>
     requires valid { IsUtf8 text.now }
-    requires short { length text.now ≤ MAX_TEXT_BYTES }
+    requires short { length text.now ≤ most_text_bytes }
     requires nonempty { All (λ m. 0 < length m.text) marks.now }
     ensures ok { IfOk result (λ items. map spelled_string items ≡ cut_elements keep_nulls (cut_of (map spelled_mark marks.now) text.now)) }
     ensures too_big { IfErr result (λ fault. fault ≡ PureFault.TooBig → IsOverfull (cut_elements keep_nulls (cut_of (map spelled_mark marks.now) text.now))) }
@@ -49,7 +50,7 @@ fn cut(alloc: Global, text: &[u8], marks: &[Mark], keep_nulls: bool) -> Result<I
             None => at += 1,
             Some(mark) => {
                 push_piece(alloc, &mut items, &text[start..at], keep_nulls)?;
-                push_mark(alloc, &mut items, mark)?;
+                push_mark(&mut items, mark)?;
                 at += mark.text.bytes().len();
                 start = at;
             }
@@ -78,10 +79,10 @@ fn push_piece(
     keep_nulls: bool,
 ) -> Result<(), PureFault>
     requires valid { IsUtf8 piece.now }
-    requires short { length piece.now ≤ MAX_TEXT_BYTES }
-    requires room { list_charge_of items.old ≤ 65536 }
+    requires short { length piece.now ≤ most_text_bytes }
+    requires room { list_charge_of items.old ≤ most_charge }
     ensures ok { OnOk result (map spelled_string items.new ≡ map spelled_string items.old ++ piece_elements keep_nulls piece.now) }
-    ensures fits { OnOk result (list_charge_of items.new ≤ 65536) }
+    ensures fits { OnOk result (list_charge_of items.new ≤ most_charge) }
     ensures too_big { IfErr result (λ fault. fault ≡ PureFault.TooBig → IsOverfull (map spelled_string items.old ++ piece_elements keep_nulls piece.now)) }
 {
     if !is_kept(piece, keep_nulls) {
@@ -98,15 +99,15 @@ fn is_kept(piece: &[u8], keep_nulls: bool) -> bool
     keep_nulls || !piece.is_empty()
 }
 
-fn push_mark(alloc: Global, items: &mut Items, mark: &Mark) -> Result<(), PureFault>
-    requires room { list_charge_of items.old ≤ 65536 }
+fn push_mark(items: &mut Items, mark: &Mark) -> Result<(), PureFault>
+    requires room { list_charge_of items.old ≤ most_charge }
     ensures ok { OnOk result (map spelled_string items.new ≡ map spelled_string items.old ++ mark_elements (spelled_mark mark.now)) }
-    ensures fits { OnOk result (list_charge_of items.new ≤ 65536) }
+    ensures fits { OnOk result (list_charge_of items.new ≤ most_charge) }
     ensures too_big { IfErr result (λ fault. fault ≡ PureFault.TooBig → IsOverfull (map spelled_string items.old ++ mark_elements (spelled_mark mark.now))) }
 {
     if !mark.spacer {
         return Ok(());
     }
-    let text = mark.text.copy(alloc)?;
+    let text = mark.text.copy()?;
     push_bounded(items, Atom::Str(text))
 }

@@ -1,6 +1,7 @@
 //! Places and ranges of places.
 
 ghost use Rattle.std.specs.Prelude.{◌≡◌, ℕ, ◌≤◌, ◌<◌, not, false, int_le, if◌then◌else◌};
+ghost use Rattle.lsl_value.specs.Limits.{most_text_bytes};
 ghost use Rattle.lsl_pure.specs.Places.{place_of, clamped, in_range, within};
 
 /// The places of a range among `n` places: those from `start` up to `end`, or where it is turned all the others.
@@ -15,7 +16,7 @@ impl Range {
     /// The range from one place to another among `n` places. A negative place counts from the end. Where the first is
     /// behind the last, the range is what stands up to the last and from the first one on.
     pub fn new(n: usize, first: i32, last: i32) -> Range
-        requires { n ≤ 1048576 }
+        requires { n ≤ most_text_bytes }
         ensures ordered { result.start ≤ result.end }
         ensures within { result.end ≤ n }
         ensures turned { result.turned ≡ not (int_le (place_of n first) (place_of n last)) }
@@ -44,7 +45,7 @@ impl Range {
 
 /// The place, counted from the end where it is negative.
 pub fn place(n: usize, p: i32) -> i64
-    requires { n ≤ 1048576 }
+    requires { n ≤ most_text_bytes }
     ensures { result ≡ place_of n p }
 {
     if p < 0 {

@@ -2,6 +2,7 @@
 
 ghost use Rattle.std.specs.Prelude.{◌≡◌, ◌≤◌, ◌+◌, ◌++◌, length, take, drop, count_by, slice_range, IfOk, OnOk, OnErr};
 ghost use Rattle.std.specs.Str.{chars, encode_utf8_all, IsUtf8};
+ghost use Rattle.lsl_value.specs.Limits.{most_text_bytes};
 ghost use Rattle.lsl_pure.specs.Spelling.{is_lead, front_len};
 
 use lsl_text::NoMemory;
@@ -25,7 +26,7 @@ pub fn count_leads(bytes: &[u8]) -> usize
 /// How many characters the text has. One pass.
 pub fn count_characters(text: &Text) -> usize
     ensures value { result ≡ length text.now }
-    ensures within { result ≤ MAX_TEXT_BYTES }
+    ensures within { result ≤ most_text_bytes }
 {
     count_leads(text.bytes())
 }
@@ -72,11 +73,11 @@ fn walk(bytes: &[u8], characters: usize) -> usize
     at
 }
 
-/// The text of these bytes. Takes no memory.
-pub fn text_of(bytes: Vec<u8>) -> Text
+/// The text of these bytes, in one pass. Takes memory to share them, and copies none.
+pub fn text_of(bytes: Vec<u8>) -> Result<Text, NoMemory>
     requires valid { IsUtf8 bytes.items }
-    requires short { length bytes.items ≤ MAX_TEXT_BYTES }
-    ensures { result ≡ chars bytes.items }
+    requires short { length bytes.items ≤ most_text_bytes }
+    ensures { IfOk result (λ text. text ≡ chars bytes.items) }
 {
     match String::from_utf8(bytes) {
         Ok(text) => Text::from_string(text),
@@ -87,8 +88,8 @@ pub fn text_of(bytes: Vec<u8>) -> Text
 /// A copy of these bytes as a text.
 pub fn copy_of(alloc: Global, bytes: &[u8]) -> Result<Text, NoMemory>
     requires valid { IsUtf8 bytes.now }
-    requires short { length bytes.now ≤ MAX_TEXT_BYTES }
+    requires short { length bytes.now ≤ most_text_bytes }
     ensures { IfOk result (λ text. text ≡ chars bytes.now) }
 {
-    Ok(text_of(bytes.to_vec(alloc)?))
+    text_of(bytes.to_vec(alloc)?)
 }

@@ -9,11 +9,9 @@ use std::alloc::{AllocError, AllocFailed};
 mod cursor;
 mod number;
 mod quote;
-#[cfg(test)]
-mod tests;
 
 pub use crate::cursor::Cursor;
-pub use crate::number::{leading_integer, push_decimal};
+pub use crate::number::{behind_blanks, is_blank, leading_integer, push_decimal};
 pub use crate::quote::push_quoted;
 
 /// Want of memory: the allocator's error.

@@ -32,13 +32,15 @@ pub fn leading_integer(text: &[u8]) -> i32
     signed(behind_blanks(text))
 }
 
-fn is_blank(b: u8) -> bool
+/// Whether the byte is a tab, a line feed, a vertical tab, a form feed, a carriage return or a space.
+pub fn is_blank(b: u8) -> bool
     ensures { result ≡ is_blank b }
 {
     (9 <= b && b <= 13) || b == b' '
 }
 
-fn behind_blanks(text: &[u8]) -> &[u8]
+/// What stands behind the blanks at a text's head. Takes no memory.
+pub fn behind_blanks(text: &[u8]) -> &[u8]
     ensures { result.now ≡ drop (prefix_len is_blank text.now) text.now }
 {
     let mut rest = text;

@@ -1,14 +1,16 @@
 -- What a text's characters are, from its bytes.
-use Rattle.std.proofs.Common.{◌≡◌, ℤ, FitsSigned, ◌∙◌, ℕ, ◌≤◌, Bool, true, false, cond, not, ◌==◌, nat_lt, List, [], ◌∷◌, ◌++◌, length, Result, Ok, Err, OnOk, sym, ap, refl, subst, arith, nat_eq}
+use Rattle.std.proofs.Common.{◌≡◌, ℤ, FitsSigned, ◌∙◌, ℕ, ◌≤◌, Bool, true, false, cond, not, ◌==◌, nat_lt, List, [], ◌∷◌, ◌++◌, length, Option, Some, None, Result, Ok, Err, OnOk, sym, ap, refl, subst, arith, nat_eq}
 use Rattle.std.specs.Result.{is_ok}
 use Rattle.std.specs.Int.{w32}
 use Rattle.std.specs.Cmp.Lexicographic.{pointwise}
 use Rattle.std.specs.Str.{chars, encode_utf8_all, all_scalars, IsUtf8, IsAscii}
-use Rattle.std.proofs.lemmas.Str.{chars-append, chars-encodes, encodes-chars, encodes_same, encodes-IsAscii, length-le-encodes, scalars-chars}
+use Rattle.std.proofs.lemmas.Bool.{eqb-true}
+use Rattle.std.proofs.lemmas.Str.{IsUtf8-nil, chars-append, chars-encodes, encodes-chars, encodes_same, encodes-IsAscii, length-le-encodes, scalars-chars}
 use Rattle.std.proofs.lemmas.Slice.Eq.{bytes_eq-Decides}
 use Rattle.std.proofs.lemmas.Bool.Decides.{nat_tests, same_from_decides, Decides-like}
 use Rattle.std.proofs.lemmas.Fmt.{IsAscii-signed, length_signed_le}
 use Rattle.lsl_text.specs.Number.{decimal_of}
+use Rattle.lsl_value.specs.Held.{held_items}
 use Rattle.lsl_value.specs.Text.{IsText, IsTextOf}
 
 pub IsText-chars : (bytes : List ℕ) → IsUtf8 bytes → length bytes ≤ 1048576 → IsText (chars bytes)
@@ -55,3 +57,13 @@ decimal-short n text fits same = rw same (length_signed_le 10 n (omega (arith, f
 
 pub decimal-encodes_short : (n : ℤ) (text : List ℕ) → FitsSigned w32 n → text ≡ decimal_of n → length (encode_utf8_all text) ≤ 11
 decimal-encodes_short n text fits same = rw (encodes-IsAscii text (decimal-ascii n text fits same)) (decimal-short n text fits same)
+
+-- what is held is UTF-8 where each holder has UTF-8
+pub utf8-held : {R : Type 0} (held : Option R) (read : R → List ℕ) → ((h : R) → IsUtf8 (read h)) → IsUtf8 (held_items held read)
+utf8-held None read valid = IsUtf8-nil
+utf8-held (Some h) read valid = valid h
+
+-- a list without an element is the empty one
+pub empty-list : (text : List ℕ) → (length text == 0) ≡ true → text ≡ []
+empty-list [] same = refl
+empty-list (c ∷ cs) same = absurd (omega (arith, eqb-true _ _ same))

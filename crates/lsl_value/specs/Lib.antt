@@ -1,7 +1,9 @@
 pub mod Atoms
 pub mod Equality
 pub mod EqualityLaws
+pub mod Held
 pub mod Key
+pub mod Limits
 pub mod OperatorRows
 pub mod Text
 pub mod Values

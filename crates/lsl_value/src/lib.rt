@@ -2,15 +2,15 @@
 #![tactic(auto)]
 
 mod characters;
+mod charges;
 mod keys;
 mod list;
 mod names;
 mod operators;
 mod tagged;
-#[cfg(test)]
-mod tests;
 
 pub use crate::characters::{MAX_TEXT_BYTES, Text};
+pub use crate::charges::{ELEMENT_CHARGE, INT_CHARGE, LIST_CHARGE, MOST_CHARGE, TEXT_CHARGE};
 pub use crate::keys::valid_key;
 pub use crate::list::{Atom, Items, MAX_ITEMS};
 pub use crate::names::{BuiltinId, ConstantId, EventId};

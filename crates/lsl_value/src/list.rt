@@ -1,28 +1,24 @@
 //! Lists: elements are integers, strings and keys, never lists.
 
-ghost use Rattle.std.specs.Prelude.{◌≡◌, [], ◌++◌, ◌∷◌, ◌+◌, ◌*◌, ◌≤◌, ◌<◌, ◌↔◌, length, OnOk, OnErr, IfOk, IsTrue};
+ghost use Rattle.std.specs.Prelude.{◌≡◌, [], ◌++◌, if◌then◌else◌, ◌∷◌, ◌+◌, ◌*◌, ◌≤◌, ◌<◌, ◌↔◌, length, drop, slice_range, OnOk, OnErr, IfOk, IsTrue};
+ghost use Rattle.std.specs.Rc.{rc_value};
+ghost use Rattle.std.specs.Result.{is_ok};
 ghost use Rattle.std.specs.Str.{encode_utf8_all};
 ghost use Rattle.std.specs.Cmp.{partial_equiv_from_equiv};
-ghost use Rattle.lsl_value.specs.Atoms.{atom_charge_of, item_charge_of, list_charge_of, text_of_atom};
+ghost use Rattle.lsl_value.specs.Atoms.{atom_charge_of, integer_of_atom, item_charge_of, list_charge_of, text_of_atom};
+ghost use Rattle.lsl_value.specs.Limits.{most_items};
 ghost use Rattle.lsl_value.specs.Equality.{same_atom, same_atoms};
 ghost use Rattle.lsl_value.specs.EqualityLaws.{same_atom_equiv, same_atoms_equiv};
 
 use crate::characters::Text;
+use crate::charges::{ELEMENT_CHARGE, INT_CHARGE, LIST_CHARGE};
 use lsl_text::NoMemory;
 use std::alloc::Global;
 use std::marker::Model;
+use std::rc::Rc;
 
 /// How many elements a list has at most.
 pub const MAX_ITEMS: usize = 65_536;
-
-/// What an integer is charged.
-const INT_CHARGE: u64 = 8;
-
-/// What an element of a list is charged beside its own charge.
-const ELEMENT_CHARGE: u64 = 8;
-
-/// What a list is charged beside its elements.
-const LIST_CHARGE: u64 = 16;
 
 /// An element of a list.
 #[derive(Debug, Drop)]
@@ -44,47 +40,62 @@ impl Atom {
         }
     }
 
-    /// The element's text: an integer's is its decimal.
+    /// The element's text: an integer's is its decimal, and any other is shared.
     pub fn text(&self, alloc: Global) -> Result<Text, NoMemory>
         ensures value { IfOk result (λ text. text ≡ text_of_atom self.now) }
         ensures short { IfOk result (λ text. length (encode_utf8_all text) ≤ item_charge_of self.now) }
     {
         match self {
             Atom::Int(n) => Text::decimal(alloc, *n),
-            Atom::Str(text) | Atom::Key(text) => text.copy(alloc),
+            Atom::Str(text) | Atom::Key(text) => text.copy(),
         }
     }
 
-    /// An equal element.
-    pub fn copy(&self, alloc: Global) -> Result<Atom, NoMemory>
+    /// The integer of an element: an integer itself, the one that a string begins with, and 0 for a key. Takes no
+    /// memory.
+    pub fn integer(&self) -> i32
+        ensures { result ≡ integer_of_atom self.now }
+    {
+        match self {
+            Atom::Int(n) => *n,
+            Atom::Str(text) => text.integer(),
+            Atom::Key(_) => 0,
+        }
+    }
+
+    /// An equal element, which shares this one's text. Takes no memory.
+    pub fn copy(&self) -> Result<Atom, NoMemory>
         ensures { IfOk result (λ atom. atom ≡ self.now) }
     {
         match self {
             Atom::Int(n) => Ok(Atom::Int(*n)),
-            Atom::Str(text) => Ok(Atom::Str(text.copy(alloc)?)),
-            Atom::Key(text) => Ok(Atom::Key(text.copy(alloc)?)),
+            Atom::Str(text) => Ok(Atom::Str(text.copy()?)),
+            Atom::Key(text) => Ok(Atom::Key(text.copy()?)),
         }
     }
 }
 
-/// A list of at most 65,536 elements. It knows its charge.
+/// A list of at most 65,536 elements. Copies share it, and it knows its charge.
 #[derive(Debug, Drop)]
 pub struct Items {
-    list: Vec<Atom>,
+    alloc: Global,
+    held: Option<Rc<Vec<Atom>>>,
     charge: u64,
 }
 
 impl Model for Items {
     ghost use Rattle.std.specs.Prelude.{List};
+    ghost use Rattle.std.specs.Rc.{rc_value};
     ghost use Rattle.lsl_value.specs.declared.list.Atom.{Atom};
 
     ghost Value = { List Atom };
 
     ghost use Rattle.lsl_value.specs.Atoms.{IsKept};
+    ghost use Rattle.lsl_value.specs.Held.{held_items};
 
-    ghost view = { λ a. a.list.items };
+    ghost view = { λ a. held_items a.held (λ held. (rc_value held).items) };
 
-    ghost invariant = { λ a. IsKept a.list.items a.charge };
+    ghost invariant = { λ a. IsKept (held_items a.held (λ held. (rc_value held).items)) a.charge };
 }
 
 impl Items {
@@ -93,58 +104,91 @@ impl Items {
         ensures { result ≡ [] }
     {
         Items {
-            list: Vec::new(alloc),
+            alloc,
+            held: None,
             charge: LIST_CHARGE,
         }
     }
 
-    /// These elements. Takes no memory; walks them once, for their charge.
-    pub fn from_vec(list: Vec<Atom>) -> Items
-        requires { length list.items ≤ MAX_ITEMS }
-        ensures { result ≡ list.items }
+    /// These elements, walked once for their charge. Takes memory to share them, and copies none.
+    pub fn from_vec(list: Vec<Atom>) -> Result<Items, NoMemory>
+        requires { length list.items ≤ most_items }
+        ensures { IfOk result (λ items. items ≡ list.items) }
     {
         let charge = list_charge(list.as_slice());
-        Items { list, charge }
+        let alloc = *list.allocator();
+        if list.is_empty() {
+            return Ok(Items::new(alloc));
+        }
+        let held = Some(Rc::new(alloc, list)?);
+        Ok(Items {
+            alloc,
+            held,
+            charge,
+        })
     }
 
-    /// The elements as a vector. Takes no memory.
-    pub fn into_vec(self) -> Vec<Atom>
-        ensures value { result.items ≡ self }
-        ensures within { length self ≤ MAX_ITEMS }
+    /// The elements as a vector: moved where nobody else holds them, else copied.
+    pub fn into_vec(self) -> Result<Vec<Atom>, NoMemory>
+        ensures value { IfOk result (λ list. list.items ≡ self) }
+        ensures within { length self ≤ most_items }
     {
-        let Items { list, charge: _ } = self;
-        list
+        let len = self.len();
+        self.cut(0, len)
+    }
+
+    /// The elements from one place up to another: moved where nobody else holds the list, else copied.
+    pub fn cut(self, start: usize, end: usize) -> Result<Vec<Atom>, NoMemory>
+        requires ordered { start ≤ end }
+        requires within { end ≤ length self }
+        ensures { IfOk result (λ list. list.items ≡ slice_range self start end) }
+    {
+        let Items {
+            alloc,
+            held,
+            charge: _,
+        } = self;
+        match held {
+            None => Ok(Vec::new(alloc)),
+            Some(held) => match Rc::try_unwrap(held) {
+                Ok(list) => Ok(kept(list, start, end)),
+                Err(shared) => copied(alloc, &shared[start..end], 0),
+            },
+        }
     }
 
     /// The elements. Takes no memory.
     pub fn as_slice(&self) -> &[Atom]
         ensures value { result.now ≡ self.now }
-        ensures within { length self.now ≤ MAX_ITEMS }
+        ensures within { length self.now ≤ most_items }
     {
-        self.list.as_slice()
+        match &self.held {
+            Some(held) => held.as_slice(),
+            None => &[],
+        }
     }
 
     /// How many elements there are.
     pub fn len(&self) -> usize
         ensures value { result ≡ length self.now }
-        ensures within { result ≤ MAX_ITEMS }
+        ensures within { result ≤ most_items }
     {
-        self.list.len()
+        self.as_slice().len()
     }
 
     /// Whether there is no element.
     pub fn is_empty(&self) -> bool
         ensures { IsTrue result ↔ (self.now ≡ []) }
     {
-        self.list.is_empty()
+        self.as_slice().is_empty()
     }
 
     /// Whether there is no room for another element.
     pub fn is_full(&self) -> bool
-        ensures full { IsTrue result ↔ (length self.now ≡ MAX_ITEMS) }
-        ensures within { length self.now ≤ MAX_ITEMS }
+        ensures full { IsTrue result ↔ (length self.now ≡ most_items) }
+        ensures within { length self.now ≤ most_items }
     {
-        self.list.len() == MAX_ITEMS
+        self.len() == MAX_ITEMS
     }
 
     /// What the list is charged: 16, and for each element 8 and its charge. Takes no memory, and no walk.
@@ -154,56 +198,149 @@ impl Items {
         self.charge
     }
 
-    /// Adds an element at the end.
+    /// An equal list, which shares this one's elements. Takes no memory, and no walk.
+    pub fn copy(&self) -> Result<Items, NoMemory>
+        ensures { IfOk result (λ items. items ≡ self.now) }
+    {
+        let held = match &self.held {
+            Some(held) => Some(held.clone()?),
+            None => None,
+        };
+        Ok(Items {
+            alloc: self.alloc,
+            held,
+            charge: self.charge,
+        })
+    }
+
+    /// Adds an element at the end. Copies the list where another one shares it.
     pub fn push(&mut self, atom: Atom) -> Result<(), NoMemory>
-        requires { length self.old < MAX_ITEMS }
+        requires { length self.old < most_items }
         ensures ok { OnOk result (self.new ≡ self.old ++ atom ∷ []) }
         ensures unchanged { OnErr result (self.new ≡ self.old) }
     {
         let charge = self.charge + ELEMENT_CHARGE + atom.charge();
-        self.list.push(atom)?;
+        match &mut self.held {
+            Some(held) => push_held(held, atom)?,
+            None => self.held = Some(one_held(self.alloc, atom)?),
+        }
         self.charge = charge;
         Ok(())
     }
 
-    /// Adds an element before the others: one pass.
+    /// Adds an element before the others: one pass. Copies the list where another one shares it.
     pub fn push_front(&mut self, atom: Atom) -> Result<(), NoMemory>
-        requires { length self.old < MAX_ITEMS }
+        requires { length self.old < most_items }
         ensures ok { OnOk result (self.new ≡ atom ∷ self.old) }
         ensures unchanged { OnErr result (self.new ≡ self.old) }
     {
         let charge = self.charge + ELEMENT_CHARGE + atom.charge();
-        self.list.insert(0, atom)?;
+        match &mut self.held {
+            Some(held) => push_front_held(held, atom)?,
+            None => self.held = Some(one_held(self.alloc, atom)?),
+        }
         self.charge = charge;
         Ok(())
     }
 
-    /// Adds the other list's elements at the end.
+    /// Adds the other list's elements at the end. Copies a list where another one shares it.
     pub fn append(&mut self, other: Items) -> Result<(), NoMemory>
-        requires { length self.old + length other ≤ MAX_ITEMS }
+        requires { length self.old + length other ≤ most_items }
         ensures ok { OnOk result (self.new ≡ self.old ++ other) }
         ensures unchanged { OnErr result (self.new ≡ self.old) }
     {
-        let mut other = other;
         let charge = self.charge + (other.charge - LIST_CHARGE);
-        self.list.append(&mut other.list)?;
+        match &mut self.held {
+            Some(held) => append_held(held, other.into_vec()?)?,
+            None => self.held = other.held,
+        }
         self.charge = charge;
         Ok(())
     }
+}
 
-    /// An equal list.
-    pub fn copy(&self, alloc: Global) -> Result<Items, NoMemory>
-        ensures { IfOk result (λ items. items ≡ self.now) }
-    {
-        let mut list = Vec::with_capacity(alloc, self.list.len())?;
-        for atom in &self.list {
-            list.push(atom.copy(alloc)?)?;
-        }
-        Ok(Items {
-            list,
-            charge: self.charge,
-        })
+// The elements from one place up to another.
+fn kept(list: Vec<Atom>, start: usize, end: usize) -> Vec<Atom>
+    requires ordered { start ≤ end }
+    requires within { end ≤ length list.items }
+    ensures { result.items ≡ slice_range list.items start end }
+{
+    let mut list = list;
+    list.truncate(end);
+    drop_front(&mut list, start);
+    list
+}
+
+fn drop_front(list: &mut Vec<Atom>, n: usize)
+    requires { n ≤ length list.old.items }
+    ensures { list.new.items ≡ drop n list.old.items }
+{
+    list.drain(..n);
+}
+
+// A list of one element, to be shared.
+fn one_held(alloc: Global, atom: Atom) -> Result<Rc<Vec<Atom>>, NoMemory>
+    ensures { IfOk result (λ held. (rc_value held).items ≡ atom ∷ []) }
+{
+    Ok(Rc::new(alloc, vec![in alloc; atom]?)?)
+}
+
+// Adds an element at the end: in place where nobody else holds the list, else to a copy.
+fn push_held(held: &mut Rc<Vec<Atom>>, atom: Atom) -> Result<(), NoMemory>
+    requires { length (rc_value held.old).items < most_items }
+    ensures { (rc_value held.new).items
+        ≡ (if is_ok result then (rc_value held.old).items ++ atom ∷ [] else (rc_value held.old).items) }
+{
+    if let Some(list) = Rc::get_mut(held) {
+        return Ok(list.push(atom)?);
     }
+    let mut list = copied(*held.allocator(), held.as_slice(), 1)?;
+    list.push(atom)?;
+    *held = Rc::new(*list.allocator(), list)?;
+    Ok(())
+}
+
+// Adds an element before the others: in place where nobody else holds the list, else to a copy.
+fn push_front_held(held: &mut Rc<Vec<Atom>>, atom: Atom) -> Result<(), NoMemory>
+    requires { length (rc_value held.old).items < most_items }
+    ensures { (rc_value held.new).items
+        ≡ (if is_ok result then atom ∷ (rc_value held.old).items else (rc_value held.old).items) }
+{
+    if let Some(list) = Rc::get_mut(held) {
+        return Ok(list.insert(0, atom)?);
+    }
+    let mut list = copied(*held.allocator(), held.as_slice(), 1)?;
+    list.insert(0, atom)?;
+    *held = Rc::new(*list.allocator(), list)?;
+    Ok(())
+}
+
+// Adds elements at the end: in place where nobody else holds the list, else to a copy.
+fn append_held(held: &mut Rc<Vec<Atom>>, more: Vec<Atom>) -> Result<(), NoMemory>
+    requires { length (rc_value held.old).items + length more.items ≤ most_items }
+    ensures { (rc_value held.new).items
+        ≡ (if is_ok result then (rc_value held.old).items ++ more.items else (rc_value held.old).items) }
+{
+    let mut more = more;
+    if let Some(list) = Rc::get_mut(held) {
+        return list.append(&mut more);
+    }
+    let mut list = copied(*held.allocator(), held.as_slice(), more.len())?;
+    list.append(&mut more)?;
+    *held = Rc::new(*list.allocator(), list)?;
+    Ok(())
+}
+
+// A copy of the elements, with room for some more; their texts are shared.
+fn copied(alloc: Global, atoms: &[Atom], more: usize) -> Result<Vec<Atom>, NoMemory>
+    requires { length atoms.now + more ≤ most_items }
+    ensures { IfOk result (λ copied. copied.items ≡ atoms.now) }
+{
+    let mut copied = Vec::with_capacity(alloc, atoms.len() + more)?;
+    for atom in atoms {
+        copied.push(atom.copy()?)?;
+    }
+    Ok(copied)
 }
 
 impl PartialEq for Atom {
@@ -240,7 +377,7 @@ impl Eq for Items {
 
 /// What a list of these elements is charged.
 fn list_charge(atoms: &[Atom]) -> u64
-    requires { length atoms.now ≤ MAX_ITEMS }
+    requires { length atoms.now ≤ most_items }
     ensures value { result ≡ list_charge_of atoms.now }
     ensures bounded { result ≤ 16 + 1048600 * length atoms.now }
 {

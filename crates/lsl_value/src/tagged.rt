@@ -7,6 +7,7 @@ ghost use Rattle.lsl_value.specs.Values.{kind_of, charge_of, truth_of, same_valu
 ghost use Rattle.lsl_value.specs.EqualityLaws.{same_value_equiv, same_values_equiv};
 
 use crate::characters::Text;
+use crate::charges::INT_CHARGE;
 use crate::keys::{is_null_key, valid_key};
 use crate::list::Items;
 use lsl_text::NoMemory;
@@ -30,9 +31,6 @@ pub enum Value {
     Key(Text),
     List(Items),
 }
-
-/// What an integer is charged.
-const INT_CHARGE: u64 = 8;
 
 impl Value {
     /// The value's kind. Takes no memory.
@@ -73,15 +71,15 @@ pub fn truth(value: &Value) -> bool
     }
 }
 
-/// An equal value.
-pub fn copy(alloc: Global, value: &Value) -> Result<Value, NoMemory>
+/// An equal value, which shares this one's text or list. Takes no memory, and no walk.
+pub fn copy(value: &Value) -> Result<Value, NoMemory>
     ensures { IfOk result (λ copied. copied ≡ value.now) }
 {
     match value {
         Value::Int(n) => Ok(Value::Int(*n)),
-        Value::Str(text) => Ok(Value::Str(text.copy(alloc)?)),
-        Value::Key(text) => Ok(Value::Key(text.copy(alloc)?)),
-        Value::List(items) => Ok(Value::List(items.copy(alloc)?)),
+        Value::Str(text) => Ok(Value::Str(text.copy()?)),
+        Value::Key(text) => Ok(Value::Key(text.copy()?)),
+        Value::List(items) => Ok(Value::List(items.copy()?)),
     }
 }
 
@@ -173,7 +171,7 @@ impl Values {
     {
         let mut list = Vec::with_capacity(alloc, self.list.len())?;
         for value in &self.list {
-            list.push(copy(alloc, value)?)?;
+            list.push(copy(value)?)?;
         }
         Ok(Values { list })
     }

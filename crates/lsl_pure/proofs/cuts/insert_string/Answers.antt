@@ -24,7 +24,7 @@ returns-clause-ok c =
     let is : c.from.result ≡ c.args.place = omega (arith, ints, c.from.ensures) in
     let k : c.clamp.result ≡ clamped (length c.args.text.now) c.args.place =
     c.clamp.ensures.value ∙ ap (clamped c.count_characters.result) (to_z-of_z w64 c.from.result fits ∙ is) ∙ ap (λ n. clamped n c.args.place) c.count_characters.ensures.value in
-    c.text_of.ensures
+    c.in_ok-text_of.ensures
     ∙ chars-spelled _ (inserted c.args.text.now c.clamp.result c.args.other.now)
     (inserted-spelled c.args.text.now c.args.other.now c.bytes-bytes.result.now c.bytes-more.result.now _ _ _ _ c.clamp.result c.offset-at.result c.bytes-bytes.ensures.value c.bytes-more.ensures.value c.offset-at.ensures.value
     c.in_ok-out.ensures.items c.in_ok-extend_from_slice.ensures.items c.in_ok-extend_from_slice-2.ensures.items (c.in_ok-extend_from_slice-3.ensures.items ∙ ap (λ t. c.extend_from_slice-2.new.self.items ++ t) (take_rest c.bytes-bytes.result.now c.offset-at.result)))
