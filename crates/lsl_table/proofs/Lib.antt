@@ -1,3 +1,4 @@
 pub mod CallLemmas
 pub mod ConstantLemmas
 pub mod EventLemmas
+pub mod NameLemmas

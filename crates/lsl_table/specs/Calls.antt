@@ -2,6 +2,7 @@
 use Rattle.std.specs.Prelude.{ℕ, List, [], ◌∷◌, Option, Some, None, codes}
 use Rattle.lsl_table.specs.declared.calls.Home.{Home}
 use Rattle.lsl_table.specs.declared.calls.Home.TheVariants.{Pure, Own, Host}
+use Rattle.lsl_table.specs.Names.{first_named}
 use Rattle.lsl_value.specs.declared.names.BuiltinId.{BuiltinId}
 use Rattle.lsl_value.specs.declared.names.BuiltinId.TheVariants.{Abs, StringLength, GetListLength, GetSubString, List2List, DeleteSubString, DeleteSubList, InsertString, ListInsertList, ListReplaceList, SubStringIndex, ListFindList, StringTrim, List2Integer, List2String, List2Key, GetListEntryType, DumpList2String, List2Csv, Csv2List, ParseString2List, ParseStringKeepNulls, GetUsedMemory, GetFreeMemory, Say, Whisper, Shout, RegionSay, OwnerSay, Listen, ListenRemove, ListenControl, SetTimerEvent, Sleep, ResetScript, MessageLinked, GetOwner, GetKey, GetLinkKey, GetLinkName, GetLinkNumber, GetNumberOfPrims, GetObjectName, SetObjectName, GetScriptName, GetUnixTime, DetectedKey, DetectedName, DetectedLinkNumber}
 use Rattle.lsl_value.specs.declared.tagged.Kind.{Kind}
@@ -70,3 +71,19 @@ row_of DetectedLinkNumber = row Host (codes "llDetectedLinkNumber") (Int ∷ [])
 
 abbrev pub name_of : BuiltinId → List ℕ
 name_of id = (row_of id).name
+
+-- every call
+abbrev pub builtins : List BuiltinId
+builtins =
+    Abs ∷ StringLength ∷ GetListLength ∷ GetSubString ∷ List2List ∷ DeleteSubString ∷ DeleteSubList ∷
+    InsertString ∷ ListInsertList ∷ ListReplaceList ∷ SubStringIndex ∷ ListFindList ∷ StringTrim ∷
+    List2Integer ∷ List2String ∷ List2Key ∷ GetListEntryType ∷ DumpList2String ∷ List2Csv ∷ Csv2List ∷
+    ParseString2List ∷ ParseStringKeepNulls ∷ GetUsedMemory ∷ GetFreeMemory ∷ Say ∷ Whisper ∷ Shout ∷
+    RegionSay ∷ OwnerSay ∷ Listen ∷ ListenRemove ∷ ListenControl ∷ SetTimerEvent ∷ Sleep ∷
+    ResetScript ∷ MessageLinked ∷ GetOwner ∷ GetKey ∷ GetLinkKey ∷ GetLinkName ∷ GetLinkNumber ∷
+    GetNumberOfPrims ∷ GetObjectName ∷ SetObjectName ∷ GetScriptName ∷ GetUnixTime ∷ DetectedKey ∷
+    DetectedName ∷ DetectedLinkNumber ∷ []
+
+-- the call of a name, and none where no call has it
+unfoldable pub builtin_named : List ℕ → Option BuiltinId
+builtin_named name = first_named name_of name builtins

@@ -1,7 +1,8 @@
 -- The constants: names and values.
-use Rattle.std.specs.Prelude.{ℕ, List, [], ◌∷◌, codes, pos, negsuc}
+use Rattle.std.specs.Prelude.{ℕ, List, [], ◌∷◌, codes, pos, negsuc, Option}
 use Rattle.lsl_table.specs.declared.constants.ConstantValue.{ConstantValue}
 use Rattle.lsl_table.specs.declared.constants.ConstantValue.TheVariants.{Int as IntConstant, Str as StrConstant}
+use Rattle.lsl_table.specs.Names.{first_named}
 use Rattle.lsl_value.specs.Key.{null_key}
 use Rattle.lsl_value.specs.declared.names.ConstantId.{ConstantId}
 use Rattle.lsl_value.specs.declared.names.ConstantId.TheVariants.{True, False, NullKey, Eof, PublicChannel, DebugChannel, LinkRoot, LinkSet, LinkAllOthers, LinkAllChildren, LinkThis, TypeInvalid, TypeInteger, TypeString, TypeKey, StringTrimHead, StringTrimTail, StringTrim, ChangedLink, ChangedOwner, ChangedRegion}
@@ -59,3 +60,14 @@ constant_value_of ChangedRegion = Int (pos 256)
 abbrev pub value_of_constant : ConstantValue → Value
 value_of_constant (IntConstant n) = Int n
 value_of_constant (StrConstant text) = Str text.now
+
+-- every constant
+abbrev pub constants : List ConstantId
+constants =
+    True ∷ False ∷ NullKey ∷ Eof ∷ PublicChannel ∷ DebugChannel ∷ LinkRoot ∷ LinkSet ∷ LinkAllOthers ∷
+    LinkAllChildren ∷ LinkThis ∷ TypeInvalid ∷ TypeInteger ∷ TypeString ∷ TypeKey ∷ StringTrimHead ∷
+    StringTrimTail ∷ StringTrim ∷ ChangedLink ∷ ChangedOwner ∷ ChangedRegion ∷ []
+
+-- the constant of a name, and none where no constant has it
+unfoldable pub constant_named : List ℕ → Option ConstantId
+constant_named name = first_named constant_name_of name constants

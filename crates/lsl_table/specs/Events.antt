@@ -1,5 +1,6 @@
 -- The events, their names and the kinds of their parameters.
-use Rattle.std.specs.Prelude.{ℕ, List, [], ◌∷◌, codes}
+use Rattle.std.specs.Prelude.{ℕ, List, [], ◌∷◌, codes, Option}
+use Rattle.lsl_table.specs.Names.{first_named}
 use Rattle.lsl_value.specs.declared.names.EventId.{EventId}
 use Rattle.lsl_value.specs.declared.names.EventId.TheVariants.{StateEntry, StateExit, TouchStart, Touch, TouchEnd, Listen, Timer, LinkMessage, Changed, OnRez, Dataserver, LinksetData}
 use Rattle.lsl_value.specs.declared.tagged.Kind.{Kind}
@@ -33,3 +34,13 @@ signature_of Changed = Int ∷ []
 signature_of OnRez = Int ∷ []
 signature_of Dataserver = Key ∷ Str ∷ []
 signature_of LinksetData = Int ∷ Str ∷ Str ∷ []
+
+-- every event
+abbrev pub events : List EventId
+events =
+    StateEntry ∷ StateExit ∷ TouchStart ∷ Touch ∷ TouchEnd ∷ Listen ∷ Timer ∷ LinkMessage ∷ Changed ∷
+    OnRez ∷ Dataserver ∷ LinksetData ∷ []
+
+-- the event of a name, and none where no event has it
+unfoldable pub event_named : List ℕ → Option EventId
+event_named name = first_named event_name_of name events

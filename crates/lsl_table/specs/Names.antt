@@ -1,5 +1,6 @@
 -- Names and what they name.
-use Rattle.std.specs.Prelude.{◌≡◌, ◌≢◌, ◌+◌, ◌*◌, ◌%◌, ℕ, List, fold, Option, MatchOption}
+use Rattle.std.specs.Prelude.{◌≡◌, ◌≢◌, ◌+◌, ◌*◌, ◌%◌, ℕ, if◌then◌else◌, List, [], ◌∷◌, fold, Option, Some, None, MatchOption}
+use Rattle.std.specs.Str.{bytes_eq}
 
 -- a number for a text: its bytes as digits to this base, modulo a prime
 abbrev pub hash_of : ℕ → List ℕ → ℕ
@@ -12,3 +13,8 @@ Finds {Id} name_of name found = MatchOption found ((id : Id) → name_of id ≢ 
 -- no two things have one name
 abbrev pub NamesDiffer : {Id : Type 0} → (Id → List ℕ) → Type 0
 NamesDiffer {Id} name_of = (a b : Id) → name_of a ≡ name_of b → a ≡ b
+
+-- the first of these that has the name
+abbrev pub first_named : {Id : Type 0} → (Id → List ℕ) → List ℕ → List Id → Option Id
+first_named name_of name [] = None
+first_named name_of name (x ∷ xs) = if bytes_eq (name_of x) name then Some x else first_named name_of name xs

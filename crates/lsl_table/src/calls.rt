@@ -2,7 +2,7 @@
 
 ghost use Rattle.std.specs.Prelude.{◌≡◌};
 ghost use Rattle.lsl_value.specs.declared.names.BuiltinId.{BuiltinId as Id};
-ghost use Rattle.lsl_table.specs.Calls.{name_of, row_of};
+ghost use Rattle.lsl_table.specs.Calls.{builtin_named, name_of, row_of};
 ghost use Rattle.lsl_table.specs.Names.{Finds};
 
 use crate::kinds::Kinds;
@@ -26,72 +26,87 @@ pub struct Row {
     pub home: Home,
 }
 
-/// A whole `match` over a `BuiltinId`: each arm is `$arm!(Variant, "name", Home, (Kind, ..) Kind)`, without the last
-/// kind where the call gives no value. No call's kinds or home stand anywhere else
-/// (<https://wiki.secondlife.com/wiki/Category:LSL_Functions>).
+/// The table of calls, one row each: `$then!` of what is given in brackets, and of the rows. No call's name, kinds or
+/// home stand anywhere else (<https://wiki.secondlife.com/wiki/Category:LSL_Functions>).
 #[macro_export]
-macro_rules! match_builtin {
-    ($id:expr, $arm:ident) => {
-        match $id {
-            $crate::BuiltinId::Abs => $arm!(Abs, "llAbs", Pure, (Int) Int),
-            $crate::BuiltinId::StringLength => $arm!(StringLength, "llStringLength", Pure, (Str) Int),
-            $crate::BuiltinId::GetListLength => $arm!(GetListLength, "llGetListLength", Pure, (List) Int),
-            $crate::BuiltinId::GetSubString => $arm!(GetSubString, "llGetSubString", Pure, (Str, Int, Int) Str),
-            $crate::BuiltinId::List2List => $arm!(List2List, "llList2List", Pure, (List, Int, Int) List),
-            $crate::BuiltinId::DeleteSubString => $arm!(DeleteSubString, "llDeleteSubString", Pure, (Str, Int, Int) Str),
-            $crate::BuiltinId::DeleteSubList => $arm!(DeleteSubList, "llDeleteSubList", Pure, (List, Int, Int) List),
-            $crate::BuiltinId::InsertString => $arm!(InsertString, "llInsertString", Pure, (Str, Int, Str) Str),
-            $crate::BuiltinId::ListInsertList => $arm!(ListInsertList, "llListInsertList", Pure, (List, List, Int) List),
-            $crate::BuiltinId::ListReplaceList => $arm!(ListReplaceList, "llListReplaceList", Pure, (List, List, Int, Int) List),
-            $crate::BuiltinId::SubStringIndex => $arm!(SubStringIndex, "llSubStringIndex", Pure, (Str, Str) Int),
-            $crate::BuiltinId::ListFindList => $arm!(ListFindList, "llListFindList", Pure, (List, List) Int),
-            $crate::BuiltinId::StringTrim => $arm!(StringTrim, "llStringTrim", Pure, (Str, Int) Str),
-            $crate::BuiltinId::List2Integer => $arm!(List2Integer, "llList2Integer", Pure, (List, Int) Int),
-            $crate::BuiltinId::List2String => $arm!(List2String, "llList2String", Pure, (List, Int) Str),
-            $crate::BuiltinId::List2Key => $arm!(List2Key, "llList2Key", Pure, (List, Int) Key),
-            $crate::BuiltinId::GetListEntryType => $arm!(GetListEntryType, "llGetListEntryType", Pure, (List, Int) Int),
-            $crate::BuiltinId::DumpList2String => $arm!(DumpList2String, "llDumpList2String", Pure, (List, Str) Str),
-            $crate::BuiltinId::List2Csv => $arm!(List2Csv, "llList2CSV", Pure, (List) Str),
-            $crate::BuiltinId::Csv2List => $arm!(Csv2List, "llCSV2List", Pure, (Str) List),
-            $crate::BuiltinId::ParseString2List => $arm!(ParseString2List, "llParseString2List", Pure, (Str, List, List) List),
-            $crate::BuiltinId::ParseStringKeepNulls => $arm!(ParseStringKeepNulls, "llParseStringKeepNulls", Pure, (Str, List, List) List),
-            $crate::BuiltinId::GetUsedMemory => $arm!(GetUsedMemory, "llGetUsedMemory", Own, () Int),
-            $crate::BuiltinId::GetFreeMemory => $arm!(GetFreeMemory, "llGetFreeMemory", Own, () Int),
-            $crate::BuiltinId::Say => $arm!(Say, "llSay", Host, (Int, Str)),
-            $crate::BuiltinId::Whisper => $arm!(Whisper, "llWhisper", Host, (Int, Str)),
-            $crate::BuiltinId::Shout => $arm!(Shout, "llShout", Host, (Int, Str)),
-            $crate::BuiltinId::RegionSay => $arm!(RegionSay, "llRegionSay", Host, (Int, Str)),
-            $crate::BuiltinId::OwnerSay => $arm!(OwnerSay, "llOwnerSay", Host, (Str)),
-            $crate::BuiltinId::Listen => $arm!(Listen, "llListen", Host, (Int, Str, Key, Str) Int),
-            $crate::BuiltinId::ListenRemove => $arm!(ListenRemove, "llListenRemove", Host, (Int)),
-            $crate::BuiltinId::ListenControl => $arm!(ListenControl, "llListenControl", Host, (Int, Int)),
-            $crate::BuiltinId::SetTimerEvent => $arm!(SetTimerEvent, "llSetTimerEvent", Host, (Int)),
-            $crate::BuiltinId::Sleep => $arm!(Sleep, "llSleep", Host, (Int)),
-            $crate::BuiltinId::ResetScript => $arm!(ResetScript, "llResetScript", Host, ()),
-            $crate::BuiltinId::MessageLinked => $arm!(MessageLinked, "llMessageLinked", Host, (Int, Int, Str, Key)),
-            $crate::BuiltinId::GetOwner => $arm!(GetOwner, "llGetOwner", Host, () Key),
-            $crate::BuiltinId::GetKey => $arm!(GetKey, "llGetKey", Host, () Key),
-            $crate::BuiltinId::GetLinkKey => $arm!(GetLinkKey, "llGetLinkKey", Host, (Int) Key),
-            $crate::BuiltinId::GetLinkName => $arm!(GetLinkName, "llGetLinkName", Host, (Int) Str),
-            $crate::BuiltinId::GetLinkNumber => $arm!(GetLinkNumber, "llGetLinkNumber", Host, () Int),
-            $crate::BuiltinId::GetNumberOfPrims => $arm!(GetNumberOfPrims, "llGetNumberOfPrims", Host, () Int),
-            $crate::BuiltinId::GetObjectName => $arm!(GetObjectName, "llGetObjectName", Host, () Str),
-            $crate::BuiltinId::SetObjectName => $arm!(SetObjectName, "llSetObjectName", Host, (Str)),
-            $crate::BuiltinId::GetScriptName => $arm!(GetScriptName, "llGetScriptName", Host, () Str),
-            $crate::BuiltinId::GetUnixTime => $arm!(GetUnixTime, "llGetUnixTime", Host, () Int),
-            $crate::BuiltinId::DetectedKey => $arm!(DetectedKey, "llDetectedKey", Host, (Int) Key),
-            $crate::BuiltinId::DetectedName => $arm!(DetectedName, "llDetectedName", Host, (Int) Str),
-            $crate::BuiltinId::DetectedLinkNumber => $arm!(DetectedLinkNumber, "llDetectedLinkNumber", Host, (Int) Int),
+macro_rules! builtins {
+    ($then:ident $($given:tt)*) => {
+        $then! {
+            [$($given)*]
+            Abs "llAbs" Pure (Int) Int;
+            StringLength "llStringLength" Pure (Str) Int;
+            GetListLength "llGetListLength" Pure (List) Int;
+            GetSubString "llGetSubString" Pure (Str, Int, Int) Str;
+            List2List "llList2List" Pure (List, Int, Int) List;
+            DeleteSubString "llDeleteSubString" Pure (Str, Int, Int) Str;
+            DeleteSubList "llDeleteSubList" Pure (List, Int, Int) List;
+            InsertString "llInsertString" Pure (Str, Int, Str) Str;
+            ListInsertList "llListInsertList" Pure (List, List, Int) List;
+            ListReplaceList "llListReplaceList" Pure (List, List, Int, Int) List;
+            SubStringIndex "llSubStringIndex" Pure (Str, Str) Int;
+            ListFindList "llListFindList" Pure (List, List) Int;
+            StringTrim "llStringTrim" Pure (Str, Int) Str;
+            List2Integer "llList2Integer" Pure (List, Int) Int;
+            List2String "llList2String" Pure (List, Int) Str;
+            List2Key "llList2Key" Pure (List, Int) Key;
+            GetListEntryType "llGetListEntryType" Pure (List, Int) Int;
+            DumpList2String "llDumpList2String" Pure (List, Str) Str;
+            List2Csv "llList2CSV" Pure (List) Str;
+            Csv2List "llCSV2List" Pure (Str) List;
+            ParseString2List "llParseString2List" Pure (Str, List, List) List;
+            ParseStringKeepNulls "llParseStringKeepNulls" Pure (Str, List, List) List;
+            GetUsedMemory "llGetUsedMemory" Own () Int;
+            GetFreeMemory "llGetFreeMemory" Own () Int;
+            Say "llSay" Host (Int, Str);
+            Whisper "llWhisper" Host (Int, Str);
+            Shout "llShout" Host (Int, Str);
+            RegionSay "llRegionSay" Host (Int, Str);
+            OwnerSay "llOwnerSay" Host (Str);
+            Listen "llListen" Host (Int, Str, Key, Str) Int;
+            ListenRemove "llListenRemove" Host (Int);
+            ListenControl "llListenControl" Host (Int, Int);
+            SetTimerEvent "llSetTimerEvent" Host (Int);
+            Sleep "llSleep" Host (Int);
+            ResetScript "llResetScript" Host ();
+            MessageLinked "llMessageLinked" Host (Int, Int, Str, Key);
+            GetOwner "llGetOwner" Host () Key;
+            GetKey "llGetKey" Host () Key;
+            GetLinkKey "llGetLinkKey" Host (Int) Key;
+            GetLinkName "llGetLinkName" Host (Int) Str;
+            GetLinkNumber "llGetLinkNumber" Host () Int;
+            GetNumberOfPrims "llGetNumberOfPrims" Host () Int;
+            GetObjectName "llGetObjectName" Host () Str;
+            SetObjectName "llSetObjectName" Host (Str);
+            GetScriptName "llGetScriptName" Host () Str;
+            GetUnixTime "llGetUnixTime" Host () Int;
+            DetectedKey "llDetectedKey" Host (Int) Key;
+            DetectedName "llDetectedName" Host (Int) Str;
+            DetectedLinkNumber "llDetectedLinkNumber" Host (Int) Int;
         }
     };
 }
 
-macro_rules! row {
-    ($variant:ident, $name:literal, $home:ident, ($($kind:ident),*)) => {
-        Row { name: $name, params: Kinds::new(&[$(Kind::$kind),*]), result: None, home: Home::$home }
+macro_rules! result {
+    () => { None };
+    ($kind:ident) => { Some(Kind::$kind) };
+}
+
+macro_rules! match_row {
+    ([$id:ident] $($variant:ident $name:literal $home:ident ($($kind:ident),*) $($result:ident)?;)*) => {
+        match $id {
+            $(BuiltinId::$variant => Row {
+                name: $name,
+                params: Kinds::new(&[$(Kind::$kind),*]),
+                result: result!($($result)?),
+                home: Home::$home,
+            },)*
+        }
     };
-    ($variant:ident, $name:literal, $home:ident, ($($kind:ident),*) $result:ident) => {
-        Row { name: $name, params: Kinds::new(&[$(Kind::$kind),*]), result: Some(Kind::$result), home: Home::$home }
+}
+
+macro_rules! ids {
+    ([] $($variant:ident $name:literal $home:ident ($($kind:ident),*) $($result:ident)?;)*) => {
+        [$(BuiltinId::$variant),*]
     };
 }
 
@@ -116,7 +131,8 @@ impl BuiltinRow for BuiltinId {
         ensures result_kind { result.result ≡ (row_of self).result }
         ensures home { result.home ≡ (row_of self).home }
     {
-        match_builtin!(self, row)
+        let id = self;
+        builtins!(match_row id)
     }
 }
 
@@ -135,61 +151,12 @@ static CALLS: Rows<128> = Rows {
 };
 
 /// The calls in the order of their rows.
-static BUILTINS: [BuiltinId; 49] = [
-    BuiltinId::Abs,
-    BuiltinId::StringLength,
-    BuiltinId::GetListLength,
-    BuiltinId::GetSubString,
-    BuiltinId::List2List,
-    BuiltinId::DeleteSubString,
-    BuiltinId::DeleteSubList,
-    BuiltinId::InsertString,
-    BuiltinId::ListInsertList,
-    BuiltinId::ListReplaceList,
-    BuiltinId::SubStringIndex,
-    BuiltinId::ListFindList,
-    BuiltinId::StringTrim,
-    BuiltinId::List2Integer,
-    BuiltinId::List2String,
-    BuiltinId::List2Key,
-    BuiltinId::GetListEntryType,
-    BuiltinId::DumpList2String,
-    BuiltinId::List2Csv,
-    BuiltinId::Csv2List,
-    BuiltinId::ParseString2List,
-    BuiltinId::ParseStringKeepNulls,
-    BuiltinId::GetUsedMemory,
-    BuiltinId::GetFreeMemory,
-    BuiltinId::Say,
-    BuiltinId::Whisper,
-    BuiltinId::Shout,
-    BuiltinId::RegionSay,
-    BuiltinId::OwnerSay,
-    BuiltinId::Listen,
-    BuiltinId::ListenRemove,
-    BuiltinId::ListenControl,
-    BuiltinId::SetTimerEvent,
-    BuiltinId::Sleep,
-    BuiltinId::ResetScript,
-    BuiltinId::MessageLinked,
-    BuiltinId::GetOwner,
-    BuiltinId::GetKey,
-    BuiltinId::GetLinkKey,
-    BuiltinId::GetLinkName,
-    BuiltinId::GetLinkNumber,
-    BuiltinId::GetNumberOfPrims,
-    BuiltinId::GetObjectName,
-    BuiltinId::SetObjectName,
-    BuiltinId::GetScriptName,
-    BuiltinId::GetUnixTime,
-    BuiltinId::DetectedKey,
-    BuiltinId::DetectedName,
-    BuiltinId::DetectedLinkNumber,
-];
+static BUILTINS: [BuiltinId; 49] = builtins!(ids);
 
 /// The call of this name, or none. Takes no memory, and compares one name.
 pub fn find(name: &str) -> Option<BuiltinId>
-    ensures { Finds name_of name.now result }
+    ensures found { Finds name_of name.now result }
+    ensures named { result ≡ builtin_named name.now }
 {
     let id = *BUILTINS.get(usize::from(CALLS.row(name)))?;
     if id.row().name == name {

@@ -2,7 +2,7 @@
 
 ghost use Rattle.std.specs.Prelude.{◌≡◌};
 ghost use Rattle.lsl_value.specs.Values.{kind_of};
-ghost use Rattle.lsl_table.specs.Constants.{constant_name_of, constant_value_of, value_of_constant};
+ghost use Rattle.lsl_table.specs.Constants.{constant_named, constant_name_of, constant_value_of, value_of_constant};
 ghost use Rattle.lsl_table.specs.Names.{Finds};
 
 use crate::rows::Rows;
@@ -15,6 +15,59 @@ pub enum ConstantValue {
     Str(&'static str),
 }
 
+/// The table of constants, one row each (<https://wiki.secondlife.com/wiki/Category:LSL_Constants>): `$then!` of what is
+/// given in brackets, and of the rows.
+macro_rules! constants {
+    ($then:ident $($given:tt)*) => {
+        $then! {
+            [$($given)*]
+            True "TRUE" Int(1);
+            False "FALSE" Int(0);
+            NullKey "NULL_KEY" Str("00000000-0000-0000-0000-000000000000");
+            Eof "EOF" Str("\n\n\n");
+            PublicChannel "PUBLIC_CHANNEL" Int(0);
+            DebugChannel "DEBUG_CHANNEL" Int(2147483647);
+            LinkRoot "LINK_ROOT" Int(1);
+            LinkSet "LINK_SET" Int(-1);
+            LinkAllOthers "LINK_ALL_OTHERS" Int(-2);
+            LinkAllChildren "LINK_ALL_CHILDREN" Int(-3);
+            LinkThis "LINK_THIS" Int(-4);
+            TypeInvalid "TYPE_INVALID" Int(0);
+            TypeInteger "TYPE_INTEGER" Int(1);
+            TypeString "TYPE_STRING" Int(3);
+            TypeKey "TYPE_KEY" Int(4);
+            StringTrimHead "STRING_TRIM_HEAD" Int(1);
+            StringTrimTail "STRING_TRIM_TAIL" Int(2);
+            StringTrim "STRING_TRIM" Int(3);
+            ChangedLink "CHANGED_LINK" Int(32);
+            ChangedOwner "CHANGED_OWNER" Int(128);
+            ChangedRegion "CHANGED_REGION" Int(256);
+        }
+    };
+}
+
+macro_rules! ids {
+    ([] $($variant:ident $name:literal $kind:ident($value:expr);)*) => {
+        [$(ConstantId::$variant),*]
+    };
+}
+
+macro_rules! match_name {
+    ([$id:ident] $($variant:ident $name:literal $kind:ident($value:expr);)*) => {
+        match $id {
+            $(ConstantId::$variant => $name,)*
+        }
+    };
+}
+
+macro_rules! match_value {
+    ([$id:ident] $($variant:ident $name:literal $kind:ident($value:expr);)*) => {
+        match $id {
+            $(ConstantId::$variant => ConstantValue::$kind($value),)*
+        }
+    };
+}
+
 /// The constants by their names' hashes, as computed by `tools/name_slots.py`.
 static NAMES: Rows<32> = Rows {
     base: 3227,
@@ -25,33 +78,12 @@ static NAMES: Rows<32> = Rows {
 };
 
 /// The constants in the order of their rows.
-static CONSTANTS: [ConstantId; 21] = [
-    ConstantId::True,
-    ConstantId::False,
-    ConstantId::NullKey,
-    ConstantId::Eof,
-    ConstantId::PublicChannel,
-    ConstantId::DebugChannel,
-    ConstantId::LinkRoot,
-    ConstantId::LinkSet,
-    ConstantId::LinkAllOthers,
-    ConstantId::LinkAllChildren,
-    ConstantId::LinkThis,
-    ConstantId::TypeInvalid,
-    ConstantId::TypeInteger,
-    ConstantId::TypeString,
-    ConstantId::TypeKey,
-    ConstantId::StringTrimHead,
-    ConstantId::StringTrimTail,
-    ConstantId::StringTrim,
-    ConstantId::ChangedLink,
-    ConstantId::ChangedOwner,
-    ConstantId::ChangedRegion,
-];
+static CONSTANTS: [ConstantId; 21] = constants!(ids);
 
 /// The constant of this name, or none. Takes no memory, and compares one name.
 pub fn constant(name: &str) -> Option<ConstantId>
-    ensures { Finds constant_name_of name.now result }
+    ensures found { Finds constant_name_of name.now result }
+    ensures named { result ≡ constant_named name.now }
 {
     let id = *CONSTANTS.get(usize::from(NAMES.row(name)))?;
     if constant_name(id) == name {
@@ -65,58 +97,14 @@ pub fn constant(name: &str) -> Option<ConstantId>
 pub fn constant_name(id: ConstantId) -> &'static str
     ensures { result.now ≡ constant_name_of id }
 {
-    match id {
-        ConstantId::True => "TRUE",
-        ConstantId::False => "FALSE",
-        ConstantId::NullKey => "NULL_KEY",
-        ConstantId::Eof => "EOF",
-        ConstantId::PublicChannel => "PUBLIC_CHANNEL",
-        ConstantId::DebugChannel => "DEBUG_CHANNEL",
-        ConstantId::LinkRoot => "LINK_ROOT",
-        ConstantId::LinkSet => "LINK_SET",
-        ConstantId::LinkAllOthers => "LINK_ALL_OTHERS",
-        ConstantId::LinkAllChildren => "LINK_ALL_CHILDREN",
-        ConstantId::LinkThis => "LINK_THIS",
-        ConstantId::TypeInvalid => "TYPE_INVALID",
-        ConstantId::TypeInteger => "TYPE_INTEGER",
-        ConstantId::TypeString => "TYPE_STRING",
-        ConstantId::TypeKey => "TYPE_KEY",
-        ConstantId::StringTrimHead => "STRING_TRIM_HEAD",
-        ConstantId::StringTrimTail => "STRING_TRIM_TAIL",
-        ConstantId::StringTrim => "STRING_TRIM",
-        ConstantId::ChangedLink => "CHANGED_LINK",
-        ConstantId::ChangedOwner => "CHANGED_OWNER",
-        ConstantId::ChangedRegion => "CHANGED_REGION",
-    }
+    constants!(match_name id)
 }
 
-/// The constant's value (<https://wiki.secondlife.com/wiki/Category:LSL_Constants>). Takes no memory.
+/// The constant's value. Takes no memory.
 pub fn constant_value(id: ConstantId) -> ConstantValue
     ensures { value_of_constant result ≡ constant_value_of id }
 {
-    match id {
-        ConstantId::True => ConstantValue::Int(1),
-        ConstantId::False => ConstantValue::Int(0),
-        ConstantId::NullKey => ConstantValue::Str("00000000-0000-0000-0000-000000000000"),
-        ConstantId::Eof => ConstantValue::Str("\n\n\n"),
-        ConstantId::PublicChannel => ConstantValue::Int(0),
-        ConstantId::DebugChannel => ConstantValue::Int(2147483647),
-        ConstantId::LinkRoot => ConstantValue::Int(1),
-        ConstantId::LinkSet => ConstantValue::Int(-1),
-        ConstantId::LinkAllOthers => ConstantValue::Int(-2),
-        ConstantId::LinkAllChildren => ConstantValue::Int(-3),
-        ConstantId::LinkThis => ConstantValue::Int(-4),
-        ConstantId::TypeInvalid => ConstantValue::Int(0),
-        ConstantId::TypeInteger => ConstantValue::Int(1),
-        ConstantId::TypeString => ConstantValue::Int(3),
-        ConstantId::TypeKey => ConstantValue::Int(4),
-        ConstantId::StringTrimHead => ConstantValue::Int(1),
-        ConstantId::StringTrimTail => ConstantValue::Int(2),
-        ConstantId::StringTrim => ConstantValue::Int(3),
-        ConstantId::ChangedLink => ConstantValue::Int(32),
-        ConstantId::ChangedOwner => ConstantValue::Int(128),
-        ConstantId::ChangedRegion => ConstantValue::Int(256),
-    }
+    constants!(match_value id)
 }
 
 /// The kind of the constant's value. Takes no memory.

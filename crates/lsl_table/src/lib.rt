@@ -7,8 +7,6 @@ mod events;
 mod kinds;
 pub mod laws;
 mod rows;
-#[cfg(test)]
-mod tests;
 
 pub use crate::calls::{BuiltinRow, Home, Row, find};
 pub use crate::constants::{ConstantValue, constant, constant_kind, constant_name, constant_value};
