@@ -76,8 +76,8 @@ fn empty(alloc: Global, kind: Kind) -> Value
 {
     match kind {
         Kind::Int => Value::Int(0),
-        Kind::Str => Value::Str(Text::new(alloc)),
-        Kind::Key => Value::Key(Text::new(alloc)),
+        Kind::Str => Value::Str(Text::new()),
+        Kind::Key => Value::Key(Text::new()),
         Kind::List => Value::List(Items::new(alloc)),
     }
 }

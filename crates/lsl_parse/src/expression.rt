@@ -62,7 +62,7 @@ fn assignment(alloc: Global, room: u32, tokens: &[Token]) -> Found<'_, Operand>
     }
     let (op, rest) = any(rest, &ASSIGN_SIGNS)?;
     let (value, rest) = expr(alloc, room - 1, rest)?;
-    let name = names::name(alloc, name)?;
+    let name = names::name(name)?;
     let operand = Operand::assign(alloc, name, assign_op(&op.sort), op.span, value)?;
     Ok((operand, rest))
 }
@@ -109,7 +109,7 @@ fn step_before(alloc: Global, room: u32, tokens: &[Token]) -> Found<'_, Operand>
     }
     let (op, rest) = any(tokens, &STEP_SIGNS)?;
     let (name, rest) = sign(rest, TokenKind::Name)?;
-    let name = names::name(alloc, name)?;
+    let name = names::name(name)?;
     Ok((Operand::step_before(step_op(&op.sort), op.span, name), rest))
 }
 
@@ -152,7 +152,7 @@ fn string(alloc: Global, tokens: &[Token]) -> Found<'_, Operand>
     ensures { Parses (λ x. (expr_of x.0.expr, x.1.now)) result (string_r tokens.now) }
 {
     let (token, rest) = sign(tokens, TokenKind::Str)?;
-    let text = names::text(alloc, &token.sort)?;
+    let text = names::text(&token.sort)?;
     Ok((Operand::string(text, token.span), rest))
 }
 
@@ -175,14 +175,14 @@ fn named(alloc: Global, room: u32, tokens: &[Token]) -> Found<'_, Operand>
     let (name, rest) = sign(tokens, TokenKind::Name)?;
     if next_among(rest, &STEP_SIGNS) {
         let (op, rest) = any(rest, &STEP_SIGNS)?;
-        let name = names::name(alloc, name)?;
+        let name = names::name(name)?;
         Ok((Operand::step_behind(name, step_op(&op.sort)), rest))
     } else if next_is(rest, TokenKind::ParenOpen) {
         let (all, rest) = arguments(alloc, room, rest)?;
-        let name = names::name(alloc, name)?;
+        let name = names::name(name)?;
         Ok((Operand::call(name, all), rest))
     } else {
-        let name = names::name(alloc, name)?;
+        let name = names::name(name)?;
         Ok((Operand::variable(name), rest))
     }
 }

@@ -7,15 +7,14 @@ use lsl_lex::{Sort, Token};
 use lsl_text::NoMemory;
 use lsl_tree::Name;
 use lsl_value::Text;
-use std::alloc::Global;
 
 /// The characters of a name or a string.
-pub fn text(alloc: Global, sort: &Sort) -> Result<Text, NoMemory>
+pub fn text(sort: &Sort) -> Result<Text, NoMemory>
     ensures { IfOk result (λ text. text ≡ text_of sort.now) }
 {
     match sort {
-        Sort::Name(text) | Sort::Str(text) => text.copy(alloc),
-        _ => Ok(Text::new(alloc)),
+        Sort::Name(text) | Sort::Str(text) => text.copy(),
+        _ => Ok(Text::new()),
     }
 }
 
@@ -30,11 +29,11 @@ pub fn integer(sort: &Sort) -> i32
 }
 
 /// A NAME and its place.
-pub fn name(alloc: Global, token: &Token) -> Result<Name, NoMemory>
+pub fn name(token: &Token) -> Result<Name, NoMemory>
     ensures { IfOk result (λ name. name ≡ name_of token.now) }
 {
     Ok(Name {
-        text: text(alloc, &token.sort)?,
+        text: text(&token.sort)?,
         span: token.span,
     })
 }

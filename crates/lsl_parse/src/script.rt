@@ -38,12 +38,12 @@ fn atom(alloc: Memory, tokens: &[Token]) -> Found<'_, Atom>
         Ok((Atom::Negative { value, span }, rest))
     } else if next_is(tokens, TokenKind::Str) {
         let (token, rest) = sign(tokens, TokenKind::Str)?;
-        let text = names::text(alloc, &token.sort)?;
+        let text = names::text(&token.sort)?;
         let span = token.span;
         Ok((Atom::Str { text, span }, rest))
     } else if next_is(tokens, TokenKind::Name) {
         let (name, rest) = sign(tokens, TokenKind::Name)?;
-        let name = names::name(alloc, name)?;
+        let name = names::name(name)?;
         Ok((Atom::Constant { name }, rest))
     } else {
         let (token, rest) = take(tokens, &[TokenKind::Int], Why::OperandDue)?;
@@ -104,7 +104,7 @@ fn param(alloc: Memory, tokens: &[Token]) -> Found<'_, Param>
     let (kind, rest) = any(tokens, &TYPES)?;
     let (name, rest) = sign(rest, TokenKind::Name)?;
     let kind = type_kind(&kind.sort);
-    let name = names::name(alloc, name)?;
+    let name = names::name(name)?;
     Ok((Param { kind, name }, rest))
 }
 
@@ -152,13 +152,13 @@ fn global_behind<'a>(
         let (_, rest) = sign(tokens, TokenKind::Assign)?;
         let (value, rest) = initial(alloc, rest)?;
         let (_, rest) = sign(rest, TokenKind::Semicolon)?;
-        let name = names::name(alloc, token)?;
+        let name = names::name(token)?;
         let value = Some(value);
         let global = Global { kind, name, value };
         Ok((Header::Global { global }, rest))
     } else {
         let (_, rest) = sign(tokens, TokenKind::Semicolon)?;
-        let name = names::name(alloc, token)?;
+        let name = names::name(token)?;
         let value = None;
         let global = Global { kind, name, value };
         Ok((Header::Global { global }, rest))
@@ -177,7 +177,7 @@ fn function_behind<'a>(
 {
     let (params, rest) = params(alloc, tokens)?;
     let (body, rest) = block(alloc, room, rest)?;
-    let name = names::name(alloc, token)?;
+    let name = names::name(token)?;
     let function = Function {
         kind,
         name,
@@ -226,7 +226,7 @@ fn handler(alloc: Memory, room: u32, tokens: &[Token]) -> Found<'_, Handler>
     let (token, rest) = sign(tokens, TokenKind::Name)?;
     let (params, rest) = params(alloc, rest)?;
     let (body, rest) = block(alloc, room, rest)?;
-    let name = names::name(alloc, token)?;
+    let name = names::name(token)?;
     Ok((Handler { name, params, body }, rest))
 }
 
@@ -268,7 +268,7 @@ fn state(alloc: Memory, room: u32, tokens: &[Token]) -> Found<'_, State>
     let (_, rest) = sign(tokens, TokenKind::StateWord)?;
     let (token, rest) = sign(rest, TokenKind::Name)?;
     let (handlers, rest) = handlers(alloc, room, rest)?;
-    let name = names::name(alloc, token)?;
+    let name = names::name(token)?;
     Ok((State { name, handlers }, rest))
 }
 

@@ -129,12 +129,12 @@ fn declaration(alloc: Global, room: u32, tokens: &[Token]) -> Found<'_, Item>
         let (_, rest) = sign(rest, TokenKind::Assign)?;
         let (value, rest) = value(alloc, room, rest)?;
         let (_, rest) = sign(rest, TokenKind::Semicolon)?;
-        let name = names::name(alloc, name)?;
+        let name = names::name(name)?;
         let value = Some(value);
         Ok((Item::Declaration { kind, name, value }, rest))
     } else {
         let (_, rest) = sign(rest, TokenKind::Semicolon)?;
-        let name = names::name(alloc, name)?;
+        let name = names::name(name)?;
         let value = None;
         Ok((Item::Declaration { kind, name, value }, rest))
     }
@@ -146,7 +146,7 @@ fn label(alloc: Global, tokens: &[Token]) -> Found<'_, Item>
     let (_, rest) = sign(tokens, TokenKind::At)?;
     let (name, rest) = sign(rest, TokenKind::Name)?;
     let (_, rest) = sign(rest, TokenKind::Semicolon)?;
-    let name = names::name(alloc, name)?;
+    let name = names::name(name)?;
     Ok((Item::Label { name }, rest))
 }
 
@@ -252,7 +252,7 @@ fn jump(alloc: Global, tokens: &[Token]) -> Found<'_, Stmt>
     let (name, rest) = sign(rest, TokenKind::Name)?;
     let (_, rest) = sign(rest, TokenKind::Semicolon)?;
     let span = start.span;
-    let label = names::name(alloc, name)?;
+    let label = names::name(name)?;
     Ok((Stmt::Jump { span, label }, rest))
 }
 
@@ -279,7 +279,7 @@ fn state_name(alloc: Global, tokens: &[Token]) -> Found<'_, StateName>
 {
     if next_is(tokens, TokenKind::Name) {
         let (name, rest) = sign(tokens, TokenKind::Name)?;
-        let name = names::name(alloc, name)?;
+        let name = names::name(name)?;
         Ok((StateName::Named(name), rest))
     } else {
         let (_, rest) = sign(tokens, TokenKind::DefaultWord)?;

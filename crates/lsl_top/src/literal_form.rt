@@ -56,7 +56,7 @@ fn said_texts(alloc: Global, body: &[Item]) -> Result<Option<Vec<Text>>, NoMemor
     let mut texts = Vec::new(alloc);
     for item in body {
         match said_text(item) {
-            Some(text) => texts.push(text.copy(alloc)?)?,
+            Some(text) => texts.push(text.copy()?)?,
             None => return Ok(None),
         }
     }

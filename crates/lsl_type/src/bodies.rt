@@ -129,7 +129,7 @@ fn function_body(
         function.body.as_slice(),
     )?;
     Ok(NamedRoutine {
-        name: function.name.text.copy(alloc)?,
+        name: function.name.text.copy()?,
         routine,
     })
 }
@@ -210,7 +210,7 @@ fn state_body(
 {
     let handlers = handler_bodies(alloc, known, frame, state.handlers.as_slice())?;
     Ok(ProgramState {
-        name: state.name.text.copy(alloc)?,
+        name: state.name.text.copy()?,
         handlers,
     })
 }
@@ -218,7 +218,7 @@ fn state_body(
 fn default_text(alloc: Global) -> Result<Text, NoMemory>
     ensures { IfOk result (λ text. text ≡ default_name) }
 {
-    Ok(Text::from_ascii(Vec::from_slice(alloc, b"default")?))
+    Text::from_ascii(Vec::from_slice(alloc, b"default")?)
 }
 
 /// A function's or handler's body, with its parameters around it.

@@ -172,7 +172,7 @@ fn part(alloc: Global, scope: &Scope, atom: &Atom) -> Result<Part, Refused>
         Atom::Int { value, .. } => Ok(Part::Int { value: *value }),
         Atom::Negative { value, .. } => Ok(Part::Negative { value: *value }),
         Atom::Str { text, .. } => Ok(Part::Str {
-            text: text.copy(alloc)?,
+            text: text.copy()?,
         }),
         Atom::Constant { name } => match scope.variable(name) {
             Some(
@@ -282,13 +282,13 @@ fn empty_initial(alloc: Global, kind: Kind) -> Initial
         },
         Kind::Str => Initial::Part {
             part: Part::Str {
-                text: Text::new(alloc),
+                text: Text::new(),
             },
         },
         Kind::Key => Initial::Cast {
             kind,
             part: Part::Str {
-                text: Text::new(alloc),
+                text: Text::new(),
             },
         },
         Kind::List => Initial::List {

@@ -20,7 +20,7 @@ fn token(col: u32) -> Span {
 fn name(alloc: Global, text: &str, col: u32) -> Result<Name, NoMemory> {
     let found = Text::from_utf8(alloc, text.as_bytes())?;
     Ok(Name {
-        text: found.unwrap_or(Text::new(alloc)),
+        text: found.unwrap_or(Text::new()),
         span: token(col),
     })
 }
@@ -101,7 +101,7 @@ fn faults_stand_at_their_tokens(rt: HostRuntime) -> Result<(), Fail> {
     let body = vec![in alloc; declaration(alloc, "x", unknown)?]?;
     assert_eq!(rt; fault(alloc, &script(alloc, "timer", body)?)?, (20, 33));
     let text = Expr::Str {
-        text: Text::new(alloc),
+        text: Text::new(),
         span: token(33),
     };
     let body = vec![in alloc; declaration(alloc, "x", text)?]?;

@@ -38,7 +38,7 @@ pub(crate) fn value(
     match expr {
         Expr::Int { value, .. } => Ok(Node::Int { value: *value }),
         Expr::Str { text, .. } => Ok(Node::Str {
-            text: text.copy(alloc)?,
+            text: text.copy()?,
         }),
         Expr::Variable { name } => read(scope, name),
         Expr::StepBehind { name, op } => step_behind(scope, name, *op),
