@@ -2,3 +2,4 @@ pub mod More
 pub mod MoreExpressions
 pub mod MoreStatements
 pub mod MoreHandlers
+pub mod KindLemmas

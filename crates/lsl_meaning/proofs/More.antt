@@ -27,12 +27,12 @@ module _ (x : Surplus) where
   Extends (Stops w) r = x.IsLoose w ⊎ (r ≡ Stops w)
 
   pub bind_more : {A B : Type 0} (r r' : Evaluation A) (go go' : A → State → Evaluation B)
-    → Extends r r' → ((a : A) (s : State) → Extends (go a s) (go' a (more s))) → Extends (bind r go) (bind r' go')
+      → Extends r r' → ((a : A) (s : State) → Extends (go a s) (go' a (more s))) → Extends (bind r go) (bind r' go')
   bind_more (Gives a s) r' go go' e next = subst (λ q. Extends (go a s) (bind q go')) (sym e) (next a s)
   bind_more (Stops w) r' go go' e next = ⊎_elim (λ l. inl l) (λ q. inr (ap (λ r. bind r go') q)) e
 
   pub cond_more : {A : Type 0} (b : Bool) (r r' q q' : Evaluation A)
-    → Extends r r' → Extends q q' → Extends (cond b r q) (cond b r' q')
+      → Extends r r' → Extends q q' → Extends (cond b r q) (cond b r' q')
   cond_more true r r' q q' e f = e
   cond_more false r r' q q' e f = f
 
@@ -42,14 +42,14 @@ module _ (x : Surplus) where
       (Gives v s) (Gives v (more s)) (Stops (Fails StackHeap)) (Stops (Fails StackHeap)) refl (inr refl)
 
   pub give_result_more : (result : Option Value) (site : Site) (s : State)
-    → Extends (give_result result site s) (give_result result site (more s))
+      → Extends (give_result result site s) (give_result result site (more s))
   give_result_more None site s = refl
   give_result_more (Some v) site s =
       bind_more (give v site s) (give v site (more s)) _ _ (give_more v site s) (λ w t. refl)
 
   pub tick_more : {A : Type 0} (ticks line : ℕ) (site : Site) (s : State) (go go' : State → Evaluation A)
-    → ((t : State) → Extends (go t) (go' (more t)))
-    → Extends (tick ticks line site s go) (tick (ticks + x.ticks) line site (more s) go')
+      → ((t : State) → Extends (go t) (go' (more t)))
+      → Extends (tick ticks line site s go) (tick (ticks + x.ticks) line site (more s) go')
   tick_more zero line site s go go' next =
       ⊎_elim (λ l. inl l)
       (λ e. let none : 0 + x.ticks ≡ 0 = omega arith in inr (ap (λ n. tick n line site (more s) go') none))

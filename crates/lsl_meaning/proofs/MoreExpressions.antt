@@ -1,5 +1,5 @@
 -- Calls and expressions with more ticks and more answers.
-use Rattle.std.proofs.Common.{◌≡◌, ℕ, pos, ◌+◌, ◌-◌, ◌⊎◌, inl, inr, ⊎_elim, List, [], ◌∷◌, ◌++◌, Bool, true, false, cond, Option, Some, None, refl, sym, ap, reverse, slice_get}
+use Rattle.std.proofs.Common.{ℕ, pos, ◌-◌, inl, inr, ⊎_elim, List, [], ◌∷◌, ◌++◌, Option, Some, None, refl, ap, reverse, slice_get}
 use Rattle.lsl_value.specs.declared.names.BuiltinId.{BuiltinId}
 use Rattle.lsl_value.specs.declared.tagged.Kind.{Kind}
 use Rattle.lsl_value.specs.declared.tagged.Value.{Value}
@@ -22,7 +22,7 @@ use Rattle.lsl_running.specs.Calling.{CallForm, Pure, UsedMemory, FreeMemory, As
 use Rattle.lsl_running.specs.Charging.{used, is_within}
 use Rattle.lsl_running.specs.Results.{Fails, Lost}
 use Rattle.lsl_running.specs.Values.{unary_value, binary_value, list_value}
-use Rattle.lsl_meaning.specs.State.{State, Site, holding, holding_all, within_call, Evaluation, Gives, Stops, bind, Flow, Normal, Returned, Jumped, give, give_result, tick}
+use Rattle.lsl_meaning.specs.State.{State, Site, holding, holding_all, within_call, Gives, Stops, bind, Flow, Normal, Returned, Jumped, give}
 use Rattle.lsl_meaning.specs.Calls.{Lower, first_slots, result_at_end, result_behind, run_routine, enter, reply_given, ask, call_builtin, call}
 use Rattle.lsl_meaning.specs.Expressions.{value_at, storing, assign, give_operation, step_operator, assign_step, step_behind, needed, value_of, values_of}
 use Rattle.lsl_meaning.proofs.More.{Surplus, more, Extends, bind_more, cond_more, give_more, give_result_more, tick_more}
@@ -38,7 +38,7 @@ module _ (x : Surplus) where
   reply_more (reply.Stop fault) site s = inr refl
 
   ask_more : (id : BuiltinId) (args : List Value) (site : Site) (answers : List Reply) (s : State)
-    → Extends x (ask id args site answers s) (ask id args site (answers ++ x.answers) (more x s))
+      → Extends x (ask id args site answers s) (ask id args site (answers ++ x.answers) (more x s))
   ask_more id args site [] s =
       ⊎_elim (λ l. inl l) (λ e. inr (ap (λ answers. ask id args site answers (more x s)) e)) (x.asks id args)
   ask_more id args site (answer ∷ rest) s =
@@ -46,7 +46,7 @@ module _ (x : Surplus) where
       (reply_more answer site (record s { answers = rest })) (inr refl)
 
   builtin_more : (form : CallForm) (id : BuiltinId) (line : ℕ) (args : List Value) (site : Site) (s : State)
-    → Extends x (call_builtin form id line args site s) (call_builtin form id line args site (more x s))
+      → Extends x (call_builtin form id line args site s) (call_builtin form id line args site (more x s))
   builtin_more Pure id line args site s = give_result_more x (Some (pure_of id args)) site s
   builtin_more UsedMemory id line args site s =
       give_result_more x (Some (value.Int (pos (used site.held s.slots s.kept)))) site s
@@ -60,22 +60,22 @@ module _ (x : Surplus) where
   builtin_more Resets id line args site s = inr refl
 
   operation_more : (v : Option Value) (site : Site) (s : State)
-    → Extends x (give_operation v site s) (give_operation v site (more x s))
+      → Extends x (give_operation v site s) (give_operation v site (more x s))
   operation_more None site s = inr refl
   operation_more (Some v) site s = give_more x v site s
 
   read_more : (place : Place) (site : Site) (s : State)
-    → Extends x (give (value_at place s) site s) (give (value_at place (more x s)) site (more x s))
+      → Extends x (give (value_at place s) site s) (give (value_at place (more x s)) site (more x s))
   read_more (Slot i) site s = give_more x (value_at (Slot i) s) site s
   read_more (Global i) site s = give_more x (value_at (Global i) s) site s
 
   assign_more : (place : Place) (v : Value) (site : Site) (s : State)
-    → Extends x (assign place v site s) (assign place v site (more x s))
+      → Extends x (assign place v site s) (assign place v site (more x s))
   assign_more (Slot i) v site s = give_more x v site (storing (Slot i) v s)
   assign_more (Global i) v site s = give_more x v site (storing (Global i) v s)
 
   assign_step_more : (place : Place) (op : StepOp) (site : Site) (s : State)
-    → Extends x (assign_step place op site s) (assign_step place op site (more x s))
+      → Extends x (assign_step place op site s) (assign_step place op site (more x s))
   assign_step_more place op site s =
       bind_more x (give (value.Int (pos 1)) site s) (give (value.Int (pos 1)) site (more x s)) _ _
       (give_more x (value.Int (pos 1)) site s)
@@ -86,7 +86,7 @@ module _ (x : Surplus) where
       (λ stepped w. assign_more place stepped site w)))
 
   step_behind_more : (place : Place) (op : StepOp) (site : Site) (s : State)
-    → Extends x (step_behind place op site s) (step_behind place op site (more x s))
+      → Extends x (step_behind place op site s) (step_behind place op site (more x s))
   step_behind_more place op site s =
       bind_more x (give (value_at place s) site s) (give (value_at place (more x s)) site (more x s)) _ _ (read_more place site s)
       (λ old t. bind_more x (assign_step place op (holding site old) t) (assign_step place op (holding site old) (more x t)) _ _
@@ -102,25 +102,25 @@ module _ (x : Surplus) where
   end_more (Some kind) s = inr refl
 
   result_more : (kind : Option Kind) (flow : Flow) (s : State)
-    → Extends x (result_behind kind flow s) (result_behind kind flow (more x s))
+      → Extends x (result_behind kind flow s) (result_behind kind flow (more x s))
   result_more kind Normal s = end_more kind s
   result_more kind (Returned result) s = refl
   result_more kind (Jumped label) s = inr refl
 
   module _ (low low' : Lower) (lower : LowerExtends x low low') where
     pub run_more : (r : Routine) (site : Site) (s : State)
-      → Extends x (run_routine low r site s) (run_routine low' r site (more x s))
+        → Extends x (run_routine low r site s) (run_routine low' r site (more x s))
     run_more r site s =
         cond_more x (is_within s.kept (used site.held s.slots s.kept)) _ _ (Stops (Fails StackHeap)) (Stops (Fails StackHeap))
         (tick_more x s.ticks r.line site s
-          (λ t. bind (low (Block r.body) None site t) (result_behind r.kind))
-          (λ t. bind (low' (Block r.body) None site t) (result_behind r.kind))
-          (λ t. bind_more x (low (Block r.body) None site t) _ (result_behind r.kind) (result_behind r.kind)
-          (lower (Block r.body) None site t) (result_more r.kind)))
+        (λ t. bind (low (Block r.body) None site t) (result_behind r.kind))
+        (λ t. bind (low' (Block r.body) None site t) (result_behind r.kind))
+        (λ t. bind_more x (low (Block r.body) None site t) _ (result_behind r.kind) (result_behind r.kind)
+        (lower (Block r.body) None site t) (result_more r.kind)))
         (inr refl)
 
     enter_more : (o : Option Routine) (number line : ℕ) (args : List Value) (site : Site) (s : State)
-      → Extends x (enter low o number line args site s) (enter low' o number line args site (more x s))
+        → Extends x (enter low o number line args site s) (enter low' o number line args site (more x s))
     enter_more None number line args site s = inr refl
     enter_more (Some r) number line args site s =
         let inner : State = record s { slots = first_slots r args } in
@@ -129,14 +129,14 @@ module _ (x : Surplus) where
         (λ result t. give_result_more x result site (record t { slots = s.slots }))
 
     pub call_more : (routines : List Routine) (callee : Callee) (line : ℕ) (args : List Value) (site : Site) (s : State)
-      → Extends x (call routines low callee line args site s) (call routines low' callee line args site (more x s))
+        → Extends x (call routines low callee line args site s) (call routines low' callee line args site (more x s))
     call_more routines (Function number) line args site s = enter_more (slice_get routines number) number line args site s
     call_more routines (Builtin id) line args site s = builtin_more (call_form id) id line args site s
 
     module _ (routines : List Routine) where
       mutual
         pub value_more : (node : Node) (site : Site) (s : State)
-          → Extends x (value_of routines low node site s) (value_of routines low' node site (more x s))
+            → Extends x (value_of routines low node site s) (value_of routines low' node site (more x s))
         value_more (Int n) site s = give_more x (value.Int n) site s
         value_more (Str text) site s = give_more x (value.Str text) site s
         value_more (Constant id kind) site s = give_more x (constant_value_of id) site s
@@ -166,7 +166,7 @@ module _ (x : Surplus) where
         value_more (StepBehind place op) site s = step_behind_more place op site s
 
         pub values_more : (nodes : Nodes) (site : Site) (s : State)
-          → Extends x (values_of routines low nodes site s) (values_of routines low' nodes site (more x s))
+            → Extends x (values_of routines low nodes site s) (values_of routines low' nodes site (more x s))
         values_more NoNode site s = refl
         values_more (AndNode nodes node) site s =
             bind_more x (values_of routines low nodes site s) (values_of routines low' nodes site (more x s)) _ _

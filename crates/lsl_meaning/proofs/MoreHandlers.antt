@@ -1,5 +1,5 @@
 -- Handlers with more ticks and more answers.
-use Rattle.std.proofs.Common.{◌≡◌, ◌≢◌, ℕ, zero, suc, ◌+◌, ◌⊎◌, inl, inr, ⊎_elim, List, [], ◌++◌, Option, Some, None, refl, sym, ap, ◌∙◌, arith, add-zero, append-nil, slice_get}
+use Rattle.std.proofs.Common.{◌≡◌, ℕ, zero, suc, ◌+◌, ◌⊎◌, inl, inr, ⊎_elim, List, [], ◌++◌, Option, Some, None, refl, sym, ap, ◌∙◌, arith, add-zero, append-nil, slice_get}
 use Rattle.lsl_value.specs.declared.names.BuiltinId.{BuiltinId}
 use Rattle.lsl_value.specs.declared.tagged.Value.{Value}
 use Rattle.lsl_tree.specs.Actions.{Action}
@@ -7,9 +7,9 @@ use Rattle.lsl_tree.specs.Program.{Routine, Program}
 use Rattle.lsl_tree.specs.Signatures.{routines_of}
 use Rattle.lsl_running.specs.declared.host.Reply.{Reply}
 use Rattle.lsl_running.specs.declared.kept.Kept.{Kept}
-use Rattle.lsl_running.specs.Results.{ActiveCall, Whole, Ends, Asks, Cut, Fails, Lost}
+use Rattle.lsl_running.specs.Results.{ActiveCall, Whole, Asks, Cut}
 use Rattle.lsl_meaning.specs.State.{State, Site, Evaluation, Gives, Stops}
-use Rattle.lsl_meaning.specs.Calls.{first_slots, run_routine}
+use Rattle.lsl_meaning.specs.Calls.{first_slots}
 use Rattle.lsl_meaning.specs.Handlers.{level, ended, outermost, whole_of, whole}
 use Rattle.lsl_meaning.specs.Laws.{MoreTicksChangeNothing, MoreAnswersChangeNothing}
 use Rattle.lsl_meaning.proofs.More.{Surplus, more, Extends}
@@ -18,7 +18,7 @@ use Rattle.lsl_meaning.proofs.MoreStatements.{execute_more}
 
 module _ (x : Surplus) where
   level_more : (routines : List Routine) (n m : ℕ) → m ≡ n + x.ticks → (a : Action) (from : Option ℕ) (site : Site) (s : State)
-    → Extends x (level routines n a from site s) (level routines m a from site (more x s))
+      → Extends x (level routines n a from site s) (level routines m a from site (more x s))
   level_more routines zero m e a from site s =
       ⊎_elim (λ l. inl l)
       (λ none. let zero_too : m ≡ 0 = omega arith in inr (ap (λ n. level routines n a from site (more x s)) zero_too))
@@ -33,16 +33,16 @@ module _ (x : Surplus) where
   ended_more (Stops w) r' e = ⊎_elim (λ l. inl l) (λ q. inr (ap ended q)) e
 
   whole_of_more : (routines : List Routine) (o : Option Routine) (number : ℕ) (kept : Kept) (args : List Value) (ticks : ℕ) (answers : List Reply)
-    → x.IsLoose (whole_of routines o number kept args ticks answers)
+      → x.IsLoose (whole_of routines o number kept args ticks answers)
       ⊎ (whole_of routines o number kept args (ticks + x.ticks) (answers ++ x.answers) ≡ whole_of routines o number kept args ticks answers)
   whole_of_more routines None number kept args ticks answers = inr refl
   whole_of_more routines (Some r) number kept args ticks answers =
       let s : State = record { kept = kept; slots = first_slots r args; ticks = ticks; answers = answers } in
       ended_more _ _ (run_more x (level routines ticks) (level routines (ticks + x.ticks))
-        (level_more routines ticks (ticks + x.ticks) refl) r (outermost number) s)
+      (level_more routines ticks (ticks + x.ticks) refl) r (outermost number) s)
 
   whole_more : (p : Program) (number : ℕ) (kept : Kept) (args : List Value) (ticks : ℕ) (answers : List Reply)
-    → x.IsLoose (whole p number kept args ticks answers)
+      → x.IsLoose (whole p number kept args ticks answers)
       ⊎ (whole p number kept args (ticks + x.ticks) (answers ++ x.answers) ≡ whole p number kept args ticks answers)
   whole_more p number kept args ticks answers =
       whole_of_more (routines_of p) (slice_get (routines_of p) number) number kept args ticks answers

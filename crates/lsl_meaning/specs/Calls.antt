@@ -1,5 +1,5 @@
 -- What a call gives: of a routine of the script, and of a built-in one.
-use Rattle.std.specs.Prelude.{ℕ, ◌-◌, pos, List, [], ◌∷◌, ◌++◌, map, drop, reverse, slice_get, Option, Some, None, cond}
+use Rattle.std.specs.Prelude.{ℕ, ◌-◌, pos, List, [], ◌∷◌, ◌++◌, map, drop, slice_get, Option, Some, None, cond}
 use Rattle.lsl_value.specs.declared.names.BuiltinId.{BuiltinId}
 use Rattle.lsl_value.specs.declared.tagged.Kind.{Kind}
 use Rattle.lsl_value.specs.declared.tagged.Value.{Value}
@@ -17,7 +17,7 @@ use Rattle.lsl_running.specs.Calling.{CallForm, Pure, UsedMemory, FreeMemory, As
 use Rattle.lsl_running.specs.Charging.{used, is_within}
 use Rattle.lsl_running.specs.Results.{Ends, Asks, Fails, Lost}
 use Rattle.lsl_running.specs.Values.{empty_of}
-use Rattle.lsl_meaning.specs.State.{State, Site, within_call, Evaluation, Gives, Stops, bind, Flow, Normal, Returned, Jumped, give, give_result, tick}
+use Rattle.lsl_meaning.specs.State.{State, Site, within_call, Evaluation, Gives, Stops, bind, Flow, Normal, Returned, Jumped, give_result, tick}
 
 -- what is done behind a tick: a statement, from its start or from behind a label that stands directly in it
 abbrev pub Lower : Type 0

@@ -1,5 +1,5 @@
 -- What an expression gives. Each node's value is tested, and operands wait while the others are evaluated.
-use Rattle.std.specs.Prelude.{ℕ, pos, List, [], ◌∷◌, get_or, reverse, slice_set, Option, Some, None}
+use Rattle.std.specs.Prelude.{pos, List, [], ◌∷◌, get_or, reverse, slice_set, Option, Some, None}
 use Rattle.lsl_value.specs.declared.operators.BinaryOp.{BinaryOp}
 use Rattle.lsl_value.specs.declared.operators.BinaryOp.TheVariants.{Add, Sub}
 use Rattle.lsl_value.specs.declared.tagged.Value.{Value}

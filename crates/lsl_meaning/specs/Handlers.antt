@@ -8,7 +8,7 @@ use Rattle.lsl_running.specs.declared.host.Reply.{Reply}
 use Rattle.lsl_running.specs.declared.kept.Kept.{Kept}
 use Rattle.lsl_running.specs.Charging.{script_charge}
 use Rattle.lsl_running.specs.Results.{Whole, Ends, Cut, Lost}
-use Rattle.lsl_meaning.specs.State.{State, Site, Evaluation, Gives, Stops}
+use Rattle.lsl_meaning.specs.State.{Site, Evaluation, Gives, Stops}
 use Rattle.lsl_meaning.specs.Calls.{Lower, first_slots, run_routine}
 use Rattle.lsl_meaning.specs.Statements.{execute}
 
@@ -29,7 +29,7 @@ abbrev pub whole_of : List Routine → Option Routine → ℕ → Kept → List 
 whole_of routines None number kept arguments ticks answers = Lost
 whole_of routines (Some r) number kept arguments ticks answers =
     ended (run_routine (level routines ticks) r (outermost number)
-      (record { kept = kept; slots = first_slots r arguments; ticks = ticks; answers = answers }))
+    (record { kept = kept; slots = first_slots r arguments; ticks = ticks; answers = answers }))
 
 -- the routine of this number, for arguments from the first to the last, a number of ticks and a list of answers
 abbrev pub whole : Program → ℕ → Kept → List Value → ℕ → List Reply → Whole

@@ -5,3 +5,5 @@ pub mod Statements
 pub mod Handlers
 pub mod Globals
 pub mod Laws
+pub mod KindLaws
+pub mod Examples

@@ -61,14 +61,14 @@ module _ (routines : List Routine) (low : Lower) where
         bind (value_of routines low test site s) (λ v t. cond (truth_of v) (execute a None site t) (execute b None site t))
     execute (Loop line test steps a) from site s =
         bind (value_of routines low test site s) (λ v t. cond (truth_of v)
-          (bind (execute a None site t) (on_normal (λ u.
-            bind (perform_all steps site u) (λ _ w.
-            tick w.ticks line site w (low (Loop line test steps a) None site)))))
-          (Gives Normal t))
+        (bind (execute a None site t) (on_normal (λ u.
+        bind (perform_all steps site u) (λ _ w.
+        tick w.ticks line site w (low (Loop line test steps a) None site)))))
+        (Gives Normal t))
     execute (Do line a test) from site s =
         bind (execute a None site s) (on_normal (λ t.
-          bind (value_of routines low test site t) (λ v u.
-          cond (truth_of v) (tick u.ticks line site u (low (Do line a test) None site)) (Gives Normal u))))
+        bind (value_of routines low test site t) (λ v u.
+        cond (truth_of v) (tick u.ticks line site u (low (Do line a test) None site)) (Gives Normal u))))
     execute (Jump line label) from site s = tick s.ticks line site s (Gives (Jumped label))
     execute Return from site s = Gives (Returned None) s
     execute (ReturnValue node) from site s =
