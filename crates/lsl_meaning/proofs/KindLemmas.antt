@@ -18,7 +18,7 @@ use Rattle.lsl_pure.specs.Arguments.{parameters_of}
 use Rattle.lsl_pure.specs.Pure.{pure_of}
 use Rattle.lsl_meaning.specs.KindLaws.{PureArgumentsAreTheRows, PureResultIsTheRows, OperatorsKeepKinds, CastsGiveTheirKind}
 
-some-same : {A : Type 0} (a b : A) → Some a ≡ Some b → a ≡ b
+pub some-same : {A : Type 0} (a b : A) → Some a ≡ Some b → a ≡ b
 some-same a b same = cc
 
 abbrev if_pure : {A : Type 0} → Home → A → Option A
@@ -48,7 +48,8 @@ pure_of-result _ arguments = refl
 
 pub pure_result : PureResultIsTheRows
 pure_result id arguments pure =
-    some-same _ _ (subst (λ h. if_pure h (row_of id).result ≡ if_pure h (Some (kind_of (pure_of id arguments)))) pure (pure_of-result id arguments))
+    let gives : Option Kind = Some (kind_of (pure_of id arguments)) in
+    some-same _ _ (subst (λ h. if_pure h (row_of id).result ≡ if_pure h gives) pure (pure_of-result id arguments))
 
 integer_kind : (left right k : Kind) → integer_kind_of left right ≡ Some k → kind.Int ≡ k
 integer_kind kind.Int kind.Int k same = some-same kind.Int k same

@@ -3,3 +3,4 @@ pub mod MoreExpressions
 pub mod MoreStatements
 pub mod MoreHandlers
 pub mod KindLemmas
+pub mod GlobalLemmas

@@ -56,4 +56,5 @@ module _ (x : Surplus) where
       (x.cut (active_call line site s.slots ∷ site.callers))
   tick_more (suc ticks) line site s go go' next =
       let e : suc (ticks + x.ticks) ≡ suc ticks + x.ticks = omega arith in
-      subst (λ n. Extends (go (record s { ticks = ticks })) (tick n line site (more s) go')) e (next (record s { ticks = ticks }))
+      let passed : State = record s { ticks = ticks } in
+      subst (λ n. Extends (go passed) (tick n line site (more s) go')) e (next passed)

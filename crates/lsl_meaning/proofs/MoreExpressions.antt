@@ -30,10 +30,12 @@ use Rattle.lsl_meaning.proofs.More.{Surplus, more, Extends, bind_more, cond_more
 -- what lies behind a tick, with fewer and with more ticks
 abbrev pub LowerExtends : Surplus → Lower → Lower → Type 0
 LowerExtends x low low' =
-    (a : Action) (from : Option ℕ) (site : Site) (s : State) → Extends x (low a from site s) (low' a from site (more x s))
+    (a : Action) (from : Option ℕ) (site : Site) (s : State)
+    → Extends x (low a from site s) (low' a from site (more x s))
 
 module _ (x : Surplus) where
-  reply_more : (answer : Reply) (site : Site) (s : State) → Extends x (reply_given answer site s) (reply_given answer site (more x s))
+  reply_more : (answer : Reply) (site : Site) (s : State)
+      → Extends x (reply_given answer site s) (reply_given answer site (more x s))
   reply_more (reply.Value result) site s = give_result_more x result site s
   reply_more (reply.Stop fault) site s = inr refl
 
@@ -42,8 +44,9 @@ module _ (x : Surplus) where
   ask_more id args site [] s =
       ⊎_elim (λ l. inl l) (λ e. inr (ap (λ answers. ask id args site answers (more x s)) e)) (x.asks id args)
   ask_more id args site (answer ∷ rest) s =
-      cond_more x (is_answered_by id answer) (reply_given answer site (record s { answers = rest })) _ (Stops Lost) (Stops Lost)
-      (reply_more answer site (record s { answers = rest })) (inr refl)
+      let behind : State = record s { answers = rest } in
+      cond_more x (is_answered_by id answer) (reply_given answer site behind) _ (Stops Lost) (Stops Lost)
+      (reply_more answer site behind) (inr refl)
 
   builtin_more : (form : CallForm) (id : BuiltinId) (line : ℕ) (args : List Value) (site : Site) (s : State)
       → Extends x (call_builtin form id line args site s) (call_builtin form id line args site (more x s))
@@ -54,7 +57,7 @@ module _ (x : Surplus) where
       give_result_more x (Some (value.Int (pos (s.kept.limit - used site.held s.slots s.kept)))) site s
   builtin_more Asked id line args site s = ask_more id args site s.answers s
   builtin_more AskedAndWaits id line args site s =
-      bind_more x (ask id args site s.answers s) (ask id args site (s.answers ++ x.answers) (more x s)) _ _
+      bind_more x (ask id args site s.answers s) _ _ _
       (ask_more id args site s.answers s)
       (λ result t. tick_more x t.ticks line site t (Gives result) (Gives result) (λ u. refl))
   builtin_more Resets id line args site s = inr refl
@@ -77,9 +80,9 @@ module _ (x : Surplus) where
   assign_step_more : (place : Place) (op : StepOp) (site : Site) (s : State)
       → Extends x (assign_step place op site s) (assign_step place op site (more x s))
   assign_step_more place op site s =
-      bind_more x (give (value.Int (pos 1)) site s) (give (value.Int (pos 1)) site (more x s)) _ _
+      bind_more x (give (value.Int (pos 1)) site s) _ _ _
       (give_more x (value.Int (pos 1)) site s)
-      (λ one t. bind_more x (give (value_at place t) (holding site one) t) (give (value_at place (more x t)) (holding site one) (more x t)) _ _
+      (λ one t. bind_more x (give (value_at place t) (holding site one) t) _ _ _
       (read_more place (holding site one) t)
       (λ v u. bind_more x (give_operation (binary_value (step_operator op) v one) site u) _ _ _
       (operation_more (binary_value (step_operator op) v one) site u)
@@ -88,8 +91,8 @@ module _ (x : Surplus) where
   step_behind_more : (place : Place) (op : StepOp) (site : Site) (s : State)
       → Extends x (step_behind place op site s) (step_behind place op site (more x s))
   step_behind_more place op site s =
-      bind_more x (give (value_at place s) site s) (give (value_at place (more x s)) site (more x s)) _ _ (read_more place site s)
-      (λ old t. bind_more x (assign_step place op (holding site old) t) (assign_step place op (holding site old) (more x t)) _ _
+      bind_more x (give (value_at place s) site s) _ _ _ (read_more place site s)
+      (λ old t. bind_more x (assign_step place op (holding site old) t) _ _ _
       (assign_step_more place op (holding site old) t)
       (λ stepped u. give_more x old site u))
 
@@ -111,7 +114,8 @@ module _ (x : Surplus) where
     pub run_more : (r : Routine) (site : Site) (s : State)
         → Extends x (run_routine low r site s) (run_routine low' r site (more x s))
     run_more r site s =
-        cond_more x (is_within s.kept (used site.held s.slots s.kept)) _ _ (Stops (Fails StackHeap)) (Stops (Fails StackHeap))
+        cond_more x (is_within s.kept (used site.held s.slots s.kept)) _ _
+        (Stops (Fails StackHeap)) (Stops (Fails StackHeap))
         (tick_more x s.ticks r.line site s
         (λ t. bind (low (Block r.body) None site t) (result_behind r.kind))
         (λ t. bind (low' (Block r.body) None site t) (result_behind r.kind))
@@ -130,7 +134,8 @@ module _ (x : Surplus) where
 
     pub call_more : (routines : List Routine) (callee : Callee) (line : ℕ) (args : List Value) (site : Site) (s : State)
         → Extends x (call routines low callee line args site s) (call routines low' callee line args site (more x s))
-    call_more routines (Function number) line args site s = enter_more (slice_get routines number) number line args site s
+    call_more routines (Function number) line args site s =
+        enter_more (slice_get routines number) number line args site s
     call_more routines (Builtin id) line args site s = builtin_more (call_form id) id line args site s
 
     module _ (routines : List Routine) where
@@ -142,26 +147,26 @@ module _ (x : Surplus) where
         value_more (Constant id kind) site s = give_more x (constant_value_of id) site s
         value_more (Variable place kind) site s = read_more place site s
         value_more (Call callee kind line args) site s =
-            bind_more x (values_of routines low args site s) (values_of routines low' args site (more x s)) _ _
+            bind_more x (values_of routines low args site s) _ _ _
             (values_more args site s)
             (λ vs t. bind_more x (call routines low callee line (reverse vs) site t) _ needed needed
             (call_more routines callee line (reverse vs) site t) needed_more)
         value_more (ListLiteral nodes) site s =
-            bind_more x (values_of routines low nodes site s) (values_of routines low' nodes site (more x s)) _ _
+            bind_more x (values_of routines low nodes site s) _ _ _
             (values_more nodes site s) (λ vs t. give_more x (list_value (reverse vs)) site t)
         value_more (Cast kind node) site s =
-            bind_more x (value_of routines low node site s) (value_of routines low' node site (more x s)) _ _
+            bind_more x (value_of routines low node site s) _ _ _
             (value_more node site s) (λ v t. give_more x (cast_of v kind) site t)
         value_more (Unary op node) site s =
-            bind_more x (value_of routines low node site s) (value_of routines low' node site (more x s)) _ _
+            bind_more x (value_of routines low node site s) _ _ _
             (value_more node site s) (λ v t. give_more x (unary_value op v) site t)
         value_more (Binary op kind left right) site s =
-            bind_more x (value_of routines low right site s) (value_of routines low' right site (more x s)) _ _
+            bind_more x (value_of routines low right site s) _ _ _
             (value_more right site s)
-            (λ w t. bind_more x (value_of routines low left (holding site w) t) (value_of routines low' left (holding site w) (more x t)) _ _
+            (λ w t. bind_more x (value_of routines low left (holding site w) t) _ _ _
             (value_more left (holding site w) t) (λ v u. operation_more (binary_value op v w) site u))
         value_more (Assign place kind node) site s =
-            bind_more x (value_of routines low node site s) (value_of routines low' node site (more x s)) _ _
+            bind_more x (value_of routines low node site s) _ _ _
             (value_more node site s) (λ v t. assign_more place v site t)
         value_more (StepBehind place op) site s = step_behind_more place op site s
 
@@ -169,7 +174,7 @@ module _ (x : Surplus) where
             → Extends x (values_of routines low nodes site s) (values_of routines low' nodes site (more x s))
         values_more NoNode site s = refl
         values_more (AndNode nodes node) site s =
-            bind_more x (values_of routines low nodes site s) (values_of routines low' nodes site (more x s)) _ _
+            bind_more x (values_of routines low nodes site s) _ _ _
             (values_more nodes site s)
             (λ vs t. bind_more x (value_of routines low node (holding_all site vs) t) _ _ _
             (value_more node (holding_all site vs) t) (λ v u. refl))

@@ -17,7 +17,8 @@ use Rattle.lsl_meaning.proofs.MoreExpressions.{run_more}
 use Rattle.lsl_meaning.proofs.MoreStatements.{execute_more}
 
 module _ (x : Surplus) where
-  level_more : (routines : List Routine) (n m : ℕ) → m ≡ n + x.ticks → (a : Action) (from : Option ℕ) (site : Site) (s : State)
+  level_more : (routines : List Routine) (n m : ℕ) → m ≡ n + x.ticks
+      → (a : Action) (from : Option ℕ) (site : Site) (s : State)
       → Extends x (level routines n a from site s) (level routines m a from site (more x s))
   level_more routines zero m e a from site s =
       ⊎_elim (λ l. inl l)
@@ -25,16 +26,19 @@ module _ (x : Surplus) where
       (x.cut [])
   level_more routines (suc n) zero e a from site s = absurd (omega arith)
   level_more routines (suc n) (suc m) e a from site s =
-      execute_more x (level routines n) (level routines m) (level_more routines n m (omega arith)) routines a from site s
+      let lower = level_more routines n m (omega arith) in
+      execute_more x (level routines n) (level routines m) lower routines a from site s
 
   -- what comes of the handler is the same, or may change
   ended_more : (r r' : Evaluation (Option Value)) → Extends x r r' → x.IsLoose (ended r) ⊎ (ended r' ≡ ended r)
   ended_more (Gives result s) r' e = inr (ap ended e)
   ended_more (Stops w) r' e = ⊎_elim (λ l. inl l) (λ q. inr (ap ended q)) e
 
-  whole_of_more : (routines : List Routine) (o : Option Routine) (number : ℕ) (kept : Kept) (args : List Value) (ticks : ℕ) (answers : List Reply)
+  whole_of_more : (routines : List Routine) (o : Option Routine) (number : ℕ) (kept : Kept) (args : List Value)
+      → (ticks : ℕ) (answers : List Reply)
       → x.IsLoose (whole_of routines o number kept args ticks answers)
-      ⊎ (whole_of routines o number kept args (ticks + x.ticks) (answers ++ x.answers) ≡ whole_of routines o number kept args ticks answers)
+      ⊎ (whole_of routines o number kept args (ticks + x.ticks) (answers ++ x.answers)
+      ≡ whole_of routines o number kept args ticks answers)
   whole_of_more routines None number kept args ticks answers = inr refl
   whole_of_more routines (Some r) number kept args ticks answers =
       let s : State = record { kept = kept; slots = first_slots r args; ticks = ticks; answers = answers } in
@@ -81,4 +85,5 @@ more_answers_alone further = record {
 pub more_answers : MoreAnswersChangeNothing
 more_answers p number kept args ticks answers further unasked =
     ap (λ t. whole p number kept args t (answers ++ further)) (sym (add-zero ticks))
-    ∙ ⊎_elim (λ l. absurd (unasked l.0 l.1 l.2)) (λ e. e) (whole_more (more_answers_alone further) p number kept args ticks answers)
+    ∙ ⊎_elim (λ l. absurd (unasked l.0 l.1 l.2)) (λ e. e)
+    (whole_more (more_answers_alone further) p number kept args ticks answers)

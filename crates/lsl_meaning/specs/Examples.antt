@@ -24,6 +24,7 @@ use Rattle.lsl_meaning.specs.Handlers.{whole}
 abbrev pub routine : List Kind → Actions → Routine
 routine slots body = record { line = 1; kind = None; params = 0; slots = slots; body = body }
 
+-- an integer function without parameters
 abbrev pub integer_function : List ℕ → Actions → NamedRoutine
 integer_function name body = record { name = name; routine = record (routine [] body) { kind = Some kind.Int } }
 
@@ -57,7 +58,7 @@ adding =
     (Effect (Value (Assign (Global 1) kind.Int
     (Binary Add kind.Int (Variable (Global 0) kind.Int) (Assign (Global 0) kind.Int (Int (pos 3)))))))))
 
--- `integer a() { llOwnerSay("a"); return 1; } integer b() { llOwnerSay("b"); return 0; }`, and `a` and `b` in a condition:
+-- `integer a() { llOwnerSay("a"); return 1; } integer b() { llOwnerSay("b"); return 0; }`, and
 -- `default { state_entry() { if (a() && b()) llOwnerSay("yes"); else llOwnerSay("no"); } }`
 abbrev pub both : Program
 both =
@@ -74,10 +75,13 @@ both =
 abbrev pub measuring : Program
 measuring =
     script (Single (part.Int (pos 0)) ∷ [])
-    (integer_function (codes "f") (AndAction NoAction (ReturnValue (CallNode (Builtin GetUsedMemory) kind.Int 1 NoNode))) ∷ [])
+    (integer_function (codes "f")
+    (AndAction NoAction (ReturnValue (CallNode (Builtin GetUsedMemory) kind.Int 1 NoNode)))
+    ∷ [])
     (routine (kind.Int ∷ []) (AndAction (AndAction NoAction
     (Declare 0 (Int (pos 7))))
-    (Effect (Value (Assign (Global 0) kind.Int (Binary Add kind.Int (CallNode (Function 0) kind.Int 1 NoNode) (Int (pos 1))))))))
+    (Effect (Value (Assign (Global 0) kind.Int
+    (Binary Add kind.Int (CallNode (Function 0) kind.Int 1 NoNode) (Int (pos 1))))))))
 
 -- `integer i; default { state_entry() { @top; ++i; if (i < 3) jump top; } }`, with the jump on line 2
 abbrev pub jumping : Program

@@ -11,6 +11,10 @@ use Rattle.lsl_table.specs.declared.calls.Home.TheVariants as home
 use Rattle.lsl_ops.specs.Operations.{binary_of, cast_of}
 use Rattle.lsl_pure.specs.Arguments.{IsArguments}
 use Rattle.lsl_pure.specs.Pure.{pure_of}
+use Rattle.lsl_tree.specs.Initials.{global_kinds}
+use Rattle.lsl_tree.specs.Kinded.{IsKinded}
+use Rattle.lsl_tree.specs.Program.{Program}
+use Rattle.lsl_meaning.specs.Globals.{initial_globals}
 
 -- the call's row says that it depends on its arguments alone
 abbrev pub IsPure : BuiltinId → Type 0
@@ -36,3 +40,7 @@ OperatorsKeepKinds =
 -- a cast gives a value of its kind
 abbrev pub CastsGiveTheirKind : Type 0
 CastsGiveTheirKind = (value : Value) (kind : Kind) → kind_of (cast_of value kind) ≡ kind
+
+-- the globals of a program whose kinds are in order begin with values of their kinds
+abbrev pub GlobalsKeepKinds : Type 0
+GlobalsKeepKinds = (p : Program) → IsKinded p → map kind_of (initial_globals p) ≡ global_kinds p

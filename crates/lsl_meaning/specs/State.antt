@@ -15,8 +15,8 @@ pub record State : Type 0 where
   pub ticks : ℕ
   pub answers : List Reply
 
--- what surrounds an evaluation: how much the outer calls and the waiting values are charged, the routine in hand, and the calls
--- around it, the innermost first
+-- what surrounds an evaluation: how much the outer calls and the waiting values are charged, the routine in hand,
+-- and the calls around it, the innermost first
 pub record Site : Type 0 where
   pub held : ℕ
   pub function : ℕ

@@ -34,7 +34,8 @@ module _ (routines : List Routine) (low : Lower) where
   abbrev pub perform : effect.Effect → Site → State → Evaluation (Unit {0})
   perform (effect.Value node) site s = bind (value_of routines low node site s) (λ v t. Gives tt t)
   perform (effect.Call callee line arguments) site s =
-      bind (values_of routines low arguments site s) (λ vs t. bind (call routines low callee line (reverse vs) site t) no_result)
+      bind (values_of routines low arguments site s) (λ vs t.
+      bind (call routines low callee line (reverse vs) site t) no_result)
 
   abbrev pub perform_all : List effect.Effect → Site → State → Evaluation (Unit {0})
   perform_all [] site s = Gives tt s
@@ -58,7 +59,8 @@ module _ (routines : List Routine) (low : Lower) where
     execute (If test a) from site s =
         bind (value_of routines low test site s) (λ v t. cond (truth_of v) (execute a None site t) (Gives Normal t))
     execute (IfElse test a b) from site s =
-        bind (value_of routines low test site s) (λ v t. cond (truth_of v) (execute a None site t) (execute b None site t))
+        bind (value_of routines low test site s) (λ v t.
+        cond (truth_of v) (execute a None site t) (execute b None site t))
     execute (Loop line test steps a) from site s =
         bind (value_of routines low test site s) (λ v t. cond (truth_of v)
         (bind (execute a None site t) (on_normal (λ u.

@@ -24,8 +24,8 @@ pub fn used_memory()
     ensures { first_whole measuring 1 2 [] ≡ left_with (pos 1113 ∷ []) }
 {}
 
-/// A jump to a label before it passes a tick. The handler's start and two jumps take three; with two it is cut at the second
-/// jump, on its line.
+/// A jump to a label before it passes a tick. The handler's start and two jumps take three; with two it is cut at the
+/// second jump, on its line.
 pub fn jump_back()
     ensures ends { first_whole jumping 0 3 [] ≡ left_with (pos 3 ∷ []) }
     ensures cut { first_whole jumping 0 2 [] ≡ Cut (active_call 2 (outermost 0) [] ∷ []) }

@@ -1,4 +1,4 @@
-//! What a checked script means, evaluated from its text alone. The definitions stand in specs/, and laws over them in `laws`.
+//! What a checked script means, evaluated from its text alone: definitions in specs/, and laws over them.
 #![tactic(auto)]
 
 pub mod examples;
