@@ -1,22 +1,23 @@
 -- Scripts as checked programs, and what comes of them.
 use Rattle.std.specs.Prelude.{ℕ, ℤ, pos, List, [], ◌∷◌, map, Some, None, codes}
 use Rattle.lsl_value.specs.declared.names.BuiltinId.TheVariants.{OwnerSay, GetUsedMemory}
-use Rattle.lsl_value.specs.declared.names.EventId.TheVariants.{StateEntry}
-use Rattle.lsl_value.specs.declared.operators.BinaryOp.TheVariants.{Add, Less, Both}
+use Rattle.lsl_value.specs.declared.names.EventId.{EventId}
+use Rattle.lsl_value.specs.declared.names.EventId.TheVariants.{StateEntry, TouchStart}
+use Rattle.lsl_value.specs.declared.operators.BinaryOp.TheVariants.{Add, Sub, Less, Equal, Both}
 use Rattle.lsl_value.specs.declared.tagged.Kind.{Kind}
 use Rattle.lsl_value.specs.declared.tagged.Kind.TheVariants as kind
 use Rattle.lsl_value.specs.declared.tagged.Value.TheVariants as value
 use Rattle.lsl_tree.specs.declared.program.Part.TheVariants as part
 use Rattle.lsl_tree.specs.declared.program_node.Callee.TheVariants.{Function, Builtin}
-use Rattle.lsl_tree.specs.declared.program_node.Place.TheVariants.{Global}
-use Rattle.lsl_tree.specs.Nodes.{Node, Int, Str, Variable, Call as CallNode, Binary, Assign, NoNode, AndNode}
+use Rattle.lsl_tree.specs.declared.program_node.Place.TheVariants.{Global, Slot}
+use Rattle.lsl_tree.specs.Nodes.{Node, Cast, Int, Str, Variable, Call as CallNode, Binary, Assign, NoNode, AndNode}
 use Rattle.lsl_tree.specs.Effects.{Value, Call}
 use Rattle.lsl_tree.specs.Actions.{Action, Actions, Effect, Declare, Label, If, IfElse, Jump, ReturnValue, NoAction, AndAction}
 use Rattle.lsl_tree.specs.Program.{Routine, Initial, Single, NamedRoutine, Program}
 use Rattle.lsl_running.specs.declared.ends.Outcome.TheVariants.{Return}
 use Rattle.lsl_running.specs.declared.host.Reply.{Reply}
 use Rattle.lsl_running.specs.declared.host.Reply.TheVariants as reply
-use Rattle.lsl_running.specs.Results.{Whole, Ends, Asks}
+use Rattle.lsl_running.specs.Results.{ActiveCall, Whole, Ends, Asks}
 use Rattle.lsl_meaning.specs.Globals.{initial_kept}
 use Rattle.lsl_meaning.specs.Handlers.{whole}
 
@@ -28,12 +29,12 @@ routine slots body = record { line = 1; kind = None; params = 0; slots = slots; 
 abbrev pub integer_function : List ℕ → Actions → NamedRoutine
 integer_function name body = record { name = name; routine = record (routine [] body) { kind = Some kind.Int } }
 
--- a script with a handler of `state_entry` alone
-abbrev pub script : List Initial → List NamedRoutine → Routine → Program
-script globals functions handler = record {
+-- a script with one handler
+abbrev pub script : EventId → List Initial → List NamedRoutine → Routine → Program
+script event globals functions handler = record {
   globals = globals;
   functions = functions;
-  states = record { name = codes "default"; handlers = record { event = StateEntry; routine = handler } ∷ [] } ∷ [];
+  states = record { name = codes "default"; handlers = record { event = event; routine = handler } ∷ [] } ∷ [];
 }
 
 abbrev pub say : Node → Action
@@ -53,7 +54,7 @@ done = reply.Value None
 -- `integer x = 5; integer y; default { state_entry() { y = x + (x = 3); } }`
 abbrev pub adding : Program
 adding =
-    script (Single (part.Int (pos 5)) ∷ Single (part.Int (pos 0)) ∷ []) []
+    script StateEntry (Single (part.Int (pos 5)) ∷ Single (part.Int (pos 0)) ∷ []) []
     (routine [] (AndAction NoAction
     (Effect (Value (Assign (Global 1) kind.Int
     (Binary Add kind.Int (Variable (Global 0) kind.Int) (Assign (Global 0) kind.Int (Int (pos 3)))))))))
@@ -62,7 +63,7 @@ adding =
 -- `default { state_entry() { if (a() && b()) llOwnerSay("yes"); else llOwnerSay("no"); } }`
 abbrev pub both : Program
 both =
-    script []
+    script StateEntry []
     (integer_function (codes "a") (AndAction (AndAction NoAction (say (Str (codes "a")))) (ReturnValue (Int (pos 1))))
     ∷ integer_function (codes "b") (AndAction (AndAction NoAction (say (Str (codes "b")))) (ReturnValue (Int (pos 0))))
     ∷ [])
@@ -74,7 +75,7 @@ both =
 -- `integer n; integer f() { return llGetUsedMemory(); } default { state_entry() { integer i = 7; n = f() + 1; } }`
 abbrev pub measuring : Program
 measuring =
-    script (Single (part.Int (pos 0)) ∷ [])
+    script StateEntry (Single (part.Int (pos 0)) ∷ [])
     (integer_function (codes "f")
     (AndAction NoAction (ReturnValue (CallNode (Builtin GetUsedMemory) kind.Int 1 NoNode)))
     ∷ [])
@@ -86,11 +87,49 @@ measuring =
 -- `integer i; default { state_entry() { @top; ++i; if (i < 3) jump top; } }`, with the jump on line 2
 abbrev pub jumping : Program
 jumping =
-    script (Single (part.Int (pos 0)) ∷ []) []
+    script StateEntry (Single (part.Int (pos 0)) ∷ []) []
     (routine [] (AndAction (AndAction (AndAction NoAction
     (Label 0))
     (Effect (Value (Assign (Global 0) kind.Int (Binary Add kind.Int (Variable (Global 0) kind.Int) (Int (pos 1)))))))
     (If (Binary Less kind.Int (Variable (Global 0) kind.Int) (Int (pos 3))) (Jump 2 0))))
+
+-- a recursion, with its lines:
+--   1  integer d(integer n) {
+--   2      if (n == 0) return 0;
+--   3      return d(n - 1) + 1;
+--   4  }
+--   5  default { touch_start(integer t) {
+--   6      llOwnerSay((string)d(3)); } }
+abbrev pub depth : Routine
+depth = record {
+  line = 1;
+  kind = Some kind.Int;
+  params = 1;
+  slots = kind.Int ∷ [];
+  body = AndAction (AndAction NoAction
+      (If (Binary Equal kind.Int (Variable (Slot 0) kind.Int) (Int (pos 0))) (ReturnValue (Int (pos 0)))))
+      (ReturnValue (Binary Add kind.Int
+      (CallNode (Function 0) kind.Int 3
+      (AndNode NoNode (Binary Sub kind.Int (Variable (Slot 0) kind.Int) (Int (pos 1)))))
+      (Int (pos 1))));
+}
+
+abbrev pub touched : Routine
+touched = record {
+  line = 5;
+  kind = None;
+  params = 1;
+  slots = kind.Int ∷ [];
+  body = AndAction NoAction (Effect (Call (Builtin OwnerSay) 6 (AndNode NoNode
+      (Cast kind.Str (CallNode (Function 0) kind.Int 6 (AndNode NoNode (Int (pos 3))))))));
+}
+
+abbrev pub recursing : Program
+recursing = script TouchStart [] (record { name = codes "d"; routine = depth } ∷ []) touched
+
+-- an active call with one integer in its slots
+abbrev pub call_on : ℕ → ℤ → ℕ → ActiveCall
+call_on number n line = record { function = number; slots = value.Int n ∷ []; line = line }
 
 -- what comes of a script's handler from the start, for these ticks and answers
 abbrev pub first_whole : Program → ℕ → ℕ → List Reply → Whole

@@ -2,9 +2,11 @@
 
 ghost use Rattle.std.specs.Prelude.{◌≡◌, [], ◌∷◌, codes, pos};
 ghost use Rattle.lsl_running.specs.Results.{Cut};
-ghost use Rattle.lsl_meaning.specs.Examples.{adding, both, measuring, jumping, said, left_with, done, first_whole};
+ghost use Rattle.lsl_value.specs.declared.tagged.Value.TheVariants.{Int};
+ghost use Rattle.lsl_meaning.specs.Globals.{initial_kept};
+ghost use Rattle.lsl_meaning.specs.Examples.{adding, both, measuring, jumping, recursing, said, left_with, done, call_on, first_whole};
 ghost use Rattle.lsl_meaning.specs.State.{active_call};
-ghost use Rattle.lsl_meaning.specs.Handlers.{outermost};
+ghost use Rattle.lsl_meaning.specs.Handlers.{outermost, whole};
 
 /// `x + (x = 3)` assigns before it reads `x`, which was 5: the sum is 6.
 pub fn right_operand_first()
@@ -29,4 +31,10 @@ pub fn used_memory()
 pub fn jump_back()
     ensures ends { first_whole jumping 0 3 [] ≡ left_with (pos 3 ∷ []) }
     ensures cut { first_whole jumping 0 2 [] ≡ Cut (active_call 2 (outermost 0) [] ∷ []) }
+{}
+
+/// A recursion that is cut at its third entry stands there in the function's own line, and its callers in the lines of
+/// their calls, each with the slots that it has.
+pub fn calls_of_a_recursion()
+    ensures { whole recursing 1 (initial_kept recursing) (Int (pos 1) ∷ []) 3 [] ≡ Cut (call_on 0 (pos 1) 1 ∷ call_on 0 (pos 2) 3 ∷ call_on 0 (pos 3) 3 ∷ call_on 1 (pos 1) 6 ∷ []) }
 {}
