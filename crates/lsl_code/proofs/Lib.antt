@@ -5,7 +5,16 @@ pub mod Due
 pub mod FewCalls
 pub mod Further
 pub mod Keeping
+pub mod Made
+pub mod Numbering
+pub mod Placed
+pub mod Points
 pub mod Ranks
 pub mod Resuming
 pub mod Running
+pub mod Sames
+pub mod Scans
 pub mod Sinking
+pub mod Steps
+pub mod Tested
+pub mod Ways
