@@ -17,4 +17,6 @@ pub mod Scans
 pub mod Sinking
 pub mod Steps
 pub mod Tested
+pub mod Told
+pub mod UnitTold
 pub mod Ways

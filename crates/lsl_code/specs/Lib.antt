@@ -10,4 +10,5 @@ pub mod Machine
 pub mod Pieces
 pub mod Runs
 pub mod Units
+pub mod WellFormed
 pub mod Wholes

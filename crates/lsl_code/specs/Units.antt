@@ -1,6 +1,5 @@
 -- Which units are well formed.
-use Rattle.std.specs.Prelude.{ℕ, List, [], ◌∷◌, Bool, true, false, not, ◌&&◌, Option, Some, None, nat_eq, nat_le, nat_lt, length, take, slice_get, is_none}
-use Rattle.std.specs.List.{list_any}
+use Rattle.std.specs.Prelude.{ℕ, List, [], ◌∷◌, Bool, true, false, not, ◌&&◌, cond, Option, Some, None, nat_eq, nat_le, nat_lt, length, take, slice_get, is_none}
 use Rattle.lsl_value.specs.declared.names.EventId.{EventId}
 use Rattle.lsl_value.specs.declared.names.EventId.TheVariants as event
 use Rattle.lsl_value.specs.declared.tagged.Value.{Value}
@@ -55,10 +54,14 @@ event_number event.LinksetData = 12
 abbrev pub same_event : EventId → EventId → Bool
 same_event a b = nat_eq (event_number a) (event_number b)
 
+abbrev pub has_event : EventId → List Handler → Bool
+has_event e [] = false
+has_event e (h ∷ hs) = cond (same_event e h.event) true (has_event e hs)
+
 -- no event has two handlers
 abbrev pub events_differ : List Handler → Bool
 events_differ [] = true
-events_differ (h ∷ hs) = not (list_any (λ other. same_event h.event other.event) hs) && events_differ hs
+events_differ (h ∷ hs) = not (has_event h.event hs) && events_differ hs
 
 abbrev pub state_fits : List Body → ℕ → StateCode → Bool
 state_fits bodies n s = all_places (handler_fits bodies) 0 s.handlers && events_differ s.handlers

@@ -1,6 +1,7 @@
 //! Laws of code and of its runs.
 
 ghost use Rattle.lsl_code.specs.Laws.{IsStepAndRun, MoreTicks, MoreAnswers, AsksSoOften};
+ghost use Rattle.lsl_code.specs.WellFormed.{FitsTells};
 
 /// Where control goes back only behind ticks, a run is one step, and the run from there.
 pub fn runs_are_steps()
@@ -20,4 +21,10 @@ pub fn more_answers()
 /// Between two ticks a run asks at most 2,048 times as often as its code has instructions that ask.
 pub fn a_segment_asks_so_often()
     ensures { AsksSoOften }
+{}
+
+/// What the type of a unit keeps: each instruction finds what it needs, control goes back only behind ticks, each point
+/// stands once, and each handler is a function with its event's parameters.
+pub fn units_are_well_formed()
+    ensures { FitsTells }
 {}

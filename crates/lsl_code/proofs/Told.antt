@@ -1,0 +1,75 @@
+-- What the test of a function tells.
+use Rattle.std.proofs.Common.{◌≡◌, ℕ, zero, suc, ◌+◌, ◌<◌, ◌≤◌, List, [], ◌∷◌, ◌++◌, length, map, take, drop, reverse, get_or, Option, Some, None, option_map, Bool, true, false, cond, refl, sym, ap, ap₂, ◌∙◌, subst, arith, slice_get, slice_set, append_assoc, length-append, add-zero, add-one, drop-cons}
+use Rattle.std.specs.Prelude.{not, ◌&&◌, nat_eq, nat_lt, nat_le, is_some, is_none, max, option_and_then}
+use Rattle.std.proofs.Math.Seq.{get_or-append_seam}
+use Rattle.std.proofs.lemmas.Bool.Decides.{nat_tests}
+use Rattle.std.proofs.lemmas.List.{length-reverse, reverse-reverse}
+use Rattle.std.proofs.lemmas.Option.{slice_get-map}
+use Rattle.lsl_value.specs.OperatorRows.{result_kind_of, casts_of}
+use Rattle.lsl_value.specs.Values.{kind_of}
+use Rattle.lsl_value.specs.declared.names.BuiltinId.{BuiltinId}
+use Rattle.lsl_value.specs.declared.tagged.Kind.{Kind}
+use Rattle.lsl_value.specs.declared.tagged.Kind.TheVariants as kind
+use Rattle.lsl_value.specs.declared.tagged.Value.{Value}
+use Rattle.lsl_value.specs.declared.tagged.Value.TheVariants as value
+use Rattle.lsl_table.specs.Calls.{row_of}
+use Rattle.lsl_code.specs.declared.instructions.Instr.{Instr}
+use Rattle.lsl_code.specs.declared.instructions.Instr.TheVariants.{Int, Str, Load, LoadGlobal, Store, StoreGlobal, Set, Drop, Unary, Binary, Cast, MakeList, Jump, JumpIf, JumpIfNot, Pure, Used, Free, Host, Tick, Call, Return, ReturnValue, GoState, Reset, TestSave, KeepSlot, KeepTop, Seal, TestBack, Unpack, BackSlot, BackTop, Branch, Again, Awake}
+use Rattle.lsl_code.specs.declared.functions.Point.{Point}
+use Rattle.lsl_code.specs.declared.signatures.Names.{Names}
+use Rattle.lsl_code.specs.declared.signatures.Signature.{Signature}
+use Rattle.lsl_code.specs.Bodies.{Body, plain_body}
+use Rattle.lsl_code.specs.Drafts.{pointed, next_point, line_before, numbered, lines_of, or_empty, next, scan, point_before, maps, most_of, finished}
+use Rattle.lsl_code.specs.Effects.{strip, gather, pushed, only_if, with_kind, called, called_if, is_pure, is_asked, behind, runs, waiting}
+use Rattle.lsl_code.specs.Fits.{all_places, has_kinds, finds, goes_on, is_quiet, jumps_on, is_point, has_point, goes_on_with, fits_before, may_be_bare, fits_where, fits_at, most_operands, begins_with_tick, counted, count_of, is_once, is_plain, plain_at}
+use Rattle.lsl_code.specs.Forward.{is_back}
+use Rattle.lsl_code.specs.Kinds.{kind_number, same_kind, same_kinds, is_element, kinds_of, Scope, scope, builtin_signature}
+use Rattle.lsl_code.specs.Units.{fits_function, is_plain_function}
+use Rattle.lsl_code.specs.WellFormed.{StandsWith, FindsItsOperands, IsWellFormedFunction}
+use Rattle.lsl_code.proofs.Sames.{both_true, all_from, sames_are, eq_is, shape_is}
+use Rattle.lsl_code.proofs.Tested.{eq_self}
+
+-- a test that holds at all places holds at each
+pub all_at : {A : Type 0} (test : ℕ → A → Bool) (xs : List A) (j : ℕ) (x : A) → all_places test 0 xs ≡ true → slice_get xs j ≡ Some x → test j x ≡ true
+all_at test xs j x h e = let z : 0 + j ≡ j = omega arith in subst (λ n. test n x ≡ true) z (all_from test 0 xs j x h e)
+
+-- the next instruction is there, with these kinds before it
+pub finds_told : (w : Body) (place : ℕ) (ks : List Kind) → finds w place ks ≡ true → StandsWith w place ks
+finds_told w place ks e = shape_is (slice_get w.stacks place) ks e
+
+less_is : (m n : ℕ) → nat_lt m n ≡ true → m < n
+less_is m n e = grind (arith, nat_tests)
+
+goes_told : (w : Body) (k : ℕ) (i : Instr) (o : Option (List Kind)) → goes_on_with w k i o ≡ true → (js : List Kind) × (o ≡ Some js) × (goes_on w k i js ≡ true)
+goes_told w k i None e = absurd cc
+goes_told w k i (Some js) e = (js, refl, e)
+
+place_told : (s : Scope) (w : Body) (k : ℕ) (i : Instr) (ks : List Kind) → fits_at s w k i ≡ true → StandsWith w k ks → FindsItsOperands s w k i ks
+place_told s w k i ks fits stands =
+    let here : fits_before s w k i ks ≡ true = sym (ap (fits_before s w k i) (reverse-reverse ks)) ∙ sym (ap (fits_where s w k i) stands) ∙ fits in
+    let both = both_true (goes_on_with w k i (behind s i ks)) _ here in
+    let goes = goes_told w k i (behind s i ks) both.0 in
+    (goes.0, goes.1, goes.2, both.1)
+
+pub function_told : (names : Names) (f : ℕ) (w : Body) → fits_function names f w ≡ true → IsWellFormedFunction names w
+function_told names f w ok =
+    let s = scope names w.slots w.result in
+    let p8 = both_true _ _ ok in
+    let p7 = both_true _ _ p8.0 in
+    let p6 = both_true _ _ p7.0 in
+    let p5 = both_true _ _ p6.0 in
+    let p4 = both_true _ _ p5.0 in
+    let p3 = both_true _ _ p4.0 in
+    let p2 = both_true _ _ p3.0 in
+    let p1 = both_true _ _ p2.0 in
+    record {
+      begins = p1.0;
+      first = finds_told w 0 [] p1.1;
+      stacks = eq_is _ _ p2.1;
+      finds = λ place i ks here stands. place_told s w place i ks (all_at (fits_at s w) w.code place i p3.1 here) stands;
+      once = λ p point here. eq_is _ _ (all_at (is_once w.code) w.points p point p4.1 here);
+      lines = eq_is _ _ p5.1;
+      most = eq_is _ _ p6.1;
+      params = sames_are _ _ p7.1;
+      short = less_is _ _ p8.1;
+    }
