@@ -3,6 +3,7 @@ pub mod ChargeLemmas
 pub mod CsvLemmas
 pub mod CutLemmas
 pub mod JoinLemmas
+pub mod KindLemmas
 pub mod LawCuts
 pub mod LawLemmas
 pub mod LawRoundTrips

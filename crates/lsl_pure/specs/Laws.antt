@@ -4,6 +4,12 @@ use Rattle.std.specs.List.{All}
 use Rattle.lsl_value.specs.declared.list.Atom.{Atom}
 use Rattle.lsl_value.specs.declared.list.Atom.TheVariants.{Str}
 use Rattle.lsl_value.specs.Atoms.{text_of_atom}
+use Rattle.lsl_value.specs.Values.{kind_of}
+use Rattle.lsl_value.specs.declared.names.BuiltinId.{BuiltinId}
+use Rattle.lsl_value.specs.declared.tagged.Value.{Value}
+use Rattle.lsl_table.specs.Calls.{row_of}
+use Rattle.lsl_pure.specs.Arguments.{IsArguments}
+use Rattle.lsl_pure.specs.Pure.{pure_of}
 use Rattle.lsl_pure.specs.Parsing.{Cut, first_mark}
 use Rattle.lsl_pure.specs.Places.{place_of}
 use Rattle.lsl_pure.specs.declared.marks.Mark.{Mark}
@@ -53,3 +59,9 @@ IsCutFrom marks text piece (e ∷ es) =
 
 abbrev pub IsCutAt : List Mark → List ℕ → Cut → Type 0
 IsCutAt marks text cut = IsCutFrom marks text cut.first cut.rest
+
+-- the arguments are of the row's kinds, the call's value is this one, and it has the row's kind
+pub record HasValueOfRow (id : BuiltinId) (args : List Value) (value : Value) : Type 0 where
+  pub arguments : IsArguments id args
+  pub same : pure_of id args ≡ value
+  pub kind : (row_of id).result ≡ Some (kind_of value)

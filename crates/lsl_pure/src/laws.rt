@@ -1,16 +1,21 @@
 //! What a script writer may rely on, above the calls' definitions. Each law is a function whose clause is the law; it
 //! does nothing.
 
-ghost use Rattle.std.specs.Prelude.{◌≡◌, ◌+◌, ◌-◌, ◌<◌, ◌≤◌, ◌≤ℤ◌, ◌++◌, [], ◌∷◌, true, map, pos, length};
+ghost use Rattle.std.specs.Prelude.{◌≡◌, ◌+◌, ◌-◌, ◌<◌, ◌≤◌, ◌≤ℤ◌, ◌++◌, [], ◌∷◌, true, map, pos, length, List, Some, MatchOption};
 ghost use Rattle.lsl_value.specs.declared.list.Atom.TheVariants.{Str};
+ghost use Rattle.lsl_value.specs.Values.{kind_of};
+ghost use Rattle.lsl_value.specs.declared.tagged.Value.{Value};
+ghost use Rattle.lsl_table.specs.Calls.{row_of};
+ghost use Rattle.lsl_pure.specs.Arguments.{IsArguments};
 ghost use Rattle.lsl_pure.specs.Csv.{csv_elements};
 ghost use Rattle.lsl_pure.specs.Cuts.{taken, left, inserted_at};
 ghost use Rattle.lsl_pure.specs.Joins.{csv_text, dumped};
-ghost use Rattle.lsl_pure.specs.Laws.{place_before, place_behind, string_element, IsPlainList, StandsInNone, IsCutAt};
+ghost use Rattle.lsl_pure.specs.Laws.{place_before, place_behind, string_element, IsPlainList, StandsInNone, IsCutAt, HasValueOfRow};
 ghost use Rattle.lsl_pure.specs.Parsing.{Cut, cut_of, marks_of, parsed};
 ghost use Rattle.lsl_pure.specs.Places.{place_of, pick};
+ghost use Rattle.lsl_pure.specs.Pure.{pure_of, value_of};
 
-use lsl_value::{Items, Text};
+use lsl_value::{BuiltinId, Items, Text};
 
 /// What stands before a range, in it and behind it, in this order, is the whole text; and what is deleted leaves the
 /// first and the last of these.
@@ -61,4 +66,11 @@ pub fn dump_is_parsed_back(items: &Items, separator: char)
 pub fn text_has_one_cut(text: &Text, separators: &Items, spacers: &Items)
     ensures is_cut { IsCutAt (marks_of separators.now spacers.now) text.now (cut_of (marks_of separators.now spacers.now) text.now) }
     ensures one { (cut : Cut) → IsCutAt (marks_of separators.now spacers.now) text.now cut → cut ≡ cut_of (marks_of separators.now spacers.now) text.now }
+{}
+
+/// A call has a value exactly where it is a pure one and has arguments of its row's kinds; and the value has the row's
+/// kind.
+pub fn value_of_its_row(id: BuiltinId)
+    ensures value { (args : List Value) → MatchOption (value_of id args) (IsArguments id args → ⊥) (HasValueOfRow id args) }
+    ensures kind { (args : List Value) → IsArguments id args → (row_of id).result ≡ Some (kind_of (pure_of id args)) }
 {}
