@@ -27,10 +27,9 @@ sum_of_sources() {
     sources -type f -print | LC_ALL=C sort | tr '\n' '\0' | xargs -0 sha256sum | sha256sum
 }
 
+# No source is newer than the program.
 is_fresh() {
-    [ -x "$binary" ] && [ -e "$stamp" ] || return 1
-    [ -n "$(sources -newer "$stamp" -print | head -n 1)" ] || return 0
-    [ "$(sum_of_sources)" = "$(cat "$stamp")" ] && touch "$stamp"
+    [ -x "$binary" ] && [ -e "$stamp" ] && [ -z "$(sources -newer "$stamp" -print | head -n 1)" ]
 }
 
 # One line for each crate that is proved.
@@ -42,49 +41,64 @@ show_progress() {
         /error/ { print; fflush() }' >&2
 }
 
-# A check takes up to 4 GB.
-jobs() {
+# How many crates are proved side by side. A proof takes up to 4 GB.
+job_count() {
     processors=$(getconf _NPROCESSORS_ONLN 2>/dev/null || echo 2)
-    room=$(awk '/^MemTotal/ { print int($2 / 4000000) }' /proc/meminfo 2>/dev/null)
-    [ "${room:-2}" -ge 1 ] || room=1
-    [ "${room:-2}" -lt "$processors" ] && processors=${room:-2}
+    fitting=$(awk '/^MemTotal/ { print int($2 / 4000000) }' /proc/meminfo 2>/dev/null)
+    fitting=${fitting:-2}
+    [ "$fitting" -ge 1 ] || fitting=1
+    [ "$fitting" -lt "$processors" ] && processors=$fitting
     echo "$processors"
 }
 
 build() {
     if ! command -v rt >/dev/null; then
-        echo "lsl: the program isn't built, and there is no 'rt' on the PATH: docs/READING.md says where it comes from" >&2
+        echo "lsl: the program isn't built, and no 'rt' is on the PATH: docs/READING.md says where it comes from" >&2
         return 1
     fi
     echo "lsl: proving and building the program, for half an hour the first time on a machine" >&2
     begun=$(date +%s)
-    sum=$(sum_of_sources)
-    (cd "$top" && rt all check --jobs "$(jobs)") 2>&1 | show_progress
-    if ! (cd "$top/crates/lsl" && rt run -- check data/hello.lsl) >"$log" 2>&1; then
-        tail -n 20 "$log" >&2
+    (cd "$top" && rt all check --jobs "$(job_count)") 2>&1 | show_progress
+    if ! (cd "$top/crates/lsl" && rt run -- check data/hello.lsl) >"$room/log" 2>&1; then
+        tail -n 20 "$room/log" >&2
         return 1
     fi
     mkdir -p "$top/out"
     cp "$top/crates/lsl/out/lsl" "$binary.new" && mv "$binary.new" "$binary" || return 1
-    echo "$sum" >"$stamp"
     echo "lsl: that took $(($(date +%s) - begun)) seconds" >&2
+}
+
+# Builds the program, but where the sources are as they were. What is changed meanwhile is newer than the stamp.
+build_if_changed() {
+    : >"$room/mark"
+    sum=$(sum_of_sources)
+    if ! { [ -x "$binary" ] && [ "$sum" = "$(cat "$stamp" 2>/dev/null)" ]; }; then
+        build || return 1
+    fi
+    echo "$sum" >"$stamp" && touch -r "$room/mark" "$stamp"
 }
 
 case ${1---} in
     --) usage >&2; exit 1 ;;
     --help | -h) usage; exit 0 ;;
-    --try) shift; exec python3 "$top/tools/unproved" "$@" ;;
+    --try)
+        shift
+        case ${1---} in
+            -- | --help | -h) usage >&2; exit 1 ;;
+        esac
+        exec python3 "$top/tools/unproved" "$@" ;;
 esac
 
 if ! is_fresh; then
-    log=$(mktemp) || exit 125
-    trap 'rm -f "$log"' EXIT
-    if ! build; then
+    room=$(mktemp -d) || exit 125
+    trap 'rm -rf "$room"' EXIT
+    trap 'exit 130' INT TERM
+    if ! build_if_changed; then
         echo "lsl: there is no new program. 'lsl --try WORDS' runs it unproved" >&2
         exit 125
     fi
-    rm -f "$log"
-    trap - EXIT
+    rm -rf "$room"
+    trap - EXIT INT TERM
 fi
 
 exec "$binary" "$@"

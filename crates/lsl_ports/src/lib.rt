@@ -6,8 +6,6 @@ mod carrying;
 mod memory_shelf;
 mod memory_sink;
 mod reading;
-#[cfg(test)]
-mod tests;
 mod writing;
 
 pub use carrying::{Link, LinkFault};

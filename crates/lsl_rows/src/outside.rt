@@ -22,10 +22,11 @@ impl Link for CopyingLink {
     }
 }
 
-/// What the outside is like in a test: the bytes of the file `s.lsl`, the read and the write that
-/// fail, counted from 1, and how many bytes the sink has room for.
+/// What the outside is like in a test: the name and the bytes of its file, the read and the write
+/// that fail, counted from 1, and how many bytes the sink has room for.
 #[derive(Clone, Copy)]
 pub struct Outside<'a> {
+    pub name: &'a str,
     pub file: &'a [u8],
     pub failing_read: u64,
     pub failing_write: u64,
@@ -33,9 +34,10 @@ pub struct Outside<'a> {
 }
 
 impl<'a> Outside<'a> {
-    /// An outside where nothing fails.
+    /// An outside with the file `s.lsl` where nothing fails.
     pub fn of(file: &'a [u8]) -> Outside<'a> {
         Outside {
+            name: "s.lsl",
             file,
             failing_read: 0,
             failing_write: 0,
@@ -65,7 +67,7 @@ fn strings(alloc: Global, words: &[&str]) -> Result<Vec<String>, AllocError> {
 pub fn call(alloc: Global, words: &[&str], outside: Outside<'_>) -> Result<Ended, AllocError> {
     let words = strings(alloc, words)?;
     let mut files = Vec::new(alloc);
-    files.push(StoredFile::new(alloc, "s.lsl", outside.file)?)?;
+    files.push(StoredFile::new(alloc, outside.name, outside.file)?)?;
     let failing_reads = vec![in alloc; outside.failing_read]?;
     let mut shelf = MemoryShelf::new(alloc, files, failing_reads)?;
     let failing_writes = vec![in alloc; outside.failing_write]?;
@@ -80,7 +82,7 @@ pub fn call(alloc: Global, words: &[&str], outside: Outside<'_>) -> Result<Ended
     Ok(Ended {
         status: status.number(),
         sunk: Vec::from_slice(alloc, sink.as_bytes())?,
-        read_faults: shelf.fault_count("s.lsl"),
+        read_faults: shelf.fault_count(outside.name),
         write_faults: sink.fault_count(),
     })
 }

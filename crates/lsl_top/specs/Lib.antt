@@ -5,6 +5,7 @@ pub mod Meant
 pub mod Status
 pub mod Journal
 pub mod Promise
+pub mod Ends
 pub mod Answer
 pub mod Program
 pub mod Faults

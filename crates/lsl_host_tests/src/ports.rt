@@ -1,6 +1,8 @@
 //! Files read, bytes written, and calls that fail.
 
-use super::*;
+use lsl_ports::{
+    Failed, MemoryShelf, MemorySink, Shelf, ShelfFault, Sink, StoredFile, read_all, write_all,
+};
 use std::alloc::{AllocError, Global};
 use std::test::Fail;
 
