@@ -91,7 +91,7 @@ fn word_or_name(alloc: Global, bytes: &[u8]) -> Result<Sort, NoMemory>
     match std::str::from_utf8(bytes) {
         Ok(text) => match word(text) {
             Some(sort) => Ok(sort),
-            None => Ok(Sort::Name(Text::from_string(String::from_str(alloc, text)?))),
+            None => Ok(Sort::Name(Text::from_string(String::from_str(alloc, text)?)?)),
         },
         Err(_) => unreachable!(),
     }
