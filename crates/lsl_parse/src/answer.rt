@@ -1,7 +1,8 @@
 //! Token lists as trees, or their first fault.
 
 ghost use Rattle.std.specs.Prelude.{◌≡◌, ◌<◌, ℕ, [], length, ◌∷◌, Some, IfOk, IfErr, MatchResult, if◌then◌else◌};
-ghost use Rattle.lsl_tree.specs.Scripts.{Tree, tree_of};
+ghost use Rattle.lsl_tree.specs.Scripts as tree;
+ghost use Rattle.lsl_tree.specs.Scripts.{tree_of};
 ghost use Rattle.lsl_parse.specs.declared.fault.ParseKind.{ParseKind};
 ghost use Rattle.lsl_parse.specs.declared.limits.TheConstants.{HEIGHT, TOKENS};
 ghost use Rattle.lsl_parse.specs.ScriptReading.{all_r, end_r};
@@ -67,7 +68,7 @@ fn foreign(token: &Token, due: bool) -> ParseKind
 
 /// The fault that a stop is.
 fn kind_of_stop(stop: Stop) -> ParseKind
-    ensures { result ≡ fault_kind stop.item.why stop.item.rest.now }
+    ensures { result ≡ fault_kind stop.entry.why stop.entry.rest.now }
 {
     match stop.rest {
         [] => ParseKind::EndOfText,
@@ -92,7 +93,7 @@ fn large_fault_of(tokens: &[Token], end: Span) -> ParseFault
 
 /// The fault of a stop, or that of the first token too many, which comes before it.
 fn fault_of(tokens: &[Token], end: Span, stop: Stop) -> ParseFault
-    ensures { result ≡ stop_fault tokens.now end stop.item.why stop.item.rest.now }
+    ensures { result ≡ stop_fault tokens.now end stop.entry.why stop.entry.rest.now }
 {
     if TOKENS + stop.rest.len() < tokens.len() {
         return large_fault_of(tokens, end);
@@ -110,7 +111,7 @@ pub fn parse(alloc: Global, tokens: &Tokens) -> Result<Tree, Refusal<ParseFault>
     // What is found is the tree of the tokens.
     ensures found { IfOk result (λ tree. Derives tokens.now.list (tree_of tree)) }
     // Tokens that have a tree are accepted with it, unless memory runs out.
-    ensures every { (script : Tree) → Derives tokens.now.list script → MatchResult result (λ tree. tree_of tree ≡ script) (λ refusal. refusal ≡ Refusal.NoMemory) }
+    ensures every { (script : tree.Tree) → Derives tokens.now.list script → MatchResult result (λ tree. tree_of tree ≡ script) (λ refusal. refusal ≡ Refusal.NoMemory) }
     // A fault is the first one.
     ensures first { IfErr result (λ refusal. IfFault refusal (IsFirst tokens.now.list tokens.now.end)) }
     // Tokens that have a first fault are refused with it, unless memory runs out.
