@@ -191,7 +191,7 @@ has_is (x ∷ xs) e h = elim (or_cases (same_event x e) (has_event xs e) h) [
   | inr t ↦ Contains-tail x e xs (has_is xs e t)
 ]
 
-is_has : (events : List EventId) (e : EventId) → Contains events e → has_event events e ≡ true
+pub is_has : (events : List EventId) (e : EventId) → Contains events e → has_event events e ≡ true
 is_has [] e h = absurd (Contains-none e h)
 is_has (x ∷ xs) e h = elim (Contains-cases x e xs h) [
   | inl s ↦ or_left (same_event x e) (has_event xs e) (same_event-same x e s)
@@ -205,7 +205,7 @@ and_parts : (a b : Bool) → (a && b) ≡ true → (a ≡ true) × (b ≡ true)
 and_parts true b h = (refl, h)
 and_parts false b h = absurd (cc)
 
-kinds_is : (a b : List Kind) → same_kinds a b ≡ true → a ≡ b
+pub kinds_is : (a b : List Kind) → same_kinds a b ≡ true → a ≡ b
 kinds_is [] [] h = refl
 kinds_is [] (y ∷ b) h = absurd (cc)
 kinds_is (x ∷ a) [] h = absurd (cc)

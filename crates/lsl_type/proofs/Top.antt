@@ -11,10 +11,11 @@ use Rattle.lsl_tree.specs.Program.{program_of}
 use Rattle.lsl_type.specs.declared.faults.TypeFault.{TypeFault}
 use Rattle.lsl_type.specs.Verdict.{Rules}
 use Rattle.lsl_type.specs.ScriptVerdicts.{script_verdict}
-use Rattle.lsl_type.specs.Typed.{Typed, TypeFirst, IsTypeRefusal, IsThat, param_count_of}
+use Rattle.lsl_type.specs.Typed.{Typed, TypeFirst, IsTypeRefusal, IsThat}
 use Rattle.lsl_type.proofs.Deciding.{ok_same, err_same, ok_not_err}
-use Rattle.lsl_type.specs.Shape.{IsShaped}
-use Rattle.lsl_type.proofs.ShapeLemmas.{script_yields}
+use Rattle.lsl_tree.specs.Shape.{IsShaped}
+use Rattle.lsl_tree.specs.Kinded.{IsKinded}
+use Rattle.lsl_type.proofs.ProgramKinds.{script_sound}
 use Rattle.lsl_type.proofs.ScriptLemmas.{script_decides}
 
 abbrev Answer : Type 0
@@ -30,9 +31,13 @@ answer_every tree (Ok p) h program t = ok_same (program_of p) program (sym h ∙
 answer_every tree (Err NoMemory) h program t = refl
 answer_every tree (Err (Fault f)) h program t = absurd (ok_not_err program f (sym ((script_decides tree).types program t) ∙ h))
 
-pub answer_shaped : (tree : Tree) (r : Answer) → Rules program_of r (script_verdict tree) → IfOk r (λ p. IsShaped param_count_of (program_of p))
-answer_shaped tree (Ok p) h = (script_yields tree).ok (program_of p) h
+pub answer_shaped : (tree : Tree) (r : Answer) → Rules program_of r (script_verdict tree) → IfOk r (λ p. IsShaped (program_of p))
+answer_shaped tree (Ok p) h = ((script_sound tree).ok (program_of p) h).0
 answer_shaped tree (Err e) h = tt
+
+pub answer_kinded : (tree : Tree) (r : Answer) → Rules program_of r (script_verdict tree) → IfOk r (λ p. IsKinded (program_of p))
+answer_kinded tree (Ok p) h = ((script_sound tree).ok (program_of p) h).1
+answer_kinded tree (Err e) h = tt
 
 pub answer_first : (tree : Tree) (r : Answer) → Rules program_of r (script_verdict tree) → IfErr r (IsTypeRefusal tree)
 answer_first tree (Ok p) h = tt

@@ -1,6 +1,7 @@
 -- What holds of each value that a verdict gives.
 use Rattle.std.proofs.Common.{◌≡◌, ℕ, ◌+◌, Bool, true, false, Option, Some, None, List, [], ◌∷◌, ◌++◌, length, refl, sym, ap, ◌∙◌, subst, arith, append_assoc, append-nil}
-use Rattle.std.specs.Prelude.{Ok, Err}
+use Rattle.std.specs.Prelude.{Ok, Err, All}
+use Rattle.std.proofs.lemmas.List.Elements.{All-nil, All-cons, All-head, All-tail}
 use Rattle.lsl_type.specs.declared.faults.TypeFault.{TypeFault}
 use Rattle.lsl_type.specs.Verdict.{Verdict, ◌>>=◌, the_one_verdict, must_verdict, each_verdict}
 use Rattle.lsl_type.proofs.Deciding.{ok_same, ok_not_err}
@@ -18,6 +19,11 @@ pub then_yields : {A B : Type 0} (P : A → Type 0) (Q : B → Type 0) (v : Verd
     → Yields P v → ((x : A) → P x → Yields Q (q x)) → Yields Q (v >>= q)
 then_yields P Q (Ok x) q first rest = rest x (first.ok x refl)
 then_yields P Q (Err e) q first rest = faulty_yields Q e
+
+-- whatever the first part gives
+pub rest_yields : {A B : Type 0} (Q : B → Type 0) (v : Verdict A) (q : A → Verdict B) → ((x : A) → Yields Q (q x)) → Yields Q (v >>= q)
+rest_yields Q (Ok x) q rest = rest x
+rest_yields Q (Err e) q rest = faulty_yields Q e
 
 pub itself : {T : Type 0} (v : Verdict T) → Yields (λ t. v ≡ Ok t) v
 itself v = record { ok = λ t e. e }
@@ -41,6 +47,20 @@ pub each_yields : {X S : Type 0} (P : S → Type 0) (q : S → X → Verdict S) 
     → (s : S) (xs : List X) → P s → Yields P (each_verdict q s xs)
 each_yields P q step s [] p = gives_yields P s p
 each_yields P q step s (x ∷ xs) p = then_yields P P (q s x) (λ n. each_verdict q n xs) (step s x p) (λ n r. each_yields P q step n xs r)
+
+-- what each step keeps where something holds of each part
+pub each_keeps : {X S : Type 0} (Q : X → Type 0) (P : S → Type 0) (q : S → X → Verdict S) → ((s : S) (x : X) → Q x → P s → Yields P (q s x))
+    → (s : S) (xs : List X) → All Q xs → P s → Yields P (each_verdict q s xs)
+each_keeps Q P q step s [] h p = gives_yields P s p
+each_keeps Q P q step s (x ∷ xs) h p =
+    then_yields P P (q s x) (λ n. each_verdict q n xs) (step s x (All-head Q x xs h) p) (λ n r. each_keeps Q P q step n xs (All-tail Q x xs h) r)
+
+-- what each step shows of its part
+pub each_shows : {X S : Type 0} (Q : X → Type 0) (q : S → X → Verdict S) → ((s : S) (x : X) → Yields (λ n. Q x) (q s x)) → (s : S) (xs : List X) → Yields (λ n. All Q xs) (each_verdict q s xs)
+each_shows Q q step s [] = gives_yields (λ n. All Q []) s (All-nil Q)
+each_shows Q q step s (x ∷ xs) =
+    then_yields (λ n. Q x) (λ n. All Q (x ∷ xs)) (q s x) (λ n. each_verdict q n xs) (step s x) (λ n r.
+    weaker_yields (λ m. All Q xs) (λ m. All Q (x ∷ xs)) (each_verdict q n xs) (each_shows Q q step n xs) (λ m t. All-cons Q x xs r t))
 
 -- what the steps add
 pub gathered : {X Y : Type 0} → (X → List Y) → List X → List Y

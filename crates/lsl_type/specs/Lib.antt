@@ -16,7 +16,6 @@ pub mod Names
 pub mod Sameness
 pub mod Scope
 pub mod ScriptRules
-pub mod Shape
 pub mod ScriptVerdicts
 pub mod Spans
 pub mod Table

@@ -1,13 +1,11 @@
 -- Which program a script is, and the first fault of a script that is none.
-use Rattle.std.specs.Prelude.{◌≡◌, ℕ, length}
+use Rattle.std.specs.Prelude.{◌≡◌}
 use Rattle.lsl_text.specs.declared.Refusal.{Refusal}
 use Rattle.lsl_text.specs.declared.Refusal.TheVariants.{NoMemory, Fault}
-use Rattle.lsl_value.specs.declared.names.BuiltinId.{BuiltinId}
 use Rattle.lsl_tree.specs.Scripts.{Tree}
 use Rattle.lsl_tree.specs.Program.{Program}
 use Rattle.lsl_type.specs.declared.faults.TypeFault.{TypeFault}
 use Rattle.lsl_type.specs.ScriptRules.{script}
-use Rattle.lsl_type.specs.Table.{params_of}
 
 -- the script is this program
 abbrev pub Typed : Tree → Program → Type 0
@@ -26,7 +24,3 @@ IsTypeRefusal tree NoMemory = Unit {0}
 abbrev pub IsThat : TypeFault → Refusal TypeFault → Type 0
 IsThat fault (Fault other) = other ≡ fault
 IsThat fault NoMemory = Unit {0}
-
--- how many parameters a built-in call has
-abbrev pub param_count_of : BuiltinId → ℕ
-param_count_of id = length (params_of id)
