@@ -1,2 +1,3 @@
+pub mod Flaws
 pub mod ProgramRows
 pub mod SyntaxRows
