@@ -1,9 +1,0 @@
-use Rattle.std.proofs.Common.{◌≡◌}
-use Rattle.std.specs.Prelude.{map}
-use Rattle.lsl_tree.specs.Actions.{actions_of}
-use Rattle.lsl_tree.specs.Effects.{effect_of}
-use Rattle.lsl_type.specs.ActionForms.{effects_after}
-use Rattle.lsl_type.proofs.actions.push_effects.Given as goal
-
-abbrev pub invariant-loop-effect : goal.invariant-loop-effect
-invariant-loop-effect l = actions_of l.actions.items ≡ effects_after (actions_of l.initial.actions.items) (map effect_of l.yielded)

@@ -1,0 +1,58 @@
+//! Parameters.
+
+ghost use Rattle.std.specs.Prelude.{◌≡◌, [], IfOk};
+ghost use Rattle.lsl_type.specs.Known.{kinds_of};
+ghost use Rattle.lsl_type.specs.Verdict.{Rules, each_verdict};
+ghost use Rattle.lsl_type.specs.Sameness.{same_kinds};
+ghost use Rattle.lsl_type.specs.HeaderVerdicts.{param_verdict};
+
+use crate::faults::{Refused, TypeKind, fault};
+use crate::names::Names;
+use crate::table::is_reserved;
+use lsl_text::NoMemory;
+use lsl_tree::Param;
+use lsl_value::Kind;
+use std::alloc::Global;
+
+pub(crate) fn kinds(alloc: Global, params: &[Param]) -> Result<Vec<Kind>, NoMemory>
+    ensures { IfOk result (λ v. v.items ≡ kinds_of params.now) }
+{
+    params.iter().map(|param| param.kind).collect(alloc)
+}
+
+/// Parameters: none has a reserved name, or that of another.
+pub(crate) fn params(alloc: Global, params: &[Param]) -> Result<Names, Refused>
+    ensures { Rules (λ n. n) result (each_verdict param_verdict [] params.now) }
+{
+    let mut names = Names::new(alloc);
+    for param in params {
+        add_param(alloc, &mut names, param)?;
+    }
+    Ok(names)
+}
+
+fn add_param(alloc: Global, names: &mut Names, param: &Param) -> Result<(), Refused>
+    ensures { Rules (λ _. names.new) result (param_verdict names.old param.now) }
+{
+    let name = param.name.text.as_str();
+    if is_reserved(name) || names.find(name).is_some() {
+        return Err(fault(TypeKind::DoubleName, param.name.span));
+    }
+    names.push(alloc, name)?;
+    Ok(())
+}
+
+/// Whether the parameters are of these kinds.
+pub(crate) fn has_kinds(params: &[Param], kinds: &[Kind]) -> bool
+    ensures { result ≡ same_kinds (kinds_of params.now) kinds.now }
+{
+    if params.len() != kinds.len() {
+        return false;
+    }
+    for (i, param) in params.iter().enumerate() {
+        if param.kind != kinds[i] {
+            return false;
+        }
+    }
+    true
+}

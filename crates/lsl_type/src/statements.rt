@@ -1,0 +1,113 @@
+//! Statements and blocks: what they stand for, or their first fault.
+
+ghost use Rattle.std.specs.Prelude.{◌≡◌, OnOk};
+ghost use Rattle.lsl_tree.specs.Statements as stmt;
+ghost use Rattle.lsl_tree.specs.Statements.{stmt_of, item_of, items_of};
+ghost use Rattle.lsl_tree.specs.Actions.{action_of, actions_of};
+ghost use Rattle.lsl_type.specs.Known.{known_of};
+ghost use Rattle.lsl_type.specs.Scope.{frame_of, with_slots};
+ghost use Rattle.lsl_type.specs.Verdict.{Rules};
+ghost use Rattle.lsl_type.specs.ActionVerdicts.{statement_verdict, items_verdict, item_verdict};
+
+use crate::checker::Checker;
+use crate::faults::Refused;
+use crate::forms::{after_effects, branch, branches, done_once, repeated};
+use crate::frame::Frame;
+use lsl_tree::{Action, Item, Stmt};
+
+impl Checker<'_> {
+    /// A statement.
+    #[cycle(statement)]
+    pub(crate) fn statement(&self, frame: &mut Frame, stmt: &Stmt) -> Result<Action, Refused>
+        ensures found { Rules (λ a. (action_of a, frame.new.slots.items)) result (statement_verdict (known_of self.now.known.now) self.now.home (frame_of frame.old) (stmt_of stmt.now)) }
+        ensures unchanged { OnOk result (frame_of frame.new ≡ with_slots (frame_of frame.old) frame.new.slots.items) }
+    {
+        match stmt {
+            Stmt::Block { items } => self.block(frame, items.as_slice()),
+            Stmt::Empty => Ok(Action::Block {
+                actions: Vec::new(self.alloc),
+            }),
+            Stmt::Expression { value: expr } => Ok(Action::Effect {
+                effect: self.effect(&frame.scope, expr)?,
+            }),
+            Stmt::If { test, then, .. } => {
+                let test = self.value(&frame.scope, test)?;
+                let then = self.statement(frame, then)?;
+                Ok(branch(self.alloc, test, then)?)
+            }
+            Stmt::IfElse {
+                test,
+                then,
+                otherwise,
+                ..
+            } => {
+                let test = self.value(&frame.scope, test)?;
+                let then = self.statement(frame, then)?;
+                let otherwise = self.statement(frame, otherwise)?;
+                Ok(branches(self.alloc, test, then, otherwise)?)
+            }
+            Stmt::While { span, test, body } => {
+                let test = self.value(&frame.scope, test)?;
+                let body = self.statement(frame, body)?;
+                Ok(repeated(self.alloc, *span, test, Vec::new(self.alloc), body)?)
+            }
+            Stmt::Do { span, body, test } => {
+                let body = self.statement(frame, body)?;
+                let test = self.value(&frame.scope, test)?;
+                Ok(done_once(self.alloc, *span, body, test)?)
+            }
+            Stmt::For {
+                span,
+                start,
+                test,
+                step,
+                body,
+            } => {
+                let start = self.effects(&frame.scope, start.as_slice())?;
+                let test = self.value(&frame.scope, test)?;
+                let steps = self.effects(&frame.scope, step.as_slice())?;
+                let body = self.statement(frame, body)?;
+                let repeated = repeated(self.alloc, *span, test, steps, body)?;
+                Ok(after_effects(self.alloc, start, repeated)?)
+            }
+            Stmt::Jump { span, label } => frame.jump(*span, label),
+            Stmt::Return { span, value } => self.returned(&frame.scope, *span, value),
+            Stmt::State { span, state } => self.change(*span, state),
+        }
+    }
+
+    /// A block, and what is visible behind it.
+    #[cycle(statement)]
+    fn block(&self, frame: &mut Frame, items: &[Item]) -> Result<Action, Refused>
+        ensures found { Rules (λ a. (action_of a, frame.new.slots.items)) result (statement_verdict (known_of self.now.known.now) self.now.home (frame_of frame.old) (stmt.Block (items_of items.now))) }
+        ensures unchanged { OnOk result (frame_of frame.new ≡ with_slots (frame_of frame.old) frame.new.slots.items) }
+    {
+        let outer = frame.open(self.alloc, items)?;
+        let actions = self.actions(frame, items)?;
+        frame.close(outer);
+        Ok(Action::Block { actions })
+    }
+
+    /// What stands in a block, in order.
+    #[cycle(statement)]
+    pub(crate) fn actions(&self, frame: &mut Frame, items: &[Item]) -> Result<Vec<Action>, Refused>
+        ensures { Rules (λ v. (actions_of v.items, frame_of frame.new)) result (items_verdict (known_of self.now.known.now) self.now.home (frame_of frame.old) (items_of items.now)) }
+    {
+        let mut actions = Vec::with_capacity(self.alloc, items.len())?;
+        for entry in items {
+            actions.push(self.item(frame, entry)?)?;
+        }
+        Ok(actions)
+    }
+
+    #[cycle(statement)]
+    fn item(&self, frame: &mut Frame, item: &Item) -> Result<Action, Refused>
+        ensures { Rules (λ a. (action_of a, frame_of frame.new)) result (item_verdict (known_of self.now.known.now) self.now.home (frame_of frame.old) (item_of item.now)) }
+    {
+        match item {
+            Item::Declaration { kind, name, value } => self.declaration(frame, *kind, name, value),
+            Item::Label { name } => frame.pass_label(self.alloc, name),
+            Item::Statement { statement: stmt } => self.statement(frame, stmt),
+        }
+    }
+}
