@@ -1,5 +1,5 @@
 -- The values in checked statements have the kinds that their places want.
-use Rattle.std.proofs.Common.{◌≡◌, ℕ, ◌+◌, ◌<◌, Bool, true, Option, Some, None, List, [], ◌∷◌, ◌++◌, length, refl, sym, ap, ◌∙◌, subst, arith, length-append, slice_get, not}
+use Rattle.std.proofs.Common.{◌≡◌, ℕ, ◌+◌, ◌<◌, Option, Some, None, List, [], ◌∷◌, ◌++◌, length, refl, sym, ap, ◌∙◌, arith, slice_get, not}
 use Rattle.std.specs.Prelude.{Ok, All}
 use Rattle.std.specs.Option.{option_map}
 use Rattle.std.proofs.lemmas.List.Elements.{All-nil, All-head, All-tail}
@@ -16,21 +16,18 @@ use Rattle.lsl_tree.specs.Effects.{Effect}
 use Rattle.lsl_tree.specs.Actions as action
 use Rattle.lsl_tree.specs.Actions.{Action, Actions, NoAction, AndAction}
 use Rattle.lsl_tree.specs.Kinded.{IsKindedAction, AreKindedActions}
-use Rattle.lsl_type.specs.declared.faults.TypeKind.TheVariants.{UnknownName, DoubleName, WrongKind, StateInFunction}
+use Rattle.lsl_type.specs.declared.faults.TypeKind.TheVariants.{UnknownName, DoubleName, WrongKind}
 use Rattle.lsl_type.specs.declared.frame.Home.{Home}
 use Rattle.lsl_type.specs.declared.frame.Home.TheVariants.{Handler, Function}
 use Rattle.lsl_type.specs.Names.{nearest}
-use Rattle.lsl_type.specs.Scope.{ScopeView, FrameView, spelled, is_since, with_local, with_slots, with_passed, opened}
-use Rattle.lsl_type.specs.Conversions.{empty_node}
+use Rattle.lsl_type.specs.Scope.{ScopeView, FrameView, spelled, is_since, with_slots, opened}
 use Rattle.lsl_type.specs.Spans.{first_span}
-use Rattle.lsl_type.specs.ActionForms.{for_of, home_kind, effects_after}
+use Rattle.lsl_type.specs.ActionForms.{home_kind, effects_after}
 use Rattle.lsl_type.specs.Judgement.{at}
-use Rattle.lsl_type.specs.Verdict.{the_one_verdict, must_verdict}
-use Rattle.lsl_type.specs.VariableVerdicts.{become_verdict}
-use Rattle.lsl_type.specs.ValueVerdicts.{value_verdict, effect_verdict, effects_verdict}
+use Rattle.lsl_type.specs.Verdict.{must_verdict}
 use Rattle.lsl_type.specs.ActionVerdicts.{label_verdict, jump_verdict, named_state_verdict, change_verdict, is_fresh, returned_nothing_verdict, returned_value_verdict, returned_verdict, initialised_verdict, declared_verdict, labelled_verdict, statement_verdict, items_verdict, item_verdict}
 use Rattle.lsl_type.proofs.NameLemmas.{nearest-within}
-use Rattle.lsl_type.proofs.Yielding.{Yields, gives_yields, faulty_yields, then_yields, itself, weaker_yields, the_one_yields}
+use Rattle.lsl_type.proofs.Yielding.{Yields, gives_yields, faulty_yields, then_yields, rest_yields, weaker_yields, the_one_yields, entry_yields}
 use Rattle.lsl_type.proofs.Prefixes.{Begins, begins_itself, begins_longer, begins_push, begins_get, get_last}
 use Rattle.lsl_type.proofs.KindSettings.{Setting, scope_in, HaveKinds, local_has}
 use Rattle.lsl_type.proofs.CallKinds.{NodeIn, EffectIn, NodeOf, become_kind, empty_kind}
@@ -47,149 +44,169 @@ abbrev AfterStmt : Setting → FrameView → Action × List Kind → Type 0
 AfterStmt c f r = Begins f.slots r.1 × (HaveKinds c f.scope.variables → Begins r.1 c.slots → ActionIn c r.0)
 
 abbrev AfterItem : Setting → FrameView → Action × FrameView → Type 0
-AfterItem c f r = Begins f.slots r.1.slots × (HaveKinds c f.scope.variables → Begins r.1.slots c.slots → ActionIn c r.0 × HaveKinds c r.1.scope.variables)
+AfterItem c f r =
+    Begins f.slots r.1.slots
+    × (HaveKinds c f.scope.variables → Begins r.1.slots c.slots → ActionIn c r.0 × HaveKinds c r.1.scope.variables)
 
 abbrev pub AfterItems : Setting → FrameView → Actions × FrameView → Type 0
-AfterItems c f r = Begins f.slots r.1.slots × (HaveKinds c f.scope.variables → Begins r.1.slots c.slots → ActionsIn c r.0 × HaveKinds c r.1.scope.variables)
+AfterItems c f r =
+    Begins f.slots r.1.slots
+    × (HaveKinds c f.scope.variables → Begins r.1.slots c.slots → ActionsIn c r.0 × HaveKinds c r.1.scope.variables)
 
 module _ (c : Setting) where
   -- states
   abbrev IsState : ℕ → Type 0
   IsState n = n < (scope_in c).states
 
-  state_below : (x : Name) (o : Option ℕ) (n : ℕ) → nearest (spelled x) c.known.states ≡ o → option_map (λ before. before + 1) o ≡ Some n → IsState n
+  state_below : (x : Name) (o : Option ℕ) (n : ℕ) → nearest (spelled x) c.known.states ≡ o
+      → option_map (λ before. before + 1) o ≡ Some n → IsState n
   state_below x None n e h = absurd (cc)
   state_below x (Some b) n e h =
       let same : b + 1 ≡ n = cc in
       omega (arith, nearest-within (spelled x) c.known.states b e, same)
 
   named_state_yields : (name : StateName) → Yields IsState (named_state_verdict c.known name)
-  named_state_yields Default = gives_yields IsState 0 (omega arith)
+  named_state_yields Default = gives_yields (omega arith)
   named_state_yields (Named x) =
       let number = option_map (λ before. before + 1) (nearest (spelled x) c.known.states) in
-      the_one_yields IsState number (at UnknownName x.span) (λ n e. state_below x (nearest (spelled x) c.known.states) n refl e)
+      the_one_yields number (at UnknownName x.span)
+        (λ n e. state_below x (nearest (spelled x) c.known.states) n refl e)
 
-  change_yields : (home : Home) (span : Span) (name : StateName) → Yields (ActionIn c) (change_verdict c.known home span name)
+  change_yields : (home : Home) (span : Span) (name : StateName)
+      → Yields (ActionIn c) (change_verdict c.known home span name)
   change_yields Handler span name =
-      then_yields IsState (ActionIn c) (named_state_verdict c.known name) _ (named_state_yields name) (λ n h. gives_yields (ActionIn c) (action.State n) h)
-  change_yields (Function kind) span name = faulty_yields (ActionIn c) (at StateInFunction span)
+      then_yields (named_state_yields name) (λ n h. gives_yields h)
+  change_yields (Function kind) span name = faulty_yields
 
   -- returns
-  nothing_yields : (o : Option Kind) (span : Span) → home_kind c.home ≡ o → Yields (ActionIn c) (returned_nothing_verdict o span)
-  nothing_yields None span e = gives_yields (ActionIn c) action.Return e
-  nothing_yields (Some kind) span e = faulty_yields (ActionIn c) (at (WrongKind (Some kind) None) span)
+  nothing_yields : (o : Option Kind) (span : Span) → home_kind c.home ≡ o
+      → Yields (ActionIn c) (returned_nothing_verdict o span)
+  nothing_yields None span e = gives_yields e
+  nothing_yields (Some kind) span e = faulty_yields
 
-  value_returned : (span : Span) (t : Node) (first : Span) → NodeIn c t → Yields (ActionIn c) (returned_value_verdict c.home span t first)
+  value_returned : (span : Span) (t : Node) (first : Span) → NodeIn c t
+      → Yields (ActionIn c) (returned_value_verdict c.home span t first)
   value_returned span t first n =
       let result = home_kind c.home in
       let fault = at (WrongKind None (Some (node_kind_of t))) span in
-      then_yields (λ k. result ≡ Some k) (ActionIn c) (the_one_verdict result fault) _ (the_one_yields (λ k. result ≡ Some k) result fault (λ k h. h)) (λ kind k.
-      then_yields (NodeOf c kind) (ActionIn c) (become_verdict kind t first) _ (become_kind c kind t first n) (λ u m.
-      gives_yields (ActionIn c) (action.ReturnValue u) (k ∙ ap Some (sym m.0), m.1)))
+      then_yields (entry_yields result fault) (λ kind k.
+      then_yields (become_kind c kind t first n) (λ u m.
+      gives_yields (k ∙ ap Some (sym m.0), m.1)))
 
-  returned_yields : (s : ScopeView) (span : Span) (v : Option Expr) → Yields (Once c s (ActionIn c)) (returned_verdict c.known c.home s span v)
+  returned_yields : (s : ScopeView) (span : Span) (v : Option Expr)
+      → Yields (Once c s (ActionIn c)) (returned_verdict c.known c.home s span v)
   returned_yields s span None =
-      weaker_yields (ActionIn c) (Once c s (ActionIn c)) (returned_nothing_verdict (home_kind c.home) span) (nothing_yields (home_kind c.home) span refl) (λ a h have. h)
+      weaker_yields (nothing_yields (home_kind c.home) span refl) (λ a h have. h)
   returned_yields s span (Some e) =
-      then_yields (Once c s (NodeIn c)) (Once c s (ActionIn c)) (value_verdict c.known s e) _ (value_kind c s e) (λ t n. record {
+      then_yields (value_kind c s e) (λ t n. record {
         ok = λ a is have. (value_returned span t (first_span e) (n have)).ok a is;
       })
 
   -- declarations
-  initialised_yields : (f : FrameView) (k : Kind) (x : Name) (v : Option Expr) → Yields (Once c f.scope (NodeOf c k)) (initialised_verdict c.known f k x v)
+  initialised_yields : (f : FrameView) (k : Kind) (x : Name) (v : Option Expr)
+      → Yields (Once c f.scope (NodeOf c k)) (initialised_verdict c.known f k x v)
   initialised_yields f k x None =
       let fresh = must_verdict (is_fresh f x) (at DoubleName x.span) in
-      then_yields (λ u. fresh ≡ Ok u) (Once c f.scope (NodeOf c k)) fresh _ (itself fresh) (λ u e.
-      gives_yields (Once c f.scope (NodeOf c k)) (empty_node k) (λ have. empty_kind c k))
+      rest_yields fresh (λ u. gives_yields (λ have. empty_kind c k))
   initialised_yields f k x (Some e) =
       let fresh = must_verdict (is_fresh f x) (at DoubleName x.span) in
-      then_yields (Once c f.scope (NodeIn c)) (Once c f.scope (NodeOf c k)) (value_verdict c.known f.scope e) _ (value_kind c f.scope e) (λ t n.
-      then_yields (λ u. fresh ≡ Ok u) (Once c f.scope (NodeOf c k)) fresh _ (itself fresh) (λ u h. record {
+      then_yields (value_kind c f.scope e) (λ t n.
+      rest_yields fresh (λ u. record {
         ok = λ a is have. (become_kind c k t (first_span e) (n have)).ok a is;
       }))
 
-  slot_kind : (f : FrameView) (k : Kind) (t : Node) → Begins (f.slots ++ k ∷ []) c.slots → node_kind_of t ≡ k → slice_get c.slots (length f.slots) ≡ Some (node_kind_of t)
-  slot_kind f k t b e = begins_get (f.slots ++ k ∷ []) c.slots (length f.slots) k b (get_last f.slots k) ∙ ap Some (sym e)
+  slot_kind : (f : FrameView) (k : Kind) (t : Node) → Begins (f.slots ++ k ∷ []) c.slots → node_kind_of t ≡ k
+      → slice_get c.slots (length f.slots) ≡ Some (node_kind_of t)
+  slot_kind f k t b e =
+      begins_get (f.slots ++ k ∷ []) c.slots (length f.slots) k b (get_last f.slots k) ∙ ap Some (sym e)
 
-  declared_yields : (f : FrameView) (k : Kind) (x : Name) (v : Option Expr) → Yields (AfterItem c f) (declared_verdict c.known f k x v)
+  declared_yields : (f : FrameView) (k : Kind) (x : Name) (v : Option Expr)
+      → Yields (AfterItem c f) (declared_verdict c.known f k x v)
   declared_yields f k x v =
-      then_yields (Once c f.scope (NodeOf c k)) (AfterItem c f) (initialised_verdict c.known f k x v) _ (initialised_yields f k x v) (λ t n.
-      gives_yields (AfterItem c f) (action.Declare (length f.slots) t, with_local f (spelled x) k)
-      (begins_push f.slots k, λ have b. let m = n have in ((slot_kind f k t b m.0, m.1), local_has c f (spelled x) k have b)))
+      then_yields (initialised_yields f k x v) (λ t n.
+      gives_yields
+      (begins_push f.slots k, λ have b.
+      let m = n have in
+      ((slot_kind f k t b m.0, m.1), local_has c f (spelled x) k have b)))
 
   labelled_yields : (f : FrameView) (x : Name) → Yields (AfterItem c f) (labelled_verdict f x)
   labelled_yields f x =
       let fresh = must_verdict (not (is_since f.passed f.first_label (spelled x))) (at DoubleName x.span) in
-      then_yields (λ u. fresh ≡ Ok u) (AfterItem c f) fresh _ (itself fresh) (λ u e.
-      then_yields (λ m. label_verdict f x ≡ Ok m) (AfterItem c f) (label_verdict f x) _ (itself (label_verdict f x)) (λ m k.
-      gives_yields (AfterItem c f) (action.Label m, with_passed f (spelled x)) (begins_itself f.slots, λ have b. (tt, have))))
+      rest_yields fresh (λ u.
+      rest_yields (label_verdict f x) (λ m.
+      gives_yields (begins_itself f.slots, λ have b. (tt, have))))
 
   jump_yields : (f : FrameView) (span : Span) (x : Name) → Yields (ActionIn c) (jump_verdict f span x)
   jump_yields f span x =
-      then_yields (λ n. label_verdict f x ≡ Ok n) (ActionIn c) (label_verdict f x) _ (itself (label_verdict f x)) (λ n e. gives_yields (ActionIn c) (action.Jump span.line n) tt)
+      rest_yields (label_verdict f x) (λ n. gives_yields tt)
 
   -- the parts of a `for` in one block
-  effects_kinded : (acts : Actions) (xs : List Effect) → ActionsIn c acts → All (EffectIn c) xs → ActionsIn c (effects_after acts xs)
+  effects_kinded : (acts : Actions) (xs : List Effect) → ActionsIn c acts → All (EffectIn c) xs
+      → ActionsIn c (effects_after acts xs)
   effects_kinded acts [] a h = a
   effects_kinded acts (x ∷ xs) a h =
-      effects_kinded (AndAction acts (action.Effect x)) xs (a, All-head (EffectIn c) x xs h) (All-tail (EffectIn c) x xs h)
+      effects_kinded (AndAction acts (action.Effect x)) xs (a, All-head (EffectIn c) x xs h)
+        (All-tail (EffectIn c) x xs h)
 
   -- a statement that adds no slot
   stays : (f : FrameView) (a : Action) → Once c f.scope (ActionIn c) a → Yields (AfterStmt c f) (Ok (a, f.slots))
-  stays f a h = gives_yields (AfterStmt c f) (a, f.slots) (begins_itself f.slots, λ have b. h have)
+  stays f a h = gives_yields (begins_itself f.slots, λ have b. h have)
 
   mutual
     statement_yields : (f : FrameView) (a : Stmt) → Yields (AfterStmt c f) (statement_verdict c.known c.home f a)
     statement_yields f (stmt.Block es) =
-        then_yields (AfterItems c f) (AfterStmt c f) (items_verdict c.known c.home (opened f es) es) _ (items_yield (opened f es) es) (λ r p.
-        gives_yields (AfterStmt c f) (action.Block r.0, r.1.slots) (p.0, λ have b. (p.1 have b).0))
+        then_yields (items_yield (opened f es) es) (λ r p.
+        gives_yields (p.0, λ have b. (p.1 have b).0))
     statement_yields f stmt.Empty = stays f (action.Block NoAction) (λ have. tt)
     statement_yields f (stmt.Expression e) =
-        then_yields (Once c f.scope (EffectIn c)) (AfterStmt c f) (effect_verdict c.known f.scope e) _ (effect_kind c f.scope e) (λ x n. stays f (action.Effect x) n)
+        then_yields (effect_kind c f.scope e) (λ x n. stays f (action.Effect x) n)
     statement_yields f (stmt.If span e a) =
-        then_yields (Once c f.scope (NodeIn c)) (AfterStmt c f) (value_verdict c.known f.scope e) _ (value_kind c f.scope e) (λ test t.
-        then_yields (AfterStmt c f) (AfterStmt c f) (statement_verdict c.known c.home f a) _ (statement_yields f a) (λ r p.
-        gives_yields (AfterStmt c f) (action.If test r.0, r.1) (p.0, λ have b. (t have, p.1 have b))))
+        then_yields (value_kind c f.scope e) (λ test t.
+        then_yields (statement_yields f a) (λ r p.
+        gives_yields (p.0, λ have b. (t have, p.1 have b))))
     statement_yields f (stmt.IfElse span e a b) =
-        then_yields (Once c f.scope (NodeIn c)) (AfterStmt c f) (value_verdict c.known f.scope e) _ (value_kind c f.scope e) (λ test t.
-        then_yields (AfterStmt c f) (AfterStmt c f) (statement_verdict c.known c.home f a) _ (statement_yields f a) (λ r p.
-        then_yields (AfterStmt c (with_slots f r.1)) (AfterStmt c f) (statement_verdict c.known c.home (with_slots f r.1) b) _ (statement_yields (with_slots f r.1) b) (λ q o.
-        gives_yields (AfterStmt c f) (action.IfElse test r.0 q.0, q.1)
-        (begins_longer f.slots r.1 q.1 p.0 o.0, λ have b. (t have, p.1 have (begins_longer r.1 q.1 c.slots o.0 b), o.1 have b)))))
+        then_yields (value_kind c f.scope e) (λ test t.
+        then_yields (statement_yields f a) (λ r p.
+        then_yields (statement_yields (with_slots f r.1) b) (λ q o.
+        gives_yields
+        (begins_longer f.slots r.1 q.1 p.0 o.0, λ have b.
+          (t have, p.1 have (begins_longer r.1 q.1 c.slots o.0 b), o.1 have b)))))
     statement_yields f (stmt.While span e a) =
-        then_yields (Once c f.scope (NodeIn c)) (AfterStmt c f) (value_verdict c.known f.scope e) _ (value_kind c f.scope e) (λ test t.
-        then_yields (AfterStmt c f) (AfterStmt c f) (statement_verdict c.known c.home f a) _ (statement_yields f a) (λ r p.
-        gives_yields (AfterStmt c f) (action.Loop span.line test [] r.0, r.1) (p.0, λ have b. (t have, All-nil (EffectIn c), p.1 have b))))
+        then_yields (value_kind c f.scope e) (λ test t.
+        then_yields (statement_yields f a) (λ r p.
+        gives_yields (p.0, λ have b. (t have, All-nil (EffectIn c), p.1 have b))))
     statement_yields f (stmt.Do span a e) =
-        then_yields (AfterStmt c f) (AfterStmt c f) (statement_verdict c.known c.home f a) _ (statement_yields f a) (λ r p.
-        then_yields (Once c f.scope (NodeIn c)) (AfterStmt c f) (value_verdict c.known f.scope e) _ (value_kind c f.scope e) (λ test t.
-        gives_yields (AfterStmt c f) (action.Do span.line r.0 test, r.1) (p.0, λ have b. (p.1 have b, t have))))
+        then_yields (statement_yields f a) (λ r p.
+        then_yields (value_kind c f.scope e) (λ test t.
+        gives_yields (p.0, λ have b. (p.1 have b, t have))))
     statement_yields f (stmt.For span xs e ys a) =
-        then_yields (Once c f.scope (All (EffectIn c))) (AfterStmt c f) (effects_verdict c.known f.scope xs) _ (effects_kind c f.scope xs) (λ start s.
-        then_yields (Once c f.scope (NodeIn c)) (AfterStmt c f) (value_verdict c.known f.scope e) _ (value_kind c f.scope e) (λ test t.
-        then_yields (Once c f.scope (All (EffectIn c))) (AfterStmt c f) (effects_verdict c.known f.scope ys) _ (effects_kind c f.scope ys) (λ steps w.
-        then_yields (AfterStmt c f) (AfterStmt c f) (statement_verdict c.known c.home f a) _ (statement_yields f a) (λ r p.
-        gives_yields (AfterStmt c f) (for_of start (action.Loop span.line test steps r.0), r.1)
+        then_yields (effects_kind c f.scope xs) (λ start s.
+        then_yields (value_kind c f.scope e) (λ test t.
+        then_yields (effects_kind c f.scope ys) (λ steps w.
+        then_yields (statement_yields f a) (λ r p.
+        gives_yields
         (p.0, λ have b. (effects_kinded NoAction start tt (s have), (t have, w have, p.1 have b)))))))
     statement_yields f (stmt.Jump span x) =
-        then_yields (ActionIn c) (AfterStmt c f) (jump_verdict f span x) _ (jump_yields f span x) (λ a n. stays f a (λ have. n))
+        then_yields (jump_yields f span x) (λ a n. stays f a (λ have. n))
     statement_yields f (stmt.Return span v) =
-        then_yields (Once c f.scope (ActionIn c)) (AfterStmt c f) (returned_verdict c.known c.home f.scope span v) _ (returned_yields f.scope span v) (λ a n. stays f a n)
+        then_yields (returned_yields f.scope span v) (λ a n. stays f a n)
     statement_yields f (stmt.State span name) =
-        then_yields (ActionIn c) (AfterStmt c f) (change_verdict c.known c.home span name) _ (change_yields c.home span name) (λ a n. stays f a (λ have. n))
+        then_yields (change_yields c.home span name) (λ a n. stays f a (λ have. n))
 
     pub items_yield : (f : FrameView) (es : Items) → Yields (AfterItems c f) (items_verdict c.known c.home f es)
-    items_yield f NoItem = gives_yields (AfterItems c f) (NoAction, f) (begins_itself f.slots, λ have b. (tt, have))
+    items_yield f NoItem = gives_yields (begins_itself f.slots, λ have b. (tt, have))
     items_yield f (AndItem es e) =
-        then_yields (AfterItems c f) (AfterItems c f) (items_verdict c.known c.home f es) _ (items_yield f es) (λ r p.
-        then_yields (AfterItem c r.1) (AfterItems c f) (item_verdict c.known c.home r.1 e) _ (item_yields r.1 e) (λ l q.
-        gives_yields (AfterItems c f) (AndAction r.0 l.0, l.1)
-        (begins_longer f.slots r.1.slots l.1.slots p.0 q.0,
-         λ have b. let n = p.1 have (begins_longer r.1.slots l.1.slots c.slots q.0 b) in let m = q.1 n.1 b in ((n.0, m.0), m.1))))
+        then_yields (items_yield f es) (λ r p.
+        then_yields (item_yields r.1 e) (λ l q.
+        gives_yields
+        (begins_longer f.slots r.1.slots l.1.slots p.0 q.0, λ have b.
+        let n = p.1 have (begins_longer r.1.slots l.1.slots c.slots q.0 b) in
+        let m = q.1 n.1 b in
+        ((n.0, m.0), m.1))))
 
     item_yields : (f : FrameView) (e : Item) → Yields (AfterItem c f) (item_verdict c.known c.home f e)
     item_yields f (stmt.Declaration k x v) = declared_yields f k x v
     item_yields f (stmt.Label x) = labelled_yields f x
     item_yields f (stmt.Statement a) =
-        then_yields (AfterStmt c f) (AfterItem c f) (statement_verdict c.known c.home f a) _ (statement_yields f a) (λ r p.
-        gives_yields (AfterItem c f) (r.0, with_slots f r.1) (p.0, λ have b. (p.1 have b, have)))
+        then_yields (statement_yields f a) (λ r p.
+        gives_yields (p.0, λ have b. (p.1 have b, have)))

@@ -1,6 +1,6 @@
 -- Globals begin with values of their kinds, which name only constants and earlier globals.
-use Rattle.std.proofs.Common.{◌≡◌, ℕ, zero, suc, ◌+◌, Bool, true, Option, Some, None, List, [], ◌∷◌, ◌++◌, map, length, refl, sym, ap, ◌∙◌, subst, arith, slice_get, append-nil, append_assoc}
-use Rattle.std.specs.Prelude.{Ok, All}
+use Rattle.std.proofs.Common.{◌≡◌, ℕ, zero, suc, ◌+◌, Option, Some, None, List, [], ◌∷◌, ◌++◌, map, length, refl, sym, ap, ◌∙◌, subst, arith, slice_get, append-nil, append_assoc}
+use Rattle.std.specs.Prelude.{All}
 use Rattle.std.specs.Option.{option_and_then}
 use Rattle.std.proofs.lemmas.List.{length-map, map-append, length_push}
 use Rattle.std.proofs.lemmas.List.Elements.{All-nil, All-cons, All-head, All-tail, All-push}
@@ -8,7 +8,6 @@ use Rattle.lsl_text.specs.declared.Span.{Span}
 use Rattle.lsl_value.specs.declared.tagged.Kind.{Kind}
 use Rattle.lsl_value.specs.declared.tagged.Kind.TheVariants.{Int, Str, Key, List as ListKind}
 use Rattle.lsl_value.specs.declared.names.ConstantId.{ConstantId}
-use Rattle.lsl_tree.specs.declared.expression.Name.{Name}
 use Rattle.lsl_tree.specs.declared.script.Atom.{Atom}
 use Rattle.lsl_tree.specs.declared.script.Atom.TheVariants as atom
 use Rattle.lsl_tree.specs.declared.program.Part.{Part}
@@ -24,12 +23,12 @@ use Rattle.lsl_type.specs.declared.faults.TypeKind.TheVariants.{DoubleName, Wron
 use Rattle.lsl_type.specs.declared.frame.Variable.{Variable}
 use Rattle.lsl_type.specs.Names.{nearest}
 use Rattle.lsl_type.specs.Scope.{ScopeView, spelled, variable_of}
-use Rattle.lsl_type.specs.Known.{HeadersView, KnownView, with_global, with_function, no_headers}
+use Rattle.lsl_type.specs.Known.{HeadersView, with_global, no_headers}
 use Rattle.lsl_type.specs.Table.{constant_of, constant_kind_of}
 use Rattle.lsl_type.specs.Conversions.{Fit, Same, ByCast, Not, fit_of, fitted_initial, initial_as_kind, empty_initial, is_no_list}
 use Rattle.lsl_type.specs.Spans.{atom_span, initial_span}
 use Rattle.lsl_type.specs.Judgement.{at}
-use Rattle.lsl_type.specs.Verdict.{the_one_verdict, must_verdict, each_verdict}
+use Rattle.lsl_type.specs.Verdict.{must_verdict, each_verdict}
 use Rattle.lsl_type.specs.HeaderVerdicts.{constant_part, part_of, part_by, initial_part_verdict, next_part_verdict, flat_parts_verdict, initial_verdict, is_unused, param_verdict, initial_become_verdict, header_verdict}
 use Rattle.lsl_type.proofs.Yielding.{Yields, gives_yields, then_yields, rest_yields, both_yield, weaker_yields, the_one_yields, must_yields, each_yields, each_counts}
 use Rattle.lsl_type.proofs.Prefixes.{begins_push, begins_get, get_last}
@@ -44,7 +43,8 @@ GlobalAt globals (Slot i) k = ⊥
 abbrev pub AreGlobals : List Kind → List Variable → Type 0
 AreGlobals globals vs = (n : ℕ) (v : Variable) → slice_get vs n ≡ Some v → GlobalAt globals v.place v.kind
 
-global_has : (c : Setting) (p : Place) (k : Kind) → GlobalAt c.globals p k → HasKind c (record { place = p; kind = k })
+global_has : (c : Setting) (p : Place) (k : Kind) → GlobalAt c.globals p k
+    → HasKind c (record { place = p; kind = k })
 global_has c (Global i) k h = h
 global_has c (Slot i) k h = absurd h
 
@@ -56,7 +56,8 @@ module _ (globals : List Kind) (s : ScopeView) (have : AreGlobals globals s.vari
   abbrev PartIn : Part → Type 0
   PartIn p = IsKindedPart globals p
 
-  place_part : (q : Place) (k : Kind) (p : Part) → GlobalAt globals q k → part_of (record { place = q; kind = k }) ≡ Some p → PartIn p
+  place_part : (q : Place) (k : Kind) (p : Part) → GlobalAt globals q k
+      → part_of (record { place = q; kind = k }) ≡ Some p → PartIn p
   place_part (Global i) k p h e = let same : part.Global i k ≡ p = cc in subst PartIn same h
   place_part (Slot i) k p h e = absurd h
 
@@ -66,41 +67,48 @@ module _ (globals : List Kind) (s : ScopeView) (have : AreGlobals globals s.vari
   constant_in (Some id) p e = let same : part.Constant id (constant_kind_of id) ≡ p = cc in subst PartIn same refl
 
   part_yields : (a : Atom) → Yields PartIn (initial_part_verdict s a)
-  part_yields (atom.Int n span) = gives_yields PartIn (part.Int n) tt
-  part_yields (atom.Negative n span) = gives_yields PartIn (part.Negative n) tt
-  part_yields (atom.Str t span) = gives_yields PartIn (part.Str t) tt
-  part_yields (atom.Constant x) = go (nearest (spelled x) s.names) (variable_of s (spelled x)) refl refl
+  part_yields (atom.Int n span) = gives_yields tt
+  part_yields (atom.Negative n span) = gives_yields tt
+  part_yields (atom.Str t span) = gives_yields tt
+  part_yields (atom.Constant x) = go (variable_of s (spelled x)) refl
     where
-      found : (m o : _) (v : Variable) → nearest (spelled x) s.names ≡ m → variable_of s (spelled x) ≡ o → o ≡ Some v → GlobalAt globals v.place v.kind
-      found None o v e f g = let none : None ≡ Some v = ap (option_and_then (slice_get s.variables)) (sym e) ∙ (f ∙ g) in absurd (cc)
-      found (Some n) o v e f g = have n v (ap (option_and_then (slice_get s.variables)) (sym e) ∙ (f ∙ g))
+      found : (m : Option ℕ) (v : Variable) → option_and_then (slice_get s.variables) m ≡ Some v
+          → GlobalAt globals v.place v.kind
+      found None v e = absurd (cc)
+      found (Some n) v e = have n v e
 
-      go : (m o : _) → nearest (spelled x) s.names ≡ m → variable_of s (spelled x) ≡ o → Yields PartIn (part_by o x)
-      go m (Some v) e f = the_one_yields PartIn (part_of v) (at NotConstant x.span) (λ p g. place_part v.place v.kind p (found m (Some v) v e f refl) g)
-      go m None e f = the_one_yields PartIn (constant_part (constant_of (spelled x))) (at NotConstant x.span) (λ p g. constant_in (constant_of (spelled x)) p g)
+      go : (o : Option Variable) → variable_of s (spelled x) ≡ o → Yields PartIn (part_by o x)
+      go (Some v) e =
+          the_one_yields (part_of v) (at NotConstant x.span) (λ p g.
+          place_part v.place v.kind p (found (nearest (spelled x) s.names) v e) g)
+      go None e =
+          let constant = constant_of (spelled x) in
+          the_one_yields (constant_part constant) (at NotConstant x.span) (λ p g. constant_in constant p g)
 
-  parts_yield : (atoms : List Atom) → Yields (λ ps. All PartIn ps × (length ps ≡ 0 + length atoms)) (each_verdict (next_part_verdict s) [] atoms)
+  parts_yield : (atoms : List Atom)
+      → Yields (λ ps. All PartIn ps × (length ps ≡ 0 + length atoms)) (each_verdict (next_part_verdict s) [] atoms)
   parts_yield atoms =
-      both_yield (All PartIn) (λ ps. length ps ≡ 0 + length atoms) (each_verdict (next_part_verdict s) [] atoms)
+      both_yield
       (each_yields (All PartIn) (next_part_verdict s)
-        (λ before a b. then_yields PartIn (All PartIn) (initial_part_verdict s a) _ (part_yields a) (λ p h. gives_yields (All PartIn) (before ++ p ∷ []) (All-push PartIn before p b h)))
+        (λ before a b. then_yields (part_yields a) (λ p h. gives_yields (All-push PartIn before p b h)))
         [] atoms (All-nil PartIn))
       (each_counts length (next_part_verdict s)
-        (λ before a. rest_yields (λ ps. length ps ≡ length before + 1) (initial_part_verdict s a) _ (λ p. gives_yields (λ (ps : List Part). length ps ≡ length before + 1) (before ++ p ∷ []) (length_push before p)))
+        (λ before a. rest_yields (initial_part_verdict s a) (λ p. gives_yields (length_push before p)))
         [] atoms)
 
   abbrev ElementsIn : List Part → Type 0
   ElementsIn ps = All (IsKindedElement globals) ps
 
-  flat_yields : (atoms : List Atom) (ps : List Part) → All PartIn ps → length ps ≡ length atoms → Yields (λ u. ElementsIn ps) (flat_parts_verdict atoms ps)
-  flat_yields [] [] h e = gives_yields (λ u. ElementsIn []) tt (All-nil (IsKindedElement globals))
+  flat_yields : (atoms : List Atom) (ps : List Part) → All PartIn ps → length ps ≡ length atoms
+      → Yields (λ u. ElementsIn ps) (flat_parts_verdict atoms ps)
+  flat_yields [] [] h e = gives_yields (All-nil (IsKindedElement globals))
   flat_yields [] (p ∷ ps) h e = absurd (omega (arith, e))
   flat_yields (a ∷ atoms) [] h e = absurd (omega (arith, e))
   flat_yields (a ∷ atoms) (p ∷ ps) h e =
       let row = is_no_list (part_kind_of p) in
       let fault = at (WrongKind None (Some ListKind)) (atom_span a) in
-      then_yields (λ u. row ≡ true) (λ u. ElementsIn (p ∷ ps)) (must_verdict row fault) _ (must_yields row fault) (λ u r.
-      weaker_yields (λ u. ElementsIn ps) (λ u. ElementsIn (p ∷ ps)) (flat_parts_verdict atoms ps) (flat_yields atoms ps (All-tail PartIn p ps h) (omega (arith, e))) (λ u t.
+      then_yields (must_yields row fault) (λ u r.
+      weaker_yields (flat_yields atoms ps (All-tail PartIn p ps h) (omega (arith, e))) (λ u t.
       All-cons (IsKindedElement globals) p ps (is_no_list-apart (part_kind_of p) r, All-head PartIn p ps h) t))
 
   -- nobody writes a cast there
@@ -113,25 +121,28 @@ module _ (globals : List Kind) (s : ScopeView) (have : AreGlobals globals s.vari
   Written v = IsKindedInitial globals v × Uncast v
 
   initial_yields : (v : Simple) → Yields Written (initial_verdict s v)
-  initial_yields (source.Atom a) = then_yields PartIn Written (initial_part_verdict s a) _ (part_yields a) (λ p h. gives_yields Written (program.Single p) (h, tt))
+  initial_yields (source.Atom a) = then_yields (part_yields a) (λ p h. gives_yields (h, tt))
   initial_yields (source.Atoms span atoms) =
-      then_yields (λ ps. All PartIn ps × (length ps ≡ 0 + length atoms)) Written (each_verdict (next_part_verdict s) [] atoms) _ (parts_yield atoms) (λ ps h.
-      then_yields (λ u. ElementsIn ps) Written (flat_parts_verdict atoms ps) _ (flat_yields atoms ps h.0 (omega (arith, h.1))) (λ u t.
-      gives_yields Written (program.ListLiteral ps) (t, tt)))
+      then_yields (parts_yield atoms) (λ ps h.
+      then_yields (flat_yields atoms ps h.0 (omega (arith, h.1))) (λ u t.
+      gives_yields (t, tt)))
 
   abbrev InitialOf : Kind → Initial → Type 0
   InitialOf k v = (initial_kind_of v ≡ k) × IsKindedInitial globals v
 
-  fitted_kind : (f : Fit) (k : Kind) (v w : Initial) → Fits f (initial_kind_of v) k → Written v → fitted_initial f k v ≡ Some w → InitialOf k w
+  fitted_kind : (f : Fit) (k : Kind) (v w : Initial) → Fits f (initial_kind_of v) k → Written v
+      → fitted_initial f k v ≡ Some w → InitialOf k w
   fitted_kind Same k v w fits h e = let same : v ≡ w = cc in subst (InitialOf k) same (fits, h.0)
-  fitted_kind ByCast k (program.Single p) w fits h e = let same : program.Cast k p ≡ w = cc in subst (InitialOf k) same (refl, (fits.0, h.0))
+  fitted_kind ByCast k (program.Single p) w fits h e = let same : program.Cast k p ≡ w =
+      cc in subst (InitialOf k) same (refl, (fits.0, h.0))
   fitted_kind ByCast k (program.Cast from p) w fits h e = absurd h.1
   fitted_kind ByCast k (program.ListLiteral ps) w fits h e = absurd (fits.1 refl)
   fitted_kind Not k v w fits h e = absurd (cc)
 
-  become_yields : (k : Kind) (v : Initial) (span : Span) → Written v → Yields (InitialOf k) (initial_become_verdict k v span)
+  become_yields : (k : Kind) (v : Initial) (span : Span) → Written v
+      → Yields (InitialOf k) (initial_become_verdict k v span)
   become_yields k v span h =
-      the_one_yields (InitialOf k) (initial_as_kind k v) (at (WrongKind (Some k) (Some (initial_kind_of v))) span)
+      the_one_yields (initial_as_kind k v) (at (WrongKind (Some k) (Some (initial_kind_of v))) span)
       (λ w e. fitted_kind (fit_of (initial_kind_of v) k) k v w (fit_fits (initial_kind_of v) k) h e)
 
   empty_kind : (k : Kind) → InitialOf k (empty_initial k)
@@ -147,47 +158,60 @@ kinds_so_far h = map initial_kind_of h.globals
 abbrev pub GlobalsIn : HeadersView → Type 0
 GlobalsIn h = AreKindedInitials [] h.globals × AreGlobals (kinds_so_far h) h.scope.variables
 
-initials_push : (before : List Kind) (gs : List Initial) (g : Initial) → AreKindedInitials before gs → IsKindedInitial (before ++ map initial_kind_of gs) g → AreKindedInitials before (gs ++ g ∷ [])
+initials_push : (before : List Kind) (gs : List Initial) (g : Initial) → AreKindedInitials before gs
+    → IsKindedInitial (before ++ map initial_kind_of gs) g → AreKindedInitials before (gs ++ g ∷ [])
 initials_push before [] g h k = (subst (λ l. IsKindedInitial l g) (append-nil before) k, tt)
 initials_push before (x ∷ gs) g h k =
-    (h.0, initials_push (before ++ initial_kind_of x ∷ []) gs g h.1 (subst (λ l. IsKindedInitial l g) (sym (append_assoc before (initial_kind_of x ∷ []) (map initial_kind_of gs))) k))
+    let x' = initial_kind_of x ∷ [] in
+    let all : IsKindedInitial ((before ++ x') ++ map initial_kind_of gs) g =
+      subst (λ l. IsKindedInitial l g) (sym (append_assoc before x' (map initial_kind_of gs))) k in
+    (h.0, initials_push (before ++ x') gs g h.1 all)
 
-at_push : (globals : List Kind) (j : Kind) (p : Place) (k : Kind) → GlobalAt globals p k → GlobalAt (globals ++ j ∷ []) p k
+at_push : (globals : List Kind) (j : Kind) (p : Place) (k : Kind) → GlobalAt globals p k
+    → GlobalAt (globals ++ j ∷ []) p k
 at_push globals j (Global i) k h = begins_get globals (globals ++ j ∷ []) i k (begins_push globals j) h
 at_push globals j (Slot i) k h = absurd h
 
-globals_push : (globals more : List Kind) (vs : List Variable) (v : Variable) → ((p : Place) (k : Kind) → GlobalAt globals p k → GlobalAt more p k) → AreGlobals globals vs → GlobalAt more v.place v.kind
+globals_push : (globals more : List Kind) (vs : List Variable) (v : Variable)
+    → ((p : Place) (k : Kind) → GlobalAt globals p k → GlobalAt more p k) → AreGlobals globals vs
+    → GlobalAt more v.place v.kind
     → AreGlobals more (vs ++ v ∷ [])
-globals_push globals more [] v up h k zero w e = let same : v ≡ w = cc in subst (λ (u : Variable). GlobalAt more u.place u.kind) same k
+globals_push globals more [] v up h k zero w e = let same : v ≡ w =
+    cc in subst (λ (u : Variable). GlobalAt more u.place u.kind) same k
 globals_push globals more [] v up h k (suc n) w e = absurd (cc)
 globals_push globals more (x ∷ vs) v up h k zero w e = up w.place w.kind (h zero w e)
-globals_push globals more (x ∷ vs) v up h k (suc n) w e = globals_push globals more vs v up (λ m u g. h (suc m) u g) k n w e
+globals_push globals more (x ∷ vs) v up h k (suc n) w e =
+    globals_push globals more vs v up (λ m u g. h (suc m) u g) k n w e
 
-global_made : (h : HeadersView) (name : List ℕ) (k : Kind) (v : Initial) → GlobalsIn h → (initial_kind_of v ≡ k) × IsKindedInitial (kinds_so_far h) v → GlobalsIn (with_global h name k v)
+global_made : (h : HeadersView) (name : List ℕ) (k : Kind) (v : Initial) → GlobalsIn h
+    → (initial_kind_of v ≡ k) × IsKindedInitial (kinds_so_far h) v → GlobalsIn (with_global h name k v)
 global_made h name k v g i =
-    let all : map initial_kind_of (h.globals ++ v ∷ []) ≡ kinds_so_far h ++ k ∷ [] =
-      map-append initial_kind_of h.globals (v ∷ []) ∙ ap (λ j. kinds_so_far h ++ j ∷ []) i.0 in
-    let here : slice_get (kinds_so_far h ++ k ∷ []) (length h.globals) ≡ Some k =
-      ap (slice_get (kinds_so_far h ++ k ∷ [])) (sym (length-map h.globals initial_kind_of)) ∙ get_last (kinds_so_far h) k in
+    let before = kinds_so_far h in
+    let all : map initial_kind_of (h.globals ++ v ∷ []) ≡ before ++ k ∷ [] =
+      map-append initial_kind_of h.globals (v ∷ []) ∙ ap (λ j. before ++ j ∷ []) i.0 in
+    let here : slice_get (before ++ k ∷ []) (length h.globals) ≡ Some k =
+      ap (slice_get (before ++ k ∷ [])) (sym (length-map h.globals initial_kind_of)) ∙ get_last before k in
     (
       initials_push [] h.globals v g.0 i.1,
       subst (λ l. AreGlobals l (with_global h name k v).scope.variables) (sym all)
-        (globals_push (kinds_so_far h) (kinds_so_far h ++ k ∷ []) h.scope.variables (record { place = Global (length h.globals); kind = k }) (at_push (kinds_so_far h) k) g.1 here),
+        (globals_push before (before ++ k ∷ []) h.scope.variables
+          (record { place = Global (length h.globals); kind = k })
+          (at_push before k) g.1 here),
     )
 
 header_yields : (h : HeadersView) (g : Header) → GlobalsIn h → Yields GlobalsIn (header_verdict h g)
 header_yields h (source.Global k x None) p =
-    rest_yields GlobalsIn (must_verdict (is_unused h x) (at DoubleName x.span)) _ (λ u.
-    gives_yields GlobalsIn (with_global h (spelled x) k (empty_initial k)) (global_made h (spelled x) k (empty_initial k) p (empty_kind (kinds_so_far h) h.scope p.1 k)))
+    rest_yields (must_verdict (is_unused h x) (at DoubleName x.span)) (λ u.
+    gives_yields (global_made h (spelled x) k (empty_initial k) p (empty_kind (kinds_so_far h) h.scope p.1 k)))
 header_yields h (source.Global k x (Some v)) p =
-    then_yields (Written (kinds_so_far h) h.scope p.1) GlobalsIn (initial_verdict h.scope v) _ (initial_yields (kinds_so_far h) h.scope p.1 v) (λ found w.
-    rest_yields GlobalsIn (must_verdict (is_unused h x) (at DoubleName x.span)) _ (λ u.
-    then_yields (InitialOf (kinds_so_far h) h.scope p.1 k) GlobalsIn (initial_become_verdict k found (initial_span v)) _ (become_yields (kinds_so_far h) h.scope p.1 k found (initial_span v) w) (λ value i.
-    gives_yields GlobalsIn (with_global h (spelled x) k value) (global_made h (spelled x) k value p i))))
+    then_yields (initial_yields (kinds_so_far h) h.scope p.1 v) (λ found w.
+    rest_yields (must_verdict (is_unused h x) (at DoubleName x.span)) (λ u.
+    then_yields (become_yields (kinds_so_far h) h.scope p.1 k found (initial_span v) w) (λ value i.
+    gives_yields (global_made h (spelled x) k value p i))))
 header_yields h (source.Function k x params es) p =
-    rest_yields GlobalsIn (must_verdict (is_unused h x) (at DoubleName x.span)) _ (λ u.
-    rest_yields GlobalsIn (each_verdict param_verdict [] params) _ (λ names.
-    gives_yields GlobalsIn (with_function h (spelled x) k params) p))
+    rest_yields (must_verdict (is_unused h x) (at DoubleName x.span)) (λ u.
+    rest_yields (each_verdict param_verdict [] params) (λ names.
+    gives_yields p))
 
 pub headers_yield : (hs : List Header) → Yields GlobalsIn (each_verdict header_verdict no_headers hs)
 headers_yield hs = each_yields GlobalsIn header_verdict header_yields no_headers hs (tt, λ n v e. absurd (cc))

@@ -1,6 +1,6 @@
 -- A state's handlers have the parameters of their events, and a state has an event once.
-use Rattle.std.proofs.Common.{◌≡◌, ℕ, ◌+◌, true, Option, Some, None, List, [], ◌∷◌, ◌++◌, map, length, take, refl, sym, ap, ◌∙◌, subst, ◌⊎◌, inl, inr, not}
-use Rattle.std.specs.Prelude.{Ok, is_some, Contains, All}
+use Rattle.std.proofs.Common.{◌≡◌, ℕ, true, Option, Some, List, [], ◌∷◌, ◌++◌, map, refl, sym, ap, ◌∙◌, subst, inl, inr, not}
+use Rattle.std.specs.Prelude.{is_some, Contains, All}
 use Rattle.std.proofs.lemmas.List.{map-append}
 use Rattle.std.proofs.lemmas.List.Elements.{All-nil, All-push}
 use Rattle.lsl_value.specs.declared.tagged.Kind.{Kind}
@@ -17,14 +17,14 @@ use Rattle.lsl_type.specs.Known.{KnownView, kinds_of}
 use Rattle.lsl_type.specs.Table.{event_of, event_params_of}
 use Rattle.lsl_type.specs.Sameness.{same_kinds}
 use Rattle.lsl_type.specs.Judgement.{at}
-use Rattle.lsl_type.specs.Verdict.{the_one_verdict, must_verdict, each_verdict}
+use Rattle.lsl_type.specs.Verdict.{must_verdict, each_verdict}
 use Rattle.lsl_type.specs.HeaderVerdicts.{param_verdict, has_event, handler_verdict, state_verdict}
-use Rattle.lsl_type.specs.ScriptVerdicts.{body_verdict, handler_routine_verdict, handler_body_verdict, program_state_verdict}
-use Rattle.lsl_type.proofs.Yielding.{Yields, gives_yields, then_yields, rest_yields, both_yield, weaker_yields, the_one_yields, must_yields, each_yields, each_keeps, each_shows, gathered, each_gathers}
+use Rattle.lsl_type.specs.ScriptVerdicts.{handler_routine_verdict, handler_body_verdict, program_state_verdict}
+use Rattle.lsl_type.proofs.Yielding.{Yields, gives_yields, then_yields, rest_yields, weaker_yields, entry_yields, must_yields, each_yields, each_keeps, each_shows, gathered, each_gathers}
 use Rattle.lsl_type.proofs.NameLemmas.{Contains-none, Contains-cases}
 use Rattle.lsl_type.proofs.ScriptLemmas.{kinds_is, is_has}
 use Rattle.lsl_type.proofs.ListLemmas.{Apart, apart_append, apart_pairs_by}
-use Rattle.lsl_type.proofs.RoutineKinds.{RoutineIn, RoutineOf, GlobalsHave, body_yields}
+use Rattle.lsl_type.proofs.RoutineKinds.{RoutineIn, GlobalsHave, body_yields}
 
 -- the events of handlers, in their order
 abbrev event_in : Handler → List (Option EventId)
@@ -50,14 +50,16 @@ somes_same (x ∷ xs) (y ∷ ys) e =
     let tail : map Some xs ≡ map Some ys = cc in
     ap (λ z. z ∷ xs) head ∙ ap (λ l. y ∷ l) (somes_same xs ys tail)
 
-apart_push : (events : List EventId) (event : EventId) → Apart events → (Contains events event → ⊥) → Apart (events ++ event ∷ [])
+apart_push : (events : List EventId) (event : EventId) → Apart events → (Contains events event → ⊥)
+    → Apart (events ++ event ∷ [])
 apart_push events event a never =
     apart_append events (event ∷ []) a (Contains-none event, tt) (λ x i j. elim (Contains-cases event x [] j) [
       | inl s ↦ never (subst (Contains events) (sym s) i)
       | inr n ↦ Contains-none x n
     ])
 
-fresh_event : (events : List EventId) (event : EventId) → not (has_event events event) ≡ true → Contains events event → ⊥
+fresh_event : (events : List EventId) (event : EventId) → not (has_event events event) ≡ true
+    → Contains events event → ⊥
 fresh_event events event fresh c =
     let no : not true ≡ true = sym (ap not (is_has events event c)) ∙ fresh in
     absurd (cc)
@@ -66,11 +68,14 @@ fresh_event events event fresh c =
 abbrev Seen : List EventId → Handler → List EventId → Type 0
 Seen events h next = IsMatched h × (Apart events → Apart next) × (map Some next ≡ map Some events ++ event_in h)
 
-seen : (events : List EventId) (h : Handler) (event : EventId) → event_of (spelled h.name) ≡ Some event → not (has_event events event) ≡ true
+seen : (events : List EventId) (h : Handler) (event : EventId) → event_of (spelled h.name) ≡ Some event
+    → not (has_event events event) ≡ true
     → same_kinds (kinds_of h.params) (event_params_of event) ≡ true → Seen events h (events ++ event ∷ [])
 unfolding event_params_of
 seen events h event e fresh kinds = (
-  λ other f. let same : event ≡ other = some_same event other (sym e ∙ f) in kinds_is (kinds_of h.params) (event_params_of event) kinds ∙ ap signature_of same,
+  λ other f.
+    let same : event ≡ other = some_same event other (sym e ∙ f) in
+    kinds_is (kinds_of h.params) (event_params_of event) kinds ∙ ap signature_of same,
   (λ a. apart_push events event a (fresh_event events event fresh)),
   map-append Some events (event ∷ []) ∙ ap (λ o. map Some events ++ o ∷ []) (sym e),
 )
@@ -78,21 +83,24 @@ seen events h event e fresh kinds = (
 handler_seen : (events : List EventId) (h : Handler) → Yields (Seen events h) (handler_verdict events h)
 handler_seen events h =
     let name = event_of (spelled h.name) in
-    then_yields (λ e. name ≡ Some e) (Seen events h) (the_one_verdict name (at WrongHandler h.name.span)) _ (the_one_yields (λ e. name ≡ Some e) name (at WrongHandler h.name.span) (λ e i. i)) (λ event e.
+    then_yields (entry_yields name (at WrongHandler h.name.span)) (λ event e.
     let fresh = not (has_event events event) in
     let kinds = same_kinds (kinds_of h.params) (event_params_of event) in
-    then_yields (λ u. fresh ≡ true) (Seen events h) (must_verdict fresh (at DoubleName h.name.span)) _ (must_yields fresh (at DoubleName h.name.span)) (λ u f.
-    then_yields (λ u. kinds ≡ true) (Seen events h) (must_verdict kinds (at WrongHandler h.name.span)) _ (must_yields kinds (at WrongHandler h.name.span)) (λ u k.
-    rest_yields (Seen events h) (each_verdict param_verdict [] h.params) _ (λ names.
-    gives_yields (Seen events h) (events ++ event ∷ []) (seen events h event e f k)))))
+    then_yields (must_yields fresh (at DoubleName h.name.span)) (λ u f.
+    then_yields (must_yields kinds (at WrongHandler h.name.span)) (λ u k.
+    rest_yields (each_verdict param_verdict [] h.params) (λ names.
+    gives_yields (seen events h event e f k)))))
 
 pub handlers_fit : (hs : List Handler) → Yields (λ events. Fitting hs) (each_verdict handler_verdict [] hs)
 handlers_fit hs =
-    let all = each_verdict handler_verdict [] hs in
-    let matched = each_shows IsMatched handler_verdict (λ events h. weaker_yields (Seen events h) (λ next. IsMatched h) (handler_verdict events h) (handler_seen events h) (λ next s. s.0)) [] hs in
-    let apart = each_yields Apart handler_verdict (λ events h a. weaker_yields (Seen events h) Apart (handler_verdict events h) (handler_seen events h) (λ next s. s.1 a)) [] hs tt in
+    let matched =
+        each_shows IsMatched handler_verdict (λ events h. weaker_yields (handler_seen events h) (λ next s. s.0)) []
+        hs in
+    let apart =
+        each_yields Apart handler_verdict (λ events h a. weaker_yields (handler_seen events h) (λ next s. s.1 a)) []
+        hs tt in
     let order = each_gathers (map Some) event_in handler_verdict
-      (λ events h. weaker_yields (Seen events h) (λ next. map Some next ≡ map Some events ++ event_in h) (handler_verdict events h) (handler_seen events h) (λ next s. s.2)) [] hs in
+      (λ events h. weaker_yields (handler_seen events h) (λ next s. s.2)) [] hs in
     record {
       ok = λ found e. record {
         matched = matched.ok found e;
@@ -102,9 +110,12 @@ handlers_fit hs =
 
 pub state_fits : (names : List (List ℕ)) (s : State) → Yields (λ n. Fitting s.handlers) (state_verdict names s)
 state_fits names s =
-    rest_yields (λ n. Fitting s.handlers) (must_verdict (not (is_some (nearest (spelled s.name) names))) (at DoubleName s.name.span)) _ (λ u.
-    then_yields (λ events. Fitting s.handlers) (λ n. Fitting s.handlers) (each_verdict handler_verdict [] s.handlers) _ (handlers_fit s.handlers) (λ events f.
-    gives_yields (λ (n : List (List ℕ)). Fitting s.handlers) (spelled s.name ∷ names) f))
+    rest_yields (must_verdict (not (is_some (nearest (spelled s.name) names))) (at DoubleName s.name.span)) (λ u.
+    then_yields (handlers_fit s.handlers) (λ events f.
+    gives_yields f))
+
+abbrev pub state_with : List EventRoutine → List ℕ → ProgramState
+state_with rs name = record { name = name; handlers = rs }
 
 -- a handler, and the handlers of a state, in a program that declares this
 pub record HandlerIn (known : KnownView) (globals : List Kind) (h : EventRoutine) : Type 0 where
@@ -125,10 +136,13 @@ module _ (known : KnownView) (globals : List Kind) (s : ScopeView) (have : Globa
   handler_made : (h : Handler) → Yields (Made h) (handler_routine_verdict known s h)
   handler_made h =
       let name = event_of (spelled h.name) in
-      then_yields (λ e. name ≡ Some e) (Made h) (the_one_verdict name (at WrongHandler h.name.span)) _ (the_one_yields (λ e. name ≡ Some e) name (at WrongHandler h.name.span) (λ e i. i)) (λ event e.
-      then_yields (RoutineOf known globals h.params None) (Made h) (body_verdict known s home.Handler h.name None h.params h.body) _ (body_yields known globals s have home.Handler h.name h.params h.body) (λ r p.
-      gives_yields (Made h) (record { event = event; routine = r })
-      (e, λ matched. record { routine = p.0; handler = record { params = ap (λ g. g.params) p.1 ∙ matched event e; result = ap (λ g. g.result) p.1 } })))
+      then_yields (entry_yields name (at WrongHandler h.name.span)) (λ event e.
+      then_yields (body_yields known globals s have home.Handler h.name h.params h.body) (λ r p.
+      gives_yields
+      (e, λ matched. record {
+        routine = p.0;
+        handler = record { params = ap (λ g. g.params) p.1 ∙ matched event e; result = ap (λ g. g.result) p.1 };
+      })))
 
   abbrev events_in : List EventRoutine → List (Option EventId)
   events_in rs = map (λ r. Some r.event) rs
@@ -137,31 +151,37 @@ module _ (known : KnownView) (globals : List Kind) (s : ScopeView) (have : Globa
   abbrev Next : List EventRoutine → Handler → List EventRoutine → Type 0
   Next before h rs = (IsMatched h → AreIn before → AreIn rs) × (events_in rs ≡ events_in before ++ event_in h)
 
-  next_made : (before : List EventRoutine) (h : Handler) → Yields (Next before h) (handler_body_verdict known s before h)
+  next_made : (before : List EventRoutine) (h : Handler)
+      → Yields (Next before h) (handler_body_verdict known s before h)
   next_made before h =
-      then_yields (Made h) (Next before h) (handler_routine_verdict known s h) _ (handler_made h) (λ r m.
-      gives_yields (Next before h) (before ++ r ∷ []) (
+      then_yields (handler_made h) (λ r m.
+      gives_yields (
         (λ matched b. All-push (HandlerIn known globals) before r b (m.1 matched)),
-        map-append (λ (r : EventRoutine). Some r.event) before (r ∷ []) ∙ ap (λ o. events_in before ++ o ∷ []) (sym m.0),
+        map-append (λ (r : EventRoutine). Some r.event) before (r ∷ [])
+          ∙ ap (λ o. events_in before ++ o ∷ []) (sym m.0),
       ))
 
   two_maps : (rs : List EventRoutine) → map Some (map (λ r. r.event) rs) ≡ events_in rs
   two_maps [] = refl
   two_maps (r ∷ rs) = ap (λ l. Some r.event ∷ l) (two_maps rs)
 
-  pub handlers_made : (hs : List Handler) → Fitting hs → Yields (λ rs. AreIn rs × ((name : List ℕ) → EventsDiffer (record { name = name; handlers = rs }))) (each_verdict (handler_body_verdict known s) [] hs)
+  pub handlers_made : (hs : List Handler) → Fitting hs
+      → Yields (λ rs. AreIn rs × ((name : List ℕ) → EventsDiffer (state_with rs name)))
+        (each_verdict (handler_body_verdict known s) [] hs)
   handlers_made hs fit =
-      let all = each_verdict (handler_body_verdict known s) [] hs in
       let kept = each_keeps IsMatched AreIn (handler_body_verdict known s)
-        (λ before h matched b. weaker_yields (Next before h) AreIn (handler_body_verdict known s before h) (next_made before h) (λ rs n. n.0 matched b)) [] hs fit.matched (All-nil (HandlerIn known globals)) in
+        (λ before h matched b. weaker_yields (next_made before h) (λ rs n. n.0 matched b)) [] hs fit.matched
+          (All-nil (HandlerIn known globals)) in
       let order = each_gathers events_in event_in (handler_body_verdict known s)
-        (λ before h. weaker_yields (Next before h) (λ rs. events_in rs ≡ events_in before ++ event_in h) (handler_body_verdict known s before h) (next_made before h) (λ rs n. n.1)) [] hs in
+        (λ before h. weaker_yields (next_made before h) (λ rs n. n.1)) [] hs in
       record {
-        ok = λ rs e. (kept.ok rs e, λ name. apart_pairs_by (λ (r : EventRoutine). r.event) rs (fit.apart (map (λ r. r.event) rs) (two_maps rs ∙ order.ok rs e)));
+        ok = λ rs e. (kept.ok rs e, λ name.
+          apart_pairs_by (λ (r : EventRoutine). r.event) rs
+            (fit.apart (map (λ r. r.event) rs) (two_maps rs ∙ order.ok rs e)));
       }
 
-  pub state_made : (st : State) → Fitting st.handlers → Yields (StateIn known globals) (program_state_verdict known s st)
+  pub state_made : (st : State) → Fitting st.handlers
+      → Yields (StateIn known globals) (program_state_verdict known s st)
   state_made st fit =
-      let all = each_verdict (handler_body_verdict known s) [] st.handlers in
-      then_yields (λ rs. AreIn rs × ((name : List ℕ) → EventsDiffer (record { name = name; handlers = rs }))) (StateIn known globals) all _ (handlers_made st.handlers fit) (λ rs h.
-      gives_yields (StateIn known globals) (record { name = st.name.text; handlers = rs }) (record { handlers = h.0; events = h.1 st.name.text }))
+      then_yields (handlers_made st.handlers fit) (λ rs h.
+      gives_yields (record { handlers = h.0; events = h.1 st.name.text }))

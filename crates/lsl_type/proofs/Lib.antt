@@ -25,5 +25,6 @@ pub mod Steps
 pub mod TableLemmas
 pub mod Top
 pub mod ValueKinds
+pub mod VariableKinds
 pub mod Walks
 pub mod Yielding

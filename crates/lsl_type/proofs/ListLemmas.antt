@@ -1,5 +1,5 @@
 -- Lists in which nothing stands twice.
-use Rattle.std.proofs.Common.{◌≡◌, ℕ, List, [], ◌∷◌, ◌++◌, map, refl, sym, ◌⊎◌, inl, inr, subst, arith}
+use Rattle.std.proofs.Common.{List, [], ◌∷◌, ◌++◌, map, sym, inl, inr, subst, arith}
 use Rattle.std.specs.Prelude.{◌≢◌, Contains, All}
 use Rattle.std.specs.List.{AllPairs}
 use Rattle.std.proofs.lemmas.List.Elements.{All-nil, All-cons, Contains-append_cases}
@@ -12,14 +12,17 @@ Apart (x ∷ xs) = (Contains xs x → ⊥) × Apart xs
 
 pub all_contained : {X : Type 0} (P : X → Type 0) (xs : List X) → ((x : X) → Contains xs x → P x) → All P xs
 all_contained P [] h = All-nil P
-all_contained P (x ∷ xs) h = All-cons P x xs (h x (Contains-head x xs)) (all_contained P xs (λ y c. h y (Contains-tail x y xs c)))
+all_contained P (x ∷ xs) h =
+    All-cons P x xs (h x (Contains-head x xs)) (all_contained P xs (λ y c. h y (Contains-tail x y xs c)))
 
 pub apart_pairs : {X : Type 0} (xs : List X) → Apart xs → AllPairs (λ a b. a ≢ b) xs
 apart_pairs [] h = λ i j d lt below. absurd (omega (arith, below))
 apart_pairs (x ∷ xs) h =
-    AllPairs-cons (λ a b. a ≢ b) x xs (all_contained (λ y. x ≢ y) xs (λ y c e. h.0 (subst (Contains xs) (sym e) c))) (apart_pairs xs h.1)
+    AllPairs-cons (λ a b. a ≢ b) x xs (all_contained (λ y. x ≢ y) xs (λ y c e. h.0 (subst (Contains xs) (sym e) c)))
+      (apart_pairs xs h.1)
 
-pub apart_append : {X : Type 0} (xs ys : List X) → Apart xs → Apart ys → ((x : X) → Contains xs x → Contains ys x → ⊥) → Apart (xs ++ ys)
+pub apart_append : {X : Type 0} (xs ys : List X) → Apart xs → Apart ys
+    → ((x : X) → Contains xs x → Contains ys x → ⊥) → Apart (xs ++ ys)
 apart_append [] ys a b h = b
 apart_append (x ∷ xs) ys a b h = (
   λ c. elim (Contains-append_cases xs ys x c) [ inl i ↦ a.0 i | inr j ↦ h x (Contains-head x xs) j ],
@@ -37,4 +40,5 @@ pub apart_pairs_by : {X Y : Type 0} (f : X → Y) (xs : List X) → Apart (map f
 apart_pairs_by f [] h = λ i j d lt below. absurd (omega (arith, below))
 apart_pairs_by f (x ∷ xs) h =
     AllPairs-cons (λ a b. f a ≢ f b) x xs
-    (all_contained (λ y. f x ≢ f y) xs (λ y c e. h.0 (subst (Contains (map f xs)) (sym e) (contains_map f xs y c)))) (apart_pairs_by f xs h.1)
+    (all_contained (λ y. f x ≢ f y) xs (λ y c e. h.0 (subst (Contains (map f xs)) (sym e) (contains_map f xs y c))))
+      (apart_pairs_by f xs h.1)

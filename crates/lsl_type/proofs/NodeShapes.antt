@@ -1,5 +1,5 @@
 -- Values of the right kinds have their shape.
-use Rattle.std.proofs.Common.{◌≡◌, ℕ, ◌+◌, true, Option, Some, None, List, [], ◌∷◌, length, reverse, refl, sym, ap, ◌∙◌, arith}
+use Rattle.std.proofs.Common.{◌≡◌, Option, Some, None, List, length, refl, sym, ap, ◌∙◌, arith}
 use Rattle.std.specs.Prelude.{is_some, All}
 use Rattle.std.proofs.lemmas.List.{length-reverse}
 use Rattle.std.proofs.lemmas.List.Elements.{All-weaker}
@@ -21,7 +21,8 @@ count_stack NoNode = refl
 count_stack (AndNode ts t) = omega (arith, count_stack ts)
 
 module _ (s : Scope) where
-  callee_shaped : (callee : Callee) (ts : Nodes) (result : Option Kind) → FitsCall s callee ts result → FitsCallee (outline_of s) callee (argument_count ts) (is_some result)
+  callee_shaped : (callee : Callee) (ts : Nodes) (result : Option Kind) → FitsCall s callee ts result
+      → FitsCallee (outline_of s) callee (argument_count ts) (is_some result)
   callee_shaped callee ts result (g, there, params, same) =
       (g, there, sym (length-reverse g.params) ∙ (ap length params ∙ count_stack ts), ap is_some same)
 

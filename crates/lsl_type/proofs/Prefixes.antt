@@ -1,5 +1,5 @@
 -- Lists that begin with another, in which it stays where it is.
-use Rattle.std.proofs.Common.{◌≡◌, ℕ, zero, suc, ◌+◌, ◌<◌, List, [], ◌∷◌, ◌++◌, length, take, Option, Some, None, refl, sym, ap, ◌∙◌, arith, append_assoc, append-nil, slice_get}
+use Rattle.std.proofs.Common.{◌≡◌, ℕ, zero, suc, List, [], ◌∷◌, ◌++◌, length, take, Some, refl, sym, ap, ◌∙◌, append_assoc, append-nil, slice_get}
 
 pub record Begins {X : Type 0} (xs all : List X) : Type 0 where
   pub rest : List X
@@ -26,7 +26,8 @@ get_between : {X : Type 0} (xs : List X) (x : X) (ys : List X) → slice_get (xs
 get_between [] x ys = refl
 get_between (y ∷ xs) x ys = get_between xs x ys
 
-pub begins_get : {X : Type 0} (xs all : List X) (i : ℕ) (x : X) → Begins xs all → slice_get xs i ≡ Some x → slice_get all i ≡ Some x
+pub begins_get : {X : Type 0} (xs all : List X) (i : ℕ) (x : X) → Begins xs all → slice_get xs i ≡ Some x
+    → slice_get all i ≡ Some x
 begins_get xs all i x b h = ap (λ l. slice_get l i) b.split ∙ get_before xs b.rest i x h
 
 pub get_last : {X : Type 0} (xs : List X) (x : X) → slice_get (xs ++ x ∷ []) (length xs) ≡ Some x
@@ -40,7 +41,8 @@ pub begins_take : {X : Type 0} (xs all : List X) (n : ℕ) → Begins xs all →
 begins_take xs all n b e = ap (λ m. take m all) e ∙ (ap (take (length xs)) b.split ∙ take_before xs b.rest)
 
 -- one more of a list
-pub take_next : {X : Type 0} (xs : List X) (n : ℕ) (x : X) → slice_get xs n ≡ Some x → take (suc n) xs ≡ take n xs ++ x ∷ []
+pub take_next : {X : Type 0} (xs : List X) (n : ℕ) (x : X) → slice_get xs n ≡ Some x
+    → take (suc n) xs ≡ take n xs ++ x ∷ []
 take_next [] n x h = absurd (cc)
 take_next (y ∷ xs) zero x h = let same : y ≡ x = cc in ap (λ z. z ∷ []) same
 take_next (y ∷ xs) (suc n) x h = ap (λ l. y ∷ l) (take_next xs n x h)

@@ -1,29 +1,32 @@
 -- A checked program has its kinds and its shape.
-use Rattle.std.proofs.Common.{◌≡◌, ℕ, ◌+◌, ◌≤◌, true, Option, Some, None, List, [], ◌∷◌, ◌++◌, map, length, refl, sym, ap, ◌∙◌, subst, arith, append-nil, not}
-use Rattle.std.specs.Prelude.{Ok, is_some, All}
+use Rattle.std.proofs.Common.{◌≡◌, ℕ, ◌+◌, Option, Some, None, List, [], ◌∷◌, ◌++◌, map, length, refl, sym, ap, ◌∙◌, subst, arith, append-nil, not}
+use Rattle.std.specs.Prelude.{is_some, All}
 use Rattle.std.proofs.lemmas.List.{map-append, length_push}
 use Rattle.std.proofs.lemmas.List.Elements.{All-nil, All-append, All-push, All-map, All-head, All-tail, All-weaker}
 use Rattle.lsl_value.specs.declared.tagged.Kind.{Kind}
+use Rattle.lsl_tree.specs.declared.expression.Name.{Name}
+use Rattle.lsl_tree.specs.declared.script.Param.{Param}
+use Rattle.lsl_tree.specs.Statements.{Items}
 use Rattle.lsl_tree.specs.Scripts as source
 use Rattle.lsl_tree.specs.Scripts.{Header, State, Tree}
 use Rattle.lsl_tree.specs.Program.{Routine, NamedRoutine, EventRoutine, ProgramState, Program}
 use Rattle.lsl_tree.specs.Signatures.{Signature, signature_of_routine, function_signatures, handlers_of, routines_of}
-use Rattle.lsl_tree.specs.Initials.{initial_kind_of, global_kinds}
+use Rattle.lsl_tree.specs.Initials.{initial_kind_of}
 use Rattle.lsl_tree.specs.Shape.{IsShapedRoutine, IsShaped}
-use Rattle.lsl_tree.specs.Kinded.{AreKindedActions, IsKindedRoutine, IsHandler, EventsDiffer, IsKinded}
+use Rattle.lsl_tree.specs.Kinded.{Scope, AreKindedActions, IsKindedRoutine, IsHandler, EventsDiffer, IsKinded}
 use Rattle.lsl_type.specs.declared.faults.TypeKind.TheVariants.{DoubleName}
 use Rattle.lsl_type.specs.declared.frame.Home.TheVariants as home
 use Rattle.lsl_type.specs.Names.{nearest}
 use Rattle.lsl_type.specs.Scope.{ScopeView, spelled}
-use Rattle.lsl_type.specs.Known.{HeadersView, KnownView, with_global, with_function, no_headers, known_from, kinds_of}
-use Rattle.lsl_type.specs.Conversions.{empty_initial}
+use Rattle.lsl_type.specs.Known.{HeadersView, KnownView, no_headers, known_from, kinds_of}
 use Rattle.lsl_type.specs.Spans.{initial_span}
 use Rattle.lsl_type.specs.Judgement.{at}
 use Rattle.lsl_type.specs.Verdict.{must_verdict, each_verdict}
 use Rattle.lsl_type.specs.HeaderVerdicts.{header_verdict, handler_verdict, state_verdict, is_unused, initial_verdict, initial_become_verdict, param_verdict}
-use Rattle.lsl_type.specs.ScriptVerdicts.{body_verdict, function_routine_verdict, function_body_verdict, handler_body_verdict, program_state_verdict, state_body_verdict, script_verdict}
+use Rattle.lsl_type.specs.ScriptVerdicts.{function_routine_verdict, function_body_verdict, handler_body_verdict, program_state_verdict, state_body_verdict, script_verdict}
 use Rattle.lsl_type.specs.ScriptRules.{default_name}
 use Rattle.lsl_type.proofs.Yielding.{Yields, gives_yields, then_yields, rest_yields, both_yield, weaker_yields, each_yields, each_keeps, each_shows, gathered, each_gathers, each_counts}
+use Rattle.lsl_type.proofs.KindSettings.{setting}
 use Rattle.lsl_type.proofs.GlobalKinds.{GlobalsIn, globals_have, headers_yield}
 use Rattle.lsl_type.proofs.RoutineKinds.{RoutineIn, RoutineOf, GlobalsHave, body_yields}
 use Rattle.lsl_type.proofs.HandlerKinds.{Fitting, handlers_fit, state_fits, HandlerIn, StateIn, handlers_made, state_made}
@@ -33,29 +36,26 @@ abbrev signatures_in : Header → List Signature
 signatures_in (source.Global k x v) = []
 signatures_in (source.Function k x params es) = record { params = kinds_of params; result = k } ∷ []
 
-header_declares : (h : HeadersView) (g : Header) → Yields (λ n. n.signatures ≡ h.signatures ++ signatures_in g) (header_verdict h g)
+header_declares : (h : HeadersView) (g : Header)
+    → Yields (λ n. n.signatures ≡ h.signatures ++ signatures_in g) (header_verdict h g)
 header_declares h (source.Global k x None) =
-    let Q = λ (n : HeadersView). n.signatures ≡ h.signatures ++ [] in
-    rest_yields Q (must_verdict (is_unused h x) (at DoubleName x.span)) _ (λ u.
-    gives_yields Q (with_global h (spelled x) k (empty_initial k)) (sym (append-nil h.signatures)))
+    rest_yields (must_verdict (is_unused h x) (at DoubleName x.span)) (λ u.
+    gives_yields (sym (append-nil h.signatures)))
 header_declares h (source.Global k x (Some v)) =
-    let Q = λ (n : HeadersView). n.signatures ≡ h.signatures ++ [] in
-    rest_yields Q (initial_verdict h.scope v) _ (λ found.
-    rest_yields Q (must_verdict (is_unused h x) (at DoubleName x.span)) _ (λ u.
-    rest_yields Q (initial_become_verdict k found (initial_span v)) _ (λ value.
-    gives_yields Q (with_global h (spelled x) k value) (sym (append-nil h.signatures)))))
+    rest_yields (initial_verdict h.scope v) (λ found.
+    rest_yields (must_verdict (is_unused h x) (at DoubleName x.span)) (λ u.
+    rest_yields (initial_become_verdict k found (initial_span v)) (λ value.
+    gives_yields (sym (append-nil h.signatures)))))
 header_declares h (source.Function k x params es) =
-    let Q = λ (n : HeadersView). n.signatures ≡ h.signatures ++ signatures_in (source.Function k x params es) in
-    rest_yields Q (must_verdict (is_unused h x) (at DoubleName x.span)) _ (λ u.
-    rest_yields Q (each_verdict param_verdict [] params) _ (λ names.
-    gives_yields Q (with_function h (spelled x) k params) refl))
+    rest_yields (must_verdict (is_unused h x) (at DoubleName x.span)) (λ u.
+    rest_yields (each_verdict param_verdict [] params) (λ names.
+    gives_yields refl))
 
 state_named : (names : List (List ℕ)) (s : State) → Yields (λ n. length n ≡ length names + 1) (state_verdict names s)
 state_named names s =
-    let Q = λ (n : List (List ℕ)). length n ≡ length names + 1 in
-    rest_yields Q (must_verdict (not (is_some (nearest (spelled s.name) names))) (at DoubleName s.name.span)) _ (λ u.
-    rest_yields Q (each_verdict handler_verdict [] s.handlers) _ (λ events.
-    gives_yields Q (spelled s.name ∷ names) (omega arith)))
+    rest_yields (must_verdict (not (is_some (nearest (spelled s.name) names))) (at DoubleName s.name.span)) (λ u.
+    rest_yields (each_verdict handler_verdict [] s.handlers) (λ events.
+    gives_yields (omega arith)))
 
 -- bodies, in a program that declares this
 module _ (known : KnownView) (globals : List Kind) (s : ScopeView) (have : GlobalsHave known globals s) where
@@ -65,55 +65,66 @@ module _ (known : KnownView) (globals : List Kind) (s : ScopeView) (have : Globa
   abbrev signatures_of : List NamedRoutine → List Signature
   signatures_of fs = map (λ f. signature_of_routine f.routine) fs
 
+  function_yields : (k : Option Kind) (x : Name) (params : List Param) (es : Items)
+      → Yields (λ f. RoutineOf known globals params k f.routine) (function_routine_verdict known s k x params es)
+  function_yields k x params es =
+      then_yields (body_yields known globals s have (home.Function k) x params es) (λ r p. gives_yields p)
+
   -- what a header adds to the functions
   abbrev Next : List NamedRoutine → Header → List NamedRoutine → Type 0
   Next before h fs = (Functions before → Functions fs) × (signatures_of fs ≡ signatures_of before ++ signatures_in h)
 
-  function_next : (before : List NamedRoutine) (h : Header) → Yields (Next before h) (function_body_verdict known s before h)
+  function_next : (before : List NamedRoutine) (h : Header)
+      → Yields (Next before h) (function_body_verdict known s before h)
   function_next before (source.Global k x v) =
-      gives_yields (Next before (source.Global k x v)) before ((λ b. b), sym (append-nil (signatures_of before)))
+      gives_yields ((λ b. b), sym (append-nil (signatures_of before)))
   function_next before (source.Function k x params es) =
-      let P = λ (f : NamedRoutine). RoutineOf known globals params k f.routine in
-      let Q = Next before (source.Function k x params es) in
-      then_yields P Q (function_routine_verdict known s k x params es) _
-      (then_yields (RoutineOf known globals params k) P (body_verdict known s (home.Function k) x k params es) _ (body_yields known globals s have (home.Function k) x params es) (λ r p.
-        gives_yields P (record { name = x.text; routine = r }) p)) (λ f p.
-      gives_yields Q (before ++ f ∷ []) (
+      then_yields (function_yields k x params es) (λ f p.
+      gives_yields (
         (λ b. All-push (λ f. RoutineIn known globals f.routine) before f b p.0),
-        map-append (λ (f : NamedRoutine). signature_of_routine f.routine) before (f ∷ []) ∙ ap (λ g. signatures_of before ++ g ∷ []) p.1,
+        map-append (λ (f : NamedRoutine). signature_of_routine f.routine) before (f ∷ [])
+        ∙ ap (λ g. signatures_of before ++ g ∷ []) p.1,
       ))
 
-  functions_yield : (hs : List Header) → Yields (λ fs. Functions fs × (signatures_of fs ≡ gathered signatures_in hs)) (each_verdict (function_body_verdict known s) [] hs)
+  functions_yield : (hs : List Header)
+      → Yields (λ fs. Functions fs × (signatures_of fs ≡ gathered signatures_in hs))
+        (each_verdict (function_body_verdict known s) [] hs)
   functions_yield hs =
       let step = function_body_verdict known s in
-      both_yield Functions (λ fs. signatures_of fs ≡ gathered signatures_in hs) (each_verdict step [] hs)
-      (each_yields Functions step (λ before h b. weaker_yields (Next before h) Functions (step before h) (function_next before h) (λ fs p. p.0 b)) [] hs (All-nil (λ f. RoutineIn known globals f.routine)))
+      both_yield
+      (each_yields Functions step (λ before h b. weaker_yields (function_next before h) (λ fs p. p.0 b)) [] hs
+        (All-nil (λ f. RoutineIn known globals f.routine)))
       (each_gathers signatures_of signatures_in step
-        (λ before h. weaker_yields (Next before h) (λ fs. signatures_of fs ≡ signatures_of before ++ signatures_in h) (step before h) (function_next before h) (λ fs p. p.1)) [] hs)
+        (λ before h. weaker_yields (function_next before h) (λ fs p. p.1)) [] hs)
 
   abbrev States : List ProgramState → Type 0
   States sts = All (StateIn known globals) sts
 
-  state_next : (before : List ProgramState) (st : State) → Fitting st.handlers → States before → Yields States (state_body_verdict known s before st)
+  state_next : (before : List ProgramState) (st : State) → Fitting st.handlers → States before
+      → Yields States (state_body_verdict known s before st)
   state_next before st fit b =
-      then_yields (StateIn known globals) States (program_state_verdict known s st) _ (state_made known globals s have st fit) (λ state p.
-      gives_yields States (before ++ state ∷ []) (All-push (StateIn known globals) before state b p))
+      then_yields (state_made known globals s have st fit) (λ state p.
+      gives_yields (All-push (StateIn known globals) before state b p))
 
-  state_counts : (before : List ProgramState) (st : State) → Yields (λ sts. length sts ≡ length before + 1) (state_body_verdict known s before st)
+  state_counts : (before : List ProgramState) (st : State)
+      → Yields (λ sts. length sts ≡ length before + 1) (state_body_verdict known s before st)
   state_counts before st =
-      let Q = λ (sts : List ProgramState). length sts ≡ length before + 1 in
-      rest_yields Q (program_state_verdict known s st) _ (λ state. gives_yields Q (before ++ state ∷ []) (length_push before state))
+      rest_yields (program_state_verdict known s st) (λ state. gives_yields (length_push before state))
 
-  states_yield : (first : ProgramState) (sts : List State) → StateIn known globals first → All (λ st. Fitting st.handlers) sts
-      → Yields (λ all. States all × (length all ≡ 1 + length sts)) (each_verdict (state_body_verdict known s) (first ∷ []) sts)
+  states_yield : (first : ProgramState) (sts : List State) → StateIn known globals first
+      → All (λ st. Fitting st.handlers) sts
+      → Yields (λ all. States all × (length all ≡ 1 + length sts))
+        (each_verdict (state_body_verdict known s) (first ∷ []) sts)
   states_yield first sts h fit =
       let step = state_body_verdict known s in
-      both_yield States (λ all. length all ≡ 1 + length sts) (each_verdict step (first ∷ []) sts)
-      (each_keeps (λ st. Fitting st.handlers) States step state_next (first ∷ []) sts fit (All-push (StateIn known globals) [] first (All-nil (StateIn known globals)) h))
+      both_yield
+      (each_keeps (λ st. Fitting st.handlers) States step state_next (first ∷ []) sts fit
+        (All-push (StateIn known globals) [] first (All-nil (StateIn known globals)) h))
       (each_counts length step state_counts (first ∷ []) sts)
 
 -- what holds of each handler of each state
-handlers_all : (P : EventRoutine → Type 0) (states : List ProgramState) → All (λ s. All P s.handlers) states → All P (handlers_of states)
+handlers_all : (P : EventRoutine → Type 0) (states : List ProgramState) → All (λ s. All P s.handlers) states
+    → All P (handlers_of states)
 handlers_all P [] h = All-nil P
 handlers_all P (s ∷ states) h =
     All-append P s.handlers (handlers_of states) (All-head (λ s. All P s.handlers) s states h)
@@ -123,26 +134,42 @@ handlers_all P (s ∷ states) h =
 abbrev pub IsSound : Program → Type 0
 IsSound p = IsShaped p × IsKinded p
 
-sound : (headers : HeadersView) (states : List (List ℕ)) (functions : List NamedRoutine) (all : List ProgramState) → GlobalsIn headers
+-- a routine that has its kinds in a program with such globals, functions and states
+abbrev KindedBy : List Kind → List Signature → ℕ → Routine → Type 0
+KindedBy globals functions states r =
+    let s : Scope =
+        record { globals = globals; functions = functions; states = states; slots = r.slots; result = r.kind } in
+    AreKindedActions s r.body
+
+sound : (headers : HeadersView) (states : List (List ℕ)) (functions : List NamedRoutine) (all : List ProgramState)
+    → GlobalsIn headers
     → map (λ f. signature_of_routine f.routine) functions ≡ headers.signatures → length all ≡ length states + 1
-    → All (λ f. RoutineIn (known_from headers states) (map initial_kind_of headers.globals) f.routine) functions → All (StateIn (known_from headers states) (map initial_kind_of headers.globals)) all
+    → All (λ f. RoutineIn (known_from headers states) (map initial_kind_of headers.globals) f.routine) functions
+    → All (StateIn (known_from headers states) (map initial_kind_of headers.globals)) all
     → IsSound (record { globals = headers.globals; functions = functions; states = all })
 sound headers states functions all globals signatures count fs sts =
     let p : Program = record { globals = headers.globals; functions = functions; states = all } in
     let known = known_from headers states in
     let kinds = map initial_kind_of headers.globals in
     let In = RoutineIn known kinds in
-    let handlers : All (HandlerIn known kinds) (handlers_of all) =
-      handlers_all (HandlerIn known kinds) all (All-weaker (StateIn known kinds) (λ s. All (HandlerIn known kinds) s.handlers) (λ s h. h.handlers) all sts) in
+    let Handled = HandlerIn known kinds in
+    let Stated = StateIn known kinds in
+    let handlers : All Handled (handlers_of all) =
+      handlers_all Handled all (All-weaker Stated (λ s. All Handled s.handlers) (λ s h. h.handlers) all sts) in
     let routines : All In (routines_of p) =
       All-append In (map (λ f. f.routine) functions) (map (λ h. h.routine) (handlers_of all))
       (All-map In (λ (f : NamedRoutine). f.routine) functions fs)
-      (All-map In (λ (h : EventRoutine). h.routine) (handlers_of all) (All-weaker (HandlerIn known kinds) (λ h. In h.routine) (λ h i. i.routine) (handlers_of all) handlers)) in
-    let events : All IsHandler (handlers_of all) = All-weaker (HandlerIn known kinds) IsHandler (λ h i. i.handler) (handlers_of all) handlers in
+      (All-map In (λ (h : EventRoutine). h.routine) (handlers_of all)
+        (All-weaker Handled (λ h. In h.routine) (λ h i. i.routine) (handlers_of all) handlers)) in
+    let events : All IsHandler (handlers_of all) =
+        All-weaker Handled IsHandler (λ h i. i.handler) (handlers_of all) handlers in
     (
       record {
         routines = All-weaker In (IsShapedRoutine (function_signatures p) (length all))
-          (λ r i. subst (λ g. IsShapedRoutine g (length all) r) (sym signatures) (subst (λ n. IsShapedRoutine headers.signatures n r) (sym count) i.shaped)) (routines_of p) routines;
+          (λ r i.
+            subst (λ g. IsShapedRoutine g (length all) r) (sym signatures)
+            (subst (λ n. IsShapedRoutine headers.signatures n r) (sym count) i.shaped))
+          (routines_of p) routines;
         handlers = All-weaker IsHandler (λ h. h.routine.kind ≡ None) (λ h i. i.result) (handlers_of all) events;
         states = omega (arith, count);
       },
@@ -150,34 +177,38 @@ sound headers states functions all globals signatures count fs sts =
         globals = globals.0;
         routines = All-weaker In (IsKindedRoutine p)
           (λ r i.
-            subst (λ g. AreKindedActions (record { globals = kinds; functions = g; states = length all; slots = r.slots; result = r.kind }) r.body) (sym signatures)
-            (subst (λ n. AreKindedActions (record { globals = kinds; functions = headers.signatures; states = n; slots = r.slots; result = r.kind }) r.body) (sym count) i.kinded))
+            subst (λ g. KindedBy kinds g (length all) r) (sym signatures)
+            (subst (λ n. KindedBy kinds headers.signatures n r) (sym count) i.kinded))
           (routines_of p) routines;
         handlers = events;
-        events = All-weaker (StateIn known kinds) EventsDiffer (λ s h. h.events) all sts;
+        events = All-weaker Stated EventsDiffer (λ s h. h.events) all sts;
       },
     )
 
 pub script_sound : (tree : Tree) → Yields IsSound (script_verdict tree)
 script_sound tree =
-    then_yields (λ h. GlobalsIn h × (h.signatures ≡ gathered signatures_in tree.headers)) IsSound (each_verdict header_verdict no_headers tree.headers) _
-    (both_yield GlobalsIn (λ h. h.signatures ≡ gathered signatures_in tree.headers) (each_verdict header_verdict no_headers tree.headers)
-      (headers_yield tree.headers) (each_gathers (λ h. h.signatures) signatures_in header_verdict header_declares no_headers tree.headers)) (λ headers declared.
-    then_yields (λ e. Fitting tree.default) IsSound (each_verdict handler_verdict [] tree.default) _ (handlers_fit tree.default) (λ events fit.
-    then_yields (λ n. All (λ st. Fitting st.handlers) tree.states × (length n ≡ 0 + length tree.states)) IsSound (each_verdict state_verdict [] tree.states) _
-    (both_yield (λ n. All (λ st. Fitting st.handlers) tree.states) (λ n. length n ≡ 0 + length tree.states) (each_verdict state_verdict [] tree.states)
-      (each_shows (λ st. Fitting st.handlers) state_verdict state_fits [] tree.states) (each_counts length state_verdict state_named [] tree.states)) (λ states named.
+    then_yields
+    (both_yield
+      (headers_yield tree.headers)
+      (each_gathers (λ h. h.signatures) signatures_in header_verdict header_declares no_headers tree.headers))
+        (λ headers declared.
+    then_yields (handlers_fit tree.default) (λ events fit.
+    then_yields
+    (both_yield
+      (each_shows (λ st. Fitting st.handlers) state_verdict state_fits [] tree.states)
+      (each_counts length state_verdict state_named [] tree.states)) (λ states named.
     let known = known_from headers states in
     let kinds = map initial_kind_of headers.globals in
     let s = headers.scope in
-    let have : GlobalsHave known kinds s = λ slots home. globals_have (record { known = known; globals = kinds; slots = slots; home = home }) s.variables declared.0.1 in
-    then_yields (λ fs. All (λ f. RoutineIn known kinds f.routine) fs × (map (λ f. signature_of_routine f.routine) fs ≡ gathered signatures_in tree.headers)) IsSound
-    (each_verdict (function_body_verdict known s) [] tree.headers) _ (functions_yield known kinds s have tree.headers) (λ functions f.
+    let have : GlobalsHave known kinds s =
+        λ slots home. globals_have (setting known kinds slots home) s.variables declared.0.1 in
+    then_yields (functions_yield known kinds s have tree.headers) (λ functions f.
     let handlers = each_verdict (handler_body_verdict known s) [] tree.default in
-    then_yields (λ rs. All (HandlerIn known kinds) rs × ((name : List ℕ) → EventsDiffer (record { name = name; handlers = rs }))) IsSound handlers _
+    then_yields
     (handlers_made known kinds s have tree.default fit) (λ start h.
     let first : ProgramState = record { name = default_name; handlers = start } in
-    then_yields (λ all. All (StateIn known kinds) all × (length all ≡ 1 + length tree.states)) IsSound (each_verdict (state_body_verdict known s) (first ∷ []) tree.states) _
-    (states_yield known kinds s have first tree.states (record { handlers = h.0; events = h.1 default_name }) named.0) (λ all a.
-    gives_yields IsSound (record { globals = headers.globals; functions = functions; states = all })
+    then_yields
+    (states_yield known kinds s have first tree.states (record { handlers = h.0; events = h.1 default_name })
+      named.0) (λ all a.
+    gives_yields
     (sound headers states functions all declared.0 (f.1 ∙ sym declared.1) (omega (arith, a.1, named.1)) f.0 a.0)))))))

@@ -1,5 +1,5 @@
 -- Checked routines have their kinds and their shape.
-use Rattle.std.proofs.Common.{◌≡◌, ℕ, ◌+◌, ◌≤◌, true, Option, Some, None, List, [], ◌∷◌, ◌++◌, map, length, take, refl, sym, ap, ◌∙◌, subst, arith, length-append, append-nil, append_assoc}
+use Rattle.std.proofs.Common.{◌≡◌, ℕ, ◌+◌, true, Option, Some, None, List, [], ◌∷◌, ◌++◌, length, refl, sym, ap, ◌∙◌, subst, arith, length-append, append-nil, append_assoc}
 use Rattle.std.specs.Prelude.{Ok, is_some}
 use Rattle.std.proofs.lemmas.List.{length-map}
 use Rattle.lsl_value.specs.declared.tagged.Kind.{Kind}
@@ -20,8 +20,8 @@ use Rattle.lsl_type.specs.ActionForms.{ended, home_kind}
 use Rattle.lsl_type.specs.ActionVerdicts.{items_verdict}
 use Rattle.lsl_type.specs.ScriptVerdicts.{body_verdict}
 use Rattle.lsl_type.proofs.Yielding.{Yields, gives_yields, then_yields, itself}
-use Rattle.lsl_type.proofs.Prefixes.{Begins, begins_take}
-use Rattle.lsl_type.proofs.KindSettings.{Setting, scope_in, HaveKinds, locals_have}
+use Rattle.lsl_type.proofs.Prefixes.{Begins, begins_itself, begins_take}
+use Rattle.lsl_type.proofs.KindSettings.{Setting, setting, scope_in, HaveKinds, locals_have}
 use Rattle.lsl_type.proofs.CallKinds.{empty_kind}
 use Rattle.lsl_type.proofs.NodeShapes.{outline_of, node_shaped}
 use Rattle.lsl_type.proofs.ActionKinds.{ActionsIn, items_yield}
@@ -48,45 +48,65 @@ locals_labels f (p ∷ ps) = locals_labels (with_local f (spelled p.name) p.kind
 
 locals_slots : (f : FrameView) (ps : List Param) → (with_locals f ps).slots ≡ f.slots ++ kinds_of ps
 locals_slots f [] = sym (append-nil f.slots)
-locals_slots f (p ∷ ps) = locals_slots (with_local f (spelled p.name) p.kind) ps ∙ append_assoc f.slots (p.kind ∷ []) (kinds_of ps)
+locals_slots f (p ∷ ps) =
+    locals_slots (with_local f (spelled p.name) p.kind) ps ∙ append_assoc f.slots (p.kind ∷ []) (kinds_of ps)
 
 abbrev resting : ScopeView → FrameView
 resting s = record { scope = s; slots = []; labels = []; passed = []; first_variable = 0; first_label = 0 }
 
 -- the empty value that a body ends with
-ended_kinds : (c : Setting) (o : Option Kind) → home_kind c.home ≡ o → (xs : Actions) → ActionsIn c xs → ActionsIn c (ended o xs)
+ended_kinds : (c : Setting) (o : Option Kind) → home_kind c.home ≡ o → (xs : Actions) → ActionsIn c xs
+    → ActionsIn c (ended o xs)
 ended_kinds c None e xs h = h
 ended_kinds c (Some k) e xs h = let n = empty_kind c k in (h, (e ∙ ap Some (sym n.0), n.1))
 
-ended_shape : (c : Setting) (o : Option Kind) → home_kind c.home ≡ o → (xs : Actions) → IsShapedAction (outline_of (scope_in c)) [] (action.Block xs)
+ended_shape : (c : Setting) (o : Option Kind) → home_kind c.home ≡ o → (xs : Actions)
+    → IsShapedAction (outline_of (scope_in c)) [] (action.Block xs)
     → IsShapedAction (outline_of (scope_in c)) [] (action.Block (ended o xs))
 ended_shape c None e xs h = h
-ended_shape c (Some k) e xs h = (h.0, (h.1, (ap is_some e, node_shaped (scope_in c) (empty_node k) (empty_kind c k).1)))
+ended_shape c (Some k) e xs h =
+    (h.0, (h.1, (ap is_some e, node_shaped (scope_in c) (empty_node k) (empty_kind c k).1)))
 
 ended_ends : (o : Option Kind) (xs : Actions) → is_some o ≡ true → ends_with_value (ended o xs) ≡ true
 ended_ends None xs h = absurd (cc)
 ended_ends (Some k) xs h = refl
 
+abbrev signature : Option Kind → List Kind → Signature
+signature result params = record { params = params; result = result }
+
 -- a routine, and what is called by its name
 abbrev pub RoutineOf : KnownView → List Kind → List Param → Option Kind → Routine → Type 0
-RoutineOf known globals params kind r = RoutineIn known globals r × (signature_of_routine r ≡ record { params = kinds_of params; result = kind })
+RoutineOf known globals params kind r =
+    RoutineIn known globals r × (signature_of_routine r ≡ signature kind (kinds_of params))
 
 -- the globals in sight have these kinds, whatever the slots are
 abbrev pub GlobalsHave : KnownView → List Kind → ScopeView → Type 0
 GlobalsHave known globals s =
-    (slots : List Kind) (home : Home) → HaveKinds (record { known = known; globals = globals; slots = slots; home = home }) s.variables
+    (slots : List Kind) (home : Home) → HaveKinds (setting known globals slots home) s.variables
 
 module _ (known : KnownView) (globals : List Kind) (s : ScopeView) (have : GlobalsHave known globals s) (home : Home) where
-  routine_made : (line : ℕ) (params : List Param) (es : Items) (inner : Actions × FrameView) → items_verdict known home (opened (entered s params) es) es ≡ Ok inner
-      → RoutineOf known globals params (home_kind home) (record { line = line; kind = home_kind home; params = length params; slots = inner.1.slots; body = ended (home_kind home) inner.0 })
+  -- the routine of a body that stands for this
+  abbrev made : ℕ → List Param → Actions × FrameView → Routine
+  made line params inner = record {
+    line = line;
+    kind = home_kind home;
+    params = length params;
+    slots = inner.1.slots;
+    body = ended (home_kind home) inner.0;
+  }
+
+  routine_made : (line : ℕ) (params : List Param) (es : Items) (inner : Actions × FrameView)
+      → items_verdict known home (opened (entered s params) es) es ≡ Ok inner
+      → RoutineOf known globals params (home_kind home) (made line params inner)
   routine_made line params es inner e =
       let slots = inner.1.slots in
-      let c : Setting = record { known = known; globals = globals; slots = slots; home = home } in
+      let c = setting known globals slots home in
       let p = (items_yield c (opened (entered s params) es) es).ok inner e in
       let kinds : ActionsIn c inner.0 =
-        (p.1 (locals_have c (resting s) params (have slots home) p.0) (record { rest = []; split = sym (append-nil slots) })).0 in
+        (p.1 (locals_have c (resting s) params (have slots home) p.0) (begins_itself slots)).0 in
       let shape = body_shaped c (entered s params) es inner (locals_labels (resting s) params) e kinds in
-      let first : Begins (kinds_of params) slots = subst (λ l. Begins l slots) (locals_slots (resting s) params) p.0 in
+      let first : Begins (kinds_of params) slots =
+          subst (λ l. Begins l slots) (locals_slots (resting s) params) p.0 in
       let count : length params ≡ length (kinds_of params) = sym (length-map params (λ q. q.kind)) in
       (
         record {
@@ -97,11 +117,12 @@ module _ (known : KnownView) (globals : List Kind) (s : ScopeView) (have : Globa
             params = omega (arith, count, ap length first.split, length-append (kinds_of params) first.rest);
           };
         },
-        ap (λ ps. let g : Signature = record { params = ps; result = home_kind home } in g) (begins_take (kinds_of params) slots (length params) first count),
+        ap (signature (home_kind home)) (begins_take (kinds_of params) slots (length params) first count),
       )
 
-  pub body_yields : (x : Name) (params : List Param) (es : Items) → Yields (RoutineOf known globals params (home_kind home)) (body_verdict known s home x (home_kind home) params es)
+  pub body_yields : (x : Name) (params : List Param) (es : Items)
+      → Yields (RoutineOf known globals params (home_kind home))
+        (body_verdict known s home x (home_kind home) params es)
   body_yields x params es =
       let items = items_verdict known home (opened (entered s params) es) es in
-      let Q = RoutineOf known globals params (home_kind home) in
-      then_yields (λ r. items ≡ Ok r) Q items _ (itself items) (λ inner e. gives_yields Q _ (routine_made x.span.line params es inner e))
+      then_yields (itself items) (λ inner e. gives_yields (routine_made x.span.line params es inner e))
