@@ -1,4 +1,4 @@
--- The steps of the pass over a draft.
+-- The steps of the pass over code.
 use Rattle.std.proofs.Common.{◌≡◌, ℕ, zero, suc, ◌+◌, ◌<◌, ◌≤◌, List, [], ◌∷◌, ◌++◌, length, map, take, drop, reverse, get_or, Option, Some, None, option_map, Bool, true, false, cond, refl, sym, ap, ap₂, ◌∙◌, subst, arith, slice_get, slice_set, append_assoc, length-append, add-zero, add-one, drop-cons}
 use Rattle.std.specs.Prelude.{not, ◌&&◌, nat_eq, nat_lt, nat_le, is_some, is_none, max, option_and_then}
 use Rattle.std.proofs.Math.Seq.{get_or-append_seam}
@@ -54,8 +54,8 @@ list_step s i n old dropped new is some d e =
     ap Some (e ∙ ap (λ l. kind.List ∷ l) d)
     ∙ sym (ap (λ i. behind s i old) is ∙ ap (option_map (λ rest. kind.List ∷ rest)) (gather_drop n old (some_map (λ rest. kind.List ∷ rest) (gather n old) some')))
 
-pub call_step : (s : Scope) (i : Instr) (f p n : ℕ) (g : Signature) (old dropped new : List Kind) → i ≡ Call f p → is_some (behind s i old) ≡ true → slice_get s.functions f ≡ Some g → n ≡ length g.params → dropped ≡ drop n old → new ≡ pushed g.result dropped → Some new ≡ behind s i old
-call_step s i f p n g old dropped new is some there len d e =
-    let some' : is_some (called (Some g) old) ≡ true = ap (λ o. is_some (called o old)) (sym there) ∙ ap (λ i. is_some (behind s i old)) (sym is) ∙ some in
+pub call_step : (o : Option Signature) (n : ℕ) (g : Signature) (old dropped new : List Kind) → is_some (called o old) ≡ true → o ≡ Some g → n ≡ length g.params → dropped ≡ drop n old → new ≡ pushed g.result dropped → Some new ≡ called o old
+call_step o n g old dropped new some there len d e =
+    let some' : is_some (called (Some g) old) ≡ true = ap (λ o. is_some (called o old)) (sym there) ∙ some in
     ap Some (e ∙ ap (pushed g.result) (d ∙ ap (λ n. drop n old) (len ∙ sym (length-reverse g.params))))
-    ∙ sym (ap (λ i. behind s i old) is ∙ ap (λ o. called o old) there ∙ ap (option_map (pushed g.result)) (strip_drop (reverse g.params) old (some_map (pushed g.result) (strip (reverse g.params) old) some')))
+    ∙ sym (ap (λ o. called o old) there ∙ ap (option_map (pushed g.result)) (strip_drop (reverse g.params) old (some_map (pushed g.result) (strip (reverse g.params) old) some')))

@@ -1,5 +1,5 @@
 -- From a draft of a function's code, which has lines where the points are to stand, to the function.
-use Rattle.std.specs.Prelude.{ℕ, zero, suc, List, [], ◌∷◌, ◌++◌, Option, Some, None, max, length, take, reverse, slice_get}
+use Rattle.std.specs.Prelude.{◌≡◌, Bool, true, false, map, ℕ, zero, suc, List, [], ◌∷◌, ◌++◌, Option, Some, None, max, length, take, reverse, slice_get}
 use Rattle.lsl_value.specs.declared.tagged.Kind.{Kind}
 use Rattle.lsl_code.specs.declared.instructions.Instr.{Instr}
 use Rattle.lsl_code.specs.declared.instructions.Instr.TheVariants.{Tick, Call}
@@ -7,6 +7,7 @@ use Rattle.lsl_code.specs.declared.functions.Point.{Point}
 use Rattle.lsl_code.specs.declared.functions.FunctionCode.{FunctionCode}
 use Rattle.lsl_code.specs.Effects.{behind, waiting}
 use Rattle.lsl_code.specs.Kinds.{Scope}
+use Rattle.lsl_code.specs.Wholes.{with_line}
 
 -- the instruction with its point, where this is the first free one
 abbrev pub pointed : Instr → ℕ → Instr
@@ -35,6 +36,19 @@ numbered (i ∷ is) point = pointed i point ∷ numbered is (next_point i point)
 abbrev pub lines_of : List Instr → List ℕ
 lines_of [] = []
 lines_of (i ∷ is) = line_before i (lines_of is)
+
+-- code with lines in place of points
+abbrev pub drafted : List ℕ → List Instr → List Instr
+drafted lines code = map (with_line lines) code
+
+-- the points of the code are numbered in order, and these are their lines
+abbrev pub IsNumbered : List ℕ → List Instr → Type 0
+IsNumbered lines code = (code ≡ numbered (drafted lines code) 0) × (lines ≡ lines_of (drafted lines code))
+
+abbrev pub carries_point : Instr → Bool
+carries_point (Tick point) = true
+carries_point (Call f point) = true
+carries_point i = false
 
 abbrev pub or_empty : Option (List Kind) → List Kind
 or_empty None = []

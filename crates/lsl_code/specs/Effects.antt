@@ -98,7 +98,11 @@ abbrev pub runs : Scope → List Instr → List Kind → Option (List Kind)
 runs s [] ks = Some ks
 runs s (i ∷ is) ks = option_and_then (runs s is) (behind s i ks)
 
+-- how many arguments a function takes
+abbrev pub arguments_of : Option Signature → ℕ
+arguments_of None = 0
+arguments_of (Some g) = length g.params
+
 -- the operands that wait at a call
 abbrev pub waiting : Option Signature → List Kind → List Kind
-waiting None ks = ks
-waiting (Some g) ks = drop (length g.params) ks
+waiting g ks = drop (arguments_of g) ks

@@ -4,6 +4,7 @@ pub mod Drafts
 pub mod Effects
 pub mod Fits
 pub mod Forward
+pub mod Kinded
 pub mod Kinds
 pub mod Laws
 pub mod Machine

@@ -2,13 +2,19 @@
 //! (in `specs/`). Nothing here runs a unit.
 #![tactic(auto)]
 
+mod drafts;
+mod effects;
+mod finishing;
 mod functions;
 mod instructions;
+mod kind_stack;
 pub mod laws;
 mod sequence;
 mod signatures;
 mod units;
 
+pub use crate::drafts::Draft;
+pub use crate::finishing::finish;
 pub use crate::functions::{FunctionCode, Handler, Point, StateCode};
 pub use crate::instructions::Instr;
 pub use crate::sequence::Sequence;

@@ -1,6 +1,6 @@
 //! The lists that code is made of.
 
-ghost use Rattle.std.specs.Prelude.{◌≡◌, [], ◌∷◌, ◌++◌, length, OnOk, OnErr};
+ghost use Rattle.std.specs.Prelude.{◌≡◌, [], ◌∷◌, ◌++◌, length, take, slice_get, option_copied, IfOk, OnOk, OnErr};
 
 use lsl_text::NoMemory;
 use std::alloc::Global;
@@ -58,6 +58,13 @@ impl<T> Sequence<T> {
     {
         self.list.len()
     }
+
+    /// The element at this place, if there is one. Takes no memory.
+    pub fn get(&self, place: usize) -> Option<&T>
+        ensures { option_copied result ≡ slice_get self.now place }
+    {
+        self.list.get(place)
+    }
 }
 
 impl<T: Drop> Sequence<T> {
@@ -68,5 +75,17 @@ impl<T: Drop> Sequence<T> {
     {
         self.list.push(element)?;
         Ok(())
+    }
+}
+
+impl<T: Copy> Sequence<T> {
+    /// The first so many elements, or all where there are fewer.
+    pub fn first(&self, alloc: Global, count: usize) -> Result<Sequence<T>, NoMemory>
+        ensures { IfOk result (λ s. s ≡ take count self.now) }
+    {
+        let end = count.min(self.list.len());
+        let mut list = Vec::new(alloc);
+        list.extend_from_slice(&self.list[..end])?;
+        Ok(Sequence { list })
     }
 }

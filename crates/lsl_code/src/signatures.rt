@@ -1,5 +1,8 @@
 //! What the functions of a unit take and give, and what can be named in them.
 
+ghost use Rattle.std.specs.Prelude.{◌≡◌, slice_get};
+ghost use Rattle.lsl_code.specs.Effects.{arguments_of};
+
 use crate::sequence::Sequence;
 use lsl_value::Kind;
 
@@ -16,4 +19,16 @@ pub struct Names {
     pub globals: Sequence<Kind>,
     pub functions: Sequence<Signature>,
     pub states: usize,
+}
+
+impl Names {
+    /// How many arguments a function takes, and 0 where there is no such function. Takes no memory.
+    pub fn argument_count(&self, function: u16) -> usize
+        ensures { result ≡ arguments_of (slice_get self.now.functions function) }
+    {
+        match self.functions.get(function as usize) {
+            Some(signature) => signature.params.len(),
+            None => 0,
+        }
+    }
 }

@@ -1,0 +1,145 @@
+//! From drafts to functions.
+
+ghost use Rattle.std.specs.Prelude.{◌≡◌, ◌<◌, Option, IsTrue, is_some, OnOk, IfOk, [], ◌++◌, length, max, reverse, drop};
+ghost use Rattle.lsl_code.specs.Drafts.{scan, point_before, maps, most_of, finished};
+ghost use Rattle.lsl_code.specs.Effects.{runs};
+ghost use Rattle.lsl_code.specs.Kinds.{scope};
+ghost use Rattle.lsl_value.specs.declared.tagged.Kind.{Kind as AKind};
+
+use crate::drafts::Draft;
+use crate::effects::step;
+use crate::functions::{FunctionCode, Point};
+use crate::instructions::Instr;
+use crate::kind_stack::KindStack;
+use crate::sequence::Sequence;
+use crate::signatures::Names;
+use lsl_text::NoMemory;
+use lsl_value::{Kind, Text};
+use std::alloc::{AllocError, Global};
+
+// What one pass over code finds: the points, the kinds of the operands before each instruction, and the greatest count of them.
+#[derive(Drop)]
+struct Shapes {
+    points: Sequence<Point>,
+    stacks: Sequence<Sequence<Kind>>,
+    most: u32,
+}
+
+/// The function of a draft, with these slots, of which the first so many are parameters, and a value of this kind. Want of
+/// memory also where a draft is as long as 4,294,967,296 instructions.
+pub fn finish(
+    alloc: Global,
+    names: &Names,
+    name: Text,
+    slots: Sequence<Kind>,
+    gives: Option<Kind>,
+    params: usize,
+    draft: Draft,
+) -> Result<FunctionCode, NoMemory>
+    requires { IsTrue (is_some (runs (scope names.now slots gives) draft [])) }
+    ensures ok { IfOk result (λ f. f ≡ finished name (scope names.now slots gives) params draft) }
+    ensures short { OnOk result (length draft < 4294967296) }
+{
+    let (code, lines) = draft.into_parts();
+    let size = short_count(code.len())?;
+    let shapes = shapes_of(alloc, names, &slots, gives, &code)?;
+    let params = slots.first(alloc, params)?;
+    Ok(FunctionCode {
+        name,
+        params,
+        slots,
+        result: gives,
+        most: shapes.most,
+        points: shapes.points,
+        lines: Sequence::from_vec(lines),
+        code: Sequence::from_vec(code),
+        stacks: shapes.stacks,
+    })
+}
+
+// The count as a short one.
+fn short_count(n: usize) -> Result<u32, NoMemory>
+    ensures { IfOk result (λ m. m ≡ n) }
+{
+    match u32::try_from(n) {
+        Ok(m) => Ok(m),
+        Err(_) => Err(AllocError),
+    }
+}
+
+// One pass over the code.
+fn shapes_of(
+    alloc: Global,
+    names: &Names,
+    slots: &Sequence<Kind>,
+    gives: Option<Kind>,
+    code: &Vec<Instr>,
+) -> Result<Shapes, NoMemory>
+    requires { IsTrue (is_some (runs (scope names.now slots.now gives) code.now.items [])) }
+    ensures points { IfOk result (λ r. r.points ≡ maps (scope names.now slots.now gives) code.now.items []) }
+    ensures stacks { IfOk result (λ r. r.stacks ≡ scan (scope names.now slots.now gives) code.now.items []) }
+    ensures most { IfOk result (λ r. r.most ≡ most_of (scan (scope names.now slots.now gives) code.now.items [])) }
+{
+    let mut stack = KindStack::new(alloc);
+    let mut points = Sequence::new(alloc);
+    let mut stacks = Sequence::new(alloc);
+    let mut most = 0;
+    for instr in code.as_slice() {
+        add_point(alloc, names, slots, instr, &stack, &mut points)?;
+        most = most.max(stack.len());
+        stacks.push(stack.listed(alloc)?)?;
+        step(names, slots, gives, instr, &mut stack)?;
+    }
+    let most = short_count(most)?;
+    Ok(Shapes {
+        points,
+        stacks,
+        most,
+    })
+}
+
+// Adds the point of an instruction, if it has one.
+fn add_point(
+    alloc: Global,
+    names: &Names,
+    slots: &Sequence<Kind>,
+    instr: &Instr,
+    stack: &KindStack,
+    points: &mut Sequence<Point>,
+) -> Result<(), NoMemory>
+    ensures { (gives : Option AKind) → OnOk result (points.new ≡ points.old ++ point_before (scope names.now slots.now gives) instr.now stack.now []) }
+{
+    match instr {
+        Instr::Tick(_) => {
+            let kinds = map_of(alloc, slots, stack, 0)?;
+            points.push(Point { kinds, calls: None })?;
+            Ok(())
+        }
+        Instr::Call(f, _) => {
+            let taken = names.argument_count(*f);
+            let kinds = map_of(alloc, slots, stack, taken)?;
+            points.push(Point {
+                kinds,
+                calls: Some(*f),
+            })?;
+            Ok(())
+        }
+        _ => Ok(()),
+    }
+}
+
+// The map of a point at which so many operands are taken.
+fn map_of(
+    alloc: Global,
+    slots: &Sequence<Kind>,
+    stack: &KindStack,
+    taken: usize,
+) -> Result<Sequence<Kind>, NoMemory>
+    ensures { IfOk result (λ kinds. kinds ≡ slots.now ++ reverse (drop taken stack.now)) }
+{
+    let waiting = stack.below(alloc, taken)?;
+    let mut kinds = Vec::new(alloc);
+    kinds.extend_from_slice(slots.as_slice())?;
+    kinds.extend_from_slice(waiting.as_slice())?;
+    Ok(Sequence::from_vec(kinds))
+}
