@@ -95,7 +95,7 @@ module _ (bodies : List Body) (fw : Forward bodies) (f pc : ℕ) where
   by_due i (Enters j ns rest) by e h flat = enter_due i j by.0 by.2 by.1 by.3 flat
   by_due i (Leaves o) by e h flat = tt
   by_due i Passes by e h flat = tt
-  by_due i (Asks id args rest) by e h flat = host_due i by e flat
+  by_due i (Asks id args rest) by e h flat = host_due i (ap is_host by) e flat
   by_due i (Ends s) by e h flat = tt
   by_due i (Fails x) by e h flat = tt
   by_due i Stuck by e h flat = tt

@@ -1,3 +1,4 @@
+pub mod ActKinds
 pub mod Acts
 pub mod Asked
 pub mod Asking
@@ -5,6 +6,7 @@ pub mod Due
 pub mod FewCalls
 pub mod Further
 pub mod Keeping
+pub mod MachineKinds
 pub mod Made
 pub mod Numbering
 pub mod Passes

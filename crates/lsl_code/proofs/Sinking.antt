@@ -98,7 +98,7 @@ module _ (bodies : List Body) (fw : Forward bodies) (f pc : ℕ) (lt : pc < leng
   by_sinks i (Enters j ns rest) by h flat = enter_sinks i j by.0 by.2 by.1 by.3 flat
   by_sinks i (Leaves o) by h flat = leave_sinks i by
   by_sinks i Passes by h flat = tt
-  by_sinks i (Asks id args rest) by h flat = straight_sinks i (host_straight i by) flat
+  by_sinks i (Asks id args rest) by h flat = straight_sinks i (host_straight i (ap is_host by)) flat
   by_sinks i (Ends s) by h flat = tt
   by_sinks i (Fails x) by h flat = tt
   by_sinks i Stuck by h flat = tt

@@ -1,6 +1,7 @@
 //! Laws of code and of its runs.
 
 ghost use Rattle.lsl_code.specs.Laws.{IsStepAndRun, MoreTicks, MoreAnswers, AsksSoOften};
+ghost use Rattle.lsl_code.specs.Kinded.{BeginsKinded, NothingIsStuck};
 ghost use Rattle.lsl_code.specs.WellFormed.{FitsTells};
 
 /// Where control goes back only behind ticks, a run is one step, and the run from there.
@@ -27,4 +28,11 @@ pub fn a_segment_asks_so_often()
 /// stands once, and each handler is a function with its event's parameters.
 pub fn units_are_well_formed()
     ensures { FitsTells }
+{}
+
+/// A machine of a unit never meets a missing or a wrong operand, where the answers are of their calls' kinds: each step leads
+/// to a machine whose kinds are right, and no run is lost. The machine in which a handler begins is such a one.
+pub fn nothing_is_stuck()
+    ensures step { NothingIsStuck }
+    ensures beginning { BeginsKinded }
 {}
