@@ -63,6 +63,19 @@ abbrev pub events_differ : List Handler → Bool
 events_differ [] = true
 events_differ (h ∷ hs) = not (has_event h.event hs) && events_differ hs
 
+-- the function of an event's handler
+abbrev pub handler_in : List Handler → EventId → Option ℕ
+handler_in [] e = None
+handler_in (h ∷ hs) e = cond (same_event h.event e) (Some h.function) (handler_in hs e)
+
+abbrev pub handler_at : Option StateCode → EventId → Option ℕ
+handler_at None e = None
+handler_at (Some s) e = handler_in s.handlers e
+
+-- and of one in the state of this number
+abbrev pub handler_of : List StateCode → ℕ → EventId → Option ℕ
+handler_of states n e = handler_at (slice_get states n) e
+
 abbrev pub state_fits : List Body → ℕ → StateCode → Bool
 state_fits bodies n s = all_places (handler_fits bodies) 0 s.handlers && events_differ s.handlers
 
