@@ -1,48 +1,34 @@
 -- A step of a well-formed unit's machine leads from right kinds to right kinds.
-use Rattle.std.proofs.Common.{◌≡◌, ℕ, zero, suc, ◌+◌, ◌<◌, ◌≤◌, List, [], ◌∷◌, ◌++◌, length, map, take, drop, reverse, get_or, Option, Some, None, option_map, Bool, true, false, cond, refl, sym, ap, ap₂, ◌∙◌, subst, arith, slice_get, slice_set, append_assoc, length-append, add-zero, add-one, drop-cons}
-use Rattle.std.specs.Prelude.{not, ◌&&◌, nat_eq, nat_lt, nat_le, is_some, is_none, max, option_and_then}
-use Rattle.std.proofs.Math.Seq.{get_or-append_seam}
-use Rattle.std.proofs.lemmas.Bool.Decides.{nat_tests}
-use Rattle.std.proofs.lemmas.List.{length-reverse, reverse-reverse, take-append-drop}
-use Rattle.std.proofs.lemmas.Option.{slice_get-map, slice_get_within}
-use Rattle.lsl_value.specs.OperatorRows.{result_kind_of, casts_of}
+use Rattle.std.proofs.Common.{◌≡◌, ℕ, zero, suc, ◌+◌, ◌<◌, List, [], ◌∷◌, ◌++◌, length, map, take, drop, Option, Some, None, option_map, true, false, cond, refl, sym, ap, ap₂, ◌∙◌, subst, arith, slice_get}
+use Rattle.std.proofs.lemmas.List.{take-append-drop}
+use Rattle.std.proofs.lemmas.Option.{slice_get_within}
 use Rattle.lsl_value.specs.Values.{kind_of}
 use Rattle.lsl_value.specs.declared.names.BuiltinId.{BuiltinId}
 use Rattle.lsl_value.specs.declared.tagged.Kind.{Kind}
-use Rattle.lsl_value.specs.declared.tagged.Kind.TheVariants as kind
 use Rattle.lsl_value.specs.declared.tagged.Value.{Value}
-use Rattle.lsl_value.specs.declared.tagged.Value.TheVariants as value
 use Rattle.lsl_table.specs.Calls.{row_of}
 use Rattle.lsl_code.specs.declared.instructions.Instr.{Instr}
-use Rattle.lsl_code.specs.declared.instructions.Instr.TheVariants.{Int, Str, Load, LoadGlobal, Store, StoreGlobal, Set, Drop, Unary, Binary, Cast, MakeList, Jump, JumpIf, JumpIfNot, Pure, Used, Free, Host, Tick, Call, Return, ReturnValue, GoState, Reset, TestSave, KeepSlot, KeepTop, Seal, TestBack, Unpack, BackSlot, BackTop, Branch, Again, Awake}
-use Rattle.lsl_code.specs.declared.functions.Point.{Point}
-use Rattle.lsl_code.specs.declared.signatures.Names.{Names}
-use Rattle.lsl_code.specs.declared.signatures.Signature.{Signature}
-use Rattle.lsl_code.specs.Bodies.{Body, plain_body}
-use Rattle.lsl_code.specs.Drafts.{pointed, next_point, line_before, numbered, lines_of, or_empty, next, scan, point_before, maps, most_of, finished}
-use Rattle.lsl_code.specs.Effects.{strip, gather, pushed, only_if, with_kind, called, called_if, is_pure, is_asked, behind, runs, waiting}
-use Rattle.lsl_code.specs.Fits.{all_places, has_kinds, finds, goes_on, is_quiet, jumps_on, is_point, has_point, goes_on_with, fits_before, may_be_bare, fits_where, fits_at, most_operands, begins_with_tick, counted, count_of, is_once, is_plain, plain_at}
-use Rattle.lsl_code.specs.Forward.{is_back}
-use Rattle.lsl_code.specs.Kinds.{kind_number, same_kind, same_kinds, is_element, kinds_of, Scope, scope, builtin_signature}
-use Rattle.lsl_code.specs.Units.{fits_function, is_plain_function}
+use Rattle.lsl_code.specs.declared.instructions.Instr.TheVariants.{Jump, JumpIf, JumpIfNot, Host, Return, ReturnValue, GoState, Reset}
+use Rattle.lsl_code.specs.Bodies.{Body}
+use Rattle.lsl_code.specs.Drafts.{next}
+use Rattle.lsl_code.specs.Effects.{pushed, is_asked}
+use Rattle.lsl_code.specs.Fits.{finds, goes_on}
+use Rattle.lsl_code.specs.Kinds.{kinds_of, scope}
 use Rattle.lsl_running.specs.declared.ends.Fault.TheVariants.{StackHeap}
-use Rattle.lsl_running.specs.declared.ends.Outcome.{Outcome}
-use Rattle.lsl_running.specs.declared.ends.Outcome.TheVariants as outcome
 use Rattle.lsl_running.specs.declared.host.Reply.{Reply}
 use Rattle.lsl_running.specs.declared.host.Reply.TheVariants as reply
 use Rattle.lsl_running.specs.declared.kept.Kept.{Kept}
-use Rattle.lsl_running.specs.Calling.{parameter_count, is_answered_by, call_form}
-use Rattle.lsl_running.specs.Charging.{call_charge, charges_of, hold_all, used, is_within, with_global}
-use Rattle.lsl_running.specs.Values.{empty_of, absent, unary_value, binary_value, list_value}
-use Rattle.lsl_code.specs.Acts.{Did, Goes, Jumps, Enters, Leaves, Passes, Asks, Ends, Fails, Stuck, within, on_top, or_zero_divisor, first_slots, entered_with, entered, gives, act}
-use Rattle.lsl_code.specs.Machine.{MachineCall, Machine, End, Ended, Faulted, Lost, Pause, Passing, Waiting, Next, On, Pauses, Halts, base, used_in, call_at, put, checked, left_to, replied, answered, after, done_by, step_in, step}
+use Rattle.lsl_running.specs.Calling.{call_form}
+use Rattle.lsl_running.specs.Charging.{is_within}
+use Rattle.lsl_running.specs.Values.{empty_of}
+use Rattle.lsl_code.specs.Acts.{Did, Goes, Jumps, Enters, Leaves, Passes, Asks, Ends, Fails, Stuck, first_slots}
+use Rattle.lsl_code.specs.Machine.{MachineCall, Machine, Faulted, Lost, Next, On, Halts, base, used_in, put, checked, left_to, replied, answered, after, done_by, step_in}
 use Rattle.lsl_running.specs.Calling.{is_answer_to}
 use Rattle.lsl_code.specs.declared.functions.StateCode.{StateCode}
 use Rattle.lsl_code.specs.Bodies.{instruction_in, instruction_at}
-use Rattle.lsl_code.specs.Kinded.{IsKindedCall, AreWaiting, AreKindedCalls, IsKindedMachine, Answers, IsAnsweredIn, IsOutcome, IsKindedEnd, IsKindedNext, NothingIsStuck, BeginsKinded}
+use Rattle.lsl_code.specs.Kinded.{IsKindedCall, AreWaiting, AreKindedCalls, IsKindedMachine, Answers, IsAnsweredIn, IsKindedNext, NothingIsStuck, BeginsKinded}
 use Rattle.lsl_code.specs.Kinds.{names_in}
 use Rattle.lsl_code.specs.WellFormed.{StandsWith, IsWellFormedUnit}
-use Rattle.lsl_code.specs.Wholes.{begun}
 use Rattle.lsl_code.proofs.ActKinds.{DidFit, act_fits}
 use Rattle.lsl_code.proofs.Acts.{is_straight, LeadsTo, By, act_by}
 use Rattle.lsl_code.proofs.Sames.{both_true}

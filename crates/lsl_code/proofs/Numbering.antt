@@ -1,31 +1,14 @@
 -- The numbers of a draft's points.
-use Rattle.std.proofs.Common.{◌≡◌, ℕ, zero, suc, ◌+◌, ◌<◌, ◌≤◌, List, [], ◌∷◌, ◌++◌, length, map, take, drop, reverse, get_or, Option, Some, None, option_map, Bool, true, false, cond, refl, sym, ap, ap₂, ◌∙◌, subst, arith, slice_get, slice_set, append_assoc, length-append, add-zero, add-one, drop-cons}
-use Rattle.std.specs.Prelude.{not, ◌&&◌, nat_eq, nat_lt, nat_le, is_some, is_none, max, option_and_then}
-use Rattle.std.proofs.Math.Seq.{get_or-append_seam}
-use Rattle.std.proofs.lemmas.Bool.Decides.{nat_tests}
-use Rattle.std.proofs.lemmas.List.{length-reverse, reverse-reverse}
-use Rattle.std.proofs.lemmas.Option.{slice_get-map}
-use Rattle.lsl_value.specs.OperatorRows.{result_kind_of, casts_of}
-use Rattle.lsl_value.specs.Values.{kind_of}
-use Rattle.lsl_value.specs.declared.names.BuiltinId.{BuiltinId}
+use Rattle.std.proofs.Common.{◌≡◌, ℕ, zero, suc, List, [], ◌∷◌, length, Option, Some, None, option_map, refl, ap, slice_get}
 use Rattle.lsl_value.specs.declared.tagged.Kind.{Kind}
-use Rattle.lsl_value.specs.declared.tagged.Kind.TheVariants as kind
-use Rattle.lsl_value.specs.declared.tagged.Value.{Value}
-use Rattle.lsl_value.specs.declared.tagged.Value.TheVariants as value
-use Rattle.lsl_table.specs.Calls.{row_of}
 use Rattle.lsl_code.specs.declared.instructions.Instr.{Instr}
-use Rattle.lsl_code.specs.declared.instructions.Instr.TheVariants.{Int, Str, Load, LoadGlobal, Store, StoreGlobal, Set, Drop, Unary, Binary, Cast, MakeList, Jump, JumpIf, JumpIfNot, Pure, Used, Free, Host, Tick, Call, Return, ReturnValue, GoState, Reset, TestSave, KeepSlot, KeepTop, Seal, TestBack, Unpack, BackSlot, BackTop, Branch, Again, Awake}
-use Rattle.lsl_code.specs.declared.functions.Point.{Point}
-use Rattle.lsl_code.specs.declared.signatures.Names.{Names}
-use Rattle.lsl_code.specs.declared.signatures.Signature.{Signature}
-use Rattle.lsl_code.specs.Bodies.{Body, plain_body}
-use Rattle.lsl_code.specs.Drafts.{pointed, next_point, line_before, numbered, lines_of, or_empty, next, scan, point_before, maps, most_of, finished}
-use Rattle.lsl_code.specs.Effects.{strip, gather, pushed, only_if, with_kind, called, called_if, is_pure, is_asked, behind, runs, waiting}
-use Rattle.lsl_code.specs.Fits.{all_places, has_kinds, finds, goes_on, is_quiet, jumps_on, is_point, has_point, goes_on_with, fits_before, may_be_bare, fits_where, fits_at, most_operands, begins_with_tick, counted, count_of, is_once, is_plain, plain_at}
+use Rattle.lsl_code.specs.declared.instructions.Instr.TheVariants.{Tick, Call}
+use Rattle.lsl_code.specs.Bodies.{Body}
+use Rattle.lsl_code.specs.Drafts.{pointed, next_point, numbered}
+use Rattle.lsl_code.specs.Effects.{behind}
+use Rattle.lsl_code.specs.Fits.{goes_on, jumps_on, begins_with_tick, is_plain}
 use Rattle.lsl_code.specs.Forward.{is_back}
-use Rattle.lsl_code.specs.Kinds.{kind_number, same_kind, same_kinds, is_element, kinds_of, Scope, scope, builtin_signature}
-use Rattle.lsl_code.specs.Units.{fits_function, is_plain_function}
-use Rattle.lsl_code.proofs.Tested.{eq_self, differs, differs'}
+use Rattle.lsl_code.specs.Kinds.{Scope}
 
 -- the first point that is free_point at place k
 abbrev pub free_point : List Instr → ℕ → ℕ → ℕ

@@ -1,13 +1,12 @@
 -- The machine does not look at points, so a run can be followed over the draft.
-use Rattle.std.proofs.Common.{◌≡◌, ℕ, zero, suc, ◌+◌, List, [], ◌∷◌, ◌++◌, length, map, Option, Some, None, option_map, refl, sym, ap, ◌∙◌, subst, arith, append_assoc, length-append, slice_get}
+use Rattle.std.proofs.Common.{◌≡◌, ℕ, ◌+◌, List, [], ◌∷◌, ◌++◌, length, Option, Some, None, option_map, refl, sym, ap, ◌∙◌, subst, arith, append_assoc, length-append, slice_get}
 use Rattle.lsl_value.specs.declared.tagged.Value.{Value}
 use Rattle.lsl_running.specs.declared.kept.Kept.{Kept}
-use Rattle.lsl_code.specs.declared.functions.FunctionCode.{FunctionCode}
 use Rattle.lsl_code.specs.declared.instructions.Instr.{Instr}
 use Rattle.lsl_code.specs.declared.instructions.Instr.TheVariants.{Tick, Call}
 use Rattle.lsl_code.specs.Acts.{act}
 use Rattle.lsl_code.specs.Bodies.{Body, plain_body, instruction_in}
-use Rattle.lsl_code.specs.Drafts.{numbered, lines_of, finished}
+use Rattle.lsl_code.specs.Drafts.{finished}
 use Rattle.lsl_code.specs.Kinds.{Scope}
 use Rattle.lsl_code.specs.Pieces.{HasAt}
 use Rattle.lsl_code.specs.Wholes.{with_line, lines_in, seen}

@@ -1,31 +1,13 @@
 -- What one instruction does leaves less to do before the next tick.
-use Rattle.std.proofs.Common.{◌≡◌, ◌≢◌, ℕ, zero, suc, ◌+◌, ◌-◌, ◌*◌, ◌<◌, ◌≤◌, pos, List, [], ◌∷◌, ◌++◌, ◌⊎◌, inl, inr, ⊎_elim, Bool, true, false, cond, nat_lt, Option, None, Some, refl, sym, ap, ◌∙◌, subst, arith, length, length-append, map, take, drop, reverse, get_or, slice_get, slice_set}
-use Rattle.std.proofs.lemmas.Option.{slice_get_within}
-use Rattle.std.proofs.lemmas.Bool.Decides.{nat_tests}
-use Rattle.std.proofs.Math.Nat.{suc-mul}
-use Rattle.lsl_value.specs.Values.{truth_of}
-use Rattle.lsl_value.specs.declared.names.BuiltinId.{BuiltinId}
-use Rattle.lsl_value.specs.declared.tagged.Value.{Value}
-use Rattle.lsl_value.specs.declared.tagged.Value.TheVariants as value
-use Rattle.lsl_ops.specs.Operations.{cast_of}
-use Rattle.lsl_pure.specs.Pure.{pure_of}
-use Rattle.lsl_running.specs.declared.ends.Fault.TheVariants.{StackHeap}
-use Rattle.lsl_running.specs.declared.host.Reply.{Reply}
-use Rattle.lsl_running.specs.declared.host.Reply.TheVariants as reply
-use Rattle.lsl_running.specs.declared.kept.Kept.{Kept}
-use Rattle.lsl_running.specs.Calling.{parameter_count, is_answered_by}
-use Rattle.lsl_running.specs.Charging.{script_charge, call_charge, charges_of, hold_all, used, is_within, with_global, default_limit}
-use Rattle.lsl_running.specs.Values.{empty_of, absent, unary_value, binary_value, list_value}
+use Rattle.std.proofs.Common.{◌≡◌, ℕ, suc, ◌+◌, ◌-◌, ◌*◌, ◌<◌, List, true, false, nat_lt, Some, refl, sym, ap, subst, arith, slice_get}
 use Rattle.lsl_code.specs.declared.instructions.Instr.{Instr}
-use Rattle.lsl_code.specs.declared.instructions.Instr.TheVariants.{Int, Str, Load, LoadGlobal, Store, StoreGlobal, Set, Drop, Unary, Binary, Cast, MakeList, Jump, JumpIf, JumpIfNot, Pure, Used, Free, Host, Tick, Call, Return, ReturnValue, GoState, Reset, TestSave, KeepSlot, KeepTop, Seal, TestBack, Unpack, BackSlot, BackTop, Branch, Again, Awake}
-use Rattle.lsl_code.specs.Bodies.{Body, instruction_in, instruction_at}
-use Rattle.lsl_code.specs.Acts.{Did, Goes, Jumps, Enters, Leaves, Passes, Asks, Ends, Fails, Stuck, within, on_top, or_zero_divisor, first_slots, entered_with, entered, gives, act}
-use Rattle.lsl_code.specs.Machine.{MachineCall, Machine, Ended, Faulted, Lost, Pause, Passing, Waiting, Next, On, Pauses, Halts, base, used_in, call_at, put, checked, left_to, replied, answered, after, done_by, step_in, step}
-use Rattle.lsl_code.specs.Runs.{Halt, Over, AskAt, CutAt, length_in, fuel_in, fuel, on, steps, paused, run, passed}
-use Rattle.lsl_code.specs.Forward.{is_back, leads_back, goes_back, is_tick, begins, frees, Lands, Forward}
-use Rattle.lsl_code.specs.Laws.{IsStepAndRun, after_ticks, with_answers, after_answers, MoreTicks, MoreAnswers, hosts, hosts_of, AsksSoOften}
-use Rattle.lsl_code.proofs.Acts.{is_straight, LeadsTo, leaves, is_host, By, act_by}
-use Rattle.lsl_code.proofs.Ranks.{rank_jump, rank_test, rank_of, rank_at, left_in, left, left_most, fetch_within, Flat, rank_flat, rank_after, rank_back, rank_enter, rank_go, past_jump, rank_open, past_test, there_within}
+use Rattle.lsl_code.specs.declared.instructions.Instr.TheVariants.{Jump, JumpIf, JumpIfNot, Host, Tick, Call, Return, ReturnValue, TestSave, KeepSlot, KeepTop, Seal, TestBack, Unpack, BackSlot, BackTop, Branch, Again, Awake}
+use Rattle.lsl_code.specs.Bodies.{Body, instruction_at}
+use Rattle.lsl_code.specs.Acts.{Did, Goes, Jumps, Enters, Leaves, Passes, Asks, Ends, Fails, Stuck}
+use Rattle.lsl_code.specs.Runs.{length_in}
+use Rattle.lsl_code.specs.Forward.{is_back, goes_back, is_tick, frees, Lands, Forward}
+use Rattle.lsl_code.proofs.Acts.{is_straight, LeadsTo, leaves, is_host, By}
+use Rattle.lsl_code.proofs.Ranks.{rank_jump, rank_test, rank_of, rank_at, Flat, rank_flat, rank_after, rank_enter, rank_go, past_jump, rank_open, past_test, there_within}
 -- where a call's act goes on in the same stretch, less than k is left of this call, or of it and its callee
 abbrev pub Sinks : List Body → ℕ → ℕ → ℕ → Did → Type 0
 Sinks bodies f pc k (Goes sl ops g) = rank_at bodies f (pc + 1) < k

@@ -1,29 +1,15 @@
 -- What the test of a unit tells.
-use Rattle.std.proofs.Common.{◌≡◌, ℕ, zero, suc, ◌+◌, ◌<◌, ◌≤◌, List, [], ◌∷◌, ◌++◌, length, map, take, drop, reverse, get_or, Option, Some, None, option_map, Bool, true, false, cond, refl, sym, ap, ap₂, ◌∙◌, subst, arith, slice_get, slice_set, append_assoc, length-append, add-zero, add-one, drop-cons}
-use Rattle.std.specs.Prelude.{not, ◌&&◌, nat_eq, nat_lt, nat_le, is_some, is_none, max, option_and_then}
-use Rattle.std.proofs.Math.Seq.{get_or-append_seam}
+use Rattle.std.proofs.Common.{◌≡◌, ℕ, suc, ◌+◌, ◌≤◌, List, [], ◌∷◌, Option, Some, None, Bool, true, false, cond, refl, sym, ap, ◌∙◌, arith, slice_get}
+use Rattle.std.specs.Prelude.{not, nat_le, is_none}
 use Rattle.std.proofs.lemmas.Bool.Decides.{nat_tests}
-use Rattle.std.proofs.lemmas.List.{length-reverse, reverse-reverse}
-use Rattle.std.proofs.lemmas.Option.{slice_get-map}
-use Rattle.lsl_value.specs.OperatorRows.{result_kind_of, casts_of}
-use Rattle.lsl_value.specs.Values.{kind_of}
-use Rattle.lsl_value.specs.declared.names.BuiltinId.{BuiltinId}
 use Rattle.lsl_value.specs.declared.tagged.Kind.{Kind}
-use Rattle.lsl_value.specs.declared.tagged.Kind.TheVariants as kind
-use Rattle.lsl_value.specs.declared.tagged.Value.{Value}
-use Rattle.lsl_value.specs.declared.tagged.Value.TheVariants as value
-use Rattle.lsl_table.specs.Calls.{row_of}
 use Rattle.lsl_code.specs.declared.instructions.Instr.{Instr}
-use Rattle.lsl_code.specs.declared.instructions.Instr.TheVariants.{Int, Str, Load, LoadGlobal, Store, StoreGlobal, Set, Drop, Unary, Binary, Cast, MakeList, Jump, JumpIf, JumpIfNot, Pure, Used, Free, Host, Tick, Call, Return, ReturnValue, GoState, Reset, TestSave, KeepSlot, KeepTop, Seal, TestBack, Unpack, BackSlot, BackTop, Branch, Again, Awake}
-use Rattle.lsl_code.specs.declared.functions.Point.{Point}
+use Rattle.lsl_code.specs.declared.instructions.Instr.TheVariants.{Jump, JumpIf, JumpIfNot, Tick, TestSave, TestBack}
 use Rattle.lsl_code.specs.declared.signatures.Names.{Names}
-use Rattle.lsl_code.specs.declared.signatures.Signature.{Signature}
-use Rattle.lsl_code.specs.Bodies.{Body, plain_body}
-use Rattle.lsl_code.specs.Drafts.{pointed, next_point, line_before, numbered, lines_of, or_empty, next, scan, point_before, maps, most_of, finished}
-use Rattle.lsl_code.specs.Effects.{strip, gather, pushed, only_if, with_kind, called, called_if, is_pure, is_asked, behind, runs, waiting}
-use Rattle.lsl_code.specs.Fits.{all_places, has_kinds, finds, goes_on, is_quiet, jumps_on, is_point, has_point, goes_on_with, fits_before, may_be_bare, fits_where, fits_at, most_operands, begins_with_tick, counted, count_of, is_once, is_plain, plain_at}
+use Rattle.lsl_code.specs.Bodies.{Body}
+use Rattle.lsl_code.specs.Drafts.{next}
+use Rattle.lsl_code.specs.Fits.{all_places, is_quiet, jumps_on, begins_with_tick, is_plain, plain_at}
 use Rattle.lsl_code.specs.Forward.{is_back}
-use Rattle.lsl_code.specs.Kinds.{kind_number, same_kind, same_kinds, is_element, kinds_of, Scope, scope, builtin_signature}
 use Rattle.lsl_code.specs.Units.{fits_function, is_plain_function}
 use Rattle.std.specs.Prelude.{◌≢◌, All}
 use Rattle.std.specs.List.{AllPairs}
@@ -34,11 +20,11 @@ use Rattle.lsl_table.specs.Events.{signature_of}
 use Rattle.lsl_code.specs.declared.functions.Handler.{Handler}
 use Rattle.lsl_code.specs.declared.functions.StateCode.{StateCode}
 use Rattle.lsl_code.specs.Bodies.{instruction_in, instruction_at}
-use Rattle.lsl_code.specs.Forward.{leads_back, goes_back, is_tick, begins, frees, Lands, Forward}
+use Rattle.lsl_code.specs.Forward.{leads_back, goes_back, begins, frees, Lands, Forward}
 use Rattle.lsl_code.specs.Kinds.{names_in}
-use Rattle.lsl_code.specs.Units.{handles, handler_fits, event_number, same_event, has_event, events_differ, state_fits, fits_states, fits_unit}
-use Rattle.lsl_code.specs.WellFormed.{IsWellFormedFunction, HasFunction, IsWellFormedState, IsWellFormedUnit, FitsTells}
-use Rattle.lsl_code.proofs.Sames.{both_true, sames_are, eq_is}
+use Rattle.lsl_code.specs.Units.{handles, handler_fits, event_number, same_event, has_event, events_differ, state_fits}
+use Rattle.lsl_code.specs.WellFormed.{HasFunction, IsWellFormedState, FitsTells}
+use Rattle.lsl_code.proofs.Sames.{both_true, sames_are}
 use Rattle.lsl_code.proofs.Tested.{eq_self}
 use Rattle.lsl_code.proofs.Told.{all_at, function_told}
 

@@ -1,11 +1,6 @@
 -- The kinds of the values that instructions make.
-use Rattle.std.proofs.Common.{◌≡◌, ℕ, zero, suc, ◌+◌, ◌<◌, ◌≤◌, List, [], ◌∷◌, ◌++◌, length, map, take, drop, reverse, get_or, Option, Some, None, option_map, Bool, true, false, cond, refl, sym, ap, ap₂, ◌∙◌, subst, arith, slice_get, slice_set, append_assoc, length-append, add-zero, add-one, drop-cons}
-use Rattle.std.specs.Prelude.{not, ◌&&◌, nat_eq, nat_lt, nat_le, is_some, is_none, max, option_and_then}
-use Rattle.std.proofs.Math.Seq.{get_or-append_seam}
-use Rattle.std.proofs.lemmas.Bool.Decides.{nat_tests}
-use Rattle.std.proofs.lemmas.List.{length-reverse, reverse-reverse}
-use Rattle.std.proofs.lemmas.Option.{slice_get-map}
-use Rattle.lsl_value.specs.OperatorRows.{result_kind_of, casts_of}
+use Rattle.std.proofs.Common.{◌≡◌, ℕ, zero, suc, List, [], ◌∷◌, ◌++◌, map, take, drop, get_or, Some, None, Bool, true, false, cond, refl, sym, ap, ap₂, ◌∙◌, subst, slice_get, slice_set}
+use Rattle.lsl_value.specs.OperatorRows.{result_kind_of}
 use Rattle.lsl_value.specs.Values.{kind_of}
 use Rattle.lsl_value.specs.declared.names.BuiltinId.{BuiltinId}
 use Rattle.lsl_value.specs.declared.tagged.Kind.{Kind}

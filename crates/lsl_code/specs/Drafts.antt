@@ -1,5 +1,5 @@
 -- From a draft of a function's code, which has lines where the points are to stand, to the function.
-use Rattle.std.specs.Prelude.{◌≡◌, Bool, true, false, map, ℕ, zero, suc, List, [], ◌∷◌, ◌++◌, Option, Some, None, max, length, take, reverse, slice_get}
+use Rattle.std.specs.Prelude.{◌≡◌, Bool, true, false, map, ℕ, suc, List, [], ◌∷◌, ◌++◌, Option, Some, None, max, length, take, reverse, slice_get}
 use Rattle.lsl_value.specs.declared.tagged.Kind.{Kind}
 use Rattle.lsl_code.specs.declared.instructions.Instr.{Instr}
 use Rattle.lsl_code.specs.declared.instructions.Instr.TheVariants.{Tick, Call}

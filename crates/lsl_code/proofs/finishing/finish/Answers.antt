@@ -1,6 +1,5 @@
-use Rattle.std.proofs.Common.{rules, ◌≡◌, ◌∙◌, [], ap, sym, take, IsTrue}
+use Rattle.std.proofs.Common.{◌∙◌, [], ap}
 use Rattle.std.specs.Prelude.{is_some}
-use Rattle.lsl_code.specs.Drafts.{numbered, lines_of}
 use Rattle.lsl_code.specs.Effects.{runs}
 use Rattle.lsl_code.specs.Kinds.{scope}
 use Rattle.lsl_code.proofs.Passes.{runs_numbered, made_of}

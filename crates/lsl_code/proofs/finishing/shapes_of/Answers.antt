@@ -1,8 +1,5 @@
-use Rattle.std.proofs.Common.{rules, ◌≡◌, ◌<◌, ◌+◌, ◌∷◌, [], ◌++◌, Some, drop, length, reverse, arith}
+use Rattle.std.proofs.Common.{rules, ◌≡◌, ◌<◌, length, arith}
 use Rattle.std.specs.Prelude.{max}
-use Rattle.lsl_code.specs.Drafts.{point_before}
-use Rattle.lsl_code.specs.Effects.{behind}
-use Rattle.lsl_code.specs.Kinds.{scope}
 use Rattle.lsl_code.proofs.Passes.{can_step, front_of, pass_step}
 use Rattle.lsl_code.proofs.finishing.shapes_of.Goals as goal
 

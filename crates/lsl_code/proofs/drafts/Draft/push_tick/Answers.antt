@@ -1,6 +1,6 @@
 use Rattle.std.proofs.Common.{rules, ◌≡◌, ◌∷◌, ◌++◌, [], ◌∙◌, ap, length}
-use Rattle.lsl_code.specs.declared.instructions.Instr.TheVariants.{Tick, Call}
-use Rattle.lsl_code.proofs.Reading.{Grown, draft_grown}
+use Rattle.lsl_code.specs.declared.instructions.Instr.TheVariants.{Tick}
+use Rattle.lsl_code.proofs.Reading.{draft_grown}
 use Rattle.lsl_code.proofs.drafts.Draft.push_tick.Goals as goal
 
 pub invariant_of-self-2 : goal.invariant_of-self-2

@@ -1,4 +1,4 @@
-use Rattle.std.proofs.Common.{rules, ◌≡◌, ◌∙◌, ◌-◌, ap, sym, take, drop, reverse, length}
+use Rattle.std.proofs.Common.{rules, ◌≡◌, ◌∙◌, ◌-◌, ap, take, drop, reverse, length}
 use Rattle.lsl_code.proofs.Stacks.{below}
 use Rattle.lsl_code.proofs.kind_stack.KindStack.below.Goals as goal
 
