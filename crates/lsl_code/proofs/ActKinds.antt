@@ -144,11 +144,11 @@ module _ (bodies : List Body) (s : Scope) (signed : s.functions ≡ map signatur
         let args = reverse (take (length w.params) ops) in
         let rest = drop (length w.params) ops in
         let all : kinds_of (first_slots w args) ≡ w.slots =
-            kinds_append args (map empty_of (drop (length w.params) w.slots))
-            ∙ ap₂ (λ a b. a ++ b) (arguments_kinds (signature_in w) ops js t ∙ sym (params f w there)) (empties_kinds (drop (length w.params) w.slots))
-            ∙ take-append-drop (length w.params) w.slots in
+        kinds_append args (map empty_of (drop (length w.params) w.slots))
+        ∙ ap₂ (λ a b. a ++ b) (arguments_kinds (signature_in w) ops js t ∙ sym (params f w there)) (empties_kinds (drop (length w.params) w.slots))
+        ∙ take-append-drop (length w.params) w.slots in
         within_fit (hold_all held rest + call_charge + charges_of sl) (first_slots w args) g (Enters f (first_slots w args) rest)
-          (w, there, all, rest_kinds (signature_in w) ops js t)
+        (w, there, all, rest_kinds (signature_in w) ops js t)
 
   module _ (g : Kept) (held : ℕ) (sl : List Value) (js : List Kind) (kg : kinds_of g.globals ≡ s.globals) (ks : kinds_of sl ≡ s.slots) where
     -- each instruction, by the table of kinds

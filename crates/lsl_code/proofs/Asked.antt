@@ -8,6 +8,7 @@ use Rattle.lsl_code.specs.Forward.{is_back, goes_back, is_tick, frees, Lands, Fo
 use Rattle.lsl_code.specs.Laws.{hosts}
 use Rattle.lsl_code.proofs.Acts.{is_straight, LeadsTo, is_host, By}
 use Rattle.lsl_code.proofs.Due.{code_of, due_jump, due_test, due_of, due_at, hosts_ask, due_flat, due_go, due_past, due_open, past_test}
+
 -- where a call's act goes on in the same stretch, at most k can still be asked
 abbrev pub Due : List Body → ℕ → ℕ → ℕ → Did → Type 0
 Due bodies f pc k (Goes sl ops g) = due_at bodies f (pc + 1) ≤ k
@@ -81,4 +82,3 @@ module _ (bodies : List Body) (fw : Forward bodies) (f pc : ℕ) where
   by_due i (Ends s) by e h flat = tt
   by_due i (Fails x) by e h flat = tt
   by_due i Stuck by e h flat = tt
-

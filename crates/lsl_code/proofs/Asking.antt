@@ -24,6 +24,7 @@ use Rattle.lsl_code.proofs.Keeping.{Keeps, after_keeps}
 use Rattle.lsl_code.proofs.Ranks.{left}
 use Rattle.lsl_code.proofs.Resuming.{ticks_law}
 use Rattle.lsl_code.proofs.Running.{Falls, step_falls, run_law}
+
 -- what can be asked in all calls
 hosts_in : (bodies : List Body) (f : ℕ) → hosts (code_of (slice_get bodies f)) ≤ hosts_of bodies
 hosts_in [] f = omega arith
@@ -110,7 +111,6 @@ module _ (bodies : List Body) (forward : Forward bodies) where
       ∙ run_law bodies forward 1 at'
       ∙ ap (λ y. on y (passed bodies 1 at') (run bodies 1)) on_tick in
       subst NoAsk (sym whole) (no_ask (left bodies next') next' (omega arith) (omega (arith, length-append next.answers replies)))
-
 
 begun_asks : (bodies : List Body) (forward : Forward bodies) (f ticks : ℕ) (kept : Kept) (slots : List Value) (answers replies : List Reply) (at : Machine) (b : Bool) → kept.limit ≤ default_limit → cond b (run bodies ticks (begun f kept slots answers)) (Over (Faulted StackHeap)) ≡ CutAt at → 2048 * hosts_of bodies ≤ length replies → NoAsk bodies forward (cond b (run bodies (suc ticks) (begun f kept slots (answers ++ replies))) (Over (Faulted StackHeap)))
 begun_asks bodies forward f ticks kept slots answers replies at true lim cut le = after_cut bodies forward ticks (begun f kept slots answers) at replies (omega arith, lim) cut le

@@ -121,4 +121,3 @@ pub past_test : (b c : Bool) (pc : ℕ) (code : List Instr) (o next : Option Ins
 past_test true c pc code o next e d flat = omega (arith, due_tick o next (pc + 1) code e)
 past_test false true pc code o next e d flat = due_any o next (pc + 1) code
 past_test false false pc code o next e d flat = due_past false pc _ code (flat refl)
-

@@ -19,6 +19,7 @@ use Rattle.lsl_code.specs.declared.instructions.Instr.TheVariants.{Int, Str, Loa
 use Rattle.lsl_code.specs.Bodies.{Body, instruction_at}
 use Rattle.lsl_code.specs.Acts.{Did, Goes, Jumps, Enters, Leaves, Passes, Asks, Ends, Fails, Stuck, on_top, or_zero_divisor, first_slots, entered, gives, act}
 use Rattle.lsl_code.specs.Machine.{MachineCall, Machine, Faulted, Lost, Passing, Waiting, Next, On, Pauses, Halts, base, used_in, call_at, put, checked, left_to, replied, answered, after, step_in}
+
 -- at most as many calls as the limit lets in
 abbrev pub Few : Machine → Type 0
 Few m = (length m.calls ≤ 2016) × (m.kept.limit ≤ 65536)
@@ -140,4 +141,3 @@ after_few Stuck g a f pc sl ops outer h le lim = tt
 pub step_few : (bodies : List Body) (g : Kept) (a : List Reply) (calls : List MachineCall) → length calls ≤ 2016 → g.limit ≤ 65536 → FewNext (step_in bodies g a calls)
 step_few bodies g a [] le lim = tt
 step_few bodies g a (c ∷ outer) le lim = after_few (act bodies (instruction_at bodies c.function c.place) g (base outer) c.slots c.operands) g a c.function c.place c.slots c.operands outer (act_small bodies (instruction_at bodies c.function c.place) g (base outer) c.slots c.operands lim) le lim
-

@@ -12,6 +12,7 @@ use Rattle.lsl_code.specs.Acts.{Did, Goes, Jumps, Enters, Leaves, Passes, Asks, 
 use Rattle.lsl_code.specs.Machine.{MachineCall, Machine, Faulted, Lost, Passing, Waiting, Next, On, Pauses, Halts, used_in, put, checked, left_to, replied, after}
 use Rattle.lsl_code.proofs.Due.{due_at, due_in}
 use Rattle.lsl_code.proofs.Asked.{Due}
+
 -- where a step goes on in the same stretch, the answers are enough for what can be asked
 abbrev pub Keeps : List Body → Next → Type 0
 Keeps bodies (On m) = due_in bodies m.calls ≤ length m.answers
@@ -48,4 +49,3 @@ after_keeps bodies k (Asks id args rest) g (r ∷ more) f pc sl ops outer h all 
 after_keeps bodies k (Ends s) g a f pc sl ops outer h all = tt
 after_keeps bodies k (Fails x) g a f pc sl ops outer h all = tt
 after_keeps bodies k Stuck g a f pc sl ops outer h all = tt
-

@@ -105,7 +105,7 @@ module _ (globals : List Value) (states : List StateCode) (bodies : List Body) (
       answered_right (r ∷ more) id args rest asked ka kr next fits =
           let h = fits r more refl in
           subst (λ b. IsRight (cond b (replied r g more f (place + 1) sl rest outer) (Halts Lost))) (sym (answer_taken (row_of id).result r id refl h))
-            (replied_right id r g more (place + 1) sl rest js kg ks kr next h)
+          (replied_right id r g more (place + 1) sl rest js kg ks kr next h)
 
       after_right : (d : Did) (a : List Reply) → By bodies i d → DidFit bodies (scope (names_in globals states bodies) w.slots w.result) ops d js → ((id : BuiltinId) (r : Reply) (more : List Reply) → i ≡ Host id → a ≡ r ∷ more → Answers id r) → IsRight (after d g a f place sl ops outer)
       after_right (Goes slots operands kept) a by fit fits =
@@ -142,9 +142,9 @@ module _ (globals : List Value) (states : List StateCode) (bodies : List Body) (
         let told = (ok.functions c.function w there).finds c.place i (kinds_of c.operands) here call.1 in
         let s = scope (names_in globals states bodies) w.slots w.result in
         after_right c.function w there outer waits c.place i g c.slots c.operands told.0 kg call.0 told.2 _ a
-          (act_by bodies i g (base outer) c.slots c.operands)
-          (act_fits bodies s refl params_told g (base outer) c.slots told.0 kg call.0 i c.operands told.1)
-          (λ id r more is e. fits id r more (is_at (Some i) here ∙ ap Some is) e)
+        (act_by bodies i g (base outer) c.slots c.operands)
+        (act_fits bodies s refl params_told g (base outer) c.slots told.0 kg call.0 i c.operands told.1)
+        (λ id r more is e. fits id r more (is_at (Some i) here ∙ ap Some is) e)
 
     by_instruction : (o : Option Instr) → slice_get w.code c.place ≡ o → IsRight (step_in bodies g a (c ∷ outer))
     by_instruction None e = absurd (some_within w.code c.place (within_code c.function w c.place (kinds_of c.operands) there call.1) e)
@@ -164,7 +164,7 @@ pub begins_kinded : BeginsKinded
 begins_kinded globals states bodies fits f w kept args answers there kg ka =
     let told = (fits_tells globals states bodies fits).functions f w there in
     let slots : kinds_of (first_slots w args) ≡ w.slots =
-        kinds_append args (map empty_of (drop (length w.params) w.slots))
-        ∙ ap₂ (λ a b. a ++ b) (ka ∙ sym told.params) (empties_kinds (drop (length w.params) w.slots))
-        ∙ take-append-drop (length w.params) w.slots in
+    kinds_append args (map empty_of (drop (length w.params) w.slots))
+    ∙ ap₂ (λ a b. a ++ b) (ka ∙ sym told.params) (empties_kinds (drop (length w.params) w.slots))
+    ∙ take-append-drop (length w.params) w.slots in
     record { kept = kg; calls = (w, there, (slots, told.first), tt) }

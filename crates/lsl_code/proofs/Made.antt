@@ -19,6 +19,7 @@ use Rattle.lsl_code.proofs.Points.{PointAt, maps_at, once, points_lined}
 use Rattle.lsl_code.proofs.Scans.{kinds_before, kinds_before_zero, scan_at, scan_length, runs_at, most_same}
 use Rattle.lsl_code.proofs.Tested.{both, sames, sames_self, eq_self, eqs, less, all_if, take_length, within_list}
 use Rattle.lsl_code.proofs.Ways.{Quiet, Way, Ways, way_at}
+
 module _ (names : Names) (slots : List Kind) (result : Option Kind) (name : List ℕ) (params : ℕ) (d : List Instr) where
   abbrev s : Scope
   s = scope names slots result
@@ -127,15 +128,15 @@ module _ (names : Names) (slots : List Kind) (result : Option Kind) (name : List
         let lines : length w.lines ≡ length w.points = points_lined s d [] in
         let size : length w.code < 4294967296 = omega (arith, numbered_length d 0) in
         both _ _ (both _ _ (both _ _ (both _ _ (both _ _ (both _ _ (both _ _ (both _ _
-          (begins_pointed d 0 ∙ begins)
-          (subst (λ ks. finds w 0 ks ≡ true) (kinds_before_zero s d []) (finds_ok 0 (some_code d begins))))
-          (eqs _ _ len))
-          (by_draft (fits_at s w) fits_here))
-          (all_if (is_once w.code) w.points once_each))
-          (eqs _ _ lines))
-          (eqs _ _ (most_same (scan s d []))))
-          (sames _ _ (take_length params slots)))
-          (less _ _ size)
+        (begins_pointed d 0 ∙ begins)
+        (subst (λ ks. finds w 0 ks ≡ true) (kinds_before_zero s d []) (finds_ok 0 (some_code d begins))))
+        (eqs _ _ len))
+        (by_draft (fits_at s w) fits_here))
+        (all_if (is_once w.code) w.points once_each))
+        (eqs _ _ lines))
+        (eqs _ _ (most_same (scan s d []))))
+        (sames _ _ (take_length params slots)))
+        (less _ _ size)
 
     -- and it is plain
     pub made_plain : (f : ℕ) → is_plain_function f w ≡ true

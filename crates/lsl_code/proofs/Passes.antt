@@ -10,6 +10,7 @@ use Rattle.lsl_code.specs.Drafts.{pointed, next_point, numbered, lines_of, or_em
 use Rattle.lsl_code.specs.Effects.{behind, runs}
 use Rattle.lsl_code.specs.Kinds.{Scope}
 use Rattle.lsl_code.proofs.Numbering.{behind_pointed}
+
 -- what the pass over this code has, where these instructions are left
 pub record Passed (s : Scope) (d left : List Instr) (stack : List Kind) (points : List Point) (stacks : List (List Kind)) (most : ℕ) : Type 0 where
   pub goes : is_some (runs s left stack) ≡ true

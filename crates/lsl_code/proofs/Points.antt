@@ -51,7 +51,7 @@ module _ (s : Scope) where
   maps_from (x ∷ d) ks pre (suc k) i e =
       let r = maps_from d (next s x ks) (over x ks pre) k i e in
       subst (λ l. PointAt i (free_point d (next_point x (length pre)) k) (kinds_before s d (next s x ks) k) l) (over_same x ks pre (maps s d (next s x ks)))
-        (subst (λ n. PointAt i (free_point d n k) (kinds_before s d (next s x ks) k) (over x ks pre ++ maps s d (next s x ks))) (over_length x ks pre) r)
+      (subst (λ n. PointAt i (free_point d n k) (kinds_before s d (next s x ks) k) (over x ks pre ++ maps s d (next s x ks))) (over_length x ks pre) r)
 
   pub maps_at : (d : List Instr) (ks : List Kind) (k : ℕ) (i : Instr) → slice_get d k ≡ Some i → PointAt i (free_point d 0 k) (kinds_before s d ks k) (maps s d ks)
   maps_at d ks k i e = maps_from d ks [] k i e
@@ -82,7 +82,6 @@ module _ (s : Scope) where
   once (Call f line ∷ d) ks n zero lt = first d n
   once (Call f line ∷ d) ks n (suc p) lt = later d n p (once d (next s (Call f line) ks) (suc n) p (omega arith))
   once (i ∷ d) ks n p lt = once d (next s i ks) n p lt
-
 
   -- as many as lines
   pub points_lined : (d : List Instr) (ks : List Kind) → length (lines_of d) ≡ length (maps s d ks)

@@ -146,4 +146,3 @@ pub past_test : (b c : Bool) (pc n : ℕ) (o next : Option Instr) → is_tick o 
 past_test true c pc n o next e d lt flat = omega (arith, rank_tick o next (pc + 1) n e)
 past_test false true pc n o next e d lt flat = omega (arith, rank_jumps o next (pc + 1) n d)
 past_test false false pc n o next e d lt flat = rank_after _ (pc + 1) n pc lt (omega arith) (flat refl)
-

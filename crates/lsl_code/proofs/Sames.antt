@@ -57,4 +57,3 @@ pub shape_is : (o : Option (Option (List Kind))) (ks : List Kind) → has_kinds 
 shape_is None ks e = absurd cc
 shape_is (Some None) ks e = absurd cc
 shape_is (Some (Some js)) ks e = ap (λ l. Some (Some l)) (sames_are js (reverse ks) e)
-

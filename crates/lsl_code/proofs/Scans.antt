@@ -47,4 +47,3 @@ module _ (s : Scope) where
 pub most_same : (stacks : List (List Kind)) → most_operands (map Some stacks) ≡ most_of stacks
 most_same [] = refl
 most_same (ks ∷ stacks) = ap (max (length ks)) (most_same stacks)
-

@@ -8,6 +8,7 @@ use Rattle.lsl_code.specs.Runs.{length_in}
 use Rattle.lsl_code.specs.Forward.{is_back, goes_back, is_tick, frees, Lands, Forward}
 use Rattle.lsl_code.proofs.Acts.{is_straight, LeadsTo, leaves, is_host, By}
 use Rattle.lsl_code.proofs.Ranks.{rank_jump, rank_test, rank_of, rank_at, Flat, rank_flat, rank_after, rank_enter, rank_go, past_jump, rank_open, past_test, there_within}
+
 -- where a call's act goes on in the same stretch, less than k is left of this call, or of it and its callee
 abbrev pub Sinks : List Body → ℕ → ℕ → ℕ → Did → Type 0
 Sinks bodies f pc k (Goes sl ops g) = rank_at bodies f (pc + 1) < k
@@ -84,4 +85,3 @@ module _ (bodies : List Body) (fw : Forward bodies) (f pc : ℕ) (lt : pc < leng
   by_sinks i (Ends s) by h flat = tt
   by_sinks i (Fails x) by h flat = tt
   by_sinks i Stuck by h flat = tt
-

@@ -53,4 +53,3 @@ module _ (s : Scope) (d : List Instr) where
 
   pub way_at : (j : ℕ) (i : Instr) → Ways 0 d → slice_get d j ≡ Some i → Way j i
   way_at j i h e = let z : 0 + j ≡ j = omega arith in subst (λ n. Way n i) z (at_all d 0 j i h e)
-

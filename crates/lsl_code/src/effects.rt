@@ -74,8 +74,12 @@ fn operate(op: BinaryOp, stack: &mut KindStack) -> Result<(), NoMemory>
     requires { IsTrue (is_some (top_kind stack.old (λ left more. top_kind more (λ right rest. option_map (λ k. k ∷ rest) (result_kind_of op left right))))) }
     ensures { OnOk result (Some stack.new ≡ top_kind stack.old (λ left more. top_kind more (λ right rest. option_map (λ k. k ∷ rest) (result_kind_of op left right)))) }
 {
-    let Some(left) = stack.pop() else { unreachable!() };
-    let Some(right) = stack.pop() else { unreachable!() };
+    let Some(left) = stack.pop() else {
+        unreachable!()
+    };
+    let Some(right) = stack.pop() else {
+        unreachable!()
+    };
     let Some(kind) = op.result_kind(left, right) else {
         unreachable!()
     };

@@ -13,4 +13,4 @@ shapes_of-requires c =
 pub returns-clause-ok : goal.returns-clause-ok
 returns-clause-ok c =
     made_of c.args.name (scope c.args.names.now c.args.slots c.args.gives) c.args.params c.args.draft _ _ _ _ _ _ _ _ c.into_parts-code.ensures.code c.into_parts-code.ensures.lines c.in_ok-params.ensures
-      c.in_ok-shapes.ensures.points c.in_ok-shapes.ensures.stacks c.in_ok-shapes.ensures.most c.from_vec.ensures c.from_vec-2.ensures
+    c.in_ok-shapes.ensures.points c.in_ok-shapes.ensures.stacks c.in_ok-shapes.ensures.most c.from_vec.ensures c.from_vec-2.ensures

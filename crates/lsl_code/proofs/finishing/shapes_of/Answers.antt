@@ -13,4 +13,4 @@ loop-instr-preserved c =
     let lt : c.loop-instr.instr-index < length c.as_slice-instr-items.result.now = omega arith in
     let most : c.max-most.result ≡ max c.loop-instr.most (length c.loop-instr.stack) = search rules in
     pass_step _ _ _ _ _ _ _ _ _ _ _ _ _ _ (front_of _ _ _ _ c.as_slice-instr-items.ensures.value lt c.instr-item.is) c.loop-instr.invariant
-      (c.in_ok-add_point.ensures c.args.gives) c.in_ok-listed.ensures c.in_ok-push.ensures.ok most c.in_ok-step.ensures
+    (c.in_ok-add_point.ensures c.args.gives) c.in_ok-listed.ensures c.in_ok-push.ensures.ok most c.in_ok-step.ensures
