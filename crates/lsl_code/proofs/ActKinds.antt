@@ -38,7 +38,8 @@ strip_take [] ks e = refl
 strip_take (p ∷ ps) [] e = absurd cc
 strip_take (p ∷ ps) (k ∷ ks) e = step (same_kind p k) refl e (λ f. strip_take ps ks f)
   where
-    step : (b : Bool) → same_kind p k ≡ b → is_some (cond b (strip ps ks) None) ≡ true → (is_some (strip ps ks) ≡ true → take (length ps) ks ≡ ps) → k ∷ take (length ps) ks ≡ p ∷ ps
+    step : (b : Bool) → same_kind p k ≡ b → is_some (cond b (strip ps ks) None) ≡ true
+        → (is_some (strip ps ks) ≡ true → take (length ps) ks ≡ ps) → k ∷ take (length ps) ks ≡ p ∷ ps
     step true s e more = ap₂ (λ x l. x ∷ l) (sym (same_is p k s)) (more e)
     step false s e more = absurd cc
 
@@ -47,7 +48,8 @@ pub record Taken (g : Signature) (ks js : List Kind) : Type 0 where
   pub args : take (length g.params) ks ≡ reverse g.params
   pub rest : pushed g.result (drop (length g.params) ks) ≡ js
 
-map_is : (f : List Kind → List Kind) (o : Option (List Kind)) (js : List Kind) → option_map f o ≡ Some js → is_some o ≡ true
+map_is : (f : List Kind → List Kind) (o : Option (List Kind)) (js : List Kind) → option_map f o ≡ Some js
+    → is_some o ≡ true
 map_is f None js e = absurd cc
 map_is f (Some x) js e = refl
 
@@ -57,7 +59,9 @@ taken g ks js e =
     let len = length-reverse g.params in
     record {
       args = ap (λ n. take n ks) (sym len) ∙ strip_take (reverse g.params) ks some;
-      rest = some_is _ _ (ap (λ n. Some (pushed g.result (drop n ks))) (sym len) ∙ ap (option_map (pushed g.result)) (sym (strip_drop (reverse g.params) ks some)) ∙ e);
+      rest =
+          some_is _ _
+          (ap (λ n. Some (pushed g.result (drop n ks))) (sym len) ∙ ap (option_map (pushed g.result)) (sym (strip_drop (reverse g.params) ks some)) ∙ e);
     }
 
 row_taken : (b : Bool) (g : Signature) (ks js : List Kind) → called_if b g ks ≡ Some js → Taken g ks js × (b ≡ true)
@@ -67,25 +71,31 @@ row_taken false g ks js e = absurd cc
 kinds_reverse : (vs : List Value) → kinds_of (reverse vs) ≡ reverse (kinds_of vs)
 kinds_reverse [] = refl
 kinds_reverse (v ∷ vs) =
-    ap kinds_of (reverse-append (v ∷ []) vs) ∙ kinds_append (reverse vs) (v ∷ []) ∙ ap (λ l. l ++ kind_of v ∷ []) (kinds_reverse vs) ∙ sym (reverse-append (kind_of v ∷ []) (kinds_of vs))
+    ap kinds_of (reverse-append (v ∷ []) vs) ∙ kinds_append (reverse vs) (v ∷ [])
+    ∙ ap (λ l. l ++ kind_of v ∷ []) (kinds_reverse vs) ∙ sym (reverse-append (kind_of v ∷ []) (kinds_of vs))
 
 -- arguments, from first to last, have the kinds of the parameters
-arguments_kinds : (g : Signature) (ops : List Value) (js : List Kind) → Taken g (kinds_of ops) js → kinds_of (reverse (take (length g.params) ops)) ≡ g.params
+arguments_kinds : (g : Signature) (ops : List Value) (js : List Kind) → Taken g (kinds_of ops) js
+    → kinds_of (reverse (take (length g.params) ops)) ≡ g.params
 arguments_kinds g ops js t =
-    kinds_reverse (take (length g.params) ops) ∙ ap reverse (kinds_take (length g.params) ops ∙ t.args) ∙ reverse-reverse g.params
+    kinds_reverse (take (length g.params) ops) ∙ ap reverse (kinds_take (length g.params) ops ∙ t.args)
+    ∙ reverse-reverse g.params
 
-rest_kinds : (g : Signature) (ops : List Value) (js : List Kind) → Taken g (kinds_of ops) js → pushed g.result (kinds_of (drop (length g.params) ops)) ≡ js
+rest_kinds : (g : Signature) (ops : List Value) (js : List Kind) → Taken g (kinds_of ops) js
+    → pushed g.result (kinds_of (drop (length g.params) ops)) ≡ js
 rest_kinds g ops js t = ap (pushed g.result) (kinds_drop (length g.params) ops) ∙ t.rest
 
 only_is : (b : Bool) (left js : List Kind) → only_if b left ≡ Some js → (b ≡ true) × (left ≡ js)
 only_is true left js e = (refl, some_is left js e)
 only_is false left js e = absurd cc
 
-with_is : (o : Option Kind) (f : Kind → Option (List Kind)) (js : List Kind) → with_kind o f ≡ Some js → (k : Kind) × (o ≡ Some k) × (f k ≡ Some js)
+with_is : (o : Option Kind) (f : Kind → Option (List Kind)) (js : List Kind) → with_kind o f ≡ Some js
+    → (k : Kind) × (o ≡ Some k) × (f k ≡ Some js)
 with_is None f js e = absurd cc
 with_is (Some k) f js e = (k, refl, e)
 
-map_of : (o : Option Kind) (left js : List Kind) → option_map (λ k. k ∷ left) o ≡ Some js → (k : Kind) × (o ≡ Some k) × (k ∷ left ≡ js)
+map_of : (o : Option Kind) (left js : List Kind) → option_map (λ k. k ∷ left) o ≡ Some js
+    → (k : Kind) × (o ≡ Some k) × (k ∷ left ≡ js)
 map_of None left js e = absurd cc
 map_of (Some k) left js e = (k, refl, some_is _ _ e)
 
@@ -99,78 +109,109 @@ none_is (Some k) js e = absurd cc
 module _ (bodies : List Body) (s : Scope) where
   -- what is done fits the kinds behind the instruction, where these operands stood before it
   abbrev pub DidFit : List Value → Did → List Kind → Type 0
-  DidFit ops (Goes slots operands kept) js = (kinds_of kept.globals ≡ s.globals) × (kinds_of slots ≡ s.slots) × (kinds_of operands ≡ js)
+  DidFit ops (Goes slots operands kept) js =
+      (kinds_of kept.globals ≡ s.globals) × (kinds_of slots ≡ s.slots) × (kinds_of operands ≡ js)
   DidFit ops (Jumps to operands) js = kinds_of operands ≡ js
-  DidFit ops (Enters callee slots rest) js = (w : Body) × (slice_get bodies callee ≡ Some w) × (kinds_of slots ≡ w.slots) × (pushed w.result (kinds_of rest) ≡ js)
+  DidFit ops (Enters callee slots rest) js =
+      (w : Body) × (slice_get bodies callee ≡ Some w) × (kinds_of slots ≡ w.slots) ×
+      (pushed w.result (kinds_of rest) ≡ js)
   DidFit ops (Leaves None) js = s.result ≡ None
   DidFit ops (Leaves (Some v)) js = s.result ≡ Some (kind_of v)
   DidFit ops Passes js = kinds_of ops ≡ js
-  DidFit ops (Asks id args rest) js = (is_asked (call_form id) ≡ true) × (kinds_of args ≡ (row_of id).params) × (pushed (row_of id).result (kinds_of rest) ≡ js)
+  DidFit ops (Asks id args rest) js =
+      (is_asked (call_form id) ≡ true) × (kinds_of args ≡ (row_of id).params) ×
+      (pushed (row_of id).result (kinds_of rest) ≡ js)
   DidFit ops (Ends way) js = IsOutcome s.states way
   DidFit ops (Fails fault) js = Unit {0}
   DidFit ops Stuck js = ⊥
 
-module _ (bodies : List Body) (s : Scope) (signed : s.functions ≡ map signature_in bodies) (params : (f : ℕ) (w : Body) → slice_get bodies f ≡ Some w → take (length w.params) w.slots ≡ w.params) where
-  module _ (g : Kept) (held : ℕ) (sl ops : List Value) (js : List Kind) (kg : kinds_of g.globals ≡ s.globals) (ks : kinds_of sl ≡ s.slots) where
-    within_fit : (held' : ℕ) (slots : List Value) (kept : Kept) (d : Did) → DidFit bodies s ops d js → DidFit bodies s ops (within held' slots kept d) js
-    within_fit held' slots kept d h = elim (is_within kept (used held' slots kept)) as (λ b. DidFit bodies s ops (cond b d (Fails StackHeap)) js) [ true ↦ h | false ↦ tt ]
+module _ (bodies : List Body) (s : Scope) (signed : s.functions ≡ map signature_in bodies)
+    (params : (f : ℕ) (w : Body) → slice_get bodies f ≡ Some w → take (length w.params) w.slots ≡ w.params) where
+  module _ (g : Kept) (held : ℕ) (sl ops : List Value) (js : List Kind) (kg : kinds_of g.globals ≡ s.globals)
+      (ks : kinds_of sl ≡ s.slots) where
+    within_fit : (held' : ℕ) (slots : List Value) (kept : Kept) (d : Did) → DidFit bodies s ops d js
+        → DidFit bodies s ops (within held' slots kept d) js
+    within_fit held' slots kept d h =
+        elim (is_within kept (used held' slots kept)) as
+        (λ b. DidFit bodies s ops (cond b d (Fails StackHeap)) js) [ true ↦ h | false ↦ tt ]
 
-    gives_fit : (slots operands : List Value) (kept : Kept) → kinds_of kept.globals ≡ s.globals → kinds_of slots ≡ s.slots → kinds_of operands ≡ js → DidFit bodies s ops (gives held slots operands kept) js
-    gives_fit slots operands kept a b c = within_fit (hold_all held operands) slots kept (Goes slots operands kept) (a, b, c)
+    gives_fit : (slots operands : List Value) (kept : Kept) → kinds_of kept.globals ≡ s.globals
+        → kinds_of slots ≡ s.slots → kinds_of operands ≡ js
+        → DidFit bodies s ops (gives held slots operands kept) js
+    gives_fit slots operands kept a b c =
+        within_fit (hold_all held operands) slots kept (Goes slots operands kept) (a, b, c)
 
     -- a value of this kind on these operands
-    value_fit : (v : Value) (rest : List Value) (k : Kind) → kind_of v ≡ k → k ∷ kinds_of rest ≡ js → DidFit bodies s ops (gives held sl (v ∷ rest) g) js
+    value_fit : (v : Value) (rest : List Value) (k : Kind) → kind_of v ≡ k → k ∷ kinds_of rest ≡ js
+        → DidFit bodies s ops (gives held sl (v ∷ rest) g) js
     value_fit v rest k e f = gives_fit sl (v ∷ rest) g kg ks (ap (λ q. q ∷ kinds_of rest) e ∙ f)
 
-    divisor_fit : (o : Option Value) (rest : List Value) (k : Kind) → ((v : Value) → o ≡ Some v → kind_of v ≡ k) → k ∷ kinds_of rest ≡ js → DidFit bodies s ops (or_zero_divisor o (λ v. gives held sl (v ∷ rest) g)) js
+    divisor_fit : (o : Option Value) (rest : List Value) (k : Kind) → ((v : Value) → o ≡ Some v → kind_of v ≡ k)
+        → k ∷ kinds_of rest ≡ js → DidFit bodies s ops (or_zero_divisor o (λ v. gives held sl (v ∷ rest) g)) js
     divisor_fit None rest k h f = tt
     divisor_fit (Some v) rest k h f = value_fit v rest k (h v refl) f
 
-    branch_fit : (b : Bool) (d e : Did) → DidFit bodies s ops d js → DidFit bodies s ops e js → DidFit bodies s ops (cond b d e) js
+    branch_fit : (b : Bool) (d e : Did) → DidFit bodies s ops d js → DidFit bodies s ops e js
+        → DidFit bodies s ops (cond b d e) js
     branch_fit true d e h k = h
     branch_fit false d e h k = k
 
-    entered_fit : (o : Option Body) (f : ℕ) → slice_get bodies f ≡ o → called (slice_get s.functions f) (kinds_of ops) ≡ Some js → DidFit bodies s ops (entered o f g held sl ops) js
+    entered_fit : (o : Option Body) (f : ℕ) → slice_get bodies f ≡ o
+        → called (slice_get s.functions f) (kinds_of ops) ≡ Some js
+        → DidFit bodies s ops (entered o f g held sl ops) js
     entered_fit None f there e = absurd (never (signature there) e)
       where
         signature : slice_get bodies f ≡ None → slice_get s.functions f ≡ None
-        signature h = ap (λ l. slice_get l f) signed ∙ slice_get-map signature_in bodies f ∙ ap (option_map signature_in) h
+        signature h =
+            ap (λ l. slice_get l f) signed ∙ slice_get-map signature_in bodies f ∙ ap (option_map signature_in) h
 
         never : slice_get s.functions f ≡ None → called (slice_get s.functions f) (kinds_of ops) ≡ Some js → ⊥
-        never h e = let none : called None (kinds_of ops) ≡ Some js = ap (λ o. called o (kinds_of ops)) (sym h) ∙ e in absurd cc
+        never h e =
+            let none : called None (kinds_of ops) ≡ Some js = ap (λ o. called o (kinds_of ops)) (sym h)
+            ∙ e in absurd cc
     entered_fit (Some w) f there e =
-        let named : slice_get s.functions f ≡ Some (signature_in w) = ap (λ l. slice_get l f) signed ∙ slice_get-map signature_in bodies f ∙ ap (option_map signature_in) there in
+        let named : slice_get s.functions f ≡ Some (signature_in w) =
+        ap (λ l. slice_get l f) signed ∙ slice_get-map signature_in bodies f
+        ∙ ap (option_map signature_in) there in
         let t = taken (signature_in w) (kinds_of ops) js (ap (λ o. called o (kinds_of ops)) (sym named) ∙ e) in
         let args = reverse (take (length w.params) ops) in
         let rest = drop (length w.params) ops in
         let all : kinds_of (first_slots w args) ≡ w.slots =
         kinds_append args (map empty_of (drop (length w.params) w.slots))
-        ∙ ap₂ (λ a b. a ++ b) (arguments_kinds (signature_in w) ops js t ∙ sym (params f w there)) (empties_kinds (drop (length w.params) w.slots))
+        ∙ ap₂ (λ a b. a ++ b) (arguments_kinds (signature_in w) ops js t ∙ sym (params f w there))
+        (empties_kinds (drop (length w.params) w.slots))
         ∙ take-append-drop (length w.params) w.slots in
-        within_fit (hold_all held rest + call_charge + charges_of sl) (first_slots w args) g (Enters f (first_slots w args) rest)
+        within_fit (hold_all held rest + call_charge + charges_of sl) (first_slots w args) g
+        (Enters f (first_slots w args) rest)
         (w, there, all, rest_kinds (signature_in w) ops js t)
 
-  module _ (g : Kept) (held : ℕ) (sl : List Value) (js : List Kind) (kg : kinds_of g.globals ≡ s.globals) (ks : kinds_of sl ≡ s.slots) where
+  module _ (g : Kept) (held : ℕ) (sl : List Value) (js : List Kind) (kg : kinds_of g.globals ≡ s.globals)
+      (ks : kinds_of sl ≡ s.slots) where
     -- each instruction, by the table of kinds
-    pub act_fits : (i : Instr) (ops : List Value) → behind s i (kinds_of ops) ≡ Some js → DidFit bodies s ops (act bodies (Some i) g held sl ops) js
+    pub act_fits : (i : Instr) (ops : List Value) → behind s i (kinds_of ops) ≡ Some js
+        → DidFit bodies s ops (act bodies (Some i) g held sl ops) js
     act_fits (Int n) ops e = value_fit g held sl ops js kg ks (value.Int n) ops kind.Int refl (some_is _ _ e)
     act_fits (Str t) ops e = value_fit g held sl ops js kg ks (value.Str t) ops kind.Str refl (some_is _ _ e)
     act_fits (Load n) ops e =
         let r = with_is (slice_get s.slots n) (λ k. Some (k ∷ kinds_of ops)) js e in
-        value_fit g held sl ops js kg ks (get_or sl n absent) ops r.0 (read_kind sl s.slots n absent r.0 ks r.1) (some_is _ _ r.2)
+        value_fit g held sl ops js kg ks (get_or sl n absent) ops r.0 (read_kind sl s.slots n absent r.0 ks r.1)
+        (some_is _ _ r.2)
     act_fits (LoadGlobal n) ops e =
         let r = with_is (slice_get s.globals n) (λ k. Some (k ∷ kinds_of ops)) js e in
-        value_fit g held sl ops js kg ks (get_or g.globals n absent) ops r.0 (read_kind g.globals s.globals n absent r.0 kg r.1) (some_is _ _ r.2)
+        value_fit g held sl ops js kg ks (get_or g.globals n absent) ops r.0
+        (read_kind g.globals s.globals n absent r.0 kg r.1) (some_is _ _ r.2)
     act_fits (Store n) [] e = absurd cc
     act_fits (Store n) (v ∷ ops) e =
         let r = with_is (slice_get s.slots n) (λ q. only_if (same_kind q (kind_of v)) (kinds_of (v ∷ ops))) js e in
         let o = only_is (same_kind r.0 (kind_of v)) (kinds_of (v ∷ ops)) js r.2 in
-        gives_fit g held sl (v ∷ ops) js kg ks (slice_set sl n v) (v ∷ ops) g kg (stored_kinds sl s.slots n v ks (r.1 ∙ ap Some (same_is r.0 (kind_of v) o.0))) o.1
+        gives_fit g held sl (v ∷ ops) js kg ks (slice_set sl n v) (v ∷ ops) g kg
+        (stored_kinds sl s.slots n v ks (r.1 ∙ ap Some (same_is r.0 (kind_of v) o.0))) o.1
     act_fits (StoreGlobal n) [] e = absurd cc
     act_fits (StoreGlobal n) (v ∷ ops) e =
         let r = with_is (slice_get s.globals n) (λ q. only_if (same_kind q (kind_of v)) (kinds_of (v ∷ ops))) js e in
         let o = only_is (same_kind r.0 (kind_of v)) (kinds_of (v ∷ ops)) js r.2 in
-        gives_fit g held sl (v ∷ ops) js kg ks sl (v ∷ ops) (with_global g n v) (stored_kinds g.globals s.globals n v kg (r.1 ∙ ap Some (same_is r.0 (kind_of v) o.0))) ks o.1
+        gives_fit g held sl (v ∷ ops) js kg ks sl (v ∷ ops) (with_global g n v)
+        (stored_kinds g.globals s.globals n v kg (r.1 ∙ ap Some (same_is r.0 (kind_of v) o.0))) ks o.1
     act_fits (Set n) [] e = absurd cc
     act_fits (Set n) (v ∷ ops) e =
         let r = with_is (slice_get s.slots n) (λ q. only_if (same_kind q (kind_of v)) (kinds_of ops)) js e in
@@ -179,31 +220,46 @@ module _ (bodies : List Body) (s : Scope) (signed : s.functions ≡ map signatur
     act_fits Drop [] e = absurd cc
     act_fits Drop (v ∷ ops) e = (kg, ks, some_is _ _ e)
     act_fits (Unary op) [] e = absurd cc
-    act_fits (Unary op) (v ∷ ops) e = value_fit g held sl (v ∷ ops) js kg ks (unary_value op v) ops kind.Int refl (only_is _ _ js e).1
+    act_fits (Unary op) (v ∷ ops) e =
+        value_fit g held sl (v ∷ ops) js kg ks (unary_value op v) ops kind.Int refl (only_is _ _ js e).1
     act_fits (Binary op) [] e = absurd cc
     act_fits (Binary op) (left ∷ []) e = absurd cc
     act_fits (Binary op) (left ∷ right ∷ ops) e =
         let r = map_of (result_kind_of op (kind_of left) (kind_of right)) (kinds_of ops) js e in
-        divisor_fit g held sl (left ∷ right ∷ ops) js kg ks (binary_value op left right) ops r.0 (λ v given. binary_kind op left right v r.0 r.1 given) r.2
+        divisor_fit g held sl (left ∷ right ∷ ops) js kg ks (binary_value op left right) ops r.0
+        (λ v given. binary_kind op left right v r.0 r.1 given) r.2
     act_fits (Cast to) [] e = absurd cc
-    act_fits (Cast to) (v ∷ ops) e = value_fit g held sl (v ∷ ops) js kg ks (cast_of v to) ops to (cast_kind v to) (only_is _ _ js e).1
+    act_fits (Cast to) (v ∷ ops) e =
+        value_fit g held sl (v ∷ ops) js kg ks (cast_of v to) ops to (cast_kind v to) (only_is _ _ js e).1
     act_fits (MakeList n) ops e =
         let some = map_is (λ rest. kind.List ∷ rest) (gather n (kinds_of ops)) js e in
-        let left : Some (kind.List ∷ drop n (kinds_of ops)) ≡ Some js = sym (ap (option_map (λ rest. kind.List ∷ rest)) (gather_drop n (kinds_of ops) some)) ∙ e in
-        value_fit g held sl ops js kg ks (list_value (reverse (take n ops))) (drop n ops) kind.List refl (ap (λ l. kind.List ∷ l) (kinds_drop n ops) ∙ some_is _ _ left)
+        let left : Some (kind.List ∷ drop n (kinds_of ops)) ≡ Some js =
+        sym (ap (option_map (λ rest. kind.List ∷ rest)) (gather_drop n (kinds_of ops) some)) ∙ e in
+        value_fit g held sl ops js kg ks (list_value (reverse (take n ops))) (drop n ops) kind.List refl
+        (ap (λ l. kind.List ∷ l) (kinds_drop n ops) ∙ some_is _ _ left)
     act_fits (Jump to) ops e = some_is _ _ e
     act_fits (JumpIf to) [] e = absurd cc
-    act_fits (JumpIf to) (v ∷ ops) e = branch_fit g held sl (v ∷ ops) js kg ks (truth_of v) (Jumps to ops) (Goes sl ops g) (some_is _ _ e) (kg, ks, some_is _ _ e)
+    act_fits (JumpIf to) (v ∷ ops) e =
+        branch_fit g held sl (v ∷ ops) js kg ks (truth_of v) (Jumps to ops) (Goes sl ops g) (some_is _ _ e)
+        (kg, ks, some_is _ _ e)
     act_fits (JumpIfNot to) [] e = absurd cc
-    act_fits (JumpIfNot to) (v ∷ ops) e = branch_fit g held sl (v ∷ ops) js kg ks (truth_of v) (Goes sl ops g) (Jumps to ops) (kg, ks, some_is _ _ e) (some_is _ _ e)
+    act_fits (JumpIfNot to) (v ∷ ops) e =
+        branch_fit g held sl (v ∷ ops) js kg ks (truth_of v) (Goes sl ops g) (Jumps to ops)
+        (kg, ks, some_is _ _ e) (some_is _ _ e)
     act_fits (Pure id) ops e =
         let r = row_taken (is_pure (call_form id)) (builtin_signature id) (kinds_of ops) js e in
         let n = parameter_count id in
         let v = pure_of id (reverse (take n ops)) in
-        let there : pushed (Some (kind_of v)) (kinds_of (drop n ops)) ≡ js = ap (λ o. pushed o (kinds_of (drop n ops))) (sym (pure_kind id (reverse (take n ops)) r.1)) ∙ rest_kinds (builtin_signature id) ops js r.0 in
+        let there : pushed (Some (kind_of v)) (kinds_of (drop n ops)) ≡ js =
+        ap (λ o. pushed o (kinds_of (drop n ops))) (sym (pure_kind id (reverse (take n ops)) r.1))
+        ∙ rest_kinds (builtin_signature id) ops js r.0 in
         value_fit g held sl ops js kg ks v (drop n ops) (kind_of v) refl there
-    act_fits Used ops e = value_fit g held sl ops js kg ks (value.Int (pos (used (hold_all held ops) sl g))) ops kind.Int refl (some_is _ _ e)
-    act_fits Free ops e = value_fit g held sl ops js kg ks (value.Int (pos (g.limit - used (hold_all held ops) sl g))) ops kind.Int refl (some_is _ _ e)
+    act_fits Used ops e =
+        value_fit g held sl ops js kg ks (value.Int (pos (used (hold_all held ops) sl g))) ops kind.Int refl
+        (some_is _ _ e)
+    act_fits Free ops e =
+        value_fit g held sl ops js kg ks (value.Int (pos (g.limit - used (hold_all held ops) sl g))) ops kind.Int
+        refl (some_is _ _ e)
     act_fits (Host id) ops e =
         let r = row_taken (is_asked (call_form id)) (builtin_signature id) (kinds_of ops) js e in
         (r.1, arguments_kinds (builtin_signature id) ops js r.0, rest_kinds (builtin_signature id) ops js r.0)

@@ -32,7 +32,9 @@ due_of (Some (TestBack t)) next place code = due_test (is_tick next) (is_back (p
 due_of _ next place code = hosts (drop place code)
 
 abbrev pub due_at : List Body → ℕ → ℕ → ℕ
-due_at bodies f place = due_of (instruction_at bodies f place) (instruction_at bodies f (place + 1)) place (code_of (slice_get bodies f))
+due_at bodies f place =
+    due_of (instruction_at bodies f place) (instruction_at bodies f (place + 1)) place
+    (code_of (slice_get bodies f))
 
 abbrev pub due_in : List Body → List MachineCall → ℕ
 due_in bodies [] = 0
@@ -53,9 +55,12 @@ hosts_later (suc p) zero xs le = absurd (omega arith)
 hosts_later (suc p) (suc q) [] le = omega arith
 hosts_later (suc p) (suc q) (x ∷ xs) le = hosts_later p q xs (omega arith)
 
-pub hosts_ask : (p : ℕ) (id : BuiltinId) (xs : List Instr) → slice_get xs p ≡ Some (Host id) → suc (hosts (drop (suc p) xs)) ≤ hosts (drop p xs)
+pub hosts_ask : (p : ℕ) (id : BuiltinId) (xs : List Instr) → slice_get xs p ≡ Some (Host id)
+    → suc (hosts (drop (suc p) xs)) ≤ hosts (drop p xs)
 hosts_ask p id [] e = absurd cc
-hosts_ask zero id (x ∷ xs) e = let same : x ≡ Host id = cc in let d : hosts (x ∷ xs) ≡ suc (hosts xs) = ap (λ i. hosts (i ∷ xs)) same in omega arith
+hosts_ask zero id (x ∷ xs) e =
+    let same : x ≡ Host id = cc in let d : hosts (x ∷ xs) ≡ suc (hosts xs) = ap (λ i. hosts (i ∷ xs)) same in
+    omega arith
 hosts_ask (suc p) id (x ∷ xs) e = hosts_ask p id xs e
 
 pub jump_most : (b : Bool) (q : ℕ) (code : List Instr) → due_jump b q code ≤ hosts code
@@ -84,7 +89,8 @@ pub test_flat : (b c : Bool) (q : ℕ) (code : List Instr) → c ≡ false → d
 test_flat true c q code h = omega arith
 test_flat false c q code h = jump_flat c q code h
 
-pub due_flat : (o next : Option Instr) (q : ℕ) (code : List Instr) → leads_back q o next ≡ false → due_of o next q code ≤ hosts (drop q code)
+pub due_flat : (o next : Option Instr) (q : ℕ) (code : List Instr) → leads_back q o next ≡ false
+    → due_of o next q code ≤ hosts (drop q code)
 due_flat (Some (Tick p)) next q code h = omega arith
 due_flat (Some (Jump t)) next q code h = jump_flat (nat_lt t (suc q)) q code h
 due_flat (Some (JumpIf t)) next q code h = jump_flat (nat_lt t (suc q)) q code h
@@ -94,15 +100,18 @@ due_flat (Some (TestBack t)) next q code h = test_flat (is_tick next) (is_back (
 due_flat None next q code h = omega arith
 due_flat (Some i) next q code h = omega arith
 
-pub due_go : (b : Bool) (t pc d : ℕ) (code : List Instr) → nat_lt t (suc pc) ≡ b → d ≤ hosts (drop t code) → d ≤ due_jump b pc code
+pub due_go : (b : Bool) (t pc d : ℕ) (code : List Instr) → nat_lt t (suc pc) ≡ b → d ≤ hosts (drop t code)
+    → d ≤ due_jump b pc code
 due_go true t pc d code e le = omega (arith, hosts_drop t code)
-due_go false t pc d code e le = let on : pc < t = grind (arith, nat_tests) in omega (arith, hosts_later pc t code (omega arith))
+due_go false t pc d code e le =
+    let on : pc < t = grind (arith, nat_tests) in omega (arith, hosts_later pc t code (omega arith))
 
 pub due_past : (b : Bool) (pc d : ℕ) (code : List Instr) → d ≤ hosts (drop (pc + 1) code) → d ≤ due_jump b pc code
 due_past true pc d code le = omega (arith, hosts_drop (pc + 1) code)
 due_past false pc d code le = omega (arith, hosts_later pc (pc + 1) code (omega arith))
 
-pub due_tick : (o next : Option Instr) (place : ℕ) (code : List Instr) → is_tick o ≡ true → due_of o next place code ≡ 0
+pub due_tick : (o next : Option Instr) (place : ℕ) (code : List Instr) → is_tick o ≡ true
+    → due_of o next place code ≡ 0
 due_tick (Some (Tick point)) next place code h = refl
 due_tick o next place code h = absurd cc
 
@@ -110,14 +119,17 @@ pub open_test : (b c : Bool) (q : ℕ) (code : List Instr) → b ≡ true → du
 open_test true c q code h = refl
 open_test false c q code h = absurd cc
 
-pub due_open : (o next : Option Instr) (place : ℕ) (code : List Instr) → begins o next ≡ true → due_of o next place code ≡ 0
+pub due_open : (o next : Option Instr) (place : ℕ) (code : List Instr) → begins o next ≡ true
+    → due_of o next place code ≡ 0
 due_open (Some (Tick p)) next place code h = refl
 due_open (Some (TestSave t)) next place code h = open_test (is_tick next) (is_back (place + 1) next) place code h
 due_open (Some (TestBack t)) next place code h = open_test (is_tick next) (is_back (place + 1) next) place code h
 due_open None next place code h = absurd cc
 due_open (Some i) next place code h = absurd cc
 
-pub past_test : (b c : Bool) (pc : ℕ) (code : List Instr) (o next : Option Instr) → is_tick o ≡ b → is_back (pc + 1) o ≡ c → (c ≡ false → due_of o next (pc + 1) code ≤ hosts (drop (pc + 1) code)) → due_of o next (pc + 1) code ≤ due_test b c pc code
+pub past_test : (b c : Bool) (pc : ℕ) (code : List Instr) (o next : Option Instr) → is_tick o ≡ b
+    → is_back (pc + 1) o ≡ c → (c ≡ false → due_of o next (pc + 1) code ≤ hosts (drop (pc + 1) code))
+    → due_of o next (pc + 1) code ≤ due_test b c pc code
 past_test true c pc code o next e d flat = omega (arith, due_tick o next (pc + 1) code e)
 past_test false true pc code o next e d flat = due_any o next (pc + 1) code
 past_test false false pc code o next e d flat = due_past false pc _ code (flat refl)

@@ -38,7 +38,8 @@ pub base_count : (outer : List MachineCall) → 1024 + 32 * length outer ≤ bas
 base_count [] = omega arith
 base_count (c ∷ outer) = let a = base_count outer in let b = held_more (base outer) c.operands in omega arith
 
-pub fit_few : (calls : List MachineCall) (g : Kept) → g.limit ≤ 65536 → is_within g (used_in calls g) ≡ true → length calls ≤ 2016
+pub fit_few : (calls : List MachineCall) (g : Kept) → g.limit ≤ 65536 → is_within g (used_in calls g) ≡ true
+    → length calls ≤ 2016
 fit_few [] g lim h = omega arith
 fit_few (c ∷ outer) g lim h =
     let a = base_count outer in
@@ -49,11 +50,13 @@ fit_few (c ∷ outer) g lim h =
 pub checked_few : (m : Machine) → m.kept.limit ≤ 65536 → FewNext (checked m)
 checked_few m lim = by_test (is_within m.kept (used_in m.calls m.kept)) refl
   where
-    by_test : (b : Bool) → is_within m.kept (used_in m.calls m.kept) ≡ b → FewNext (cond b (On m) (Halts (Faulted StackHeap)))
+    by_test : (b : Bool) → is_within m.kept (used_in m.calls m.kept) ≡ b
+        → FewNext (cond b (On m) (Halts (Faulted StackHeap)))
     by_test true e = (fit_few m.calls m.kept lim e, lim)
     by_test false e = tt
 
-pub left_few : (outer : List MachineCall) (g : Kept) (a : List Reply) (o : Option Value) → length outer ≤ 2016 → g.limit ≤ 65536 → FewNext (left_to outer g a o)
+pub left_few : (outer : List MachineCall) (g : Kept) (a : List Reply) (o : Option Value) → length outer ≤ 2016
+    → g.limit ≤ 65536 → FewNext (left_to outer g a o)
 left_few [] g a o le lim = tt
 left_few (c ∷ outer) g a None le lim = (le, lim)
 left_few (c ∷ outer) g a (Some v) le lim = checked_few (put g a c.function c.place c.slots (v ∷ c.operands) outer) lim
@@ -62,11 +65,14 @@ pub only_if_few : (b : Bool) (x : Next) → FewNext x → FewNext (cond b x (Hal
 only_if_few true x h = h
 only_if_few false x h = tt
 
-pub answered_few : (id : BuiltinId) (args : List Value) (b : List Reply) (go : Reply → List Reply → Next) → ((r : Reply) (more : List Reply) → FewNext (go r more)) → FewNext (answered b id args go)
+pub answered_few : (id : BuiltinId) (args : List Value) (b : List Reply) (go : Reply → List Reply → Next)
+    → ((r : Reply) (more : List Reply) → FewNext (go r more)) → FewNext (answered b id args go)
 answered_few id args [] go h = tt
 answered_few id args (r ∷ more) go h = only_if_few (is_answered_by id r) (go r more) (h r more)
 
-pub replied_few : (r : Reply) (g : Kept) (a : List Reply) (f q : ℕ) (sl rest : List Value) (outer : List MachineCall) → suc (length outer) ≤ 2016 → g.limit ≤ 65536 → FewNext (replied r g a f q sl rest outer)
+pub replied_few : (r : Reply) (g : Kept) (a : List Reply) (f q : ℕ) (sl rest : List Value)
+    (outer : List MachineCall) → suc (length outer) ≤ 2016 → g.limit ≤ 65536
+    → FewNext (replied r g a f q sl rest outer)
 replied_few (reply.Value (Some v)) g a f q sl rest outer le lim = checked_few (put g a f q sl (v ∷ rest) outer) lim
 replied_few (reply.Value None) g a f q sl rest outer le lim = (le, lim)
 replied_few (reply.Stop x) g a f q sl rest outer le lim = tt
@@ -79,13 +85,17 @@ Small g held sl _ = Unit {0}
 
 module _ (g : Kept) (held : ℕ) (sl : List Value) where
   gives_small : (slots ops : List Value) (g' : Kept) → g'.limit ≤ 65536 → Small g held sl (gives held slots ops g')
-  gives_small slots ops g' lim = elim (is_within g' (used (hold_all held ops) slots g')) as (λ b. Small g held sl (cond b (Goes slots ops g') (Fails StackHeap))) [ true ↦ lim | false ↦ tt ]
+  gives_small slots ops g' lim =
+      elim (is_within g' (used (hold_all held ops) slots g')) as
+      (λ b. Small g held sl (cond b (Goes slots ops g') (Fails StackHeap))) [ true ↦ lim | false ↦ tt ]
 
-  on_top_small : (ops : List Value) (go : Value → List Value → Did) → ((v : Value) (vs : List Value) → Small g held sl (go v vs)) → Small g held sl (on_top ops go)
+  on_top_small : (ops : List Value) (go : Value → List Value → Did)
+      → ((v : Value) (vs : List Value) → Small g held sl (go v vs)) → Small g held sl (on_top ops go)
   on_top_small [] go h = tt
   on_top_small (v ∷ vs) go h = h v vs
 
-  or_zero_divisor_small : (o : Option Value) (go : Value → Did) → ((v : Value) → Small g held sl (go v)) → Small g held sl (or_zero_divisor o go)
+  or_zero_divisor_small : (o : Option Value) (go : Value → Did) → ((v : Value) → Small g held sl (go v))
+      → Small g held sl (or_zero_divisor o go)
   or_zero_divisor_small None go h = tt
   or_zero_divisor_small (Some v) go h = h v
 
@@ -93,51 +103,78 @@ module _ (g : Kept) (held : ℕ) (sl : List Value) where
   branch_small true d e h k = h
   branch_small false d e h k = k
 
-  entering_small : (j : ℕ) (body : Body) (args rest : List Value) (b : Bool) → is_within g (used (hold_all held rest + call_charge + charges_of sl) (first_slots body args) g) ≡ b → Small g held sl (cond b (Enters j (first_slots body args) rest) (Fails StackHeap))
+  entering_small : (j : ℕ) (body : Body) (args rest : List Value) (b : Bool)
+      → is_within g (used (hold_all held rest + call_charge + charges_of sl) (first_slots body args) g) ≡ b
+      → Small g held sl (cond b (Enters j (first_slots body args) rest) (Fails StackHeap))
   entering_small j body args rest true e = e
   entering_small j body args rest false e = tt
 
   entered_small : (o : Option Body) (j : ℕ) (ops : List Value) → Small g held sl (entered o j g held sl ops)
   entered_small None j ops = tt
-  entered_small (Some body) j ops = entering_small j body (reverse (take (length body.params) ops)) (drop (length body.params) ops) _ refl
+  entered_small (Some body) j ops =
+      entering_small j body (reverse (take (length body.params) ops)) (drop (length body.params) ops) _ refl
 
-pub act_small : (bodies : List Body) (o : Option Instr) (g : Kept) (held : ℕ) (sl ops : List Value) → g.limit ≤ 65536 → Small g held sl (act bodies o g held sl ops)
+pub act_small : (bodies : List Body) (o : Option Instr) (g : Kept) (held : ℕ) (sl ops : List Value)
+    → g.limit ≤ 65536 → Small g held sl (act bodies o g held sl ops)
 act_small bodies None g held sl ops lim = tt
 act_small bodies (Some (Int n)) g held sl ops lim = gives_small g held sl sl (value.Int n ∷ ops) g lim
 act_small bodies (Some (Str t)) g held sl ops lim = gives_small g held sl sl (value.Str t ∷ ops) g lim
 act_small bodies (Some (Load x)) g held sl ops lim = gives_small g held sl sl (get_or sl x absent ∷ ops) g lim
-act_small bodies (Some (LoadGlobal x)) g held sl ops lim = gives_small g held sl sl (get_or g.globals x absent ∷ ops) g lim
-act_small bodies (Some (Store x)) g held sl ops lim = on_top_small g held sl ops _ (λ v rest. gives_small g held sl (slice_set sl x v) (v ∷ rest) g lim)
-act_small bodies (Some (StoreGlobal x)) g held sl ops lim = on_top_small g held sl ops _ (λ v rest. gives_small g held sl sl (v ∷ rest) (with_global g x v) lim)
+act_small bodies (Some (LoadGlobal x)) g held sl ops lim =
+    gives_small g held sl sl (get_or g.globals x absent ∷ ops) g lim
+act_small bodies (Some (Store x)) g held sl ops lim =
+    on_top_small g held sl ops _ (λ v rest. gives_small g held sl (slice_set sl x v) (v ∷ rest) g lim)
+act_small bodies (Some (StoreGlobal x)) g held sl ops lim =
+    on_top_small g held sl ops _ (λ v rest. gives_small g held sl sl (v ∷ rest) (with_global g x v) lim)
 act_small bodies (Some (Set x)) g held sl ops lim = on_top_small g held sl ops _ (λ v rest. lim)
-act_small bodies (Some (Unary op)) g held sl ops lim = on_top_small g held sl ops _ (λ v rest. gives_small g held sl sl (unary_value op v ∷ rest) g lim)
-act_small bodies (Some (Binary op)) g held sl ops lim = on_top_small g held sl ops _ (λ v more. on_top_small g held sl more _ (λ w rest. or_zero_divisor_small g held sl (binary_value op v w) _ (λ r. gives_small g held sl sl (r ∷ rest) g lim)))
-act_small bodies (Some (Cast k)) g held sl ops lim = on_top_small g held sl ops _ (λ v rest. gives_small g held sl sl (cast_of v k ∷ rest) g lim)
-act_small bodies (Some (MakeList n)) g held sl ops lim = gives_small g held sl sl (list_value (reverse (take n ops)) ∷ drop n ops) g lim
-act_small bodies (Some (Pure id)) g held sl ops lim = gives_small g held sl sl (pure_of id (reverse (take (parameter_count id) ops)) ∷ drop (parameter_count id) ops) g lim
+act_small bodies (Some (Unary op)) g held sl ops lim =
+    on_top_small g held sl ops _ (λ v rest. gives_small g held sl sl (unary_value op v ∷ rest) g lim)
+act_small bodies (Some (Binary op)) g held sl ops lim =
+    on_top_small g held sl ops _
+    (λ v more. on_top_small g held sl more _ (λ w rest. or_zero_divisor_small g held sl (binary_value op v w) _ (λ r. gives_small g held sl sl (r ∷ rest) g lim)))
+act_small bodies (Some (Cast k)) g held sl ops lim =
+    on_top_small g held sl ops _ (λ v rest. gives_small g held sl sl (cast_of v k ∷ rest) g lim)
+act_small bodies (Some (MakeList n)) g held sl ops lim =
+    gives_small g held sl sl (list_value (reverse (take n ops)) ∷ drop n ops) g lim
+act_small bodies (Some (Pure id)) g held sl ops lim =
+    gives_small g held sl sl
+    (pure_of id (reverse (take (parameter_count id) ops)) ∷ drop (parameter_count id) ops) g lim
 act_small bodies (Some Drop) g held sl ops lim = on_top_small g held sl ops _ (λ v rest. lim)
-act_small bodies (Some Used) g held sl ops lim = gives_small g held sl sl (value.Int (pos (used (hold_all held ops) sl g)) ∷ ops) g lim
-act_small bodies (Some Free) g held sl ops lim = gives_small g held sl sl (value.Int (pos (g.limit - used (hold_all held ops) sl g)) ∷ ops) g lim
-act_small bodies (Some (JumpIf t)) g held sl ops lim = on_top_small g held sl ops _ (λ v rest. branch_small g held sl (truth_of v) (Jumps t rest) (Goes sl rest g) tt lim)
-act_small bodies (Some (JumpIfNot t)) g held sl ops lim = on_top_small g held sl ops _ (λ v rest. branch_small g held sl (truth_of v) (Goes sl rest g) (Jumps t rest) lim tt)
+act_small bodies (Some Used) g held sl ops lim =
+    gives_small g held sl sl (value.Int (pos (used (hold_all held ops) sl g)) ∷ ops) g lim
+act_small bodies (Some Free) g held sl ops lim =
+    gives_small g held sl sl (value.Int (pos (g.limit - used (hold_all held ops) sl g)) ∷ ops) g lim
+act_small bodies (Some (JumpIf t)) g held sl ops lim =
+    on_top_small g held sl ops _
+    (λ v rest. branch_small g held sl (truth_of v) (Jumps t rest) (Goes sl rest g) tt lim)
+act_small bodies (Some (JumpIfNot t)) g held sl ops lim =
+    on_top_small g held sl ops _
+    (λ v rest. branch_small g held sl (truth_of v) (Goes sl rest g) (Jumps t rest) lim tt)
 act_small bodies (Some (Call j p)) g held sl ops lim = entered_small g held sl (slice_get bodies j) j ops
 act_small bodies (Some ReturnValue) g held sl ops lim = on_top_small g held sl ops _ (λ v rest. tt)
 act_small bodies (Some (TestSave t)) g held sl ops lim = lim
 act_small bodies (Some (TestBack t)) g held sl ops lim = lim
 act_small bodies (Some i) g held sl ops lim = tt
 
-pub after_few : (d : Did) (g : Kept) (a : List Reply) (f pc : ℕ) (sl ops : List Value) (outer : List MachineCall) → Small g (base outer) sl d → suc (length outer) ≤ 2016 → g.limit ≤ 65536 → FewNext (after d g a f pc sl ops outer)
+pub after_few : (d : Did) (g : Kept) (a : List Reply) (f pc : ℕ) (sl ops : List Value) (outer : List MachineCall)
+    → Small g (base outer) sl d → suc (length outer) ≤ 2016 → g.limit ≤ 65536
+    → FewNext (after d g a f pc sl ops outer)
 after_few (Goes sl' ops' g') g a f pc sl ops outer h le lim = (le, h)
 after_few (Jumps t ops') g a f pc sl ops outer h le lim = (le, lim)
 after_few (Enters j ns rest) g a f pc sl ops outer h le lim =
     (fit_few (call_at j 0 ns [] ∷ call_at f (pc + 1) sl rest ∷ outer) g lim h, lim)
 after_few (Leaves o) g a f pc sl ops outer h le lim = left_few outer g a o (omega arith) lim
 after_few Passes g a f pc sl ops outer h le lim = (le, lim)
-after_few (Asks id args rest) g a f pc sl ops outer h le lim = answered_few id args a _ (λ r more. replied_few r g more f (pc + 1) sl rest outer le lim)
+after_few (Asks id args rest) g a f pc sl ops outer h le lim =
+    answered_few id args a _ (λ r more. replied_few r g more f (pc + 1) sl rest outer le lim)
 after_few (Ends s) g a f pc sl ops outer h le lim = tt
 after_few (Fails x) g a f pc sl ops outer h le lim = tt
 after_few Stuck g a f pc sl ops outer h le lim = tt
 
-pub step_few : (bodies : List Body) (g : Kept) (a : List Reply) (calls : List MachineCall) → length calls ≤ 2016 → g.limit ≤ 65536 → FewNext (step_in bodies g a calls)
+pub step_few : (bodies : List Body) (g : Kept) (a : List Reply) (calls : List MachineCall) → length calls ≤ 2016
+    → g.limit ≤ 65536 → FewNext (step_in bodies g a calls)
 step_few bodies g a [] le lim = tt
-step_few bodies g a (c ∷ outer) le lim = after_few (act bodies (instruction_at bodies c.function c.place) g (base outer) c.slots c.operands) g a c.function c.place c.slots c.operands outer (act_small bodies (instruction_at bodies c.function c.place) g (base outer) c.slots c.operands lim) le lim
+step_few bodies g a (c ∷ outer) le lim =
+    after_few (act bodies (instruction_at bodies c.function c.place) g (base outer) c.slots c.operands) g a
+    c.function c.place c.slots c.operands outer
+    (act_small bodies (instruction_at bodies c.function c.place) g (base outer) c.slots c.operands lim) le lim

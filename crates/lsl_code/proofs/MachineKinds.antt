@@ -37,7 +37,8 @@ use Rattle.lsl_code.proofs.UnitTold.{fits_tells}
 use Rattle.lsl_code.proofs.ValueKinds.{kinds_append, empties_kinds}
 
 -- straight on, the next place finds the kinds
-straight_finds : (w : Body) (place : ℕ) (i : Instr) (js : List Kind) → is_straight i ≡ true → goes_on w place i js ≡ true → finds w (place + 1) js ≡ true
+straight_finds : (w : Body) (place : ℕ) (i : Instr) (js : List Kind) → is_straight i ≡ true
+    → goes_on w place i js ≡ true → finds w (place + 1) js ≡ true
 straight_finds w place (JumpIf to) js st on = (both_true _ _ on).1
 straight_finds w place (JumpIfNot to) js st on = (both_true _ _ on).1
 straight_finds w place (Jump to) js st on = absurd cc
@@ -48,14 +49,16 @@ straight_finds w place Reset js st on = absurd cc
 straight_finds w place i js st on = on
 
 -- and where a jump leads, that place does
-jump_finds : (w : Body) (place to : ℕ) (i : Instr) (js : List Kind) → LeadsTo i to → goes_on w place i js ≡ true → finds w to js ≡ true
+jump_finds : (w : Body) (place to : ℕ) (i : Instr) (js : List Kind) → LeadsTo i to → goes_on w place i js ≡ true
+    → finds w to js ≡ true
 jump_finds w place to (Jump t) js e on = subst (λ q. finds w q js ≡ true) e on
 jump_finds w place to (JumpIf t) js e on = subst (λ q. finds w q js ≡ true) e (both_true _ _ on).0
 jump_finds w place to (JumpIfNot t) js e on = subst (λ q. finds w q js ≡ true) e (both_true _ _ on).0
 jump_finds w place to i js e on = absurd e
 
 -- an answer of the right kind is one to its call
-answer_taken : (result : Option Kind) (r : Reply) (id : BuiltinId) → (row_of id).result ≡ result → Answers id r → is_answer_to result r ≡ true
+answer_taken : (result : Option Kind) (r : Reply) (id : BuiltinId) → (row_of id).result ≡ result → Answers id r
+    → is_answer_to result r ≡ true
 answer_taken None (reply.Value None) id e h = refl
 answer_taken None (reply.Value (Some v)) id e h = let never : Some (kind_of v) ≡ None = h ∙ e in absurd cc
 answer_taken (Some k) (reply.Value None) id e h = let never : None ≡ Some k = h ∙ e in absurd cc
@@ -68,7 +71,8 @@ some_within [] k lt e = absurd (omega arith)
 some_within (x ∷ xs) zero lt e = absurd cc
 some_within (x ∷ xs) (suc k) lt e = some_within xs k (omega arith) e
 
-module _ (globals : List Value) (states : List StateCode) (bodies : List Body) (ok : IsWellFormedUnit globals states bodies) where
+module _ (globals : List Value) (states : List StateCode) (bodies : List Body)
+    (ok : IsWellFormedUnit globals states bodies) where
   abbrev kept_kinds : List Kind
   kept_kinds = kinds_of globals
 
@@ -76,68 +80,99 @@ module _ (globals : List Value) (states : List StateCode) (bodies : List Body) (
   IsRight x = IsKindedNext kept_kinds (length states) bodies x
 
   checked_right : (m : Machine) → IsKindedMachine kept_kinds bodies m → IsRight (checked m)
-  checked_right m h = elim (is_within m.kept (used_in m.calls m.kept)) as (λ b. IsRight (cond b (On m) (Halts (Faulted StackHeap)))) [ true ↦ h | false ↦ tt ]
+  checked_right m h =
+      elim (is_within m.kept (used_in m.calls m.kept)) as
+      (λ b. IsRight (cond b (On m) (Halts (Faulted StackHeap)))) [ true ↦ h | false ↦ tt ]
 
-  left_right : (result : Option Kind) (outer : List MachineCall) (g : Kept) (a : List Reply) (given : Option Value) → kinds_of g.globals ≡ kept_kinds → AreWaiting bodies result outer → result ≡ option_map kind_of given → IsRight (left_to outer g a given)
+  left_right : (result : Option Kind) (outer : List MachineCall) (g : Kept) (a : List Reply)
+      (given : Option Value) → kinds_of g.globals ≡ kept_kinds → AreWaiting bodies result outer
+      → result ≡ option_map kind_of given → IsRight (left_to outer g a given)
   left_right result [] g a given kg waits e = (kg, tt)
   left_right result (c ∷ outer) g a None kg waits e =
       let stands = subst (λ o. StandsWith waits.0 c.place (pushed o (kinds_of c.operands))) e waits.2.1 in
       record { kept = kg; calls = (waits.0, waits.1, (waits.2.0, stands), waits.3) }
   left_right result (c ∷ outer) g a (Some v) kg waits e =
       let stands = subst (λ o. StandsWith waits.0 c.place (pushed o (kinds_of c.operands))) e waits.2.1 in
-      checked_right (put g a c.function c.place c.slots (v ∷ c.operands) outer) (record { kept = kg; calls = (waits.0, waits.1, (waits.2.0, stands), waits.3) })
+      checked_right (put g a c.function c.place c.slots (v ∷ c.operands) outer)
+      (record { kept = kg; calls = (waits.0, waits.1, (waits.2.0, stands), waits.3) })
 
-  module _ (f : ℕ) (w : Body) (there : slice_get bodies f ≡ Some w) (outer : List MachineCall) (waits : AreWaiting bodies w.result outer) where
-    put_right : (g : Kept) (a : List Reply) (place : ℕ) (sl ops : List Value) (js : List Kind) → kinds_of g.globals ≡ kept_kinds → kinds_of sl ≡ w.slots → kinds_of ops ≡ js → finds w place js ≡ true → IsKindedMachine kept_kinds bodies (put g a f place sl ops outer)
+  module _ (f : ℕ) (w : Body) (there : slice_get bodies f ≡ Some w) (outer : List MachineCall)
+      (waits : AreWaiting bodies w.result outer) where
+    put_right : (g : Kept) (a : List Reply) (place : ℕ) (sl ops : List Value) (js : List Kind)
+        → kinds_of g.globals ≡ kept_kinds → kinds_of sl ≡ w.slots → kinds_of ops ≡ js → finds w place js ≡ true
+        → IsKindedMachine kept_kinds bodies (put g a f place sl ops outer)
     put_right g a place sl ops js kg ks ko on =
-        record { kept = kg; calls = (w, there, (ks, subst (λ l. StandsWith w place l) (sym ko) (finds_told w place js on)), waits) }
+        record
+        { kept = kg; calls = (w, there, (ks, subst (λ l. StandsWith w place l) (sym ko) (finds_told w place js on)), waits) }
 
-    replied_right : (id : BuiltinId) (r : Reply) (g : Kept) (a : List Reply) (place : ℕ) (sl rest : List Value) (js : List Kind) → kinds_of g.globals ≡ kept_kinds → kinds_of sl ≡ w.slots → pushed (row_of id).result (kinds_of rest) ≡ js → finds w place js ≡ true → Answers id r → IsRight (replied r g a f place sl rest outer)
+    replied_right : (id : BuiltinId) (r : Reply) (g : Kept) (a : List Reply) (place : ℕ) (sl rest : List Value)
+        (js : List Kind) → kinds_of g.globals ≡ kept_kinds → kinds_of sl ≡ w.slots
+        → pushed (row_of id).result (kinds_of rest) ≡ js → finds w place js ≡ true → Answers id r
+        → IsRight (replied r g a f place sl rest outer)
     replied_right id (reply.Value (Some v)) g a place sl rest js kg ks e on h =
-        checked_right (put g a f place sl (v ∷ rest) outer) (put_right g a place sl (v ∷ rest) js kg ks (ap (λ o. pushed o (kinds_of rest)) h ∙ e) on)
+        checked_right (put g a f place sl (v ∷ rest) outer)
+        (put_right g a place sl (v ∷ rest) js kg ks (ap (λ o. pushed o (kinds_of rest)) h ∙ e) on)
     replied_right id (reply.Value None) g a place sl rest js kg ks e on h =
         put_right g a place sl rest js kg ks (ap (λ o. pushed o (kinds_of rest)) h ∙ e) on
     replied_right id (reply.Stop fault) g a place sl rest js kg ks e on h = tt
 
-    module _ (place : ℕ) (i : Instr) (g : Kept) (sl ops : List Value) (js : List Kind) (kg : kinds_of g.globals ≡ kept_kinds) (ks : kinds_of sl ≡ w.slots) (on : goes_on w place i js ≡ true) where
-      answered_right : (a : List Reply) (id : BuiltinId) (args rest : List Value) → is_asked (call_form id) ≡ true → kinds_of args ≡ (row_of id).params → pushed (row_of id).result (kinds_of rest) ≡ js → finds w (place + 1) js ≡ true → ((r : Reply) (more : List Reply) → a ≡ r ∷ more → Answers id r) → IsRight (answered a id args (λ r more. replied r g more f (place + 1) sl rest outer))
-      answered_right [] id args rest asked ka kr next fits = (asked, ka)
-      answered_right (r ∷ more) id args rest asked ka kr next fits =
-          let h = fits r more refl in
-          subst (λ b. IsRight (cond b (replied r g more f (place + 1) sl rest outer) (Halts Lost))) (sym (answer_taken (row_of id).result r id refl h))
-          (replied_right id r g more (place + 1) sl rest js kg ks kr next h)
+    module _ (place : ℕ) (i : Instr) (g : Kept) (sl ops : List Value) (js : List Kind)
+        (kg : kinds_of g.globals ≡ kept_kinds) (ks : kinds_of sl ≡ w.slots) (on : goes_on w place i js ≡ true)
+      where
+        answered_right : (a : List Reply) (id : BuiltinId) (args rest : List Value) → is_asked (call_form id) ≡ true
+            → kinds_of args ≡ (row_of id).params → pushed (row_of id).result (kinds_of rest) ≡ js
+            → finds w (place + 1) js ≡ true → ((r : Reply) (more : List Reply) → a ≡ r ∷ more → Answers id r)
+            → IsRight (answered a id args (λ r more. replied r g more f (place + 1) sl rest outer))
+        answered_right [] id args rest asked ka kr next fits = (asked, ka)
+        answered_right (r ∷ more) id args rest asked ka kr next fits =
+            let h = fits r more refl in
+            subst (λ b. IsRight (cond b (replied r g more f (place + 1) sl rest outer) (Halts Lost)))
+            (sym (answer_taken (row_of id).result r id refl h))
+            (replied_right id r g more (place + 1) sl rest js kg ks kr next h)
 
-      after_right : (d : Did) (a : List Reply) → By bodies i d → DidFit bodies (scope (names_in globals states bodies) w.slots w.result) ops d js → ((id : BuiltinId) (r : Reply) (more : List Reply) → i ≡ Host id → a ≡ r ∷ more → Answers id r) → IsRight (after d g a f place sl ops outer)
-      after_right (Goes slots operands kept) a by fit fits =
-          put_right kept a (place + 1) slots operands js fit.0 fit.1 fit.2 (straight_finds w place i js by on)
-      after_right (Jumps to operands) a by fit fits = put_right g a to sl operands js kg ks fit (jump_finds w place to i js by on)
-      after_right (Enters callee slots rest) a by fit fits =
-          let next : finds w (place + 1) js ≡ true = subst (λ x. goes_on w place x js ≡ true) by.1 on in
-          record {
-            kept = kg;
-            calls = (fit.0, fit.1, (fit.2, (ok.functions callee fit.0 fit.1).first), (w, there, (ks, subst (λ l. StandsWith w (place + 1) l) (sym fit.3) (finds_told w (place + 1) js next)), waits));
-          }
-      after_right (Leaves None) a by fit fits = left_right w.result outer g a None kg waits fit
-      after_right (Leaves (Some v)) a by fit fits = left_right w.result outer g a (Some v) kg waits fit
-      after_right Passes a by fit fits =
-          put_right g a (place + 1) sl ops js kg ks fit (subst (λ x. goes_on w place x js ≡ true) by.1 on)
-      after_right (Asks id args rest) a by fit fits =
-          answered_right a id args rest fit.0 fit.1 fit.2 (subst (λ x. goes_on w place x js ≡ true) by on) (λ r more e. fits id r more by e)
-      after_right (Ends way) a by fit fits = (kg, fit)
-      after_right (Fails fault) a by fit fits = tt
-      after_right Stuck a by fit fits = fit
+        after_right : (d : Did) (a : List Reply) → By bodies i d
+            → DidFit bodies (scope (names_in globals states bodies) w.slots w.result) ops d js
+            → ((id : BuiltinId) (r : Reply) (more : List Reply) → i ≡ Host id → a ≡ r ∷ more → Answers id r)
+            → IsRight (after d g a f place sl ops outer)
+        after_right (Goes slots operands kept) a by fit fits =
+            put_right kept a (place + 1) slots operands js fit.0 fit.1 fit.2 (straight_finds w place i js by on)
+        after_right (Jumps to operands) a by fit fits =
+            put_right g a to sl operands js kg ks fit (jump_finds w place to i js by on)
+        after_right (Enters callee slots rest) a by fit fits =
+            let next : finds w (place + 1) js ≡ true = subst (λ x. goes_on w place x js ≡ true) by.1 on in
+            record {
+              kept = kg;
+              calls =
+                  (fit.0, fit.1, (fit.2, (ok.functions callee fit.0 fit.1).first), (w, there, (ks, subst (λ l. StandsWith w (place + 1) l) (sym fit.3) (finds_told w (place + 1) js next)), waits));
+            }
+        after_right (Leaves None) a by fit fits = left_right w.result outer g a None kg waits fit
+        after_right (Leaves (Some v)) a by fit fits = left_right w.result outer g a (Some v) kg waits fit
+        after_right Passes a by fit fits =
+            put_right g a (place + 1) sl ops js kg ks fit (subst (λ x. goes_on w place x js ≡ true) by.1 on)
+        after_right (Asks id args rest) a by fit fits =
+            answered_right a id args rest fit.0 fit.1 fit.2 (subst (λ x. goes_on w place x js ≡ true) by on)
+            (λ r more e. fits id r more by e)
+        after_right (Ends way) a by fit fits = (kg, fit)
+        after_right (Fails fault) a by fit fits = tt
+        after_right Stuck a by fit fits = fit
 
   params_told : (f : ℕ) (w : Body) → slice_get bodies f ≡ Some w → take (length w.params) w.slots ≡ w.params
   params_told f w there = (ok.functions f w there).params
 
-  within_code : (f : ℕ) (w : Body) (place : ℕ) (ks : List Kind) → slice_get bodies f ≡ Some w → StandsWith w place ks → place < length w.code
-  within_code f w place ks there stands = omega (arith, slice_get_within w.stacks place _ stands, (ok.functions f w there).stacks)
+  within_code : (f : ℕ) (w : Body) (place : ℕ) (ks : List Kind) → slice_get bodies f ≡ Some w
+      → StandsWith w place ks → place < length w.code
+  within_code f w place ks there stands =
+      omega (arith, slice_get_within w.stacks place _ stands, (ok.functions f w there).stacks)
 
-  module _ (g : Kept) (a : List Reply) (c : MachineCall) (outer : List MachineCall) (w : Body) (kg : kinds_of g.globals ≡ kept_kinds) (there : slice_get bodies c.function ≡ Some w) (call : IsKindedCall w c (kinds_of c.operands)) (waits : AreWaiting bodies w.result outer) (fits : IsAnsweredIn bodies (c ∷ outer) a) where
+  module _ (g : Kept) (a : List Reply) (c : MachineCall) (outer : List MachineCall) (w : Body)
+      (kg : kinds_of g.globals ≡ kept_kinds) (there : slice_get bodies c.function ≡ Some w)
+      (call : IsKindedCall w c (kinds_of c.operands)) (waits : AreWaiting bodies w.result outer)
+      (fits : IsAnsweredIn bodies (c ∷ outer) a) where
     is_at : (o : Option Instr) → slice_get w.code c.place ≡ o → instruction_at bodies c.function c.place ≡ o
     is_at o e = ap (λ b. instruction_in b c.place) there ∙ e
 
-    right_at : (i : Instr) → slice_get w.code c.place ≡ Some i → IsRight (done_by bodies (Some i) g a c.function c.place c.slots c.operands outer)
+    right_at : (i : Instr) → slice_get w.code c.place ≡ Some i
+        → IsRight (done_by bodies (Some i) g a c.function c.place c.slots c.operands outer)
     right_at i here =
         let told = (ok.functions c.function w there).finds c.place i (kinds_of c.operands) here call.1 in
         let s = scope (names_in globals states bodies) w.slots w.result in
@@ -147,18 +182,23 @@ module _ (globals : List Value) (states : List StateCode) (bodies : List Body) (
         (λ id r more is e. fits id r more (is_at (Some i) here ∙ ap Some is) e)
 
     by_instruction : (o : Option Instr) → slice_get w.code c.place ≡ o → IsRight (step_in bodies g a (c ∷ outer))
-    by_instruction None e = absurd (some_within w.code c.place (within_code c.function w c.place (kinds_of c.operands) there call.1) e)
+    by_instruction None e =
+        absurd
+        (some_within w.code c.place (within_code c.function w c.place (kinds_of c.operands) there call.1) e)
     by_instruction (Some i) e =
-        subst (λ o. IsRight (done_by bodies o g a c.function c.place c.slots c.operands outer)) (sym (is_at (Some i) e)) (right_at i e)
+        subst (λ o. IsRight (done_by bodies o g a c.function c.place c.slots c.operands outer))
+        (sym (is_at (Some i) e)) (right_at i e)
 
-  step_right : (g : Kept) (a : List Reply) (calls : List MachineCall) → kinds_of g.globals ≡ kept_kinds → AreKindedCalls bodies calls → IsAnsweredIn bodies calls a → IsRight (step_in bodies g a calls)
+  step_right : (g : Kept) (a : List Reply) (calls : List MachineCall) → kinds_of g.globals ≡ kept_kinds
+      → AreKindedCalls bodies calls → IsAnsweredIn bodies calls a → IsRight (step_in bodies g a calls)
   step_right g a [] kg kinded fits = absurd kinded
   step_right g a (c ∷ outer) kg kinded fits =
       by_instruction g a c outer kinded.0 kg kinded.1 kinded.2 kinded.3 fits (slice_get kinded.0.code c.place) refl
 
 pub nothing_is_stuck : NothingIsStuck
 nothing_is_stuck globals states bodies fits m kinded answered =
-    step_right globals states bodies (fits_tells globals states bodies fits) m.kept m.answers m.calls kinded.kept kinded.calls answered
+    step_right globals states bodies (fits_tells globals states bodies fits) m.kept m.answers m.calls kinded.kept
+    kinded.calls answered
 
 pub begins_kinded : BeginsKinded
 begins_kinded globals states bodies fits f w kept args answers there kg ka =

@@ -16,7 +16,8 @@ free_point [] n k = n
 free_point (i ∷ is) n zero = n
 free_point (i ∷ is) n (suc k) = free_point is (next_point i n) k
 
-pub numbered_at : (d : List Instr) (n k : ℕ) → slice_get (numbered d n) k ≡ option_map (λ i. pointed i (free_point d n k)) (slice_get d k)
+pub numbered_at : (d : List Instr) (n k : ℕ)
+    → slice_get (numbered d n) k ≡ option_map (λ i. pointed i (free_point d n k)) (slice_get d k)
 numbered_at [] n k = refl
 numbered_at (i ∷ d) n zero = refl
 numbered_at (i ∷ d) n (suc k) = numbered_at d (next_point i n) k
@@ -31,17 +32,20 @@ behind_pointed s (Tick line) p ks = refl
 behind_pointed s (Call f line) p ks = refl
 behind_pointed s i p ks = refl
 
-pub goes_on_pointed : (w : Body) (k : ℕ) (i : Instr) (p : ℕ) (ks : List Kind) → goes_on w k (pointed i p) ks ≡ goes_on w k i ks
+pub goes_on_pointed : (w : Body) (k : ℕ) (i : Instr) (p : ℕ) (ks : List Kind)
+    → goes_on w k (pointed i p) ks ≡ goes_on w k i ks
 goes_on_pointed w k (Tick line) p ks = refl
 goes_on_pointed w k (Call f line) p ks = refl
 goes_on_pointed w k i p ks = refl
 
-pub jumps_pointed : (code : List Instr) (k : ℕ) (i : Instr) (p : ℕ) → jumps_on code k (pointed i p) ≡ jumps_on code k i
+pub jumps_pointed : (code : List Instr) (k : ℕ) (i : Instr) (p : ℕ)
+    → jumps_on code k (pointed i p) ≡ jumps_on code k i
 jumps_pointed code k (Tick line) p = refl
 jumps_pointed code k (Call f line) p = refl
 jumps_pointed code k i p = refl
 
-pub back_pointed : (o : Option Instr) (place : ℕ) (p : ℕ) → is_back place (option_map (λ i. pointed i p) o) ≡ is_back place o
+pub back_pointed : (o : Option Instr) (place : ℕ) (p : ℕ)
+    → is_back place (option_map (λ i. pointed i p) o) ≡ is_back place o
 back_pointed None place p = refl
 back_pointed (Some (Tick line)) place p = refl
 back_pointed (Some (Call f line)) place p = refl

@@ -58,23 +58,31 @@ abbrev pub all_fall_through : List Instr → Bool
 all_fall_through [] = true
 all_fall_through (i ∷ is) = falls_through i && all_fall_through is
 
-pub all_fall_through-append : (a b : List Instr) → all_fall_through a ≡ true → all_fall_through b ≡ true → all_fall_through (a ++ b) ≡ true
+pub all_fall_through-append : (a b : List Instr) → all_fall_through a ≡ true → all_fall_through b ≡ true
+    → all_fall_through (a ++ b) ≡ true
 all_fall_through-append [] b e f = f
 all_fall_through-append (i ∷ a) b e f = step (falls_through i) e (λ g. all_fall_through-append a b g f)
   where
-    step : (t : Bool) → (t && all_fall_through a) ≡ true → (all_fall_through a ≡ true → all_fall_through (a ++ b) ≡ true) → (t && all_fall_through (a ++ b)) ≡ true
+    step : (t : Bool) → (t && all_fall_through a) ≡ true
+        → (all_fall_through a ≡ true → all_fall_through (a ++ b) ≡ true) → (t && all_fall_through (a ++ b)) ≡ true
     step true e more = more e
     step false e more = absurd cc
 
 module _ (s : Scope) (d : List Instr) where
   -- the kinds behind instructions that run
-  pub kinds_behind : (is : List Instr) (pc : ℕ) (js : List Kind) → StandsAt d pc is → runs s is (kinds_before s d [] pc) ≡ Some js → kinds_before s d [] (pc + length is) ≡ js
-  kinds_behind [] pc js h e = let z : pc + 0 ≡ pc = omega arith in let same : kinds_before s d [] pc ≡ js = cc in ap (kinds_before s d []) z ∙ same
+  pub kinds_behind : (is : List Instr) (pc : ℕ) (js : List Kind) → StandsAt d pc is
+      → runs s is (kinds_before s d [] pc) ≡ Some js → kinds_before s d [] (pc + length is) ≡ js
+  kinds_behind [] pc js h e =
+      let z : pc + 0 ≡ pc = omega arith in let same : kinds_before s d [] pc ≡ js = cc in ap (kinds_before s d [])
+      z
+      ∙ same
   kinds_behind (i ∷ is) pc js h e =
       let z : pc + 1 + length is ≡ pc + length (i ∷ is) = omega arith in
       let y : pc + 1 ≡ suc pc = omega arith in
       let next = ap (kinds_before s d []) y ∙ kinds_before_step s d [] pc i h.0 in
-      ap (kinds_before s d []) (sym z) ∙ kinds_behind is (pc + 1) js h.1 (ap (runs s is) next ∙ (step_some s (behind s i (kinds_before s d [] pc)) is js e).1)
+      ap (kinds_before s d []) (sym z)
+      ∙ kinds_behind is (pc + 1) js h.1
+      (ap (runs s is) next ∙ (step_some s (behind s i (kinds_before s d [] pc)) is js e).1)
 
   pub join : (pc : ℕ) (a b : List Instr) → Ways s d pc a → Ways s d (pc + length a) b → Ways s d pc (a ++ b)
   join pc [] b ha hb = let e : pc + 0 ≡ pc = omega arith in subst (λ n. Ways s d n b) e hb
@@ -115,11 +123,14 @@ module _ (s : Scope) (d : List Instr) where
   through_way pc i e o = o
 
   -- code that is in order, and begins at an open place, where an open place counted behind it
-  pub through_piece : (is : List Instr) (pc : ℕ) → all_fall_through is ≡ true → StandsAt d pc is → Open s d (pc + length is) → Ways s d pc is × Open s d pc
+  pub through_piece : (is : List Instr) (pc : ℕ) → all_fall_through is ≡ true → StandsAt d pc is
+      → Open s d (pc + length is) → Ways s d pc is × Open s d pc
   through_piece [] pc e h o = let z : pc + 0 ≡ pc = omega arith in (tt, subst (Open s d) z o)
   through_piece (i ∷ is) pc e h o = step (falls_through i) refl e
       (λ f. let z : pc + length (i ∷ is) ≡ pc + 1 + length is = omega arith in through_piece is (pc + 1) f h.1 (subst (Open s d) z o))
     where
-      step : (t : Bool) → falls_through i ≡ t → (t && all_fall_through is) ≡ true → (all_fall_through is ≡ true → Ways s d (pc + 1) is × Open s d (pc + 1)) → Ways s d pc (i ∷ is) × Open s d pc
+      step : (t : Bool) → falls_through i ≡ t → (t && all_fall_through is) ≡ true
+          → (all_fall_through is ≡ true → Ways s d (pc + 1) is × Open s d (pc + 1))
+          → Ways s d pc (i ∷ is) × Open s d pc
       step true p e more = let r = more e in ((through_way pc i p r.1, r.0), open_at pc i h.0 (through_back pc i p))
       step false p e more = absurd cc

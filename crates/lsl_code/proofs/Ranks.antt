@@ -29,7 +29,9 @@ rank_of (Some (TestBack t)) next place n = rank_test (is_tick next) (is_back (pl
 rank_of _ next place n = 3 * (n - place)
 
 abbrev pub rank_at : List Body → ℕ → ℕ → ℕ
-rank_at bodies f place = rank_of (instruction_at bodies f place) (instruction_at bodies f (place + 1)) place (length_in (slice_get bodies f))
+rank_at bodies f place =
+    rank_of (instruction_at bodies f place) (instruction_at bodies f (place + 1)) place
+    (length_in (slice_get bodies f))
 
 abbrev pub left_in : List Body → List MachineCall → ℕ
 left_in bodies [] = 0
@@ -57,9 +59,12 @@ rank_most (Some (TestSave t)) next place n = test_most (is_tick next) (is_back (
 rank_most (Some (TestBack t)) next place n = test_most (is_tick next) (is_back (place + 1) next) place n
 rank_most _ next place n = omega arith
 
-pub left_in_most : (bodies : List Body) (calls : List MachineCall) → 2 * left_in bodies calls + 4 ≤ fuel_in bodies calls
+pub left_in_most : (bodies : List Body) (calls : List MachineCall)
+    → 2 * left_in bodies calls + 4 ≤ fuel_in bodies calls
 left_in_most bodies [] = omega arith
-left_in_most bodies (c ∷ outer) = omega (arith, rank_most (instruction_at bodies c.function c.place) (instruction_at bodies c.function (c.place + 1)) c.place (length_in (slice_get bodies c.function)), left_in_most bodies outer)
+left_in_most bodies (c ∷ outer) =
+    omega
+    (arith, rank_most (instruction_at bodies c.function c.place) (instruction_at bodies c.function (c.place + 1)) c.place (length_in (slice_get bodies c.function)), left_in_most bodies outer)
 
 pub left_most : (bodies : List Body) (m : Machine) → left bodies m ≤ fuel bodies m
 left_most bodies m = omega (arith, left_in_most bodies m.calls)
@@ -74,7 +79,8 @@ abbrev pub There : Option Instr → ℕ → ℕ → Type 0
 There None q n = Unit {0}
 There (Some i) q n = q < n
 
-pub there_within : (b : Option Body) (place : ℕ) (o : Option Instr) → instruction_in b place ≡ o → There o place (length_in b)
+pub there_within : (b : Option Body) (place : ℕ) (o : Option Instr) → instruction_in b place ≡ o
+    → There o place (length_in b)
 there_within b place None e = tt
 there_within b place (Some i) e = fetch_within b place i e
 
@@ -87,7 +93,8 @@ test_flat true c q n h w = inl (omega arith, w)
 test_flat false true q n h w = absurd cc
 test_flat false false q n h w = inr refl
 
-pub rank_flat : (o next : Option Instr) (q n : ℕ) → There o q n → leads_back q o next ≡ false → Flat (rank_of o next q n) q n
+pub rank_flat : (o next : Option Instr) (q n : ℕ) → There o q n → leads_back q o next ≡ false
+    → Flat (rank_of o next q n) q n
 rank_flat (Some (Tick point)) next q n w h = inl (omega arith, w)
 rank_flat (Some (Jump t)) next q n w h = inr (ap (λ b. rank_jump b q n) h)
 rank_flat (Some (JumpIf t)) next q n w h = inr (ap (λ b. rank_jump b q n) h)
@@ -142,7 +149,8 @@ rank_jumps (Some (JumpIfNot t)) next place n h = ap (λ b. rank_jump b place n) 
 rank_jumps o next place n h = absurd cc
 
 -- behind a test
-pub past_test : (b c : Bool) (pc n : ℕ) (o next : Option Instr) → is_tick o ≡ b → is_back (pc + 1) o ≡ c → pc < n → (c ≡ false → Flat (rank_of o next (pc + 1) n) (pc + 1) n) → rank_of o next (pc + 1) n < rank_test b c pc n
+pub past_test : (b c : Bool) (pc n : ℕ) (o next : Option Instr) → is_tick o ≡ b → is_back (pc + 1) o ≡ c → pc < n
+    → (c ≡ false → Flat (rank_of o next (pc + 1) n) (pc + 1) n) → rank_of o next (pc + 1) n < rank_test b c pc n
 past_test true c pc n o next e d lt flat = omega (arith, rank_tick o next (pc + 1) n e)
 past_test false true pc n o next e d lt flat = omega (arith, rank_jumps o next (pc + 1) n d)
 past_test false false pc n o next e d lt flat = rank_after _ (pc + 1) n pc lt (omega arith) (flat refl)

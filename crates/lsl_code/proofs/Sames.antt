@@ -11,7 +11,8 @@ pub both_true : (a b : Bool) → (a && b) ≡ true → (a ≡ true) × (b ≡ tr
 both_true true b e = (refl, e)
 both_true false b e = absurd cc
 
-pub all_from : {A : Type 0} (test : ℕ → A → Bool) (k : ℕ) (xs : List A) (j : ℕ) (x : A) → all_places test k xs ≡ true → slice_get xs j ≡ Some x → test (k + j) x ≡ true
+pub all_from : {A : Type 0} (test : ℕ → A → Bool) (k : ℕ) (xs : List A) (j : ℕ) (x : A)
+    → all_places test k xs ≡ true → slice_get xs j ≡ Some x → test (k + j) x ≡ true
 all_from test k [] j x h e = absurd cc
 all_from test k (y ∷ xs) zero x h e =
     let z : k ≡ k + 0 = omega arith in
@@ -53,7 +54,8 @@ sames_are (a ∷ js) (b ∷ ks) e =
 sames_are [] (b ∷ ks) e = absurd cc
 sames_are (a ∷ js) [] e = absurd cc
 
-pub shape_is : (o : Option (Option (List Kind))) (ks : List Kind) → has_kinds o ks ≡ true → o ≡ Some (Some (reverse ks))
+pub shape_is : (o : Option (Option (List Kind))) (ks : List Kind) → has_kinds o ks ≡ true
+    → o ≡ Some (Some (reverse ks))
 shape_is None ks e = absurd cc
 shape_is (Some None) ks e = absurd cc
 shape_is (Some (Some js)) ks e = ap (λ l. Some (Some l)) (sames_are js (reverse ks) e)

@@ -23,23 +23,34 @@ module _ (bodies : List Body) (fw : Forward bodies) (f pc : ℕ) (lt : pc < leng
   long = length_in (slice_get bodies f)
 
   flat_at : (q : ℕ) → goes_back bodies f q ≡ false → Flat (rank_at bodies f q) q long
-  flat_at q h = rank_flat (instruction_at bodies f q) (instruction_at bodies f (q + 1)) q long (there_within (slice_get bodies f) q (instruction_at bodies f q) refl) h
+  flat_at q h =
+      rank_flat (instruction_at bodies f q) (instruction_at bodies f (q + 1)) q long
+      (there_within (slice_get bodies f) q (instruction_at bodies f q) refl) h
 
   next_sinks : goes_back bodies f (pc + 1) ≡ false → rank_at bodies f (pc + 1) < 3 * (long - pc)
   next_sinks flat = rank_after _ (pc + 1) long pc lt (omega arith) (flat_at (pc + 1) flat)
 
-  enter_ranks : (j : ℕ) (body : Body) → slice_get bodies j ≡ Some body → goes_back bodies f (pc + 1) ≡ false → rank_at bodies j 0 + rank_at bodies f (pc + 1) < 3 * (long - pc)
+  enter_ranks : (j : ℕ) (body : Body) → slice_get bodies j ≡ Some body → goes_back bodies f (pc + 1) ≡ false
+      → rank_at bodies j 0 + rank_at bodies f (pc + 1) < 3 * (long - pc)
   enter_ranks j body e flat =
-      rank_enter _ _ long pc (rank_open (instruction_at bodies j 0) (instruction_at bodies j 1) 0 (length_in (slice_get bodies j)) (fw.starts j body e)) lt (flat_at (pc + 1) flat)
+      rank_enter _ _ long pc
+      (rank_open (instruction_at bodies j 0) (instruction_at bodies j 1) 0 (length_in (slice_get bodies j)) (fw.starts j body e))
+      lt (flat_at (pc + 1) flat)
 
   go_sinks : (t : ℕ) → goes_back bodies f t ≡ false → rank_at bodies f t < rank_jump (nat_lt t (suc pc)) pc long
   go_sinks t h = rank_go (nat_lt t (suc pc)) t pc long _ refl lt (flat_at t h)
 
-  test_sinks : (is_back (pc + 1) (instruction_at bodies f (pc + 1)) ≡ false → goes_back bodies f (pc + 1) ≡ false) → rank_at bodies f (pc + 1) < rank_test (is_tick (instruction_at bodies f (pc + 1))) (is_back (pc + 1) (instruction_at bodies f (pc + 1))) pc long
-  test_sinks flat = past_test _ _ pc long (instruction_at bodies f (pc + 1)) (instruction_at bodies f (pc + 1 + 1)) refl refl lt (λ h. flat_at (pc + 1) (flat h))
+  test_sinks : (is_back (pc + 1) (instruction_at bodies f (pc + 1)) ≡ false → goes_back bodies f (pc + 1) ≡ false)
+      → rank_at bodies f (pc + 1) < rank_test (is_tick (instruction_at bodies f (pc + 1)))
+      (is_back (pc + 1) (instruction_at bodies f (pc + 1))) pc long
+  test_sinks flat =
+      past_test _ _ pc long (instruction_at bodies f (pc + 1)) (instruction_at bodies f (pc + 1 + 1)) refl refl lt
+      (λ h. flat_at (pc + 1) (flat h))
 
   -- straight on
-  straight_sinks : (i : Instr) → is_straight i ≡ true → (frees i pc (instruction_at bodies f (pc + 1)) ≡ false → goes_back bodies f (pc + 1) ≡ false) → rank_at bodies f (pc + 1) < rank_of (Some i) (instruction_at bodies f (pc + 1)) pc long
+  straight_sinks : (i : Instr) → is_straight i ≡ true
+      → (frees i pc (instruction_at bodies f (pc + 1)) ≡ false → goes_back bodies f (pc + 1) ≡ false)
+      → rank_at bodies f (pc + 1) < rank_of (Some i) (instruction_at bodies f (pc + 1)) pc long
   straight_sinks (JumpIf t) st flat = past_jump (nat_lt t (suc pc)) pc long _ lt (flat_at (pc + 1) (flat refl))
   straight_sinks (JumpIfNot t) st flat = past_jump (nat_lt t (suc pc)) pc long _ lt (flat_at (pc + 1) (flat refl))
   straight_sinks (TestSave t) st flat = test_sinks flat
@@ -57,10 +68,13 @@ module _ (bodies : List Body) (fw : Forward bodies) (f pc : ℕ) (lt : pc < leng
   straight_sinks Awake st flat = absurd cc
   straight_sinks i st flat = next_sinks (flat refl)
 
-  jump_sinks : (i : Instr) (t : ℕ) → LeadsTo i t → Lands bodies f i → rank_at bodies f t < rank_of (Some i) (instruction_at bodies f (pc + 1)) pc long
+  jump_sinks : (i : Instr) (t : ℕ) → LeadsTo i t → Lands bodies f i
+      → rank_at bodies f t < rank_of (Some i) (instruction_at bodies f (pc + 1)) pc long
   jump_sinks (Jump u) t e h = subst (λ x. rank_at bodies f x < rank_jump (nat_lt u (suc pc)) pc long) e (go_sinks u h)
-  jump_sinks (JumpIf u) t e h = subst (λ x. rank_at bodies f x < rank_jump (nat_lt u (suc pc)) pc long) e (go_sinks u h)
-  jump_sinks (JumpIfNot u) t e h = subst (λ x. rank_at bodies f x < rank_jump (nat_lt u (suc pc)) pc long) e (go_sinks u h)
+  jump_sinks (JumpIf u) t e h =
+      subst (λ x. rank_at bodies f x < rank_jump (nat_lt u (suc pc)) pc long) e (go_sinks u h)
+  jump_sinks (JumpIfNot u) t e h =
+      subst (λ x. rank_at bodies f x < rank_jump (nat_lt u (suc pc)) pc long) e (go_sinks u h)
   jump_sinks i t e h = absurd e
 
   leave_sinks : (i : Instr) → leaves i ≡ true → 0 < rank_of (Some i) (instruction_at bodies f (pc + 1)) pc long
@@ -68,14 +82,22 @@ module _ (bodies : List Body) (fw : Forward bodies) (f pc : ℕ) (lt : pc < leng
   leave_sinks ReturnValue e = omega arith
   leave_sinks i e = absurd cc
 
-  enter_sinks : (i : Instr) (j p : ℕ) (body : Body) → i ≡ Call j p → slice_get bodies j ≡ Some body → (frees i pc (instruction_at bodies f (pc + 1)) ≡ false → goes_back bodies f (pc + 1) ≡ false) → rank_at bodies j 0 + rank_at bodies f (pc + 1) < rank_of (Some i) (instruction_at bodies f (pc + 1)) pc long
-  enter_sinks i j p body e there = subst (λ x. (frees x pc (instruction_at bodies f (pc + 1)) ≡ false → goes_back bodies f (pc + 1) ≡ false) → rank_at bodies j 0 + rank_at bodies f (pc + 1) < rank_of (Some x) (instruction_at bodies f (pc + 1)) pc long) (sym e) (λ flat. enter_ranks j body there (flat refl))
+  enter_sinks : (i : Instr) (j p : ℕ) (body : Body) → i ≡ Call j p → slice_get bodies j ≡ Some body
+      → (frees i pc (instruction_at bodies f (pc + 1)) ≡ false → goes_back bodies f (pc + 1) ≡ false)
+      → rank_at bodies j 0 + rank_at bodies f (pc + 1) < rank_of (Some i) (instruction_at bodies f (pc + 1)) pc
+      long
+  enter_sinks i j p body e there =
+      subst
+      (λ x. (frees x pc (instruction_at bodies f (pc + 1)) ≡ false → goes_back bodies f (pc + 1) ≡ false) → rank_at bodies j 0 + rank_at bodies f (pc + 1) < rank_of (Some x) (instruction_at bodies f (pc + 1)) pc long)
+      (sym e) (λ flat. enter_ranks j body there (flat refl))
 
   host_straight : (i : Instr) → is_host i ≡ true → is_straight i ≡ true
   host_straight (Host id) e = refl
   host_straight i e = absurd cc
 
-  pub by_sinks : (i : Instr) (d : Did) → By bodies i d → Lands bodies f i → (frees i pc (instruction_at bodies f (pc + 1)) ≡ false → goes_back bodies f (pc + 1) ≡ false) → Sinks bodies f pc (rank_of (Some i) (instruction_at bodies f (pc + 1)) pc long) d
+  pub by_sinks : (i : Instr) (d : Did) → By bodies i d → Lands bodies f i
+      → (frees i pc (instruction_at bodies f (pc + 1)) ≡ false → goes_back bodies f (pc + 1) ≡ false)
+      → Sinks bodies f pc (rank_of (Some i) (instruction_at bodies f (pc + 1)) pc long) d
   by_sinks i (Goes sl ops g) by h flat = straight_sinks i by flat
   by_sinks i (Jumps t ops) by h flat = jump_sinks i t by h
   by_sinks i (Enters j ns rest) by h flat = enter_sinks i j by.0 by.2 by.1 by.3 flat

@@ -8,9 +8,11 @@ drop_none : {T : Type 0} (n : ℕ) → drop {A = T} n [] ≡ []
 drop_none zero = refl
 drop_none (suc n) = refl
 
-pub pop_step : {T : Type 0} (n i : ℕ) (o : Option T) (old new w : List T) → i < n → old ≡ option_to_list o ++ new → drop (n - i) old ≡ w → MatchOption o (old ≡ []) (λ x. old ≡ x ∷ new) → drop (n - (i + 1)) new ≡ w
+pub pop_step : {T : Type 0} (n i : ℕ) (o : Option T) (old new w : List T) → i < n → old ≡ option_to_list o ++ new
+    → drop (n - i) old ≡ w → MatchOption o (old ≡ []) (λ x. old ≡ x ∷ new) → drop (n - (i + 1)) new ≡ w
 pop_step n i None old new w lt e h m =
-    ap (drop (n - (i + 1))) (sym e ∙ m) ∙ drop_none (n - (i + 1)) ∙ sym (drop_none (n - i)) ∙ ap (drop (n - i)) (sym m) ∙ h
+    ap (drop (n - (i + 1))) (sym e ∙ m) ∙ drop_none (n - (i + 1)) ∙ sym (drop_none (n - i))
+    ∙ ap (drop (n - i)) (sym m) ∙ h
 pop_step n i (Some x) old new w lt e h m =
     let k : suc (n - (i + 1)) ≡ n - i = omega arith in
     ap₂ drop k (sym e) ∙ h
@@ -35,6 +37,7 @@ below {T} xs c = by_length (nat_lt (length xs) c) refl
         let m = length xs - c in
         let b = take m xs in
         let a = drop m xs in
-        let whole : reverse xs ≡ reverse a ++ reverse b = ap reverse (sym (take-append-drop m xs)) ∙ reverse-append b a in
+        let whole : reverse xs ≡ reverse a ++ reverse b =
+        ap reverse (sym (take-append-drop m xs)) ∙ reverse-append b a in
         let len : c ≡ length (reverse a) = omega (arith, length-reverse a, length-drop m xs) in
         sym (ap reverse (ap₂ drop len whole ∙ drop-append_seam (reverse a) (reverse b)) ∙ reverse-reverse b)

@@ -34,17 +34,20 @@ differs m n lt = grind (arith, nat_tests)
 pub differs' : (m n : ℕ) → m < n → nat_eq n m ≡ false
 differs' m n lt = grind (arith, nat_tests)
 
-all_if_from : {A : Type 0} (test : ℕ → A → Bool) (k : ℕ) (xs : List A) → ((j : ℕ) (x : A) → slice_get xs j ≡ Some x → test (k + j) x ≡ true) → all_places test k xs ≡ true
+all_if_from : {A : Type 0} (test : ℕ → A → Bool) (k : ℕ) (xs : List A)
+    → ((j : ℕ) (x : A) → slice_get xs j ≡ Some x → test (k + j) x ≡ true) → all_places test k xs ≡ true
 all_if_from test k [] h = refl
 all_if_from test k (x ∷ xs) h =
     let z : k + 0 ≡ k = omega arith in
-    both _ _ (subst (λ n. test n x ≡ true) z (h 0 x refl)) (all_if_from test (suc k) xs (λ j y e. next j y (h (suc j) y e)))
+    both _ _ (subst (λ n. test n x ≡ true) z (h 0 x refl))
+    (all_if_from test (suc k) xs (λ j y e. next j y (h (suc j) y e)))
   where
     next : (j : ℕ) (y : _) → test (k + suc j) y ≡ true → test (suc k + j) y ≡ true
     next j y e = let z : k + suc j ≡ suc k + j = omega arith in subst (λ n. test n y ≡ true) z e
 
 -- the test holds of all elements where it holds of each
-pub all_if : {A : Type 0} (test : ℕ → A → Bool) (xs : List A) → ((j : ℕ) (x : A) → slice_get xs j ≡ Some x → test j x ≡ true) → all_places test 0 xs ≡ true
+pub all_if : {A : Type 0} (test : ℕ → A → Bool) (xs : List A)
+    → ((j : ℕ) (x : A) → slice_get xs j ≡ Some x → test j x ≡ true) → all_places test 0 xs ≡ true
 all_if test xs h = all_if_from test 0 xs (λ j x e. same j x (h j x e))
   where
     same : (j : ℕ) (x : _) → test j x ≡ true → test (0 + j) x ≡ true

@@ -15,8 +15,10 @@ use Rattle.lsl_code.specs.WellFormed.{StandsWith, FindsItsOperands, IsWellFormed
 use Rattle.lsl_code.proofs.Sames.{both_true, all_from, sames_are, eq_is, shape_is}
 
 -- a test that holds at all places holds at each
-pub all_at : {A : Type 0} (test : ℕ → A → Bool) (xs : List A) (j : ℕ) (x : A) → all_places test 0 xs ≡ true → slice_get xs j ≡ Some x → test j x ≡ true
-all_at test xs j x h e = let z : 0 + j ≡ j = omega arith in subst (λ n. test n x ≡ true) z (all_from test 0 xs j x h e)
+pub all_at : {A : Type 0} (test : ℕ → A → Bool) (xs : List A) (j : ℕ) (x : A) → all_places test 0 xs ≡ true
+    → slice_get xs j ≡ Some x → test j x ≡ true
+all_at test xs j x h e =
+    let z : 0 + j ≡ j = omega arith in subst (λ n. test n x ≡ true) z (all_from test 0 xs j x h e)
 
 -- the next instruction is there, with these kinds before it
 pub finds_told : (w : Body) (place : ℕ) (ks : List Kind) → finds w place ks ≡ true → StandsWith w place ks
@@ -25,13 +27,16 @@ finds_told w place ks e = shape_is (slice_get w.stacks place) ks e
 less_is : (m n : ℕ) → nat_lt m n ≡ true → m < n
 less_is m n e = grind (arith, nat_tests)
 
-goes_told : (w : Body) (k : ℕ) (i : Instr) (o : Option (List Kind)) → goes_on_with w k i o ≡ true → (js : List Kind) × (o ≡ Some js) × (goes_on w k i js ≡ true)
+goes_told : (w : Body) (k : ℕ) (i : Instr) (o : Option (List Kind)) → goes_on_with w k i o ≡ true
+    → (js : List Kind) × (o ≡ Some js) × (goes_on w k i js ≡ true)
 goes_told w k i None e = absurd cc
 goes_told w k i (Some js) e = (js, refl, e)
 
-place_told : (s : Scope) (w : Body) (k : ℕ) (i : Instr) (ks : List Kind) → fits_at s w k i ≡ true → StandsWith w k ks → FindsItsOperands s w k i ks
+place_told : (s : Scope) (w : Body) (k : ℕ) (i : Instr) (ks : List Kind) → fits_at s w k i ≡ true
+    → StandsWith w k ks → FindsItsOperands s w k i ks
 place_told s w k i ks fits stands =
-    let here : fits_before s w k i ks ≡ true = sym (ap (fits_before s w k i) (reverse-reverse ks)) ∙ sym (ap (fits_where s w k i) stands) ∙ fits in
+    let here : fits_before s w k i ks ≡ true =
+    sym (ap (fits_before s w k i) (reverse-reverse ks)) ∙ sym (ap (fits_where s w k i) stands) ∙ fits in
     let both = both_true (goes_on_with w k i (behind s i ks)) _ here in
     let goes = goes_told w k i (behind s i ks) both.0 in
     (goes.0, goes.1, goes.2, both.1)
@@ -51,7 +56,9 @@ function_told names f w ok =
       begins = p1.0;
       first = finds_told w 0 [] p1.1;
       stacks = eq_is _ _ p2.1;
-      finds = λ place i ks here stands. place_told s w place i ks (all_at (fits_at s w) w.code place i p3.1 here) stands;
+      finds =
+          λ place i ks here stands. place_told s w place i ks (all_at (fits_at s w) w.code place i p3.1 here)
+          stands;
       once = λ p point here. eq_is _ _ (all_at (is_once w.code) w.points p point p4.1 here);
       lines = eq_is _ _ p5.1;
       most = eq_is _ _ p6.1;

@@ -33,25 +33,29 @@ is_false true e = absurd cc
 is_false false e = refl
 
 -- plain code has no tests between a tick and a jump
-plain_leads : (place : ℕ) (o next : Option Instr) → ((i : Instr) → o ≡ Some i → is_plain i ≡ true) → leads_back place o next ≡ is_back place o
+plain_leads : (place : ℕ) (o next : Option Instr) → ((i : Instr) → o ≡ Some i → is_plain i ≡ true)
+    → leads_back place o next ≡ is_back place o
 plain_leads place (Some (TestSave to)) next plain = let never = plain (TestSave to) refl in absurd cc
 plain_leads place (Some (TestBack to)) next plain = let never = plain (TestBack to) refl in absurd cc
 plain_leads place None next plain = refl
 plain_leads place (Some i) next plain = refl
 
-begins_told : (code : List Instr) (next : Option Instr) → begins_with_tick code ≡ true → begins (slice_get code 0) next ≡ true
+begins_told : (code : List Instr) (next : Option Instr) → begins_with_tick code ≡ true
+    → begins (slice_get code 0) next ≡ true
 begins_told (Tick point ∷ code) next e = refl
 begins_told code next e = absurd cc
 
 -- a jump backward stands only behind a tick
-behind_told : (code : List Instr) (place : ℕ) (i : Instr) (next : Option Instr) → jumps_on code place i ≡ true → is_plain i ≡ true → frees i place next ≡ false → is_quiet code (place + 1) ≡ true
+behind_told : (code : List Instr) (place : ℕ) (i : Instr) (next : Option Instr) → jumps_on code place i ≡ true
+    → is_plain i ≡ true → frees i place next ≡ false → is_quiet code (place + 1) ≡ true
 behind_told code place (Jump to) next j p f = (both_true _ _ j).1
 behind_told code place (JumpIf to) next j p f = (both_true _ _ j).1
 behind_told code place (JumpIfNot to) next j p f = (both_true _ _ j).1
 behind_told code place (Tick point) next j p f = absurd cc
 behind_told code place i next j p f = j
 
-module _ (bodies : List Body) (names : Names) (fit : all_places (fits_function names) 0 bodies ≡ true) (plain : all_places is_plain_function 0 bodies ≡ true) where
+module _ (bodies : List Body) (names : Names) (fit : all_places (fits_function names) 0 bodies ≡ true)
+    (plain : all_places is_plain_function 0 bodies ≡ true) where
   module _ (f : ℕ) (w : Body) (there : slice_get bodies f ≡ Some w) where
     only_plain : all_places plain_at 0 w.code ≡ true
     only_plain = (both_true _ _ (all_at is_plain_function bodies f w plain there)).0
@@ -71,7 +75,8 @@ module _ (bodies : List Body) (names : Names) (fit : all_places (fits_function n
     quiet_told : (place : ℕ) → is_quiet w.code place ≡ true → goes_back bodies f place ≡ false
     quiet_told place e =
         ap (λ o. leads_back place o (instruction_at bodies f (place + 1))) (is_at place)
-        ∙ plain_leads place (slice_get w.code place) (instruction_at bodies f (place + 1)) (plain_told place) ∙ is_false _ e
+        ∙ plain_leads place (slice_get w.code place) (instruction_at bodies f (place + 1)) (plain_told place)
+        ∙ is_false _ e
 
     lands_told : (place : ℕ) (i : Instr) → jumps_on w.code place i ≡ true → Lands bodies f i
     lands_told place (Jump to) j = quiet_told to (both_true _ _ j).0
@@ -84,14 +89,18 @@ module _ (bodies : List Body) (names : Names) (fit : all_places (fits_function n
         let told = function_told names f w (all_at (fits_function names) bodies f w fit there) in
         ap (λ o. begins o (instruction_at bodies f 1)) (is_at 0) ∙ begins_told w.code _ told.begins
 
-  lands_in : (f place : ℕ) (i : Instr) (o : Option Body) → slice_get bodies f ≡ o → instruction_in o place ≡ Some i → Lands bodies f i
+  lands_in : (f place : ℕ) (i : Instr) (o : Option Body) → slice_get bodies f ≡ o
+      → instruction_in o place ≡ Some i → Lands bodies f i
   lands_in f place i None there e = absurd cc
   lands_in f place i (Some w) there e = lands_told f w there place i (jump_told f w there place i e)
 
-  behind_in : (f place : ℕ) (i : Instr) (o : Option Body) → slice_get bodies f ≡ o → instruction_in o place ≡ Some i → frees i place (instruction_at bodies f (place + 1)) ≡ false → goes_back bodies f (place + 1) ≡ false
+  behind_in : (f place : ℕ) (i : Instr) (o : Option Body) → slice_get bodies f ≡ o
+      → instruction_in o place ≡ Some i → frees i place (instruction_at bodies f (place + 1)) ≡ false
+      → goes_back bodies f (place + 1) ≡ false
   behind_in f place i None there e free = absurd cc
   behind_in f place i (Some w) there e free =
-      quiet_told f w there (place + 1) (behind_told w.code place i _ (jump_told f w there place i e) (plain_told f w there place i e) free)
+      quiet_told f w there (place + 1)
+      (behind_told w.code place i _ (jump_told f w there place i e) (plain_told f w there place i e) free)
 
   -- the jumps of plain code go back only behind ticks
   pub forward_told : Forward bodies
@@ -101,7 +110,8 @@ module _ (bodies : List Body) (names : Names) (fit : all_places (fits_function n
     starts = λ f w there. starts_told f w there;
   }
 
-handles_told : (bodies : List Body) (h : Handler) (o : Option Body) → slice_get bodies h.function ≡ o → handles h o ≡ true → HasFunction bodies h
+handles_told : (bodies : List Body) (h : Handler) (o : Option Body) → slice_get bodies h.function ≡ o
+    → handles h o ≡ true → HasFunction bodies h
 handles_told bodies h None there e = absurd cc
 handles_told bodies h (Some w) there e =
     let b = both_true _ _ e in
@@ -112,7 +122,8 @@ handles_told bodies h (Some w) there e =
     none_told (Some k) e = absurd cc
 
 -- what a test at all places tells of each element
-pub all_told : {A : Type 0} (test : ℕ → A → Bool) (P : A → Type 0) (k : ℕ) (xs : List A) → ((j : ℕ) (x : A) → test j x ≡ true → P x) → all_places test k xs ≡ true → All P xs
+pub all_told : {A : Type 0} (test : ℕ → A → Bool) (P : A → Type 0) (k : ℕ) (xs : List A)
+    → ((j : ℕ) (x : A) → test j x ≡ true → P x) → all_places test k xs ≡ true → All P xs
 all_told test P k [] tells e = All-nil P
 all_told test P k (x ∷ xs) tells e =
     let b = both_true (test k x) _ e in
@@ -122,7 +133,9 @@ none_same : (e : EventId) (hs : List Handler) → has_event e hs ≡ false → A
 none_same e [] absent = All-nil (λ h. e ≢ h.event)
 none_same e (h ∷ hs) absent =
     let b = neither (same_event e h.event) _ absent in
-    All-cons (λ h. e ≢ h.event) h hs (λ same. clash (same_event e h.event) (ap (λ x. same_event e x) (sym same) ∙ eq_self (event_number e)) b.0) (none_same e hs b.1)
+    All-cons (λ h. e ≢ h.event) h hs
+    (λ same. clash (same_event e h.event) (ap (λ x. same_event e x) (sym same) ∙ eq_self (event_number e)) b.0)
+    (none_same e hs b.1)
   where
     neither : (a b : Bool) → cond a true b ≡ false → (a ≡ false) × (b ≡ false)
     neither true b e = absurd cc
@@ -142,7 +155,9 @@ state_told : (bodies : List Body) (n : ℕ) (s : StateCode) → state_fits bodie
 state_told bodies n s e =
     let b = both_true _ _ e in
     record {
-      handlers = all_told (handler_fits bodies) (HasFunction bodies) 0 s.handlers (λ j h t. handles_told bodies h (slice_get bodies h.function) refl t) b.0;
+      handlers =
+          all_told (handler_fits bodies) (HasFunction bodies) 0 s.handlers
+          (λ j h t. handles_told bodies h (slice_get bodies h.function) refl t) b.0;
       events = differ_told s.handlers b.1;
     }
 
@@ -161,5 +176,7 @@ fits_tells globals states bodies e =
       forward = forward_told bodies names functions.0 functions.1;
       some_state = at_most _ _ (both_true _ _ counts.0).0;
       few_states = at_most _ _ (both_true _ _ counts.0).1;
-      each_state = all_told (state_fits bodies) (IsWellFormedState bodies) 0 states (λ j s t. state_told bodies j s t) counts.1;
+      each_state =
+          all_told (state_fits bodies) (IsWellFormedState bodies) 0 states (λ j s t. state_told bodies j s t)
+          counts.1;
     }

@@ -66,7 +66,8 @@ scan s (i ∷ is) ks = reverse ks ∷ scan s is (next s i ks)
 -- the instruction's point before these
 abbrev pub point_before : Scope → Instr → List Kind → List Point → List Point
 point_before s (Tick line) ks more = record { kinds = s.slots ++ reverse ks; calls = None } ∷ more
-point_before s (Call f line) ks more = record { kinds = s.slots ++ reverse (waiting (slice_get s.functions f) ks); calls = Some f } ∷ more
+point_before s (Call f line) ks more =
+    record { kinds = s.slots ++ reverse (waiting (slice_get s.functions f) ks); calls = Some f } ∷ more
 point_before s i ks more = more
 
 -- the points of a draft

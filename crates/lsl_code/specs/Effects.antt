@@ -1,4 +1,5 @@
--- The table of kinds: what an instruction finds, and the kinds of the operands behind it. They stand with the top first.
+-- The table of kinds: what an instruction finds, and the kinds of the operands behind it. They stand with the top
+-- first.
 use Rattle.std.specs.Prelude.{zero, suc, ℕ, List, [], ◌∷◌, Bool, true, false, cond, Option, Some, None, nat_lt, length, drop, reverse, slice_get, is_none, option_map, option_and_then}
 use Rattle.lsl_value.specs.OperatorRows.{result_kind_of, casts_of}
 use Rattle.lsl_value.specs.declared.tagged.Kind.{Kind}
@@ -59,8 +60,10 @@ behind s (Int n) ks = Some (kind.Int ∷ ks)
 behind s (Str text) ks = Some (kind.Str ∷ ks)
 behind s (Load n) ks = with_kind (slice_get s.slots n) (λ k. Some (k ∷ ks))
 behind s (LoadGlobal n) ks = with_kind (slice_get s.globals n) (λ k. Some (k ∷ ks))
-behind s (Store n) ks = top_kind ks (λ k rest. with_kind (slice_get s.slots n) (λ q. only_if (same_kind q k) (k ∷ rest)))
-behind s (StoreGlobal n) ks = top_kind ks (λ k rest. with_kind (slice_get s.globals n) (λ q. only_if (same_kind q k) (k ∷ rest)))
+behind s (Store n) ks =
+    top_kind ks (λ k rest. with_kind (slice_get s.slots n) (λ q. only_if (same_kind q k) (k ∷ rest)))
+behind s (StoreGlobal n) ks =
+    top_kind ks (λ k rest. with_kind (slice_get s.globals n) (λ q. only_if (same_kind q k) (k ∷ rest)))
 behind s (Set n) ks = top_kind ks (λ k rest. with_kind (slice_get s.slots n) (λ q. only_if (same_kind q k) rest))
 behind s Drop ks = top_kind ks (λ k rest. Some rest)
 behind s (Unary op) ks = top_kind ks (λ k rest. only_if (same_kind kind.Int k) (kind.Int ∷ rest))

@@ -59,7 +59,8 @@ is_point (Some point) callee ks = same_callee point.calls callee && same_kinds p
 
 abbrev pub has_point : Scope → List Point → Instr → List Kind → Bool
 has_point s points (Tick p) ks = is_point (slice_get points p) None (s.slots ++ reverse ks)
-has_point s points (Call f p) ks = is_point (slice_get points p) (Some f) (s.slots ++ reverse (waiting (slice_get s.functions f) ks))
+has_point s points (Call f p) ks =
+    is_point (slice_get points p) (Some f) (s.slots ++ reverse (waiting (slice_get s.functions f) ks))
 has_point s points i ks = true
 
 abbrev pub goes_on_with : Body → ℕ → Instr → Option (List Kind) → Bool

@@ -1,4 +1,5 @@
--- Code in which control goes back only behind a tick: plain code, and code with tests of saving and restoring between.
+-- Code in which control goes back only behind a tick: plain code, and code with tests of saving and restoring
+-- between.
 use Rattle.std.specs.Prelude.{ℕ, suc, ◌+◌, ◌≡◌, Bool, true, false, nat_lt, List, Option, Some, slice_get}
 use Rattle.lsl_code.specs.declared.instructions.Instr.{Instr}
 use Rattle.lsl_code.specs.declared.instructions.Instr.TheVariants.{Jump, JumpIf, JumpIfNot, Tick, TestSave, TestBack, KeepSlot, KeepTop, Seal, Unpack, BackSlot, BackTop, Branch, Again, Awake}
@@ -54,9 +55,12 @@ Lands bodies f (JumpIf to) = goes_back bodies f to ≡ false
 Lands bodies f (JumpIfNot to) = goes_back bodies f to ≡ false
 Lands bodies f _ = Unit {0}
 
--- no jump leads to a jump backward, one is come to only behind a tick, and each function begins with a tick; at most one test may
+-- no jump leads to a jump backward, one is come to only behind a tick, and each function begins with a tick; at
+-- most one test may
 -- stand between, or before
 pub record Forward (bodies : List Body) : Type 0 where
   pub lands : (f place : ℕ) (i : Instr) → instruction_at bodies f place ≡ Some i → Lands bodies f i
-  pub behind : (f place : ℕ) (i : Instr) → instruction_at bodies f place ≡ Some i → frees i place (instruction_at bodies f (place + 1)) ≡ false → goes_back bodies f (place + 1) ≡ false
-  pub starts : (f : ℕ) (body : Body) → slice_get bodies f ≡ Some body → begins (instruction_at bodies f 0) (instruction_at bodies f 1) ≡ true
+  pub behind : (f place : ℕ) (i : Instr) → instruction_at bodies f place ≡ Some i
+      → frees i place (instruction_at bodies f (place + 1)) ≡ false → goes_back bodies f (place + 1) ≡ false
+  pub starts : (f : ℕ) (body : Body) → slice_get bodies f ≡ Some body
+      → begins (instruction_at bodies f 0) (instruction_at bodies f 1) ≡ true

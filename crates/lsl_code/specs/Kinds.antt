@@ -44,7 +44,8 @@ pub record Scope : Type 0 where
 
 abbrev pub scope : Names → List Kind → Option Kind → Scope
 scope names slots result =
-    record { globals = names.globals; functions = names.functions; states = names.states; slots = slots; result = result }
+    record
+    { globals = names.globals; functions = names.functions; states = names.states; slots = slots; result = result }
 
 -- what a built-in call takes and gives
 abbrev pub builtin_signature : BuiltinId → Signature

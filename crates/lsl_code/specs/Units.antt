@@ -11,7 +11,8 @@ use Rattle.lsl_code.specs.Bodies.{Body}
 use Rattle.lsl_code.specs.Fits.{all_places, finds, fits_at, jumps_on, begins_with_tick, is_once, most_operands, plain_at}
 use Rattle.lsl_code.specs.Kinds.{same_kinds, scope, names_in}
 
--- a function whose instructions find what they need, whose points stand once each and have a line each, and which has the
+-- a function whose instructions find what they need, whose points stand once each and have a line each, and which
+-- has the
 -- slots, the parameters and the greatest count of operands that it names
 abbrev pub fits_function : Names → ℕ → Body → Bool
 fits_function names f w =
@@ -81,9 +82,11 @@ state_fits bodies n s = all_places (handler_fits bodies) 0 s.handlers && events_
 
 -- there are 1 to 65,535 states, whose handlers are functions
 abbrev pub fits_states : List Body → List StateCode → Bool
-fits_states bodies states = nat_le 1 (length states) && nat_le (length states) 65535 && all_places (state_fits bodies) 0 states
+fits_states bodies states =
+    nat_le 1 (length states) && nat_le (length states) 65535 && all_places (state_fits bodies) 0 states
 
 -- a unit with these initial globals, states and functions
 abbrev pub fits_unit : List Value → List StateCode → List Body → Bool
 fits_unit globals states bodies =
-    all_places (fits_function (names_in globals states bodies)) 0 bodies && all_places is_plain_function 0 bodies && fits_states bodies states
+    all_places (fits_function (names_in globals states bodies)) 0 bodies && all_places is_plain_function 0 bodies
+    && fits_states bodies states

@@ -20,15 +20,19 @@ use Rattle.lsl_code.specs.Units.{fits_unit}
 abbrev pub StandsWith : Body → ℕ → List Kind → Type 0
 StandsWith w place ks = slice_get w.stacks place ≡ Some (Some (reverse ks))
 
--- an instruction finds what it needs, what it goes on to finds the kinds behind it, and its point has those before it in its map
+-- an instruction finds what it needs, what it goes on to finds the kinds behind it, and its point has those
+-- before it in its map
 abbrev pub FindsItsOperands : Scope → Body → ℕ → Instr → List Kind → Type 0
-FindsItsOperands s w place i ks = (js : List Kind) × (behind s i ks ≡ Some js) × (goes_on w place i js ≡ true) × (has_point s w.points i ks ≡ true)
+FindsItsOperands s w place i ks =
+    (js : List Kind) × (behind s i ks ≡ Some js) × (goes_on w place i js ≡ true) ×
+    (has_point s w.points i ks ≡ true)
 
 pub record IsWellFormedFunction (names : Names) (w : Body) : Type 0 where
   pub begins : begins_with_tick w.code ≡ true
   pub first : StandsWith w 0 []
   pub stacks : length w.stacks ≡ length w.code
-  pub finds : (place : ℕ) (i : Instr) (ks : List Kind) → slice_get w.code place ≡ Some i → StandsWith w place ks → FindsItsOperands (scope names w.slots w.result) w place i ks
+  pub finds : (place : ℕ) (i : Instr) (ks : List Kind) → slice_get w.code place ≡ Some i → StandsWith w place ks
+      → FindsItsOperands (scope names w.slots w.result) w place i ks
   pub once : (p : ℕ) (point : Point) → slice_get w.points p ≡ Some point → count_of p w.code ≡ 1
   pub lines : length w.lines ≡ length w.points
   pub most : most_operands w.stacks ≡ w.most
@@ -37,15 +41,18 @@ pub record IsWellFormedFunction (names : Names) (w : Body) : Type 0 where
 
 -- the handler's function has the parameters of its event, and gives no value
 abbrev pub HasFunction : List Body → Handler → Type 0
-HasFunction bodies h = (w : Body) × (slice_get bodies h.function ≡ Some w) × (w.params ≡ signature_of h.event) × (w.result ≡ None)
+HasFunction bodies h =
+    (w : Body) × (slice_get bodies h.function ≡ Some w) × (w.params ≡ signature_of h.event) × (w.result ≡ None)
 
 pub record IsWellFormedState (bodies : List Body) (s : StateCode) : Type 0 where
   pub handlers : All (HasFunction bodies) s.handlers
   pub events : AllPairs (λ a b. a.event ≢ b.event) s.handlers
 
 pub record IsWellFormedUnit (globals : List Value) (states : List StateCode) (bodies : List Body) : Type 0 where
-  pub functions : (f : ℕ) (w : Body) → slice_get bodies f ≡ Some w → IsWellFormedFunction (names_in globals states bodies) w
-  pub plain : (f place : ℕ) (w : Body) (i : Instr) → slice_get bodies f ≡ Some w → slice_get w.code place ≡ Some i → is_plain i ≡ true
+  pub functions : (f : ℕ) (w : Body) → slice_get bodies f ≡ Some w
+      → IsWellFormedFunction (names_in globals states bodies) w
+  pub plain : (f place : ℕ) (w : Body) (i : Instr) → slice_get bodies f ≡ Some w → slice_get w.code place ≡ Some i
+      → is_plain i ≡ true
   pub forward : Forward bodies
   pub some_state : 1 ≤ length states
   pub few_states : length states ≤ 65535
@@ -54,4 +61,5 @@ pub record IsWellFormedUnit (globals : List Value) (states : List StateCode) (bo
 -- what passes the test is well formed
 abbrev pub FitsTells : Type 0
 FitsTells =
-    (globals : List Value) (states : List StateCode) (bodies : List Body) → fits_unit globals states bodies ≡ true → IsWellFormedUnit globals states bodies
+    (globals : List Value) (states : List StateCode) (bodies : List
+    Body) → fits_unit globals states bodies ≡ true → IsWellFormedUnit globals states bodies

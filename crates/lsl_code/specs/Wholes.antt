@@ -1,4 +1,5 @@
--- What comes of a handler that a unit's code runs from its start, and the calls of a machine that is cut, each with its line.
+-- What comes of a handler that a unit's code runs from its start, and the calls of a machine that is cut, each
+-- with its line.
 use Rattle.std.specs.Prelude.{ℕ, ◌-◌, List, [], ◌∷◌, Option, Some, None, cond, map, get_or, slice_get, option_map}
 use Rattle.lsl_value.specs.declared.tagged.Value.{Value}
 use Rattle.lsl_running.specs.declared.ends.Fault.TheVariants.{StackHeap}
@@ -68,11 +69,13 @@ begun f kept slots answers = put kept answers f 0 slots [] []
 -- its slots are charged before its first tick
 abbrev pub started_with : List Body → ℕ → Kept → List Value → ℕ → List Reply → Halt
 started_with bodies f kept slots ticks answers =
-    cond (is_within kept (used script_charge slots kept)) (run bodies ticks (begun f kept slots answers)) (Over (Faulted StackHeap))
+    cond (is_within kept (used script_charge slots kept)) (run bodies ticks (begun f kept slots answers))
+    (Over (Faulted StackHeap))
 
 abbrev pub started : Option Body → List Body → ℕ → Kept → List Value → ℕ → List Reply → Halt
 started None bodies f kept args ticks answers = Over Lost
-started (Some body) bodies f kept args ticks answers = started_with bodies f kept (first_slots body args) ticks answers
+started (Some body) bodies f kept args ticks answers =
+    started_with bodies f kept (first_slots body args) ticks answers
 
 -- the run of a routine from its start: its arguments from first to last, so many ticks, these answers
 abbrev pub run_of : List Body → ℕ → Kept → List Value → ℕ → List Reply → Halt
