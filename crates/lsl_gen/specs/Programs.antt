@@ -1,0 +1,67 @@
+-- The code of a program: the functions in text order, and behind them the handlers, state by state.
+use Rattle.std.specs.Prelude.{ℕ, suc, ◌+◌, List, [], ◌∷◌, ◌++◌, length, map, Option, Some, None}
+use Rattle.lsl_value.specs.declared.tagged.Kind.{Kind}
+use Rattle.lsl_table.specs.Events.{event_name_of}
+use Rattle.lsl_tree.specs.Actions.{Block}
+use Rattle.lsl_tree.specs.Initials.{global_kinds}
+use Rattle.lsl_tree.specs.Program.{Routine, NamedRoutine, EventRoutine, ProgramState, Program}
+use Rattle.lsl_tree.specs.Signatures as tree
+use Rattle.lsl_tree.specs.Signatures.{routines_of, handlers_of}
+use Rattle.lsl_code.specs.declared.functions.FunctionCode.{FunctionCode}
+use Rattle.lsl_code.specs.declared.functions.Handler.{Handler}
+use Rattle.lsl_code.specs.declared.functions.StateCode.{StateCode}
+use Rattle.lsl_code.specs.declared.instructions.Instr.{Instr}
+use Rattle.lsl_code.specs.declared.instructions.Instr.TheVariants.{Tick, Return}
+use Rattle.lsl_code.specs.declared.signatures.Signature.{Signature}
+use Rattle.lsl_code.specs.Drafts.{finished}
+use Rattle.lsl_code.specs.Kinds.{Scope}
+use Rattle.lsl_gen.specs.Statements.{action_code}
+
+-- the end of a routine that gives no value; the body of one that gives a value ends with it
+abbrev pub ending : Option Kind → List Instr
+ending None = Return ∷ []
+ending (Some kind) = []
+
+-- the code of a routine, with lines in place of points
+abbrev pub draft_of : Routine → List Instr
+draft_of r = Tick r.line ∷ (action_code (Block r.body) [] 1 ++ ending r.kind)
+
+abbrev pub signature_of : Routine → Signature
+signature_of r = record { params = (tree.signature_of_routine r).params; result = (tree.signature_of_routine r).result }
+
+-- what the code of a routine can name
+abbrev pub scope_of : Program → Routine → Scope
+scope_of p r = record {
+  globals = global_kinds p;
+  functions = map signature_of (routines_of p);
+  states = length p.states;
+  slots = r.slots;
+  result = r.kind;
+}
+
+-- the code of a routine of this name
+abbrev pub routine_code : Program → List ℕ → Routine → FunctionCode
+routine_code p name r = finished name (scope_of p r) r.params (draft_of r)
+
+abbrev pub function_code : Program → NamedRoutine → FunctionCode
+function_code p f = routine_code p f.name f.routine
+
+-- a handler's function has its event's name
+abbrev pub handler_code : Program → EventRoutine → FunctionCode
+handler_code p h = routine_code p (event_name_of h.event) h.routine
+
+abbrev pub generated_functions : Program → List FunctionCode
+generated_functions p = map (function_code p) p.functions ++ map (handler_code p) (handlers_of p.states)
+
+-- these handlers, whose functions are numbered from this number on
+abbrev pub numbered_handlers : ℕ → List EventRoutine → List Handler
+numbered_handlers n [] = []
+numbered_handlers n (h ∷ hs) = record { event = h.event; function = n } ∷ numbered_handlers (suc n) hs
+
+abbrev pub numbered_states : ℕ → List ProgramState → List StateCode
+numbered_states n [] = []
+numbered_states n (s ∷ states) =
+    record { name = s.name; handlers = numbered_handlers n s.handlers } ∷ numbered_states (n + length s.handlers) states
+
+abbrev pub generated_states : Program → List StateCode
+generated_states p = numbered_states (length p.functions) p.states
