@@ -1,0 +1,10 @@
+pub mod Bodies
+pub mod Calls
+pub mod Drafts
+pub mod Forms
+pub mod Labels
+pub mod Leaves
+pub mod Lengths
+pub mod Pieces
+pub mod Routines
+pub mod Simulations
