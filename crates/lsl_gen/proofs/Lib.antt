@@ -8,3 +8,4 @@ pub mod Lengths
 pub mod Pieces
 pub mod Routines
 pub mod Simulations
+pub mod Values
