@@ -1,6 +1,8 @@
+pub mod Agreement
 pub mod Bodies
 pub mod Calls
 pub mod Drafts
+pub mod Executions
 pub mod Forms
 pub mod Labels
 pub mod Leaves
