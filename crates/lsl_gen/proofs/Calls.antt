@@ -27,7 +27,7 @@ use Rattle.lsl_code.specs.Pieces.{HasAt}
 use Rattle.lsl_code.specs.Runs.{on, passed, run}
 use Rattle.lsl_code.specs.Wholes.{told}
 use Rattle.lsl_gen.specs.Expressions.{builtin_code}
-use Rattle.lsl_gen.proofs.Forms.{fits_form}
+use Rattle.lsl_gen.proofs.Forms.{gives_integer, fits_form, integer_given}
 use Rattle.lsl_gen.proofs.Leaves.{pushed, Results, site_of, here, at, led, one, give_sim, result_sim, asked, tick_sim, received_sim}
 use Rattle.lsl_gen.proofs.Simulations.{Sim, then_sim, from_sim}
 
@@ -59,7 +59,7 @@ both_true : (a b : Bool) → (a && b) ≡ true → (a ≡ true) × (b ≡ true)
 both_true true b e = (refl, e)
 both_true false b e = absurd cc
 
-empty_and : (n : ℕ) (b : Bool) → (nat_eq n 0 && b) ≡ true → (n ≡ 0) × (b ≡ true)
+pub empty_and : (n : ℕ) (b : Bool) → (nat_eq n 0 && b) ≡ true → (n ≡ 0) × (b ≡ true)
 empty_and n b e =
     let both = both_true (nat_eq n 0) b e in
     let none : nat_eq n 0 ≡ true = both.0 in
@@ -134,13 +134,13 @@ module _ (bodies : List Body) (law : (t : ℕ) (m : Machine) → run bodies t m 
       ∙ popped (parameter_count id) vs ops (λ args rest. led bodies law f outer s pc (vs ++ ops) (gives (base outer) s.slots (pure_of id (reverse args) ∷ rest) s.kept)) count)
       (pushed_sim _ (pure_of id (reverse vs)) pc q (vs ++ ops) ops s (sym fits) le e)
   builtin_sim form.UsedMemory id line pc q vs ops s fits le count has e =
-      let both = empty_and (parameter_count id) (is_some (row_of id).result) fits in
+      let both = empty_and (parameter_count id) (gives_integer (row_of id).result) fits in
       own_sim instr.Used _ (value.Int (pos (used (hold_all (base outer) ops) s.slots s.kept))) pc q vs ops s
-      (no_values vs (count ∙ both.0)) (sym both.1) le e (one bodies law f outer s pc ops instr.Used has.0)
+      (no_values vs (count ∙ both.0)) (sym (ap is_some (integer_given (row_of id).result both.1))) le e (one bodies law f outer s pc ops instr.Used has.0)
   builtin_sim form.FreeMemory id line pc q vs ops s fits le count has e =
-      let both = empty_and (parameter_count id) (is_some (row_of id).result) fits in
+      let both = empty_and (parameter_count id) (gives_integer (row_of id).result) fits in
       own_sim instr.Free _ (value.Int (pos (s.kept.limit - used (hold_all (base outer) ops) s.slots s.kept))) pc q vs ops s
-      (no_values vs (count ∙ both.0)) (sym both.1) le e (one bodies law f outer s pc ops instr.Free has.0)
+      (no_values vs (count ∙ both.0)) (sym (ap is_some (integer_given (row_of id).result both.1))) le e (one bodies law f outer s pc ops instr.Free has.0)
   builtin_sim form.Asked id line pc q vs ops s fits le count has e = host_sim id pc q vs ops s le count has e
   builtin_sim form.AskedAndWaits id line pc q vs ops s fits le count has e =
       let d : pc + 1 + 1 ≡ q = omega (arith, e) in

@@ -4,6 +4,7 @@ pub mod Calls
 pub mod Drafts
 pub mod Executions
 pub mod Forms
+pub mod Operands
 pub mod Labels
 pub mod Leaves
 pub mod Lengths
