@@ -64,7 +64,7 @@ one_placed label (action.Label n) place b more e = either_way b (nat_eq label n)
 one_placed label a place b more e = or_nothing b ∙ e
 
 -- the labels with places are those that stand in the block
-placed_in : (xs : Actions) (label place : ℕ) → list_any (λ x. nat_eq label x.label) (places_in xs place) ≡ has_label (labels_in xs) label
+pub placed_in : (xs : Actions) (label place : ℕ) → list_any (λ x. nat_eq label x.label) (places_in xs place) ≡ has_label (labels_in xs) label
 placed_in NoAction label place = refl
 placed_in (AndAction xs a) label place =
     list_any-append (λ (x : LabelPlace). nat_eq label x.label) (places_in xs place) (place_if_label a (place + sizes xs))

@@ -5,6 +5,7 @@ pub mod Drafts
 pub mod Executions
 pub mod Forms
 pub mod Operands
+pub mod JumpTargets
 pub mod Labels
 pub mod Leaves
 pub mod Lengths
