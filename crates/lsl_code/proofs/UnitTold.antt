@@ -54,7 +54,7 @@ behind_told code place (JumpIfNot to) next j p f = (both_true _ _ j).1
 behind_told code place (Tick point) next j p f = absurd cc
 behind_told code place i next j p f = j
 
-module _ (bodies : List Body) (names : Names) (fit : all_places (fits_function names) 0 bodies ≡ true)
+module _ (bodies : List Body) (start : (f : ℕ) (w : Body) → slice_get bodies f ≡ Some w → begins_with_tick w.code ≡ true)
     (plain : all_places is_plain_function 0 bodies ≡ true) where
   module _ (f : ℕ) (w : Body) (there : slice_get bodies f ≡ Some w) where
     only_plain : all_places plain_at 0 w.code ≡ true
@@ -85,9 +85,7 @@ module _ (bodies : List Body) (names : Names) (fit : all_places (fits_function n
     lands_told place i j = tt
 
     starts_told : begins (instruction_at bodies f 0) (instruction_at bodies f 1) ≡ true
-    starts_told =
-        let told = function_told names f w (all_at (fits_function names) bodies f w fit there) in
-        ap (λ o. begins o (instruction_at bodies f 1)) (is_at 0) ∙ begins_told w.code _ told.begins
+    starts_told = ap (λ o. begins o (instruction_at bodies f 1)) (is_at 0) ∙ begins_told w.code _ (start f w there)
 
   lands_in : (f place : ℕ) (i : Instr) (o : Option Body) → slice_get bodies f ≡ o
       → instruction_in o place ≡ Some i → Lands bodies f i
@@ -170,10 +168,11 @@ fits_tells globals states bodies e =
     let functions = both_true _ _ both.0 in
     let counts = both_true _ _ both.1 in
     let names = names_in globals states bodies in
+    let told = λ (f : ℕ) (w : Body) (there : slice_get bodies f ≡ Some w). function_told names f w (all_at (fits_function names) bodies f w functions.0 there) in
     record {
-      functions = λ f w there. function_told names f w (all_at (fits_function names) bodies f w functions.0 there);
-      plain = λ f place w i there here. plain_told bodies names functions.0 functions.1 f w there place i here;
-      forward = forward_told bodies names functions.0 functions.1;
+      functions = told;
+      plain = λ f place w i there here. plain_told bodies (λ f w there. (told f w there).begins) functions.1 f w there place i here;
+      forward = forward_told bodies (λ f w there. (told f w there).begins) functions.1;
       some_state = at_most _ _ (both_true _ _ counts.0).0;
       few_states = at_most _ _ (both_true _ _ counts.0).1;
       each_state =
