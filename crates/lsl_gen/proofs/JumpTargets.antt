@@ -172,7 +172,7 @@ module _ (p : Program) (r : Routine) (d : List Instr) where
     action_first (action.ReturnValue t) places pc stands o = (returning t pc stands).1
     action_first (action.State n) places pc stands o = open_at (scope_of p r) d pc (instr.GoState n) stands.0 refl
 
-    actions_first : (xs : Actions) (places : List LabelPlace) (pc : ℕ) → StandsAt d pc (actions_code xs places pc) → Open (scope_of p r) d (pc + sizes xs) → Open (scope_of p r) d pc
+    pub actions_first : (xs : Actions) (places : List LabelPlace) (pc : ℕ) → StandsAt d pc (actions_code xs places pc) → Open (scope_of p r) d (pc + sizes xs) → Open (scope_of p r) d pc
     actions_first NoAction places pc stands o = let e : pc + 0 ≡ pc = omega arith in subst (Open (scope_of p r) d) e o
     actions_first (AndAction xs a) places pc stands o =
         let q = pc + sizes xs in
@@ -183,7 +183,7 @@ module _ (p : Program) (r : Routine) (d : List Instr) where
         actions_first xs places pc (has_front d pc cs ca stands) (action_first a places q more (subst (Open (scope_of p r) d) e o))
 
   -- each of these labels has a place where a jump may lead
-  abbrev AllClear : List LabelPlace → Type 0
+  abbrev pub AllClear : List LabelPlace → Type 0
   AllClear [] = Unit {0}
   AllClear (x ∷ places) = Clear (scope_of p r) d x.place × AllClear places
 
@@ -205,7 +205,7 @@ module _ (p : Program) (r : Routine) (d : List Instr) where
   label_clear a q c = tt
 
   -- the labels of a block
-  labels_clear : (xs : Actions) (places : List LabelPlace) (pc : ℕ) → AreKindedActions (tree.scope_of p r) xs → StandsAt d pc (actions_code xs places pc) → kinds_at (scope_of p r) d pc ≡ []
+  pub labels_clear : (xs : Actions) (places : List LabelPlace) (pc : ℕ) → AreKindedActions (tree.scope_of p r) xs → StandsAt d pc (actions_code xs places pc) → kinds_at (scope_of p r) d pc ≡ []
     → Open (scope_of p r) d (pc + sizes xs) → AllClear (places_in xs pc)
   labels_clear NoAction places pc k stands z o = tt
   labels_clear (AndAction xs a) places pc k stands z o =

@@ -10,6 +10,7 @@ pub mod Labels
 pub mod Leaves
 pub mod Lengths
 pub mod Pieces
+pub mod Routes
 pub mod Routines
 pub mod Simulations
 pub mod Values

@@ -12,9 +12,10 @@ use Rattle.lsl_code.specs.declared.functions.Handler.{Handler}
 use Rattle.lsl_code.specs.declared.functions.StateCode.{StateCode}
 use Rattle.lsl_code.specs.declared.instructions.Instr.{Instr}
 use Rattle.lsl_code.specs.declared.instructions.Instr.TheVariants.{Tick, Return}
+use Rattle.lsl_code.specs.declared.signatures.Names.{Names}
 use Rattle.lsl_code.specs.declared.signatures.Signature.{Signature}
 use Rattle.lsl_code.specs.Drafts.{finished}
-use Rattle.lsl_code.specs.Kinds.{Scope}
+use Rattle.lsl_code.specs.Kinds.{Scope, scope}
 use Rattle.lsl_gen.specs.Statements.{action_code}
 
 -- the end of a routine that gives no value; the body of one that gives a value ends with it
@@ -29,15 +30,13 @@ draft_of r = Tick r.line ∷ (action_code (Block r.body) [] 1 ++ ending r.kind)
 abbrev pub signature_of : Routine → Signature
 signature_of r = record { params = (tree.signature_of_routine r).params; result = (tree.signature_of_routine r).result }
 
+-- what the code of a program can name
+abbrev pub names_of : Program → Names
+names_of p = record { globals = global_kinds p; functions = map signature_of (routines_of p); states = length p.states }
+
 -- what the code of a routine can name
 abbrev pub scope_of : Program → Routine → Scope
-scope_of p r = record {
-  globals = global_kinds p;
-  functions = map signature_of (routines_of p);
-  states = length p.states;
-  slots = r.slots;
-  result = r.kind;
-}
+scope_of p r = scope (names_of p) r.slots r.kind
 
 -- the code of a routine of this name
 abbrev pub routine_code : Program → List ℕ → Routine → FunctionCode
