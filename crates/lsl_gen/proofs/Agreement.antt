@@ -61,7 +61,7 @@ module _ (p : Program) (shaped : IsShaped p) (law : (t : ℕ) (m : Machine) → 
       ∙ begun_is (is_within kept (used script_charge (first_slots r args) kept)) r f
         (record { kept = kept; slots = first_slots r args; ticks = ticks; answers = answers }) e
 
-  runs_as_meant : (f : ℕ) (kept : Kept) (args : List Value) (ticks : ℕ) (answers : List Reply)
+  pub runs_as_meant : (f : ℕ) (kept : Kept) (args : List Value) (ticks : ℕ) (answers : List Reply)
     → whole_of_bodies (bodies_of p) f kept args ticks answers ≡ whole p f kept args ticks answers
   runs_as_meant f kept args ticks answers =
       ap (λ o. told (bodies_of p) (started o (bodies_of p) f kept args ticks answers)) (slice_get-map (routine_body p) (routines_of p) f)

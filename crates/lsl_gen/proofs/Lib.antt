@@ -1,11 +1,14 @@
 pub mod Agreement
+pub mod Asks
 pub mod Bodies
 pub mod Calls
 pub mod Drafts
 pub mod Executions
+pub mod Fitting
 pub mod Forms
 pub mod Operands
 pub mod JumpTargets
+pub mod Generated
 pub mod Labels
 pub mod Leaves
 pub mod Lengths

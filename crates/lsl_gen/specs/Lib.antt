@@ -1,4 +1,5 @@
 pub mod Expressions
 pub mod Statements
 pub mod Programs
+pub mod Counts
 pub mod Laws

@@ -1,2 +1,4 @@
 //! The plain code of a checked program, and that it runs as the program's meaning says. Nothing here runs it.
 #![tactic(auto)]
+
+pub mod laws;

@@ -1,0 +1,18 @@
+//! Laws of the code of programs. Each law is a function whose clause is the law; it does nothing.
+
+ghost use Rattle.lsl_gen.specs.Laws.{CodeRunsAsMeant, UnitsAreWellFormed, AsksSoOften};
+
+/// A routine's code, run from its start, comes to what the routine means.
+pub fn code_runs_as_meant()
+    ensures { CodeRunsAsMeant }
+{}
+
+/// The unit of a program is well formed, where its numbers are small enough.
+pub fn units_are_well_formed()
+    ensures { UnitsAreWellFormed }
+{}
+
+/// Where a handler is cut and goes on with one tick more, it asks at most so often before its next tick.
+pub fn a_segment_asks_so_often()
+    ensures { AsksSoOften }
+{}
