@@ -1,13 +1,10 @@
 -- The values in checked statements have the kinds that their places want.
-use Rattle.std.proofs.Common.{◌≡◌, ℕ, ◌+◌, ◌<◌, Option, Some, None, List, [], ◌∷◌, ◌++◌, length, refl, sym, ap, ◌∙◌, arith, slice_get, not}
+use Rattle.std.proofs.Common.{◌≡◌, Option, Some, None, List, [], ◌∷◌, ◌++◌, length, sym, ap, ◌∙◌, slice_get, not}
 use Rattle.std.specs.Prelude.{Ok, All}
-use Rattle.std.specs.Option.{option_map}
 use Rattle.std.proofs.lemmas.List.Elements.{All-nil, All-head, All-tail}
 use Rattle.lsl_text.specs.declared.Span.{Span}
 use Rattle.lsl_value.specs.declared.tagged.Kind.{Kind}
 use Rattle.lsl_tree.specs.declared.expression.Name.{Name}
-use Rattle.lsl_tree.specs.declared.statement.StateName.{StateName}
-use Rattle.lsl_tree.specs.declared.statement.StateName.TheVariants.{Default, Named}
 use Rattle.lsl_tree.specs.Expressions.{Expr}
 use Rattle.lsl_tree.specs.Statements as stmt
 use Rattle.lsl_tree.specs.Statements.{Stmt, Item, Items, NoItem, AndItem}
@@ -15,93 +12,41 @@ use Rattle.lsl_tree.specs.Nodes.{Node, node_kind_of}
 use Rattle.lsl_tree.specs.Effects.{Effect}
 use Rattle.lsl_tree.specs.Actions as action
 use Rattle.lsl_tree.specs.Actions.{Action, Actions, NoAction, AndAction}
-use Rattle.lsl_tree.specs.Kinded.{IsKindedAction, AreKindedActions}
-use Rattle.lsl_type.specs.declared.faults.TypeKind.TheVariants.{UnknownName, DoubleName, WrongKind}
-use Rattle.lsl_type.specs.declared.frame.Home.{Home}
-use Rattle.lsl_type.specs.declared.frame.Home.TheVariants.{Handler, Function}
-use Rattle.lsl_type.specs.Names.{nearest}
-use Rattle.lsl_type.specs.Scope.{ScopeView, FrameView, spelled, is_since, with_slots, opened}
+use Rattle.lsl_tree.specs.Kinded.{AreKindedActions}
+use Rattle.lsl_type.specs.declared.faults.TypeKind.TheVariants.{DoubleName}
+use Rattle.lsl_type.specs.Scope.{FrameView, spelled, is_since, with_slots, opened}
 use Rattle.lsl_type.specs.Spans.{first_span}
-use Rattle.lsl_type.specs.ActionForms.{home_kind, effects_after}
+use Rattle.lsl_type.specs.ActionForms.{effects_after}
 use Rattle.lsl_type.specs.Judgement.{at}
 use Rattle.lsl_type.specs.Verdict.{must_verdict}
-use Rattle.lsl_type.specs.ActionVerdicts.{label_verdict, jump_verdict, named_state_verdict, change_verdict, is_fresh, returned_nothing_verdict, returned_value_verdict, returned_verdict, initialised_verdict, declared_verdict, labelled_verdict, statement_verdict, items_verdict, item_verdict}
-use Rattle.lsl_type.proofs.NameLemmas.{nearest-within}
-use Rattle.lsl_type.proofs.Yielding.{Yields, gives_yields, faulty_yields, then_yields, rest_yields, weaker_yields, the_one_yields, entry_yields}
-use Rattle.lsl_type.proofs.Prefixes.{Begins, begins_itself, begins_longer, begins_push, begins_get, get_last}
+use Rattle.lsl_type.specs.ActionVerdicts.{label_verdict, jump_verdict, is_fresh, initialised_verdict}
+use Rattle.lsl_type.specs.ActionVerdicts.{declared_verdict, labelled_verdict, statement_verdict, items_verdict}
+use Rattle.lsl_type.specs.ActionVerdicts.{item_verdict}
+use Rattle.lsl_type.proofs.Yielding.{Yields, gives_yields, then_yields, rest_yields}
+use Rattle.lsl_type.proofs.Prefixes.{IsPrefix, prefix_itself, prefix_longer, prefix_push, prefix_get, get_last}
 use Rattle.lsl_type.proofs.KindSettings.{Setting, scope_in, HaveKinds, local_has}
-use Rattle.lsl_type.proofs.CallKinds.{NodeIn, EffectIn, NodeOf, become_kind, empty_kind}
+use Rattle.lsl_type.proofs.CallKinds.{EffectIn, NodeOf, become_kind, empty_kind}
 use Rattle.lsl_type.proofs.ValueKinds.{Once, value_kind, effect_kind, effects_kind}
-
-abbrev pub ActionIn : Setting → Action → Type 0
-ActionIn c a = IsKindedAction (scope_in c) a
+use Rattle.lsl_type.proofs.LeavingKinds.{ActionIn, change_yields, returned_yields}
 
 abbrev pub ActionsIn : Setting → Actions → Type 0
 ActionsIn c xs = AreKindedActions (scope_in c) xs
 
 -- a statement has its kinds once the slots behind it are those that the routine's begin with
 abbrev AfterStmt : Setting → FrameView → Action × List Kind → Type 0
-AfterStmt c f r = Begins f.slots r.1 × (HaveKinds c f.scope.variables → Begins r.1 c.slots → ActionIn c r.0)
+AfterStmt c f r = IsPrefix f.slots r.1 × (HaveKinds c f.scope.variables → IsPrefix r.1 c.slots → ActionIn c r.0)
 
 abbrev AfterItem : Setting → FrameView → Action × FrameView → Type 0
 AfterItem c f r =
-    Begins f.slots r.1.slots
-    × (HaveKinds c f.scope.variables → Begins r.1.slots c.slots → ActionIn c r.0 × HaveKinds c r.1.scope.variables)
+    IsPrefix f.slots r.1.slots
+    × (HaveKinds c f.scope.variables → IsPrefix r.1.slots c.slots → ActionIn c r.0 × HaveKinds c r.1.scope.variables)
 
 abbrev pub AfterItems : Setting → FrameView → Actions × FrameView → Type 0
 AfterItems c f r =
-    Begins f.slots r.1.slots
-    × (HaveKinds c f.scope.variables → Begins r.1.slots c.slots → ActionsIn c r.0 × HaveKinds c r.1.scope.variables)
+    IsPrefix f.slots r.1.slots
+    × (HaveKinds c f.scope.variables → IsPrefix r.1.slots c.slots → ActionsIn c r.0 × HaveKinds c r.1.scope.variables)
 
 module _ (c : Setting) where
-  -- states
-  abbrev IsState : ℕ → Type 0
-  IsState n = n < (scope_in c).states
-
-  state_below : (x : Name) (o : Option ℕ) (n : ℕ) → nearest (spelled x) c.known.states ≡ o
-      → option_map (λ before. before + 1) o ≡ Some n → IsState n
-  state_below x None n e h = absurd (cc)
-  state_below x (Some b) n e h =
-      let same : b + 1 ≡ n = cc in
-      omega (arith, nearest-within (spelled x) c.known.states b e, same)
-
-  named_state_yields : (name : StateName) → Yields IsState (named_state_verdict c.known name)
-  named_state_yields Default = gives_yields (omega arith)
-  named_state_yields (Named x) =
-      let number = option_map (λ before. before + 1) (nearest (spelled x) c.known.states) in
-      the_one_yields number (at UnknownName x.span)
-        (λ n e. state_below x (nearest (spelled x) c.known.states) n refl e)
-
-  change_yields : (home : Home) (span : Span) (name : StateName)
-      → Yields (ActionIn c) (change_verdict c.known home span name)
-  change_yields Handler span name =
-      then_yields (named_state_yields name) (λ n h. gives_yields h)
-  change_yields (Function kind) span name = faulty_yields
-
-  -- returns
-  nothing_yields : (o : Option Kind) (span : Span) → home_kind c.home ≡ o
-      → Yields (ActionIn c) (returned_nothing_verdict o span)
-  nothing_yields None span e = gives_yields e
-  nothing_yields (Some kind) span e = faulty_yields
-
-  value_returned : (span : Span) (t : Node) (first : Span) → NodeIn c t
-      → Yields (ActionIn c) (returned_value_verdict c.home span t first)
-  value_returned span t first n =
-      let result = home_kind c.home in
-      let fault = at (WrongKind None (Some (node_kind_of t))) span in
-      then_yields (entry_yields result fault) (λ kind k.
-      then_yields (become_kind c kind t first n) (λ u m.
-      gives_yields (k ∙ ap Some (sym m.0), m.1)))
-
-  returned_yields : (s : ScopeView) (span : Span) (v : Option Expr)
-      → Yields (Once c s (ActionIn c)) (returned_verdict c.known c.home s span v)
-  returned_yields s span None =
-      weaker_yields (nothing_yields (home_kind c.home) span refl) (λ a h have. h)
-  returned_yields s span (Some e) =
-      then_yields (value_kind c s e) (λ t n. record {
-        ok = λ a is have. (value_returned span t (first_span e) (n have)).ok a is;
-      })
-
   -- declarations
   initialised_yields : (f : FrameView) (k : Kind) (x : Name) (v : Option Expr)
       → Yields (Once c f.scope (NodeOf c k)) (initialised_verdict c.known f k x v)
@@ -115,26 +60,28 @@ module _ (c : Setting) where
         ok = λ a is have. (become_kind c k t (first_span e) (n have)).ok a is;
       }))
 
-  slot_kind : (f : FrameView) (k : Kind) (t : Node) → Begins (f.slots ++ k ∷ []) c.slots → node_kind_of t ≡ k
+  slot_kind : (f : FrameView) (k : Kind) (t : Node) → IsPrefix (f.slots ++ k ∷ []) c.slots → node_kind_of t ≡ k
       → slice_get c.slots (length f.slots) ≡ Some (node_kind_of t)
   slot_kind f k t b e =
-      begins_get (f.slots ++ k ∷ []) c.slots (length f.slots) k b (get_last f.slots k) ∙ ap Some (sym e)
+      prefix_get (f.slots ++ k ∷ []) c.slots (length f.slots) k b (get_last f.slots k) ∙ ap Some (sym e)
 
   declared_yields : (f : FrameView) (k : Kind) (x : Name) (v : Option Expr)
       → Yields (AfterItem c f) (declared_verdict c.known f k x v)
   declared_yields f k x v =
       then_yields (initialised_yields f k x v) (λ t n.
-      gives_yields
-      (begins_push f.slots k, λ have b.
-      let m = n have in
-      ((slot_kind f k t b m.0, m.1), local_has c f (spelled x) k have b)))
+      gives_yields (
+        prefix_push f.slots k,
+        λ have b.
+            let m = n have in
+            ((slot_kind f k t b m.0, m.1), local_has c f (spelled x) k have b),
+      ))
 
   labelled_yields : (f : FrameView) (x : Name) → Yields (AfterItem c f) (labelled_verdict f x)
   labelled_yields f x =
       let fresh = must_verdict (not (is_since f.passed f.first_label (spelled x))) (at DoubleName x.span) in
       rest_yields fresh (λ u.
       rest_yields (label_verdict f x) (λ m.
-      gives_yields (begins_itself f.slots, λ have b. (tt, have))))
+      gives_yields (prefix_itself f.slots, λ have b. (tt, have))))
 
   jump_yields : (f : FrameView) (span : Span) (x : Name) → Yields (ActionIn c) (jump_verdict f span x)
   jump_yields f span x =
@@ -146,11 +93,11 @@ module _ (c : Setting) where
   effects_kinded acts [] a h = a
   effects_kinded acts (x ∷ xs) a h =
       effects_kinded (AndAction acts (action.Effect x)) xs (a, All-head (EffectIn c) x xs h)
-        (All-tail (EffectIn c) x xs h)
+      (All-tail (EffectIn c) x xs h)
 
   -- a statement that adds no slot
   stays : (f : FrameView) (a : Action) → Once c f.scope (ActionIn c) a → Yields (AfterStmt c f) (Ok (a, f.slots))
-  stays f a h = gives_yields (begins_itself f.slots, λ have b. h have)
+  stays f a h = gives_yields (prefix_itself f.slots, λ have b. h have)
 
   mutual
     statement_yields : (f : FrameView) (a : Stmt) → Yields (AfterStmt c f) (statement_verdict c.known c.home f a)
@@ -168,9 +115,11 @@ module _ (c : Setting) where
         then_yields (value_kind c f.scope e) (λ test t.
         then_yields (statement_yields f a) (λ r p.
         then_yields (statement_yields (with_slots f r.1) b) (λ q o.
-        gives_yields
-        (begins_longer f.slots r.1 q.1 p.0 o.0, λ have b.
-          (t have, p.1 have (begins_longer r.1 q.1 c.slots o.0 b), o.1 have b)))))
+        gives_yields (
+          prefix_longer f.slots r.1 q.1 p.0 o.0,
+          λ have b.
+              (t have, p.1 have (prefix_longer r.1 q.1 c.slots o.0 b), o.1 have b),
+        ))))
     statement_yields f (stmt.While span e a) =
         then_yields (value_kind c f.scope e) (λ test t.
         then_yields (statement_yields f a) (λ r p.
@@ -189,20 +138,22 @@ module _ (c : Setting) where
     statement_yields f (stmt.Jump span x) =
         then_yields (jump_yields f span x) (λ a n. stays f a (λ have. n))
     statement_yields f (stmt.Return span v) =
-        then_yields (returned_yields f.scope span v) (λ a n. stays f a n)
+        then_yields (returned_yields c f.scope span v) (λ a n. stays f a n)
     statement_yields f (stmt.State span name) =
-        then_yields (change_yields c.home span name) (λ a n. stays f a (λ have. n))
+        then_yields (change_yields c c.home span name) (λ a n. stays f a (λ have. n))
 
     pub items_yield : (f : FrameView) (es : Items) → Yields (AfterItems c f) (items_verdict c.known c.home f es)
-    items_yield f NoItem = gives_yields (begins_itself f.slots, λ have b. (tt, have))
+    items_yield f NoItem = gives_yields (prefix_itself f.slots, λ have b. (tt, have))
     items_yield f (AndItem es e) =
         then_yields (items_yield f es) (λ r p.
         then_yields (item_yields r.1 e) (λ l q.
-        gives_yields
-        (begins_longer f.slots r.1.slots l.1.slots p.0 q.0, λ have b.
-        let n = p.1 have (begins_longer r.1.slots l.1.slots c.slots q.0 b) in
-        let m = q.1 n.1 b in
-        ((n.0, m.0), m.1))))
+        gives_yields (
+          prefix_longer f.slots r.1.slots l.1.slots p.0 q.0,
+          λ have b.
+              let n = p.1 have (prefix_longer r.1.slots l.1.slots c.slots q.0 b) in
+              let m = q.1 n.1 b in
+              ((n.0, m.0), m.1),
+        )))
 
     item_yields : (f : FrameView) (e : Item) → Yields (AfterItem c f) (item_verdict c.known c.home f e)
     item_yields f (stmt.Declaration k x v) = declared_yields f k x v

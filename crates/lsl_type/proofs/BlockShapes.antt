@@ -1,123 +1,69 @@
 -- Checked statements of the right kinds have their shape.
-use Rattle.std.proofs.Common.{◌≡◌, ℕ, Option, Some, None, List, [], ◌∷◌, ◌++◌, length, refl, sym, ap, subst, not}
-use Rattle.std.specs.Prelude.{Ok, is_some}
-use Rattle.lsl_text.specs.declared.Span.{Span}
+use Rattle.std.proofs.Common.{◌≡◌, ℕ, List, [], ◌∷◌, ◌++◌, length, refl, sym, subst, not}
+use Rattle.std.specs.Prelude.{Ok}
 use Rattle.lsl_value.specs.declared.tagged.Kind.{Kind}
-use Rattle.lsl_tree.specs.declared.expression.Name.{Name}
-use Rattle.lsl_tree.specs.declared.statement.StateName.{StateName}
-use Rattle.lsl_tree.specs.Expressions.{Expr}
 use Rattle.lsl_tree.specs.Statements as stmt
 use Rattle.lsl_tree.specs.Statements.{Stmt, Item, Items, NoItem, AndItem}
-use Rattle.lsl_tree.specs.Nodes.{Node, node_kind_of}
+use Rattle.lsl_tree.specs.Nodes.{Node}
 use Rattle.lsl_tree.specs.Effects.{Effect}
 use Rattle.lsl_tree.specs.Actions as action
 use Rattle.lsl_tree.specs.Actions.{Action, Actions, NoAction, AndAction}
-use Rattle.lsl_tree.specs.Shape.{label_of, labels_in, Differ, Outline, IsShapedAction, AreShapedActions}
-use Rattle.lsl_type.specs.declared.faults.TypeKind.TheVariants.{UnknownLabel, DoubleName, WrongKind}
-use Rattle.lsl_type.specs.declared.frame.Home.{Home}
-use Rattle.lsl_type.specs.declared.frame.Home.TheVariants.{Handler, Function}
-use Rattle.lsl_type.specs.Names.{nearest}
+use Rattle.lsl_tree.specs.Shape.{label_of, labels_in, Differ, IsShapedAction, AreShapedActions}
+use Rattle.lsl_type.specs.declared.faults.TypeKind.TheVariants.{DoubleName}
 use Rattle.lsl_type.specs.Scope.{FrameView, spelled, is_since, labels_of, with_local, with_slots, opened}
-use Rattle.lsl_type.specs.Spans.{first_span}
-use Rattle.lsl_type.specs.ActionForms.{for_of, home_kind, effects_after}
+use Rattle.lsl_type.specs.ActionForms.{for_of, effects_after}
 use Rattle.lsl_type.specs.Judgement.{at}
-use Rattle.lsl_type.specs.Verdict.{the_one_verdict}
-use Rattle.lsl_type.specs.VariableVerdicts.{become_verdict}
 use Rattle.lsl_type.specs.ValueVerdicts.{value_verdict, effect_verdict, effects_verdict}
-use Rattle.lsl_type.specs.ActionVerdicts.{label_verdict, jump_verdict, named_state_verdict, change_verdict, returned_nothing_verdict, returned_verdict, initialised_verdict, statement_verdict, items_verdict, item_verdict}
-use Rattle.lsl_type.proofs.Yielding.{Yields, gives_yields, faulty_yields, then_yields, entry_yields, must_yields, rest_yields}
+use Rattle.lsl_type.specs.ActionVerdicts.{initialised_verdict, statement_verdict, items_verdict, item_verdict}
+use Rattle.lsl_type.proofs.Yielding.{Yields, gives_yields, then_yields, must_yields, rest_yields}
 use Rattle.lsl_type.proofs.ListLemmas.{apart_pairs}
-use Rattle.lsl_type.proofs.LabelPlaces.{Placed, placed_none, placed_on, placed_label, Around, around_none, around_block}
+use Rattle.lsl_type.proofs.LabelPlaces.{HasLabels, labels_none, labels_kept, labels_more, IsAround, around_none}
+use Rattle.lsl_type.proofs.LabelPlaces.{around_block}
 use Rattle.lsl_type.proofs.NodeShapes.{outline_of, node_shaped, effect_shaped, effects_shaped}
 use Rattle.lsl_type.proofs.KindSettings.{Setting, scope_in}
-use Rattle.lsl_type.proofs.ActionKinds.{ActionIn, ActionsIn}
-
-abbrev Sketch : Setting → Outline
-Sketch c = outline_of (scope_in c)
-
--- it is no label
-abbrev Unlabelled : Action → Type 0
-Unlabelled a = (numbers : List ℕ) → label_of a numbers ≡ numbers
-
--- among labels of these numbers it has its shape, if it has its kinds
-abbrev ShapedIf : Setting → List ℕ → Action → Type 0
-ShapedIf c numbers a = ActionIn c a → IsShapedAction (Sketch c) numbers a
-
-abbrev AreShapedIf : Setting → List ℕ → Actions → Type 0
-AreShapedIf c numbers xs = ActionsIn c xs → AreShapedActions (Sketch c) numbers xs
-
-abbrev InLabels : Setting → FrameView → Action → Type 0
-InLabels c f a = (numbers : List ℕ) → Around numbers f.labels → ShapedIf c numbers a
-
-abbrev Statement : Setting → FrameView → Action → Type 0
-Statement c f a = Unlabelled a × InLabels c f a
+use Rattle.lsl_type.proofs.ActionKinds.{ActionsIn}
+use Rattle.lsl_type.proofs.LeavingShapes.{Sketch, AreShapedIfKinded, IsShapedAround, IsSoundStatement, label_yields}
+use Rattle.lsl_type.proofs.LeavingShapes.{jump_yields}
+use Rattle.lsl_type.proofs.LeavingShapes.{change_yields, returned_yields}
 
 abbrev AfterStmt : Setting → FrameView → Action × List Kind → Type 0
-AfterStmt c f r = Statement c f r.0
+AfterStmt c f r = IsSoundStatement c f r.0
 
 -- an item of a block, where others stand before it
 abbrev AfterItem : Setting → FrameView → List (List ℕ) → List ℕ → FrameView → Action × FrameView → Type 0
-AfterItem c f own numbers g r = Placed f own (label_of r.0 numbers) r.1 × InLabels c g r.0
+AfterItem c f own numbers g r = HasLabels f own (label_of r.0 numbers) r.1 × IsShapedAround c g r.0
 
 abbrev AfterItems : Setting → FrameView → Items → Actions × FrameView → Type 0
 AfterItems c f es r =
-    Placed f (labels_of es) (labels_in r.0) r.1
-      × ((numbers : List ℕ) → Around numbers f.labels → AreShapedIf c numbers r.0)
+    HasLabels f (labels_of es) (labels_in r.0) r.1
+    × ((numbers : List ℕ) → IsAround numbers f.labels → AreShapedIfKinded c numbers r.0)
 
 module _ (c : Setting) where
-  label_yields : (f : FrameView) (x : Name) → Yields (λ n. nearest (spelled x) f.labels ≡ Some n) (label_verdict f x)
-  label_yields f x =
-      let number = nearest (spelled x) f.labels in
-      entry_yields number (at UnknownLabel x.span)
-
-  jump_yields : (f : FrameView) (span : Span) (x : Name) → Yields (Statement c f) (jump_verdict f span x)
-  jump_yields f span x =
-      then_yields (label_yields f x) (λ n e.
-      gives_yields (λ numbers. refl, λ numbers a h. a.numbered (spelled x) n e))
-
-  change_yields : (f : FrameView) (home : Home) (span : Span) (name : StateName)
-      → Yields (Statement c f) (change_verdict c.known home span name)
-  change_yields f Handler span name =
-      rest_yields (named_state_verdict c.known name) (λ n. gives_yields (λ numbers. refl, λ numbers a h. h))
-  change_yields f (Function kind) span name = faulty_yields
-
-  returned_yields : (f : FrameView) (span : Span) (v : Option Expr)
-      → Yields (Statement c f) (returned_verdict c.known c.home f.scope span v)
-  returned_yields f span None = go (home_kind c.home)
-    where
-      go : (o : Option Kind) → Yields (Statement c f) (returned_nothing_verdict o span)
-      go None = gives_yields (λ numbers. refl, λ numbers a h. ap is_some h)
-      go (Some kind) = faulty_yields
-  returned_yields f span (Some e) =
-      rest_yields (value_verdict c.known f.scope e) (λ t.
-      rest_yields (the_one_verdict (home_kind c.home) (at (WrongKind None (Some (node_kind_of t))) span)) (λ kind.
-      rest_yields (become_verdict kind t (first_span e)) (λ u.
-      gives_yields (λ numbers. refl, λ numbers a h. (ap is_some h.0, node_shaped (scope_in c) u h.1)))))
-
   -- a `for` is a block without labels
   effects_labels : (acts : Actions) (xs : List Effect) → labels_in (effects_after acts xs) ≡ labels_in acts
   effects_labels acts [] = refl
   effects_labels acts (x ∷ xs) = effects_labels (AndAction acts (action.Effect x)) xs
 
-  effects_follow : (numbers : List ℕ) (acts : Actions) (xs : List Effect) → AreShapedIf c numbers acts
-      → AreShapedIf c numbers (effects_after acts xs)
+  effects_follow : (numbers : List ℕ) (acts : Actions) (xs : List Effect) → AreShapedIfKinded c numbers acts
+      → AreShapedIfKinded c numbers (effects_after acts xs)
   effects_follow numbers acts [] s h = s h
   effects_follow numbers acts (x ∷ xs) s h =
       effects_follow numbers (AndAction acts (action.Effect x)) xs (λ g. (s g.0, effect_shaped (scope_in c) x g.1)) h
 
   for_shaped : (f : FrameView) (start : List Effect) (line : ℕ) (test : Node) (steps : List Effect) (a : Action)
-      → InLabels c f a → InLabels c f (for_of start (action.Loop line test steps a))
+      → IsShapedAround c f a → IsShapedAround c f (for_of start (action.Loop line test steps a))
   for_shaped f start line test steps a s numbers around h =
       let loop = action.Loop line test steps a in
       let body = AndAction (effects_after NoAction start) loop in
       let last : IsShapedAction (Sketch c) numbers loop =
-        (node_shaped (scope_in c) test h.1.0, effects_shaped (scope_in c) steps h.1.1, s numbers around h.1.2) in
-      let all : AreShapedActions (Sketch c) numbers body = (effects_follow numbers NoAction start (λ g. tt) h.0, last) in
+      (node_shaped (scope_in c) test h.1.0, effects_shaped (scope_in c) steps h.1.1, s numbers around h.1.2) in
+      let all : AreShapedActions (Sketch c) numbers body =
+      (effects_follow numbers NoAction start (λ g. tt) h.0, last) in
       subst (λ own. Differ (own ++ numbers) × AreShapedActions (Sketch c) (own ++ numbers) body)
-        (sym (effects_labels NoAction start)) (apart_pairs numbers around.apart, all)
+      (sym (effects_labels NoAction start)) (apart_pairs numbers around.apart, all)
 
   block_shaped : (f : FrameView) (es : Items) (r : Actions × FrameView) → AfterItems c (opened f es) es r
-      → InLabels c f (action.Block r.0)
+      → IsShapedAround c f (action.Block r.0)
   block_shaped f es r p numbers around h =
       let all = around_block (opened f es) f r.1 (labels_of es) (labels_in r.0) numbers refl around p.0 in
       (apart_pairs (labels_in r.0 ++ numbers) all.apart, p.1 (labels_in r.0 ++ numbers) all h)
@@ -135,26 +81,36 @@ module _ (c : Setting) where
     statement_yields f (stmt.If span e a) =
         rest_yields (value_verdict c.known f.scope e) (λ test.
         then_yields (statement_yields f a) (λ r p.
-        gives_yields (λ numbers. refl, λ numbers around h.
-        (node_shaped (scope_in c) test h.0, p.1 numbers around h.1))))
+        gives_yields (
+          λ numbers. refl,
+          λ numbers around h.
+              (node_shaped (scope_in c) test h.0, p.1 numbers around h.1),
+        )))
     statement_yields f (stmt.IfElse span e a b) =
         rest_yields (value_verdict c.known f.scope e) (λ test.
         then_yields (statement_yields f a) (λ r p.
         then_yields (statement_yields (with_slots f r.1) b) (λ q o.
-        gives_yields
-        (λ numbers. refl, λ numbers around h.
-        (node_shaped (scope_in c) test h.0, p.1 numbers around h.1, o.1 numbers around h.2)))))
+        gives_yields (
+          λ numbers. refl,
+          λ numbers around h.
+              (node_shaped (scope_in c) test h.0, p.1 numbers around h.1, o.1 numbers around h.2),
+        ))))
     statement_yields f (stmt.While span e a) =
         rest_yields (value_verdict c.known f.scope e) (λ test.
         then_yields (statement_yields f a) (λ r p.
-        gives_yields
-        (λ numbers. refl, λ numbers around h.
-        (node_shaped (scope_in c) test h.0, effects_shaped (scope_in c) [] h.1, p.1 numbers around h.2))))
+        gives_yields (
+          λ numbers. refl,
+          λ numbers around h.
+              (node_shaped (scope_in c) test h.0, effects_shaped (scope_in c) [] h.1, p.1 numbers around h.2),
+        )))
     statement_yields f (stmt.Do span a e) =
         then_yields (statement_yields f a) (λ r p.
         rest_yields (value_verdict c.known f.scope e) (λ test.
-        gives_yields (λ numbers. refl, λ numbers around h.
-        (p.1 numbers around h.0, node_shaped (scope_in c) test h.1))))
+        gives_yields (
+          λ numbers. refl,
+          λ numbers around h.
+              (p.1 numbers around h.0, node_shaped (scope_in c) test h.1),
+        )))
     statement_yields f (stmt.For span xs e ys a) =
         rest_yields (effects_verdict c.known f.scope xs) (λ start.
         rest_yields (value_verdict c.known f.scope e) (λ test.
@@ -162,40 +118,46 @@ module _ (c : Setting) where
         then_yields (statement_yields f a) (λ r p.
         gives_yields (λ numbers. refl, for_shaped f start span.line test steps r.0 p.1)))))
     statement_yields f (stmt.Jump span x) =
-        then_yields (jump_yields f span x) (λ a s. gives_yields s)
+        then_yields (jump_yields c f span x) (λ a s. gives_yields s)
     statement_yields f (stmt.Return span v) =
-        then_yields (returned_yields f span v) (λ a s. gives_yields s)
+        then_yields (returned_yields c f span v) (λ a s. gives_yields s)
     statement_yields f (stmt.State span name) =
-        then_yields (change_yields f c.home span name) (λ a s. gives_yields s)
+        then_yields (change_yields c f c.home span name) (λ a s. gives_yields s)
 
     items_yield : (f : FrameView) (es : Items) → f.first_label ≡ length f.passed
         → Yields (AfterItems c f es) (items_verdict c.known c.home f es)
-    items_yield f NoItem start = gives_yields (placed_none f, λ numbers around h. tt)
+    items_yield f NoItem start = gives_yields (labels_none f, λ numbers around h. tt)
     items_yield f (AndItem es e) start =
         then_yields (items_yield f es start) (λ r p.
         then_yields (item_yields f es (labels_in r.0) r.1 e start p.0) (λ l q.
-        gives_yields
-        (q.0, λ numbers around h.
-          (p.1 numbers around h.0, q.1 numbers (subst (Around numbers) (sym p.0.labels) around) h.1))))
+        gives_yields (
+          q.0,
+          λ numbers around h.
+              (p.1 numbers around h.0, q.1 numbers (subst (IsAround numbers) (sym p.0.labels) around) h.1),
+        )))
 
     item_yields : (f : FrameView) (es : Items) (numbers : List ℕ) (g : FrameView) (e : Item)
-        → f.first_label ≡ length f.passed → Placed f (labels_of es) numbers g
+        → f.first_label ≡ length f.passed → HasLabels f (labels_of es) numbers g
         → Yields (AfterItem c f (labels_of (AndItem es e)) numbers g) (item_verdict c.known c.home g e)
     item_yields f es numbers g (stmt.Declaration k x v) start p =
         rest_yields (initialised_verdict c.known g k x v) (λ t.
-        gives_yields
-        (placed_on f (labels_of es) numbers g (with_local g (spelled x) k) p refl refl refl, λ around a h.
-        node_shaped (scope_in c) t h.1))
+        gives_yields (
+          labels_kept f (labels_of es) numbers g (with_local g (spelled x) k) p refl refl refl,
+          λ around a h.
+              node_shaped (scope_in c) t h.1,
+        ))
     item_yields f es numbers g (stmt.Label x) start p =
         let fresh = not (is_since g.passed g.first_label (spelled x)) in
         then_yields (must_yields fresh (at DoubleName x.span)) (λ u e.
-        then_yields (label_yields g x) (λ m k.
-        gives_yields (placed_label f (labels_of es) numbers g (spelled x) m start p e k, λ around a h. tt)))
+        then_yields (label_yields c g x) (λ m k.
+        gives_yields (labels_more f (labels_of es) numbers g (spelled x) m start p e k, λ around a h. tt)))
     item_yields f es numbers g (stmt.Statement a) start p =
         then_yields (statement_yields g a) (λ r s.
-        gives_yields
-        (subst (λ ns. Placed f (labels_of es) ns (with_slots g r.1)) (sym (s.0 numbers))
-          (placed_on f (labels_of es) numbers g (with_slots g r.1) p refl refl refl), s.1))
+        gives_yields (
+          subst (λ ns. HasLabels f (labels_of es) ns (with_slots g r.1)) (sym (s.0 numbers))
+              (labels_kept f (labels_of es) numbers g (with_slots g r.1) p refl refl refl),
+          s.1,
+        ))
 
 -- where there are no labels around, a block has its shape if it has its kinds
 pub body_shaped : (c : Setting) (f : FrameView) (es : Items) (r : Actions × FrameView) → f.labels ≡ []
@@ -203,4 +165,4 @@ pub body_shaped : (c : Setting) (f : FrameView) (es : Items) (r : Actions × Fra
     → IsShapedAction (outline_of (scope_in c)) [] (action.Block r.0)
 body_shaped c f es r none e h =
     block_shaped c f es r ((items_yield c (opened f es) es refl).ok r e) []
-      (subst (Around []) (sym none) around_none) h
+    (subst (IsAround []) (sym none) around_none) h

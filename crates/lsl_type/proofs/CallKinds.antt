@@ -1,5 +1,6 @@
 -- Calls have arguments of their parameters' kinds.
-use Rattle.std.proofs.Common.{◌≡◌, ℕ, suc, ◌+◌, ◌<◌, ◌≤◌, true, Option, Some, None, List, [], ◌∷◌, length, take, reverse, refl, sym, ap, ◌∙◌, subst, arith, nat_eq, slice_get}
+use Rattle.std.proofs.Common.{◌≡◌, ℕ, suc, ◌+◌, ◌<◌, ◌≤◌, true, Option, Some, None, List, [], ◌∷◌, length, take}
+use Rattle.std.proofs.Common.{reverse, refl, sym, ap, ◌∙◌, subst, arith, nat_eq, slice_get}
 use Rattle.std.specs.Option.{option_and_then, option_map}
 use Rattle.std.proofs.lemmas.Bool.Decides.{nat_tests}
 use Rattle.std.proofs.lemmas.List.{reverse-append, take_all}
@@ -27,8 +28,10 @@ use Rattle.lsl_type.specs.Spans.{first_span}
 use Rattle.lsl_type.specs.Judgement.{at}
 use Rattle.lsl_type.specs.CallRules.{effect_of_call}
 use Rattle.lsl_type.specs.VariableVerdicts.{become_verdict}
-use Rattle.lsl_type.specs.CallVerdicts.{callable_by, callable_verdict, argument_verdict, arguments_verdict, counted_verdict, call_value_verdict, call_effect_verdict}
-use Rattle.lsl_type.proofs.Yielding.{Yields, gives_yields, then_yields, weaker_yields, the_one_yields, entry_yields, must_yields}
+use Rattle.lsl_type.specs.CallVerdicts.{callable_by, callable_verdict, argument_verdict, arguments_verdict}
+use Rattle.lsl_type.specs.CallVerdicts.{counted_verdict, call_value_verdict, call_effect_verdict}
+use Rattle.lsl_type.proofs.Yielding.{Yields, gives_yields, then_yields, weaker_yields, the_one_yields, entry_yields}
+use Rattle.lsl_type.proofs.Yielding.{must_yields}
 use Rattle.lsl_type.proofs.Prefixes.{take_next}
 use Rattle.lsl_type.proofs.FitLemmas.{Fits, fit_fits}
 use Rattle.lsl_type.proofs.KindSettings.{Setting, scope_in}
@@ -119,7 +122,7 @@ module _ (c : Setting) where
   params_next ps n k h =
       let next : suc n ≡ n + 1 = omega arith in
       sym (ap (λ m. reverse (take m ps)) (sym next)
-        ∙ (ap reverse (take_next ps n k h) ∙ reverse-append (take n ps) (k ∷ [])))
+      ∙ (ap reverse (take_next ps n k h) ∙ reverse-append (take n ps) (k ∷ [])))
 
   argument_yields : (ps : List Kind) (n : ℕ) (t : Node) (span : Span) → n < length ps → NodeIn c t
       → Yields (λ u. (slice_get ps n ≡ Some (node_kind_of u)) × NodeIn c u) (argument_verdict (slice_get ps n) t span)
@@ -141,32 +144,38 @@ module _ (c : Setting) where
       then_yields (arguments_yield ps es ts (n.0.0, same) (omega (arith, le))) (λ before b.
       then_yields
       (argument_yields ps (argument_count ts) t (first_span e) (omega (arith, le, same)) n.0.1) (λ last l.
-      gives_yields
-      (((b.0.0, l.1), omega (arith, b.0.1)), ap (λ l. node_kind_of last ∷ l) b.1
-        ∙ params_next ps (size es) (node_kind_of last) (ap (slice_get ps) (sym same) ∙ l.0))))
+      gives_yields (
+        ((b.0.0, l.1), omega (arith, b.0.1)),
+        ap (λ l. node_kind_of last ∷ l) b.1
+            ∙ params_next ps (size es) (node_kind_of last) (ap (slice_get ps) (sym same) ∙ l.0),
+      )))
 
   eqb_same : (m n : ℕ) → nat_eq m n ≡ true → m ≡ n
   eqb_same m n h = grind (arith, nat_tests)
 
-  abbrev Counted : Calling → Nodes → Type 0
-  Counted call ts = argument_count ts ≡ length call.signature.params
+  abbrev HasCount : Calling → Nodes → Type 0
+  HasCount call ts = argument_count ts ≡ length call.signature.params
 
   counted_yields : (call : Calling) (ts : Nodes) (x : Name)
-      → Yields (λ u. Counted call ts) (counted_verdict call ts x)
+      → Yields (λ u. HasCount call ts) (counted_verdict call ts x)
   counted_yields call ts x =
       let n = length call.signature.params in
       weaker_yields (must_yields (nat_eq (argument_count ts) n) (at WrongCount x.span))
-        (λ u e. eqb_same (argument_count ts) n e)
+      (λ u e. eqb_same (argument_count ts) n e)
 
   -- a call fits what is called
-  all_fit : (call : Calling) (es : Exprs) (ts all : Nodes) → IsKnownCall call → Counted call ts → NodesFor c es ts
+  all_fit : (call : Calling) (es : Exprs) (ts all : Nodes) → IsKnownCall call → HasCount call ts → NodesFor c es ts
       → HaveParams call.signature.params es all
       → FitsCall (scope_in c) call.callee all call.signature.result
   all_fit call es ts all known counted before after =
       let ps = call.signature.params in
-      let same : size es ≡ length ps = omega (arith, counted, before.1) in
-      (call.signature, known, ap reverse (sym (take_all (length ps) ps (omega arith))
-        ∙ ap (λ n. take n ps) (sym same)) ∙ sym after.1, refl)
+      let same : size es ≡ length ps = omega (arith, counted, before.1) in (
+        call.signature,
+        known,
+        ap reverse (sym (take_all (length ps) ps (omega arith))
+            ∙ ap (λ n. take n ps) (sym same)) ∙ sym after.1,
+        refl,
+      )
 
   pub call_value_yields : (call : Calling) (x : Name) (es : Exprs) (ts : Nodes) → IsKnownCall call
       → NodesFor c es ts → Yields (NodeIn c) (call_value_verdict call x es ts)

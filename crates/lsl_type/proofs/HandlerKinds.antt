@@ -1,5 +1,6 @@
 -- A state's handlers have the parameters of their events, and a state has an event once.
-use Rattle.std.proofs.Common.{◌≡◌, ℕ, true, Option, Some, List, [], ◌∷◌, ◌++◌, map, refl, sym, ap, ◌∙◌, subst, inl, inr, not}
+use Rattle.std.proofs.Common.{◌≡◌, ℕ, true, Option, Some, List, [], ◌∷◌, ◌++◌, map, refl, sym, ap, ◌∙◌, subst, inl}
+use Rattle.std.proofs.Common.{inr, not}
 use Rattle.std.specs.Prelude.{is_some, Contains, All}
 use Rattle.std.proofs.lemmas.List.{map-append}
 use Rattle.std.proofs.lemmas.List.Elements.{All-nil, All-push}
@@ -20,10 +21,11 @@ use Rattle.lsl_type.specs.Judgement.{at}
 use Rattle.lsl_type.specs.Verdict.{must_verdict, each_verdict}
 use Rattle.lsl_type.specs.HeaderVerdicts.{param_verdict, has_event, handler_verdict, state_verdict}
 use Rattle.lsl_type.specs.ScriptVerdicts.{handler_routine_verdict, handler_body_verdict, program_state_verdict}
-use Rattle.lsl_type.proofs.Yielding.{Yields, gives_yields, then_yields, rest_yields, weaker_yields, entry_yields, must_yields, each_yields, each_keeps, each_shows, gathered, each_gathers}
+use Rattle.lsl_type.proofs.Yielding.{Yields, gives_yields, then_yields, rest_yields, weaker_yields, entry_yields}
+use Rattle.lsl_type.proofs.Yielding.{must_yields, each_yields, each_keeps, each_shows, gathered, each_gathers}
 use Rattle.lsl_type.proofs.NameLemmas.{Contains-none, Contains-cases}
 use Rattle.lsl_type.proofs.ScriptLemmas.{kinds_is, is_has}
-use Rattle.lsl_type.proofs.ListLemmas.{Apart, apart_append, apart_pairs_by}
+use Rattle.lsl_type.proofs.ListLemmas.{AreApart, apart_append, apart_pairs_by}
 use Rattle.lsl_type.proofs.RoutineKinds.{RoutineIn, GlobalsHave, body_yields}
 
 -- the events of handlers, in their order
@@ -34,9 +36,9 @@ abbrev IsMatched : Handler → Type 0
 IsMatched h = (event : EventId) → event_of (spelled h.name) ≡ Some event → kinds_of h.params ≡ signature_of event
 
 -- handlers that a state may have
-pub record Fitting (hs : List Handler) : Type 0 where
+pub record AreStateHandlers (hs : List Handler) : Type 0 where
   pub matched : All IsMatched hs
-  pub apart : (events : List EventId) → map Some events ≡ gathered event_in hs → Apart events
+  pub apart : (events : List EventId) → map Some events ≡ gathered event_in hs → AreApart events
 
 some_same : {T : Type 0} (a b : T) → Some a ≡ Some b → a ≡ b
 some_same a b e = cc
@@ -50,8 +52,8 @@ somes_same (x ∷ xs) (y ∷ ys) e =
     let tail : map Some xs ≡ map Some ys = cc in
     ap (λ z. z ∷ xs) head ∙ ap (λ l. y ∷ l) (somes_same xs ys tail)
 
-apart_push : (events : List EventId) (event : EventId) → Apart events → (Contains events event → ⊥)
-    → Apart (events ++ event ∷ [])
+apart_push : (events : List EventId) (event : EventId) → AreApart events → (Contains events event → ⊥)
+    → AreApart (events ++ event ∷ [])
 apart_push events event a never =
     apart_append events (event ∷ []) a (Contains-none event, tt) (λ x i j. elim (Contains-cases event x [] j) [
       | inl s ↦ never (subst (Contains events) (sym s) i)
@@ -65,23 +67,24 @@ fresh_event events event fresh c =
     absurd (cc)
 
 -- what the look at a handler's header tells
-abbrev Seen : List EventId → Handler → List EventId → Type 0
-Seen events h next = IsMatched h × (Apart events → Apart next) × (map Some next ≡ map Some events ++ event_in h)
+abbrev SeesHandler : List EventId → Handler → List EventId → Type 0
+SeesHandler events h next =
+    IsMatched h × (AreApart events → AreApart next) × (map Some next ≡ map Some events ++ event_in h)
 
-seen : (events : List EventId) (h : Handler) (event : EventId) → event_of (spelled h.name) ≡ Some event
+sees : (events : List EventId) (h : Handler) (event : EventId) → event_of (spelled h.name) ≡ Some event
     → not (has_event events event) ≡ true
-    → same_kinds (kinds_of h.params) (event_params_of event) ≡ true → Seen events h (events ++ event ∷ [])
+    → same_kinds (kinds_of h.params) (event_params_of event) ≡ true → SeesHandler events h (events ++ event ∷ [])
 unfolding event_params_of
-seen events h event e fresh kinds = (
+sees events h event e fresh kinds = (
   λ other f.
-    let same : event ≡ other = some_same event other (sym e ∙ f) in
-    kinds_is (kinds_of h.params) (event_params_of event) kinds ∙ ap signature_of same,
+      let same : event ≡ other = some_same event other (sym e ∙ f) in
+      kinds_is (kinds_of h.params) (event_params_of event) kinds ∙ ap signature_of same,
   (λ a. apart_push events event a (fresh_event events event fresh)),
   map-append Some events (event ∷ []) ∙ ap (λ o. map Some events ++ o ∷ []) (sym e),
 )
 
-handler_seen : (events : List EventId) (h : Handler) → Yields (Seen events h) (handler_verdict events h)
-handler_seen events h =
+handler_sees : (events : List EventId) (h : Handler) → Yields (SeesHandler events h) (handler_verdict events h)
+handler_sees events h =
     let name = event_of (spelled h.name) in
     then_yields (entry_yields name (at WrongHandler h.name.span)) (λ event e.
     let fresh = not (has_event events event) in
@@ -89,29 +92,30 @@ handler_seen events h =
     then_yields (must_yields fresh (at DoubleName h.name.span)) (λ u f.
     then_yields (must_yields kinds (at WrongHandler h.name.span)) (λ u k.
     rest_yields (each_verdict param_verdict [] h.params) (λ names.
-    gives_yields (seen events h event e f k)))))
+    gives_yields (sees events h event e f k)))))
 
-pub handlers_fit : (hs : List Handler) → Yields (λ events. Fitting hs) (each_verdict handler_verdict [] hs)
-handlers_fit hs =
+pub handlers_agree : (hs : List Handler) → Yields (λ events. AreStateHandlers hs) (each_verdict handler_verdict [] hs)
+handlers_agree hs =
     let matched =
-        each_shows IsMatched handler_verdict (λ events h. weaker_yields (handler_seen events h) (λ next s. s.0)) []
-        hs in
+    each_shows IsMatched handler_verdict (λ events h. weaker_yields (handler_sees events h) (λ next s. s.0)) []
+    hs in
     let apart =
-        each_yields Apart handler_verdict (λ events h a. weaker_yields (handler_seen events h) (λ next s. s.1 a)) []
-        hs tt in
+    each_yields AreApart handler_verdict (λ events h a. weaker_yields (handler_sees events h) (λ next s. s.1 a)) []
+    hs tt in
     let order = each_gathers (map Some) event_in handler_verdict
-      (λ events h. weaker_yields (handler_seen events h) (λ next s. s.2)) [] hs in
+    (λ events h. weaker_yields (handler_sees events h) (λ next s. s.2)) [] hs in
     record {
       ok = λ found e. record {
         matched = matched.ok found e;
-        apart = λ events g. subst Apart (somes_same found events (order.ok found e ∙ sym g)) (apart.ok found e);
+        apart = λ events g. subst AreApart (somes_same found events (order.ok found e ∙ sym g)) (apart.ok found e);
       };
     }
 
-pub state_fits : (names : List (List ℕ)) (s : State) → Yields (λ n. Fitting s.handlers) (state_verdict names s)
-state_fits names s =
+pub state_agrees : (names : List (List ℕ)) (s : State)
+    → Yields (λ n. AreStateHandlers s.handlers) (state_verdict names s)
+state_agrees names s =
     rest_yields (must_verdict (not (is_some (nearest (spelled s.name) names))) (at DoubleName s.name.span)) (λ u.
-    then_yields (handlers_fit s.handlers) (λ events f.
+    then_yields (handlers_agree s.handlers) (λ events f.
     gives_yields f))
 
 abbrev pub state_with : List EventRoutine → List ℕ → ProgramState
@@ -127,29 +131,31 @@ pub record StateIn (known : KnownView) (globals : List Kind) (s : ProgramState) 
   pub events : EventsDiffer s
 
 module _ (known : KnownView) (globals : List Kind) (s : ScopeView) (have : GlobalsHave known globals s) where
-  abbrev AreIn : List EventRoutine → Type 0
-  AreIn rs = All (HandlerIn known globals) rs
+  abbrev HandlersIn : List EventRoutine → Type 0
+  HandlersIn rs = All (HandlerIn known globals) rs
 
-  abbrev Made : Handler → EventRoutine → Type 0
-  Made h r = (event_of (spelled h.name) ≡ Some r.event) × (IsMatched h → HandlerIn known globals r)
+  abbrev MakesHandler : Handler → EventRoutine → Type 0
+  MakesHandler h r = (event_of (spelled h.name) ≡ Some r.event) × (IsMatched h → HandlerIn known globals r)
 
-  handler_made : (h : Handler) → Yields (Made h) (handler_routine_verdict known s h)
+  handler_made : (h : Handler) → Yields (MakesHandler h) (handler_routine_verdict known s h)
   handler_made h =
       let name = event_of (spelled h.name) in
       then_yields (entry_yields name (at WrongHandler h.name.span)) (λ event e.
       then_yields (body_yields known globals s have home.Handler h.name h.params h.body) (λ r p.
-      gives_yields
-      (e, λ matched. record {
-        routine = p.0;
-        handler = record { params = ap (λ g. g.params) p.1 ∙ matched event e; result = ap (λ g. g.result) p.1 };
-      })))
+      gives_yields (
+        e,
+        λ matched. record {
+          routine = p.0;
+          handler = record { params = ap (λ g. g.params) p.1 ∙ matched event e; result = ap (λ g. g.result) p.1 };
+        },
+      )))
 
   abbrev events_in : List EventRoutine → List (Option EventId)
   events_in rs = map (λ r. Some r.event) rs
 
   -- one more handler
   abbrev Next : List EventRoutine → Handler → List EventRoutine → Type 0
-  Next before h rs = (IsMatched h → AreIn before → AreIn rs) × (events_in rs ≡ events_in before ++ event_in h)
+  Next before h rs = (IsMatched h → HandlersIn before → HandlersIn rs) × (events_in rs ≡ events_in before ++ event_in h)
 
   next_made : (before : List EventRoutine) (h : Handler)
       → Yields (Next before h) (handler_body_verdict known s before h)
@@ -158,29 +164,32 @@ module _ (known : KnownView) (globals : List Kind) (s : ScopeView) (have : Globa
       gives_yields (
         (λ matched b. All-push (HandlerIn known globals) before r b (m.1 matched)),
         map-append (λ (r : EventRoutine). Some r.event) before (r ∷ [])
-          ∙ ap (λ o. events_in before ++ o ∷ []) (sym m.0),
+            ∙ ap (λ o. events_in before ++ o ∷ []) (sym m.0),
       ))
 
   two_maps : (rs : List EventRoutine) → map Some (map (λ r. r.event) rs) ≡ events_in rs
   two_maps [] = refl
   two_maps (r ∷ rs) = ap (λ l. Some r.event ∷ l) (two_maps rs)
 
-  pub handlers_made : (hs : List Handler) → Fitting hs
-      → Yields (λ rs. AreIn rs × ((name : List ℕ) → EventsDiffer (state_with rs name)))
-        (each_verdict (handler_body_verdict known s) [] hs)
+  pub handlers_made : (hs : List Handler) → AreStateHandlers hs
+      → Yields (λ rs. HandlersIn rs × ((name : List ℕ) → EventsDiffer (state_with rs name)))
+      (each_verdict (handler_body_verdict known s) [] hs)
   handlers_made hs fit =
-      let kept = each_keeps IsMatched AreIn (handler_body_verdict known s)
-        (λ before h matched b. weaker_yields (next_made before h) (λ rs n. n.0 matched b)) [] hs fit.matched
-          (All-nil (HandlerIn known globals)) in
+      let kept = each_keeps IsMatched HandlersIn (handler_body_verdict known s)
+      (λ before h matched b. weaker_yields (next_made before h) (λ rs n. n.0 matched b)) [] hs fit.matched
+      (All-nil (HandlerIn known globals)) in
       let order = each_gathers events_in event_in (handler_body_verdict known s)
-        (λ before h. weaker_yields (next_made before h) (λ rs n. n.1)) [] hs in
+      (λ before h. weaker_yields (next_made before h) (λ rs n. n.1)) [] hs in
       record {
-        ok = λ rs e. (kept.ok rs e, λ name.
-          apart_pairs_by (λ (r : EventRoutine). r.event) rs
-            (fit.apart (map (λ r. r.event) rs) (two_maps rs ∙ order.ok rs e)));
+        ok = λ rs e. (
+          kept.ok rs e,
+          λ name.
+              apart_pairs_by (λ (r : EventRoutine). r.event) rs
+              (fit.apart (map (λ r. r.event) rs) (two_maps rs ∙ order.ok rs e)),
+        );
       }
 
-  pub state_made : (st : State) → Fitting st.handlers
+  pub state_made : (st : State) → AreStateHandlers st.handlers
       → Yields (StateIn known globals) (program_state_verdict known s st)
   state_made st fit =
       then_yields (handlers_made st.handlers fit) (λ rs h.

@@ -1,5 +1,6 @@
 -- What a body is checked with, and the scope that its routine has in the program.
-use Rattle.std.proofs.Common.{◌≡◌, ℕ, zero, suc, ◌+◌, Option, Some, None, List, [], ◌∷◌, ◌++◌, length, subst, slice_get}
+use Rattle.std.proofs.Common.{◌≡◌, ℕ, zero, suc, ◌+◌, Option, Some, None, List, [], ◌∷◌, ◌++◌, length, subst}
+use Rattle.std.proofs.Common.{slice_get}
 use Rattle.std.specs.Option.{option_and_then}
 use Rattle.lsl_value.specs.declared.tagged.Kind.{Kind}
 use Rattle.lsl_tree.specs.declared.script.Param.{Param}
@@ -11,7 +12,7 @@ use Rattle.lsl_type.specs.Names.{nearest}
 use Rattle.lsl_type.specs.Scope.{ScopeView, FrameView, spelled, variable_of, with_local, with_locals}
 use Rattle.lsl_type.specs.Known.{KnownView}
 use Rattle.lsl_type.specs.ActionForms.{home_kind}
-use Rattle.lsl_type.proofs.Prefixes.{Begins, begins_itself, begins_longer, begins_push, begins_get, get_last}
+use Rattle.lsl_type.proofs.Prefixes.{IsPrefix, prefix_itself, prefix_longer, prefix_push, prefix_get, get_last}
 
 -- what the headers declare, the globals' kinds, the kinds of all slots of the routine, and what it is
 pub record Setting : Type 0 where
@@ -59,24 +60,24 @@ variable_has c s name v h e = go (nearest name s.names) e
 
 -- a local variable behind the others
 pub local_has : (c : Setting) (f : FrameView) (name : List ℕ) (k : Kind) → HaveKinds c f.scope.variables
-    → Begins (f.slots ++ k ∷ []) c.slots
+    → IsPrefix (f.slots ++ k ∷ []) c.slots
     → HaveKinds c (with_local f name k).scope.variables
 local_has c f name k h b =
     let v : Variable = record { place = Slot (length f.slots); kind = k } in
     have_more c f.scope.variables v h
-      (begins_get (f.slots ++ k ∷ []) c.slots (length f.slots) k b (get_last f.slots k))
+    (prefix_get (f.slots ++ k ∷ []) c.slots (length f.slots) k b (get_last f.slots k))
 
-pub locals_begin : (f : FrameView) (ps : List Param) → Begins f.slots (with_locals f ps).slots
-locals_begin f [] = begins_itself f.slots
-locals_begin f (p ∷ ps) =
+pub locals_prefix : (f : FrameView) (ps : List Param) → IsPrefix f.slots (with_locals f ps).slots
+locals_prefix f [] = prefix_itself f.slots
+locals_prefix f (p ∷ ps) =
     let g = with_local f (spelled p.name) p.kind in
-    begins_longer f.slots g.slots (with_locals g ps).slots (begins_push f.slots p.kind) (locals_begin g ps)
+    prefix_longer f.slots g.slots (with_locals g ps).slots (prefix_push f.slots p.kind) (locals_prefix g ps)
 
 pub locals_have : (c : Setting) (f : FrameView) (ps : List Param) → HaveKinds c f.scope.variables
-    → Begins (with_locals f ps).slots c.slots
+    → IsPrefix (with_locals f ps).slots c.slots
     → HaveKinds c (with_locals f ps).scope.variables
 locals_have c f [] h b = h
 locals_have c f (p ∷ ps) h b =
     let g = with_local f (spelled p.name) p.kind in
-    let first = begins_longer g.slots (with_locals g ps).slots c.slots (locals_begin g ps) b in
+    let first = prefix_longer g.slots (with_locals g ps).slots c.slots (locals_prefix g ps) b in
     locals_have c g ps (local_has c f (spelled p.name) p.kind h first) b

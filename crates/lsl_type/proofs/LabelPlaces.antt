@@ -1,14 +1,16 @@
 -- The numbers of a block's labels: each has one of its own, which no block around has.
-use Rattle.std.proofs.Common.{◌≡◌, ℕ, ◌<◌, ◌≤◌, Bool, true, false, cond, Option, Some, None, List, [], ◌∷◌, ◌++◌, length, refl, sym, ap, ◌∙◌, subst, ◌⊎◌, inl, inr, arith, length-append, not}
+use Rattle.std.proofs.Common.{◌≡◌, ℕ, ◌<◌, ◌≤◌, Bool, true, false, cond, Option, Some, None, List, [], ◌∷◌, ◌++◌}
+use Rattle.std.proofs.Common.{length, refl, sym, ap, ◌∙◌, subst, ◌⊎◌, inl, inr, arith, length-append, not}
 use Rattle.std.specs.Prelude.{Contains, is_some}
 use Rattle.std.specs.Str.{bytes_eq}
 use Rattle.std.proofs.lemmas.Slice.Eq.{bytes_eq-Decides}
 use Rattle.std.proofs.lemmas.List.Elements.{Contains-append_left, Contains-append_right, Contains-append_cases}
 use Rattle.lsl_type.specs.Names.{nearest}
 use Rattle.lsl_type.specs.Scope.{FrameView, is_since, with_passed}
-use Rattle.lsl_type.proofs.NameLemmas.{nearest_is, nearest-within, contains_nearest, Contains-none, Contains-head, Contains-tail, Contains-cases}
+use Rattle.lsl_type.proofs.NameLemmas.{nearest_is, nearest-within, contains_nearest, Contains-none, Contains-head}
+use Rattle.lsl_type.proofs.NameLemmas.{Contains-tail, Contains-cases}
 use Rattle.lsl_type.proofs.ActionLemmas.{is_since-of}
-use Rattle.lsl_type.proofs.ListLemmas.{Apart, apart_append}
+use Rattle.lsl_type.proofs.ListLemmas.{AreApart, apart_append}
 
 -- the nearest of a name is the first, or one behind it
 here : (name x : List ℕ) (xs : List (List ℕ)) → bytes_eq x name ≡ true → nearest name (x ∷ xs) ≡ Some (length xs)
@@ -58,11 +60,14 @@ one_name a b (x ∷ xs) n h k = go (bytes_eq x a) (bytes_eq x b) refl refl (one_
   where
     number : (name : List ℕ) → bytes_eq x name ≡ true → nearest name (x ∷ xs) ≡ Some n → length xs ≡ n
     number name e g = let same : Some (length xs) ≡ Some n = sym (here name x xs e) ∙ g in cc
+
     below : (name : List ℕ) → bytes_eq x name ≡ false → nearest name (x ∷ xs) ≡ Some n → nearest name xs ≡ Some n
     below name e g = sym (behind name x xs e) ∙ g
+
     apart : (name other : List ℕ) → bytes_eq x name ≡ true → bytes_eq x other ≡ false
         → nearest name (x ∷ xs) ≡ Some n → nearest other (x ∷ xs) ≡ Some n → ⊥
     apart name other e f g i = omega (arith, number name e g, nearest-within other xs n (below other f i))
+
     go : (s t : Bool) → bytes_eq x a ≡ s → bytes_eq x b ≡ t
         → (nearest a xs ≡ Some n → nearest b xs ≡ Some n → a ≡ b) → a ≡ b
     go true true e f rest = sym ((bytes_eq-Decides x a).0 e) ∙ (bytes_eq-Decides x b).0 f
@@ -88,16 +93,16 @@ not_passed name xs older passed first split start fresh c = go (nearest name (xs
         absurd (cc)
 
 -- behind a part of a block with labels of these names and numbers
-pub record Placed (f : FrameView) (own : List (List ℕ)) (numbers : List ℕ) (g : FrameView) : Type 0 where
+pub record HasLabels (f : FrameView) (own : List (List ℕ)) (numbers : List ℕ) (g : FrameView) : Type 0 where
   pub labels : g.labels ≡ f.labels
   pub passed : g.passed ≡ own ++ f.passed
   pub first : g.first_label ≡ f.first_label
   pub numbered : (name : List ℕ) (n : ℕ) → Contains own name → nearest name f.labels ≡ Some n → Contains numbers n
   pub named : (n : ℕ) → Contains numbers n → (name : List ℕ) × Contains own name × (nearest name f.labels ≡ Some n)
-  pub apart : Apart numbers
+  pub apart : AreApart numbers
 
-pub placed_none : (f : FrameView) → Placed f [] [] f
-placed_none f = record {
+pub labels_none : (f : FrameView) → HasLabels f [] [] f
+labels_none f = record {
   labels = refl;
   passed = refl;
   first = refl;
@@ -107,10 +112,10 @@ placed_none f = record {
 }
 
 -- and behind what has no label
-pub placed_on : (f : FrameView) (own : List (List ℕ)) (numbers : List ℕ) (g h : FrameView) → Placed f own numbers g
+pub labels_kept : (f : FrameView) (own : List (List ℕ)) (numbers : List ℕ) (g h : FrameView) → HasLabels f own numbers g
     → h.labels ≡ g.labels → h.passed ≡ g.passed → h.first_label ≡ g.first_label
-    → Placed f own numbers h
-placed_on f own numbers g h p labels passed first = record {
+    → HasLabels f own numbers h
+labels_kept f own numbers g h p labels passed first = record {
   labels = labels ∙ p.labels;
   passed = passed ∙ p.passed;
   first = first ∙ p.first;
@@ -119,11 +124,11 @@ placed_on f own numbers g h p labels passed first = record {
   apart = p.apart;
 }
 
-pub placed_label : (f : FrameView) (own : List (List ℕ)) (numbers : List ℕ) (g : FrameView) (x : List ℕ) (m : ℕ)
-    → f.first_label ≡ length f.passed → Placed f own numbers g
+pub labels_more : (f : FrameView) (own : List (List ℕ)) (numbers : List ℕ) (g : FrameView) (x : List ℕ) (m : ℕ)
+    → f.first_label ≡ length f.passed → HasLabels f own numbers g
     → not (is_since g.passed g.first_label x) ≡ true → nearest x g.labels ≡ Some m
-    → Placed f (x ∷ own) (m ∷ numbers) (with_passed g x)
-placed_label f own numbers g x m start p fresh near =
+    → HasLabels f (x ∷ own) (m ∷ numbers) (with_passed g x)
+labels_more f own numbers g x m start p fresh near =
     let found : nearest x f.labels ≡ Some m = sym (ap (nearest x) p.labels) ∙ near in
     let never = not_passed x own f.passed g.passed g.first_label p.passed (p.first ∙ start) fresh in
     record {
@@ -132,35 +137,39 @@ placed_label f own numbers g x m start p fresh near =
       first = p.first;
       numbered = λ name n c h. elim (Contains-cases x name own c) [
         | inl same ↦
-          let number : Some m ≡ Some n = sym found ∙ (ap (λ y. nearest y f.labels) same ∙ h) in
-          let e : m ≡ n = cc in
-          subst (Contains (m ∷ numbers)) e (Contains-head m numbers)
+            let number : Some m ≡ Some n = sym found ∙ (ap (λ y. nearest y f.labels) same ∙ h) in
+            let e : m ≡ n = cc in
+            subst (Contains (m ∷ numbers)) e (Contains-head m numbers)
         | inr d ↦ Contains-tail m n numbers (p.numbered name n d h)
       ];
       named = λ n c. elim (Contains-cases m n numbers c) [
         | inl same ↦ (x, Contains-head x own, found ∙ ap Some same)
         | inr d ↦ let w = p.named n d in (w.0, Contains-tail x w.0 own w.1, w.2)
       ];
-      apart = (λ c. let w = p.named m c in never (subst (Contains own) (one_name w.0 x f.labels m w.2 found) w.1),
-        p.apart);
+      apart = (
+        λ c. let w = p.named m c in never (subst (Contains own) (one_name w.0 x f.labels m w.2 found) w.1),
+        p.apart,
+      );
     }
 
 -- the numbers of the labels in the blocks around
-pub record Around (numbers : List ℕ) (names : List (List ℕ)) : Type 0 where
+pub record IsAround (numbers : List ℕ) (names : List (List ℕ)) : Type 0 where
   pub numbered : (name : List ℕ) (n : ℕ) → nearest name names ≡ Some n → Contains numbers n
   pub below : (n : ℕ) → Contains numbers n → n < length names
-  pub apart : Apart numbers
+  pub apart : AreApart numbers
 
-pub around_none : Around [] []
+pub around_none : IsAround [] []
 around_none = record { numbered = λ name n h. absurd (cc); below = λ n c. absurd (Contains-none n c); apart = tt }
 
 pub around_block : (f g h : FrameView) (own : List (List ℕ)) (numbers outer : List ℕ) → f.labels ≡ own ++ g.labels
-    → Around outer g.labels → Placed f own numbers h → Around (numbers ++ outer) f.labels
+    → IsAround outer g.labels → HasLabels f own numbers h → IsAround (numbers ++ outer) f.labels
 around_block f g h own numbers outer labels a p =
     let number : (n : ℕ) → Contains numbers n → (n < length f.labels) × (length g.labels ≤ n) = λ n c.
-      let w = p.named n c in
-      (nearest-within w.0 f.labels n w.2, nearest_above w.0 own g.labels n w.1
-        (ap (nearest w.0) (sym labels) ∙ w.2)) in
+    let w = p.named n c in (
+      nearest-within w.0 f.labels n w.2,
+      nearest_above w.0 own g.labels n w.1
+          (ap (nearest w.0) (sym labels) ∙ w.2),
+    ) in
     record {
       numbered = λ name n e. elim (nearest_append name own g.labels n (ap (nearest name) (sym labels) ∙ e)) [
         | inl c ↦ Contains-append_left numbers outer n (p.numbered name n c e)

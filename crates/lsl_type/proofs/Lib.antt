@@ -7,11 +7,15 @@ pub mod BodyWalks
 pub mod CallKinds
 pub mod Deciding
 pub mod FitLemmas
+pub mod FunctionKinds
 pub mod GlobalKinds
 pub mod HandlerKinds
 pub mod HeaderWalks
+pub mod InitialKinds
 pub mod KindSettings
 pub mod LabelPlaces
+pub mod LeavingKinds
+pub mod LeavingShapes
 pub mod ListLemmas
 pub mod NameLemmas
 pub mod NameTable

@@ -6,23 +6,23 @@ use Rattle.std.proofs.lemmas.List.Elements.{All-nil, All-cons, Contains-append_c
 use Rattle.std.proofs.lemmas.List.Kept.{AllPairs-cons}
 use Rattle.lsl_type.proofs.NameLemmas.{Contains-none, Contains-head, Contains-tail, Contains-cases}
 
-abbrev pub Apart : {X : Type 0} → List X → Type 0
-Apart [] = Unit {0}
-Apart (x ∷ xs) = (Contains xs x → ⊥) × Apart xs
+abbrev pub AreApart : {X : Type 0} → List X → Type 0
+AreApart [] = Unit {0}
+AreApart (x ∷ xs) = (Contains xs x → ⊥) × AreApart xs
 
 pub all_contained : {X : Type 0} (P : X → Type 0) (xs : List X) → ((x : X) → Contains xs x → P x) → All P xs
 all_contained P [] h = All-nil P
 all_contained P (x ∷ xs) h =
     All-cons P x xs (h x (Contains-head x xs)) (all_contained P xs (λ y c. h y (Contains-tail x y xs c)))
 
-pub apart_pairs : {X : Type 0} (xs : List X) → Apart xs → AllPairs (λ a b. a ≢ b) xs
+pub apart_pairs : {X : Type 0} (xs : List X) → AreApart xs → AllPairs (λ a b. a ≢ b) xs
 apart_pairs [] h = λ i j d lt below. absurd (omega (arith, below))
 apart_pairs (x ∷ xs) h =
     AllPairs-cons (λ a b. a ≢ b) x xs (all_contained (λ y. x ≢ y) xs (λ y c e. h.0 (subst (Contains xs) (sym e) c)))
-      (apart_pairs xs h.1)
+    (apart_pairs xs h.1)
 
-pub apart_append : {X : Type 0} (xs ys : List X) → Apart xs → Apart ys
-    → ((x : X) → Contains xs x → Contains ys x → ⊥) → Apart (xs ++ ys)
+pub apart_append : {X : Type 0} (xs ys : List X) → AreApart xs → AreApart ys
+    → ((x : X) → Contains xs x → Contains ys x → ⊥) → AreApart (xs ++ ys)
 apart_append [] ys a b h = b
 apart_append (x ∷ xs) ys a b h = (
   λ c. elim (Contains-append_cases xs ys x c) [ inl i ↦ a.0 i | inr j ↦ h x (Contains-head x xs) j ],
@@ -36,9 +36,9 @@ contains_map f (y ∷ xs) x c = elim (Contains-cases y x xs c) [
   | inr d ↦ Contains-tail (f y) (f x) (map f xs) (contains_map f xs x d)
 ]
 
-pub apart_pairs_by : {X Y : Type 0} (f : X → Y) (xs : List X) → Apart (map f xs) → AllPairs (λ a b. f a ≢ f b) xs
+pub apart_pairs_by : {X Y : Type 0} (f : X → Y) (xs : List X) → AreApart (map f xs) → AllPairs (λ a b. f a ≢ f b) xs
 apart_pairs_by f [] h = λ i j d lt below. absurd (omega (arith, below))
 apart_pairs_by f (x ∷ xs) h =
     AllPairs-cons (λ a b. f a ≢ f b) x xs
     (all_contained (λ y. f x ≢ f y) xs (λ y c e. h.0 (subst (Contains (map f xs)) (sym e) (contains_map f xs y c))))
-      (apart_pairs_by f xs h.1)
+    (apart_pairs_by f xs h.1)

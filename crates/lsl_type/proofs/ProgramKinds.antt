@@ -1,55 +1,35 @@
 -- A checked program has its kinds and its shape.
-use Rattle.std.proofs.Common.{◌≡◌, ℕ, ◌+◌, Option, Some, None, List, [], ◌∷◌, ◌++◌, map, length, refl, sym, ap, ◌∙◌, subst, arith, append-nil, not}
+use Rattle.std.proofs.Common.{◌≡◌, ℕ, ◌+◌, None, List, [], ◌∷◌, map, length, sym, ◌∙◌, subst, arith, not}
 use Rattle.std.specs.Prelude.{is_some, All}
-use Rattle.std.proofs.lemmas.List.{map-append, length_push}
+use Rattle.std.proofs.lemmas.List.{length_push}
 use Rattle.std.proofs.lemmas.List.Elements.{All-nil, All-append, All-push, All-map, All-head, All-tail, All-weaker}
 use Rattle.lsl_value.specs.declared.tagged.Kind.{Kind}
-use Rattle.lsl_tree.specs.declared.expression.Name.{Name}
-use Rattle.lsl_tree.specs.declared.script.Param.{Param}
-use Rattle.lsl_tree.specs.Statements.{Items}
-use Rattle.lsl_tree.specs.Scripts as source
-use Rattle.lsl_tree.specs.Scripts.{Header, State, Tree}
+use Rattle.lsl_tree.specs.Scripts.{State, Tree}
 use Rattle.lsl_tree.specs.Program.{Routine, NamedRoutine, EventRoutine, ProgramState, Program}
 use Rattle.lsl_tree.specs.Signatures.{Signature, signature_of_routine, function_signatures, handlers_of, routines_of}
 use Rattle.lsl_tree.specs.Initials.{initial_kind_of}
 use Rattle.lsl_tree.specs.Shape.{IsShapedRoutine, IsShaped}
 use Rattle.lsl_tree.specs.Kinded.{Scope, AreKindedActions, IsKindedRoutine, IsHandler, EventsDiffer, IsKinded}
 use Rattle.lsl_type.specs.declared.faults.TypeKind.TheVariants.{DoubleName}
-use Rattle.lsl_type.specs.declared.frame.Home.TheVariants as home
 use Rattle.lsl_type.specs.Names.{nearest}
 use Rattle.lsl_type.specs.Scope.{ScopeView, spelled}
-use Rattle.lsl_type.specs.Known.{HeadersView, KnownView, no_headers, known_from, kinds_of}
-use Rattle.lsl_type.specs.Spans.{initial_span}
+use Rattle.lsl_type.specs.Known.{HeadersView, KnownView, no_headers, known_from}
 use Rattle.lsl_type.specs.Judgement.{at}
 use Rattle.lsl_type.specs.Verdict.{must_verdict, each_verdict}
-use Rattle.lsl_type.specs.HeaderVerdicts.{header_verdict, handler_verdict, state_verdict, is_unused, initial_verdict, initial_become_verdict, param_verdict}
-use Rattle.lsl_type.specs.ScriptVerdicts.{function_routine_verdict, function_body_verdict, handler_body_verdict, program_state_verdict, state_body_verdict, script_verdict}
+use Rattle.lsl_type.specs.HeaderVerdicts.{header_verdict, handler_verdict, state_verdict}
+use Rattle.lsl_type.specs.ScriptVerdicts.{handler_body_verdict, program_state_verdict, state_body_verdict}
+use Rattle.lsl_type.specs.ScriptVerdicts.{script_verdict}
 use Rattle.lsl_type.specs.ScriptRules.{default_name}
-use Rattle.lsl_type.proofs.Yielding.{Yields, gives_yields, then_yields, rest_yields, both_yield, weaker_yields, each_yields, each_keeps, each_shows, gathered, each_gathers, each_counts}
+use Rattle.lsl_type.proofs.Yielding.{Yields, gives_yields, then_yields, rest_yields, both_yield, each_keeps}
+use Rattle.lsl_type.proofs.Yielding.{each_shows, each_gathers, each_counts}
 use Rattle.lsl_type.proofs.KindSettings.{setting}
-use Rattle.lsl_type.proofs.GlobalKinds.{GlobalsIn, globals_have, headers_yield}
-use Rattle.lsl_type.proofs.RoutineKinds.{RoutineIn, RoutineOf, GlobalsHave, body_yields}
-use Rattle.lsl_type.proofs.HandlerKinds.{Fitting, handlers_fit, state_fits, HandlerIn, StateIn, handlers_made, state_made}
-
--- what functions are called with
-abbrev signatures_in : Header → List Signature
-signatures_in (source.Global k x v) = []
-signatures_in (source.Function k x params es) = record { params = kinds_of params; result = k } ∷ []
-
-header_declares : (h : HeadersView) (g : Header)
-    → Yields (λ n. n.signatures ≡ h.signatures ++ signatures_in g) (header_verdict h g)
-header_declares h (source.Global k x None) =
-    rest_yields (must_verdict (is_unused h x) (at DoubleName x.span)) (λ u.
-    gives_yields (sym (append-nil h.signatures)))
-header_declares h (source.Global k x (Some v)) =
-    rest_yields (initial_verdict h.scope v) (λ found.
-    rest_yields (must_verdict (is_unused h x) (at DoubleName x.span)) (λ u.
-    rest_yields (initial_become_verdict k found (initial_span v)) (λ value.
-    gives_yields (sym (append-nil h.signatures)))))
-header_declares h (source.Function k x params es) =
-    rest_yields (must_verdict (is_unused h x) (at DoubleName x.span)) (λ u.
-    rest_yields (each_verdict param_verdict [] params) (λ names.
-    gives_yields refl))
+use Rattle.lsl_type.proofs.InitialKinds.{globals_have}
+use Rattle.lsl_type.proofs.GlobalKinds.{GlobalsIn, headers_yield}
+use Rattle.lsl_type.proofs.RoutineKinds.{RoutineIn, GlobalsHave}
+use Rattle.lsl_type.proofs.HandlerKinds.{AreStateHandlers, handlers_agree, state_agrees, HandlerIn, StateIn}
+use Rattle.lsl_type.proofs.HandlerKinds.{handlers_made}
+use Rattle.lsl_type.proofs.HandlerKinds.{state_made}
+use Rattle.lsl_type.proofs.FunctionKinds.{signatures_in, header_declares, functions_yield}
 
 state_named : (names : List (List ℕ)) (s : State) → Yields (λ n. length n ≡ length names + 1) (state_verdict names s)
 state_named names s =
@@ -59,48 +39,10 @@ state_named names s =
 
 -- bodies, in a program that declares this
 module _ (known : KnownView) (globals : List Kind) (s : ScopeView) (have : GlobalsHave known globals s) where
-  abbrev Functions : List NamedRoutine → Type 0
-  Functions fs = All (λ f. RoutineIn known globals f.routine) fs
-
-  abbrev signatures_of : List NamedRoutine → List Signature
-  signatures_of fs = map (λ f. signature_of_routine f.routine) fs
-
-  function_yields : (k : Option Kind) (x : Name) (params : List Param) (es : Items)
-      → Yields (λ f. RoutineOf known globals params k f.routine) (function_routine_verdict known s k x params es)
-  function_yields k x params es =
-      then_yields (body_yields known globals s have (home.Function k) x params es) (λ r p. gives_yields p)
-
-  -- what a header adds to the functions
-  abbrev Next : List NamedRoutine → Header → List NamedRoutine → Type 0
-  Next before h fs = (Functions before → Functions fs) × (signatures_of fs ≡ signatures_of before ++ signatures_in h)
-
-  function_next : (before : List NamedRoutine) (h : Header)
-      → Yields (Next before h) (function_body_verdict known s before h)
-  function_next before (source.Global k x v) =
-      gives_yields ((λ b. b), sym (append-nil (signatures_of before)))
-  function_next before (source.Function k x params es) =
-      then_yields (function_yields k x params es) (λ f p.
-      gives_yields (
-        (λ b. All-push (λ f. RoutineIn known globals f.routine) before f b p.0),
-        map-append (λ (f : NamedRoutine). signature_of_routine f.routine) before (f ∷ [])
-        ∙ ap (λ g. signatures_of before ++ g ∷ []) p.1,
-      ))
-
-  functions_yield : (hs : List Header)
-      → Yields (λ fs. Functions fs × (signatures_of fs ≡ gathered signatures_in hs))
-        (each_verdict (function_body_verdict known s) [] hs)
-  functions_yield hs =
-      let step = function_body_verdict known s in
-      both_yield
-      (each_yields Functions step (λ before h b. weaker_yields (function_next before h) (λ fs p. p.0 b)) [] hs
-        (All-nil (λ f. RoutineIn known globals f.routine)))
-      (each_gathers signatures_of signatures_in step
-        (λ before h. weaker_yields (function_next before h) (λ fs p. p.1)) [] hs)
-
   abbrev States : List ProgramState → Type 0
   States sts = All (StateIn known globals) sts
 
-  state_next : (before : List ProgramState) (st : State) → Fitting st.handlers → States before
+  state_next : (before : List ProgramState) (st : State) → AreStateHandlers st.handlers → States before
       → Yields States (state_body_verdict known s before st)
   state_next before st fit b =
       then_yields (state_made known globals s have st fit) (λ state p.
@@ -112,14 +54,14 @@ module _ (known : KnownView) (globals : List Kind) (s : ScopeView) (have : Globa
       rest_yields (program_state_verdict known s st) (λ state. gives_yields (length_push before state))
 
   states_yield : (first : ProgramState) (sts : List State) → StateIn known globals first
-      → All (λ st. Fitting st.handlers) sts
+      → All (λ st. AreStateHandlers st.handlers) sts
       → Yields (λ all. States all × (length all ≡ 1 + length sts))
-        (each_verdict (state_body_verdict known s) (first ∷ []) sts)
+      (each_verdict (state_body_verdict known s) (first ∷ []) sts)
   states_yield first sts h fit =
       let step = state_body_verdict known s in
       both_yield
-      (each_keeps (λ st. Fitting st.handlers) States step state_next (first ∷ []) sts fit
-        (All-push (StateIn known globals) [] first (All-nil (StateIn known globals)) h))
+      (each_keeps (λ st. AreStateHandlers st.handlers) States step state_next (first ∷ []) sts fit
+      (All-push (StateIn known globals) [] first (All-nil (StateIn known globals)) h))
       (each_counts length step state_counts (first ∷ []) sts)
 
 -- what holds of each handler of each state
@@ -138,7 +80,7 @@ IsSound p = IsShaped p × IsKinded p
 abbrev KindedBy : List Kind → List Signature → ℕ → Routine → Type 0
 KindedBy globals functions states r =
     let s : Scope =
-        record { globals = globals; functions = functions; states = states; slots = r.slots; result = r.kind } in
+    record { globals = globals; functions = functions; states = states; slots = r.slots; result = r.kind } in
     AreKindedActions s r.body
 
 sound : (headers : HeadersView) (states : List (List ℕ)) (functions : List NamedRoutine) (all : List ProgramState)
@@ -152,36 +94,35 @@ sound headers states functions all globals signatures count fs sts =
     let known = known_from headers states in
     let kinds = map initial_kind_of headers.globals in
     let In = RoutineIn known kinds in
-    let Handled = HandlerIn known kinds in
-    let Stated = StateIn known kinds in
-    let handlers : All Handled (handlers_of all) =
-      handlers_all Handled all (All-weaker Stated (λ s. All Handled s.handlers) (λ s h. h.handlers) all sts) in
+    let HandlerHere = HandlerIn known kinds in
+    let StateHere = StateIn known kinds in
+    let handlers : All HandlerHere (handlers_of all) =
+    handlers_all HandlerHere all (All-weaker StateHere (λ s. All HandlerHere s.handlers) (λ s h. h.handlers) all sts) in
     let routines : All In (routines_of p) =
-      All-append In (map (λ f. f.routine) functions) (map (λ h. h.routine) (handlers_of all))
-      (All-map In (λ (f : NamedRoutine). f.routine) functions fs)
-      (All-map In (λ (h : EventRoutine). h.routine) (handlers_of all)
-        (All-weaker Handled (λ h. In h.routine) (λ h i. i.routine) (handlers_of all) handlers)) in
+    All-append In (map (λ f. f.routine) functions) (map (λ h. h.routine) (handlers_of all))
+    (All-map In (λ (f : NamedRoutine). f.routine) functions fs)
+    (All-map In (λ (h : EventRoutine). h.routine) (handlers_of all)
+    (All-weaker HandlerHere (λ h. In h.routine) (λ h i. i.routine) (handlers_of all) handlers)) in
     let events : All IsHandler (handlers_of all) =
-        All-weaker Handled IsHandler (λ h i. i.handler) (handlers_of all) handlers in
-    (
+    All-weaker HandlerHere IsHandler (λ h i. i.handler) (handlers_of all) handlers in (
       record {
         routines = All-weaker In (IsShapedRoutine (function_signatures p) (length all))
-          (λ r i.
+            (λ r i.
             subst (λ g. IsShapedRoutine g (length all) r) (sym signatures)
             (subst (λ n. IsShapedRoutine headers.signatures n r) (sym count) i.shaped))
-          (routines_of p) routines;
+            (routines_of p) routines;
         handlers = All-weaker IsHandler (λ h. h.routine.kind ≡ None) (λ h i. i.result) (handlers_of all) events;
         states = omega (arith, count);
       },
       record {
         globals = globals.0;
         routines = All-weaker In (IsKindedRoutine p)
-          (λ r i.
+            (λ r i.
             subst (λ g. KindedBy kinds g (length all) r) (sym signatures)
             (subst (λ n. KindedBy kinds headers.signatures n r) (sym count) i.kinded))
-          (routines_of p) routines;
+            (routines_of p) routines;
         handlers = events;
-        events = All-weaker Stated EventsDiffer (λ s h. h.events) all sts;
+        events = All-weaker StateHere EventsDiffer (λ s h. h.events) all sts;
       },
     )
 
@@ -189,19 +130,19 @@ pub script_sound : (tree : Tree) → Yields IsSound (script_verdict tree)
 script_sound tree =
     then_yields
     (both_yield
-      (headers_yield tree.headers)
-      (each_gathers (λ h. h.signatures) signatures_in header_verdict header_declares no_headers tree.headers))
-        (λ headers declared.
-    then_yields (handlers_fit tree.default) (λ events fit.
+    (headers_yield tree.headers)
+    (each_gathers (λ h. h.signatures) signatures_in header_verdict header_declares no_headers tree.headers))
+    (λ headers declared.
+    then_yields (handlers_agree tree.default) (λ events fit.
     then_yields
     (both_yield
-      (each_shows (λ st. Fitting st.handlers) state_verdict state_fits [] tree.states)
-      (each_counts length state_verdict state_named [] tree.states)) (λ states named.
+    (each_shows (λ st. AreStateHandlers st.handlers) state_verdict state_agrees [] tree.states)
+    (each_counts length state_verdict state_named [] tree.states)) (λ states named.
     let known = known_from headers states in
     let kinds = map initial_kind_of headers.globals in
     let s = headers.scope in
     let have : GlobalsHave known kinds s =
-        λ slots home. globals_have (setting known kinds slots home) s.variables declared.0.1 in
+    λ slots home. globals_have (setting known kinds slots home) s.variables declared.0.1 in
     then_yields (functions_yield known kinds s have tree.headers) (λ functions f.
     let handlers = each_verdict (handler_body_verdict known s) [] tree.default in
     then_yields
@@ -209,6 +150,6 @@ script_sound tree =
     let first : ProgramState = record { name = default_name; handlers = start } in
     then_yields
     (states_yield known kinds s have first tree.states (record { handlers = h.0; events = h.1 default_name })
-      named.0) (λ all a.
+    named.0) (λ all a.
     gives_yields
     (sound headers states functions all declared.0 (f.1 ∙ sym declared.1) (omega (arith, a.1, named.1)) f.0 a.0)))))))

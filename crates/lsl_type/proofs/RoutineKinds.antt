@@ -1,5 +1,6 @@
 -- Checked routines have their kinds and their shape.
-use Rattle.std.proofs.Common.{◌≡◌, ℕ, ◌+◌, true, Option, Some, None, List, [], ◌∷◌, ◌++◌, length, refl, sym, ap, ◌∙◌, subst, arith, length-append, append-nil, append_assoc}
+use Rattle.std.proofs.Common.{◌≡◌, ℕ, ◌+◌, true, Option, Some, None, List, [], ◌∷◌, ◌++◌, length, refl, sym, ap}
+use Rattle.std.proofs.Common.{◌∙◌, subst, arith, length-append, append-nil, append_assoc}
 use Rattle.std.specs.Prelude.{Ok, is_some}
 use Rattle.std.proofs.lemmas.List.{length-map}
 use Rattle.lsl_value.specs.declared.tagged.Kind.{Kind}
@@ -20,7 +21,7 @@ use Rattle.lsl_type.specs.ActionForms.{ended, home_kind}
 use Rattle.lsl_type.specs.ActionVerdicts.{items_verdict}
 use Rattle.lsl_type.specs.ScriptVerdicts.{body_verdict}
 use Rattle.lsl_type.proofs.Yielding.{Yields, gives_yields, then_yields, itself}
-use Rattle.lsl_type.proofs.Prefixes.{Begins, begins_itself, begins_take}
+use Rattle.lsl_type.proofs.Prefixes.{IsPrefix, prefix_itself, prefix_take}
 use Rattle.lsl_type.proofs.KindSettings.{Setting, setting, scope_in, HaveKinds, locals_have}
 use Rattle.lsl_type.proofs.CallKinds.{empty_kind}
 use Rattle.lsl_type.proofs.NodeShapes.{outline_of, node_shaped}
@@ -103,12 +104,11 @@ module _ (known : KnownView) (globals : List Kind) (s : ScopeView) (have : Globa
       let c = setting known globals slots home in
       let p = (items_yield c (opened (entered s params) es) es).ok inner e in
       let kinds : ActionsIn c inner.0 =
-        (p.1 (locals_have c (resting s) params (have slots home) p.0) (begins_itself slots)).0 in
+      (p.1 (locals_have c (resting s) params (have slots home) p.0) (prefix_itself slots)).0 in
       let shape = body_shaped c (entered s params) es inner (locals_labels (resting s) params) e kinds in
-      let first : Begins (kinds_of params) slots =
-          subst (λ l. Begins l slots) (locals_slots (resting s) params) p.0 in
-      let count : length params ≡ length (kinds_of params) = sym (length-map params (λ q. q.kind)) in
-      (
+      let first : IsPrefix (kinds_of params) slots =
+      subst (λ l. IsPrefix l slots) (locals_slots (resting s) params) p.0 in
+      let count : length params ≡ length (kinds_of params) = sym (length-map params (λ q. q.kind)) in (
         record {
           kinded = ended_kinds c (home_kind home) refl inner.0 kinds;
           shaped = record {
@@ -117,12 +117,12 @@ module _ (known : KnownView) (globals : List Kind) (s : ScopeView) (have : Globa
             params = omega (arith, count, ap length first.split, length-append (kinds_of params) first.rest);
           };
         },
-        ap (signature (home_kind home)) (begins_take (kinds_of params) slots (length params) first count),
+        ap (signature (home_kind home)) (prefix_take (kinds_of params) slots (length params) first count),
       )
 
   pub body_yields : (x : Name) (params : List Param) (es : Items)
       → Yields (RoutineOf known globals params (home_kind home))
-        (body_verdict known s home x (home_kind home) params es)
+      (body_verdict known s home x (home_kind home) params es)
   body_yields x params es =
       let items = items_verdict known home (opened (entered s params) es) es in
       then_yields (itself items) (λ inner e. gives_yields (routine_made x.span.line params es inner e))

@@ -26,13 +26,17 @@ use Rattle.lsl_type.specs.Spans.{first_span}
 use Rattle.lsl_type.specs.Judgement.{at}
 use Rattle.lsl_type.specs.Verdict.{◌>>=◌}
 use Rattle.lsl_type.specs.VariableVerdicts.{assigned_verdict, stored_verdict}
-use Rattle.lsl_type.specs.ValueVerdicts.{flat_verdict, converted_verdict, prefixed_verdict, joined_verdict, listed_verdict, value_verdict, values_verdict, effect_verdict, effects_verdict}
+use Rattle.lsl_type.specs.ValueVerdicts.{flat_verdict, converted_verdict, prefixed_verdict, joined_verdict}
+use Rattle.lsl_type.specs.ValueVerdicts.{listed_verdict, value_verdict, values_verdict, effect_verdict}
+use Rattle.lsl_type.specs.ValueVerdicts.{effects_verdict}
 use Rattle.lsl_type.proofs.RuleLemmas.{is_kind_true}
 use Rattle.lsl_type.proofs.Yielding.{Yields, gives_yields, then_yields, weaker_yields, entry_yields, must_yields}
 use Rattle.lsl_type.proofs.FitLemmas.{is_int-int, is_no_list-apart}
 use Rattle.lsl_type.proofs.KindSettings.{Setting, HasKind, HaveKinds}
-use Rattle.lsl_type.proofs.CallKinds.{NodeIn, EffectIn, NodesFor, become_kind, callable_yields, call_value_yields, call_effect_yields}
-use Rattle.lsl_type.proofs.VariableKinds.{TargetIn, target_yields, variable_yields, read_yields, behind_yields, before_yields}
+use Rattle.lsl_type.proofs.CallKinds.{NodeIn, EffectIn, NodesFor, become_kind, callable_yields, call_value_yields}
+use Rattle.lsl_type.proofs.CallKinds.{call_effect_yields}
+use Rattle.lsl_type.proofs.VariableKinds.{TargetIn, target_yields, variable_yields, read_yields, behind_yields}
+use Rattle.lsl_type.proofs.VariableKinds.{before_yields}
 
 -- the variables in sight have their kinds
 module _ (c : Setting) (s : ScopeView) (have : HaveKinds c s.variables) where
@@ -88,10 +92,10 @@ module _ (c : Setting) (s : ScopeView) (have : HaveKinds c s.variables) where
       → NodeIn c right
       → Yields (NodeIn c) (stored_verdict t x op span right first)
   stored_yields t x op span right first h n =
-      then_yields (variable_yields c s have t x h) (λ v k. assigned_yields (operator_before op) v right span first k n)
+      then_yields (variable_yields c s have t x h) (λ v k.
+      assigned_yields (operator_before op) v right span first k n)
 
   mutual
-  
     value_yields : (e : Expr) → Yields (NodeIn c) (value_verdict c.known s e)
     value_yields (expr.Int n span) = gives_yields tt
     value_yields (expr.Str text span) = gives_yields tt

@@ -15,7 +15,8 @@ use Rattle.lsl_type.specs.Table.{constant_kind_of, constant_of}
 use Rattle.lsl_type.specs.Targets.{read_of, steps_of}
 use Rattle.lsl_type.specs.Conversions.{is_int}
 use Rattle.lsl_type.specs.Judgement.{at}
-use Rattle.lsl_type.specs.VariableVerdicts.{constant_target, target_by, target_verdict, variable_verdict, place_by, counter_verdict, read_verdict, step_behind_verdict, step_before_verdict}
+use Rattle.lsl_type.specs.VariableVerdicts.{constant_target, target_by, target_verdict, variable_verdict, place_by}
+use Rattle.lsl_type.specs.VariableVerdicts.{counter_verdict, read_verdict, step_behind_verdict, step_before_verdict}
 use Rattle.lsl_type.proofs.Yielding.{Yields, gives_yields, faulty_yields, then_yields, the_one_yields}
 use Rattle.lsl_type.proofs.FitLemmas.{is_int-int}
 use Rattle.lsl_type.proofs.KindSettings.{Setting, scope_in, HasKind, HaveKinds, variable_has}
