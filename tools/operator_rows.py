@@ -1,7 +1,7 @@
 #!/usr/bin/env python3
-"""Prints the tables of crates/lsl_ops/src/tests/rows.rt: what operators on 32-bit integers give.
+"""Prints the tables of crates/lsl_value_tests/src/operators/rows.rt: what operators on 32-bit integers give.
 
-Run it as `python3 tools/operator_rows.py > crates/lsl_ops/src/tests/rows.rt`.
+Run it as `python3 tools/operator_rows.py > crates/lsl_value_tests/src/operators/rows.rt`.
 
 For each operator it takes, out of all pairs of ten numbers, the thirty that tell most: those on which the
 greatest number of likely wrong operators give another value.

@@ -2,9 +2,10 @@
 use Rattle.std.specs.Prelude.{◌==◌, ℕ, Bool, true, false, not, List, [], ◌∷◌, ◌++◌, length, ℤ, pos, ◌-ℤ◌}
 use Rattle.std.specs.List.{flat_map}
 use Rattle.std.specs.Ordering.{int_eq}
-use Rattle.std.specs.Str.{bytes_eq, encode_utf8_all}
-use Rattle.lsl_text.specs.Number.{decimal_of, leading_integer_of}
+use Rattle.std.specs.Str.{bytes_eq}
+use Rattle.lsl_text.specs.Number.{decimal_of}
 use Rattle.lsl_value.specs.Atoms.{text_of_atom}
+use Rattle.lsl_value.specs.Text.{integer_of_text}
 use Rattle.lsl_value.specs.declared.list.Atom.{Atom}
 use Rattle.lsl_value.specs.declared.list.Atom.TheVariants.{Int as IntAtom, Str as StrAtom, Key as KeyAtom}
 use Rattle.lsl_value.specs.declared.operators.BinaryOp.{BinaryOp}
@@ -18,7 +19,7 @@ use Rattle.lsl_ops.specs.Integers.{number_of, arithmetic_of, has_zero_divisor}
 -- the integer that a text begins with; a key and a list have none
 abbrev pub integer_of : Value → ℤ
 integer_of (Int n) = n
-integer_of (Str text) = leading_integer_of (encode_utf8_all text)
+integer_of (Str text) = integer_of_text text
 integer_of (Key text) = pos 0
 integer_of (ListValue atoms) = pos 0
 

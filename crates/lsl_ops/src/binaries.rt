@@ -1,6 +1,7 @@
 //! Operators between two values.
 
 ghost use Rattle.std.specs.Prelude.{◌≡◌, ◌≢◌, ◌≤◌, ◌↔◌, IfOk, IsErrOf, IsSome, IsTrue};
+ghost use Rattle.lsl_value.specs.Limits.{most_charge};
 ghost use Rattle.lsl_value.specs.OperatorRows.{integer_kind_of, result_kind_of};
 ghost use Rattle.lsl_value.specs.Values.{kind_of, charge_of};
 ghost use Rattle.lsl_ops.specs.Operations.{binary_of, binary_takes_memory, divides_by_zero as divides_by_zero_of, integer_of};
@@ -19,8 +20,8 @@ use std::alloc::Global;
 /// Takes memory where it makes a text or a list.
 pub fn binary(alloc: Global, op: BinaryOp, left: Value, right: Value) -> Result<Value, OpFault>
     requires row { IsSome (result_kind_of op (kind_of left) (kind_of right)) }
-    requires left { charge_of left ≤ 65536 }
-    requires right { charge_of right ≤ 65536 }
+    requires left { charge_of left ≤ most_charge }
+    requires right { charge_of right ≤ most_charge }
     ensures ok { IfOk result (λ value. value ≡ binary_of op left right) }
     ensures math_error { IsErrOf result OpFault.MathError ↔ IsTrue (divides_by_zero_of op right) }
     ensures memory { IsErrOf result OpFault.NoMemory → IsTrue (binary_takes_memory op (kind_of left) (kind_of right)) }

@@ -4,12 +4,13 @@ ghost use Rattle.std.specs.Prelude.{◌≡◌, ◌≤◌, ◌+◌, ◌++◌, IfO
 ghost use Rattle.std.specs.List.{flat_map};
 ghost use Rattle.std.specs.Str.{encode_utf8_all};
 ghost use Rattle.lsl_value.specs.Atoms.{item_charge_of, text_of_atom, list_charge_of};
+ghost use Rattle.lsl_value.specs.Limits.{most_charge, most_text_bytes};
 ghost use Rattle.lsl_value.specs.OperatorRows.{casts_of};
 ghost use Rattle.lsl_value.specs.Values.{kind_of, charge_of};
 ghost use Rattle.lsl_ops.specs.Operations.{atoms_of, cast_of, cast_takes_memory, integer_of, text_of};
 
-use lsl_text::{NoMemory, leading_integer};
-use lsl_value::{Atom, Items, Kind, MAX_TEXT_BYTES, Text, Value};
+use lsl_text::NoMemory;
+use lsl_value::{Atom, Items, Kind, Text, Value};
 use std::alloc::Global;
 
 /// The value as one of another kind: an integer's text is its decimal, a text's integer is the one that it begins
@@ -20,7 +21,7 @@ use std::alloc::Global;
 /// charged more than the one that was cast.
 pub fn cast(alloc: Global, value: Value, kind: Kind) -> Result<Value, NoMemory>
     requires row { IsTrue (casts_of (kind_of value) kind) }
-    requires charged { charge_of value ≤ 65536 }
+    requires charged { charge_of value ≤ most_charge }
     ensures ok { IfOk result (λ casted. casted ≡ cast_of value kind) }
     ensures memory { OnErr result (IsTrue (cast_takes_memory (kind_of value) kind)) }
 {
@@ -37,13 +38,13 @@ fn integer(value: &Value) -> i32
 {
     match value {
         Value::Int(n) => *n,
-        Value::Str(text) => leading_integer(text.bytes()),
+        Value::Str(text) => text.integer(),
         Value::Key(_) | Value::List(_) => 0,
     }
 }
 
 fn text(alloc: Global, value: Value) -> Result<Text, NoMemory>
-    requires { charge_of value ≤ 65536 }
+    requires { charge_of value ≤ most_charge }
     ensures ok { IfOk result (λ text. text ≡ text_of value) }
     ensures memory { OnErr result (IsTrue (cast_takes_memory (kind_of value) Kind.Str)) }
 {
@@ -75,7 +76,7 @@ fn one_item(alloc: Global, atom: Atom) -> Result<Items, NoMemory>
 }
 
 fn joined_text(alloc: Global, items: &Items) -> Result<Text, NoMemory>
-    requires { list_charge_of items.now ≤ 65536 }
+    requires { list_charge_of items.now ≤ most_charge }
     ensures { IfOk result (λ text. text ≡ flat_map text_of_atom items.now) }
 {
     let mut text = Text::new();
@@ -86,12 +87,9 @@ fn joined_text(alloc: Global, items: &Items) -> Result<Text, NoMemory>
 }
 
 fn push_atom(alloc: Global, text: &mut Text, atom: &Atom) -> Result<(), NoMemory>
-    requires { length (encode_utf8_all text.old) + item_charge_of atom.now ≤ MAX_TEXT_BYTES }
+    requires { length (encode_utf8_all text.old) + item_charge_of atom.now ≤ most_text_bytes }
     ensures ok { OnOk result (text.new ≡ text.old ++ text_of_atom atom.now) }
     ensures short { OnOk result (length (encode_utf8_all text.new) ≤ length (encode_utf8_all text.old) + item_charge_of atom.now) }
 {
-    match atom {
-        Atom::Int(n) => text.push_text(&Text::decimal(alloc, *n)?),
-        Atom::Str(piece) | Atom::Key(piece) => text.push_text(piece),
-    }
+    text.push_text(&atom.text(alloc)?)
 }

@@ -2,18 +2,19 @@
 
 ghost use Rattle.std.specs.Prelude.{◌≡◌, ◌++◌, ◌<◌, ◌≤◌, ◌+◌, ◌∷◌, [], IfOk, OnErr, IsSome, IsTrue, length};
 ghost use Rattle.std.specs.Str.{encode_utf8_all};
+ghost use Rattle.lsl_value.specs.Limits.{most_charge, most_items, most_text_bytes};
 ghost use Rattle.lsl_value.specs.OperatorRows.{sum_kind_of};
 ghost use Rattle.lsl_value.specs.Values.{kind_of, charge_of};
 ghost use Rattle.lsl_ops.specs.Operations.{atoms_of, sum_of, sum_takes_memory};
 
 use lsl_text::NoMemory;
-use lsl_value::{Atom, Items, MAX_ITEMS, MAX_TEXT_BYTES, Text, Value};
+use lsl_value::{Atom, Items, Text, Value};
 
 /// The sum of two integers, two strings joined, or a list with what stands before or behind it: one pass.
 pub(crate) fn sum(left: Value, right: Value) -> Result<Value, NoMemory>
     requires row { IsSome (sum_kind_of (kind_of left) (kind_of right)) }
-    requires left { charge_of left ≤ 65536 }
-    requires right { charge_of right ≤ 65536 }
+    requires left { charge_of left ≤ most_charge }
+    requires right { charge_of right ≤ most_charge }
     ensures ok { IfOk result (λ value. value ≡ sum_of left right) }
     ensures memory { OnErr result (IsTrue (sum_takes_memory (kind_of left) (kind_of right))) }
 {
@@ -29,7 +30,7 @@ pub(crate) fn sum(left: Value, right: Value) -> Result<Value, NoMemory>
 }
 
 fn joined(left: Text, right: &Text) -> Result<Text, NoMemory>
-    requires { length (encode_utf8_all left) + length (encode_utf8_all right.now) ≤ MAX_TEXT_BYTES }
+    requires { length (encode_utf8_all left) + length (encode_utf8_all right.now) ≤ most_text_bytes }
     ensures { IfOk result (λ text. text ≡ left ++ right.now) }
 {
     let mut text = left;
@@ -38,7 +39,7 @@ fn joined(left: Text, right: &Text) -> Result<Text, NoMemory>
 }
 
 fn with_last(list: Items, value: Value) -> Result<Items, NoMemory>
-    requires { length list + length (atoms_of value) ≤ MAX_ITEMS }
+    requires { length list + length (atoms_of value) ≤ most_items }
     ensures { IfOk result (λ items. items ≡ list ++ atoms_of value) }
 {
     let mut items = list;
@@ -52,7 +53,7 @@ fn with_last(list: Items, value: Value) -> Result<Items, NoMemory>
 }
 
 fn with_first(atom: Atom, list: Items) -> Result<Items, NoMemory>
-    requires { length list < MAX_ITEMS }
+    requires { length list < most_items }
     ensures { IfOk result (λ items. items ≡ atom ∷ list) }
 {
     let mut items = list;

@@ -10,8 +10,10 @@ use Rattle.std.proofs.lemmas.Str.{encode_ascii, IsCharBoundary-after_ascii, IsCh
 use Rattle.lsl_value.specs.Atoms.{list_charge_of}
 use Rattle.lsl_value.specs.declared.list.Atom.{Atom}
 use Rattle.lsl_value.specs.declared.list.Atom.TheVariants.{Str}
-use Rattle.lsl_pure.specs.Csv.{csv_elements, csv_pieces, depth_behind, into_first, is_outer_comma, without_leading_spaces}
+use Rattle.lsl_pure.specs.Csv.{csv_elements, csv_pieces, into_first, without_leading_spaces}
+use Rattle.lsl_pure.specs.CsvSteps.{depth_behind, is_outer_comma, pieces_from}
 use Rattle.lsl_pure.specs.Spelling.{IsOverfull, spelled_string}
+use Rattle.lsl_pure.proofs.BracketLemmas.{csv_pieces-from}
 use Rattle.lsl_pure.proofs.ChargeLemmas.{overfull_more}
 use Rattle.lsl_pure.proofs.ParsingLemmas.{slice-empty, slice_range-more}
 use Rattle.lsl_pure.proofs.TrimLemmas.{IsHigh, empty-encodes, behind_front-encodes, long_character, space-plain}
@@ -39,10 +41,10 @@ first-choice : (b : Bool) (x y : List (List ℕ)) → HasFirst x → HasFirst y 
 first-choice true x y one two = one
 first-choice false x y one two = two
 
-pub csv_pieces-first : (depth : ℕ) (text : List ℕ) → HasFirst (csv_pieces depth text)
-csv_pieces-first depth [] = record { first = []; others = []; are = refl }
-csv_pieces-first depth (c ∷ cs) =
-    first-choice (is_outer_comma depth c) ([] ∷ csv_pieces depth cs) (into_first c (csv_pieces (depth_behind depth c) cs)) (record { first = []; others = csv_pieces depth cs; are = refl }) (first-into c (csv_pieces (depth_behind depth c) cs))
+pub pieces_from-first : (depth : ℕ) (text : List ℕ) → HasFirst (pieces_from depth text)
+pieces_from-first depth [] = record { first = []; others = []; are = refl }
+pieces_from-first depth (c ∷ cs) =
+    first-choice (is_outer_comma depth c) ([] ∷ pieces_from depth cs) (into_first c (pieces_from (depth_behind depth c) cs)) (record { first = []; others = pieces_from depth cs; are = refl }) (first-into c (pieces_from (depth_behind depth c) cs))
 
 pub into_front-nil : (pieces : List (List ℕ)) → HasFirst pieces → into_front [] pieces ≡ pieces
 into_front-nil pieces has = ap (into_front []) has.are ∙ sym has.are
@@ -51,6 +53,10 @@ into_front-first : (p : List ℕ) (c : ℕ) (pieces : List (List ℕ)) → into_
 into_front-first p c [] = refl
 into_front-first p c (q ∷ qs) = ap (λ t. t ∷ qs) (sym (append_assoc p (c ∷ []) q))
 
+pub into_first-front : (c : ℕ) (cs : List ℕ) (pieces : List (List ℕ)) → into_first c (into_front cs pieces) ≡ into_front (c ∷ cs) pieces
+into_first-front c cs [] = refl
+into_first-front c cs (q ∷ qs) = refl
+
 -- the elements so far, with those of the piece that stands open and of what follows it, are those of the whole
 pub record IsSplitting (text : List ℕ) (items : List Atom) (start at depth : ℕ) : Type 0 where
   pub ordered : start ≤ at
@@ -58,7 +64,7 @@ pub record IsSplitting (text : List ℕ) (items : List Atom) (start at depth : �
   pub shallow : depth ≤ at
   pub valid : IsUtf8 (drop start text)
   pub room : list_charge_of items ≤ 65536
-  pub same : map spelled_string items ++ csv_strings (into_front (slice_range text start at) (csv_pieces depth (drop at text))) ≡ csv_strings (csv_pieces 0 text)
+  pub same : map spelled_string items ++ csv_strings (into_front (slice_range text start at) (pieces_from depth (drop at text))) ≡ csv_strings (pieces_from 0 text)
 
 pub splitting-start : (text : List ℕ) (items : List Atom) → items ≡ [] → IsUtf8 text → IsSplitting text items 0 0 0
 splitting-start text items none valid = record {
@@ -67,7 +73,7 @@ splitting-start text items none valid = record {
   shallow = omega arith;
   valid = valid;
   room = (let P : List Atom → Type 0 = λ xs. list_charge_of xs ≤ 65536 in subst P (sym none) (omega arith));
-  same = ap (λ xs. map spelled_string xs ++ csv_strings (into_front [] (csv_pieces 0 text))) none ∙ ap csv_strings (into_front-nil (csv_pieces 0 text) (csv_pieces-first 0 text));
+  same = ap (λ xs. map spelled_string xs ++ csv_strings (into_front [] (pieces_from 0 text))) none ∙ ap csv_strings (into_front-nil (pieces_from 0 text) (pieces_from-first 0 text));
 }
 
 deeper : (depth b : ℕ) → depth_behind depth b ≤ depth + 1
@@ -78,8 +84,8 @@ pub splitting-inside : (text : List ℕ) (items : List Atom) (start at depth b n
 splitting-inside text items start at depth b next splitting low here inside deep =
     let rest = drop (at + 1) text in
     let head : drop at text ≡ b ∷ rest = drop_more text at 0 low ∙ ap (λ c. c ∷ rest) (sym here) in
-    let step : csv_pieces depth (drop at text) ≡ into_first b (csv_pieces next rest) =
-    ap (csv_pieces depth) head ∙ cond-false _ _ _ inside ∙ ap (λ d. into_first b (csv_pieces d rest)) (sym deep) in
+    let step : pieces_from depth (drop at text) ≡ into_first b (pieces_from next rest) =
+    ap (pieces_from depth) head ∙ cond-false _ _ _ inside ∙ ap (λ d. into_first b (pieces_from d rest)) (sym deep) in
     let piece : slice_range text start (at + 1) ≡ slice_range text start at ++ b ∷ [] = slice_range-more text start at splitting.ordered low ∙ ap (λ c. slice_range text start at ++ c ∷ []) (sym here) in
     record {
       ordered = omega (arith, splitting.ordered);
@@ -88,7 +94,7 @@ splitting-inside text items start at depth b next splitting low here inside deep
       valid = splitting.valid;
       room = splitting.room;
       same =
-          ap (λ t. map spelled_string items ++ csv_strings t) (ap (λ p. into_front p (csv_pieces next rest)) piece ∙ sym (into_front-first (slice_range text start at) b (csv_pieces next rest)) ∙ sym (ap (into_front (slice_range text start at)) step))
+          ap (λ t. map spelled_string items ++ csv_strings t) (ap (λ p. into_front p (pieces_from next rest)) piece ∙ sym (into_front-first (slice_range text start at) b (pieces_from next rest)) ∙ sym (ap (into_front (slice_range text start at)) step))
           ∙ splitting.same;
     }
 
@@ -124,13 +130,13 @@ csv_rest-valid text start at depth b ordered valid comma =
     (IsUtf8-drop (drop start text) (at - start + 1) valid (IsCharBoundary-after_ascii (drop start text) (at - start) valid (omega (arith, length-drop start text, comma.low)) (omega arith)))
 
 pub splitting-parts : (text : List ℕ) (items : List Atom) (start at depth b : ℕ) → IsSplitting text items start at depth → IsComma text at depth b
-    → (map spelled_string items ++ Str (without_leading_spaces (slice_range text start at)) ∷ []) ++ csv_strings (csv_pieces depth (drop (at + 1) text)) ≡ csv_strings (csv_pieces 0 text)
+    → (map spelled_string items ++ Str (without_leading_spaces (slice_range text start at)) ∷ []) ++ csv_strings (pieces_from depth (drop (at + 1) text)) ≡ csv_strings (pieces_from 0 text)
 splitting-parts text items start at depth b splitting comma =
     let rest = drop (at + 1) text in
     let head : drop at text ≡ b ∷ rest = drop_more text at 0 comma.low ∙ ap (λ c. c ∷ rest) (sym comma.here) in
-    let step : csv_pieces depth (drop at text) ≡ [] ∷ csv_pieces depth rest = ap (csv_pieces depth) head ∙ cond-true _ _ _ comma.outer in
-    append_assoc (map spelled_string items) (Str (without_leading_spaces (slice_range text start at)) ∷ []) (csv_strings (csv_pieces depth rest))
-    ∙ ap (λ p. map spelled_string items ++ csv_strings (p ∷ csv_pieces depth rest)) (sym (append-nil (slice_range text start at)))
+    let step : pieces_from depth (drop at text) ≡ [] ∷ pieces_from depth rest = ap (pieces_from depth) head ∙ cond-true _ _ _ comma.outer in
+    append_assoc (map spelled_string items) (Str (without_leading_spaces (slice_range text start at)) ∷ []) (csv_strings (pieces_from depth rest))
+    ∙ ap (λ p. map spelled_string items ++ csv_strings (p ∷ pieces_from depth rest)) (sym (append-nil (slice_range text start at)))
     ∙ sym (ap (λ t. map spelled_string items ++ csv_strings (into_front (slice_range text start at) t)) step)
     ∙ splitting.same
 
@@ -145,25 +151,25 @@ splitting-comma text items new start at depth b splitting comma pushed room =
       valid = csv_rest-valid text start at depth b splitting.ordered splitting.valid comma;
       room = room;
       same =
-          ap (λ p. map spelled_string new ++ csv_strings (into_front p (csv_pieces depth rest))) (slice-empty text (at + 1))
-          ∙ ap (λ t. map spelled_string new ++ csv_strings t) (into_front-nil (csv_pieces depth rest) (csv_pieces-first depth rest))
-          ∙ ap (λ t. t ++ csv_strings (csv_pieces depth rest)) pushed
+          ap (λ p. map spelled_string new ++ csv_strings (into_front p (pieces_from depth rest))) (slice-empty text (at + 1))
+          ∙ ap (λ t. map spelled_string new ++ csv_strings t) (into_front-nil (pieces_from depth rest) (pieces_from-first depth rest))
+          ∙ ap (λ t. t ++ csv_strings (pieces_from depth rest)) pushed
           ∙ splitting-parts text items start at depth b splitting comma;
     }
 
 pub overfull-csv : (text : List ℕ) (items : List Atom) (start at depth b : ℕ) → IsSplitting text items start at depth → IsComma text at depth b
-    → IsOverfull (map spelled_string items ++ Str (without_leading_spaces (slice_range text start at)) ∷ []) → IsOverfull (csv_strings (csv_pieces 0 text))
+    → IsOverfull (map spelled_string items ++ Str (without_leading_spaces (slice_range text start at)) ∷ []) → IsOverfull (csv_strings (pieces_from 0 text))
 overfull-csv text items start at depth b splitting comma big =
     let P : List Atom → Type 0 = λ xs. IsOverfull xs in
-    subst P (splitting-parts text items start at depth b splitting comma) (overfull_more (map spelled_string items ++ Str (without_leading_spaces (slice_range text start at)) ∷ []) (csv_strings (csv_pieces depth (drop (at + 1) text))) big)
+    subst P (splitting-parts text items start at depth b splitting comma) (overfull_more (map spelled_string items ++ Str (without_leading_spaces (slice_range text start at)) ∷ []) (csv_strings (pieces_from depth (drop (at + 1) text))) big)
 
 pub splitting-end : (text : List ℕ) (items : List Atom) (start at depth : ℕ) → IsSplitting text items start at depth → length text ≤ at
-    → map spelled_string items ++ Str (without_leading_spaces (drop start text)) ∷ [] ≡ csv_strings (csv_pieces 0 text)
+    → map spelled_string items ++ Str (without_leading_spaces (drop start text)) ∷ [] ≡ csv_strings (pieces_from 0 text)
 splitting-end text items start at depth splitting high =
     let whole : slice_range text start at ≡ drop start text = take_all (at - start) (drop start text) (omega (arith, length-drop start text)) in
     let nothing : drop at text ≡ [] = drop_all at text high in
     ap (λ p. map spelled_string items ++ Str (without_leading_spaces p) ∷ []) (sym whole ∙ sym (append-nil (slice_range text start at)))
-    ∙ sym (ap (λ t. map spelled_string items ++ csv_strings (into_front (slice_range text start at) (csv_pieces depth t))) nothing)
+    ∙ sym (ap (λ t. map spelled_string items ++ csv_strings (into_front (slice_range text start at) (pieces_from depth t))) nothing)
     ∙ splitting.same
 
 -- and its characters are split where its bytes are
@@ -186,29 +192,25 @@ high-inside depth c high = let other : (c == 44) ≡ false = grind (arith, nat_t
 high-depth : (depth c : ℕ) → 128 ≤ c → depth_behind depth c ≡ depth
 high-depth depth c high = grind (arith, nat_tests)
 
-csv_pieces-high : (depth : ℕ) (bs rest : List ℕ) → IsHigh bs → csv_pieces depth (bs ++ rest) ≡ into_front bs (csv_pieces depth rest)
-csv_pieces-high depth [] rest high = sym (into_front-nil (csv_pieces depth rest) (csv_pieces-first depth rest))
-csv_pieces-high depth (b ∷ bs) rest high =
-    cond-false _ _ _ (high-inside depth b high.0) ∙ ap (λ d. into_first b (csv_pieces d (bs ++ rest))) (high-depth depth b high.0) ∙ ap (into_first b) (csv_pieces-high depth bs rest high.1) ∙ into_first-front b bs (csv_pieces depth rest)
-  where
-    into_first-front : (b : ℕ) (bs : List ℕ) (pieces : List (List ℕ)) → into_first b (into_front bs pieces) ≡ into_front (b ∷ bs) pieces
-    into_first-front b bs [] = refl
-    into_first-front b bs (q ∷ qs) = refl
+pieces_from-high : (depth : ℕ) (bs rest : List ℕ) → IsHigh bs → pieces_from depth (bs ++ rest) ≡ into_front bs (pieces_from depth rest)
+pieces_from-high depth [] rest high = sym (into_front-nil (pieces_from depth rest) (pieces_from-first depth rest))
+pieces_from-high depth (b ∷ bs) rest high =
+    cond-false _ _ _ (high-inside depth b high.0) ∙ ap (λ d. into_first b (pieces_from d (bs ++ rest))) (high-depth depth b high.0) ∙ ap (into_first b) (pieces_from-high depth bs rest high.1) ∙ into_first-front b bs (pieces_from depth rest)
 
-pub csv_pieces-encodes : (text : List ℕ) (depth : ℕ) → csv_pieces depth (encode_utf8_all text) ≡ map encode_utf8_all (csv_pieces depth text)
-csv_pieces-encodes [] depth = refl
-csv_pieces-encodes (c ∷ cs) depth = elim (cases_lt c 128) [
+pub pieces_from-encodes : (text : List ℕ) (depth : ℕ) → pieces_from depth (encode_utf8_all text) ≡ map encode_utf8_all (pieces_from depth text)
+pieces_from-encodes [] depth = refl
+pieces_from-encodes (c ∷ cs) depth = elim (cases_lt c 128) [
   | inl low ↦
       let plain = encode_ascii c low in
-      ap (λ b. csv_pieces depth (b ++ encode_utf8_all cs)) plain
-      ∙ ap (λ t. cond (is_outer_comma depth c) ([] ∷ t) (into_first c (csv_pieces (depth_behind depth c) (encode_utf8_all cs)))) (csv_pieces-encodes cs depth)
-      ∙ ap (λ t. cond (is_outer_comma depth c) ([] ∷ map encode_utf8_all (csv_pieces depth cs)) t) (ap (into_first c) (csv_pieces-encodes cs (depth_behind depth c)) ∙ spelled-first c (csv_pieces (depth_behind depth c) cs) plain)
-      ∙ cond-map (is_outer_comma depth c) ([] ∷ csv_pieces depth cs) (into_first c (csv_pieces (depth_behind depth c) cs))
+      ap (λ b. pieces_from depth (b ++ encode_utf8_all cs)) plain
+      ∙ ap (λ t. cond (is_outer_comma depth c) ([] ∷ t) (into_first c (pieces_from (depth_behind depth c) (encode_utf8_all cs)))) (pieces_from-encodes cs depth)
+      ∙ ap (λ t. cond (is_outer_comma depth c) ([] ∷ map encode_utf8_all (pieces_from depth cs)) t) (ap (into_first c) (pieces_from-encodes cs (depth_behind depth c)) ∙ spelled-first c (pieces_from (depth_behind depth c) cs) plain)
+      ∙ cond-map (is_outer_comma depth c) ([] ∷ pieces_from depth cs) (into_first c (pieces_from (depth_behind depth c) cs))
   | inr high ↦
       let long = long_character c high in
-      ap (λ b. csv_pieces depth (b ++ encode_utf8_all cs)) long.are ∙ csv_pieces-high depth (long.head ∷ long.others) (encode_utf8_all cs) long.high
-      ∙ ap (λ b. into_front b (csv_pieces depth (encode_utf8_all cs))) (sym long.are) ∙ ap (into_front (encode_utf8 c)) (csv_pieces-encodes cs depth) ∙ spelled-front c (csv_pieces depth cs)
-      ∙ ap (map encode_utf8_all) (ap (λ d. into_first c (csv_pieces d cs)) (sym (high-depth depth c high)) ∙ sym (cond-false _ _ _ (high-inside depth c high)))
+      ap (λ b. pieces_from depth (b ++ encode_utf8_all cs)) long.are ∙ pieces_from-high depth (long.head ∷ long.others) (encode_utf8_all cs) long.high
+      ∙ ap (λ b. into_front b (pieces_from depth (encode_utf8_all cs))) (sym long.are) ∙ ap (into_front (encode_utf8 c)) (pieces_from-encodes cs depth) ∙ spelled-front c (pieces_from depth cs)
+      ∙ ap (map encode_utf8_all) (ap (λ d. into_first c (pieces_from d cs)) (sym (high-depth depth c high)) ∙ sym (cond-false _ _ _ (high-inside depth c high)))
 ]
 
 -- and its elements are the same, spelled out
@@ -220,10 +222,10 @@ csv_strings-encodes (p ∷ ps) =
 -- the empty text has no element
 pub csv-empty : (text bytes : List ℕ) → bytes ≡ encode_utf8_all text → (length bytes == 0) ≡ true → [] ≡ csv_elements text
 csv-empty text bytes same empty =
-    sym (cond-true (length text == 0) [] (csv_strings (csv_pieces 0 text)) (sym (empty-encodes text) ∙ ap (λ b. length b == 0) (sym same) ∙ empty))
+    sym (cond-true (length text == 0) [] (csv_strings (csv_pieces text)) (sym (empty-encodes text) ∙ ap (λ b. length b == 0) (sym same) ∙ empty))
 
 -- any other text has those of its pieces
-pub csv-spelled : (text bytes : List ℕ) → bytes ≡ encode_utf8_all text → (length bytes == 0) ≡ false → csv_strings (csv_pieces 0 bytes) ≡ map spelled_string (csv_elements text)
+pub csv-spelled : (text bytes : List ℕ) → bytes ≡ encode_utf8_all text → (length bytes == 0) ≡ false → csv_strings (pieces_from 0 bytes) ≡ map spelled_string (csv_elements text)
 csv-spelled text bytes same some =
-    ap (λ b. csv_strings (csv_pieces 0 b)) same ∙ ap csv_strings (csv_pieces-encodes text 0) ∙ csv_strings-encodes (csv_pieces 0 text)
-    ∙ ap (map spelled_string) (sym (cond-false (length text == 0) [] (csv_strings (csv_pieces 0 text)) (sym (empty-encodes text) ∙ ap (λ b. length b == 0) (sym same) ∙ some)))
+    ap (λ b. csv_strings (pieces_from 0 b)) same ∙ ap csv_strings (pieces_from-encodes text 0) ∙ csv_strings-encodes (pieces_from 0 text)
+    ∙ ap (map spelled_string) (ap csv_strings (sym (csv_pieces-from text)) ∙ sym (cond-false (length text == 0) [] (csv_strings (csv_pieces text)) (sym (empty-encodes text) ∙ ap (λ b. length b == 0) (sym same) ∙ some)))

@@ -8,19 +8,17 @@ use Rattle.std.proofs.lemmas.List.{append-nil}
 use Rattle.std.proofs.lemmas.List.Elements.{All-head, All-tail}
 use Rattle.lsl_value.specs.declared.list.Atom.{Atom}
 use Rattle.lsl_value.specs.declared.list.Atom.TheVariants.{Str}
-use Rattle.lsl_pure.specs.Csv.{csv_elements, csv_pieces, depth_behind, into_first, is_outer_comma, without_leading_spaces}
+use Rattle.lsl_pure.specs.Csv.{csv_elements, csv_pieces, into_first, without_leading_spaces}
+use Rattle.lsl_pure.specs.CsvSteps.{depth_behind, is_outer_comma, pieces_from}
 use Rattle.lsl_value.specs.Atoms.{text_of_atom}
 use Rattle.lsl_pure.specs.Joins.{csv_text, dumped, each_behind}
 use Rattle.lsl_pure.specs.Parsing.{Cut, behind_character, behind_mark, cut_behind, cut_elements, first_mark, parsed}
 use Rattle.lsl_pure.specs.Laws.{IsPlainCharacter, IsPlainText, IsPlainList, string_element}
-use Rattle.lsl_pure.proofs.CsvLemmas.{csv_pieces-first, csv_strings, into_front, into_front-nil}
+use Rattle.lsl_pure.proofs.BracketLemmas.{csv_pieces-from}
+use Rattle.lsl_pure.proofs.CsvLemmas.{pieces_from-first, csv_strings, into_first-front, into_front, into_front-nil}
 use Rattle.lsl_pure.specs.declared.marks.Mark.{Mark}
 use Rattle.lsl_pure.proofs.CutLemmas.{before_cut, cut_behind-none, cut_behind-some, rest_elements}
 use Rattle.lsl_pure.proofs.TrimLemmas.{behind_front-no, behind_front-yes}
-
-into_first-front : (b : ℕ) (bs : List ℕ) (pieces : List (List ℕ)) → into_first b (into_front bs pieces) ≡ into_front (b ∷ bs) pieces
-into_first-front b bs [] = refl
-into_first-front b bs (q ∷ qs) = refl
 
 plain-inside : (depth c : ℕ) → IsPlainCharacter c → is_outer_comma depth c ≡ false
 plain-inside depth c plain = ap (λ b. b && (depth == 0)) (ne_eqb c 44 plain.comma)
@@ -28,12 +26,12 @@ plain-inside depth c plain = ap (λ b. b && (depth == 0)) (ne_eqb c 44 plain.com
 plain-depth : (depth c : ℕ) → IsPlainCharacter c → depth_behind depth c ≡ depth
 plain-depth depth c plain = cond-false _ _ _ (ne_eqb c 60 plain.open_bracket) ∙ cond-false _ _ _ (ne_eqb c 62 plain.close_bracket)
 
-csv_pieces-plain : (text rest : List ℕ) → All IsPlainCharacter text → csv_pieces 0 (text ++ rest) ≡ into_front text (csv_pieces 0 rest)
-csv_pieces-plain [] rest plain = sym (into_front-nil (csv_pieces 0 rest) (csv_pieces-first 0 rest))
-csv_pieces-plain (c ∷ cs) rest plain =
+pieces_from-plain : (text rest : List ℕ) → All IsPlainCharacter text → pieces_from 0 (text ++ rest) ≡ into_front text (pieces_from 0 rest)
+pieces_from-plain [] rest plain = sym (into_front-nil (pieces_from 0 rest) (pieces_from-first 0 rest))
+pieces_from-plain (c ∷ cs) rest plain =
     let here = All-head IsPlainCharacter c cs plain in
-    cond-false _ _ _ (plain-inside 0 c here) ∙ ap (λ d. into_first c (csv_pieces d (cs ++ rest))) (plain-depth 0 c here)
-    ∙ ap (into_first c) (csv_pieces-plain cs rest (All-tail IsPlainCharacter c cs plain)) ∙ into_first-front c cs (csv_pieces 0 rest)
+    cond-false _ _ _ (plain-inside 0 c here) ∙ ap (λ d. into_first c (pieces_from d (cs ++ rest))) (plain-depth 0 c here)
+    ∙ ap (into_first c) (pieces_from-plain cs rest (All-tail IsPlainCharacter c cs plain)) ∙ into_first-front c cs (pieces_from 0 rest)
 
 stripped : (text : List ℕ) → slice_index text 0 ≢ 32 → without_leading_spaces text ≡ text
 stripped [] start = refl
@@ -43,14 +41,14 @@ stripped-space : (text : List ℕ) → slice_index text 0 ≢ 32 → without_lea
 stripped-space text start = behind_front-yes (λ b. b == 32) 32 text refl ∙ stripped text start
 
 -- the texts behind the first one's end
-csv_pieces-behind : (atoms : List Atom) → All (λ a. IsPlainText (text_of_atom a)) atoms → csv_pieces 0 (each_behind (codes ", ") (map text_of_atom atoms)) ≡ [] ∷ map (λ a. 32 ∷ text_of_atom a) atoms
-csv_pieces-behind [] plain = refl
-csv_pieces-behind (a ∷ atoms) plain =
+pieces_from-behind : (atoms : List Atom) → All (λ a. IsPlainText (text_of_atom a)) atoms → pieces_from 0 (each_behind (codes ", ") (map text_of_atom atoms)) ≡ [] ∷ map (λ a. 32 ∷ text_of_atom a) atoms
+pieces_from-behind [] plain = refl
+pieces_from-behind (a ∷ atoms) plain =
     let here = All-head (λ a. IsPlainText (text_of_atom a)) a atoms plain in
     let rest = each_behind (codes ", ") (map text_of_atom atoms) in
-    ap (λ ps. [] ∷ into_first 32 ps) (csv_pieces-plain (text_of_atom a) rest here.characters)
-    ∙ ap (λ ps. [] ∷ ps) (into_first-front 32 (text_of_atom a) (csv_pieces 0 rest))
-    ∙ ap (λ ps. [] ∷ into_front (32 ∷ text_of_atom a) ps) (csv_pieces-behind atoms (All-tail (λ a. IsPlainText (text_of_atom a)) a atoms plain))
+    ap (λ ps. [] ∷ into_first 32 ps) (pieces_from-plain (text_of_atom a) rest here.characters)
+    ∙ ap (λ ps. [] ∷ ps) (into_first-front 32 (text_of_atom a) (pieces_from 0 rest))
+    ∙ ap (λ ps. [] ∷ into_front (32 ∷ text_of_atom a) ps) (pieces_from-behind atoms (All-tail (λ a. IsPlainText (text_of_atom a)) a atoms plain))
     ∙ ap (λ t. [] ∷ (t ∷ map (λ a. 32 ∷ text_of_atom a) atoms)) (append-nil (32 ∷ text_of_atom a))
 
 strings-behind : (atoms : List Atom) → All (λ a. IsPlainText (text_of_atom a)) atoms → csv_strings (map (λ a. 32 ∷ text_of_atom a) atoms) ≡ map string_element atoms
@@ -77,8 +75,8 @@ csv_elements-csv_text (a ∷ atoms) plain =
     let here = All-head (λ a. IsPlainText (text_of_atom a)) a atoms plain.texts in
     let others = All-tail (λ a. IsPlainText (text_of_atom a)) a atoms plain.texts in
     let rest = each_behind (codes ", ") (map text_of_atom atoms) in
-    cond-false (length (text_of_atom a ++ rest) == 0) [] (csv_strings (csv_pieces 0 (text_of_atom a ++ rest))) (nonzero (length (text_of_atom a ++ rest)) (length-csv a atoms plain.several))
-    ∙ ap csv_strings (csv_pieces-plain (text_of_atom a) rest here.characters ∙ ap (into_front (text_of_atom a)) (csv_pieces-behind atoms others))
+    cond-false (length (text_of_atom a ++ rest) == 0) [] (csv_strings (csv_pieces (text_of_atom a ++ rest))) (nonzero (length (text_of_atom a ++ rest)) (length-csv a atoms plain.several))
+    ∙ ap csv_strings (csv_pieces-from (text_of_atom a ++ rest) ∙ pieces_from-plain (text_of_atom a) rest here.characters ∙ ap (into_front (text_of_atom a)) (pieces_from-behind atoms others))
     ∙ ap (λ t. Str (without_leading_spaces t) ∷ csv_strings (map (λ a. 32 ∷ text_of_atom a) atoms)) (append-nil (text_of_atom a))
     ∙ ap (λ t. Str t ∷ csv_strings (map (λ a. 32 ∷ text_of_atom a) atoms)) (stripped (text_of_atom a) here.start)
     ∙ ap (λ xs. string_element a ∷ xs) (strings-behind atoms others)

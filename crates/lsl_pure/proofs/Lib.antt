@@ -1,13 +1,16 @@
+pub mod BracketLemmas
 pub mod ByteLemmas
 pub mod ChargeLemmas
 pub mod CsvLemmas
 pub mod CutLemmas
 pub mod JoinLemmas
 pub mod KindLemmas
+pub mod LawCsv
 pub mod LawCuts
 pub mod LawLemmas
 pub mod LawRoundTrips
 pub mod MarkLemmas
+pub mod NeedleLemmas
 pub mod ParsingLemmas
 pub mod PlaceLemmas
 pub mod RangeLemmas

@@ -1,5 +1,7 @@
 pub mod Arguments
 pub mod Csv
+pub mod CsvLaws
+pub mod CsvSteps
 pub mod Cuts
 pub mod Elements
 pub mod Joins

@@ -5,7 +5,8 @@ ghost use Rattle.std.specs.Str.{IsUtf8};
 ghost use Rattle.lsl_value.specs.Atoms.{list_charge_of};
 ghost use Rattle.lsl_value.specs.Limits.{most_charge, most_text_bytes};
 ghost use Rattle.lsl_value.specs.declared.list.Atom.TheVariants.{Str};
-ghost use Rattle.lsl_pure.specs.Csv.{csv_elements, csv_pieces as csv_pieces_of, depth_behind as depth_behind_of, is_outer_comma, without_leading_spaces};
+ghost use Rattle.lsl_pure.specs.Csv.{csv_elements, without_leading_spaces};
+ghost use Rattle.lsl_pure.specs.CsvSteps.{depth_behind as depth_behind_of, is_outer_comma, pieces_from};
 ghost use Rattle.lsl_pure.specs.Spelling.{spelled_string, IsOverfull};
 
 use crate::PureFault;
@@ -31,8 +32,8 @@ pub fn csv_to_list(alloc: Global, text: &Text) -> Result<Items, PureFault>
 fn csv_pieces(alloc: Global, text: &[u8]) -> Result<Items, PureFault>
     requires valid { IsUtf8 text.now }
     requires short { length text.now ≤ most_text_bytes }
-    ensures ok { IfOk result (λ items. map spelled_string items ≡ map (λ piece. Str (without_leading_spaces piece)) (csv_pieces_of 0 text.now)) }
-    ensures too_big { IfErr result (λ fault. fault ≡ PureFault.TooBig → IsOverfull (map (λ piece. Str (without_leading_spaces piece)) (csv_pieces_of 0 text.now))) }
+    ensures ok { IfOk result (λ items. map spelled_string items ≡ map (λ piece. Str (without_leading_spaces piece)) (pieces_from 0 text.now)) }
+    ensures too_big { IfErr result (λ fault. fault ≡ PureFault.TooBig → IsOverfull (map (λ piece. Str (without_leading_spaces piece)) (pieces_from 0 text.now))) }
 {
     let mut items = Items::new(alloc);
     let mut start = 0;

@@ -32,8 +32,9 @@ pub fn call(alloc: Global, id: BuiltinId, args: Values) -> Result<Value, PureFau
     answer(alloc, id, args)
 }
 
-/// The same for any call and any arguments.
-pub(crate) fn answer(alloc: Global, id: BuiltinId, args: Values) -> Result<Value, PureFault>
+/// The same for any call and any arguments: an argument that is missing or of another kind than its row's counts as the
+/// empty value of that kind, and a call that isn't pure gives 0.
+pub fn answer(alloc: Global, id: BuiltinId, args: Values) -> Result<Value, PureFault>
     ensures ok { IfOk result (λ value. value ≡ pure_of id args) }
     ensures fits { IfOk result (λ value. charge_of value ≤ most_charge) }
     ensures too_big { IfErr result (λ fault. fault ≡ PureFault.TooBig → most_charge < charge_of (pure_of id args)) }

@@ -1,13 +1,14 @@
 //! What a script writer may rely on, above the calls' definitions. Each law is a function whose clause is the law; it
 //! does nothing.
 
-ghost use Rattle.std.specs.Prelude.{◌≡◌, ◌+◌, ◌-◌, ◌<◌, ◌≤◌, ◌≤ℤ◌, ◌++◌, [], ◌∷◌, true, map, pos, length, List, Some, MatchOption};
+ghost use Rattle.std.specs.Prelude.{◌≡◌, ◌+◌, ◌-◌, ◌<◌, ◌≤◌, ◌≤ℤ◌, ◌++◌, [], ◌∷◌, true, map, pos, length, ℕ, List, Some, MatchOption};
 ghost use Rattle.lsl_value.specs.declared.list.Atom.TheVariants.{Str};
 ghost use Rattle.lsl_value.specs.Values.{kind_of};
 ghost use Rattle.lsl_value.specs.declared.tagged.Value.{Value};
 ghost use Rattle.lsl_table.specs.Calls.{row_of};
 ghost use Rattle.lsl_pure.specs.Arguments.{IsArguments};
-ghost use Rattle.lsl_pure.specs.Csv.{csv_elements};
+ghost use Rattle.lsl_pure.specs.Csv.{csv_elements, csv_pieces};
+ghost use Rattle.lsl_pure.specs.CsvLaws.{IsCsvCut};
 ghost use Rattle.lsl_pure.specs.Cuts.{taken, left, inserted_at};
 ghost use Rattle.lsl_pure.specs.Joins.{csv_text, dumped};
 ghost use Rattle.lsl_pure.specs.Laws.{place_before, place_behind, string_element, IsPlainList, StandsInNone, IsCutAt, HasValueOfRow};
@@ -73,4 +74,11 @@ pub fn text_has_one_cut(text: &Text, separators: &Items, spacers: &Items)
 pub fn value_of_its_row(id: BuiltinId)
     ensures value { (args : List Value) → MatchOption (value_of id args) (IsArguments id args → ⊥) (HasValueOfRow id args) }
     ensures kind { (args : List Value) → IsArguments id args → (row_of id).result ≡ Some (kind_of (pure_of id args)) }
+{}
+
+/// A text has one cut into pieces between commas in which each comma of a piece stands where some earlier `<` isn't
+/// closed yet, and no comma between two pieces does: it is the one that CSV takes.
+pub fn text_has_one_csv_cut(text: &Text)
+    ensures is_cut { IsCsvCut text.now (csv_pieces text.now) }
+    ensures one { (pieces : List (List ℕ)) → IsCsvCut text.now pieces → pieces ≡ csv_pieces text.now }
 {}

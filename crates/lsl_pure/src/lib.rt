@@ -21,7 +21,7 @@ mod ranges;
 mod searching;
 mod spelling;
 
-pub use crate::dispatch::call;
+pub use crate::dispatch::{answer, call};
 
 /// Why a pure call has no value: it is charged more than 65,536, or memory is wanting.
 #[derive(Clone, Copy, Debug, PartialEq, Eq, Drop)]

@@ -6,14 +6,15 @@ ghost use Rattle.lsl_pure.specs.Searches.{first_place, place_or_none};
 
 use crate::spelling::count_leads;
 use lsl_value::{Items, Text};
+use memchr::memmem;
 
-/// The first place at which the second text stands in the first, or -1: 0 for an empty one. Takes no memory. Tries
-/// the second text at each byte. See <https://wiki.secondlife.com/wiki/LlSubStringIndex>.
+/// The first place at which the second text stands in the first, or -1: 0 for an empty one. Takes no memory, and time in
+/// proportion to both. See <https://wiki.secondlife.com/wiki/LlSubStringIndex>.
 pub fn sub_string_index(text: &Text, sought: &Text) -> i32
     ensures { result ≡ place_or_none (first_place nat_eq text.now sought.now) }
 {
     let bytes = text.bytes();
-    match find(bytes, sought.bytes()) {
+    match find_bytes(bytes, sought.bytes()) {
         Some(at) => count_leads(&bytes[..at]) as i32,
         None => -1,
     }
@@ -28,6 +29,13 @@ pub fn list_find_list(items: &Items, sought: &Items) -> i32
         Some(at) => at as i32,
         None => -1,
     }
+}
+
+fn find_bytes(text: &[u8], sought: &[u8]) -> Option<usize>
+    ensures first { result ≡ first_place nat_eq text.now sought.now }
+    ensures within { IfSome result (λ at. at ≤ length text.now) }
+{
+    memmem::find(text, sought)
 }
 
 // The first place of the list at which the other one stands.

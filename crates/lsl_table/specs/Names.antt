@@ -2,9 +2,13 @@
 use Rattle.std.specs.Prelude.{◌≡◌, ◌≢◌, ◌+◌, ◌*◌, ◌%◌, ℕ, if◌then◌else◌, List, [], ◌∷◌, fold, Option, Some, None, MatchOption}
 use Rattle.std.specs.Str.{bytes_eq}
 
--- a number for a text: its bytes as digits to this base, modulo a prime
+-- the prime that hashes are below
+abbrev pub hash_prime : ℕ
+hash_prime = 65521
+
+-- a number for a text: its bytes as digits to this base, modulo that prime
 abbrev pub hash_of : ℕ → List ℕ → ℕ
-hash_of base text = fold (λ hash byte. (hash * base + byte) % 65521) 0 text
+hash_of base text = fold (λ hash byte. (hash * base + byte) % hash_prime) 0 text
 
 -- what a look-up of a name gives: the one thing of that name, or nothing where nothing has it
 abbrev pub Finds : {Id : Type 0} → (Id → List ℕ) → List ℕ → Option Id → Type 0

@@ -5,9 +5,6 @@ ghost use Rattle.std.specs.Prelude.{◌≡◌, ◌≤◌, length};
 use lsl_value::Kind;
 use std::marker::Model;
 
-/// How many kinds a list has at most.
-const MAX_KINDS: usize = 4;
-
 /// A list of at most four kinds, held in place.
 #[derive(Debug, Drop)]
 pub struct Kinds {
@@ -29,7 +26,7 @@ impl Model for Kinds {
 impl Kinds {
     /// These kinds. Takes no memory.
     pub fn new(kinds: &[Kind]) -> Kinds
-        requires { length kinds.now ≤ MAX_KINDS }
+        requires { length kinds.now ≤ 4 }
         ensures { result ≡ kinds.now }
     {
         let mut held = [Kind::Int; 4];
@@ -43,7 +40,7 @@ impl Kinds {
     /// The kinds. Takes no memory.
     pub fn as_slice(&self) -> &[Kind]
         ensures value { result.now ≡ self.now }
-        ensures within { length self.now ≤ MAX_KINDS }
+        ensures within { length self.now ≤ 4 }
     {
         &self.held[..self.count]
     }

@@ -43,8 +43,19 @@ casts_implicitly_of from to = false
 
 -- the casts that may be written
 abbrev pub casts_of : Kind → Kind → Bool
+casts_of Int Int = true
+casts_of Int Str = true
 casts_of Int Key = false
+casts_of Int List = true
+casts_of Str Int = true
+casts_of Str Str = true
+casts_of Str Key = true
+casts_of Str List = true
 casts_of Key Int = false
+casts_of Key Str = true
+casts_of Key Key = true
+casts_of Key List = true
 casts_of List Int = false
+casts_of List Str = true
 casts_of List Key = false
-casts_of from to = true
+casts_of List List = true

@@ -56,10 +56,11 @@ impl Kind {
     pub fn casts_to(self, kind: Kind) -> bool
         ensures { result ≡ casts_of self kind }
     {
-        match (self, kind) {
-            (Kind::Int, Kind::Key) | (Kind::Key, Kind::Int) => false,
-            (Kind::List, Kind::Int | Kind::Key) => false,
-            _ => true,
+        match self {
+            Kind::Int => matches!(kind, Kind::Int | Kind::Str | Kind::List),
+            Kind::Str => true,
+            Kind::Key => matches!(kind, Kind::Str | Kind::Key | Kind::List),
+            Kind::List => matches!(kind, Kind::Str | Kind::List),
         }
     }
 
