@@ -10,12 +10,13 @@ of the table share a slot.
 
 import re
 
+ROW = r'^ +\w+ "(\w+)" .*;$'
 PRIME = 65521
 NO_ROW = 255
 TABLES = [
-    ("calls", 128, r'=> \$arm!\(\w+, "(\w+)"'),
-    ("events", 16, r'EventId::\w+ => "(\w+)"'),
-    ("constants", 32, r'ConstantId::\w+ => "(\w+)"'),
+    ("calls", 128),
+    ("events", 16),
+    ("constants", 32),
 ]
 
 
@@ -33,9 +34,9 @@ def first_base(names, size):
     raise SystemExit("no base: take more slots")
 
 
-for table, size, line in TABLES:
+for table, size in TABLES:
     with open(f"crates/lsl_table/src/{table}.rt", encoding="utf-8") as source:
-        names = re.findall(line, source.read())
+        names = re.findall(ROW, source.read(), re.MULTILINE)
     base = first_base(names, size)
     slots = [NO_ROW] * size
     for number, name in enumerate(names):

@@ -7,6 +7,7 @@ mod keys;
 mod list;
 mod names;
 mod operators;
+mod shared;
 mod tagged;
 
 pub use crate::characters::{MAX_TEXT_BYTES, Text};

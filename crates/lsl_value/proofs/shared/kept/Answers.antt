@@ -1,6 +1,6 @@
 use Rattle.std.proofs.Common.{◌≡◌, ◌∙◌, ◌+◌, ◌-◌, ap, take, drop, arith}
 use Rattle.std.proofs.lemmas.List.{drop-take}
-use Rattle.lsl_value.proofs.list.kept.Goals as goal
+use Rattle.lsl_value.proofs.shared.kept.Goals as goal
 
 pub returns : goal.returns
 returns c =
