@@ -68,10 +68,10 @@ pieces_between-from front (c ∷ cs) parts are =
     pieces_between-from (front ++ c ∷ []) cs (λ k. parts (suc k)) (λ k low. are (suc k) (omega arith) ∙ ap (λ f. (slice_index cs k == 44) && not (is_open_behind f)) (sym (append_assoc front (c ∷ []) (take k cs))))
     ∙ ap (λ n. pieces_from n cs) (depth_from-last 0 front c) in
     elim (cases_Bool (is_outer_comma d c)) [
-    | inl outer ↦
-        cond-true _ _ _ (here ∙ outer) ∙ ap (λ ps. [] ∷ ps) (later ∙ ap (λ n. pieces_from n cs) (comma-keeps d c outer)) ∙ sym (cond-true _ _ _ outer)
-    | inr inside ↦
-        cond-false _ _ _ (here ∙ inside) ∙ ap (into_first c) later ∙ sym (cond-false _ _ _ inside)
+      | inl outer ↦
+          cond-true _ _ _ (here ∙ outer) ∙ ap (λ ps. [] ∷ ps) (later ∙ ap (λ n. pieces_from n cs) (comma-keeps d c outer)) ∙ sym (cond-true _ _ _ outer)
+      | inr inside ↦
+          cond-false _ _ _ (here ∙ inside) ∙ ap (into_first c) later ∙ sym (cond-false _ _ _ inside)
     ]
 
 pub csv_pieces-from : (text : List ℕ) → csv_pieces text ≡ pieces_from 0 text

@@ -76,22 +76,22 @@ parted-found front [] first others are = renamed front [] [] first [] others are
 parted-found front (c ∷ cs) first others are =
     let d = depth_from 0 front in
     elim (cases_Bool (is_outer_comma d c)) [
-    | inl outer ↦
-        let has = pieces_from-first d cs in
-        let comma = outer-is front c outer in
-        let deep : depth_from 0 (front ++ c ∷ []) ≡ d = depth_from-last 0 front c ∙ comma-keeps d c outer in
-        let behind = parted-found (front ++ c ∷ []) cs has.first has.others (ap (λ n. pieces_from n cs) deep ∙ has.are) in
-        let same : front ++ c ∷ [] ≡ (front ++ []) ++ 44 ∷ [] = ap (λ f. f ++ c ∷ []) (sym (append-nil front)) ∙ ap (λ b. (front ++ []) ++ b ∷ []) comma.0 in
-        let P : List ℕ → Type 0 = λ f. IsPartedBehind f cs has.first has.others in
-        renamed front (c ∷ cs) [] first (has.first ∷ has.others) others
-        (ap (λ ps. [] ∷ ps) (sym has.are) ∙ sym (cond-true _ _ _ outer) ∙ are)
-        (cs, ap (λ b. b ∷ cs) comma.0, (λ k low here. absurd (omega arith)), (λ opened. comma.1 (subst IsOpenBehind (append-nil front) opened)), subst P same behind)
-    | inr inside ↦
-        let has = pieces_from-first (depth_behind d c) cs in
-        let behind = parted-found (front ++ c ∷ []) cs has.first has.others (ap (λ n. pieces_from n cs) (depth_from-last 0 front c) ∙ has.are) in
-        renamed front (c ∷ cs) (c ∷ has.first) first has.others others
-        (ap (into_first c) (sym has.are) ∙ sym (cond-false _ _ _ inside) ∙ are)
-        (parted-more front c cs has.first has.others inside behind)
+      | inl outer ↦
+          let has = pieces_from-first d cs in
+          let comma = outer-is front c outer in
+          let deep : depth_from 0 (front ++ c ∷ []) ≡ d = depth_from-last 0 front c ∙ comma-keeps d c outer in
+          let behind = parted-found (front ++ c ∷ []) cs has.first has.others (ap (λ n. pieces_from n cs) deep ∙ has.are) in
+          let same : front ++ c ∷ [] ≡ (front ++ []) ++ 44 ∷ [] = ap (λ f. f ++ c ∷ []) (sym (append-nil front)) ∙ ap (λ b. (front ++ []) ++ b ∷ []) comma.0 in
+          let P : List ℕ → Type 0 = λ f. IsPartedBehind f cs has.first has.others in
+          renamed front (c ∷ cs) [] first (has.first ∷ has.others) others
+          (ap (λ ps. [] ∷ ps) (sym has.are) ∙ sym (cond-true _ _ _ outer) ∙ are)
+          (cs, ap (λ b. b ∷ cs) comma.0, (λ k low here. absurd (omega arith)), (λ opened. comma.1 (subst IsOpenBehind (append-nil front) opened)), subst P same behind)
+      | inr inside ↦
+          let has = pieces_from-first (depth_behind d c) cs in
+          let behind = parted-found (front ++ c ∷ []) cs has.first has.others (ap (λ n. pieces_from n cs) (depth_from-last 0 front c) ∙ has.are) in
+          renamed front (c ∷ cs) (c ∷ has.first) first has.others others
+          (ap (into_first c) (sym has.are) ∙ sym (cond-false _ _ _ inside) ∙ are)
+          (parted-more front c cs has.first has.others inside behind)
     ]
 
 pub csv_pieces-stand : (text : List ℕ) → IsCsvCut text (csv_pieces text)

@@ -4,7 +4,6 @@ use Rattle.std.specs.Option.{option_map}
 use Rattle.std.specs.List.{starts_with}
 use Rattle.std.proofs.lemmas.Bool.{cases_Bool, cond-true, cond-false, false≢true}
 use Rattle.std.proofs.lemmas.List.{ext_get_or, get_or-take, get_or_append_left, length-take, take-append-drop}
-
 use Rattle.memchr.specs.Find.{FindsNeedle, OccursAt}
 use Rattle.lsl_pure.specs.Searches.{first_place}
 use Rattle.lsl_pure.proofs.SpellingLemmas.{starts_with-Decides}

@@ -11,7 +11,7 @@ use Rattle.lsl_table.specs.Calls.{row_of}
 use Rattle.lsl_pure.specs.Arguments.{IsArguments}
 use Rattle.lsl_pure.specs.Pure.{pure_of}
 use Rattle.lsl_pure.specs.Parsing.{Cut, first_mark}
-use Rattle.lsl_pure.specs.Places.{place_of}
+use Rattle.lsl_pure.specs.Places.{pick, place_of}
 use Rattle.lsl_pure.specs.declared.marks.Mark.{Mark}
 
 -- the place stands before a range that begins at `first`, among n places
@@ -21,6 +21,13 @@ place_before n first k = int_lt (pos k) (place_of n first)
 -- the place stands behind a range that ends at `last`, among n places
 abbrev pub place_behind : ℕ → ℤ → ℕ → Bool
 place_behind n last k = int_lt (place_of n last) (pos k)
+
+-- what stands before a range that begins at `first`, and behind one that ends at `last`
+abbrev pub part_before : {X : Type 0} → List X → ℤ → List X
+part_before xs first = pick (place_before (length xs) first) xs
+
+abbrev pub part_behind : {X : Type 0} → List X → ℤ → List X
+part_behind xs last = pick (place_behind (length xs) last) xs
 
 -- an element's text as a string element
 abbrev pub string_element : Atom → Atom

@@ -1,4 +1,5 @@
 pub mod Arguments
+pub mod Bounds
 pub mod Csv
 pub mod CsvLaws
 pub mod CsvSteps

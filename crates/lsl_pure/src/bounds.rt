@@ -5,6 +5,7 @@ ghost use Rattle.lsl_value.specs.Atoms.{list_charge_of};
 ghost use Rattle.lsl_value.specs.Limits.{most_charge};
 ghost use Rattle.lsl_value.specs.Values.{charge_of};
 
+ghost use Rattle.lsl_pure.specs.Bounds.{TooBigOnlyWhere};
 use crate::PureFault;
 use lsl_value::{Atom, ELEMENT_CHARGE, Items, MOST_CHARGE, Value, charge};
 
@@ -24,7 +25,7 @@ pub fn push_bounded(items: &mut Items, atom: Atom) -> Result<(), PureFault>
     requires { list_charge_of items.old ≤ most_charge }
     ensures ok { OnOk result (items.new ≡ items.old ++ atom ∷ []) }
     ensures fits { OnOk result (list_charge_of items.new ≤ most_charge) }
-    ensures too_big { IfErr result (λ fault. fault ≡ PureFault.TooBig → most_charge < list_charge_of (items.old ++ atom ∷ [])) }
+    ensures too_big { TooBigOnlyWhere result (most_charge < list_charge_of (items.old ++ atom ∷ [])) }
 {
     if items.charge() + ELEMENT_CHARGE + atom.charge() > MOST_CHARGE {
         return Err(PureFault::TooBig);

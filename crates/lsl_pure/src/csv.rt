@@ -1,10 +1,11 @@
 //! `llCSV2List`.
 
-ghost use Rattle.std.specs.Prelude.{◌≡◌, ◌≤◌, ◌<◌, ◌+◌, ◌^◌, ◌∷◌, [], ◌++◌, length, map, IfOk, IfErr, OnOk};
+ghost use Rattle.std.specs.Prelude.{◌≡◌, ◌≤◌, ◌<◌, ◌+◌, ◌^◌, ◌∷◌, [], ◌++◌, length, map, IfOk, OnOk};
 ghost use Rattle.std.specs.Str.{IsUtf8};
 ghost use Rattle.lsl_value.specs.Atoms.{list_charge_of};
 ghost use Rattle.lsl_value.specs.Limits.{most_charge, most_text_bytes};
 ghost use Rattle.lsl_value.specs.declared.list.Atom.TheVariants.{Str};
+ghost use Rattle.lsl_pure.specs.Bounds.{TooBigOnlyWhere};
 ghost use Rattle.lsl_pure.specs.Csv.{csv_elements, without_leading_spaces};
 ghost use Rattle.lsl_pure.specs.CsvSteps.{depth_behind as depth_behind_of, is_outer_comma, pieces_from};
 ghost use Rattle.lsl_pure.specs.Spelling.{spelled_string, IsOverfull};
@@ -20,7 +21,7 @@ use std::alloc::Global;
 /// <https://wiki.secondlife.com/wiki/LlCSV2List>.
 pub fn csv_to_list(alloc: Global, text: &Text) -> Result<Items, PureFault>
     ensures ok { IfOk result (λ items. items ≡ csv_elements text.now) }
-    ensures too_big { IfErr result (λ fault. fault ≡ PureFault.TooBig → most_charge < list_charge_of (csv_elements text.now)) }
+    ensures too_big { TooBigOnlyWhere result (most_charge < list_charge_of (csv_elements text.now)) }
 {
     let bytes = text.bytes();
     if bytes.is_empty() {
@@ -33,7 +34,7 @@ fn csv_pieces(alloc: Global, text: &[u8]) -> Result<Items, PureFault>
     requires valid { IsUtf8 text.now }
     requires short { length text.now ≤ most_text_bytes }
     ensures ok { IfOk result (λ items. map spelled_string items ≡ map (λ piece. Str (without_leading_spaces piece)) (pieces_from 0 text.now)) }
-    ensures too_big { IfErr result (λ fault. fault ≡ PureFault.TooBig → IsOverfull (map (λ piece. Str (without_leading_spaces piece)) (pieces_from 0 text.now))) }
+    ensures too_big { TooBigOnlyWhere result (IsOverfull (map (λ piece. Str (without_leading_spaces piece)) (pieces_from 0 text.now))) }
 {
     let mut items = Items::new(alloc);
     let mut start = 0;
@@ -75,7 +76,7 @@ fn push_csv_piece(alloc: Global, items: &mut Items, piece: &[u8]) -> Result<(), 
     requires room { list_charge_of items.old ≤ most_charge }
     ensures ok { OnOk result (map spelled_string items.new ≡ map spelled_string items.old ++ Str (without_leading_spaces piece.now) ∷ []) }
     ensures fits { OnOk result (list_charge_of items.new ≤ most_charge) }
-    ensures too_big { IfErr result (λ fault. fault ≡ PureFault.TooBig → IsOverfull (map spelled_string items.old ++ Str (without_leading_spaces piece.now) ∷ [])) }
+    ensures too_big { TooBigOnlyWhere result (IsOverfull (map spelled_string items.old ++ Str (without_leading_spaces piece.now) ∷ [])) }
 {
     let text = copy_of(alloc, behind_spaces(piece))?;
     push_bounded(items, Atom::Str(text))

@@ -1,9 +1,10 @@
 //! Parts of a text: `llGetSubString`, `llDeleteSubString`, `llInsertString` and `llStringTrim`.
 
-ghost use Rattle.std.specs.Prelude.{◌≡◌, ◌≤◌, ◌<◌, ◌++◌, if◌then◌else◌, length, take, drop, slice_range, IfOk, IfErr};
+ghost use Rattle.std.specs.Prelude.{◌≡◌, ◌≤◌, ◌<◌, ◌++◌, if◌then◌else◌, length, take, drop, slice_range, IfOk};
 ghost use Rattle.std.specs.Str.{encode_utf8_all};
 ghost use Rattle.lsl_value.specs.Limits.{most_charge};
 ghost use Rattle.lsl_value.specs.Text.{text_charge_of};
+ghost use Rattle.lsl_pure.specs.Bounds.{TooBigOnlyWhere};
 ghost use Rattle.lsl_pure.specs.Cuts.{taken, left, inserted_at, trimmed, trims_head, trims_tail, without_head, without_tail};
 
 use crate::PureFault;
@@ -71,7 +72,7 @@ pub fn insert_string(
     other: &Text,
 ) -> Result<Text, PureFault>
     ensures ok { IfOk result (λ whole. whole ≡ inserted_at text.now place other.now) }
-    ensures too_big { IfErr result (λ fault. fault ≡ PureFault.TooBig → most_charge < text_charge_of (inserted_at text.now place other.now)) }
+    ensures too_big { TooBigOnlyWhere result (most_charge < text_charge_of (inserted_at text.now place other.now)) }
 {
     let bytes = text.bytes();
     let more = other.bytes();

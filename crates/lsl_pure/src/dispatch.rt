@@ -1,8 +1,9 @@
 //! From a call's name to its value.
 
-ghost use Rattle.std.specs.Prelude.{◌≡◌, ◌<◌, ◌≤◌, IfOk, IfErr};
+ghost use Rattle.std.specs.Prelude.{◌≡◌, ◌<◌, ◌≤◌, IfOk};
 ghost use Rattle.lsl_value.specs.Limits.{most_charge};
 ghost use Rattle.lsl_value.specs.Values.{charge_of};
+ghost use Rattle.lsl_pure.specs.Bounds.{TooBigOnlyWhere};
 ghost use Rattle.lsl_pure.specs.Arguments.{IsArguments};
 ghost use Rattle.lsl_pure.specs.Pure.{pure_of};
 
@@ -27,7 +28,7 @@ pub fn call(alloc: Global, id: BuiltinId, args: Values) -> Result<Value, PureFau
     requires { IsArguments id args }
     ensures ok { IfOk result (λ value. value ≡ pure_of id args) }
     ensures fits { IfOk result (λ value. charge_of value ≤ most_charge) }
-    ensures too_big { IfErr result (λ fault. fault ≡ PureFault.TooBig → most_charge < charge_of (pure_of id args)) }
+    ensures too_big { TooBigOnlyWhere result (most_charge < charge_of (pure_of id args)) }
 {
     answer(alloc, id, args)
 }
@@ -37,7 +38,7 @@ pub fn call(alloc: Global, id: BuiltinId, args: Values) -> Result<Value, PureFau
 pub fn answer(alloc: Global, id: BuiltinId, args: Values) -> Result<Value, PureFault>
     ensures ok { IfOk result (λ value. value ≡ pure_of id args) }
     ensures fits { IfOk result (λ value. charge_of value ≤ most_charge) }
-    ensures too_big { IfErr result (λ fault. fault ≡ PureFault.TooBig → most_charge < charge_of (pure_of id args)) }
+    ensures too_big { TooBigOnlyWhere result (most_charge < charge_of (pure_of id args)) }
 {
     bounded(value(alloc, id, args)?)
 }
@@ -45,7 +46,7 @@ pub fn answer(alloc: Global, id: BuiltinId, args: Values) -> Result<Value, PureF
 // The value, too big or not.
 fn value(alloc: Global, id: BuiltinId, args: Values) -> Result<Value, PureFault>
     ensures ok { IfOk result (λ value. value ≡ pure_of id args) }
-    ensures too_big { IfErr result (λ fault. fault ≡ PureFault.TooBig → most_charge < charge_of (pure_of id args)) }
+    ensures too_big { TooBigOnlyWhere result (most_charge < charge_of (pure_of id args)) }
 {
     let (a, b, c, d) = first_four(args);
     match id {
@@ -54,19 +55,9 @@ fn value(alloc: Global, id: BuiltinId, args: Values) -> Result<Value, PureFault>
         GetListLength => Ok(Value::Int(list(alloc, a).len() as i32)),
         GetSubString => Ok(Value::Str(sub_string(alloc, &text(a), int(b), int(c))?)),
         List2List => Ok(Value::List(sub_list(list(alloc, a), int(b), int(c))?)),
-        DeleteSubString => Ok(Value::Str(delete_sub_string(
-            alloc,
-            &text(a),
-            int(b),
-            int(c),
-        )?)),
+        DeleteSubString => Ok(Value::Str(delete_sub_string(alloc, &text(a), int(b), int(c))?)),
         DeleteSubList => Ok(Value::List(delete_sub_list(list(alloc, a), int(b), int(c))?)),
-        InsertString => Ok(Value::Str(insert_string(
-            alloc,
-            &text(a),
-            int(b),
-            &text(c),
-        )?)),
+        InsertString => Ok(Value::Str(insert_string(alloc, &text(a), int(b), &text(c))?)),
         ListInsertList => Ok(Value::List(insert_list(list(alloc, a), list(alloc, b), int(c))?)),
         ListReplaceList => Ok(Value::List(replace_list(
             list(alloc, a),

@@ -1,9 +1,10 @@
 //! `llDumpList2String` and `llList2CSV`: the elements' texts, joined.
 
-ghost use Rattle.std.specs.Prelude.{◌≡◌, ◌≤◌, ◌<◌, ◌+◌, ◌*◌, ◌++◌, length, IfOk, IfErr, OnOk, map};
+ghost use Rattle.std.specs.Prelude.{◌≡◌, ◌≤◌, ◌<◌, ◌+◌, ◌*◌, ◌++◌, length, IfOk, OnOk, map};
 ghost use Rattle.std.specs.Str.{encode_utf8_all, IsUtf8};
 ghost use Rattle.lsl_value.specs.Limits.{most_charge, most_items, most_text_bytes};
 ghost use Rattle.lsl_value.specs.Text.{text_charge_of};
+ghost use Rattle.lsl_pure.specs.Bounds.{TooBigOnlyWhere};
 ghost use Rattle.lsl_pure.specs.Spelling.{spelled_atom};
 ghost use Rattle.lsl_pure.specs.Joins.{dumped, csv_text, joined, each_behind};
 
@@ -18,7 +19,7 @@ use std::alloc::Global;
 /// <https://wiki.secondlife.com/wiki/LlDumpList2String>.
 pub fn dump_list(alloc: Global, items: &Items, separator: &Text) -> Result<Text, PureFault>
     ensures ok { IfOk result (λ text. text ≡ dumped items.now separator.now) }
-    ensures too_big { IfErr result (λ fault. fault ≡ PureFault.TooBig → most_charge < text_charge_of (dumped items.now separator.now)) }
+    ensures too_big { TooBigOnlyWhere result (most_charge < text_charge_of (dumped items.now separator.now)) }
 {
     join(alloc, items.as_slice(), separator.bytes())
 }
@@ -26,7 +27,7 @@ pub fn dump_list(alloc: Global, items: &Items, separator: &Text) -> Result<Text,
 /// The elements' texts with a comma and a space between them. See <https://wiki.secondlife.com/wiki/LlList2CSV>.
 pub fn list_to_csv(alloc: Global, items: &Items) -> Result<Text, PureFault>
     ensures ok { IfOk result (λ text. text ≡ csv_text items.now) }
-    ensures too_big { IfErr result (λ fault. fault ≡ PureFault.TooBig → most_charge < text_charge_of (csv_text items.now)) }
+    ensures too_big { TooBigOnlyWhere result (most_charge < text_charge_of (csv_text items.now)) }
 {
     join(alloc, items.as_slice(), b", ")
 }
@@ -36,7 +37,7 @@ fn join(alloc: Global, atoms: &[Atom], separator: &[u8]) -> Result<Text, PureFau
     requires short { length separator.now ≤ most_text_bytes }
     requires few { length atoms.now ≤ most_items }
     ensures ok { IfOk result (λ text. encode_utf8_all text ≡ joined separator.now (map spelled_atom atoms.now)) }
-    ensures too_big { IfErr result (λ fault. fault ≡ PureFault.TooBig → most_charge < 16 + length (joined separator.now (map spelled_atom atoms.now))) }
+    ensures too_big { TooBigOnlyWhere result (most_charge < 16 + length (joined separator.now (map spelled_atom atoms.now))) }
 {
     match atoms {
         [] => Ok(Text::new()),

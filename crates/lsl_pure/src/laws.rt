@@ -11,9 +11,9 @@ ghost use Rattle.lsl_pure.specs.Csv.{csv_elements, csv_pieces};
 ghost use Rattle.lsl_pure.specs.CsvLaws.{IsCsvCut};
 ghost use Rattle.lsl_pure.specs.Cuts.{taken, left, inserted_at};
 ghost use Rattle.lsl_pure.specs.Joins.{csv_text, dumped};
-ghost use Rattle.lsl_pure.specs.Laws.{place_before, place_behind, string_element, IsPlainList, StandsInNone, IsCutAt, HasValueOfRow};
+ghost use Rattle.lsl_pure.specs.Laws.{part_before, part_behind, string_element, IsPlainList, StandsInNone, IsCutAt, HasValueOfRow};
 ghost use Rattle.lsl_pure.specs.Parsing.{Cut, cut_of, marks_of, parsed};
-ghost use Rattle.lsl_pure.specs.Places.{place_of, pick};
+ghost use Rattle.lsl_pure.specs.Places.{place_of};
 ghost use Rattle.lsl_pure.specs.Pure.{pure_of, value_of};
 
 use lsl_value::{BuiltinId, Items, Text};
@@ -22,15 +22,15 @@ use lsl_value::{BuiltinId, Items, Text};
 /// first and the last of these.
 pub fn parts_of_a_text(text: &Text, first: i32, last: i32)
     requires { place_of (length text.now) first ≤ℤ place_of (length text.now) last }
-    ensures whole { pick (place_before (length text.now) first) text.now ++ taken text.now first last ++ pick (place_behind (length text.now) last) text.now ≡ text.now }
-    ensures deleted { left text.now first last ≡ pick (place_before (length text.now) first) text.now ++ pick (place_behind (length text.now) last) text.now }
+    ensures whole { part_before text.now first ++ taken text.now first last ++ part_behind text.now last ≡ text.now }
+    ensures deleted { left text.now first last ≡ part_before text.now first ++ part_behind text.now last }
 {}
 
 /// The same of a list.
 pub fn parts_of_a_list(items: &Items, first: i32, last: i32)
     requires { place_of (length items.now) first ≤ℤ place_of (length items.now) last }
-    ensures whole { pick (place_before (length items.now) first) items.now ++ taken items.now first last ++ pick (place_behind (length items.now) last) items.now ≡ items.now }
-    ensures deleted { left items.now first last ≡ pick (place_before (length items.now) first) items.now ++ pick (place_behind (length items.now) last) items.now }
+    ensures whole { part_before items.now first ++ taken items.now first last ++ part_behind items.now last ≡ items.now }
+    ensures deleted { left items.now first last ≡ part_before items.now first ++ part_behind items.now last }
 {}
 
 /// What was inserted at a place of a text is found there.

@@ -1,9 +1,10 @@
 //! Parts of a list: `llList2List`, `llDeleteSubList`, `llListInsertList` and `llListReplaceList`. Elements are
 //! moved, or copied where another list shares them.
 
-ghost use Rattle.std.specs.Prelude.{◌≡◌, ◌≤◌, ◌<◌, ◌++◌, length, take, drop, slice_range, IfOk, IfErr};
+ghost use Rattle.std.specs.Prelude.{◌≡◌, ◌≤◌, ◌<◌, ◌++◌, length, take, drop, slice_range, IfOk};
 ghost use Rattle.lsl_value.specs.Atoms.{list_charge_of};
 ghost use Rattle.lsl_value.specs.Limits.{most_charge};
+ghost use Rattle.lsl_pure.specs.Bounds.{TooBigOnlyWhere};
 ghost use Rattle.lsl_pure.specs.Cuts.{taken, left, inserted, inserted_before, replaced};
 
 use crate::PureFault;
@@ -58,7 +59,7 @@ fn outside(items: Items, start: usize, end: usize) -> Result<Items, NoMemory>
 /// before anything is built. See <https://wiki.secondlife.com/wiki/LlListInsertList>.
 pub fn insert_list(items: Items, other: Items, at: i32) -> Result<Items, PureFault>
     ensures ok { IfOk result (λ whole. whole ≡ inserted_before items at other) }
-    ensures too_big { IfErr result (λ fault. fault ≡ PureFault.TooBig → most_charge < list_charge_of (inserted_before items at other)) }
+    ensures too_big { TooBigOnlyWhere result (most_charge < list_charge_of (inserted_before items at other)) }
 {
     let len = items.len();
     insert(items, clamp(len, place(len, at)), other)
@@ -68,7 +69,7 @@ pub fn insert_list(items: Items, other: Items, at: i32) -> Result<Items, PureFau
 /// <https://wiki.secondlife.com/wiki/LlListReplaceList>.
 pub fn replace_list(items: Items, other: Items, first: i32, last: i32) -> Result<Items, PureFault>
     ensures ok { IfOk result (λ whole. whole ≡ replaced items other first last) }
-    ensures too_big { IfErr result (λ fault. fault ≡ PureFault.TooBig → most_charge < list_charge_of (replaced items other first last)) }
+    ensures too_big { TooBigOnlyWhere result (most_charge < list_charge_of (replaced items other first last)) }
 {
     let range = Range::new(items.len(), first, last);
     if range.turned {
@@ -84,7 +85,7 @@ pub fn replace_list(items: Items, other: Items, first: i32, last: i32) -> Result
 fn insert(items: Items, at: usize, other: Items) -> Result<Items, PureFault>
     requires { at ≤ length items }
     ensures ok { IfOk result (λ whole. whole ≡ inserted items at other) }
-    ensures too_big { IfErr result (λ fault. fault ≡ PureFault.TooBig → most_charge < list_charge_of (inserted items at other)) }
+    ensures too_big { TooBigOnlyWhere result (most_charge < list_charge_of (inserted items at other)) }
 {
     if items.charge() + (other.charge() - LIST_CHARGE) > MOST_CHARGE {
         return Err(PureFault::TooBig);

@@ -1,11 +1,12 @@
 //! `llParseString2List` and `llParseStringKeepNulls`.
 
-ghost use Rattle.std.specs.Prelude.{◌≡◌, ◌≤◌, ◌<◌, ◌++◌, ◌||◌, nat_lt, length, map, IfOk, IfErr, OnOk};
+ghost use Rattle.std.specs.Prelude.{◌≡◌, ◌≤◌, ◌<◌, ◌++◌, ◌||◌, nat_lt, length, map, IfOk, OnOk};
 ghost use Rattle.std.specs.List.{All};
 ghost use Rattle.std.specs.Option.{option_copied, option_map};
 ghost use Rattle.std.specs.Str.{IsUtf8, encode_utf8_all};
 ghost use Rattle.lsl_value.specs.Atoms.{list_charge_of};
 ghost use Rattle.lsl_value.specs.Limits.{most_charge, most_text_bytes};
+ghost use Rattle.lsl_pure.specs.Bounds.{TooBigOnlyWhere};
 ghost use Rattle.lsl_pure.specs.Parsing.{parsed, cut_of, cut_elements, piece_elements, mark_elements, first_mark as first_mark_of};
 ghost use Rattle.lsl_pure.specs.Spelling.{spelled_mark, spelled_string, IsOverfull};
 
@@ -29,7 +30,7 @@ pub fn parse_string(
     keep_nulls: bool,
 ) -> Result<Items, PureFault>
     ensures ok { IfOk result (λ items. items ≡ parsed keep_nulls text.now separators.now spacers.now) }
-    ensures too_big { IfErr result (λ fault. fault ≡ PureFault.TooBig → most_charge < list_charge_of (parsed keep_nulls text.now separators.now spacers.now)) }
+    ensures too_big { TooBigOnlyWhere result (most_charge < list_charge_of (parsed keep_nulls text.now separators.now spacers.now)) }
 {
     let marks = marks(alloc, separators, spacers)?;
     cut(alloc, text.bytes(), marks.as_slice(), keep_nulls)
@@ -40,7 +41,7 @@ fn cut(alloc: Global, text: &[u8], marks: &[Mark], keep_nulls: bool) -> Result<I
     requires short { length text.now ≤ most_text_bytes }
     requires nonempty { All (λ m. 0 < length m.text) marks.now }
     ensures ok { IfOk result (λ items. map spelled_string items ≡ cut_elements keep_nulls (cut_of (map spelled_mark marks.now) text.now)) }
-    ensures too_big { IfErr result (λ fault. fault ≡ PureFault.TooBig → IsOverfull (cut_elements keep_nulls (cut_of (map spelled_mark marks.now) text.now))) }
+    ensures too_big { TooBigOnlyWhere result (IsOverfull (cut_elements keep_nulls (cut_of (map spelled_mark marks.now) text.now))) }
 {
     let mut items = Items::new(alloc);
     let mut start = 0;
@@ -83,7 +84,7 @@ fn push_piece(
     requires room { list_charge_of items.old ≤ most_charge }
     ensures ok { OnOk result (map spelled_string items.new ≡ map spelled_string items.old ++ piece_elements keep_nulls piece.now) }
     ensures fits { OnOk result (list_charge_of items.new ≤ most_charge) }
-    ensures too_big { IfErr result (λ fault. fault ≡ PureFault.TooBig → IsOverfull (map spelled_string items.old ++ piece_elements keep_nulls piece.now)) }
+    ensures too_big { TooBigOnlyWhere result (IsOverfull (map spelled_string items.old ++ piece_elements keep_nulls piece.now)) }
 {
     if !is_kept(piece, keep_nulls) {
         return Ok(());
@@ -103,7 +104,7 @@ fn push_mark(items: &mut Items, mark: &Mark) -> Result<(), PureFault>
     requires room { list_charge_of items.old ≤ most_charge }
     ensures ok { OnOk result (map spelled_string items.new ≡ map spelled_string items.old ++ mark_elements (spelled_mark mark.now)) }
     ensures fits { OnOk result (list_charge_of items.new ≤ most_charge) }
-    ensures too_big { IfErr result (λ fault. fault ≡ PureFault.TooBig → IsOverfull (map spelled_string items.old ++ mark_elements (spelled_mark mark.now))) }
+    ensures too_big { TooBigOnlyWhere result (IsOverfull (map spelled_string items.old ++ mark_elements (spelled_mark mark.now))) }
 {
     if !mark.spacer {
         return Ok(());
