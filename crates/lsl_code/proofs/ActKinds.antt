@@ -1,8 +1,7 @@
 -- What an instruction does to values whose kinds are right: it finds what it needs, and leaves right kinds.
-use Rattle.std.proofs.Common.{◌≡◌, ℕ, ◌+◌, ◌-◌, ◌<◌, pos, List, [], ◌∷◌, ◌++◌, length, map, take, drop, reverse, get_or, Option, Some, None, option_map, Bool, true, false, cond, refl, sym, ap, ap₂, ◌∙◌, arith, slice_get, slice_set}
-use Rattle.std.specs.Prelude.{nat_lt, is_some, is_none}
-use Rattle.std.proofs.lemmas.Bool.Decides.{nat_tests}
-use Rattle.std.proofs.lemmas.List.{length-reverse, reverse-reverse, take-append-drop, reverse-append}
+use Rattle.std.proofs.Common.{◌≡◌, ℕ, ◌+◌, ◌-◌, pos, List, [], ◌∷◌, ◌++◌, length, map, take, drop, reverse, get_or, Option, Some, None, option_map, Bool, true, false, cond, refl, sym, ap, ap₂, ◌∙◌, slice_get, slice_set}
+use Rattle.std.specs.Prelude.{nat_lt}
+use Rattle.std.proofs.lemmas.List.{take-append-drop}
 use Rattle.std.proofs.lemmas.Option.{slice_get-map}
 use Rattle.lsl_value.specs.OperatorRows.{result_kind_of}
 use Rattle.lsl_value.specs.Values.{kind_of}
@@ -13,9 +12,8 @@ use Rattle.lsl_value.specs.declared.tagged.Value.TheVariants as value
 use Rattle.lsl_table.specs.Calls.{row_of}
 use Rattle.lsl_code.specs.declared.instructions.Instr.{Instr}
 use Rattle.lsl_code.specs.declared.instructions.Instr.TheVariants.{Int, Str, Load, LoadGlobal, Store, StoreGlobal, Set, Drop, Unary, Binary, Cast, MakeList, Jump, JumpIf, JumpIfNot, Pure, Used, Free, Host, Tick, Call, Return, ReturnValue, GoState, Reset, TestSave, KeepSlot, KeepTop, Seal, TestBack, Unpack, BackSlot, BackTop, Branch, Again, Awake}
-use Rattle.lsl_code.specs.declared.signatures.Signature.{Signature}
 use Rattle.lsl_code.specs.Bodies.{Body}
-use Rattle.lsl_code.specs.Effects.{strip, gather, pushed, only_if, with_kind, called, called_if, is_pure, is_asked, behind}
+use Rattle.lsl_code.specs.Effects.{gather, pushed, only_if, called, is_pure, is_asked, behind}
 use Rattle.lsl_code.specs.Kinds.{same_kind, kinds_of, Scope, builtin_signature}
 use Rattle.lsl_running.specs.declared.ends.Fault.TheVariants.{StackHeap}
 use Rattle.lsl_running.specs.declared.kept.Kept.{Kept}
@@ -29,82 +27,9 @@ use Rattle.lsl_code.specs.Kinded.{IsOutcome}
 use Rattle.lsl_code.specs.Kinds.{signature_in}
 use Rattle.lsl_value.specs.Values.{truth_of}
 use Rattle.lsl_code.proofs.Sames.{same_is}
-use Rattle.lsl_code.proofs.Steps.{strip_drop, gather_drop}
-use Rattle.lsl_code.proofs.ValueKinds.{some_is, pure_kind, binary_kind, cast_kind, empties_kinds, kinds_take, kinds_drop, kinds_append, stored_kinds, read_kind}
-
--- what stands on top
-strip_take : (ps ks : List Kind) → is_some (strip ps ks) ≡ true → take (length ps) ks ≡ ps
-strip_take [] ks e = refl
-strip_take (p ∷ ps) [] e = absurd cc
-strip_take (p ∷ ps) (k ∷ ks) e = step (same_kind p k) refl e (λ f. strip_take ps ks f)
-  where
-    step : (b : Bool) → same_kind p k ≡ b → is_some (cond b (strip ps ks) None) ≡ true
-        → (is_some (strip ps ks) ≡ true → take (length ps) ks ≡ ps) → k ∷ take (length ps) ks ≡ p ∷ ps
-    step true s e more = ap₂ (λ x l. x ∷ l) (sym (same_is p k s)) (more e)
-    step false s e more = absurd cc
-
--- operands that a signature takes
-pub record Taken (g : Signature) (ks js : List Kind) : Type 0 where
-  pub args : take (length g.params) ks ≡ reverse g.params
-  pub rest : pushed g.result (drop (length g.params) ks) ≡ js
-
-map_is : (f : List Kind → List Kind) (o : Option (List Kind)) (js : List Kind) → option_map f o ≡ Some js
-    → is_some o ≡ true
-map_is f None js e = absurd cc
-map_is f (Some x) js e = refl
-
-taken : (g : Signature) (ks js : List Kind) → called (Some g) ks ≡ Some js → Taken g ks js
-taken g ks js e =
-    let some = map_is (pushed g.result) (strip (reverse g.params) ks) js e in
-    let len = length-reverse g.params in
-    record {
-      args = ap (λ n. take n ks) (sym len) ∙ strip_take (reverse g.params) ks some;
-      rest =
-          some_is _ _
-          (ap (λ n. Some (pushed g.result (drop n ks))) (sym len) ∙ ap (option_map (pushed g.result)) (sym (strip_drop (reverse g.params) ks some)) ∙ e);
-    }
-
-row_taken : (b : Bool) (g : Signature) (ks js : List Kind) → called_if b g ks ≡ Some js → Taken g ks js × (b ≡ true)
-row_taken true g ks js e = (taken g ks js e, refl)
-row_taken false g ks js e = absurd cc
-
-kinds_reverse : (vs : List Value) → kinds_of (reverse vs) ≡ reverse (kinds_of vs)
-kinds_reverse [] = refl
-kinds_reverse (v ∷ vs) =
-    ap kinds_of (reverse-append (v ∷ []) vs) ∙ kinds_append (reverse vs) (v ∷ [])
-    ∙ ap (λ l. l ++ kind_of v ∷ []) (kinds_reverse vs) ∙ sym (reverse-append (kind_of v ∷ []) (kinds_of vs))
-
--- arguments, from first to last, have the kinds of the parameters
-arguments_kinds : (g : Signature) (ops : List Value) (js : List Kind) → Taken g (kinds_of ops) js
-    → kinds_of (reverse (take (length g.params) ops)) ≡ g.params
-arguments_kinds g ops js t =
-    kinds_reverse (take (length g.params) ops) ∙ ap reverse (kinds_take (length g.params) ops ∙ t.args)
-    ∙ reverse-reverse g.params
-
-rest_kinds : (g : Signature) (ops : List Value) (js : List Kind) → Taken g (kinds_of ops) js
-    → pushed g.result (kinds_of (drop (length g.params) ops)) ≡ js
-rest_kinds g ops js t = ap (pushed g.result) (kinds_drop (length g.params) ops) ∙ t.rest
-
-only_is : (b : Bool) (left js : List Kind) → only_if b left ≡ Some js → (b ≡ true) × (left ≡ js)
-only_is true left js e = (refl, some_is left js e)
-only_is false left js e = absurd cc
-
-with_is : (o : Option Kind) (f : Kind → Option (List Kind)) (js : List Kind) → with_kind o f ≡ Some js
-    → (k : Kind) × (o ≡ Some k) × (f k ≡ Some js)
-with_is None f js e = absurd cc
-with_is (Some k) f js e = (k, refl, e)
-
-map_of : (o : Option Kind) (left js : List Kind) → option_map (λ k. k ∷ left) o ≡ Some js
-    → (k : Kind) × (o ≡ Some k) × (k ∷ left ≡ js)
-map_of None left js e = absurd cc
-map_of (Some k) left js e = (k, refl, some_is _ _ e)
-
-less_is : (m n : ℕ) → nat_lt m n ≡ true → m < n
-less_is m n e = grind (arith, nat_tests)
-
-none_is : (o : Option Kind) (js : List Kind) → only_if (is_none o) [] ≡ Some js → o ≡ None
-none_is None js e = refl
-none_is (Some k) js e = absurd cc
+use Rattle.lsl_code.proofs.Steps.{gather_drop}
+use Rattle.lsl_code.proofs.ValueKinds.{some_is, pure_kind, binary_kind, cast_kind, empties_kinds, kinds_drop, kinds_append, stored_kinds, read_kind}
+use Rattle.lsl_code.proofs.Taking.{map_is, taken, row_taken, arguments_kinds, rest_kinds, only_is, with_is, map_of, less_is, none_is}
 
 module _ (bodies : List Body) (s : Scope) where
   -- what is done fits the kinds behind the instruction, where these operands stood before it

@@ -79,7 +79,9 @@ module _ (bodies : List Body) (fw : Forward bodies) (f pc : ℕ) where
       due_open (instruction_at bodies j 0) (instruction_at bodies j 1) 0 (code_of (slice_get bodies j))
       (fw.starts j body there) in
       subst
-      (λ x. (frees x pc (instruction_at bodies f (pc + 1)) ≡ false → goes_back bodies f (pc + 1) ≡ false) → due_at bodies j 0 + due_at bodies f (pc + 1) ≤ due_of (Some x) (instruction_at bodies f (pc + 1)) pc code_here)
+      (λ x. (frees x pc (instruction_at bodies f (pc + 1)) ≡ false → goes_back bodies f (pc + 1) ≡ false)
+      → due_at bodies j 0 + due_at bodies f (pc + 1) ≤ due_of (Some x)
+      (instruction_at bodies f (pc + 1)) pc code_here)
       (sym e) (λ flat. omega (arith, callee, next_due (flat refl)))
 
   host_due : (i : Instr) → is_host i ≡ true → instruction_at bodies f pc ≡ Some i

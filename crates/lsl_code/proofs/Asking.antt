@@ -54,7 +54,8 @@ module _ (bodies : List Body) (forward : Forward bodies) where
   fetched_keeps g a c outer (Some i) e all =
       after_keeps bodies _ (act bodies (Some i) g (base outer) c.slots c.operands) g a c.function c.place c.slots
       c.operands outer
-      (by_due bodies forward c.function c.place i _ (act_by bodies i g (base outer) c.slots c.operands) e (forward.lands c.function c.place i e) (forward.behind c.function c.place i e))
+      (by_due bodies forward c.function c.place i _ (act_by bodies i g (base outer) c.slots c.operands) e
+      (forward.lands c.function c.place i e) (forward.behind c.function c.place i e))
       all
 
   step_keeps : (g : Kept) (a : List Reply) (calls : List MachineCall) → due_in bodies calls ≤ length a
@@ -67,7 +68,8 @@ module _ (bodies : List Body) (forward : Forward bodies) where
   NoAsk _ = Unit {0}
 
   on_keeps : (m : Machine) (y : Next) → Falls bodies (left bodies m) y → Keeps bodies y
-      → ((next : Machine) → left bodies next < left bodies m → due_in bodies next.calls ≤ length next.answers → NoAsk (run bodies 0 next))
+      → ((next : Machine) → left bodies next < left bodies m → due_in bodies next.calls ≤ length next.answers
+      → NoAsk (run bodies 0 next))
       → NoAsk (on y (passed bodies 0 m) (run bodies 0))
   on_keeps m (On next) falls keeps go = go next falls keeps
   on_keeps m (Pauses (Passing next)) falls keeps go = tt
@@ -79,10 +81,12 @@ module _ (bodies : List Body) (forward : Forward bodies) where
       → NoAsk (run bodies 0 m)
   no_ask zero m le all =
       subst NoAsk (sym (run_law bodies forward 0 m))
-      (on_keeps m (step bodies m) (step_falls bodies forward m) (step_keeps m.kept m.answers m.calls all) (λ next lt keeps. absurd (omega arith)))
+      (on_keeps m (step bodies m) (step_falls bodies forward m) (step_keeps m.kept m.answers m.calls all)
+      (λ next lt keeps. absurd (omega arith)))
   no_ask (suc n) m le all =
       subst NoAsk (sym (run_law bodies forward 0 m))
-      (on_keeps m (step bodies m) (step_falls bodies forward m) (step_keeps m.kept m.answers m.calls all) (λ next lt keeps. no_ask n next (omega arith) keeps))
+      (on_keeps m (step bodies m) (step_falls bodies forward m) (step_keeps m.kept m.answers m.calls all)
+      (λ next lt keeps. no_ask n next (omega arith) keeps))
 
   -- where a run is cut, the machine stands at a tick, behind which few calls are live
   abbrev CutOk : Halt → Type 0
@@ -94,7 +98,8 @@ module _ (bodies : List Body) (forward : Forward bodies) where
   waits_ok (suc t) m id args = tt
 
   module _ (t : ℕ)
-      (tick_ok : (m next : Machine) → step bodies m ≡ Pauses (Passing next) → Few next → CutOk (passed bodies t m (Passing next)))
+      (tick_ok : (m next : Machine) → step bodies m ≡ Pauses (Passing next) → Few next → CutOk
+      (passed bodies t m (Passing next)))
     where
       on_few : (m : Machine) (y : Next) → step bodies m ≡ y → Falls bodies (left bodies m) y → FewNext y
           → ((next : Machine) → left bodies next < left bodies m → Few next → CutOk (run bodies t next))
@@ -107,10 +112,13 @@ module _ (bodies : List Body) (forward : Forward bodies) where
       few_stretch : (n : ℕ) (m : Machine) → left bodies m ≤ n → Few m → CutOk (run bodies t m)
       few_stretch zero m le few =
           subst CutOk (sym (run_law bodies forward t m))
-          (on_few m (step bodies m) refl (step_falls bodies forward m) (step_few bodies m.kept m.answers m.calls few.0 few.1) (λ next lt few'. absurd (omega arith)))
+          (on_few m (step bodies m) refl (step_falls bodies forward m)
+          (step_few bodies m.kept m.answers m.calls few.0 few.1) (λ next lt few'. absurd (omega arith)))
       few_stretch (suc n) m le few =
           subst CutOk (sym (run_law bodies forward t m))
-          (on_few m (step bodies m) refl (step_falls bodies forward m) (step_few bodies m.kept m.answers m.calls few.0 few.1) (λ next lt few'. few_stretch n next (omega arith) few'))
+          (on_few m (step bodies m) refl (step_falls bodies forward m)
+          (step_few bodies m.kept m.answers m.calls few.0 few.1)
+          (λ next lt few'. few_stretch n next (omega arith) few'))
 
   cut_few : (t : ℕ) (m : Machine) → Few m → CutOk (run bodies t m)
   cut_few zero m few = few_stretch zero (λ m next e few. (next, e, few)) (left bodies m) m (omega arith) few

@@ -131,7 +131,9 @@ act_small bodies (Some (Unary op)) g held sl ops lim =
     on_top_small g held sl ops _ (λ v rest. gives_small g held sl sl (unary_value op v ∷ rest) g lim)
 act_small bodies (Some (Binary op)) g held sl ops lim =
     on_top_small g held sl ops _
-    (λ v more. on_top_small g held sl more _ (λ w rest. or_zero_divisor_small g held sl (binary_value op v w) _ (λ r. gives_small g held sl sl (r ∷ rest) g lim)))
+    (λ v more. on_top_small g held sl more _
+    (λ w rest. or_zero_divisor_small g held sl (binary_value op v w) _
+    (λ r. gives_small g held sl sl (r ∷ rest) g lim)))
 act_small bodies (Some (Cast k)) g held sl ops lim =
     on_top_small g held sl ops _ (λ v rest. gives_small g held sl sl (cast_of v k ∷ rest) g lim)
 act_small bodies (Some (MakeList n)) g held sl ops lim =

@@ -78,7 +78,8 @@ module _ (bodies : List Body) (b : List Reply) where
 
   module _ (forward : Forward bodies) where
     module _ (t : ℕ)
-        (tick_same : (m next : Machine) → passed bodies t (with_answers b m) (Passing (with_answers b next)) ≡ after_answers bodies b (passed bodies t m (Passing next)))
+        (tick_same : (m next : Machine) → passed bodies t (with_answers b m)
+        (Passing (with_answers b next)) ≡ after_answers bodies b (passed bodies t m (Passing next)))
       where
         waits : (t : ℕ) (m : Machine) (id : BuiltinId) (args : List Value)
             → run bodies t (with_answers b m) ≡ after_answers bodies b (passed bodies t m (Waiting id args))
@@ -87,7 +88,8 @@ module _ (bodies : List Body) (b : List Reply) where
 
         on_case : (m : Machine) (x y : Next) → step bodies (with_answers b m) ≡ y → Same x y
             → Falls bodies (left bodies m) x
-            → ((next : Machine) → left bodies next < left bodies m → run bodies t (with_answers b next) ≡ after_answers bodies b (run bodies t next))
+            → ((next : Machine) → left bodies next < left bodies m → run bodies t
+            (with_answers b next) ≡ after_answers bodies b (run bodies t next))
             → run bodies t (with_answers b m) ≡ after_answers bodies b (on x (passed bodies t m) (run bodies t))
         on_case m (On next) y d same falls go =
             run_law bodies forward t (with_answers b m)

@@ -4,6 +4,7 @@ pub mod Asked
 pub mod Asking
 pub mod Due
 pub mod FewCalls
+pub mod Following
 pub mod Further
 pub mod Keeping
 pub mod MachineKinds
@@ -22,6 +23,7 @@ pub mod Seen
 pub mod Sinking
 pub mod Stacks
 pub mod Steps
+pub mod Taking
 pub mod Tested
 pub mod Told
 pub mod UnitTold

@@ -1,5 +1,5 @@
 -- A step of a well-formed unit's machine leads from right kinds to right kinds.
-use Rattle.std.proofs.Common.{◌≡◌, ℕ, zero, suc, ◌+◌, ◌<◌, List, [], ◌∷◌, ◌++◌, length, map, take, drop, Option, Some, None, option_map, true, false, cond, refl, sym, ap, ap₂, ◌∙◌, subst, arith, slice_get}
+use Rattle.std.proofs.Common.{◌≡◌, ℕ, ◌+◌, ◌<◌, List, [], ◌∷◌, ◌++◌, length, map, take, drop, Option, Some, None, option_map, true, false, cond, refl, sym, ap, ap₂, ◌∙◌, subst, arith, slice_get}
 use Rattle.std.proofs.lemmas.List.{take-append-drop}
 use Rattle.std.proofs.lemmas.Option.{slice_get_within}
 use Rattle.lsl_value.specs.Values.{kind_of}
@@ -8,7 +8,7 @@ use Rattle.lsl_value.specs.declared.tagged.Kind.{Kind}
 use Rattle.lsl_value.specs.declared.tagged.Value.{Value}
 use Rattle.lsl_table.specs.Calls.{row_of}
 use Rattle.lsl_code.specs.declared.instructions.Instr.{Instr}
-use Rattle.lsl_code.specs.declared.instructions.Instr.TheVariants.{Jump, JumpIf, JumpIfNot, Host, Return, ReturnValue, GoState, Reset}
+use Rattle.lsl_code.specs.declared.instructions.Instr.TheVariants.{Host}
 use Rattle.lsl_code.specs.Bodies.{Body}
 use Rattle.lsl_code.specs.Drafts.{next}
 use Rattle.lsl_code.specs.Effects.{pushed, is_asked}
@@ -23,53 +23,17 @@ use Rattle.lsl_running.specs.Charging.{is_within}
 use Rattle.lsl_running.specs.Values.{empty_of}
 use Rattle.lsl_code.specs.Acts.{Did, Goes, Jumps, Enters, Leaves, Passes, Asks, Ends, Fails, Stuck, first_slots}
 use Rattle.lsl_code.specs.Machine.{MachineCall, Machine, Faulted, Lost, Next, On, Halts, base, used_in, put, checked, left_to, replied, answered, after, done_by, step_in}
-use Rattle.lsl_running.specs.Calling.{is_answer_to}
 use Rattle.lsl_code.specs.declared.functions.StateCode.{StateCode}
 use Rattle.lsl_code.specs.Bodies.{instruction_in, instruction_at}
 use Rattle.lsl_code.specs.Kinded.{IsKindedCall, AreWaiting, AreKindedCalls, IsKindedMachine, Answers, IsAnsweredIn, IsKindedNext, NothingIsStuck, BeginsKinded}
 use Rattle.lsl_code.specs.Kinds.{names_in}
 use Rattle.lsl_code.specs.WellFormed.{StandsWith, IsWellFormedUnit}
 use Rattle.lsl_code.proofs.ActKinds.{DidFit, act_fits}
-use Rattle.lsl_code.proofs.Acts.{is_straight, LeadsTo, By, act_by}
-use Rattle.lsl_code.proofs.Sames.{both_true}
+use Rattle.lsl_code.proofs.Acts.{By, act_by}
 use Rattle.lsl_code.proofs.Told.{finds_told}
 use Rattle.lsl_code.proofs.UnitTold.{fits_tells}
 use Rattle.lsl_code.proofs.ValueKinds.{kinds_append, empties_kinds}
-
--- straight on, the next place finds the kinds
-straight_finds : (w : Body) (place : ℕ) (i : Instr) (js : List Kind) → is_straight i ≡ true
-    → goes_on w place i js ≡ true → finds w (place + 1) js ≡ true
-straight_finds w place (JumpIf to) js st on = (both_true _ _ on).1
-straight_finds w place (JumpIfNot to) js st on = (both_true _ _ on).1
-straight_finds w place (Jump to) js st on = absurd cc
-straight_finds w place Return js st on = absurd cc
-straight_finds w place ReturnValue js st on = absurd cc
-straight_finds w place (GoState n) js st on = absurd cc
-straight_finds w place Reset js st on = absurd cc
-straight_finds w place i js st on = on
-
--- and where a jump leads, that place does
-jump_finds : (w : Body) (place to : ℕ) (i : Instr) (js : List Kind) → LeadsTo i to → goes_on w place i js ≡ true
-    → finds w to js ≡ true
-jump_finds w place to (Jump t) js e on = subst (λ q. finds w q js ≡ true) e on
-jump_finds w place to (JumpIf t) js e on = subst (λ q. finds w q js ≡ true) e (both_true _ _ on).0
-jump_finds w place to (JumpIfNot t) js e on = subst (λ q. finds w q js ≡ true) e (both_true _ _ on).0
-jump_finds w place to i js e on = absurd e
-
--- an answer of the right kind is one to its call
-answer_taken : (result : Option Kind) (r : Reply) (id : BuiltinId) → (row_of id).result ≡ result → Answers id r
-    → is_answer_to result r ≡ true
-answer_taken None (reply.Value None) id e h = refl
-answer_taken None (reply.Value (Some v)) id e h = let never : Some (kind_of v) ≡ None = h ∙ e in absurd cc
-answer_taken (Some k) (reply.Value None) id e h = let never : None ≡ Some k = h ∙ e in absurd cc
-answer_taken (Some k) (reply.Value (Some v)) id e h = refl
-answer_taken None (reply.Stop fault) id e h = refl
-answer_taken (Some k) (reply.Stop fault) id e h = refl
-
-some_within : {A : Type 0} (xs : List A) (k : ℕ) → k < length xs → slice_get xs k ≡ None → ⊥
-some_within [] k lt e = absurd (omega arith)
-some_within (x ∷ xs) zero lt e = absurd cc
-some_within (x ∷ xs) (suc k) lt e = some_within xs k (omega arith) e
+use Rattle.lsl_code.proofs.Following.{straight_finds, jump_finds, answer_taken, some_within}
 
 module _ (globals : List Value) (states : List StateCode) (bodies : List Body)
     (ok : IsWellFormedUnit globals states bodies) where
@@ -102,8 +66,15 @@ module _ (globals : List Value) (states : List StateCode) (bodies : List Body)
         → kinds_of g.globals ≡ kept_kinds → kinds_of sl ≡ w.slots → kinds_of ops ≡ js → finds w place js ≡ true
         → IsKindedMachine kept_kinds bodies (put g a f place sl ops outer)
     put_right g a place sl ops js kg ks ko on =
-        record
-        { kept = kg; calls = (w, there, (ks, subst (λ l. StandsWith w place l) (sym ko) (finds_told w place js on)), waits) }
+        record {
+          kept = kg;
+          calls = (
+            w,
+            there,
+            (ks, subst (λ l. StandsWith w place l) (sym ko) (finds_told w place js on)),
+            waits,
+          );
+        }
 
     replied_right : (id : BuiltinId) (r : Reply) (g : Kept) (a : List Reply) (place : ℕ) (sl rest : List Value)
         (js : List Kind) → kinds_of g.globals ≡ kept_kinds → kinds_of sl ≡ w.slots
@@ -142,8 +113,21 @@ module _ (globals : List Value) (states : List StateCode) (bodies : List Body)
             let next : finds w (place + 1) js ≡ true = subst (λ x. goes_on w place x js ≡ true) by.1 on in
             record {
               kept = kg;
-              calls =
-                  (fit.0, fit.1, (fit.2, (ok.functions callee fit.0 fit.1).first), (w, there, (ks, subst (λ l. StandsWith w (place + 1) l) (sym fit.3) (finds_told w (place + 1) js next)), waits));
+              calls = (
+                fit.0,
+                fit.1,
+                (fit.2, (ok.functions callee fit.0 fit.1).first),
+                (
+                  w,
+                  there,
+                  (
+                    ks,
+                    subst (λ l. StandsWith w (place + 1) l) (sym fit.3)
+                        (finds_told w (place + 1) js next),
+                  ),
+                  waits,
+                ),
+              );
             }
         after_right (Leaves None) a by fit fits = left_right w.result outer g a None kg waits fit
         after_right (Leaves (Some v)) a by fit fits = left_right w.result outer g a (Some v) kg waits fit

@@ -84,7 +84,8 @@ pub scan_numbered : (s : Scope) (d : List Instr) (n : ℕ) (ks : List Kind) → 
 scan_numbered s [] n ks = refl
 scan_numbered s (i ∷ d) n ks =
     ap (λ r. reverse ks ∷ r)
-    (ap (scan s (numbered d (next_point i n))) (next_pointed s i n ks) ∙ scan_numbered s d (next_point i n) (next s i ks))
+    (ap (scan s (numbered d (next_point i n))) (next_pointed s i n ks) ∙ scan_numbered s d (next_point i n)
+    (next s i ks))
 
 point_pointed : (s : Scope) (i : Instr) (p : ℕ) (ks : List Kind) (more : List Point)
     → point_before s (pointed i p) ks more ≡ point_before s i ks more
@@ -97,7 +98,8 @@ maps_numbered s [] n ks = refl
 maps_numbered s (i ∷ d) n ks =
     point_pointed s i n ks (maps s (numbered d (next_point i n)) (next s (pointed i n) ks))
     ∙ ap (point_before s i ks)
-    (ap (maps s (numbered d (next_point i n))) (next_pointed s i n ks) ∙ maps_numbered s d (next_point i n) (next s i ks))
+    (ap (maps s (numbered d (next_point i n))) (next_pointed s i n ks) ∙ maps_numbered s d (next_point i n)
+    (next s i ks))
 
 pub runs_numbered : (s : Scope) (d : List Instr) (n : ℕ) (ks : List Kind) → runs s (numbered d n) ks ≡ runs s d ks
 runs_numbered s [] n ks = refl
@@ -115,8 +117,18 @@ pub made_of : (name : List ℕ) (s : Scope) (count : ℕ) (d : List Instr) (para
     (points : List Point) (lines' : List ℕ) (code code' : List Instr) (lines : List ℕ) (stacks : List (List Kind))
     → code ≡ numbered d 0 → lines ≡ lines_of d → params ≡ take count s.slots → points ≡ maps s code []
     → stacks ≡ scan s code [] → most ≡ most_of (scan s code []) → lines' ≡ lines → code' ≡ code
-    → record
-    { name = name; params = params; slots = s.slots; result = s.result; most = most; points = points; lines = lines'; code = code'; stacks = stacks }
+    → record {
+      name = name;
+      params = params;
+      slots = s.slots;
+      result = s.result;
+      most = most;
+      points = points;
+      lines =
+          lines';
+      code = code';
+      stacks = stacks;
+    }
     ≡ finished name s count d
 made_of name s count d params most points lines' code code' lines stacks ce le pe me se ge lf cf =
     let scanned : scan s code [] ≡ scan s d [] = ap (λ c. scan s c []) ce ∙ scan_numbered s d 0 [] in

@@ -127,7 +127,8 @@ module _ (s : Scope) (d : List Instr) where
       → Open s d (pc + length is) → Ways s d pc is × Open s d pc
   through_piece [] pc e h o = let z : pc + 0 ≡ pc = omega arith in (tt, subst (Open s d) z o)
   through_piece (i ∷ is) pc e h o = step (falls_through i) refl e
-      (λ f. let z : pc + length (i ∷ is) ≡ pc + 1 + length is = omega arith in through_piece is (pc + 1) f h.1 (subst (Open s d) z o))
+      (λ f. let z : pc + length (i ∷ is) ≡ pc + 1 + length is = omega arith in through_piece is (pc + 1) f h.1
+      (subst (Open s d) z o))
     where
       step : (t : Bool) → falls_through i ≡ t → (t && all_fall_through is) ≡ true
           → (all_fall_through is ≡ true → Ways s d (pc + 1) is × Open s d (pc + 1))

@@ -58,7 +58,8 @@ module _ (s : Scope) where
       let r = maps_from d (next s x ks) (over x ks pre) k i e in
       subst (λ l. PointAt i (free_point d (next_point x (length pre)) k) (kinds_before s d (next s x ks) k) l)
       (over_same x ks pre (maps s d (next s x ks)))
-      (subst (λ n. PointAt i (free_point d n k) (kinds_before s d (next s x ks) k) (over x ks pre ++ maps s d (next s x ks))) (over_length x ks pre) r)
+      (subst (λ n. PointAt i (free_point d n k) (kinds_before s d (next s x ks) k)
+      (over x ks pre ++ maps s d (next s x ks))) (over_length x ks pre) r)
 
   pub maps_at : (d : List Instr) (ks : List Kind) (k : ℕ) (i : Instr) → slice_get d k ≡ Some i
       → PointAt i (free_point d 0 k) (kinds_before s d ks k) (maps s d ks)

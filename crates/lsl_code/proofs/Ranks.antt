@@ -63,8 +63,12 @@ pub left_in_most : (bodies : List Body) (calls : List MachineCall)
     → 2 * left_in bodies calls + 4 ≤ fuel_in bodies calls
 left_in_most bodies [] = omega arith
 left_in_most bodies (c ∷ outer) =
-    omega
-    (arith, rank_most (instruction_at bodies c.function c.place) (instruction_at bodies c.function (c.place + 1)) c.place (length_in (slice_get bodies c.function)), left_in_most bodies outer)
+    omega (
+      arith,
+      rank_most (instruction_at bodies c.function c.place)
+          (instruction_at bodies c.function (c.place + 1)) c.place (length_in (slice_get bodies c.function)),
+      left_in_most bodies outer,
+    )
 
 pub left_most : (bodies : List Body) (m : Machine) → left bodies m ≤ fuel bodies m
 left_most bodies m = omega (arith, left_in_most bodies m.calls)

@@ -102,3 +102,16 @@ draft_grown_plain lines code code' i bare numbers e =
     draft_grown lines lines code code' i numbers
     (e ∙ ap (λ x. code ++ x ∷ []) (sym (not_pointed i (length lines) bare)))
     (sym (ap (λ l. lines ++ l) (no_line i bare) ∙ append-nil lines))
+
+-- a draft grows by a tick, and by a call
+pub tick_grown : (lines lines' : List ℕ) (code code' : List Instr) (line point : ℕ) → point ≡ length lines
+    → IsNumbered lines code → code' ≡ code ++ Tick point ∷ [] → lines' ≡ lines ++ line ∷ []
+    → Grown lines' code' (drafted lines code) (Tick line)
+tick_grown lines lines' code code' line point is numbers e f =
+    draft_grown lines lines' code code' (Tick line) numbers (e ∙ ap (λ p. code ++ Tick p ∷ []) is) f
+
+pub call_grown : (lines lines' : List ℕ) (code code' : List Instr) (callee line point : ℕ) → point ≡ length lines
+    → IsNumbered lines code → code' ≡ code ++ Call callee point ∷ [] → lines' ≡ lines ++ line ∷ []
+    → Grown lines' code' (drafted lines code) (Call callee line)
+call_grown lines lines' code code' callee line point is numbers e f =
+    draft_grown lines lines' code code' (Call callee line) numbers (e ∙ ap (λ p. code ++ Call callee p ∷ []) is) f

@@ -12,7 +12,8 @@ use Rattle.lsl_code.proofs.Ranks.{left}
 
 module _ (bodies : List Body) (forward : Forward bodies) where
   module _ (t u k : ℕ) (same : u ≡ t + k)
-      (tick_same : (m next : Machine) → step bodies m ≡ Pauses (Passing next) → passed bodies u m (Passing next) ≡ after_ticks bodies k (passed bodies t m (Passing next)))
+      (tick_same : (m next : Machine) → step bodies m ≡ Pauses (Passing next) → passed bodies u m
+      (Passing next) ≡ after_ticks bodies k (passed bodies t m (Passing next)))
     where
       waiting_same : (t u : ℕ) (m : Machine) (id : BuiltinId) (args : List Value) → u ≡ t + k
           → passed bodies u m (Waiting id args) ≡ after_ticks bodies k (passed bodies t m (Waiting id args))
@@ -22,7 +23,8 @@ module _ (bodies : List Body) (forward : Forward bodies) where
       waiting_same (suc t) (suc u) m id args e = ap (AskAt id args m) e
 
       on_case : (m : Machine) (x : Next) → step bodies m ≡ x → Falls bodies (left bodies m) x
-          → ((next : Machine) → left bodies next < left bodies m → run bodies u next ≡ after_ticks bodies k (run bodies t next))
+          → ((next : Machine) → left bodies next < left bodies m → run bodies u next ≡ after_ticks bodies k
+          (run bodies t next))
           → on x (passed bodies u m) (run bodies u) ≡ after_ticks bodies k (on x (passed bodies t m) (run bodies t))
       on_case m (On next) e falls go = go next falls
       on_case m (Pauses (Passing next)) e falls go = tick_same m next e

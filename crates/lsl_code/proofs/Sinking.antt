@@ -34,7 +34,8 @@ module _ (bodies : List Body) (fw : Forward bodies) (f pc : ℕ) (lt : pc < leng
       → rank_at bodies j 0 + rank_at bodies f (pc + 1) < 3 * (long - pc)
   enter_ranks j body e flat =
       rank_enter _ _ long pc
-      (rank_open (instruction_at bodies j 0) (instruction_at bodies j 1) 0 (length_in (slice_get bodies j)) (fw.starts j body e))
+      (rank_open (instruction_at bodies j 0) (instruction_at bodies j 1) 0 (length_in (slice_get bodies j))
+      (fw.starts j body e))
       lt (flat_at (pc + 1) flat)
 
   go_sinks : (t : ℕ) → goes_back bodies f t ≡ false → rank_at bodies f t < rank_jump (nat_lt t (suc pc)) pc long
@@ -88,7 +89,9 @@ module _ (bodies : List Body) (fw : Forward bodies) (f pc : ℕ) (lt : pc < leng
       long
   enter_sinks i j p body e there =
       subst
-      (λ x. (frees x pc (instruction_at bodies f (pc + 1)) ≡ false → goes_back bodies f (pc + 1) ≡ false) → rank_at bodies j 0 + rank_at bodies f (pc + 1) < rank_of (Some x) (instruction_at bodies f (pc + 1)) pc long)
+      (λ x. (frees x pc (instruction_at bodies f (pc + 1)) ≡ false → goes_back bodies f (pc + 1) ≡ false)
+      → rank_at bodies j 0 + rank_at bodies f (pc + 1) < rank_of (Some x)
+      (instruction_at bodies f (pc + 1)) pc long)
       (sym e) (λ flat. enter_ranks j body there (flat refl))
 
   host_straight : (i : Instr) → is_host i ≡ true → is_straight i ≡ true

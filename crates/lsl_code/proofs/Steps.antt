@@ -44,7 +44,8 @@ list_step s i n old dropped new is some d e =
     let some' : is_some (behind s (MakeList n) old) ≡ true = ap (λ i. is_some (behind s i old)) (sym is) ∙ some in
     ap Some (e ∙ ap (λ l. kind.List ∷ l) d)
     ∙ sym
-    (ap (λ i. behind s i old) is ∙ ap (option_map (λ rest. kind.List ∷ rest)) (gather_drop n old (some_map (λ rest. kind.List ∷ rest) (gather n old) some')))
+    (ap (λ i. behind s i old) is ∙ ap (option_map (λ rest. kind.List ∷ rest))
+    (gather_drop n old (some_map (λ rest. kind.List ∷ rest) (gather n old) some')))
 
 pub call_step : (o : Option Signature) (n : ℕ) (g : Signature) (old dropped new : List Kind)
     → is_some (called o old) ≡ true → o ≡ Some g → n ≡ length g.params → dropped ≡ drop n old
@@ -53,4 +54,5 @@ call_step o n g old dropped new some there len d e =
     let some' : is_some (called (Some g) old) ≡ true = ap (λ o. is_some (called o old)) (sym there) ∙ some in
     ap Some (e ∙ ap (pushed g.result) (d ∙ ap (λ n. drop n old) (len ∙ sym (length-reverse g.params))))
     ∙ sym
-    (ap (λ o. called o old) there ∙ ap (option_map (pushed g.result)) (strip_drop (reverse g.params) old (some_map (pushed g.result) (strip (reverse g.params) old) some')))
+    (ap (λ o. called o old) there ∙ ap (option_map (pushed g.result))
+    (strip_drop (reverse g.params) old (some_map (pushed g.result) (strip (reverse g.params) old) some')))

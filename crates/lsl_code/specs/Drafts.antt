@@ -5,8 +5,9 @@ use Rattle.lsl_code.specs.declared.instructions.Instr.{Instr}
 use Rattle.lsl_code.specs.declared.instructions.Instr.TheVariants.{Tick, Call}
 use Rattle.lsl_code.specs.declared.functions.Point.{Point}
 use Rattle.lsl_code.specs.declared.functions.FunctionCode.{FunctionCode}
+use Rattle.lsl_code.specs.declared.signatures.Names.{Names}
 use Rattle.lsl_code.specs.Effects.{behind, waiting}
-use Rattle.lsl_code.specs.Kinds.{Scope}
+use Rattle.lsl_code.specs.Kinds.{Scope, scope}
 use Rattle.lsl_code.specs.Wholes.{with_line}
 
 -- the instruction with its point, where this is the first free one
@@ -69,6 +70,11 @@ point_before s (Tick line) ks more = record { kinds = s.slots ++ reverse ks; cal
 point_before s (Call f line) ks more =
     record { kinds = s.slots ++ reverse (waiting (slice_get s.functions f) ks); calls = Some f } ∷ more
 point_before s i ks more = more
+
+-- the point is added behind these, whatever the function gives
+abbrev pub AddsPoint : Names → List Kind → Instr → List Kind → List Point → List Point → Type 0
+AddsPoint names slots i ks old new =
+    (gives : Option Kind) → new ≡ old ++ point_before (scope names slots gives) i ks []
 
 -- the points of a draft
 abbrev pub maps : Scope → List Instr → List Kind → List Point

@@ -2,6 +2,7 @@
 -- first.
 use Rattle.std.specs.Prelude.{zero, suc, ℕ, List, [], ◌∷◌, Bool, true, false, cond, Option, Some, None, nat_lt, length, drop, reverse, slice_get, is_none, option_map, option_and_then}
 use Rattle.lsl_value.specs.OperatorRows.{result_kind_of, casts_of}
+use Rattle.lsl_value.specs.declared.operators.BinaryOp.{BinaryOp}
 use Rattle.lsl_value.specs.declared.tagged.Kind.{Kind}
 use Rattle.lsl_value.specs.declared.tagged.Kind.TheVariants as kind
 use Rattle.lsl_running.specs.Calling as form
@@ -54,12 +55,21 @@ is_asked _ = false
 abbrev pub called_if : Bool → Signature → List Kind → Option (List Kind)
 called_if b g ks = cond b (called (Some g) ks) None
 
+-- a slot's or a global's kind is added
+abbrev pub loaded : List Kind → ℕ → List Kind → Option (List Kind)
+loaded kinds n ks = with_kind (slice_get kinds n) (λ k. Some (k ∷ ks))
+
+-- two operands' kinds, the left one's first, become that of their value
+abbrev pub operated : BinaryOp → List Kind → Option (List Kind)
+operated op ks =
+    top_kind ks (λ left more. top_kind more (λ right rest. option_map (λ k. k ∷ rest) (result_kind_of op left right)))
+
 -- the kinds behind an instruction, where it finds what it needs
 abbrev pub behind : Scope → Instr → List Kind → Option (List Kind)
 behind s (Int n) ks = Some (kind.Int ∷ ks)
 behind s (Str text) ks = Some (kind.Str ∷ ks)
-behind s (Load n) ks = with_kind (slice_get s.slots n) (λ k. Some (k ∷ ks))
-behind s (LoadGlobal n) ks = with_kind (slice_get s.globals n) (λ k. Some (k ∷ ks))
+behind s (Load n) ks = loaded s.slots n ks
+behind s (LoadGlobal n) ks = loaded s.globals n ks
 behind s (Store n) ks =
     top_kind ks (λ k rest. with_kind (slice_get s.slots n) (λ q. only_if (same_kind q k) (k ∷ rest)))
 behind s (StoreGlobal n) ks =
@@ -67,8 +77,7 @@ behind s (StoreGlobal n) ks =
 behind s (Set n) ks = top_kind ks (λ k rest. with_kind (slice_get s.slots n) (λ q. only_if (same_kind q k) rest))
 behind s Drop ks = top_kind ks (λ k rest. Some rest)
 behind s (Unary op) ks = top_kind ks (λ k rest. only_if (same_kind kind.Int k) (kind.Int ∷ rest))
-behind s (Binary op) ks =
-    top_kind ks (λ left more. top_kind more (λ right rest. option_map (λ k. k ∷ rest) (result_kind_of op left right)))
+behind s (Binary op) ks = operated op ks
 behind s (Cast to) ks = top_kind ks (λ k rest. only_if (casts_of k to) (to ∷ rest))
 behind s (MakeList n) ks = option_map (λ rest. kind.List ∷ rest) (gather n ks)
 behind s (Jump to) ks = Some ks

@@ -9,8 +9,8 @@ use lsl_text::NoMemory;
 use std::alloc::{AllocError, Global};
 use std::marker::Model;
 
-/// A draft, which contracts see as its instructions with lines in place of points. Points are numbered in the order of the
-/// code, and there are at most 65,536.
+/// A draft, which contracts see as its instructions with lines in place of points. Points are numbered in the order of
+/// the code, and there are at most 65,536.
 #[derive(Debug, Drop)]
 pub struct Draft {
     code: Vec<Instr>,

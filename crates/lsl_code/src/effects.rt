@@ -1,8 +1,7 @@
 //! The kinds of the operands behind an instruction.
 
-ghost use Rattle.std.specs.Prelude.{◌≡◌, ◌∷◌, Some, IsTrue, is_some, OnOk, length, option_map, slice_get};
-ghost use Rattle.lsl_value.specs.OperatorRows.{result_kind_of};
-ghost use Rattle.lsl_code.specs.Effects.{behind, called, pushed, top_kind, with_kind};
+ghost use Rattle.std.specs.Prelude.{◌≡◌, Some, IsTrue, is_some, OnOk, slice_get};
+ghost use Rattle.lsl_code.specs.Effects.{behind, called, loaded, operated, pushed};
 ghost use Rattle.lsl_code.specs.Kinds.{builtin_signature, scope};
 
 use crate::instructions::Instr;
@@ -13,7 +12,8 @@ use lsl_table::BuiltinRow;
 use lsl_text::NoMemory;
 use lsl_value::{BinaryOp, BuiltinId, Kind};
 
-/// Makes the kinds before an instruction those behind it, in a function with these slots that gives a value of this kind.
+/// Makes the kinds before an instruction those behind it, in a function with these slots that gives a value of this
+/// kind.
 pub fn step(
     names: &Names,
     slots: &Sequence<Kind>,
@@ -59,8 +59,8 @@ pub fn step(
 
 // Adds the kind of a slot or a global.
 fn push_variable(kinds: &Sequence<Kind>, n: u16, stack: &mut KindStack) -> Result<(), NoMemory>
-    requires { IsTrue (is_some (with_kind (slice_get kinds.now n) (λ k. Some (k ∷ stack.old)))) }
-    ensures { OnOk result (Some stack.new ≡ with_kind (slice_get kinds.now n) (λ k. Some (k ∷ stack.old))) }
+    requires { IsTrue (is_some (loaded kinds.now n stack.old)) }
+    ensures { OnOk result (Some stack.new ≡ loaded kinds.now n stack.old) }
 {
     let Some(kind) = kinds.get(n as usize) else {
         unreachable!()
@@ -71,8 +71,8 @@ fn push_variable(kinds: &Sequence<Kind>, n: u16, stack: &mut KindStack) -> Resul
 
 // Takes off the kinds of two operands, the left one first, and adds that of their value.
 fn operate(op: BinaryOp, stack: &mut KindStack) -> Result<(), NoMemory>
-    requires { IsTrue (is_some (top_kind stack.old (λ left more. top_kind more (λ right rest. option_map (λ k. k ∷ rest) (result_kind_of op left right))))) }
-    ensures { OnOk result (Some stack.new ≡ top_kind stack.old (λ left more. top_kind more (λ right rest. option_map (λ k. k ∷ rest) (result_kind_of op left right)))) }
+    requires { IsTrue (is_some (operated op stack.old)) }
+    ensures { OnOk result (Some stack.new ≡ operated op stack.old) }
 {
     let Some(left) = stack.pop() else {
         unreachable!()

@@ -1,10 +1,9 @@
 //! From drafts to functions.
 
-ghost use Rattle.std.specs.Prelude.{◌≡◌, ◌<◌, Option, IsTrue, is_some, OnOk, IfOk, [], ◌++◌, length, max, reverse, drop};
-ghost use Rattle.lsl_code.specs.Drafts.{scan, point_before, maps, most_of, finished};
+ghost use Rattle.std.specs.Prelude.{◌≡◌, ◌<◌, IsTrue, is_some, OnOk, IfOk, [], ◌++◌, length, max, reverse, drop};
+ghost use Rattle.lsl_code.specs.Drafts.{AddsPoint, scan, maps, most_of, finished};
 ghost use Rattle.lsl_code.specs.Effects.{runs};
 ghost use Rattle.lsl_code.specs.Kinds.{scope};
-ghost use Rattle.lsl_value.specs.declared.tagged.Kind.{Kind as AKind};
 
 use crate::drafts::Draft;
 use crate::effects::step;
@@ -17,7 +16,8 @@ use lsl_text::NoMemory;
 use lsl_value::{Kind, Text};
 use std::alloc::{AllocError, Global};
 
-// What one pass over code finds: the points, the kinds of the operands before each instruction, and the greatest count of them.
+// What one pass over code finds: the points, the kinds of the operands before each instruction, and the greatest count of
+// them.
 #[derive(Drop)]
 struct Shapes {
     points: Sequence<Point>,
@@ -25,8 +25,8 @@ struct Shapes {
     most: u32,
 }
 
-/// The function of a draft, with these slots, of which the first so many are parameters, and a value of this kind. Want of
-/// memory also where a draft is as long as 4,294,967,296 instructions.
+/// The function of this name with a draft and these slots, of which the first so many are parameters; it gives a value of
+/// this kind, or none. Want of memory also where a draft has 4,294,967,296 instructions.
 pub fn finish(
     alloc: Global,
     names: &Names,
@@ -73,18 +73,18 @@ fn shapes_of(
     names: &Names,
     slots: &Sequence<Kind>,
     gives: Option<Kind>,
-    code: &Vec<Instr>,
+    code: &[Instr],
 ) -> Result<Shapes, NoMemory>
-    requires { IsTrue (is_some (runs (scope names.now slots.now gives) code.now.items [])) }
-    ensures points { IfOk result (λ r. r.points ≡ maps (scope names.now slots.now gives) code.now.items []) }
-    ensures stacks { IfOk result (λ r. r.stacks ≡ scan (scope names.now slots.now gives) code.now.items []) }
-    ensures most { IfOk result (λ r. r.most ≡ most_of (scan (scope names.now slots.now gives) code.now.items [])) }
+    requires { IsTrue (is_some (runs (scope names.now slots.now gives) code.now [])) }
+    ensures points { IfOk result (λ r. r.points ≡ maps (scope names.now slots.now gives) code.now []) }
+    ensures stacks { IfOk result (λ r. r.stacks ≡ scan (scope names.now slots.now gives) code.now []) }
+    ensures most { IfOk result (λ r. r.most ≡ most_of (scan (scope names.now slots.now gives) code.now [])) }
 {
     let mut stack = KindStack::new(alloc);
     let mut points = Sequence::new(alloc);
     let mut stacks = Sequence::new(alloc);
     let mut most = 0;
-    for instr in code.as_slice() {
+    for instr in code {
         add_point(alloc, names, slots, instr, &stack, &mut points)?;
         most = most.max(stack.len());
         stacks.push(stack.listed(alloc)?)?;
@@ -107,7 +107,7 @@ fn add_point(
     stack: &KindStack,
     points: &mut Sequence<Point>,
 ) -> Result<(), NoMemory>
-    ensures { (gives : Option AKind) → OnOk result (points.new ≡ points.old ++ point_before (scope names.now slots.now gives) instr.now stack.now []) }
+    ensures { OnOk result (AddsPoint names.now slots.now instr.now stack.now points.old points.new) }
 {
     match instr {
         Instr::Tick(_) => {

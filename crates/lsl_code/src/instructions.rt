@@ -1,10 +1,10 @@
-//! Instructions. A call has slots and a stack of operands, and no instruction sees those of another call: what is called
-//! gets its arguments, and gives its result.
+//! Instructions. A call has slots and a stack of operands, and no instruction sees those of another call: what is
+//! called gets its arguments, and gives its result.
 
 use lsl_value::{BinaryOp, BuiltinId, Kind, Text, UnaryOp};
 
-/// An instruction. Places are counted in instructions from the function's first, at 0; slots, globals, functions, states and
-/// resume points by their numbers, from 0.
+/// An instruction. Places are counted in instructions from the function's first, at 0; slots, globals, functions, states
+/// and resume points are named by their numbers, from 0.
 #[derive(Debug, Drop)]
 pub enum Instr {
     /// Pushes an integer.

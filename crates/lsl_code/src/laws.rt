@@ -30,8 +30,8 @@ pub fn units_are_well_formed()
     ensures { FitsTells }
 {}
 
-/// A machine of a unit never meets a missing or a wrong operand, where the answers are of their calls' kinds: each step leads
-/// to a machine whose kinds are right, and no run is lost. The machine in which a handler begins is such a one.
+/// A machine of a unit never meets a missing or a wrong operand, where the answers are of their calls' kinds: each step
+/// leads to a machine whose kinds are right, and no run is lost. The machine in which a handler begins is such a one.
 pub fn nothing_is_stuck()
     ensures step { NothingIsStuck }
     ensures beginning { BeginsKinded }

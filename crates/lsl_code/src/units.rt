@@ -54,7 +54,7 @@ impl Unit {
             .get(point as usize)
     }
 
-    /// The function of the state's handler of this event, if it has one. Takes no memory, and walks the state's handlers.
+    /// The function of the state's handler of this event, if it has one. Takes no memory; walks the state's handlers.
     pub fn handler(&self, state: u16, event: EventId) -> Option<u16>
         ensures { result ≡ handler_of self.now.states state event }
     {

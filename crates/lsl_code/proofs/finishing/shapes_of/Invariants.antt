@@ -5,4 +5,5 @@ use Rattle.lsl_code.proofs.finishing.shapes_of.Given as goal
 
 abbrev pub invariant-loop-instr : goal.invariant-loop-instr
 invariant-loop-instr l =
-    Passed (scope l.names l.slots l.gives) l.code.items (drop l.instr-index l.code.items) l.stack l.points l.stacks l.most
+    Passed (scope l.names l.slots l.gives) l.code
+    (drop l.instr-index l.code) l.stack l.points l.stacks l.most

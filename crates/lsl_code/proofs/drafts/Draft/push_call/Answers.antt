@@ -1,20 +1,17 @@
 use Rattle.std.proofs.Common.{rules, ◌≡◌, ◌∷◌, ◌++◌, [], ◌∙◌, ap, length}
 use Rattle.lsl_code.specs.declared.instructions.Instr.TheVariants.{Call}
-use Rattle.lsl_code.proofs.Reading.{draft_grown}
+use Rattle.lsl_code.proofs.Reading.{call_grown}
 use Rattle.lsl_code.proofs.drafts.Draft.push_call.Goals as goal
 
 pub invariant_of-self-2 : goal.invariant_of-self-2
 invariant_of-self-2 c =
-    let lines = c.self.inside.lines.items in
-    let code = c.self.inside.code.items in
-    let number : c.in_ok-point.point ≡ length lines = search rules in
-    let pushed : c.push_both.new.code.items ≡ code ++ Call c.args.function (length lines) ∷ [] = c.in_ok-push_both.ensures.code ∙ ap (λ p. code ++ Call c.args.function p ∷ []) number in
-    (draft_grown lines _ code _ (Call c.args.function c.args.line) c.self.invariant pushed c.in_ok-push_both.ensures.lines).numbers
+    let pushed = c.in_ok-push_both.ensures in
+    let number : c.in_ok-point.point ≡ length c.self.inside.lines.items = search rules in
+    (call_grown _ _ _ _ _ _ _ number c.self.invariant pushed.code pushed.lines).numbers
 
 pub returns-clause-ok : goal.returns-clause-ok
 returns-clause-ok c =
-    let lines = c.self.inside.lines.items in
-    let code = c.self.inside.code.items in
-    let number : c.in_ok-point.point ≡ length lines = search rules in
-    let pushed : c.push_both.new.code.items ≡ code ++ Call c.args.function (length lines) ∷ [] = c.in_ok-push_both.ensures.code ∙ ap (λ p. code ++ Call c.args.function p ∷ []) number in
-    (draft_grown lines _ code _ (Call c.args.function c.args.line) c.self.invariant pushed c.in_ok-push_both.ensures.lines).view ∙ ap (λ d. d ++ Call c.args.function c.args.line ∷ []) c.self.view_is
+    let pushed = c.in_ok-push_both.ensures in
+    let number : c.in_ok-point.point ≡ length c.self.inside.lines.items = search rules in
+    let grown = call_grown _ _ _ _ _ _ _ number c.self.invariant pushed.code pushed.lines in
+    grown.view ∙ ap (λ d. d ++ Call c.args.function c.args.line ∷ []) c.self.view_is
