@@ -76,7 +76,7 @@ module _ (bodies : List Body) (forward : Forward bodies) where
   on_keeps m (Pauses (Waiting id args)) falls keeps go = absurd keeps
   on_keeps m (Halts e) falls keeps go = tt
 
-  -- with enough answers a run done_by not ask before its next tick
+  -- with enough answers a run does not ask before its next tick
   no_ask : (n : ℕ) (m : Machine) → left bodies m ≤ n → due_in bodies m.calls ≤ length m.answers
       → NoAsk (run bodies 0 m)
   no_ask zero m le all =
@@ -88,7 +88,7 @@ module _ (bodies : List Body) (forward : Forward bodies) where
       (on_keeps m (step bodies m) (step_falls bodies forward m) (step_keeps m.kept m.answers m.calls all)
       (λ next lt keeps. no_ask n next (omega arith) keeps))
 
-  -- where a run is cut, the machine stands at a tick, behind which few calls are live
+  -- where a run is cut, the machine stands at a tick, behind which few calls are active
   abbrev CutOk : Halt → Type 0
   CutOk (CutAt m) = (next : Machine) × (step bodies m ≡ Pauses (Passing next)) × Few next
   CutOk _ = Unit {0}

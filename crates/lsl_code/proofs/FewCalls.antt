@@ -77,7 +77,7 @@ replied_few (reply.Value (Some v)) g a f q sl rest outer le lim = checked_few (p
 replied_few (reply.Value None) g a f q sl rest outer le lim = (le, lim)
 replied_few (reply.Stop x) g a f q sl rest outer le lim = tt
 
--- what an effect keeps to: the second induction over all instructions
+-- what an instruction keeps to: the second induction over all instructions
 abbrev pub Small : Kept → ℕ → List Value → Did → Type 0
 Small g held sl (Goes sl' ops' g') = g'.limit ≤ 65536
 Small g held sl (Enters j ns rest) = is_within g (used (hold_all held rest + call_charge + charges_of sl) ns g) ≡ true

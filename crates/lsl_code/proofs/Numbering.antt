@@ -10,7 +10,7 @@ use Rattle.lsl_code.specs.Fits.{goes_on, jumps_on, begins_with_tick, is_plain}
 use Rattle.lsl_code.specs.Forward.{is_back}
 use Rattle.lsl_code.specs.Kinds.{Scope}
 
--- the first point that is free_point at place k
+-- the first point that is free at place k
 abbrev pub free_point : List Instr → ℕ → ℕ → ℕ
 free_point [] n k = n
 free_point (i ∷ is) n zero = n

@@ -122,7 +122,7 @@ module _ (s : Scope) (d : List Instr) where
   through_way pc (Tick line) e o = o.0
   through_way pc i e o = o
 
-  -- code that is in order, and begins at an open place, where an open place counted behind it
+  -- code that is in order, and begins at an open place, where an open place stands behind it
   pub through_piece : (is : List Instr) (pc : ℕ) → all_fall_through is ≡ true → StandsAt d pc is
       → Open s d (pc + length is) → Ways s d pc is × Open s d pc
   through_piece [] pc e h o = let z : pc + 0 ≡ pc = omega arith in (tt, subst (Open s d) z o)

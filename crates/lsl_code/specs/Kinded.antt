@@ -30,14 +30,14 @@ IsKindedCall w c ks = (kinds_of c.slots ≡ w.slots) × StandsWith w c.place ks
 abbrev pub AreWaiting : List Body → Option Kind → List MachineCall → Type 0
 AreWaiting bodies result [] = Unit {0}
 AreWaiting bodies result (c ∷ outer) =
-    (w : Body) × (slice_get bodies c.function ≡ Some w) × IsKindedCall w c (pushed result
-    (kinds_of c.operands)) × AreWaiting bodies w.result outer
+    (w : Body) × (slice_get bodies c.function ≡ Some w)
+    × IsKindedCall w c (pushed result (kinds_of c.operands)) × AreWaiting bodies w.result outer
 
 abbrev pub AreKindedCalls : List Body → List MachineCall → Type 0
 AreKindedCalls bodies [] = ⊥
 AreKindedCalls bodies (c ∷ outer) =
-    (w : Body) × (slice_get bodies c.function ≡ Some w) × IsKindedCall w c (kinds_of
-    c.operands) × AreWaiting bodies w.result outer
+    (w : Body) × (slice_get bodies c.function ≡ Some w)
+    × IsKindedCall w c (kinds_of c.operands) × AreWaiting bodies w.result outer
 
 -- of a unit with globals of these kinds and these functions
 pub record IsKindedMachine (globals : List Kind) (bodies : List Body) (m : Machine) : Type 0 where
@@ -53,8 +53,8 @@ Answers id (reply.Stop fault) = Unit {0}
 abbrev pub IsAnsweredIn : List Body → List MachineCall → List Reply → Type 0
 IsAnsweredIn bodies [] answers = Unit {0}
 IsAnsweredIn bodies (c ∷ outer) answers =
-    (id : BuiltinId) (r : Reply) (more : List Reply) → instruction_at bodies c.function c.place ≡ Some (Host
-    id) → answers ≡ r ∷ more → Answers id r
+    (id : BuiltinId) (r : Reply) (more : List Reply) → instruction_at bodies c.function c.place ≡ Some (Host id)
+    → answers ≡ r ∷ more → Answers id r
 
 -- a state to which a handler goes is there
 abbrev pub IsOutcome : ℕ → Outcome → Type 0
@@ -77,16 +77,14 @@ IsKindedNext globals states bodies (Halts e) = IsKindedEnd globals states e
 -- kinds are right
 abbrev pub NothingIsStuck : Type 0
 NothingIsStuck =
-    (globals : List Value) (states : List StateCode) (bodies : List
-    Body) → fits_unit globals states bodies ≡ true → (m : Machine) →
-    IsKindedMachine (kinds_of globals) bodies m → IsAnsweredIn bodies m.calls m.answers → IsKindedNext
-    (kinds_of globals) (length states) bodies (step bodies m)
+    (globals : List Value) (states : List StateCode) (bodies : List Body) → fits_unit globals states bodies ≡ true
+    → (m : Machine) → IsKindedMachine (kinds_of globals) bodies m → IsAnsweredIn bodies m.calls m.answers
+    → IsKindedNext (kinds_of globals) (length states) bodies (step bodies m)
 
 -- and the machine in which a handler begins is one
 abbrev pub BeginsKinded : Type 0
 BeginsKinded =
-    (globals : List Value) (states : List StateCode) (bodies : List
-    Body) → fits_unit globals states bodies ≡ true → (f : ℕ) (w : Body) (kept : Kept) (args : List
-    Value) (answers : List Reply) →
-    slice_get bodies f ≡ Some w → kinds_of kept.globals ≡ kinds_of globals → kinds_of args ≡ w.params →
-    IsKindedMachine (kinds_of globals) bodies (begun f kept (first_slots w args) answers)
+    (globals : List Value) (states : List StateCode) (bodies : List Body) → fits_unit globals states bodies ≡ true
+    → (f : ℕ) (w : Body) (kept : Kept) (args : List Value) (answers : List Reply)
+    → slice_get bodies f ≡ Some w → kinds_of kept.globals ≡ kinds_of globals → kinds_of args ≡ w.params
+    → IsKindedMachine (kinds_of globals) bodies (begun f kept (first_slots w args) answers)

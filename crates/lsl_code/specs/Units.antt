@@ -12,8 +12,7 @@ use Rattle.lsl_code.specs.Fits.{all_places, finds, fits_at, jumps_on, begins_wit
 use Rattle.lsl_code.specs.Kinds.{same_kinds, scope, names_in}
 
 -- a function whose instructions find what they need, whose points stand once each and have a line each, and which
--- has the
--- slots, the parameters and the greatest count of operands that it names
+-- has the parameters and the greatest count of operands that it names
 abbrev pub fits_function : Names → ℕ → Body → Bool
 fits_function names f w =
     begins_with_tick w.code

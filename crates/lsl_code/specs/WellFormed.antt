@@ -24,8 +24,8 @@ StandsWith w place ks = slice_get w.stacks place ≡ Some (Some (reverse ks))
 -- before it in its map
 abbrev pub FindsItsOperands : Scope → Body → ℕ → Instr → List Kind → Type 0
 FindsItsOperands s w place i ks =
-    (js : List Kind) × (behind s i ks ≡ Some js) × (goes_on w place i js ≡ true) ×
-    (has_point s w.points i ks ≡ true)
+    (js : List Kind) × (behind s i ks ≡ Some js) × (goes_on w place i js ≡ true)
+    × (has_point s w.points i ks ≡ true)
 
 pub record IsWellFormedFunction (names : Names) (w : Body) : Type 0 where
   pub begins : begins_with_tick w.code ≡ true
@@ -61,5 +61,5 @@ pub record IsWellFormedUnit (globals : List Value) (states : List StateCode) (bo
 -- what passes the test is well formed
 abbrev pub FitsTells : Type 0
 FitsTells =
-    (globals : List Value) (states : List StateCode) (bodies : List
-    Body) → fits_unit globals states bodies ≡ true → IsWellFormedUnit globals states bodies
+    (globals : List Value) (states : List StateCode) (bodies : List Body)
+    → fits_unit globals states bodies ≡ true → IsWellFormedUnit globals states bodies

@@ -16,8 +16,8 @@ use lsl_text::NoMemory;
 use lsl_value::{Kind, Text};
 use std::alloc::{AllocError, Global};
 
-// What one pass over code finds: the points, the kinds of the operands before each instruction, and the greatest count of
-// them.
+// What one pass over code finds: the points, the kinds of the operands before each instruction, and the greatest
+// count of them.
 #[derive(Drop)]
 struct Shapes {
     points: Sequence<Point>,
@@ -25,8 +25,8 @@ struct Shapes {
     most: u32,
 }
 
-/// The function of this name with a draft and these slots, of which the first so many are parameters; it gives a value of
-/// this kind, or none. Want of memory also where a draft has 4,294,967,296 instructions.
+/// The function of this name with a draft and these slots, of which the first so many are parameters; it gives a value
+/// of this kind, or none. Want of memory also where a draft has 4,294,967,296 instructions.
 pub fn finish(
     alloc: Global,
     names: &Names,

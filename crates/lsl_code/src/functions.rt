@@ -12,9 +12,9 @@ pub struct Point {
     pub calls: Option<u16>,
 }
 
-/// A function's code. `slots` begins with the parameters, `most` is the greatest count of operands, `lines` has the line
-/// of each point in the text, and `stacks` has, per instruction, the kinds of the operands that stand before it, from the
-/// first pushed.
+/// A function's code. `slots` begins with the parameters, `most` is the greatest count of operands, `lines` has each
+/// point's line in the text, and `stacks` has, per instruction, the kinds of the operands that stand before it, from
+/// the first pushed.
 #[derive(Debug, Drop)]
 pub struct FunctionCode {
     pub name: Text,
