@@ -29,3 +29,4 @@ pub mod Told
 pub mod UnitTold
 pub mod ValueKinds
 pub mod Ways
+pub mod WholeLaws

@@ -56,8 +56,7 @@ Lands bodies f (JumpIfNot to) = goes_back bodies f to ≡ false
 Lands bodies f _ = Unit {0}
 
 -- no jump leads to a jump backward, one is come to only behind a tick, and each function begins with a tick; at
--- most one test may
--- stand between, or before
+-- most one test may stand between, or before
 pub record Forward (bodies : List Body) : Type 0 where
   pub lands : (f place : ℕ) (i : Instr) → instruction_at bodies f place ≡ Some i → Lands bodies f i
   pub behind : (f place : ℕ) (i : Instr) → instruction_at bodies f place ≡ Some i

@@ -20,8 +20,8 @@ use Rattle.lsl_code.specs.Units.{fits_unit}
 abbrev pub StandsWith : Body → ℕ → List Kind → Type 0
 StandsWith w place ks = slice_get w.stacks place ≡ Some (Some (reverse ks))
 
--- an instruction finds what it needs, what it goes on to finds the kinds behind it, and its point has those
--- before it in its map
+-- an instruction finds what it needs, what it goes on to finds the kinds behind it, and its point has those before
+-- it in its map
 abbrev pub FindsItsOperands : Scope → Body → ℕ → Instr → List Kind → Type 0
 FindsItsOperands s w place i ks =
     (js : List Kind) × (behind s i ks ≡ Some js) × (goes_on w place i js ≡ true)

@@ -1,6 +1,6 @@
 //! Laws of code and of its runs.
 
-ghost use Rattle.lsl_code.specs.Laws.{IsStepAndRun, MoreTicks, MoreAnswers, AsksSoOften};
+ghost use Rattle.lsl_code.specs.Laws.{AnswersChangeNothing, AsksSoOften, IsStepAndRun, MoreAnswers, MoreTicks, TicksChangeNothing};
 ghost use Rattle.lsl_code.specs.Kinded.{BeginsKinded, NothingIsStuck};
 ghost use Rattle.lsl_code.specs.WellFormed.{FitsTells};
 
@@ -9,14 +9,18 @@ pub fn runs_are_steps()
     ensures { IsStepAndRun }
 {}
 
-/// A run with more ticks is the run with fewer, gone on from where it was cut.
+/// A run with more ticks is the run with fewer, gone on from where it was cut. So more ticks change nothing that wasn't
+/// cut.
 pub fn more_ticks()
-    ensures { MoreTicks }
+    ensures run { MoreTicks }
+    ensures whole { TicksChangeNothing }
 {}
 
-/// A run with further answers is the run without them, gone on from where it asked.
+/// A run with further answers is the run without them, gone on from where it asked. So further answers change nothing
+/// that didn't ask.
 pub fn more_answers()
-    ensures { MoreAnswers }
+    ensures run { MoreAnswers }
+    ensures whole { AnswersChangeNothing }
 {}
 
 /// Between two ticks a run asks at most 2,048 times as often as its code has instructions that ask.
