@@ -41,7 +41,7 @@ pub fn finish(
     ensures short { OnOk result (length draft < 4294967296) }
 {
     let (code, lines) = draft.into_parts();
-    let size = short_count(code.len())?;
+    short_count(code.len())?;
     let shapes = shapes_of(alloc, names, &slots, gives, &code)?;
     let params = slots.first(alloc, params)?;
     Ok(FunctionCode {
