@@ -7,6 +7,8 @@ mod copying_link;
 mod file_shelf;
 mod notice;
 mod output_sink;
+#[cfg(test)]
+mod tests;
 
 use command::{refuse_words, run};
 use copying_link::CopyingLink;
