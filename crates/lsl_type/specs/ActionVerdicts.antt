@@ -37,7 +37,8 @@ jump_verdict f span x = do
 
 abbrev pub named_state_verdict : KnownView → StateName → Verdict ℕ
 named_state_verdict known Default = Ok 0
-named_state_verdict known (Named x) = the_one_verdict (option_map (λ before. before + 1) (nearest (spelled x) known.states)) (at UnknownName x.span)
+named_state_verdict known (Named x) =
+    the_one_verdict (option_map (λ before. before + 1) (nearest (spelled x) known.states)) (at UnknownName x.span)
 
 abbrev pub change_verdict : KnownView → Home → Span → StateName → Verdict Action
 change_verdict known Handler span name = do

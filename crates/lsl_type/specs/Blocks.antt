@@ -28,4 +28,5 @@ closed f o = record {
 
 -- no function has begun
 abbrev pub IsResting : FrameView → Type 0
-IsResting f = f ≡ record { scope = f.scope; slots = []; labels = []; passed = []; first_variable = 0; first_label = 0 }
+IsResting f =
+    f ≡ record { scope = f.scope; slots = []; labels = []; passed = []; first_variable = 0; first_label = 0 }

@@ -30,7 +30,8 @@ abbrev pub IsInitial : ScopeView → Name → Part → Type 0
 IsInitial s x (part.Int n) = ⊥
 IsInitial s x (part.Negative n) = ⊥
 IsInitial s x (part.Str t) = ⊥
-IsInitial s x (part.Constant id k) = ((v : Variable) → IsVariable s (spelled x) v → ⊥) × IsConstant (spelled x) id × (k ≡ constant_kind_of id)
+IsInitial s x (part.Constant id k) =
+    ((v : Variable) → IsVariable s (spelled x) v → ⊥) × IsConstant (spelled x) id × (k ≡ constant_kind_of id)
 IsInitial s x (part.Global number k) = IsVariable s (spelled x) (record { place = Global number; kind = k })
 
 abbrev pub initial_part : ScopeView → Atom → Judgement Part
@@ -63,7 +64,8 @@ initial s (source.Atoms span atoms) = do
 
 -- a global's or function's name is neither reserved nor that of an earlier one
 abbrev pub IsUnused : HeadersView → Name → Type 0
-IsUnused h x = (IsReserved (spelled x) → ⊥) × (Contains h.scope.names (spelled x) → ⊥) × (Contains h.functions (spelled x) → ⊥)
+IsUnused h x =
+    (IsReserved (spelled x) → ⊥) × (Contains h.scope.names (spelled x) → ⊥) × (Contains h.functions (spelled x) → ⊥)
 
 -- a parameter's name is neither reserved nor that of an earlier one
 abbrev pub param : List (List ℕ) → Param → Judgement (List (List ℕ))
@@ -72,7 +74,8 @@ param names p = do
   gives (spelled p.name ∷ names)
 
 abbrev pub initial_become : Kind → Initial → Span → Judgement Initial
-initial_become k found span = entry (initial_as_kind k found) (at (WrongKind (Some k) (Some (initial_kind_of found))) span)
+initial_become k found span =
+    entry (initial_as_kind k found) (at (WrongKind (Some k) (Some (initial_kind_of found))) span)
 
 abbrev pub header : HeadersView → Header → Judgement HeadersView
 header h (source.Global k x None) = do

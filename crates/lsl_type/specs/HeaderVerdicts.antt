@@ -56,7 +56,9 @@ initial_part_verdict s (atom.Str t span) = Ok (part.Str t)
 initial_part_verdict s (atom.Constant x) = part_by (variable_of s (spelled x)) x
 
 abbrev pub is_unused : HeadersView → Name → Bool
-is_unused h x = not (is_reserved (spelled x) || (is_some (nearest (spelled x) h.scope.names) || is_some (nearest (spelled x) h.functions)))
+is_unused h x =
+    not (is_reserved (spelled x)
+    || (is_some (nearest (spelled x) h.scope.names) || is_some (nearest (spelled x) h.functions)))
 
 abbrev pub has_event : List EventId → EventId → Bool
 has_event events event = list_any (λ e. same_event e event) events
@@ -84,11 +86,13 @@ initial_verdict s (source.Atoms span atoms) = do
 
 abbrev pub param_verdict : List (List ℕ) → Param → Verdict (List (List ℕ))
 param_verdict names p = do
-  fresh ← must_verdict (not (is_reserved (spelled p.name) || is_some (nearest (spelled p.name) names))) (at DoubleName p.name.span)
+  fresh ← must_verdict (not (is_reserved (spelled p.name) || is_some (nearest (spelled p.name) names)))
+      (at DoubleName p.name.span)
   Ok (spelled p.name ∷ names)
 
 abbrev pub initial_become_verdict : Kind → Initial → Span → Verdict Initial
-initial_become_verdict k found span = the_one_verdict (initial_as_kind k found) (at (WrongKind (Some k) (Some (initial_kind_of found))) span)
+initial_become_verdict k found span =
+    the_one_verdict (initial_as_kind k found) (at (WrongKind (Some k) (Some (initial_kind_of found))) span)
 
 abbrev pub header_verdict : HeadersView → Header → Verdict HeadersView
 header_verdict h (source.Global k x None) = do

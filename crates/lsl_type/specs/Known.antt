@@ -32,7 +32,8 @@ abbrev pub known_signature_of : declared_signature.Signature → Signature
 known_signature_of s = record { params = s.params.items; result = s.result }
 
 abbrev pub known_of : Known → KnownView
-known_of k = record { functions = k.functions; signatures = map known_signature_of k.signatures.items; states = k.states }
+known_of k =
+    record { functions = k.functions; signatures = map known_signature_of k.signatures.items; states = k.states }
 
 abbrev pub headers_of : Headers → HeadersView
 headers_of h = record {
@@ -55,13 +56,17 @@ abbrev pub IsCallable : KnownView → List ℕ → Calling → Type 0
 IsCallable k name c =
     ((number : ℕ) × IsFunction k name number c.signature × (c.callee ≡ Function number))
     ⊎ (((number : ℕ) (s : Signature) → IsFunction k name number s → ⊥)
-    × ((id : _) × IsBuiltin name id × (c ≡ record { callee = Builtin id; signature = record { params = params_of id; result = result_of id } })))
+    × ((id : _) × IsBuiltin name id
+    × (c ≡ record { callee = Builtin id; signature = record { params = params_of id; result = result_of id } })))
 
 abbrev pub function_of : KnownView → ℕ → Option Calling
-function_of k number = option_map (λ s. record { callee = Function number; signature = s }) (slice_get k.signatures number)
+function_of k number =
+    option_map (λ s. record { callee = Function number; signature = s }) (slice_get k.signatures number)
 
 abbrev pub builtin_called_of : List ℕ → Option Calling
-builtin_called_of name = option_map (λ id. record { callee = Builtin id; signature = record { params = params_of id; result = result_of id } }) (builtin_of name)
+builtin_called_of name =
+    option_map (λ id. record { callee = Builtin id; signature = record { params = params_of id; result = result_of id } })
+    (builtin_of name)
 
 abbrev pub kinds_of : List Param → List Kind
 kinds_of ps = map (λ p. p.kind) ps

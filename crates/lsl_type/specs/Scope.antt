@@ -22,8 +22,9 @@ pub record ScopeView : Type 0 where
   pub names : List (List ℕ)
   pub variables : List Variable
 
--- what is visible at a place, and what its function has so far: the kinds of its slots, the labels of the blocks around,
--- the latest first, those of them that stand before the place, and the numbers of the block's first variable and label
+-- what is visible at a place, and what its function has so far: the kinds of its slots, the labels of the blocks
+-- around, the latest first, those of them that stand before the place, and the numbers of the block's first variable
+-- and label
 pub record FrameView : Type 0 where
   pub scope : ScopeView
   pub slots : List Kind
@@ -104,4 +105,5 @@ opened f es = record f {
 
 -- where a body begins: the globals are visible, and the parameters
 abbrev pub entered : ScopeView → List Param → FrameView
-entered s ps = with_locals (record { scope = s; slots = []; labels = []; passed = []; first_variable = 0; first_label = 0 }) ps
+entered s ps =
+    with_locals (record { scope = s; slots = []; labels = []; passed = []; first_variable = 0; first_label = 0 }) ps

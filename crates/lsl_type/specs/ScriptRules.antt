@@ -67,5 +67,6 @@ script tree = do
   states ← each state [] tree.states
   functions ← each (function_body (known_from headers states) headers.scope) [] tree.headers
   start ← each (handler_body (known_from headers states) headers.scope) [] tree.default
-  all ← each (state_body (known_from headers states) headers.scope) (record { name = default_name; handlers = start } ∷ []) tree.states
+  all ← each (state_body (known_from headers states) headers.scope)
+      (record { name = default_name; handlers = start } ∷ []) tree.states
   gives (record { globals = headers.globals; functions = functions; states = all })

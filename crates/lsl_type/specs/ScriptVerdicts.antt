@@ -25,7 +25,8 @@ body_verdict known s home x kind params es = do
   inner ← items_verdict known home (opened (entered s params) es) es
   Ok (record { line = x.span.line; kind = kind; params = length params; slots = inner.1.slots; body = ended kind inner.0 })
 
-abbrev pub function_routine_verdict : KnownView → ScopeView → Option Kind → Name → List Param → Items → Verdict NamedRoutine
+abbrev pub function_routine_verdict :
+    KnownView → ScopeView → Option Kind → Name → List Param → Items → Verdict NamedRoutine
 function_routine_verdict known s k x params es = do
   routine ← body_verdict known s (Function k) x k params es
   Ok (record { name = x.text; routine = routine })
@@ -42,7 +43,8 @@ handler_routine_verdict known s h = do
   routine ← body_verdict known s Handler h.name None h.params h.body
   Ok (record { event = event; routine = routine })
 
-abbrev pub handler_body_verdict : KnownView → ScopeView → List EventRoutine → source.Handler → Verdict (List EventRoutine)
+abbrev pub handler_body_verdict :
+    KnownView → ScopeView → List EventRoutine → source.Handler → Verdict (List EventRoutine)
 handler_body_verdict known s before h = do
   routine ← handler_routine_verdict known s h
   Ok (before ++ routine ∷ [])
@@ -61,7 +63,8 @@ abbrev pub bodies_verdict : HeadersView → List (List ℕ) → Tree → Verdict
 bodies_verdict headers states tree = do
   functions ← each_verdict (function_body_verdict (known_from headers states) headers.scope) [] tree.headers
   start ← each_verdict (handler_body_verdict (known_from headers states) headers.scope) [] tree.default
-  all ← each_verdict (state_body_verdict (known_from headers states) headers.scope) (record { name = default_name; handlers = start } ∷ []) tree.states
+  all ← each_verdict (state_body_verdict (known_from headers states) headers.scope)
+      (record { name = default_name; handlers = start } ∷ []) tree.states
   Ok (record { globals = headers.globals; functions = functions; states = all })
 
 abbrev pub script_verdict : Tree → Verdict Program

@@ -24,7 +24,9 @@ IsEvent name id = event_name_of id ≡ name
 
 -- no script declares it
 abbrev pub IsReserved : List ℕ → Type 0
-IsReserved name = ((id : ConstantId) × IsConstant name id) ⊎ (((id : EventId) × IsEvent name id) ⊎ ((id : BuiltinId) × IsBuiltin name id))
+IsReserved name =
+    ((id : ConstantId) × IsConstant name id)
+    ⊎ (((id : EventId) × IsEvent name id) ⊎ ((id : BuiltinId) × IsBuiltin name id))
 
 unfoldable pub params_of : BuiltinId → List Kind
 params_of id = (row_of id).params
@@ -44,13 +46,30 @@ first_named name_of name [] = None
 first_named name_of name (x ∷ xs) = if bytes_eq (name_of x) name then Some x else first_named name_of name xs
 
 abbrev pub builtins : List BuiltinId
-builtins = call.Abs ∷ call.StringLength ∷ call.GetListLength ∷ call.GetSubString ∷ call.List2List ∷ call.DeleteSubString ∷ call.DeleteSubList ∷ call.InsertString ∷ call.ListInsertList ∷ call.ListReplaceList ∷ call.SubStringIndex ∷ call.ListFindList ∷ call.StringTrim ∷ call.List2Integer ∷ call.List2String ∷ call.List2Key ∷ call.GetListEntryType ∷ call.DumpList2String ∷ call.List2Csv ∷ call.Csv2List ∷ call.ParseString2List ∷ call.ParseStringKeepNulls ∷ call.GetUsedMemory ∷ call.GetFreeMemory ∷ call.Say ∷ call.Whisper ∷ call.Shout ∷ call.RegionSay ∷ call.OwnerSay ∷ call.Listen ∷ call.ListenRemove ∷ call.ListenControl ∷ call.SetTimerEvent ∷ call.Sleep ∷ call.ResetScript ∷ call.MessageLinked ∷ call.GetOwner ∷ call.GetKey ∷ call.GetLinkKey ∷ call.GetLinkName ∷ call.GetLinkNumber ∷ call.GetNumberOfPrims ∷ call.GetObjectName ∷ call.SetObjectName ∷ call.GetScriptName ∷ call.GetUnixTime ∷ call.DetectedKey ∷ call.DetectedName ∷ call.DetectedLinkNumber ∷ []
+builtins =
+    call.Abs ∷ call.StringLength ∷ call.GetListLength ∷ call.GetSubString ∷ call.List2List
+    ∷ call.DeleteSubString ∷ call.DeleteSubList ∷ call.InsertString ∷ call.ListInsertList ∷ call.ListReplaceList
+    ∷ call.SubStringIndex ∷ call.ListFindList ∷ call.StringTrim ∷ call.List2Integer ∷ call.List2String
+    ∷ call.List2Key ∷ call.GetListEntryType ∷ call.DumpList2String ∷ call.List2Csv ∷ call.Csv2List
+    ∷ call.ParseString2List ∷ call.ParseStringKeepNulls ∷ call.GetUsedMemory ∷ call.GetFreeMemory ∷ call.Say
+    ∷ call.Whisper ∷ call.Shout ∷ call.RegionSay ∷ call.OwnerSay ∷ call.Listen ∷ call.ListenRemove
+    ∷ call.ListenControl ∷ call.SetTimerEvent ∷ call.Sleep ∷ call.ResetScript ∷ call.MessageLinked
+    ∷ call.GetOwner ∷ call.GetKey ∷ call.GetLinkKey ∷ call.GetLinkName ∷ call.GetLinkNumber
+    ∷ call.GetNumberOfPrims ∷ call.GetObjectName ∷ call.SetObjectName ∷ call.GetScriptName ∷ call.GetUnixTime
+    ∷ call.DetectedKey ∷ call.DetectedName ∷ call.DetectedLinkNumber ∷ []
 
 abbrev pub constants : List ConstantId
-constants = constant.True ∷ constant.False ∷ constant.NullKey ∷ constant.Eof ∷ constant.PublicChannel ∷ constant.DebugChannel ∷ constant.LinkRoot ∷ constant.LinkSet ∷ constant.LinkAllOthers ∷ constant.LinkAllChildren ∷ constant.LinkThis ∷ constant.TypeInvalid ∷ constant.TypeInteger ∷ constant.TypeString ∷ constant.TypeKey ∷ constant.StringTrimHead ∷ constant.StringTrimTail ∷ constant.StringTrim ∷ constant.ChangedLink ∷ constant.ChangedOwner ∷ constant.ChangedRegion ∷ []
+constants =
+    constant.True ∷ constant.False ∷ constant.NullKey ∷ constant.Eof ∷ constant.PublicChannel
+    ∷ constant.DebugChannel ∷ constant.LinkRoot ∷ constant.LinkSet ∷ constant.LinkAllOthers
+    ∷ constant.LinkAllChildren ∷ constant.LinkThis ∷ constant.TypeInvalid ∷ constant.TypeInteger
+    ∷ constant.TypeString ∷ constant.TypeKey ∷ constant.StringTrimHead ∷ constant.StringTrimTail
+    ∷ constant.StringTrim ∷ constant.ChangedLink ∷ constant.ChangedOwner ∷ constant.ChangedRegion ∷ []
 
 abbrev pub events : List EventId
-events = event.StateEntry ∷ event.StateExit ∷ event.TouchStart ∷ event.Touch ∷ event.TouchEnd ∷ event.Listen ∷ event.Timer ∷ event.LinkMessage ∷ event.Changed ∷ event.OnRez ∷ event.Dataserver ∷ event.LinksetData ∷ []
+events =
+    event.StateEntry ∷ event.StateExit ∷ event.TouchStart ∷ event.Touch ∷ event.TouchEnd ∷ event.Listen
+    ∷ event.Timer ∷ event.LinkMessage ∷ event.Changed ∷ event.OnRez ∷ event.Dataserver ∷ event.LinksetData ∷ []
 
 unfoldable pub builtin_of : List ℕ → Option BuiltinId
 builtin_of name = first_named name_of name builtins

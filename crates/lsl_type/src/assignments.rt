@@ -29,7 +29,8 @@ pub(crate) fn stored(
     node: Node,
     expr: &Expr,
 ) -> Result<Node, Refused>
-    ensures { Rules node_of result (stored_verdict target name.now op sign (node_of node) (first_span (expr_of expr.now))) }
+    ensures { Rules node_of result
+        (stored_verdict target name.now op sign (node_of node) (first_span (expr_of expr.now))) }
 {
     let variable = assignable(target, name)?;
     match operator_before(op) {

@@ -30,13 +30,16 @@ pub(crate) struct Bodies<'a> {
 }
 
 impl Bodies<'_> {
+    /// The functions of a script, in text order.
     pub(crate) fn functions(
         &self,
         frame: &mut Frame,
         list: &[Header],
     ) -> Result<Vec<NamedRoutine>, Refused>
         requires { IsResting (frame_of frame.old) }
-        ensures found { Rules (λ v. map function_of v.items) result (each_verdict (function_body_verdict (known_of self.now.known.now) (scope_of frame.old.scope)) [] (map header_of list.now)) }
+        ensures found { Rules (λ v. map function_of v.items) result
+            (each_verdict (function_body_verdict (known_of self.now.known.now) (scope_of frame.old.scope))
+            [] (map header_of list.now)) }
         ensures unchanged { OnOk result (frame_of frame.new ≡ frame_of frame.old) }
     {
         let mut functions = Vec::new(self.alloc);
@@ -54,7 +57,9 @@ impl Bodies<'_> {
         header: &Header,
     ) -> Result<(), Refused>
         requires { IsResting (frame_of frame.old) }
-        ensures found { Rules (λ _. map function_of functions.new.items) result (function_body_verdict (known_of self.now.known.now) (scope_of frame.old.scope) (map function_of functions.old.items) (header_of header.now)) }
+        ensures found { Rules (λ _. map function_of functions.new.items) result
+            (function_body_verdict (known_of self.now.known.now)
+            (scope_of frame.old.scope) (map function_of functions.old.items) (header_of header.now)) }
         ensures unchanged { OnOk result (frame_of frame.new ≡ frame_of frame.old) }
     {
         match header {
@@ -68,7 +73,9 @@ impl Bodies<'_> {
 
     fn function(&self, frame: &mut Frame, function: &Function) -> Result<NamedRoutine, Refused>
         requires { IsResting (frame_of frame.old) }
-        ensures found { Rules function_of result (function_routine_verdict (known_of self.now.known.now) (scope_of frame.old.scope) function.now.kind function.now.name function.now.params.items (items_of function.now.body.items)) }
+        ensures found { Rules function_of result
+            (function_routine_verdict (known_of self.now.known.now) (scope_of frame.old.scope)
+            function.now.kind function.now.name function.now.params.items (items_of function.now.body.items)) }
         ensures unchanged { OnOk result (frame_of frame.new ≡ frame_of frame.old) }
     {
         let checker = self.checker(Home::Function {
@@ -86,13 +93,16 @@ impl Bodies<'_> {
         })
     }
 
+    /// The handlers of a state.
     pub(crate) fn handlers(
         &self,
         frame: &mut Frame,
         list: &[Handler],
     ) -> Result<Vec<EventRoutine>, Refused>
         requires { IsResting (frame_of frame.old) }
-        ensures found { Rules (λ v. map program.handler_of v.items) result (each_verdict (handler_body_verdict (known_of self.now.known.now) (scope_of frame.old.scope)) [] (map handler_of list.now)) }
+        ensures found { Rules (λ v. map program.handler_of v.items) result
+            (each_verdict (handler_body_verdict (known_of self.now.known.now) (scope_of frame.old.scope))
+            [] (map handler_of list.now)) }
         ensures unchanged { OnOk result (frame_of frame.new ≡ frame_of frame.old) }
     {
         let mut routines = Vec::with_capacity(self.alloc, list.len())?;
@@ -104,7 +114,9 @@ impl Bodies<'_> {
 
     fn handler(&self, frame: &mut Frame, handler: &Handler) -> Result<EventRoutine, Refused>
         requires { IsResting (frame_of frame.old) }
-        ensures found { Rules program.handler_of result (handler_routine_verdict (known_of self.now.known.now) (scope_of frame.old.scope) (handler_of handler.now)) }
+        ensures found { Rules program.handler_of result
+            (handler_routine_verdict (known_of self.now.known.now)
+            (scope_of frame.old.scope) (handler_of handler.now)) }
         ensures unchanged { OnOk result (frame_of frame.new ≡ frame_of frame.old) }
     {
         let Some(event) = event(handler.name.text.as_str()) else {
@@ -120,6 +132,7 @@ impl Bodies<'_> {
         Ok(EventRoutine { event, routine })
     }
 
+    /// The states: `default`, whose handlers these are, and the others.
     pub(crate) fn states(
         &self,
         frame: &mut Frame,
@@ -127,7 +140,9 @@ impl Bodies<'_> {
         list: &[State],
     ) -> Result<Vec<ProgramState>, Refused>
         requires { IsResting (frame_of frame.old) }
-        ensures { Rules (λ v. map program.state_of v.items) result (each_verdict (state_body_verdict (known_of self.now.known.now) (scope_of frame.old.scope)) (record { name = default_name; handlers = map program.handler_of start.items } ∷ []) (map state_of list.now)) }
+        ensures { Rules (λ v. map program.state_of v.items) result
+            (each_verdict (state_body_verdict (known_of self.now.known.now) (scope_of frame.old.scope))
+            (record { name = default_name; handlers = map program.handler_of start.items } ∷ []) (map state_of list.now)) }
     {
         let mut states = Vec::with_capacity(self.alloc, list.len())?;
         states.push(ProgramState {
@@ -142,7 +157,8 @@ impl Bodies<'_> {
 
     fn state(&self, frame: &mut Frame, state: &State) -> Result<ProgramState, Refused>
         requires { IsResting (frame_of frame.old) }
-        ensures found { Rules program.state_of result (program_state_verdict (known_of self.now.known.now) (scope_of frame.old.scope) (state_of state.now)) }
+        ensures found { Rules program.state_of result
+            (program_state_verdict (known_of self.now.known.now) (scope_of frame.old.scope) (state_of state.now)) }
         ensures unchanged { OnOk result (frame_of frame.new ≡ frame_of frame.old) }
     {
         let handlers = self.handlers(frame, state.handlers.as_slice())?;

@@ -60,7 +60,8 @@ impl Known {
     }
 
     fn function(&self, name: &Name) -> Option<Calling<'_>>
-        ensures { option_map calling_of result ≡ option_and_then (function_of (known_of self.now)) (nearest (spelled name.now) self.now.functions) }
+        ensures { option_map calling_of result
+            ≡ option_and_then (function_of (known_of self.now)) (nearest (spelled name.now) self.now.functions) }
     {
         let number = self.functions.find(name.text.as_str())?;
         let signature = self.signatures.get(number)?;
@@ -106,7 +107,8 @@ impl Calling<'_> {
         nodes: Vec<Node>,
     ) -> Result<Node, Refused>
         requires { length exprs.now ≡ length nodes.items }
-        ensures { Rules node_of result (call_value_verdict (calling_of self.now) name.now (exprs_of exprs.now) (nodes_of nodes.items)) }
+        ensures { Rules node_of result
+            (call_value_verdict (calling_of self.now) name.now (exprs_of exprs.now) (nodes_of nodes.items)) }
     {
         self.count(name, nodes.as_slice())?;
         let Some(kind) = self.result else {
@@ -130,7 +132,8 @@ impl Calling<'_> {
         nodes: Vec<Node>,
     ) -> Result<Effect, Refused>
         requires { length exprs.now ≡ length nodes.items }
-        ensures { Rules effect_of result (call_effect_verdict (calling_of self.now) name.now (exprs_of exprs.now) (nodes_of nodes.items)) }
+        ensures { Rules effect_of result
+            (call_effect_verdict (calling_of self.now) name.now (exprs_of exprs.now) (nodes_of nodes.items)) }
     {
         self.count(name, nodes.as_slice())?;
         let arguments = arguments(alloc, self.params.kinds(), exprs, nodes)?;
@@ -162,7 +165,8 @@ fn arguments(
     nodes: Vec<Node>,
 ) -> Result<Vec<Node>, Refused>
     requires { length exprs.now ≡ length nodes.items }
-    ensures { Rules (λ v. nodes_of v.items) result (arguments_verdict params.now (exprs_of exprs.now) (nodes_of nodes.items)) }
+    ensures { Rules (λ v. nodes_of v.items) result
+        (arguments_verdict params.now (exprs_of exprs.now) (nodes_of nodes.items)) }
 {
     let mut done = Vec::with_capacity(alloc, exprs.len())?;
     let mut rest = nodes.into_iter();

@@ -20,6 +20,7 @@ use lsl_value::Kind;
 use std::alloc::Global;
 
 impl Checker<'_> {
+    /// A declaration: the variable is not visible in its own value.
     pub(crate) fn declaration(
         &self,
         frame: &mut Frame,
@@ -27,7 +28,8 @@ impl Checker<'_> {
         name: &Name,
         value: &Option<Expr>,
     ) -> Result<Action, Refused>
-        ensures { Rules (λ a. (action_of a, frame_of frame.new)) result (declared_verdict (known_of self.now.known.now) (frame_of frame.old) kind name.now (value_of value.now)) }
+        ensures { Rules (λ a. (action_of a, frame_of frame.new)) result
+            (declared_verdict (known_of self.now.known.now) (frame_of frame.old) kind name.now (value_of value.now)) }
     {
         let value = self.initialised(frame, kind, name, value)?;
         let slot = frame.slots.len();
@@ -42,7 +44,9 @@ impl Checker<'_> {
         name: &Name,
         initial: &Option<Expr>,
     ) -> Result<Node, Refused>
-        ensures { Rules node_of result (initialised_verdict (known_of self.now.known.now) (frame_of frame.now) kind name.now (value_of initial.now)) }
+        ensures { Rules node_of result
+            (initialised_verdict (known_of self.now.known.now)
+            (frame_of frame.now) kind name.now (value_of initial.now)) }
     {
         match initial {
             None => {
@@ -61,7 +65,8 @@ impl Checker<'_> {
 impl Frame {
     /// The block's next label.
     pub(crate) fn pass_label(&mut self, alloc: Global, name: &Name) -> Result<Action, Refused>
-        ensures { Rules (λ a. (action_of a, frame_of self.new)) result (labelled_verdict (frame_of self.old) name.now) }
+        ensures { Rules (λ a. (action_of a, frame_of self.new)) result
+            (labelled_verdict (frame_of self.old) name.now) }
     {
         self.unpassed(name)?;
         let label = self.label(name)?;
@@ -81,7 +86,8 @@ impl Frame {
 
     /// A local variable may have this name here.
     fn fresh(&self, name: &Name) -> Result<(), Refused>
-        ensures { Rules (λ u. u) result (must_verdict (is_fresh (frame_of self.now) name.now) (at TypeKind.DoubleName name.now.span)) }
+        ensures { Rules (λ u. u) result
+            (must_verdict (is_fresh (frame_of self.now) name.now) (at TypeKind.DoubleName name.now.span)) }
     {
         let text = name.text.as_str();
         if is_reserved(text) || since(self.scope.names.find(text), self.first_variable) {
@@ -93,7 +99,9 @@ impl Frame {
 
     /// The block has no label of this name yet.
     fn unpassed(&self, name: &Name) -> Result<(), Refused>
-        ensures { Rules (λ u. u) result (must_verdict (not (is_since self.now.passed self.now.first_label (spelled name.now))) (at TypeKind.DoubleName name.now.span)) }
+        ensures { Rules (λ u. u) result
+            (must_verdict (not (is_since self.now.passed self.now.first_label (spelled name.now)))
+            (at TypeKind.DoubleName name.now.span)) }
     {
         if since(self.passed.find(name.text.as_str()), self.first_label) {
             Err(fault(TypeKind::DoubleName, name.span))

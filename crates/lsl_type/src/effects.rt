@@ -16,7 +16,8 @@ use lsl_tree::{Effect, Expr};
 impl Checker<'_> {
     /// An expression that stands as a statement.
     pub(crate) fn effect(&self, scope: &Scope, expr: &Expr) -> Result<Effect, Refused>
-        ensures { Rules effect_of result (effect_verdict (known_of self.now.known.now) (scope_of scope.now) (expr_of expr.now)) }
+        ensures { Rules effect_of result
+            (effect_verdict (known_of self.now.known.now) (scope_of scope.now) (expr_of expr.now)) }
     {
         match expr {
             Expr::Parens { inner, .. } => self.effect(scope, inner),
@@ -33,7 +34,8 @@ impl Checker<'_> {
 
     /// Expressions that stand as statements, from left to right.
     pub(crate) fn effects(&self, scope: &Scope, exprs: &[Expr]) -> Result<Vec<Effect>, Refused>
-        ensures { Rules (λ v. map effect_of v.items) result (effects_verdict (known_of self.now.known.now) (scope_of scope.now) (exprs_of exprs.now)) }
+        ensures { Rules (λ v. map effect_of v.items) result
+            (effects_verdict (known_of self.now.known.now) (scope_of scope.now) (exprs_of exprs.now)) }
     {
         let mut effects = Vec::with_capacity(self.alloc, exprs.len())?;
         for expr in exprs {

@@ -43,7 +43,8 @@ pub(crate) fn repeated(
     steps: Vec<Effect>,
     body: Action,
 ) -> Result<Action, NoMemory>
-    ensures { IfOk result (λ a. action_of a ≡ action.Loop span.line (node_of test) (map effect_of steps.items) (action_of body)) }
+    ensures { IfOk result
+        (λ a. action_of a ≡ action.Loop span.line (node_of test) (map effect_of steps.items) (action_of body)) }
 {
     Ok(Action::Loop {
         line: span.line,
@@ -84,7 +85,8 @@ pub(crate) fn after_effects(
 }
 
 fn push_effects(actions: &mut Vec<Action>, effects: Vec<Effect>) -> Result<(), NoMemory>
-    ensures { OnOk result (actions_of actions.new.items ≡ effects_after (actions_of actions.old.items) (map effect_of effects.items)) }
+    ensures { OnOk result
+        (actions_of actions.new.items ≡ effects_after (actions_of actions.old.items) (map effect_of effects.items)) }
 {
     for effect in effects {
         actions.push(Action::Effect { effect })?;

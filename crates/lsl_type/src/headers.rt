@@ -40,7 +40,8 @@ pub(crate) fn headers(alloc: Global, list: &[Header]) -> Result<Headers, Refused
 
 impl Headers {
     fn add(&mut self, alloc: Global, header: &Header) -> Result<(), Refused>
-        ensures { Rules (λ _. headers_of self.new) result (header_verdict (headers_of self.old) (header_of header.now)) }
+        ensures { Rules (λ _. headers_of self.new) result
+            (header_verdict (headers_of self.old) (header_of header.now)) }
     {
         match header {
             Header::Global { global } => self.add_global(alloc, global),
@@ -49,7 +50,9 @@ impl Headers {
     }
 
     fn add_global(&mut self, alloc: Global, global: &GlobalHeader) -> Result<(), Refused>
-        ensures { Rules (λ _. headers_of self.new) result (header_verdict (headers_of self.old) (source.Global global.now.kind global.now.name (initial_value_of global.now.value))) }
+        ensures { Rules (λ _. headers_of self.new) result
+            (header_verdict (headers_of self.old)
+            (source.Global global.now.kind global.now.name (initial_value_of global.now.value))) }
     {
         let value = match &global.value {
             None => {
@@ -71,7 +74,9 @@ impl Headers {
     }
 
     fn add_function(&mut self, alloc: Global, function: &Function) -> Result<(), Refused>
-        ensures { Rules (λ _. headers_of self.new) result (header_verdict (headers_of self.old) (source.Function function.now.kind function.now.name function.now.params.items (items_of function.now.body.items))) }
+        ensures { Rules (λ _. headers_of self.new) result
+            (header_verdict (headers_of self.old) (source.Function function.now.kind function.now.name
+            function.now.params.items (items_of function.now.body.items))) }
     {
         self.unused(&function.name)?;
         params(alloc, function.params.as_slice())?;
@@ -86,7 +91,8 @@ impl Headers {
 
     /// A global or function may have this name.
     fn unused(&self, name: &Name) -> Result<(), Refused>
-        ensures { Rules (λ u. u) result (must_verdict (is_unused (headers_of self.now) name.now) (at TypeKind.DoubleName name.now.span)) }
+        ensures { Rules (λ u. u) result
+            (must_verdict (is_unused (headers_of self.now) name.now) (at TypeKind.DoubleName name.now.span)) }
     {
         let text = name.text.as_str();
         let taken = self.scope.names.find(text).is_some() || self.functions.find(text).is_some();

@@ -102,7 +102,9 @@ fn flat_parts(atoms: &[Atom], parts: &[Part]) -> Result<(), Refused>
 }
 
 fn flat_part(part: &Part, atom: &Atom) -> Result<(), Refused>
-    ensures { Rules (λ u. u) result (must_verdict (is_no_list (part_kind_of part.now)) (at (TypeKind.WrongKind None (Some Kind.List)) (atom_span atom.now))) }
+    ensures { Rules (λ u. u) result
+        (must_verdict (is_no_list (part_kind_of part.now))
+        (at (TypeKind.WrongKind None (Some Kind.List)) (atom_span atom.now))) }
 {
     match part_kind(part) {
         Kind::List => {
@@ -132,7 +134,8 @@ pub(crate) fn initial_as_kind(
     initial: Initial,
     value: &Simple,
 ) -> Result<Initial, Refused>
-    ensures { Rules initial_of result (initial_become_verdict kind (initial_of initial) (initial_span (simple_of value.now))) }
+    ensures { Rules initial_of result
+        (initial_become_verdict kind (initial_of initial) (initial_span (simple_of value.now))) }
 {
     let found = initial_kind(&initial);
     if found == kind {

@@ -22,6 +22,7 @@ use lsl_tree::{Action, Expr, Name, Node, StateName};
 use lsl_value::Kind;
 
 impl Frame {
+    /// A jump to a label of the blocks around.
     pub(crate) fn jump(&self, span: Span, label: &Name) -> Result<Action, Refused>
         ensures { Rules action_of result (jump_verdict (frame_of self.now) span label.now) }
     {
@@ -60,6 +61,7 @@ impl Home {
 }
 
 impl Checker<'_> {
+    /// A state is left in handlers alone.
     pub(crate) fn change(&self, span: Span, state: &StateName) -> Result<Action, Refused>
         ensures { Rules action_of result (change_verdict (known_of self.now.known.now) self.now.home span state.now) }
     {
@@ -71,13 +73,16 @@ impl Checker<'_> {
         }
     }
 
+    /// `return`, with a value or with none.
     pub(crate) fn returned(
         &self,
         scope: &Scope,
         span: Span,
         expr: &Option<Expr>,
     ) -> Result<Action, Refused>
-        ensures { Rules action_of result (returned_verdict (known_of self.now.known.now) self.now.home (scope_of scope.now) span (value_of expr.now)) }
+        ensures { Rules action_of result
+            (returned_verdict (known_of self.now.known.now) self.now.home
+            (scope_of scope.now) span (value_of expr.now)) }
     {
         match expr {
             None => self.return_nothing(span),
@@ -104,7 +109,8 @@ impl Checker<'_> {
     }
 
     fn return_value(&self, span: Span, node: Node, expr: &Expr) -> Result<Action, Refused>
-        ensures { Rules action_of result (returned_value_verdict self.now.home span (node_of node) (first_span (expr_of expr.now))) }
+        ensures { Rules action_of result
+            (returned_value_verdict self.now.home span (node_of node) (first_span (expr_of expr.now))) }
     {
         match self.home.kind() {
             None => {

@@ -6,9 +6,10 @@ ghost use Rattle.lsl_text.specs.declared.Refusal.TheVariants.{NoMemory};
 ghost use Rattle.lsl_tree.specs.Scripts.{tree_of};
 ghost use Rattle.lsl_tree.specs.Program as program;
 ghost use Rattle.lsl_tree.specs.Program.{program_of};
-ghost use Rattle.lsl_type.specs.Shape.{IsShaped};
+ghost use Rattle.lsl_tree.specs.Shape.{IsShaped};
+ghost use Rattle.lsl_tree.specs.Kinded.{IsKinded};
 ghost use Rattle.lsl_type.specs.declared.faults.TypeFault.{TypeFault};
-ghost use Rattle.lsl_type.specs.Typed.{Typed, TypeFirst, IsTypeRefusal, IsThat, param_count_of};
+ghost use Rattle.lsl_type.specs.Typed.{Typed, TypeFirst, IsTypeRefusal, IsThat};
 
 use lsl_tree::{Program, Tree};
 use std::alloc::Global;
@@ -48,10 +49,13 @@ pub use crate::faults::{Refused, TypeFault, TypeKind};
 /// program and for tables of names; each name is looked up in a table.
 pub fn check(alloc: Global, tree: &Tree) -> Result<Program, Refused>
     ensures found { IfOk result (λ p. Typed (tree_of tree.now) (program_of p)) }
-    ensures every { (p : program.Program) → Typed (tree_of tree.now) p → MatchResult result (λ q. program_of q ≡ p) (λ e. e ≡ NoMemory) }
-    ensures shaped { IfOk result (λ p. IsShaped param_count_of (program_of p)) }
+    ensures every { (p : program.Program) → Typed (tree_of tree.now) p → MatchResult result
+        (λ q. program_of q ≡ p) (λ e. e ≡ NoMemory) }
+    ensures shaped { IfOk result (λ p. IsShaped (program_of p)) }
+    ensures kinded { IfOk result (λ p. IsKinded (program_of p)) }
     ensures first { IfErr result (IsTypeRefusal (tree_of tree.now)) }
-    ensures only { (fault : TypeFault) → TypeFirst (tree_of tree.now) fault → MatchResult result (λ _. ⊥) (IsThat fault) }
+    ensures only { (fault : TypeFault) → TypeFirst (tree_of tree.now) fault → MatchResult result
+        (λ _. ⊥) (IsThat fault) }
 {
     program::program(alloc, tree)
 }

@@ -38,7 +38,9 @@ fn flat(exprs: &[Expr], nodes: &[Node]) -> Result<(), Refused>
 
 /// An element of a list is no list.
 fn element(node: &Node, expr: &Expr) -> Result<(), Refused>
-    ensures { Rules (λ u. u) result (must_verdict (is_no_list (node_kind_of (node_of node.now))) (at (TypeKind.WrongKind None (Some Kind.List)) (first_span (expr_of expr.now)))) }
+    ensures { Rules (λ u. u) result
+        (must_verdict (is_no_list (node_kind_of (node_of node.now)))
+        (at (TypeKind.WrongKind None (Some Kind.List)) (first_span (expr_of expr.now)))) }
 {
     match node.kind() {
         Kind::List => {

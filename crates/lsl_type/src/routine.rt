@@ -31,7 +31,9 @@ impl Checker<'_> {
         items: &[Item],
     ) -> Result<Routine, Refused>
         requires { IsResting (frame_of frame.old) }
-        ensures found { Rules routine_of result (body_verdict (known_of self.now.known.now) (scope_of frame.old.scope) self.now.home name.now (home_kind self.now.home) params.now (items_of items.now)) }
+        ensures found { Rules routine_of result
+            (body_verdict (known_of self.now.known.now) (scope_of frame.old.scope)
+            self.now.home name.now (home_kind self.now.home) params.now (items_of items.now)) }
         ensures unchanged { OnOk result (frame_of frame.new ≡ frame_of frame.old) }
     {
         let names = frame.scope.names.len();

@@ -19,7 +19,8 @@ impl Checker<'_> {
     /// A statement.
     #[cycle(statement)]
     pub(crate) fn statement(&self, frame: &mut Frame, stmt: &Stmt) -> Result<Action, Refused>
-        ensures found { Rules (λ a. (action_of a, frame.new.slots.items)) result (statement_verdict (known_of self.now.known.now) self.now.home (frame_of frame.old) (stmt_of stmt.now)) }
+        ensures found { Rules (λ a. (action_of a, frame.new.slots.items)) result
+            (statement_verdict (known_of self.now.known.now) self.now.home (frame_of frame.old) (stmt_of stmt.now)) }
         ensures unchanged { OnOk result (frame_of frame.new ≡ with_slots (frame_of frame.old) frame.new.slots.items) }
     {
         match stmt {
@@ -79,7 +80,9 @@ impl Checker<'_> {
     /// A block, and what is visible behind it.
     #[cycle(statement)]
     fn block(&self, frame: &mut Frame, items: &[Item]) -> Result<Action, Refused>
-        ensures found { Rules (λ a. (action_of a, frame.new.slots.items)) result (statement_verdict (known_of self.now.known.now) self.now.home (frame_of frame.old) (stmt.Block (items_of items.now))) }
+        ensures found { Rules (λ a. (action_of a, frame.new.slots.items)) result
+            (statement_verdict (known_of self.now.known.now) self.now.home
+            (frame_of frame.old) (stmt.Block (items_of items.now))) }
         ensures unchanged { OnOk result (frame_of frame.new ≡ with_slots (frame_of frame.old) frame.new.slots.items) }
     {
         let outer = frame.open(self.alloc, items)?;
@@ -91,7 +94,8 @@ impl Checker<'_> {
     /// What stands in a block, in order.
     #[cycle(statement)]
     pub(crate) fn actions(&self, frame: &mut Frame, items: &[Item]) -> Result<Vec<Action>, Refused>
-        ensures { Rules (λ v. (actions_of v.items, frame_of frame.new)) result (items_verdict (known_of self.now.known.now) self.now.home (frame_of frame.old) (items_of items.now)) }
+        ensures { Rules (λ v. (actions_of v.items, frame_of frame.new)) result
+            (items_verdict (known_of self.now.known.now) self.now.home (frame_of frame.old) (items_of items.now)) }
     {
         let mut actions = Vec::with_capacity(self.alloc, items.len())?;
         for entry in items {
@@ -102,7 +106,8 @@ impl Checker<'_> {
 
     #[cycle(statement)]
     fn item(&self, frame: &mut Frame, item: &Item) -> Result<Action, Refused>
-        ensures { Rules (λ a. (action_of a, frame_of frame.new)) result (item_verdict (known_of self.now.known.now) self.now.home (frame_of frame.old) (item_of item.now)) }
+        ensures { Rules (λ a. (action_of a, frame_of frame.new)) result
+            (item_verdict (known_of self.now.known.now) self.now.home (frame_of frame.old) (item_of item.now)) }
     {
         match item {
             Item::Declaration { kind, name, value } => self.declaration(frame, *kind, name, value),

@@ -19,7 +19,8 @@ impl Checker<'_> {
     /// An expression whose value is needed.
     #[cycle(value)]
     pub(crate) fn value(&self, scope: &Scope, expr: &Expr) -> Result<Node, Refused>
-        ensures { Rules node_of result (value_verdict (known_of self.now.known.now) (scope_of scope.now) (expr_of expr.now)) }
+        ensures { Rules node_of result
+            (value_verdict (known_of self.now.known.now) (scope_of scope.now) (expr_of expr.now)) }
     {
         match expr {
             Expr::Int { value, .. } => Ok(Node::Int { value: *value }),
@@ -77,7 +78,8 @@ impl Checker<'_> {
     /// Expressions whose values are needed, from left to right.
     #[cycle(value)]
     pub(crate) fn values(&self, scope: &Scope, exprs: &[Expr]) -> Result<Vec<Node>, Refused>
-        ensures found { Rules (λ v. nodes_of v.items) result (values_verdict (known_of self.now.known.now) (scope_of scope.now) (exprs_of exprs.now)) }
+        ensures found { Rules (λ v. nodes_of v.items) result
+            (values_verdict (known_of self.now.known.now) (scope_of scope.now) (exprs_of exprs.now)) }
         ensures counted { IfOk result (λ v. length exprs.now ≡ length v.items) }
     {
         let mut nodes = Vec::with_capacity(self.alloc, exprs.len())?;

@@ -16,6 +16,7 @@ use lsl_value::{BinaryOp, Kind};
 use std::alloc::Global;
 
 impl Scope {
+    /// The value of a variable or a constant.
     pub(crate) fn read(&self, name: &Name) -> Result<Node, Refused>
         ensures { Rules node_of result (read_verdict (scope_of self.now) name.now) }
     {
@@ -28,6 +29,7 @@ impl Scope {
         }
     }
 
+    /// `x++` and `x--`.
     pub(crate) fn step_behind(&self, name: &Name, op: StepOp) -> Result<Node, Refused>
         ensures { Rules node_of result (step_behind_verdict (scope_of self.now) name.now op) }
     {
