@@ -27,8 +27,7 @@ use Rattle.lsl_type.proofs.InitialKinds.{globals_have}
 use Rattle.lsl_type.proofs.GlobalKinds.{GlobalsIn, headers_yield}
 use Rattle.lsl_type.proofs.RoutineKinds.{RoutineIn, GlobalsHave}
 use Rattle.lsl_type.proofs.HandlerKinds.{AreStateHandlers, handlers_agree, state_agrees, HandlerIn, StateIn}
-use Rattle.lsl_type.proofs.HandlerKinds.{handlers_made}
-use Rattle.lsl_type.proofs.HandlerKinds.{state_made}
+use Rattle.lsl_type.proofs.HandlerKinds.{handlers_made, state_made}
 use Rattle.lsl_type.proofs.FunctionKinds.{signatures_in, header_declares, functions_yield}
 
 state_named : (names : List (List ℕ)) (s : State) → Yields (λ n. length n ≡ length names + 1) (state_verdict names s)
@@ -144,7 +143,6 @@ script_sound tree =
     let have : GlobalsHave known kinds s =
     λ slots home. globals_have (setting known kinds slots home) s.variables declared.0.1 in
     then_yields (functions_yield known kinds s have tree.headers) (λ functions f.
-    let handlers = each_verdict (handler_body_verdict known s) [] tree.default in
     then_yields
     (handlers_made known kinds s have tree.default fit) (λ start h.
     let first : ProgramState = record { name = default_name; handlers = start } in

@@ -85,7 +85,7 @@ abbrev pub GlobalsHave : KnownView → List Kind → ScopeView → Type 0
 GlobalsHave known globals s =
     (slots : List Kind) (home : Home) → HaveKinds (setting known globals slots home) s.variables
 
-module _ (known : KnownView) (globals : List Kind) (s : ScopeView) (have : GlobalsHave known globals s) (home : Home) where
+module _ (known : KnownView) (globals : List Kind) (s : ScopeView) (seen : GlobalsHave known globals s) (home : Home) where
   -- the routine of a body that stands for this
   abbrev made : ℕ → List Param → Actions × FrameView → Routine
   made line params inner = record {
@@ -104,7 +104,7 @@ module _ (known : KnownView) (globals : List Kind) (s : ScopeView) (have : Globa
       let c = setting known globals slots home in
       let p = (items_yield c (opened (entered s params) es) es).ok inner e in
       let kinds : ActionsIn c inner.0 =
-      (p.1 (locals_have c (resting s) params (have slots home) p.0) (prefix_itself slots)).0 in
+      (p.1 (locals_have c (resting s) params (seen slots home) p.0) (prefix_itself slots)).0 in
       let shape = body_shaped c (entered s params) es inner (locals_labels (resting s) params) e kinds in
       let first : IsPrefix (kinds_of params) slots =
       subst (λ l. IsPrefix l slots) (locals_slots (resting s) params) p.0 in
