@@ -14,7 +14,6 @@ use Rattle.lsl_table.specs.declared.calls.Home.{Home}
 use Rattle.lsl_table.specs.declared.calls.Home.TheVariants as home
 use Rattle.lsl_table.specs.Calls.{row_of}
 use Rattle.lsl_ops.specs.Operations.{sum_of}
-use Rattle.lsl_pure.specs.Arguments.{parameters_of}
 use Rattle.lsl_pure.specs.Pure.{pure_of}
 use Rattle.lsl_meaning.specs.KindLaws.{PureArgumentsAreTheRows, PureResultIsTheRows, OperatorsKeepKinds, CastsGiveTheirKind}
 
@@ -26,20 +25,8 @@ if_pure home.Pure a = Some a
 if_pure home.Own a = None
 if_pure home.Host a = None
 
-parameters_of-row : (id : BuiltinId) → parameters_of id ≡ if_pure (row_of id).home (row_of id).params
-parameters_of-row Abs = refl
-parameters_of-row _ = refl
-
-taken : {A : Type 0} (h : Home) (a b : A) → if_pure h a ≡ Some b → (h ≡ home.Pure) × (b ≡ a)
-taken home.Pure a b same = (refl, sym (some-same a b same))
-taken home.Own a b same = absurd (none-some b same)
-taken home.Host a b same = absurd (none-some b same)
-
 pub pure_arguments : PureArgumentsAreTheRows
-pure_arguments id arguments = (
-  λ are. taken (row_of id).home (row_of id).params (map kind_of arguments) (sym (parameters_of-row id) ∙ are),
-  λ are. parameters_of-row id ∙ ap (λ h. if_pure h (row_of id).params) are.0 ∙ ap Some (sym are.1),
-)
+pure_arguments id arguments = (λ are. (are.pure, are.kinds), λ are. record { pure = are.0; kinds = are.1 })
 
 pure_of-result : (id : BuiltinId) (arguments : List Value)
     → if_pure (row_of id).home (row_of id).result ≡ if_pure (row_of id).home (Some (kind_of (pure_of id arguments)))
