@@ -1,4 +1,5 @@
 pub mod Agreement
+pub mod Ascii
 pub mod Asks
 pub mod Bodies
 pub mod Calls
@@ -17,3 +18,5 @@ pub mod Routes
 pub mod Routines
 pub mod Simulations
 pub mod Values
+pub mod Emitted
+pub mod Views

@@ -3,6 +3,8 @@ use Rattle.std.specs.Prelude.{ℕ, pos, List, [], ◌∷◌, ◌++◌}
 use Rattle.lsl_value.specs.declared.names.BuiltinId.{BuiltinId}
 use Rattle.lsl_value.specs.declared.tagged.Value.{Value}
 use Rattle.lsl_value.specs.declared.tagged.Value.TheVariants as value
+use Rattle.lsl_table.specs.declared.calls.Home.{Home}
+use Rattle.lsl_table.specs.declared.calls.Home.TheVariants as home
 use Rattle.lsl_table.specs.Constants.{constant_value_of}
 use Rattle.lsl_tree.specs.declared.expression.StepOp.{StepOp}
 use Rattle.lsl_tree.specs.declared.program_node.Callee.{Callee}
@@ -34,6 +36,12 @@ load (Global n) = instr.LoadGlobal n
 abbrev pub store : Place → Instr
 store (Slot n) = instr.Store n
 store (Global n) = instr.StoreGlobal n
+
+-- the instruction of a built-in call, but for those with a form of their own
+abbrev pub builtin_of : Home → BuiltinId → Instr
+builtin_of home.Pure id = instr.Pure id
+builtin_of home.Own id = instr.Used
+builtin_of home.Host id = instr.Host id
 
 -- a built-in call of this form, at this line, whose arguments are pushed
 abbrev pub builtin_code : CallForm → BuiltinId → ℕ → List Instr
