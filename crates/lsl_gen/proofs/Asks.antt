@@ -42,7 +42,8 @@ use Rattle.lsl_gen.specs.Counts.{nodes_in_value, nodes_in_values, nodes_in_effec
 use Rattle.lsl_gen.specs.Expressions.{literal, load, store, builtin_code, call_code, value_code, values_code, effect_code, effects_code}
 use Rattle.lsl_gen.specs.Laws.{AsksSoOften}
 use Rattle.lsl_gen.specs.Programs.{ending, draft_of}
-use Rattle.lsl_gen.specs.Statements.{size, sizes, LabelPlace, place_of, places_in, action_code, actions_code}
+use Rattle.lsl_gen.specs.declared.label_places.LabelPlace.{LabelPlace}
+use Rattle.lsl_gen.specs.Statements.{size, sizes, place_of, places_in, action_code, actions_code}
 use Rattle.lsl_gen.proofs.Agreement.{runs_as_meant}
 use Rattle.lsl_gen.proofs.Bodies.{routine_body, bodies_of}
 use Rattle.lsl_gen.proofs.Routes.{generated_forward}

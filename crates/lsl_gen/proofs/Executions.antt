@@ -23,9 +23,10 @@ use Rattle.lsl_code.specs.Machine.{MachineCall, Machine, step}
 use Rattle.lsl_code.specs.Pieces.{HasAt}
 use Rattle.lsl_code.specs.Runs.{on, passed, run}
 use Rattle.lsl_gen.specs.Expressions.{call_code, value_code, values_code, effect_code, effects_code}
-use Rattle.lsl_gen.specs.Statements.{size, sizes, LabelPlace, place_of, place_if_label, places_in, action_code, actions_code}
+use Rattle.lsl_gen.specs.declared.label_places.LabelPlace.{LabelPlace}
+use Rattle.lsl_gen.specs.Statements.{size, sizes, place_of, place_if_label, places_in, action_code, actions_code}
 use Rattle.lsl_gen.proofs.Bodies.{bodies_of, All-at}
-use Rattle.lsl_gen.proofs.Labels.{entry, CanEnter, entry_in, CanEnterIn, place_within, place_last, last_label, has_outer, has_contained}
+use Rattle.lsl_gen.proofs.LabelScopes.{entry, CanEnter, entry_in, CanEnterIn, place_within, place_last, last_label, has_outer, has_contained}
 use Rattle.lsl_gen.proofs.Leaves.{pushed, Results, Flows, site_of, at, led, one, tick_sim, flow_at, leave_value, leave}
 use Rattle.lsl_gen.proofs.Lengths.{code_length, codes_length}
 use Rattle.lsl_gen.proofs.Pieces.{has_front, has_back, has_behind, last_at, last_end}

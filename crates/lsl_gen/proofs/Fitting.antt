@@ -22,7 +22,7 @@ use Rattle.lsl_code.specs.Kinds.{signature_in, names_in}
 use Rattle.lsl_code.specs.Units.{fits_function, is_plain_function, handles, handler_fits, event_number, same_event, has_event, events_differ, state_fits, fits_states, fits_unit}
 use Rattle.lsl_code.proofs.Tested.{both, sames, all_if}
 use Rattle.lsl_gen.specs.Laws.{HasShortCode, UnitsAreWellFormed}
-use Rattle.lsl_gen.specs.Programs.{draft_of, signature_of, names_of, generated_functions, numbered_handlers, numbered_states, generated_states}
+use Rattle.lsl_gen.specs.Programs.{IsShort, signature_of, names_of, generated_functions, numbered_handlers, numbered_states, generated_states}
 use Rattle.lsl_gen.proofs.Bodies.{routine_body, bodies_of, bodies_generated, All-at, shaped_at}
 use Rattle.lsl_gen.proofs.Routes.{routine_fits, each_body, kinded_at, all_plain}
 
@@ -133,7 +133,7 @@ module _ (p : Program) where
     functions_fit =
         ap (λ names. all_places (fits_function names) 0 (bodies_of p)) (names_same kinded)
         ∙ all_if (fits_function (names_of p)) (bodies_of p) (each_body p (λ k w. fits_function (names_of p) k w ≡ true)
-          (λ k r e. routine_fits p r (kinded_at p kinded shaped k r e) (shaped_at p shaped k r e) k (All-at (λ r. length (draft_of r) < 4294967296) (routines_of p) k r short.routines e)))
+          (λ k r e. routine_fits p r (kinded_at p kinded shaped k r e) (shaped_at p shaped k r e) k (All-at IsShort (routines_of p) k r short.routines e)))
 
     from_functions : From (bodies_of p) (length p.functions) (routines_in (handlers_of p.states))
     from_functions k =

@@ -35,8 +35,9 @@ use Rattle.lsl_code.proofs.Tested.{within_list}
 use Rattle.lsl_code.proofs.Ways.{Open, kinds_at, Clear, Ways}
 use Rattle.lsl_gen.specs.Expressions.{literal, load, store, builtin_code, call_code, value_code, values_code, effect_code, effects_code}
 use Rattle.lsl_gen.specs.Programs.{scope_of}
-use Rattle.lsl_gen.specs.Statements.{size, sizes, LabelPlace, place_of, place_if_label, places_in, action_code, actions_code}
-use Rattle.lsl_gen.proofs.Labels.{placed_in, has_label-append, has_contained}
+use Rattle.lsl_gen.specs.declared.label_places.LabelPlace.{LabelPlace}
+use Rattle.lsl_gen.specs.Statements.{size, sizes, place_of, place_if_label, places_in, action_code, actions_code}
+use Rattle.lsl_gen.proofs.LabelScopes.{placed_in, has_label-append, has_contained}
 use Rattle.lsl_gen.proofs.Lengths.{code_length, codes_length}
 use Rattle.lsl_gen.proofs.Operands.{value_runs, effect_runs, effects_run, action_runs, actions_run}
 use Rattle.lsl_gen.proofs.Routines.{outline}

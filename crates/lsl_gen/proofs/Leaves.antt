@@ -20,7 +20,8 @@ use Rattle.lsl_code.specs.Bodies.{Body, instruction_at}
 use Rattle.lsl_code.specs.Machine.{MachineCall, Machine, End, Faulted, Lost, Pause, Passing, Waiting, Next, On, Halts, base, used_in, call_at, put, checked, left_to, after, step}
 use Rattle.lsl_code.specs.Runs.{Halt, Over, on, passed, run}
 use Rattle.lsl_code.specs.Wholes.{lines_in, seen, line_in, line_at, waiting_call, told}
-use Rattle.lsl_gen.specs.Statements.{LabelPlace, place_of}
+use Rattle.lsl_gen.specs.declared.label_places.LabelPlace.{LabelPlace}
+use Rattle.lsl_gen.specs.Statements.{place_of}
 use Rattle.lsl_gen.proofs.Drafts.{act_seen}
 use Rattle.lsl_gen.proofs.Simulations.{Sim, then_sim, map_sim, from_sim, Within}
 

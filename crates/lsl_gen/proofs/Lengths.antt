@@ -5,7 +5,8 @@ use Rattle.lsl_tree.specs.Actions.{Action, Actions, NoAction, AndAction}
 use Rattle.lsl_code.specs.declared.instructions.Instr.{Instr}
 use Rattle.lsl_code.specs.declared.instructions.Instr.TheVariants.{Set, Jump, JumpIfNot, Tick, ReturnValue}
 use Rattle.lsl_gen.specs.Expressions.{value_code, effect_code, effects_code}
-use Rattle.lsl_gen.specs.Statements.{size, sizes, LabelPlace, places_in, action_code, actions_code}
+use Rattle.lsl_gen.specs.declared.label_places.LabelPlace.{LabelPlace}
+use Rattle.lsl_gen.specs.Statements.{size, sizes, places_in, action_code, actions_code}
 
 both_length : (a b : List Instr) (m n : ℕ) → length a ≡ m → length b ≡ n → length (a ++ b) ≡ m + n
 both_length a b m n e d = omega (arith, length-append a b)

@@ -9,8 +9,10 @@ pub mod Fitting
 pub mod Forms
 pub mod Operands
 pub mod JumpTargets
+pub mod FunctionSteps
 pub mod Generated
-pub mod Labels
+pub mod GlobalSteps
+pub mod LabelScopes
 pub mod Leaves
 pub mod Lengths
 pub mod Pieces
@@ -20,3 +22,5 @@ pub mod Simulations
 pub mod Values
 pub mod Emitted
 pub mod Views
+pub mod EmittedActions
+pub mod LabelTables

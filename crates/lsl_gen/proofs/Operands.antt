@@ -41,7 +41,8 @@ use Rattle.lsl_code.specs.Kinds.{same_kind, is_element, Scope, builtin_signature
 use Rattle.lsl_code.proofs.Tested.{same_self}
 use Rattle.lsl_gen.specs.Expressions.{literal, load, store, builtin_code, call_code, value_code, values_code, effect_code, effects_code}
 use Rattle.lsl_gen.specs.Programs.{signature_of, scope_of}
-use Rattle.lsl_gen.specs.Statements.{size, sizes, LabelPlace, places_in, action_code, actions_code}
+use Rattle.lsl_gen.specs.declared.label_places.LabelPlace.{LabelPlace}
+use Rattle.lsl_gen.specs.Statements.{size, sizes, places_in, action_code, actions_code}
 use Rattle.lsl_gen.proofs.Bodies.{routine_at}
 use Rattle.lsl_gen.proofs.Calls.{empty_and}
 use Rattle.lsl_gen.proofs.Forms.{gives_integer, fits_form, form_fits, integer_given}

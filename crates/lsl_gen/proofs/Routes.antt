@@ -26,7 +26,8 @@ use Rattle.lsl_code.proofs.UnitTold.{forward_told}
 use Rattle.lsl_code.proofs.Ways.{Quiet, Open, kinds_at, Ways}
 use Rattle.lsl_gen.specs.Expressions.{value_code}
 use Rattle.lsl_gen.specs.Programs.{ending, draft_of, names_of, scope_of}
-use Rattle.lsl_gen.specs.Statements.{size, sizes, LabelPlace, places_in, action_code, actions_code}
+use Rattle.lsl_gen.specs.declared.label_places.LabelPlace.{LabelPlace}
+use Rattle.lsl_gen.specs.Statements.{size, sizes, places_in, action_code, actions_code}
 use Rattle.lsl_gen.proofs.Bodies.{routine_body, bodies_of, All-at, shaped_at}
 use Rattle.lsl_gen.proofs.JumpTargets.{returning, action_first, actions_first, AllClear, labels_clear, Around, around_more, action_ways, actions_ways}
 use Rattle.lsl_gen.proofs.Lengths.{code_length, codes_length}

@@ -26,11 +26,12 @@ use Rattle.lsl_code.specs.Runs.{Over, on, passed, run}
 use Rattle.lsl_code.specs.Wholes.{seen, line_in, line_at}
 use Rattle.lsl_gen.specs.Expressions.{call_code}
 use Rattle.lsl_gen.specs.Programs.{ending, draft_of, scope_of}
-use Rattle.lsl_gen.specs.Statements.{size, sizes, LabelPlace, action_code}
+use Rattle.lsl_gen.specs.declared.label_places.LabelPlace.{LabelPlace}
+use Rattle.lsl_gen.specs.Statements.{size, sizes, action_code}
 use Rattle.lsl_gen.proofs.Bodies.{routine_body, bodies_of, body_at, routine_at, shaped_at, slots_same}
 use Rattle.lsl_gen.proofs.Calls.{popped, builtin_sim, has_sim}
 use Rattle.lsl_gen.proofs.Forms.{form_fits}
-use Rattle.lsl_gen.proofs.Labels.{entry, CanEnter}
+use Rattle.lsl_gen.proofs.LabelScopes.{entry, CanEnter}
 use Rattle.lsl_gen.proofs.Leaves.{pushed, Results, Flows, site_of, here, at, led, any, one, tick_sim, resume, flow_at, leave, received_sim}
 use Rattle.lsl_gen.proofs.Lengths.{code_length}
 use Rattle.lsl_gen.proofs.Pieces.{has_front, draft_seen, draft_stands}

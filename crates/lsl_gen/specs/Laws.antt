@@ -17,7 +17,7 @@ use Rattle.lsl_code.specs.Bodies.{plain_body}
 use Rattle.lsl_code.specs.Units.{fits_unit}
 use Rattle.lsl_code.specs.Wholes.{whole_of_unit}
 use Rattle.lsl_gen.specs.Counts.{nodes_of}
-use Rattle.lsl_gen.specs.Programs.{draft_of, generated_functions, generated_states}
+use Rattle.lsl_gen.specs.Programs.{IsShort, generated_functions, generated_states}
 
 -- each routine run from its start comes to what it means: for all globals and limits, arguments, ticks and answers
 abbrev pub Agrees : List FunctionCode → Program → Type 0
@@ -30,7 +30,7 @@ CodeRunsAsMeant = (p : Program) → IsKinded p → IsShaped p → Agrees (genera
 
 -- places and states have numbers that instructions can hold
 pub record HasShortCode (p : Program) : Type 0 where
-  pub routines : All (λ r. length (draft_of r) < 4294967296) (routines_of p)
+  pub routines : All IsShort (routines_of p)
   pub states : length p.states ≤ 65535
 
 abbrev pub UnitsAreWellFormed : Type 0

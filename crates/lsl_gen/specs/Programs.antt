@@ -1,5 +1,5 @@
 -- The code of a program: the functions in text order, and behind them the handlers, state by state.
-use Rattle.std.specs.Prelude.{ℕ, suc, ◌+◌, List, [], ◌∷◌, ◌++◌, length, map, Option, Some, None}
+use Rattle.std.specs.Prelude.{ℕ, suc, ◌+◌, List, [], ◌∷◌, ◌++◌, length, map, Option, Some, None, is_some, IsTrue, ◌<◌}
 use Rattle.lsl_value.specs.declared.tagged.Kind.{Kind}
 use Rattle.lsl_table.specs.Events.{event_name_of}
 use Rattle.lsl_tree.specs.Actions.{Block}
@@ -15,6 +15,7 @@ use Rattle.lsl_code.specs.declared.instructions.Instr.TheVariants.{Tick, Return}
 use Rattle.lsl_code.specs.declared.signatures.Names.{Names}
 use Rattle.lsl_code.specs.declared.signatures.Signature.{Signature}
 use Rattle.lsl_code.specs.Drafts.{finished}
+use Rattle.lsl_code.specs.Effects.{runs}
 use Rattle.lsl_code.specs.Kinds.{Scope, scope}
 use Rattle.lsl_gen.specs.Statements.{action_code}
 
@@ -38,9 +39,20 @@ names_of p = record { globals = global_kinds p; functions = map signature_of (ro
 abbrev pub scope_of : Program → Routine → Scope
 scope_of p r = scope (names_of p) r.slots r.kind
 
--- the code of a routine of this name
+-- the function of this name with a routine's code, among these names
+abbrev pub made_by : Names → List ℕ → Routine → FunctionCode
+made_by names name r = finished name (scope names r.slots r.kind) r.params (draft_of r)
+
+-- the code finds what it needs
+abbrev pub IsReady : Names → Routine → Type 0
+IsReady names r = IsTrue (is_some (runs (scope names r.slots r.kind) (draft_of r) []))
+
+-- places in it are numbers of 32 bits
+abbrev pub IsShort : Routine → Type 0
+IsShort r = length (draft_of r) < 4294967296
+
 abbrev pub routine_code : Program → List ℕ → Routine → FunctionCode
-routine_code p name r = finished name (scope_of p r) r.params (draft_of r)
+routine_code p = made_by (names_of p)
 
 abbrev pub function_code : Program → NamedRoutine → FunctionCode
 function_code p f = routine_code p f.name f.routine

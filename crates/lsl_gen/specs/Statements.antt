@@ -4,6 +4,7 @@ use Rattle.lsl_tree.specs.Actions as action
 use Rattle.lsl_tree.specs.Actions.{Action, Actions, NoAction, AndAction}
 use Rattle.lsl_code.specs.declared.instructions.Instr.{Instr}
 use Rattle.lsl_code.specs.declared.instructions.Instr.TheVariants.{Set, Jump, JumpIfNot, Tick, Return, ReturnValue, GoState}
+use Rattle.lsl_gen.specs.declared.label_places.LabelPlace.{LabelPlace}
 use Rattle.lsl_gen.specs.Expressions.{value_code, effect_code, effects_code}
 
 abbrev mutual
@@ -25,11 +26,6 @@ abbrev mutual
   pub sizes : Actions → ℕ
   sizes NoAction = 0
   sizes (AndAction actions a) = sizes actions + size a
-
--- a label with the place at which it stands
-pub record LabelPlace : Type 0 where
-  pub label : ℕ
-  pub place : ℕ
 
 -- the place of the first label of this number, and 0 where there is none
 abbrev pub place_of : ℕ → List LabelPlace → ℕ

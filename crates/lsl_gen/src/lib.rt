@@ -2,9 +2,12 @@
 #![tactic(auto)]
 
 mod expressions;
-
+mod functions;
+mod globals;
+mod label_places;
+mod labels;
 pub mod laws;
 mod numbers;
+mod sizes;
+mod statements;
 mod texts;
-
-

@@ -19,7 +19,7 @@ kind_of-get_or [] n k there = absurd (none-some k there)
 kind_of-get_or (v ∷ vs) zero k there = some-same (kind_of v) k there
 kind_of-get_or (v ∷ vs) (suc n) k there = kind_of-get_or vs n k there
 
-kind_of-part_value_of : (before : List Value) (p : Part)
+pub kind_of-part_value_of : (before : List Value) (p : Part)
     → IsKindedPart (map kind_of before) p → kind_of (part_value_of before p) ≡ part_kind_of p
 kind_of-part_value_of before (Int n) kinded = refl
 kind_of-part_value_of before (Negative n) kinded = refl
@@ -27,7 +27,7 @@ kind_of-part_value_of before (Str text) kinded = refl
 kind_of-part_value_of before (Constant id k) kinded = kinded
 kind_of-part_value_of before (Global n k) kinded = kind_of-get_or before n k kinded
 
-kind_of-initial_value_of : (before : List Value) (g : Initial)
+pub kind_of-initial_value_of : (before : List Value) (g : Initial)
     → IsKindedInitial (map kind_of before) g → kind_of (initial_value_of before g) ≡ initial_kind_of g
 kind_of-initial_value_of before (Single p) kinded = kind_of-part_value_of before p kinded
 kind_of-initial_value_of before (Cast k p) kinded = casts (part_value_of before p) k

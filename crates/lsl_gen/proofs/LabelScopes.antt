@@ -8,7 +8,8 @@ use Rattle.lsl_tree.specs.Actions as action
 use Rattle.lsl_tree.specs.Actions.{Action, Actions, NoAction, AndAction}
 use Rattle.lsl_tree.specs.Shape.{label_of, labels_in}
 use Rattle.lsl_meaning.specs.Statements.{has_label}
-use Rattle.lsl_gen.specs.Statements.{size, sizes, LabelPlace, place_of, place_if_label, places_in}
+use Rattle.lsl_gen.specs.declared.label_places.LabelPlace.{LabelPlace}
+use Rattle.lsl_gen.specs.Statements.{size, sizes, place_of, place_if_label, places_in}
 
 -- where a statement begins: at its start, or behind a label that stands directly in it
 abbrev entry_at : Action → ℕ → ℕ → ℕ

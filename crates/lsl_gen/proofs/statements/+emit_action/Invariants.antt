@@ -1,0 +1,8 @@
+use Rattle.std.proofs.Common.{◌≡◌, ◌++◌, take, length}
+use Rattle.lsl_tree.specs.Actions.{actions_of}
+use Rattle.lsl_gen.specs.Statements.{actions_code}
+use Rattle.lsl_gen.proofs.statements.+emit_action.Given as goal
+
+abbrev pub invariant-emit_actions-loop-action : goal.invariant-emit_actions-loop-action
+invariant-emit_actions-loop-action l =
+    (l.draft ≡ l.fn.draft ++ actions_code (actions_of (take l.action-index l.actions)) l.fn.labels (length l.fn.draft)) × (l.labels ≡ l.fn.labels)
