@@ -24,6 +24,7 @@ use Rattle.lsl_code.proofs.Tested.{both, sames, all_if}
 use Rattle.lsl_gen.specs.Laws.{HasShortCode, UnitsAreWellFormed}
 use Rattle.lsl_gen.specs.Programs.{IsShort, signature_of, names_of, generated_functions, numbered_handlers, numbered_states, generated_states}
 use Rattle.lsl_gen.proofs.Bodies.{routine_body, bodies_of, bodies_generated, All-at, shaped_at}
+use Rattle.lsl_gen.proofs.FunctionSteps.{map_length}
 use Rattle.lsl_gen.proofs.Routes.{routine_fits, each_body, kinded_at, all_plain}
 
 -- the events by their numbers
@@ -63,10 +64,6 @@ shift_get [] ys k = let z : 0 + k ≡ k = omega arith in ap (slice_get ys) z
 shift_get (x ∷ xs) ys k =
     let z : length (x ∷ xs) + k ≡ suc (length xs + k) = omega arith in
     ap (slice_get (x ∷ (xs ++ ys))) z ∙ shift_get xs ys k
-
-map_length : {X Y : Type 0} (f : X → Y) (xs : List X) → length (map f xs) ≡ length xs
-map_length f [] = refl
-map_length f (x ∷ xs) = ap suc (map_length f xs)
 
 abbrev routines_in : List EventRoutine → List Routine
 routines_in hs = map (λ h. h.routine) hs

@@ -41,7 +41,7 @@ handlers_step new old w functions functions' made number h xs i x lt is inv coun
     ∙ append_assoc old (first ∷ []) (numbered_handlers (suc (length functions)) hs)
     ∙ sym (ap (λ l. old ++ numbered_handlers (length functions) (map handler_of l)) (rest_of xs i x lt is)) ∙ inv
 
-map_length : {A B : Type 0} (f : A → B) (xs : List A) → length (map f xs) ≡ length xs
+pub map_length : {A B : Type 0} (f : A → B) (xs : List A) → length (map f xs) ≡ length xs
 map_length f [] = refl
 map_length f (x ∷ xs) = ap suc (map_length f xs)
 

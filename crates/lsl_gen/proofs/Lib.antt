@@ -16,6 +16,7 @@ pub mod LabelScopes
 pub mod Leaves
 pub mod Lengths
 pub mod Pieces
+pub mod ProgramSteps
 pub mod Routes
 pub mod Routines
 pub mod Simulations

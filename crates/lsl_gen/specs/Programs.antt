@@ -31,9 +31,12 @@ draft_of r = Tick r.line ∷ (action_code (Block r.body) [] 1 ++ ending r.kind)
 abbrev pub signature_of : Routine → Signature
 signature_of r = record { params = (tree.signature_of_routine r).params; result = (tree.signature_of_routine r).result }
 
--- what the code of a program can name
+-- what the code of a program can name, where its globals have these kinds
+abbrev pub names_with : List Kind → Program → Names
+names_with kinds p = record { globals = kinds; functions = map signature_of (routines_of p); states = length p.states }
+
 abbrev pub names_of : Program → Names
-names_of p = record { globals = global_kinds p; functions = map signature_of (routines_of p); states = length p.states }
+names_of p = names_with (global_kinds p) p
 
 -- what the code of a routine can name
 abbrev pub scope_of : Program → Routine → Scope

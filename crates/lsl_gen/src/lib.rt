@@ -8,6 +8,9 @@ mod label_places;
 mod labels;
 pub mod laws;
 mod numbers;
+mod programs;
 mod sizes;
 mod statements;
 mod texts;
+
+pub use crate::programs::generate;
