@@ -123,8 +123,22 @@ fn limits(rt: HostRuntime) -> Result<(), Fail> {
 }
 
 #[test]
+fn long_searches(rt: HostRuntime) -> Result<(), Fail> {
+    let alloc = rt.alloc();
+    let whole = vec![in alloc; b'a'; 65_520]?;
+    let mut sought = vec![in alloc; b'a'; 32_760]?;
+    sought.push(b'b')?;
+    let whole = Value::Str(Text::from_utf8(alloc, whole.as_slice())?.ok_or("no text")?);
+    let sought = Value::Str(Text::from_utf8(alloc, sought.as_slice())?.ok_or("no text")?);
+    let args = Values::from_vec(vec![in alloc; whole, sought]?);
+    assert!(rt; answer(alloc, SubStringIndex, args) == Ok(Value::Int(-1)));
+    Ok(())
+}
+
+#[test]
 fn a_call_with_its_arguments(rt: HostRuntime) -> Result<(), Fail> {
     let alloc = rt.alloc();
+    laws::value_of_its_row(StringLength);
     let args = Values::from_vec(vec![in alloc; Value::Str(text(alloc, "héh")?)]?);
     assert!(rt; call(alloc, StringLength, args) == Ok(Value::Int(3)));
     Ok(())

@@ -23,16 +23,16 @@ fn texts_grow_alone_and_shared(rt: HostRuntime) -> Result<(), Fail> {
     Ok(())
 }
 
-/// The list's elements, as texts behind one another.
-fn shows(rt: &(impl Abort + AllocGlobal), list: &Items, want: &[Atom]) {
+/// The list has these elements, and is charged this.
+fn shows(rt: &impl Abort, list: &Items, want: &[Atom], charged: u64) {
     assert!(rt; list.as_slice() == want);
-    let charged: u64 = want.iter().map(|atom| 8 + atom.charge().min(1_000)).take(9).sum();
-    assert_eq!(rt; list.charge(), 16 + charged);
+    assert_eq!(rt; list.charge(), charged);
 }
 
 #[test]
 fn lists_grow_alone_and_shared(rt: HostRuntime) -> Result<(), Fail> {
     let alloc = rt.alloc();
+    let whole = [Atom::Int(1), Atom::Int(2), Atom::Int(3), Atom::Int(4)];
     let mut grown = Items::new(alloc);
     grown.push(Atom::Int(2))?;
     assert_eq!(rt; grown.len(), 1);
@@ -44,13 +44,13 @@ fn lists_grow_alone_and_shared(rt: HostRuntime) -> Result<(), Fail> {
     let third = grown.copy()?;
     grown.push_front(Atom::Int(1))?;
     assert_eq!(rt; grown.len() + third.len(), 7);
-    shows(&rt, &second, &[Atom::Int(2), Atom::Int(3)]);
-    shows(&rt, &third, &[Atom::Int(2), Atom::Int(3), Atom::Int(4)]);
-    shows(&rt, &grown, &[Atom::Int(1), Atom::Int(2), Atom::Int(3), Atom::Int(4)]);
+    shows(&rt, &second, &[Atom::Int(2), Atom::Int(3)], 48);
+    shows(&rt, &third, &[Atom::Int(2), Atom::Int(3), Atom::Int(4)], 64);
+    shows(&rt, &grown, &whole, 80);
     let fourth = grown.copy()?;
     grown.append(third)?;
     assert_eq!(rt; grown.len(), 7);
-    shows(&rt, &fourth, &[Atom::Int(1), Atom::Int(2), Atom::Int(3), Atom::Int(4)]);
+    shows(&rt, &fourth, &whole, 80);
     Ok(())
 }
 

@@ -1,13 +1,17 @@
 //! That the tables are the language's, and that each name leads to its row.
 
-mod rows;
+mod calls;
+mod constants;
+mod events;
 
+use calls::CALLS;
+use constants::CONSTANTS;
+use events::EVENTS;
 use lsl_table::{
     BuiltinId, BuiltinRow, ConstantId, EventId, Home, builtins, constant, constant_kind,
     constant_name, constant_value, event, event_name, find, laws, signature,
 };
 use lsl_value::Kind;
-use rows::{CALLS, CONSTANTS, EVENTS};
 use std::alloc::Global;
 use std::process::Abort;
 use std::test::Fail;
@@ -97,7 +101,7 @@ fn calls_by_name(rt: HostRuntime) -> Result<(), Fail> {
     laws::names_are_found();
     for (name, id, word) in CALLS {
         assert!(rt; id.row().name == name);
-        assert!(rt; row_word(rt.alloc(), id)?.as_str() == word, "{name}");
+        assert!(rt; row_word(rt.alloc(), id)?.as_str() == word);
         assert!(rt; is_pure(id) == word.starts_with("P"));
         assert!(rt; find(name) == Some(id));
         assert!(rt; find(changed(rt.alloc(), name)?.as_str()).is_none());
