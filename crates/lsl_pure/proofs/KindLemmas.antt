@@ -1,5 +1,5 @@
 -- A call has a value exactly for arguments of its row's kinds, and the value has the row's kind.
-use Rattle.std.proofs.Common.{◌≡◌, ◌∙◌, ℕ, suc, ◌+◌, ◌<◌, ◌≤◌, pos, Bool, true, false, ◌&&◌, cond, List, [], ◌∷◌, map, drop, length, get_or, Option, Some, None, sym, ap, refl, subst, arith}
+use Rattle.std.proofs.Common.{◌≡◌, ◌∙◌, ℕ, suc, ◌<◌, ◌≤◌, pos, Bool, true, false, ◌&&◌, cond, List, [], ◌∷◌, map, drop, length, Option, Some, None, sym, ap, refl, arith}
 use Rattle.std.specs.Option.{option_map}
 use Rattle.std.specs.Prelude.{MatchOption, is_none, unwrap_or}
 use Rattle.std.proofs.Math.Seq.{drop-cons}

@@ -1,10 +1,8 @@
 -- A text has one cut into pieces between its parting commas.
-use Rattle.std.proofs.Common.{◌≡◌, ◌∙◌, ℕ, suc, zero, ◌+◌, ◌<◌, Bool, true, false, not, cond, ◌&&◌, ◌||◌, ◌==◌, nat_lt, List, [], ◌∷◌, ◌++◌, length, take, sym, ap, refl, subst, inl, inr, arith}
-use Rattle.std.specs.Prelude.{count_by, slice_index}
+use Rattle.std.proofs.Common.{◌≡◌, ◌∙◌, ℕ, suc, zero, Bool, true, false, not, ◌||◌, ◌==◌, List, [], ◌∷◌, ◌++◌, take, sym, ap, refl, subst, inl, inr, arith}
 use Rattle.std.proofs.lemmas.Bool.{and_from, and_parts, cases_Bool, cond-true, cond-false, eqb-true, eq-eqb, false≢true, ltb-true, lt-ltb, not-true, or_cases}
-use Rattle.std.proofs.lemmas.Bool.Decides.{nat_tests}
 use Rattle.std.proofs.lemmas.List.{append-nil, append_assoc}
-use Rattle.lsl_pure.specs.Csv.{csv_pieces, into_first, is_closing, is_open_behind, is_opening, opens_more}
+use Rattle.lsl_pure.specs.Csv.{csv_pieces, into_first, is_open_behind, opens_more}
 use Rattle.lsl_pure.specs.CsvLaws.{IsCsvCut, IsOpenBehind, IsPartedBehind, IsWhole}
 use Rattle.lsl_pure.specs.CsvSteps.{depth_behind, is_outer_comma, pieces_from}
 use Rattle.lsl_pure.proofs.BracketLemmas.{comma-keeps, csv_pieces-from, depth_from, depth_from-last, opens_more-open, outer-parts}

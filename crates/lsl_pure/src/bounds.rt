@@ -4,8 +4,8 @@ ghost use Rattle.std.specs.Prelude.{◌≡◌, ◌<◌, ◌≤◌, ◌∷◌, �
 ghost use Rattle.lsl_value.specs.Atoms.{list_charge_of};
 ghost use Rattle.lsl_value.specs.Limits.{most_charge};
 ghost use Rattle.lsl_value.specs.Values.{charge_of};
-
 ghost use Rattle.lsl_pure.specs.Bounds.{TooBigOnlyWhere};
+
 use crate::PureFault;
 use lsl_value::{Atom, ELEMENT_CHARGE, Items, MOST_CHARGE, Value, charge};
 

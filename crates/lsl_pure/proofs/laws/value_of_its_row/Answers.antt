@@ -1,4 +1,3 @@
-use Rattle.std.proofs.Common.{◌∙◌, ap}
 use Rattle.lsl_pure.proofs.KindLemmas.{value_of-row, pure_of-kind}
 use Rattle.lsl_pure.proofs.laws.value_of_its_row.Goals as goal
 
