@@ -154,7 +154,7 @@ pub fn emit_value(alloc: Global, draft: &mut Draft, node: &Node) -> Result<(), N
             Ok(())
         }
         Node::Str { text } => {
-            let text = copy_text(alloc, text)?;
+            let text = copy_text(text)?;
             draft.push(Instr::Str(text))?;
             Ok(())
         }

@@ -69,7 +69,7 @@ pub fn push_functions(
     ensures small { OnOk result (All (λ r. IsShort (routine_of r.routine)) routines.now) }
 {
     for r in routines {
-        let name = copy_text(alloc, &r.name)?;
+        let name = copy_text(&r.name)?;
         let made = function(alloc, names, name, &r.routine)?;
         functions.push(made)?;
     }
@@ -116,7 +116,7 @@ pub fn push_states(
 {
     let mut found = Sequence::new(alloc);
     for state in states {
-        let name = copy_text(alloc, &state.name)?;
+        let name = copy_text(&state.name)?;
         let handlers = push_handlers(alloc, names, functions, &state.handlers)?;
         found.push(StateCode { name, handlers })?;
     }

@@ -63,7 +63,7 @@ fn part_value(alloc: Global, before: &[Value], part: &Part) -> Result<Value, NoM
         Part::Int { value } => Ok(Value::Int(*value)),
         Part::Negative { value } => Ok(Value::Int(unary(UnaryOp::Negate, *value))),
         Part::Str { text } => {
-            let text = copy_text(alloc, text)?;
+            let text = copy_text(text)?;
             Ok(Value::Str(text))
         }
         Part::Constant { id, .. } => {
@@ -72,7 +72,7 @@ fn part_value(alloc: Global, before: &[Value], part: &Part) -> Result<Value, NoM
         }
         Part::Global { number, .. } => match before.get(*number) {
             Some(value) => {
-                let value = copy(alloc, value)?;
+                let value = copy(value)?;
                 Ok(value)
             }
             None => Ok(Value::Int(0)),

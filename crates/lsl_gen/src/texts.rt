@@ -14,12 +14,12 @@ pub fn ascii_text(alloc: Global, text: &str) -> Result<Text, NoMemory>
     ensures { IfOk result (λ t. t ≡ text.now) }
 {
     let bytes = Vec::from_slice(alloc, text.as_bytes())?;
-    Ok(Text::from_ascii(bytes))
+    Ok(Text::from_ascii(bytes)?)
 }
 
 /// An equal text.
-pub fn copy_text(alloc: Global, text: &Text) -> Result<Text, NoMemory>
+pub fn copy_text(text: &Text) -> Result<Text, NoMemory>
     ensures { IfOk result (λ t. t ≡ text.now) }
 {
-    text.copy(alloc)
+    text.copy()
 }
