@@ -1,9 +1,11 @@
 -- A text that is being cut: what is done, and what is left.
-use Rattle.std.proofs.Common.{◌≡◌, ℕ, zero, suc, ◌+◌, ◌<◌, List, [], ◌∷◌, ◌++◌, length, take, drop, Option, Ok, Err, refl, sym, ap, ◌∙◌, subst, arith, append_assoc, append-nil, length-drop, ◌⊎◌, inl, inr, ◌≤◌}
+use Rattle.std.proofs.Common.{◌≡◌, ℕ, zero, suc, ◌+◌, ◌<◌, List, [], ◌∷◌, ◌++◌, length, take, drop, Option, Ok, Err, refl, sym, ap, ◌∙◌, subst, arith, append_assoc, append-nil, length-drop, ◌⊎◌, inl, inr, ◌≤◌, None, true}
 use Rattle.std.proofs.lemmas.Bool.{cases_lt}
 use Rattle.std.proofs.lemmas.List.{take-append-drop, drop-drop, length-take-le, take_all}
 use Rattle.std.proofs.Math.Seq.{take-add}
 use Rattle.std.specs.Str.{IsUtf8}
+use Rattle.std.specs.Prelude.{slice_index}
+use Rattle.lsl_text.specs.Number.{is_blank}
 use Rattle.lsl_text.specs.Place.{IsAt, IsBehind, line_behind, span_of}
 use Rattle.lsl_text.specs.declared.Span.{Span}
 use Rattle.lsl_text.specs.declared.cursor.Cursor.{Cursor}
@@ -123,6 +125,11 @@ fault_first text rest ts cursor kind source h c =
 -- what the next piece says
 pub found_right : (rest : List ℕ) (p : Piece) → 0 < length rest → piece rest ≡ Ok (p.gives, p.length) → Right rest (Ok (p.gives, p.length))
 found_right rest p some e = subst (Right rest) e (piece_right rest some)
+
+-- a blank at the front is a piece
+pub blank_right : (rest : List ℕ) → 0 < length rest → is_blank (slice_index rest 0) ≡ true → Right rest (Ok (None, 1))
+unfolding piece
+blank_right rest some b = let e : piece rest ≡ Ok (None, 1) = rw b refl in subst (Right rest) e (piece_right rest some)
 
 pub refused_first : (text rest : List ℕ) (ts : List Token) (cursor : Cursor) (refusal : Refusal LexKind) → IsSource text → 0 < length rest → Cutting text rest ts cursor → Finds (Err refusal) (piece rest) → IsRefused text (refusal_of cursor refusal)
 refused_first text rest ts cursor (Fault kind) source some h e = fault_first text rest ts cursor kind source h (subst (Right rest) e (piece_right rest some))

@@ -7,7 +7,9 @@ ghost use Rattle.lsl_lex.specs.Limits.{source_bytes};
 ghost use Rattle.lsl_lex.specs.Pieces.{token_of};
 ghost use Rattle.lsl_lex.specs.Reading.{fault_of, refusal_of};
 
+use crate::bytes::is_blank;
 use crate::faults::{LexFault, LexKind};
+use crate::names::Names;
 use crate::piece::next;
 use crate::token_types::{Sort, Token, TokenList, Tokens};
 use lsl_text::{Cursor, NoMemory, Refusal, Span};
@@ -20,11 +22,17 @@ pub fn cut(alloc: Global, text: &[u8]) -> Result<Tokens, Refusal<LexFault>>
     ensures first { IfErr result (IsRefused text.now) }
 {
     let mut list = Vec::new(alloc);
+    let mut names = Names::new(alloc)?;
     let mut cursor = Cursor::new();
     let mut rest = text;
-    'pieces: while !rest.is_empty() {
+    'pieces: while let [b, more @ ..] = rest {
+        if is_blank(*b) {
+            cursor.step(text);
+            rest = more;
+            continue;
+        }
         let from = cursor;
-        let piece = match next(alloc, rest) {
+        let piece = match next(alloc, &mut names, rest) {
             Ok(piece) => piece,
             Err(refusal) => return Err(refused_at(&from, refusal)),
         };

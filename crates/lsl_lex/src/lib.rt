@@ -18,12 +18,11 @@ mod bytes;
 mod comments;
 mod cut;
 mod faults;
+mod names;
 mod numbers;
 mod piece;
 mod signs;
 mod strings;
-#[cfg(test)]
-mod tests;
 mod token_types;
 mod words;
 

@@ -13,13 +13,13 @@ ghost use Rattle.lsl_lex.specs.declared.token_types.Sort.TheVariants.{Name};
 use crate::bytes::{is_blank, is_decimal, is_letter, name_length};
 use crate::comments::{block_comment, line_comment};
 use crate::faults::LexKind;
+use crate::names::Names;
 use crate::numbers::number;
 use crate::signs::sign;
 use crate::strings::string;
 use crate::token_types::Sort;
 use crate::words::word;
 use lsl_text::{NoMemory, Refusal};
-use lsl_value::Text;
 use std::alloc::Global;
 
 /// What the front of a text is: a blank or a comment gives nothing, a token its sort.
@@ -31,7 +31,7 @@ pub struct Piece {
 
 /// The piece at the front of a text that isn't empty.
 #[tactic(auto, unfolding(crate::specs::Reading::piece))]
-pub fn next(alloc: Global, text: &[u8]) -> Result<Piece, Refusal<LexKind>>
+pub fn next(alloc: Global, names: &mut Names, text: &[u8]) -> Result<Piece, Refusal<LexKind>>
     requires some { 0 < length text.now }
     requires short { length text.now ≤ source_bytes }
     requires valid { EndsText text.now }
@@ -48,7 +48,7 @@ pub fn next(alloc: Global, text: &[u8]) -> Result<Piece, Refusal<LexKind>>
     } else if opens(text, b'/') {
         line_comment(text)
     } else if is_letter(b) {
-        name(alloc, text)
+        name(alloc, names, text)
     } else if is_decimal(b) {
         number(text)
     } else if b == b'"' {
@@ -71,19 +71,19 @@ fn opens(text: &[u8], second: u8) -> bool
 }
 
 #[tactic(auto, unfolding(crate::specs::Reading::name))]
-fn name(alloc: Global, text: &[u8]) -> Result<Piece, Refusal<LexKind>>
+fn name(alloc: Global, names: &mut Names, text: &[u8]) -> Result<Piece, Refusal<LexKind>>
     requires { length text.now ≤ source_bytes }
     ensures { Finds result (name text.now) }
 {
     let length = name_length(text);
-    let sort = word_or_name(alloc, &text[..length])?;
+    let sort = word_or_name(alloc, names, &text[..length])?;
     Ok(Piece {
         gives: Some(sort),
         length,
     })
 }
 
-fn word_or_name(alloc: Global, bytes: &[u8]) -> Result<Sort, NoMemory>
+fn word_or_name(alloc: Global, names: &mut Names, bytes: &[u8]) -> Result<Sort, NoMemory>
     requires short { length bytes.now ≤ source_bytes }
     requires name { AllPass is_name_byte bytes.now }
     ensures { IfOk result (λ sort. sort ≡ unwrap_or (row_of words bytes.now) (Name bytes.now)) }
@@ -91,7 +91,7 @@ fn word_or_name(alloc: Global, bytes: &[u8]) -> Result<Sort, NoMemory>
     match std::str::from_utf8(bytes) {
         Ok(text) => match word(text) {
             Some(sort) => Ok(sort),
-            None => Ok(Sort::Name(Text::from_string(String::from_str(alloc, text)?)?)),
+            None => Ok(Sort::Name(names.text(alloc, text)?)),
         },
         Err(_) => unreachable!(),
     }

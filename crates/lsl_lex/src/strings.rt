@@ -52,7 +52,7 @@ fn escaped_text(alloc: Global, body: &[u8]) -> Result<Text, NoMemory>
 {
     let bytes = without_escapes(alloc, body)?;
     match String::from_utf8(bytes) {
-        Ok(text) => Ok(Text::from_string(text)?),
+        Ok(text) => Text::from_string(text),
         Err(_) => unreachable!(),
     }
 }

@@ -7,7 +7,7 @@ use Rattle.lsl_grammar.specs.Reading.{◌>>=◌}
 use Rattle.lsl_grammar.proofs.Until.{shrinks}
 use Rattle.lsl_grammar.proofs.Loops.{rounds_step}
 use Rattle.lsl_grammar.specs.Reading.{begins}
-use Rattle.lsl_parse.specs.declared.kind.TokenKind.TheVariants.{Comma}
+use Rattle.lsl_lex.specs.declared.token_types.Sort.TheVariants.{Comma}
 use Rattle.lsl_parse.specs.Kinds.{codes, token_code}
 use Rattle.lsl_parse.specs.Operators.{signs}
 use Rattle.lsl_parse.specs.ExpressionGrammar.{sign, fits, gate, operation, level, expr}

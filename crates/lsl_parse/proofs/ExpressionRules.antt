@@ -1,5 +1,6 @@
 -- Each rule of expressions is read.
 use Rattle.std.proofs.Common.{◌≡◌, ℕ, zero, suc, ◌<◌, Bool, true, false, Option, None, List, [], ◌∷◌, ◌++◌, inl, inr, refl, arith}
+use Rattle.lsl_lex.specs.Kinds.{kind_of}
 use Rattle.lsl_lex.specs.declared.token_types.Token.{Token}
 use Rattle.lsl_tree.specs.Expressions as tree
 use Rattle.lsl_tree.specs.Expressions.{Expr, NoExpr, AndExpr}
@@ -9,19 +10,19 @@ use Rattle.lsl_grammar.specs.Reading.{then_r}
 use Rattle.lsl_grammar.proofs.ReadsLanguage.{Apart}
 use Rattle.lsl_grammar.proofs.Rule.{disjoint, sub_by, apart_by, sub_left, sub_right, append_none, Rule, Solid, ret_rule, sign_rule, solid_sign, solid_then, solid_ret, solid_rounds, solid_or, or_more, solid_shut}
 use Rattle.lsl_grammar.proofs.Pair.{pair_solid}
-use Rattle.lsl_parse.specs.declared.kind.TokenKind.{TokenKind}
-use Rattle.lsl_parse.specs.declared.kind.TokenKind.TheVariants.{Name, Int, Str, PlusPlus, MinusMinus, Minus, Bang, Tilde, ParenOpen, ParenClose, BracketOpen, BracketClose, Comma}
-use Rattle.lsl_parse.specs.Kinds.{code, codes, token_code, types, type_of, name_of, text_of, integer_of}
+use Rattle.lsl_lex.specs.declared.token_types.Sort.{Sort}
+use Rattle.lsl_lex.specs.declared.token_types.Sort.TheVariants.{PlusPlus, MinusMinus, Minus, Bang, Tilde, ParenOpen, ParenClose, BracketOpen, BracketClose, Comma}
+use Rattle.lsl_parse.specs.Kinds.{Name, Int, Str, codes, token_code, types, type_of, name_of, text_of, integer_of}
 use Rattle.lsl_parse.specs.Operators.{prefix_signs, prefix_of, step_signs, step_of, assign_signs, assign_of, levels, signs, operator_of}
 use Rattle.lsl_parse.specs.ExpressionGrammar.{Language, any, sign, series, listing, expressions, construct, prefix, step_before, group, list, string, integer, arguments, named, unary_rule, fits, gate, operation, level, expr_rule, room_of, expr}
 use Rattle.lsl_parse.specs.ExpressionReading.{TokenReader, any_r, comma_r, series_r, listing_r, expressions_r, construct_r, prefix_r, step_before_r, group_r, list_r, string_r, integer_r, arguments_r, named_r, unary_rule_r, gate_r, next_operand_r, level_rule_r, expr_rule_r, room_r, expr_r}
 
 -- an operand begins with an INT
 abbrev pub probe : ℕ
-probe = code Int
+probe = kind_of Int
 
 -- the first tokens of an expression
-abbrev pub heads : List TokenKind
+abbrev pub heads : List Sort
 heads = Minus ∷ Bang ∷ Tilde ∷ PlusPlus ∷ MinusMinus ∷ ParenOpen ∷ BracketOpen ∷ Str ∷ Name ∷ Int ∷ []
 
 -- the tokens that go on an operand, a level and an expression
@@ -42,7 +43,7 @@ module _ {A B : Type 0} (add : A → B → A) (none : A) (L M : Language B) (p q
   series_solid = solid_rounds token_code probe (codes (Comma ∷ [])) c (codes (Comma ∷ []) ++ c) (add none) _ _ _ _ s next_solid
       (apart_by (codes (Comma ∷ [])) c comma) (apart_by (codes (Comma ∷ [])) c comma) (sub_left (codes (Comma ∷ [])) c) (sub_right (codes (Comma ∷ [])) c) (sub_right (codes (Comma ∷ [])) c) s.aside aside
 
-  pub listing_solid : (close : TokenKind) (d : List ℕ) → disjoint (codes (close ∷ [])) (probe ∷ f) ≡ true → disjoint (codes (close ∷ [])) (codes (Comma ∷ []) ++ c) ≡ true → among probe (codes (close ∷ [])) ≡ false → among probe d ≡ false →
+  pub listing_solid : (close : Sort) (d : List ℕ) → disjoint (codes (close ∷ [])) (probe ∷ f) ≡ true → disjoint (codes (close ∷ [])) (codes (Comma ∷ []) ++ c) ≡ true → among probe (codes (close ∷ [])) ≡ false → among probe d ≡ false →
       Solid token_code probe (listing close add none L) (listing close add none M) (listing_r close add none p) (listing_r close add none q) (codes (close ∷ []) ++ f) d
   listing_solid close d e1 e2 e3 e4 = solid_or token_code probe
       (solid_sign token_code probe Unexpected (codes (close ∷ [])) [] d _ _ _ _ e3 e4 (λ end. ret_rule token_code probe none [] _))
@@ -75,7 +76,7 @@ Below limit (suc d) zero = ⊥
 Below limit (suc d) (suc D) = ExprSolid limit d D × UnarySolid limit d D
 
 -- a construct that a sign begins
-module _ {T : Type 0} (ks : List TokenKind) (g c : List ℕ) (K : Language Expr → Language Expr → Token → Language T) (k : TokenReader Expr → TokenReader Expr → Token → TokenReader T)
+module _ {T : Type 0} (ks : List Sort) (g c : List ℕ) (K : Language Expr → Language Expr → Token → Language T) (k : TokenReader Expr → TokenReader Expr → Token → TokenReader T)
     (lone : among probe (codes ks) ≡ false) (aside : among probe c ≡ false)
     (inside : (limit : Option ℕ) (d D : ℕ) → ExprSolid limit d D → UnarySolid limit d D → (t : Token) → Rule token_code probe (K (E limit d) (U limit d) t) (K (E None D) (U None D) t) (k (Er limit d) (Ur limit d) t) (k (Er None D) (Ur None D) t) g (λ _. c)) where
   construct_solid : (limit : Option ℕ) (d D : ℕ) → Below limit d D →
@@ -85,7 +86,7 @@ module _ {T : Type 0} (ks : List TokenKind) (g c : List ℕ) (K : Language Expr 
   construct_solid limit (suc d) zero b = absurd b
   construct_solid limit (suc d) (suc D) b = solid_sign token_code probe Unexpected (codes ks) g c (K (E limit d) (U limit d)) (K (E None D) (U None D)) (k (Er limit d) (Ur limit d)) (k (Er None D) (Ur None D)) lone aside (inside limit d D b.0 b.1)
 
-exprs_solid : (limit : Option ℕ) (d D : ℕ) → ExprSolid limit d D → (close : TokenKind) (c : List ℕ) → disjoint (codes (close ∷ [])) (probe ∷ codes heads) ≡ true → disjoint (codes (close ∷ [])) (codes (Comma ∷ []) ++ expr_tails) ≡ true → among probe (codes (close ∷ [])) ≡ false → among probe c ≡ false →
+exprs_solid : (limit : Option ℕ) (d D : ℕ) → ExprSolid limit d D → (close : Sort) (c : List ℕ) → disjoint (codes (close ∷ [])) (probe ∷ codes heads) ≡ true → disjoint (codes (close ∷ [])) (codes (Comma ∷ []) ++ expr_tails) ≡ true → among probe (codes (close ∷ [])) ≡ false → among probe c ≡ false →
     Solid token_code probe (expressions close (E limit d)) (expressions close (E None D)) (expressions_r close (Er limit d)) (expressions_r close (Er None D)) (codes (close ∷ []) ++ codes heads) c
 exprs_solid limit d D s close c e1 e2 e3 e4 = listing_solid AndExpr NoExpr (E limit d) (E None D) (Er limit d) (Er None D) (codes heads) expr_tails s refl refl close c e1 e2 e3 e4
 
@@ -105,7 +106,7 @@ tails_lone : (n : ℕ) → among probe (tails n) ≡ false
 tails_lone zero = refl
 tails_lone (suc n) = append_none probe (codes (signs n)) (tails n) (signs_lone n) (tails_lone n)
 
-signs_apart : (n : ℕ) → Apart (codes (signs n)) (tails n)
+pub signs_apart : (n : ℕ) → Apart (codes (signs n)) (tails n)
 signs_apart zero = apart_by (codes (signs 0)) (tails 0) refl
 signs_apart (suc zero) = apart_by (codes (signs 1)) (tails 1) refl
 signs_apart (suc (suc zero)) = apart_by (codes (signs 2)) (tails 2) refl
@@ -118,7 +119,7 @@ signs_apart (suc (suc (suc (suc (suc (suc (suc (suc zero)))))))) = apart_by (cod
 signs_apart (suc (suc (suc (suc (suc (suc (suc (suc (suc n))))))))) = λ k h m. cc
 
 -- an operator whose left operand is too high, where it may be as high as it is within wider limits
-gate_solid : (b : Bool) (ks : List TokenKind) (c : List ℕ) (R : Language Expr) (J : Token → Language Expr) (r : TokenReader Expr) (k : Token → TokenReader Expr) → among probe (codes ks) ≡ false →
+gate_solid : (b : Bool) (ks : List Sort) (c : List ℕ) (R : Language Expr) (J : Token → Language Expr) (r : TokenReader Expr) (k : Token → TokenReader Expr) → among probe (codes ks) ≡ false →
     Solid token_code probe R (any ks >=> J) r (then_r (any_r ks) k) (codes ks) c → Solid token_code probe (gate b R) (any ks >=> J) (gate_r ks b r) (then_r (any_r ks) k) (codes ks) c
 gate_solid true ks c R J r k lone s = s
 gate_solid false ks c R J r k lone s = solid_shut token_code probe (codes ks) c J k lone s.aside

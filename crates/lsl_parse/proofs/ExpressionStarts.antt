@@ -9,15 +9,15 @@ use Rattle.lsl_grammar.specs.Language.{among}
 use Rattle.lsl_grammar.specs.Reading.{◌>>=◌, begins, ret_r, pair_next}
 use Rattle.lsl_grammar.proofs.ReadsLanguage.{stops_sub, cond_false}
 use Rattle.lsl_grammar.proofs.Rule.{subset, sub_by, append_cases}
-use Rattle.lsl_parse.specs.declared.kind.TokenKind.{TokenKind}
-use Rattle.lsl_parse.specs.declared.kind.TokenKind.TheVariants.{Name, Int, Str, ParenOpen, BracketOpen}
-use Rattle.lsl_parse.specs.Kinds.{codes, token_code, integer_of}
+use Rattle.lsl_lex.specs.declared.token_types.Sort.{Sort}
+use Rattle.lsl_lex.specs.declared.token_types.Sort.TheVariants.{ParenOpen, BracketOpen}
+use Rattle.lsl_parse.specs.Kinds.{Name, Int, Str, codes, token_code, integer_of}
 use Rattle.lsl_parse.specs.Operators.{prefix_signs, step_signs, assign_signs, levels, signs}
 use Rattle.lsl_parse.specs.ExpressionGrammar.{Language, level, expr}
 use Rattle.lsl_parse.specs.ExpressionReading.{TokenReader, while_r, next_operand_r, unary_rule_r, level_rule_r, Room_r, room_r, expr_r}
 use Rattle.lsl_parse.proofs.ExpressionRules.{heads, U}
 
-pub no_test : (all ks : List TokenKind) (t : Token) → subset (codes ks) (codes all) ≡ true → among (token_code t) (codes all) ≡ false → among (token_code t) (codes ks) ≡ false
+pub no_test : (all ks : List Sort) (t : Token) → subset (codes ks) (codes all) ≡ true → among (token_code t) (codes all) ≡ false → among (token_code t) (codes ks) ≡ false
 no_test all ks t s e = stops_sub token_code (codes ks) (codes all) (t ∷ []) (sub_by (codes ks) (codes all) s) e
 
 unary_misses : (room : Room_r) (t : Token) (ts : List Token) → among (token_code t) (codes heads) ≡ false → unary_rule_r room (t ∷ ts) ≡ Err (OperandDue, t ∷ ts)

@@ -9,3 +9,5 @@ pub mod ExpressionLoops
 pub mod StatementLoops
 pub mod ScriptLoops
 pub mod Answering
+pub mod ExpressionLevels
+pub mod Dispatch

@@ -8,9 +8,9 @@ use Rattle.lsl_tree.specs.Statements.{Stmt, ends_open}
 use Rattle.lsl_grammar.specs.declared.Why.{Why}
 use Rattle.lsl_grammar.specs.Reading.{Read, ◌>>=◌, begins, ret_r, then_r, deep_r}
 use Rattle.lsl_grammar.proofs.ReadsLanguage.{ok_value, ok_rest, not_both}
-use Rattle.lsl_parse.specs.declared.kind.TokenKind.{TokenKind}
-use Rattle.lsl_parse.specs.declared.kind.TokenKind.TheVariants.{Name, StateWord, IfWord, ElseWord, ForWord, DoWord, WhileWord, JumpWord, ReturnWord, ParenOpen, ParenClose, BraceOpen, Semicolon}
-use Rattle.lsl_parse.specs.Kinds.{codes, token_code, name_of}
+use Rattle.lsl_lex.specs.declared.token_types.Sort.{Sort}
+use Rattle.lsl_lex.specs.declared.token_types.Sort.TheVariants.{StateWord, IfWord, ElseWord, ForWord, DoWord, WhileWord, JumpWord, ReturnWord, ParenOpen, ParenClose, BraceOpen, Semicolon}
+use Rattle.lsl_parse.specs.Kinds.{Name, codes, token_code, name_of}
 use Rattle.lsl_parse.specs.ExpressionReading.{TokenReader, sign_r, where_r, expressions_r, expr_r}
 use Rattle.lsl_parse.specs.StatementReading.{statement_heads, StmtRoom_r, body_r, block_r, braces_r, else_r, if_r, while_rule_r, do_r, for_r, jump_r, return_r, state_name_r, state_rule_r, simple_r, statement_rule_r, stmt_room_r}
 
@@ -26,7 +26,7 @@ record Closes (p : TokenReader Stmt) : Type 0 where
   pub closed : (ts rest : List Token) (x : Stmt) → p ts ≡ Ok (x, rest) → ends_open x ≡ false
 
 -- the parts of what a chain gave
-chain : {A B : Type 0} (o : Read Token A) (k : A × List Token → Read Token B) (y : B × List Token) → (o >>= k) ≡ Ok y → (x : A × List Token) × (o ≡ Ok x) × (k x ≡ Ok y)
+pub chain : {A B : Type 0} (o : Read Token A) (k : A × List Token → Read Token B) (y : B × List Token) → (o >>= k) ≡ Ok y → (x : A × List Token) × (o ≡ Ok x) × (k x ≡ Ok y)
 chain (Ok x) k y e = (x, refl, e)
 chain (Err x) k y e = absurd (cc)
 
@@ -39,14 +39,14 @@ ret_closes x o = record { closed = λ ts rest y e. ap ends_open (sym (ok_value x
 then_closes : {A : Type 0} (p : TokenReader A) (q : A → TokenReader Stmt) → ((x : A) → Closes (q x)) → Closes (then_r p q)
 then_closes p q c = record { closed = λ ts rest y e. let (x, e1, e2) = chain (p ts) (λ x. q x.0 x.1) (y, rest) e in (c x.0).closed x.1 rest y e2 }
 
-or_closes : (ks : List TokenKind) (p q : TokenReader Stmt) → Closes p → Closes q → Closes (where_r ks p q)
+or_closes : (ks : List Sort) (p q : TokenReader Stmt) → Closes p → Closes q → Closes (where_r ks p q)
 or_closes ks p q c d = record { closed = λ ts rest x e. go ts rest x (begins token_code (codes ks) ts) e }
   where
     go : (ts rest : List Token) (x : Stmt) (b : Bool) → cond b (p ts) (q ts) ≡ Ok (x, rest) → ends_open x ≡ false
     go ts rest x true e = c.closed ts rest x e
     go ts rest x false e = d.closed ts rest x e
 
-deep_munches : (why : Why) (ks : List TokenKind) → Munches (deep_r token_code why (codes ks))
+deep_munches : (why : Why) (ks : List Sort) → Munches (deep_r token_code why (codes ks))
 deep_munches why ks = record { munched = λ ts rest x e o. absurd (cc) }
 
 then_munches : {A : Type 0} (p : TokenReader A) (q : A → TokenReader Stmt) → ((x : A) → Munches (q x)) → Munches (then_r p q)
@@ -60,7 +60,7 @@ made_munches p g same m = record {
       ap else_next (sym (ok_rest (g x.0) y x.1 rest e2)) ∙ m.munched ts x.1 x.0 e1 (sym (same x.0) ∙ ap ends_open (ok_value (g x.0) y x.1 rest e2) ∙ o);
 }
 
-or_munches : (ks : List TokenKind) (p q : TokenReader Stmt) → Munches p → Munches q → Munches (where_r ks p q)
+or_munches : (ks : List Sort) (p q : TokenReader Stmt) → Munches p → Munches q → Munches (where_r ks p q)
 or_munches ks p q m n = record { munched = λ ts rest x e o. go ts rest x (begins token_code (codes ks) ts) e o }
   where
     go : (ts rest : List Token) (x : Stmt) (b : Bool) → cond b (p ts) (q ts) ≡ Ok (x, rest) → ends_open x ≡ true → else_next rest ≡ false

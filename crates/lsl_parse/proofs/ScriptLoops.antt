@@ -10,9 +10,9 @@ use Rattle.lsl_grammar.specs.Reading.{begins}
 use Rattle.lsl_grammar.proofs.Rule.{Solid}
 use Rattle.lsl_grammar.proofs.Until.{shrinks}
 use Rattle.lsl_grammar.proofs.Loops.{rounds_step}
-use Rattle.lsl_parse.specs.declared.kind.TokenKind.{TokenKind}
-use Rattle.lsl_parse.specs.declared.kind.TokenKind.TheVariants.{Name, StateWord, Comma}
-use Rattle.lsl_parse.specs.Kinds.{codes, token_code, types}
+use Rattle.lsl_lex.specs.declared.token_types.Sort.{Sort}
+use Rattle.lsl_lex.specs.declared.token_types.Sort.TheVariants.{StateWord, Comma}
+use Rattle.lsl_parse.specs.Kinds.{Name, codes, token_code, types}
 use Rattle.lsl_parse.specs.ExpressionGrammar.{Language, sign}
 use Rattle.lsl_parse.specs.ExpressionReading.{TokenReader, while_r, comma_r}
 use Rattle.lsl_parse.specs.StatementGrammar.{stmt_room_of}
@@ -34,7 +34,7 @@ module _ {A : Type 0} (L M : Language A) (p q : TokenReader A) (f : List ℕ) (s
   pub comma_step : (a b : List A) (ts rest : List Token) → begins token_code (codes (Comma ∷ [])) ts ≡ true → comma_r added p a ts ≡ Ok (b, rest) → while_r (Comma ∷ []) (comma_r added p) a ts ≡ while_r (Comma ∷ []) (comma_r added p) b rest
   comma_step a b ts rest t e = rounds_step token_code (codes (Comma ∷ [])) (comma_r added p) comma_less a b ts rest t e
 
-module _ {A : Type 0} (ks : List TokenKind) (L M : Language A) (p q : TokenReader A) (s : Solid token_code probe L M p q (codes ks) []) (lone : among probe (codes ks) ≡ false) where
+module _ {A : Type 0} (ks : List Sort) (L M : Language A) (p q : TokenReader A) (s : Solid token_code probe L M p q (codes ks) []) (lone : among probe (codes ks) ≡ false) where
   pub many_less : (a b : List A) (ts rest : List Token) → next_r p a ts ≡ Ok (b, rest) → length rest < length ts
   many_less a b ts rest e =
       let r = each_solid ks L M p q s lone a in

@@ -9,9 +9,9 @@ use Rattle.lsl_grammar.specs.declared.Why.TheVariants.{Unexpected, OperandDue}
 use Rattle.lsl_grammar.specs.Language.{among, ret, ◌>>=◌ as ◌>=>◌}
 use Rattle.lsl_grammar.specs.Reading.{ret_r, then_r}
 use Rattle.lsl_grammar.proofs.Rule.{disjoint, apart_by, sub_left, sub_right, Filled, Rule, Solid, then_rule, rounds_rule, ret_rule, sign_rule, sign_full, solid_sign, solid_then, solid_ret, solid_or}
-use Rattle.lsl_parse.specs.declared.kind.TokenKind.{TokenKind}
-use Rattle.lsl_parse.specs.declared.kind.TokenKind.TheVariants.{Name, Int, Str, DefaultWord, StateWord, Minus, Assign, ParenOpen, ParenClose, BracketOpen, BracketClose, BraceOpen, BraceClose, Semicolon}
-use Rattle.lsl_parse.specs.Kinds.{codes, token_code, types, type_of, name_of, text_of, integer_of}
+use Rattle.lsl_lex.specs.declared.token_types.Sort.{Sort}
+use Rattle.lsl_lex.specs.declared.token_types.Sort.TheVariants.{DefaultWord, StateWord, Minus, Assign, ParenOpen, ParenClose, BracketOpen, BracketClose, BraceOpen, BraceClose, Semicolon}
+use Rattle.lsl_parse.specs.Kinds.{Name, Int, Str, codes, token_code, types, type_of, name_of, text_of, integer_of}
 use Rattle.lsl_parse.specs.ExpressionGrammar.{Language}
 use Rattle.lsl_parse.specs.ExpressionReading.{TokenReader}
 use Rattle.lsl_parse.specs.StatementGrammar.{block, stmt_room_of}
@@ -55,7 +55,7 @@ params_solid : Solid token_code probe params params params_r params_r (codes (Pa
 params_solid = solid_sign token_code probe Unexpected (codes (ParenOpen ∷ [])) (codes (ParenClose ∷ []) ++ codes types) [] _ _ _ _ refl refl (λ start. (listing_solid added [] param param param_r param_r (codes types) [] param_solid refl refl ParenClose [] refl refl refl refl).rule)
 
 -- elements, each of which begins with these kinds
-module _ {A : Type 0} (ks : List TokenKind) (L M : Language A) (p q : TokenReader A) (s : Solid token_code probe L M p q (codes ks) []) (lone : among probe (codes ks) ≡ false) where
+module _ {A : Type 0} (ks : List Sort) (L M : Language A) (p q : TokenReader A) (s : Solid token_code probe L M p q (codes ks) []) (lone : among probe (codes ks) ≡ false) where
   pub each_solid : (before : List A) → Solid token_code probe (L >=> λ next. ret (added before next)) (M >=> λ next. ret (added before next)) (next_r p before) (next_r q before) (codes ks) []
   each_solid before = solid_ret token_code probe (added before) s
 

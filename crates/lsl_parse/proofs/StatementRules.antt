@@ -1,6 +1,7 @@
 -- Each rule of statements and blocks is read.
 use Rattle.std.proofs.Common.{◌≡◌, ℕ, zero, suc, ◌<◌, Bool, true, false, cond, Option, None, Some, List, [], ◌∷◌, ◌++◌, Ok, Err, inl, inr, ⊎_elim, refl, sym, ap, ◌∙◌, subst, arith}
 use Rattle.lsl_text.specs.declared.Span.{Span}
+use Rattle.lsl_lex.specs.Kinds.{kind_of}
 use Rattle.lsl_lex.specs.declared.token_types.Token.{Token}
 use Rattle.lsl_tree.specs.declared.statement.StateName.TheVariants as state
 use Rattle.lsl_tree.specs.Expressions.{Expr, NoExpr, AndExpr}
@@ -13,13 +14,13 @@ use Rattle.lsl_grammar.proofs.ReadsLanguage.{Sub, Apart, one_reads, cond_false}
 use Rattle.lsl_grammar.proofs.Hints.{Eats}
 use Rattle.lsl_grammar.proofs.Rule.{subset, disjoint, sub_by, apart_by, sub_left, sub_right, append_cases, Filled, then_full, or_full, never_full, Rule, Solid, rule_as, wider_rule, then_rule, or_rule, deep_rule, ret_rule, sign_rule, sign_full, one_full, one_eats, deep_eats, or_eats, then_eats, part_rule, solid_sign, solid_then, solid_ret, solid_or, solid_shut, probe_aside, apart_aside}
 use Rattle.lsl_grammar.proofs.Until.{until_rule}
-use Rattle.lsl_parse.specs.declared.kind.TokenKind.{TokenKind}
-use Rattle.lsl_parse.specs.declared.kind.TokenKind.TheVariants.{Name, DefaultWord, StateWord, IfWord, ElseWord, ForWord, DoWord, WhileWord, JumpWord, ReturnWord, Assign, Comma, ParenOpen, ParenClose, BraceOpen, BraceClose, Semicolon, At}
-use Rattle.lsl_parse.specs.Kinds.{code, codes, token_kind, token_code, types, type_of, name_of}
+use Rattle.lsl_lex.specs.declared.token_types.Sort.{Sort}
+use Rattle.lsl_lex.specs.declared.token_types.Sort.TheVariants.{DefaultWord, StateWord, IfWord, ElseWord, ForWord, DoWord, WhileWord, JumpWord, ReturnWord, Assign, Comma, ParenOpen, ParenClose, BraceOpen, BraceClose, Semicolon, At}
+use Rattle.lsl_parse.specs.Kinds.{Name, codes, token_code, not_end, types, type_of, name_of}
 use Rattle.lsl_parse.specs.ExpressionGrammar.{Language, any, sign, expressions, expr}
 use Rattle.lsl_parse.specs.ExpressionReading.{TokenReader, any_r, sign_r, expressions_r, expr_r}
 use Rattle.lsl_parse.specs.StatementGrammar.{block, body, braces, else_behind, else_part, if_rule, while_rule, do_rule, for_rule, jump_rule, return_rule, state_name, state_rule, simple, statement_rule, declaration, label, item_rule, stmt_room_of}
-use Rattle.lsl_parse.specs.StatementReading.{statement_heads, not_end, StmtRoom_r, next_item_r, block_r, body_r, braces_r, else_r, if_r, while_rule_r, do_r, for_r, jump_r, return_r, state_name_r, state_rule_r, simple_r, statement_rule_r, declaration_r, label_r, item_rule_r, stmt_room_r}
+use Rattle.lsl_parse.specs.StatementReading.{statement_heads, StmtRoom_r, next_item_r, block_r, body_r, braces_r, else_r, if_r, while_rule_r, do_r, for_r, jump_r, return_r, state_name_r, state_rule_r, simple_r, statement_rule_r, declaration_r, label_r, item_rule_r, stmt_room_r}
 use Rattle.lsl_parse.proofs.ExpressionRules.{probe, heads, expr_tails, listing_solid, expr_is_read}
 use Rattle.lsl_parse.proofs.ExpressionStarts.{no_test, expr_misses, expr_covers}
 use Rattle.lsl_parse.proofs.Munches.{else_next, body_munches}
@@ -66,7 +67,7 @@ whole_or {L = L} {L' = L'} {M = M} {M' = M'} {p = p} {p' = p'} {q = q} {q' = q'}
   eats = or_eats token_code probe p q f g w.eats v.eats;
 }
 
-sign_whole : (ks : List TokenKind) (g : List ℕ) (K J : Token → Language Stmt) (q q' : Token → TokenReader Stmt) → among probe (codes ks) ≡ false → ((t : Token) → Rule token_code probe (K t) (J t) (q t) (q' t) g tail_of) → Whole (any ks >=> K) (any ks >=> J) (then_r (any_r ks) q) (then_r (any_r ks) q') (codes ks)
+sign_whole : (ks : List Sort) (g : List ℕ) (K J : Token → Language Stmt) (q q' : Token → TokenReader Stmt) → among probe (codes ks) ≡ false → ((t : Token) → Rule token_code probe (K t) (J t) (q t) (q' t) g tail_of) → Whole (any ks >=> K) (any ks >=> J) (then_r (any_r ks) q) (then_r (any_r ks) q') (codes ks)
 sign_whole ks g K J q q' lone r = record {
   rule = sign_rule token_code probe Unexpected (codes ks) g tail_of K J q q' lone r;
   full = sign_full token_code probe (codes ks) K;
@@ -148,7 +149,7 @@ pub item_heads : List ℕ
 item_heads = codes types ++ (codes (At ∷ []) ++ codes statement_heads)
 
 -- each kind but the end of a block is among them
-end_only : (k : TokenKind) → among (code k) (codes not_end) ≡ false → among (code k) (codes (BraceClose ∷ [])) ≡ true
+end_only : (k : Sort) → among (kind_of k) not_end ≡ false → among (kind_of k) (codes (BraceClose ∷ [])) ≡ true
 end_only BraceClose h = refl
 end_only _ h = absurd (cc)
 
@@ -185,7 +186,7 @@ module _ (limit : Option ℕ) (d D : ℕ) (lt : d < D) where
       Solid token_code probe (item_rule E s >=> λ next. ret (AndItem before next)) (item_rule EE s' >=> λ next. ret (AndItem before next)) (next_item_r (item_rule_r er r) before) (next_item_r (item_rule_r EEr r') before) item_heads else_tail
   next_solid s s' r r' w before = solid_ret token_code probe (AndItem before) (item_solid s s' r r' w)
 
-item_heads_in : subset item_heads (codes not_end) ≡ true
+item_heads_in : subset item_heads not_end ≡ true
 unfolding item_heads
 item_heads_in = refl
 
@@ -200,9 +201,9 @@ block_solid limit zero (suc (suc D)) b = solid_shut token_code probe (codes (Bra
 block_solid limit (suc d) zero b = absurd b
 block_solid limit (suc d) (suc D) b = solid_sign token_code probe Unexpected (codes (BraceOpen ∷ [])) (item_heads ++ codes (BraceClose ∷ [])) [] _ _ _ _ refl refl (λ start.
     until_rule token_code probe (λ before. item_rule (expr limit d) (S limit d) >=> λ next. ret (AndItem before next)) (λ before. item_rule (expr None D) (S None D) >=> λ next. ret (AndItem before next)) (next_item_r (item_rule_r (expr_r limit d) (Sr limit d))) (next_item_r (item_rule_r (expr_r None D) (Sr None D)))
-    item_heads (codes not_end) else_tail (codes (BraceClose ∷ [])) (item_heads ++ codes (BraceClose ∷ [])) (λ _. []) (λ all end. all)
-    (λ before. (each before).rule) (sub_by item_heads (codes not_end) item_heads_in) (apart_by item_heads else_tail item_heads_apart) (λ before. (each before).full) refl refl
-    (sub_by else_tail (codes not_end) refl) (apart_by (codes (BraceClose ∷ [])) (codes not_end) refl) refl (λ t h. end_only (token_kind t.sort) h)
+    item_heads not_end else_tail (codes (BraceClose ∷ [])) (item_heads ++ codes (BraceClose ∷ [])) (λ _. []) (λ all end. all)
+    (λ before. (each before).rule) (sub_by item_heads not_end item_heads_in) (apart_by item_heads else_tail item_heads_apart) (λ before. (each before).full) refl refl
+    (sub_by else_tail not_end refl) (apart_by (codes (BraceClose ∷ [])) not_end refl) refl (λ t h. end_only t.sort h)
     (sub_left item_heads (codes (BraceClose ∷ []))) (sub_right item_heads (codes (BraceClose ∷ []))) NoItem)
   where
     inner : suc d < D → d < D
@@ -275,7 +276,7 @@ module _ (limit : Option ℕ) (d D : ℕ) (lt : d < D) (b : Below limit d D) whe
   abbrev e : Solid token_code probe (expr limit d) (expr None D) (expr_r limit d) (expr_r None D) (codes heads) expr_tails
   e = expr_is_read limit d D lt
 
-  list_up_to : (close : TokenKind) → disjoint (codes (close ∷ [])) (probe ∷ codes heads) ≡ true → disjoint (codes (close ∷ [])) (codes (Comma ∷ []) ++ expr_tails) ≡ true → among probe (codes (close ∷ [])) ≡ false →
+  list_up_to : (close : Sort) → disjoint (codes (close ∷ [])) (probe ∷ codes heads) ≡ true → disjoint (codes (close ∷ [])) (codes (Comma ∷ []) ++ expr_tails) ≡ true → among probe (codes (close ∷ [])) ≡ false →
       Solid token_code probe (expressions close (expr limit d)) (expressions close (expr None D)) (expressions_r close (expr_r limit d)) (expressions_r close (expr_r None D)) (codes (close ∷ []) ++ codes heads) []
   list_up_to close e1 e2 e3 = listing_solid AndExpr NoExpr (expr limit d) (expr None D) (expr_r limit d) (expr_r None D) (codes heads) expr_tails e refl refl close [] e1 e2 e3 refl
 

@@ -4,20 +4,20 @@ use Rattle.lsl_lex.specs.declared.token_types.Token.{Token}
 use Rattle.lsl_tree.specs.Expressions as tree
 use Rattle.lsl_tree.specs.Expressions.{Expr, Exprs, NoExpr, AndExpr, height}
 use Rattle.lsl_grammar.specs.Language.{Lang, ret, one_of, ◌>>=◌, ◌∣◌, never, rounds}
-use Rattle.lsl_parse.specs.declared.kind.TokenKind.{TokenKind}
-use Rattle.lsl_parse.specs.declared.kind.TokenKind.TheVariants.{Name, Int, Str, ParenOpen, ParenClose, BracketOpen, BracketClose, Comma}
-use Rattle.lsl_parse.specs.Kinds.{codes, token_code, types, type_of, name_of, text_of, integer_of}
+use Rattle.lsl_lex.specs.declared.token_types.Sort.{Sort}
+use Rattle.lsl_lex.specs.declared.token_types.Sort.TheVariants.{ParenOpen, ParenClose, BracketOpen, BracketClose, Comma}
+use Rattle.lsl_parse.specs.Kinds.{Name, Int, Str, codes, token_code, types, type_of, name_of, text_of, integer_of}
 use Rattle.lsl_parse.specs.Operators.{prefix_signs, prefix_of, step_signs, step_of, assign_signs, assign_of, levels, signs, operator_of}
 
 abbrev pub Language : Type 0 → Type 1
 Language T = Lang Token T
 
 -- one token of these kinds
-abbrev pub any : List TokenKind → Language Token
+abbrev pub any : List Sort → Language Token
 any ks = one_of token_code (codes ks)
 
 -- one token of this kind
-abbrev pub sign : TokenKind → Language Token
+abbrev pub sign : Sort → Language Token
 sign k = any (k ∷ [])
 
 -- element { ',' element }
@@ -30,7 +30,7 @@ series add none element = do
     ret (add before next)) (add none first)
 
 -- [ element { ',' element } ] and the closing sign
-abbrev pub listing : {A B : Type 0} → TokenKind → (A → B → A) → A → Language B → Language A
+abbrev pub listing : {A B : Type 0} → Sort → (A → B → A) → A → Language B → Language A
 listing close add none element =
     (do
       end ← sign close
@@ -41,7 +41,7 @@ listing close add none element =
       ret all)
 
 -- [ exprs ] and the closing sign
-abbrev pub expressions : TokenKind → Language Expr → Language Exprs
+abbrev pub expressions : Sort → Language Expr → Language Exprs
 expressions close expr = listing close AndExpr NoExpr expr
 
 -- what a construct that is opened here holds: expressions and operands, or nothing, where no construct may be opened
@@ -131,7 +131,7 @@ gate true rule = rule
 gate false rule = never
 
 -- a sign of the level and an operand of the tighter one
-abbrev pub operation : Language Expr → List TokenKind → Expr → Language Expr
+abbrev pub operation : Language Expr → List Sort → Expr → Language Expr
 operation operand ks left = do
   op ← any ks
   right ← operand

@@ -5,10 +5,13 @@ use Rattle.lsl_tree.specs.Expressions as tree
 use Rattle.lsl_tree.specs.Expressions.{Expr, Exprs, NoExpr, AndExpr}
 use Rattle.lsl_grammar.specs.declared.Why.TheVariants.{Unexpected, OperandDue}
 use Rattle.lsl_grammar.specs.Reading.{Reader, ret_r, one_r, then_r, or_r, deep_r, rounds_r, pair_r}
-use Rattle.lsl_parse.specs.declared.kind.TokenKind.{TokenKind}
-use Rattle.lsl_parse.specs.declared.kind.TokenKind.TheVariants.{Name, Int, Str, ParenOpen, ParenClose, BracketOpen, BracketClose, Comma}
-use Rattle.lsl_parse.specs.Kinds.{codes, token_code, types, type_of, name_of, text_of, integer_of}
+use Rattle.lsl_lex.specs.declared.token_types.Sort.{Sort}
+use Rattle.lsl_lex.specs.declared.token_types.Sort.TheVariants.{ParenOpen, ParenClose, BracketOpen, BracketClose, Comma, Semicolon}
+use Rattle.lsl_parse.specs.Kinds.{Name, Int, Str, codes, token_code, types, type_of, name_of, text_of, integer_of}
 use Rattle.lsl_parse.specs.Operators.{prefix_signs, prefix_of, step_signs, step_of, assign_signs, assign_of, levels, signs, operator_of}
+use Rattle.lsl_parse.specs.declared.close.Close.{Close}
+use Rattle.lsl_parse.specs.declared.close.Close.TheVariants as closes
+use Rattle.lsl_parse.specs.declared.close.Close.TheVariants.{Parenthesis, Bracket}
 use Rattle.lsl_parse.specs.ExpressionGrammar.{fits}
 
 abbrev pub TokenReader : Type 0 → Type 0
@@ -18,22 +21,22 @@ infixl 10 ◌>>=◌
 abbrev pub ◌>>=◌ : {A B : Type 0} → TokenReader A → (A → TokenReader B) → TokenReader B
 p >>= q = then_r p q
 
-abbrev pub any_r : List TokenKind → TokenReader Token
+abbrev pub any_r : List Sort → TokenReader Token
 any_r ks = one_r token_code Unexpected (codes ks)
 
-abbrev pub sign_r : TokenKind → TokenReader Token
+abbrev pub sign_r : Sort → TokenReader Token
 sign_r k = any_r (k ∷ [])
 
 -- the first where the next token is of these kinds
-abbrev pub where_r : {T : Type 0} → List TokenKind → TokenReader T → TokenReader T → TokenReader T
+abbrev pub where_r : {T : Type 0} → List Sort → TokenReader T → TokenReader T → TokenReader T
 where_r ks p q = or_r token_code (codes ks) p q
 
 -- rounds as long as the next token is of these kinds
-abbrev pub while_r : {A : Type 0} → List TokenKind → (A → TokenReader A) → A → TokenReader A
+abbrev pub while_r : {A : Type 0} → List Sort → (A → TokenReader A) → A → TokenReader A
 while_r ks round a = rounds_r token_code (codes ks) round a
 
 -- what would begin with these kinds stands too deep
-abbrev pub shut_r : {T : Type 0} → List TokenKind → TokenReader T
+abbrev pub shut_r : {T : Type 0} → List Sort → TokenReader T
 shut_r ks = deep_r token_code Unexpected (codes ks)
 
 abbrev pub comma_r : {A B : Type 0} → (A → B → A) → TokenReader B → A → TokenReader A
@@ -47,7 +50,7 @@ series_r add none element = do
   first ← element
   while_r (Comma ∷ []) (comma_r add element) (add none first)
 
-abbrev pub listing_r : {A B : Type 0} → TokenKind → (A → B → A) → A → TokenReader B → TokenReader A
+abbrev pub listing_r : {A B : Type 0} → Sort → (A → B → A) → A → TokenReader B → TokenReader A
 listing_r close add none element = where_r (close ∷ [])
     (do
       end ← sign_r close
@@ -57,14 +60,19 @@ listing_r close add none element = where_r (close ∷ [])
       end ← sign_r close
       ret_r all)
 
-abbrev pub expressions_r : TokenKind → TokenReader Expr → TokenReader Exprs
+abbrev pub sign_of : Close → Sort
+sign_of Parenthesis = ParenClose
+sign_of Bracket = BracketClose
+sign_of closes.Semicolon = Semicolon
+
+abbrev pub expressions_r : Sort → TokenReader Expr → TokenReader Exprs
 expressions_r close expr = listing_r close AndExpr NoExpr expr
 
 pub data Room_r : Type 0 where
   Full_r : Room_r
   Inside_r : (expr unary : TokenReader Expr) → Room_r
 
-abbrev pub construct_r : {T : Type 0} → List TokenKind → Room_r → (TokenReader Expr → TokenReader Expr → TokenReader T) → TokenReader T
+abbrev pub construct_r : {T : Type 0} → List Sort → Room_r → (TokenReader Expr → TokenReader Expr → TokenReader T) → TokenReader T
 construct_r ks Full_r rule = shut_r ks
 construct_r ks (Inside_r expr unary) rule = rule expr unary
 
@@ -106,9 +114,12 @@ string_r = do
   ret_r (tree.Str (text_of t.sort) t.span)
 
 -- the last of the operands: where it isn't there either, an operand was due
+abbrev pub int_r : TokenReader Token
+int_r = one_r token_code OperandDue (codes (Int ∷ []))
+
 abbrev pub integer_r : TokenReader Expr
 integer_r = do
-  n ← one_r token_code OperandDue (codes (Int ∷ []))
+  n ← int_r
   ret_r (tree.Int (integer_of n.sort) n.span)
 
 abbrev pub arguments_r : Room_r → TokenReader Exprs
@@ -138,23 +149,30 @@ unary_rule_r room =
     (where_r (Str ∷ []) string_r
     (where_r (Name ∷ []) (named_r room) integer_r)))))
 
-abbrev pub gate_r : {T : Type 0} → List TokenKind → Bool → TokenReader T → TokenReader T
+abbrev pub gate_r : {T : Type 0} → List Sort → Bool → TokenReader T → TokenReader T
 gate_r ks true rule = rule
 gate_r ks false rule = shut_r ks
 
-abbrev pub operation_r : TokenReader Expr → List TokenKind → Expr → TokenReader Expr
+abbrev pub operation_r : TokenReader Expr → List Sort → Expr → TokenReader Expr
 operation_r operand ks left = do
   op ← any_r ks
   right ← operand
   ret_r (tree.Binary (operator_of op.sort) op.span left right)
 
-abbrev pub next_operand_r : Option ℕ → TokenReader Expr → List TokenKind → Expr → TokenReader Expr
+abbrev pub next_operand_r : Option ℕ → TokenReader Expr → List Sort → Expr → TokenReader Expr
 next_operand_r limit operand ks left = gate_r ks (fits limit left) (operation_r operand ks left)
 
 abbrev pub level_rule_r : Option ℕ → TokenReader Expr → ℕ → TokenReader Expr
 level_rule_r limit unary zero = unary
 level_rule_r limit unary (suc n) = do
   first ← level_rule_r limit unary n
+  while_r (signs n) (next_operand_r limit (level_rule_r limit unary n) (signs n)) first
+
+-- what stands behind an operand, within the tightest so many levels
+abbrev pub behind_r : Option ℕ → TokenReader Expr → ℕ → Expr → TokenReader Expr
+behind_r limit unary zero left = ret_r left
+behind_r limit unary (suc n) left = do
+  first ← behind_r limit unary n left
   while_r (signs n) (next_operand_r limit (level_rule_r limit unary n) (signs n)) first
 
 abbrev pub value_r : Room_r → Token → TokenReader Expr
@@ -183,3 +201,6 @@ unary_r limit d = unary_rule_r (room_r limit d)
 
 unfoldable pub level_r : Option ℕ → ℕ → ℕ → TokenReader Expr
 level_r limit d n = level_rule_r limit (unary_rule_r (room_r limit d)) n
+
+unfoldable pub operators_r : Option ℕ → ℕ → ℕ → Expr → TokenReader Expr
+operators_r limit d n left = behind_r limit (unary_rule_r (room_r limit d)) n left

@@ -1,33 +1,33 @@
 -- Which tokens are a script, and the first fault of those that are none.
-use Rattle.std.specs.Prelude.{◌≡◌, ℕ, zero, suc, ◌+◌, ◌<◌, ◌≤◌, true, None, Some, List, [], ◌∷◌, ◌++◌, ◌⊎◌, length, take, slice_get}
+use Rattle.std.specs.Prelude.{◌≡◌, ℕ, ℤ, zero, suc, ◌+◌, ◌<◌, ◌≤◌, true, None, Some, List, [], ◌∷◌, ◌++◌, ◌⊎◌, length, take, slice_get}
 use Rattle.lsl_text.specs.declared.Span.{Span}
 use Rattle.lsl_text.specs.declared.Refusal.{Refusal}
 use Rattle.lsl_text.specs.declared.Refusal.TheVariants as refusal
 use Rattle.lsl_lex.specs.declared.token_types.Token.{Token}
 use Rattle.lsl_tree.specs.Scripts.{Tree}
 use Rattle.lsl_grammar.specs.Language.{among}
-use Rattle.lsl_parse.specs.declared.limits.TheConstants.{DEPTH, HEIGHT, TOKENS}
-use Rattle.lsl_parse.specs.declared.kind.TokenKind.{TokenKind}
-use Rattle.lsl_parse.specs.declared.kind.TokenKind.TheVariants.{Int, FloatWord, VectorWord, RotationWord, QuaternionWord, Less}
+use Rattle.lsl_parse.specs.Limits.{most_constructs, height_limit, most_tokens}
+use Rattle.lsl_lex.specs.declared.token_types.Sort.{Sort}
+use Rattle.lsl_lex.specs.declared.token_types.Sort.TheVariants.{Int, FloatWord, VectorWord, RotationWord, QuaternionWord, Less}
 use Rattle.lsl_parse.specs.declared.fault.ParseKind.{ParseKind}
 use Rattle.lsl_parse.specs.declared.fault.ParseKind.TheVariants.{Unexpected, EndOfText, FloatType, TooDeep, TooLarge}
 use Rattle.lsl_parse.specs.declared.fault.ParseFault.{ParseFault}
-use Rattle.lsl_parse.specs.Kinds.{codes, token_kind, token_code}
+use Rattle.lsl_parse.specs.Kinds.{codes, token_code}
 use Rattle.lsl_parse.specs.ScriptGrammar.{script}
 
 -- the tokens are a script with this tree, within the limits
 pub record Derives (tokens : List Token) (tree : Tree) : Type 0 where
-  pub derived : (script (Some HEIGHT) DEPTH).whole tokens tree
-  pub counted : length tokens ≤ TOKENS
+  pub derived : (script (Some height_limit) most_constructs).whole tokens tree
+  pub counted : length tokens ≤ most_tokens
 
 -- the tokens begin a script within the limits of depth and height
 abbrev pub Shallow : List Token → Type 0
-Shallow tokens = (script (Some HEIGHT) DEPTH).opens tokens
+Shallow tokens = (script (Some height_limit) most_constructs).opens tokens
 
 -- the tokens begin a script within all limits
 pub record Within (tokens : List Token) : Type 0 where
   pub shallow : Shallow tokens
-  pub counted : length tokens ≤ TOKENS
+  pub counted : length tokens ≤ most_tokens
 
 -- the tokens begin a script, however deep and high
 abbrev pub Open : List Token → Type 0
@@ -36,16 +36,17 @@ Open tokens = (depth : ℕ) × (script None depth).opens tokens
 -- behind these tokens an operand may begin: an INT would go on
 pub record WantsOperand (tokens : List Token) : Type 0 where
   pub operand : Token
-  pub integer : token_kind operand.sort ≡ Int
+  pub value : ℤ
+  pub integer : operand.sort ≡ Int value
   pub goes_on : Open (tokens ++ operand ∷ [])
 
 -- the words of types that aren't in the language
-abbrev pub refused_words : List TokenKind
+abbrev pub refused_words : List Sort
 refused_words = FloatWord ∷ VectorWord ∷ RotationWord ∷ QuaternionWord ∷ []
 
 -- behind these tokens the next one asks for what isn't in the language
 abbrev pub IsFloatType : List Token → Token → Type 0
-IsFloatType before t = (among (token_code t) (codes refused_words) ≡ true) ⊎ ((token_kind t.sort ≡ Less) × WantsOperand before)
+IsFloatType before t = (among (token_code t) (codes refused_words) ≡ true) ⊎ ((t.sort ≡ Less) × WantsOperand before)
 
 pub record IsFloatTypeAt (tokens : List Token) (place : ℕ) : Type 0 where
   pub token : Token
@@ -58,7 +59,7 @@ Breaks tokens place EndOfText = (place ≡ length tokens) × ((tree : Tree) → 
 Breaks tokens place Unexpected = (place < length tokens) × (Open (take (place + 1) tokens) → ⊥) × (IsFloatTypeAt tokens place → ⊥)
 Breaks tokens place FloatType = (place < length tokens) × (Open (take (place + 1) tokens) → ⊥) × IsFloatTypeAt tokens place
 Breaks tokens place TooDeep = (place < length tokens) × Open (take (place + 1) tokens) × (Shallow (take (place + 1) tokens) → ⊥)
-Breaks tokens place TooLarge = (place < length tokens) × Shallow (take (place + 1) tokens) × (TOKENS ≤ place)
+Breaks tokens place TooLarge = (place < length tokens) × Shallow (take (place + 1) tokens) × (most_tokens ≤ place)
 
 -- the earliest place with whose token the tokens begin no script within the limits, or the end, where they are none
 pub record ParseFirst (tokens : List Token) (place : ℕ) (kind : ParseKind) : Type 0 where

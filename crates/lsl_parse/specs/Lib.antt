@@ -1,4 +1,5 @@
 pub mod Kinds
+pub mod Limits
 pub mod Operators
 pub mod ExpressionGrammar
 pub mod ExpressionReading

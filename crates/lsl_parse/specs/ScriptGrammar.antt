@@ -8,8 +8,8 @@ use Rattle.lsl_tree.specs.declared.script.Param.{Param}
 use Rattle.lsl_tree.specs.Scripts as tree
 use Rattle.lsl_tree.specs.Scripts.{Simple, Header, Handler, State, Tree}
 use Rattle.lsl_grammar.specs.Language.{ret, ◌>>=◌, ◌∣◌, rounds}
-use Rattle.lsl_parse.specs.declared.kind.TokenKind.TheVariants.{Name, Int, Str, DefaultWord, StateWord, Minus, Assign, ParenOpen, ParenClose, BracketOpen, BracketClose, BraceOpen, BraceClose, Semicolon}
-use Rattle.lsl_parse.specs.Kinds.{types, type_of, name_of, text_of, integer_of}
+use Rattle.lsl_lex.specs.declared.token_types.Sort.TheVariants.{DefaultWord, StateWord, Minus, Assign, ParenOpen, ParenClose, BracketOpen, BracketClose, BraceOpen, BraceClose, Semicolon}
+use Rattle.lsl_parse.specs.Kinds.{Name, Int, Str, types, type_of, name_of, text_of, integer_of}
 use Rattle.lsl_parse.specs.ExpressionGrammar.{Language, any, sign, listing}
 use Rattle.lsl_parse.specs.StatementGrammar.{StmtRoom, block, stmt_room_of}
 

@@ -1,6 +1,5 @@
 -- Reading whole scripts by the next token, one reader for each rule of the grammar.
 use Rattle.std.specs.Prelude.{ℕ, Option, None, Some, List, [], ◌∷◌, Ok, Err}
-use Rattle.lsl_lex.specs.declared.token_types.Token.{Token}
 use Rattle.lsl_value.specs.declared.tagged.Kind.{Kind}
 use Rattle.lsl_tree.specs.declared.expression.Name.{Name as Named}
 use Rattle.lsl_tree.specs.declared.script.Atom.{Atom}
@@ -8,12 +7,12 @@ use Rattle.lsl_tree.specs.declared.script.Atom.TheVariants as part
 use Rattle.lsl_tree.specs.declared.script.Param.{Param}
 use Rattle.lsl_tree.specs.Scripts as tree
 use Rattle.lsl_tree.specs.Scripts.{Simple, Header, Handler, State, Tree}
-use Rattle.lsl_grammar.specs.declared.Why.TheVariants.{Unexpected, OperandDue}
-use Rattle.lsl_grammar.specs.Reading.{ret_r, one_r}
-use Rattle.lsl_parse.specs.declared.kind.TokenKind.{TokenKind}
-use Rattle.lsl_parse.specs.declared.kind.TokenKind.TheVariants.{IntegerWord, StringWord, KeyWord, ListWord, Name, Int, Str, DefaultWord, StateWord, Minus, Assign, ParenOpen, ParenClose, BracketOpen, BracketClose, BraceOpen, BraceClose, Semicolon}
-use Rattle.lsl_parse.specs.Kinds.{codes, token_code, types, type_of, name_of, text_of, integer_of}
-use Rattle.lsl_parse.specs.ExpressionReading.{TokenReader, ◌>>=◌, any_r, sign_r, where_r, while_r, listing_r}
+use Rattle.lsl_grammar.specs.declared.Why.TheVariants.{Unexpected}
+use Rattle.lsl_grammar.specs.Reading.{ret_r}
+use Rattle.lsl_lex.specs.declared.token_types.Sort.{Sort}
+use Rattle.lsl_lex.specs.declared.token_types.Sort.TheVariants.{IntegerWord, StringWord, KeyWord, ListWord, DefaultWord, StateWord, Minus, Assign, ParenOpen, ParenClose, BracketOpen, BracketClose, BraceOpen, BraceClose, Semicolon}
+use Rattle.lsl_parse.specs.Kinds.{Name, Str, types, type_of, name_of, text_of, integer_of}
+use Rattle.lsl_parse.specs.ExpressionReading.{TokenReader, ◌>>=◌, any_r, sign_r, int_r, where_r, while_r, listing_r}
 use Rattle.lsl_parse.specs.StatementReading.{StmtRoom_r, block_r, stmt_room_r}
 use Rattle.lsl_parse.specs.ScriptGrammar.{added}
 
@@ -23,12 +22,8 @@ next_r element before = do
   ret_r (added before next)
 
 -- elements as long as the next token is of these kinds
-abbrev pub many_r : {A : Type 0} → List TokenKind → TokenReader A → List A → TokenReader (List A)
+abbrev pub many_r : {A : Type 0} → List Sort → TokenReader A → List A → TokenReader (List A)
 many_r ks element before = while_r ks (next_r element) before
-
--- an INT, where an operand is due
-abbrev pub int_r : TokenReader Token
-int_r = one_r token_code OperandDue (codes (Int ∷ []))
 
 abbrev pub negative_r : TokenReader Atom
 negative_r = do
@@ -129,7 +124,7 @@ state_r room = do
   ret_r (record { name = name_of name; handlers = all })
 
 -- the first tokens of a global or a function
-abbrev pub header_heads : List TokenKind
+abbrev pub header_heads : List Sort
 header_heads = IntegerWord ∷ StringWord ∷ KeyWord ∷ ListWord ∷ Name ∷ []
 
 abbrev pub script_rule_r : StmtRoom_r → TokenReader Tree

@@ -7,8 +7,8 @@ use Rattle.lsl_tree.specs.Expressions.{Expr}
 use Rattle.lsl_tree.specs.Statements as tree
 use Rattle.lsl_tree.specs.Statements.{Stmt, Item, Items, NoItem, AndItem, ends_open}
 use Rattle.lsl_grammar.specs.Language.{ret, ◌>>=◌, ◌∣◌, never, rounds}
-use Rattle.lsl_parse.specs.declared.kind.TokenKind.TheVariants.{Name, DefaultWord, StateWord, IfWord, ElseWord, ForWord, DoWord, WhileWord, JumpWord, ReturnWord, Assign, ParenOpen, ParenClose, BraceOpen, BraceClose, Semicolon, At}
-use Rattle.lsl_parse.specs.Kinds.{types, type_of, name_of}
+use Rattle.lsl_lex.specs.declared.token_types.Sort.TheVariants.{DefaultWord, StateWord, IfWord, ElseWord, ForWord, DoWord, WhileWord, JumpWord, ReturnWord, Assign, ParenOpen, ParenClose, BraceOpen, BraceClose, Semicolon, At}
+use Rattle.lsl_parse.specs.Kinds.{Name, types, type_of, name_of}
 use Rattle.lsl_parse.specs.ExpressionGrammar.{Language, any, sign, expressions, expr}
 
 -- what a construct that is opened here holds: what stands in a block, and statements; or nothing

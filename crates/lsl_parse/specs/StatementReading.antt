@@ -8,25 +8,21 @@ use Rattle.lsl_tree.specs.Statements as tree
 use Rattle.lsl_tree.specs.Statements.{Stmt, Item, Items, NoItem, AndItem}
 use Rattle.lsl_grammar.specs.declared.Why.{Why}
 use Rattle.lsl_grammar.specs.declared.Why.TheVariants.{Unexpected, OperandDue}
-use Rattle.lsl_grammar.specs.Reading.{ret_r, deep_r}
-use Rattle.lsl_parse.specs.declared.kind.TokenKind.{TokenKind}
-use Rattle.lsl_parse.specs.declared.kind.TokenKind.TheVariants.{Name, Int, Str, IntegerWord, StringWord, KeyWord, ListWord, FloatWord, VectorWord, RotationWord, QuaternionWord, DefaultWord, StateWord, IfWord, ElseWord, ForWord, DoWord, WhileWord, JumpWord, ReturnWord, PlusPlus, MinusMinus, PlusAssign, MinusAssign, StarAssign, SlashAssign, PercentAssign, EqualEqual, BangEqual, LessEqual, MoreEqual, LessLess, MoreMore, AndAnd, OrOr, Plus, Minus, Star, Slash, Percent, Assign, Less, More, Bang, Tilde, And, Or, Caret, ParenOpen, ParenClose, BracketOpen, BracketClose, BraceOpen, BraceClose, Comma, Semicolon, At}
-use Rattle.lsl_parse.specs.Kinds.{codes, token_code, types, type_of, name_of}
-use Rattle.lsl_parse.specs.ExpressionReading.{TokenReader, ◌>>=◌, any_r, sign_r, where_r, while_r, expressions_r, expr_r}
+use Rattle.lsl_grammar.specs.Reading.{ret_r, deep_r, rounds_r}
+use Rattle.lsl_lex.specs.declared.token_types.Sort.{Sort}
+use Rattle.lsl_lex.specs.declared.token_types.Sort.TheVariants.{DefaultWord, StateWord, IfWord, ElseWord, ForWord, DoWord, WhileWord, JumpWord, ReturnWord, PlusPlus, MinusMinus, Assign, Minus, Bang, Tilde, ParenOpen, ParenClose, BracketOpen, BraceOpen, BraceClose, Semicolon, At}
+use Rattle.lsl_parse.specs.Kinds.{Name, Int, Str, codes, token_code, not_end, types, type_of, name_of}
+use Rattle.lsl_parse.specs.ExpressionReading.{TokenReader, ◌>>=◌, any_r, sign_r, where_r, expressions_r, expr_r}
 
 -- the first tokens of a statement
-abbrev pub statement_heads : List TokenKind
+abbrev pub statement_heads : List Sort
 statement_heads = BraceOpen ∷ IfWord ∷ WhileWord ∷ DoWord ∷ ForWord ∷ JumpWord ∷ ReturnWord ∷ StateWord ∷ Semicolon ∷ Minus ∷ Bang ∷ Tilde ∷ PlusPlus ∷ MinusMinus ∷ ParenOpen ∷ BracketOpen ∷ Str ∷ Name ∷ Int ∷ []
-
--- each kind but the end of a block
-abbrev pub not_end : List TokenKind
-not_end = Name ∷ Int ∷ Str ∷ IntegerWord ∷ StringWord ∷ KeyWord ∷ ListWord ∷ FloatWord ∷ VectorWord ∷ RotationWord ∷ QuaternionWord ∷ DefaultWord ∷ StateWord ∷ IfWord ∷ ElseWord ∷ ForWord ∷ DoWord ∷ WhileWord ∷ JumpWord ∷ ReturnWord ∷ PlusPlus ∷ MinusMinus ∷ PlusAssign ∷ MinusAssign ∷ StarAssign ∷ SlashAssign ∷ PercentAssign ∷ EqualEqual ∷ BangEqual ∷ LessEqual ∷ MoreEqual ∷ LessLess ∷ MoreMore ∷ AndAnd ∷ OrOr ∷ Plus ∷ Minus ∷ Star ∷ Slash ∷ Percent ∷ Assign ∷ Less ∷ More ∷ Bang ∷ Tilde ∷ And ∷ Or ∷ Caret ∷ ParenOpen ∷ ParenClose ∷ BracketOpen ∷ BracketClose ∷ BraceOpen ∷ Comma ∷ Semicolon ∷ At ∷ []
 
 pub data StmtRoom_r : Type 0 where
   Shut_r : StmtRoom_r
   Holds_r : (item : TokenReader Item) → (statement : TokenReader Stmt) → StmtRoom_r
 
-abbrev pub enclosed_r : {T : Type 0} → Why → List TokenKind → StmtRoom_r → (TokenReader Item → TokenReader Stmt → TokenReader T) → TokenReader T
+abbrev pub enclosed_r : {T : Type 0} → Why → List Sort → StmtRoom_r → (TokenReader Item → TokenReader Stmt → TokenReader T) → TokenReader T
 enclosed_r why ks Shut_r rule = deep_r token_code why (codes ks)
 enclosed_r why ks (Holds_r item statement) rule = rule item statement
 
@@ -36,7 +32,7 @@ next_item_r item before = do
   ret_r (AndItem before next)
 
 abbrev pub items_r : TokenReader Item → TokenReader Items
-items_r item = while_r not_end (next_item_r item) NoItem
+items_r item = rounds_r token_code not_end (next_item_r item) NoItem
 
 abbrev pub block_r : StmtRoom_r → TokenReader Items
 block_r room = enclosed_r Unexpected (BraceOpen ∷ []) room (λ item statement. do

@@ -4,26 +4,25 @@ ghost use Rattle.std.specs.Prelude.{◌≡◌, ◌<◌, ℕ, [], length, ◌∷�
 ghost use Rattle.lsl_tree.specs.Scripts as tree;
 ghost use Rattle.lsl_tree.specs.Scripts.{tree_of};
 ghost use Rattle.lsl_parse.specs.declared.fault.ParseKind.{ParseKind};
-ghost use Rattle.lsl_parse.specs.declared.limits.TheConstants.{HEIGHT, TOKENS};
+ghost use Rattle.lsl_parse.specs.Limits.{height_limit, most_constructs, most_tokens};
 ghost use Rattle.lsl_parse.specs.ScriptReading.{all_r, end_r};
 ghost use Rattle.lsl_parse.specs.Faults.{Derives, ParseFirst, IsFirst, IsFaultAt, IfFault, span_at};
 ghost use Rattle.lsl_parse.specs.FaultReading.{fault_kind, stop_fault, large_fault};
 ghost use Rattle.lsl_parse.specs.Parses.{Parses};
 
 use crate::fault::{ParseFault, ParseKind};
-use crate::kind::{TokenKind, kind_of};
 use crate::limits::{DEPTH, TOKENS};
 use crate::script::script;
 use crate::stop::Stop;
 use lsl_grammar::Why;
-use lsl_lex::{Token, Tokens};
+use lsl_lex::{Sort, Token, Tokens};
 use lsl_text::{Refusal, Span};
 use lsl_tree::Tree;
 use std::alloc::Global;
 
 /// A script with nothing behind it.
 fn whole<'a>(alloc: Global, tokens: &'a [Token]) -> Result<Tree, Refusal<Stop<'a>>>
-    ensures { Parses (λ t. (tree_of t, [])) result (all_r (Some HEIGHT) DEPTH tokens.now) }
+    ensures { Parses (λ t. (tree_of t, [])) result (all_r (Some height_limit) most_constructs tokens.now) }
 {
     let (tree, rest) = script(alloc, DEPTH, tokens)?;
     ended(tree, rest)
@@ -56,12 +55,10 @@ fn first_span(tokens: &[Token], end: Span) -> Span
 fn foreign(token: &Token, due: bool) -> ParseKind
     ensures { result ≡ fault_kind (if due then Why.OperandDue else Why.Unexpected) (token.now ∷ []) }
 {
-    match kind_of(&token.sort) {
-        TokenKind::FloatWord
-        | TokenKind::VectorWord
-        | TokenKind::RotationWord
-        | TokenKind::QuaternionWord => ParseKind::FloatType,
-        TokenKind::Less if due => ParseKind::FloatType,
+    match token.sort {
+        Sort::FloatWord | Sort::VectorWord | Sort::RotationWord | Sort::QuaternionWord =>
+            ParseKind::FloatType,
+        Sort::Less if due => ParseKind::FloatType,
         _ => ParseKind::Unexpected,
     }
 }
@@ -82,7 +79,7 @@ fn kind_of_stop(stop: Stop) -> ParseKind
 
 /// The fault of the first token too many.
 fn large_fault_of(tokens: &[Token], end: Span) -> ParseFault
-    requires { TOKENS < length tokens.now }
+    requires { most_tokens < length tokens.now }
     ensures { result ≡ large_fault tokens.now end }
 {
     ParseFault {

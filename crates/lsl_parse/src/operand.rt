@@ -3,7 +3,7 @@
 ghost use Rattle.std.specs.Prelude.{◌≡◌, ◌+◌, IfOk, OnOk, min};
 ghost use Rattle.lsl_tree.specs.Expressions as tree;
 ghost use Rattle.lsl_tree.specs.Expressions.{height as height_of, highest as highest_of, expr_of, exprs_of, NoExpr, AndExpr};
-ghost use Rattle.lsl_parse.specs.declared.limits.TheConstants.{HEIGHT};
+ghost use Rattle.lsl_parse.specs.Limits.{height_limit};
 ghost use Rattle.lsl_parse.specs.ExpressionGrammar.{fits};
 
 use crate::limits::HEIGHT;
@@ -17,7 +17,7 @@ use std::alloc::Global;
 pub struct Operand {
     pub expr: Expr,
     pub height: u32,
-    ghost capped: { height ≡ min (height_of (expr_of expr)) HEIGHT },
+    ghost capped: { height ≡ min (height_of (expr_of expr)) height_limit },
 }
 
 /// Expressions and the height of the highest; heights from the limit on count as the limit.
@@ -25,12 +25,12 @@ pub struct Operand {
 pub struct Operands {
     pub exprs: Vec<Expr>,
     pub highest: u32,
-    ghost capped: { highest ≡ min (highest_of (exprs_of exprs.items)) HEIGHT },
+    ghost capped: { highest ≡ min (highest_of (exprs_of exprs.items)) height_limit },
 }
 
 /// One more than a height, up to the limit.
 fn raised(height: u32) -> u32
-    ensures { result ≡ min (1 + height) HEIGHT }
+    ensures { result ≡ min (1 + height) height_limit }
 {
     if height < HEIGHT { height + 1 } else { HEIGHT }
 }
@@ -59,7 +59,7 @@ impl Operands {
 impl Operand {
     /// Whether it may stand left of an operator.
     pub fn may_be_left(&self) -> bool
-        ensures { result ≡ fits (Some HEIGHT) (expr_of self.now.expr) }
+        ensures { result ≡ fits (Some height_limit) (expr_of self.now.expr) }
     {
         self.height < HEIGHT
     }

@@ -5,48 +5,45 @@ ghost use Rattle.lsl_value.specs.declared.tagged.Kind.{Kind};
 ghost use Rattle.lsl_tree.specs.declared.script.Atom.{Atom};
 ghost use Rattle.lsl_tree.specs.declared.script.Param.{Param};
 ghost use Rattle.lsl_tree.specs.Scripts.{simple_of, header_of, handler_of, state_of, tree_of};
-ghost use Rattle.lsl_parse.specs.declared.limits.TheConstants.{HEIGHT};
-ghost use Rattle.lsl_parse.specs.declared.kind.TokenKind.TheVariants.{Name, StateWord};
-ghost use Rattle.lsl_parse.specs.Kinds.{name_of};
+ghost use Rattle.lsl_parse.specs.Limits.{height_limit};
+ghost use Rattle.lsl_lex.specs.declared.token_types.Sort.TheVariants.{StateWord, BracketClose};
+ghost use Rattle.lsl_parse.specs.Kinds.{Name, name_of};
 ghost use Rattle.lsl_parse.specs.ScriptGrammar.{added};
 ghost use Rattle.lsl_parse.specs.ExpressionReading.{series_r, listing_r};
 ghost use Rattle.lsl_parse.specs.StatementReading.{stmt_room_r};
 ghost use Rattle.lsl_parse.specs.ScriptReading.{atom_r, initial_r, param_r, params_r, global_behind_r, function_behind_r, header_r, handler_r, handlers_r, state_r, many_r, header_heads, script_r};
 ghost use Rattle.lsl_parse.specs.Parses.{Parses};
 
-use crate::kind::TokenKind;
-use crate::names;
-use crate::signs::{HEADER_HEADS, TYPES, type_kind};
+use crate::signs::type_kind;
 use crate::statement::block;
-use crate::steps::{any, next_among, next_is, sign, take};
 use crate::stop::Found;
-use lsl_grammar::Why;
+use crate::{names, next, take};
 use lsl_lex::Token;
 use lsl_tree::{Atom, Function, Global, Handler, Header, Param, Simple, State, Tree};
 use lsl_value::Kind;
 use std::alloc::Global as Memory;
 
 /// A part of a global's initial value.
-fn atom(alloc: Memory, tokens: &[Token]) -> Found<'_, Atom>
+fn atom(tokens: &[Token]) -> Found<'_, Atom>
     ensures { Parses (λ x. (x.0, x.1.now)) result (atom_r tokens.now) }
 {
-    if next_is(tokens, TokenKind::Minus) {
-        let (minus, rest) = sign(tokens, TokenKind::Minus)?;
-        let (token, rest) = take(rest, &[TokenKind::Int], Why::OperandDue)?;
+    if next::is_minus(tokens) {
+        let (minus, rest) = take::minus(tokens)?;
+        let (token, rest) = take::int(rest)?;
         let value = names::integer(&token.sort);
         let span = minus.span;
         Ok((Atom::Negative { value, span }, rest))
-    } else if next_is(tokens, TokenKind::Str) {
-        let (token, rest) = sign(tokens, TokenKind::Str)?;
+    } else if next::is_string(tokens) {
+        let (token, rest) = take::string(tokens)?;
         let text = names::text(&token.sort)?;
         let span = token.span;
         Ok((Atom::Str { text, span }, rest))
-    } else if next_is(tokens, TokenKind::Name) {
-        let (name, rest) = sign(tokens, TokenKind::Name)?;
+    } else if next::is_name(tokens) {
+        let (name, rest) = take::name(tokens)?;
         let name = names::name(name)?;
         Ok((Atom::Constant { name }, rest))
     } else {
-        let (token, rest) = take(tokens, &[TokenKind::Int], Why::OperandDue)?;
+        let (token, rest) = take::int(tokens)?;
         let value = names::integer(&token.sort);
         let span = token.span;
         Ok((Atom::Int { value, span }, rest))
@@ -57,12 +54,12 @@ fn atom(alloc: Memory, tokens: &[Token]) -> Found<'_, Atom>
 fn atom_series(alloc: Memory, tokens: &[Token]) -> Found<'_, Vec<Atom>>
     ensures { Parses (λ x. (x.0.items, x.1.now)) result (series_r added [] atom_r tokens.now) }
 {
-    let (first, mut rest) = atom(alloc, tokens)?;
+    let (first, mut rest) = atom(tokens)?;
     let mut all = Vec::new(alloc);
     all.push(first)?;
-    'more: while next_is(rest, TokenKind::Comma) {
-        let (_, after) = sign(rest, TokenKind::Comma)?;
-        let (next, after) = atom(alloc, after)?;
+    'more: while next::is_comma(rest) {
+        let (_, after) = take::comma(rest)?;
+        let (next, after) = atom(after)?;
         all.push(next)?;
         rest = after;
     }
@@ -71,14 +68,14 @@ fn atom_series(alloc: Memory, tokens: &[Token]) -> Found<'_, Vec<Atom>>
 
 /// Parts, if any, and the closing bracket.
 fn atoms(alloc: Memory, tokens: &[Token]) -> Found<'_, Vec<Atom>>
-    ensures { Parses (λ x. (x.0.items, x.1.now)) result (listing_r TokenKind.BracketClose added [] atom_r tokens.now) }
+    ensures { Parses (λ x. (x.0.items, x.1.now)) result (listing_r BracketClose added [] atom_r tokens.now) }
 {
-    if next_is(tokens, TokenKind::BracketClose) {
-        let (_, rest) = sign(tokens, TokenKind::BracketClose)?;
+    if next::is_bracket_close(tokens) {
+        let (_, rest) = take::bracket_close(tokens)?;
         Ok((Vec::new(alloc), rest))
     } else {
         let (all, rest) = atom_series(alloc, tokens)?;
-        let (_, rest) = sign(rest, TokenKind::BracketClose)?;
+        let (_, rest) = take::bracket_close(rest)?;
         Ok((all, rest))
     }
 }
@@ -87,22 +84,22 @@ fn atoms(alloc: Memory, tokens: &[Token]) -> Found<'_, Vec<Atom>>
 fn initial(alloc: Memory, tokens: &[Token]) -> Found<'_, Simple>
     ensures { Parses (λ x. (simple_of x.0, x.1.now)) result (initial_r tokens.now) }
 {
-    if next_is(tokens, TokenKind::BracketOpen) {
-        let (start, rest) = sign(tokens, TokenKind::BracketOpen)?;
+    if next::is_bracket_open(tokens) {
+        let (start, rest) = take::bracket_open(tokens)?;
         let (atoms, rest) = atoms(alloc, rest)?;
         let span = start.span;
         Ok((Simple::List { span, atoms }, rest))
     } else {
-        let (atom, rest) = atom(alloc, tokens)?;
+        let (atom, rest) = atom(tokens)?;
         Ok((Simple::Atom { atom }, rest))
     }
 }
 
-fn param(alloc: Memory, tokens: &[Token]) -> Found<'_, Param>
+fn param(tokens: &[Token]) -> Found<'_, Param>
     ensures { Parses (λ x. (x.0, x.1.now)) result (param_r tokens.now) }
 {
-    let (kind, rest) = any(tokens, &TYPES)?;
-    let (name, rest) = sign(rest, TokenKind::Name)?;
+    let (kind, rest) = take::type_word(tokens)?;
+    let (name, rest) = take::name(rest)?;
     let kind = type_kind(&kind.sort);
     let name = names::name(name)?;
     Ok((Param { kind, name }, rest))
@@ -112,12 +109,12 @@ fn param(alloc: Memory, tokens: &[Token]) -> Found<'_, Param>
 fn param_series(alloc: Memory, tokens: &[Token]) -> Found<'_, Vec<Param>>
     ensures { Parses (λ x. (x.0.items, x.1.now)) result (series_r added [] param_r tokens.now) }
 {
-    let (first, mut rest) = param(alloc, tokens)?;
+    let (first, mut rest) = param(tokens)?;
     let mut all = Vec::new(alloc);
     all.push(first)?;
-    'more: while next_is(rest, TokenKind::Comma) {
-        let (_, after) = sign(rest, TokenKind::Comma)?;
-        let (next, after) = param(alloc, after)?;
+    'more: while next::is_comma(rest) {
+        let (_, after) = take::comma(rest)?;
+        let (next, after) = param(after)?;
         all.push(next)?;
         rest = after;
     }
@@ -128,13 +125,13 @@ fn param_series(alloc: Memory, tokens: &[Token]) -> Found<'_, Vec<Param>>
 fn params(alloc: Memory, tokens: &[Token]) -> Found<'_, Vec<Param>>
     ensures { Parses (λ x. (x.0.items, x.1.now)) result (params_r tokens.now) }
 {
-    let (_, rest) = sign(tokens, TokenKind::ParenOpen)?;
-    if next_is(rest, TokenKind::ParenClose) {
-        let (_, rest) = sign(rest, TokenKind::ParenClose)?;
+    let (_, rest) = take::paren_open(tokens)?;
+    if next::is_paren_close(rest) {
+        let (_, rest) = take::paren_close(rest)?;
         Ok((Vec::new(alloc), rest))
     } else {
         let (all, rest) = param_series(alloc, rest)?;
-        let (_, rest) = sign(rest, TokenKind::ParenClose)?;
+        let (_, rest) = take::paren_close(rest)?;
         Ok((all, rest))
     }
 }
@@ -148,16 +145,16 @@ fn global_behind<'a>(
 ) -> Found<'a, Header>
     ensures { Parses (λ x. (header_of x.0, x.1.now)) result (global_behind_r kind (name_of token.now) tokens.now) }
 {
-    if next_is(tokens, TokenKind::Assign) {
-        let (_, rest) = sign(tokens, TokenKind::Assign)?;
+    if next::is_equals(tokens) {
+        let (_, rest) = take::equals(tokens)?;
         let (value, rest) = initial(alloc, rest)?;
-        let (_, rest) = sign(rest, TokenKind::Semicolon)?;
+        let (_, rest) = take::semicolon(rest)?;
         let name = names::name(token)?;
         let value = Some(value);
         let global = Global { kind, name, value };
         Ok((Header::Global { global }, rest))
     } else {
-        let (_, rest) = sign(tokens, TokenKind::Semicolon)?;
+        let (_, rest) = take::semicolon(tokens)?;
         let name = names::name(token)?;
         let value = None;
         let global = Global { kind, name, value };
@@ -173,7 +170,7 @@ fn function_behind<'a>(
     token: &'a Token,
     tokens: &'a [Token],
 ) -> Found<'a, Header>
-    ensures { Parses (λ x. (header_of x.0, x.1.now)) result (function_behind_r (stmt_room_r (Some HEIGHT) room) kind (name_of token.now) tokens.now) }
+    ensures { Parses (λ x. (header_of x.0, x.1.now)) result (function_behind_r (stmt_room_r (Some height_limit) room) kind (name_of token.now) tokens.now) }
 {
     let (params, rest) = params(alloc, tokens)?;
     let (body, rest) = block(alloc, room, rest)?;
@@ -189,30 +186,30 @@ fn function_behind<'a>(
 
 /// A global or a function.
 fn header(alloc: Memory, room: u32, tokens: &[Token]) -> Found<'_, Header>
-    ensures { Parses (λ x. (header_of x.0, x.1.now)) result (header_r (stmt_room_r (Some HEIGHT) room) tokens.now) }
+    ensures { Parses (λ x. (header_of x.0, x.1.now)) result (header_r (stmt_room_r (Some height_limit) room) tokens.now) }
 {
-    if next_among(tokens, &TYPES) {
-        let (kind, rest) = any(tokens, &TYPES)?;
-        let (name, rest) = sign(rest, TokenKind::Name)?;
+    if next::is_type(tokens) {
+        let (kind, rest) = take::type_word(tokens)?;
+        let (name, rest) = take::name(rest)?;
         let kind = type_kind(&kind.sort);
-        if next_is(rest, TokenKind::ParenOpen) {
+        if next::is_paren_open(rest) {
             function_behind(alloc, room, Some(kind), name, rest)
         } else {
             global_behind(alloc, kind, name, rest)
         }
     } else {
-        let (name, rest) = sign(tokens, TokenKind::Name)?;
+        let (name, rest) = take::name(tokens)?;
         function_behind(alloc, room, None, name, rest)
     }
 }
 
 /// Globals and functions, as many as stand here.
 fn headers(alloc: Memory, room: u32, tokens: &[Token]) -> Found<'_, Vec<Header>>
-    ensures { Parses (λ x. (map header_of x.0.items, x.1.now)) result (many_r header_heads (header_r (stmt_room_r (Some HEIGHT) room)) [] tokens.now) }
+    ensures { Parses (λ x. (map header_of x.0.items, x.1.now)) result (many_r header_heads (header_r (stmt_room_r (Some height_limit) room)) [] tokens.now) }
 {
     let mut all = Vec::new(alloc);
     let mut rest = tokens;
-    'all: while next_among(rest, &HEADER_HEADS) {
+    'all: while next::is_header(rest) {
         let (next, after) = header(alloc, room, rest)?;
         all.push(next)?;
         rest = after;
@@ -221,9 +218,9 @@ fn headers(alloc: Memory, room: u32, tokens: &[Token]) -> Found<'_, Vec<Header>>
 }
 
 fn handler(alloc: Memory, room: u32, tokens: &[Token]) -> Found<'_, Handler>
-    ensures { Parses (λ x. (handler_of x.0, x.1.now)) result (handler_r (stmt_room_r (Some HEIGHT) room) tokens.now) }
+    ensures { Parses (λ x. (handler_of x.0, x.1.now)) result (handler_r (stmt_room_r (Some height_limit) room) tokens.now) }
 {
-    let (token, rest) = sign(tokens, TokenKind::Name)?;
+    let (token, rest) = take::name(tokens)?;
     let (params, rest) = params(alloc, rest)?;
     let (body, rest) = block(alloc, room, rest)?;
     let name = names::name(token)?;
@@ -237,12 +234,12 @@ fn more_handlers(
     first: Handler,
     tokens: &[Token],
 ) -> Found<'_, Vec<Handler>>
-    ensures { Parses (λ x. (map handler_of x.0.items, x.1.now)) result (many_r (Name ∷ []) (handler_r (stmt_room_r (Some HEIGHT) room)) (handler_of first ∷ []) tokens.now) }
+    ensures { Parses (λ x. (map handler_of x.0.items, x.1.now)) result (many_r (Name ∷ []) (handler_r (stmt_room_r (Some height_limit) room)) (handler_of first ∷ []) tokens.now) }
 {
     let mut all = Vec::new(alloc);
     all.push(first)?;
     let mut rest = tokens;
-    'all: while next_is(rest, TokenKind::Name) {
+    'all: while next::is_name(rest) {
         let (next, after) = handler(alloc, room, rest)?;
         all.push(next)?;
         rest = after;
@@ -252,21 +249,21 @@ fn more_handlers(
 
 /// The handlers of a state, in its braces.
 fn handlers(alloc: Memory, room: u32, tokens: &[Token]) -> Found<'_, Vec<Handler>>
-    ensures { Parses (λ x. (map handler_of x.0.items, x.1.now)) result (handlers_r (stmt_room_r (Some HEIGHT) room) tokens.now) }
+    ensures { Parses (λ x. (map handler_of x.0.items, x.1.now)) result (handlers_r (stmt_room_r (Some height_limit) room) tokens.now) }
 {
-    let (_, rest) = sign(tokens, TokenKind::BraceOpen)?;
+    let (_, rest) = take::brace_open(tokens)?;
     let (first, rest) = handler(alloc, room, rest)?;
     let (all, rest) = more_handlers(alloc, room, first, rest)?;
-    let (_, rest) = sign(rest, TokenKind::BraceClose)?;
+    let (_, rest) = take::brace_close(rest)?;
     Ok((all, rest))
 }
 
 /// A state other than `default`.
 fn state(alloc: Memory, room: u32, tokens: &[Token]) -> Found<'_, State>
-    ensures { Parses (λ x. (state_of x.0, x.1.now)) result (state_r (stmt_room_r (Some HEIGHT) room) tokens.now) }
+    ensures { Parses (λ x. (state_of x.0, x.1.now)) result (state_r (stmt_room_r (Some height_limit) room) tokens.now) }
 {
-    let (_, rest) = sign(tokens, TokenKind::StateWord)?;
-    let (token, rest) = sign(rest, TokenKind::Name)?;
+    let (_, rest) = take::state_word(tokens)?;
+    let (token, rest) = take::name(rest)?;
     let (handlers, rest) = handlers(alloc, room, rest)?;
     let name = names::name(token)?;
     Ok((State { name, handlers }, rest))
@@ -274,11 +271,11 @@ fn state(alloc: Memory, room: u32, tokens: &[Token]) -> Found<'_, State>
 
 /// States, as many as stand here.
 fn states(alloc: Memory, room: u32, tokens: &[Token]) -> Found<'_, Vec<State>>
-    ensures { Parses (λ x. (map state_of x.0.items, x.1.now)) result (many_r (StateWord ∷ []) (state_r (stmt_room_r (Some HEIGHT) room)) [] tokens.now) }
+    ensures { Parses (λ x. (map state_of x.0.items, x.1.now)) result (many_r (StateWord ∷ []) (state_r (stmt_room_r (Some height_limit) room)) [] tokens.now) }
 {
     let mut all = Vec::new(alloc);
     let mut rest = tokens;
-    'all: while next_is(rest, TokenKind::StateWord) {
+    'all: while next::is_state(rest) {
         let (next, after) = state(alloc, room, rest)?;
         all.push(next)?;
         rest = after;
@@ -288,10 +285,10 @@ fn states(alloc: Memory, room: u32, tokens: &[Token]) -> Found<'_, Vec<State>>
 
 /// A script, and what stands behind it.
 pub fn script(alloc: Memory, room: u32, tokens: &[Token]) -> Found<'_, Tree>
-    ensures { Parses (λ x. (tree_of x.0, x.1.now)) result (script_r (Some HEIGHT) room tokens.now) }
+    ensures { Parses (λ x. (tree_of x.0, x.1.now)) result (script_r (Some height_limit) room tokens.now) }
 {
     let (headers, rest) = headers(alloc, room, tokens)?;
-    let (_, rest) = sign(rest, TokenKind::DefaultWord)?;
+    let (_, rest) = take::default_word(rest)?;
     let (default, rest) = handlers(alloc, room, rest)?;
     let (states, rest) = states(alloc, room, rest)?;
     Ok((

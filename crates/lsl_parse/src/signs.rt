@@ -2,110 +2,30 @@
 
 ghost use Rattle.std.specs.Prelude.{◌≡◌};
 ghost use Rattle.lsl_parse.specs.Kinds.{type_of};
-ghost use Rattle.lsl_parse.specs.Operators.{prefix_of, step_of, assign_of, operator_of, signs};
+ghost use Rattle.lsl_parse.specs.Operators.{prefix_of, step_of, assign_of, operator_of, level_of, levels};
 
-use crate::kind::TokenKind;
 use lsl_lex::Sort;
 use lsl_tree::{AssignOp, StepOp};
 use lsl_value::{BinaryOp, Kind, UnaryOp};
 
-/// TYPE
-pub const TYPES: [TokenKind; 4] = [
-    TokenKind::IntegerWord,
-    TokenKind::StringWord,
-    TokenKind::KeyWord,
-    TokenKind::ListWord,
-];
-
-/// The signs before an operand.
-pub const PREFIX_SIGNS: [TokenKind; 3] = [TokenKind::Minus, TokenKind::Bang, TokenKind::Tilde];
-
-/// `++` and `--`.
-pub const STEP_SIGNS: [TokenKind; 2] = [TokenKind::PlusPlus, TokenKind::MinusMinus];
-
-/// The signs of an assignment.
-pub const ASSIGN_SIGNS: [TokenKind; 6] = [
-    TokenKind::Assign,
-    TokenKind::PlusAssign,
-    TokenKind::MinusAssign,
-    TokenKind::StarAssign,
-    TokenKind::SlashAssign,
-    TokenKind::PercentAssign,
-];
-
-/// The first tokens of a statement.
-pub const STATEMENT_HEADS: [TokenKind; 19] = [
-    TokenKind::BraceOpen,
-    TokenKind::IfWord,
-    TokenKind::WhileWord,
-    TokenKind::DoWord,
-    TokenKind::ForWord,
-    TokenKind::JumpWord,
-    TokenKind::ReturnWord,
-    TokenKind::StateWord,
-    TokenKind::Semicolon,
-    TokenKind::Minus,
-    TokenKind::Bang,
-    TokenKind::Tilde,
-    TokenKind::PlusPlus,
-    TokenKind::MinusMinus,
-    TokenKind::ParenOpen,
-    TokenKind::BracketOpen,
-    TokenKind::Str,
-    TokenKind::Name,
-    TokenKind::Int,
-];
-
-/// The first tokens of a global or a function.
-pub const HEADER_HEADS: [TokenKind; 5] = [
-    TokenKind::IntegerWord,
-    TokenKind::StringWord,
-    TokenKind::KeyWord,
-    TokenKind::ListWord,
-    TokenKind::Name,
-];
-
 /// How many levels of operators there are.
 pub const LEVELS: u32 = 9;
 
-const PRODUCT: [TokenKind; 3] = [TokenKind::Star, TokenKind::Slash, TokenKind::Percent];
-
-const SUM: [TokenKind; 2] = [TokenKind::Plus, TokenKind::Minus];
-
-const SHIFT: [TokenKind; 2] = [TokenKind::LessLess, TokenKind::MoreMore];
-
-const ORDER: [TokenKind; 4] = [
-    TokenKind::Less,
-    TokenKind::LessEqual,
-    TokenKind::More,
-    TokenKind::MoreEqual,
-];
-
-const EQUALITY: [TokenKind; 2] = [TokenKind::EqualEqual, TokenKind::BangEqual];
-
-const BIT_AND: [TokenKind; 1] = [TokenKind::And];
-
-const BIT_XOR: [TokenKind; 1] = [TokenKind::Caret];
-
-const BIT_OR: [TokenKind; 1] = [TokenKind::Or];
-
-const LOGIC: [TokenKind; 2] = [TokenKind::AndAnd, TokenKind::OrOr];
-
-/// The signs between the operands of a level, from the tightest.
-pub fn level_signs(level: u32) -> &'static [TokenKind]
-    ensures { result.now ≡ signs level }
+/// The level of an operator's sign, from the tightest.
+pub fn level_of(sort: &Sort) -> Option<u32>
+    ensures { result ≡ level_of levels sort.now }
 {
-    match level {
-        0 => &PRODUCT,
-        1 => &SUM,
-        2 => &SHIFT,
-        3 => &ORDER,
-        4 => &EQUALITY,
-        5 => &BIT_AND,
-        6 => &BIT_XOR,
-        7 => &BIT_OR,
-        8 => &LOGIC,
-        _ => &[],
+    match sort {
+        Sort::Star | Sort::Slash | Sort::Percent => Some(0),
+        Sort::Plus | Sort::Minus => Some(1),
+        Sort::LessLess | Sort::MoreMore => Some(2),
+        Sort::Less | Sort::LessEqual | Sort::More | Sort::MoreEqual => Some(3),
+        Sort::EqualEqual | Sort::BangEqual => Some(4),
+        Sort::And => Some(5),
+        Sort::Caret => Some(6),
+        Sort::Or => Some(7),
+        Sort::AndAnd | Sort::OrOr => Some(8),
+        _ => None,
     }
 }
 

@@ -1,5 +1,8 @@
 //! Where reading stopped, and why.
 
+ghost use Rattle.std.specs.Prelude.{◌≡◌};
+ghost use Rattle.lsl_parse.specs.Parses.{shut_at};
+
 use lsl_grammar::Why;
 use lsl_lex::Token;
 use lsl_text::Refusal;
@@ -13,3 +16,11 @@ pub struct Stop<'a> {
 
 /// What was read and the tokens behind it, or where reading stopped.
 pub type Found<'a, T> = Result<(T, &'a [Token]), Refusal<Stop<'a>>>;
+
+/// What would begin here is too deep; where nothing would begin, that is why.
+pub fn shut(tokens: &[Token], begins: bool, why: Why) -> Stop<'_>
+    ensures { (result.why, result.rest.now) ≡ shut_at begins why tokens.now }
+{
+    let why = if begins { Why::TooDeep } else { why };
+    Stop { why, rest: tokens }
+}

@@ -17,9 +17,12 @@ use Rattle.lsl_type.specs.Typed.{TypeFirst}
 use Rattle.lsl_type.specs.FaultNumbers.{number_of as semantic_number_of}
 use Rattle.lsl_type.specs.declared.faults.TypeFault.{TypeFault}
 use Rattle.lsl_top.specs.declared.build_fault.BuildFault.{BuildFault}
-use Rattle.lsl_top.specs.declared.build_fault.TheConstants.{NOT_YET}
 use Rattle.lsl_top.specs.Accepted.{IsAccepted}
 use Rattle.lsl_top.specs.Form.{HasNoForm}
+
+-- what a run of a script outside the built part answers, at the script's start
+abbrev pub outside_fault : BuildFault
+outside_fault = record { number = 90; span = record { start = 0; end = 0; line = 1; col = 1 } }
 
 abbrev pub lexical_number_of : LexKind → ℕ
 lexical_number_of NotText = 1
@@ -76,4 +79,4 @@ pub record IsOutside (file : List ℕ) (fault : BuildFault) : Type 0 where
   pub program : Program
   pub accepted : IsAccepted file script program
   pub formless : HasNoForm script
-  pub fault_is : fault ≡ NOT_YET
+  pub fault_is : fault ≡ outside_fault

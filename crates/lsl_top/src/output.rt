@@ -5,11 +5,11 @@ ghost use Rattle.lsl_ports.specs.Counts.{Rose};
 ghost use Rattle.lsl_ports.specs.Sink.{GrewByPrefix};
 ghost use Rattle.lsl_tree.specs.Scripts.{tree_of};
 ghost use Rattle.lsl_top.specs.Answer.{Answers, IsFault, IsReport, Wrote};
+ghost use Rattle.lsl_top.specs.Faults.{outside_fault};
 ghost use Rattle.lsl_top.specs.Form.{HasNoForm, IsForm, utf8_of};
 ghost use Rattle.lsl_top.specs.Journal as journal;
 ghost use Rattle.lsl_top.specs.Meant.{asked_by};
 ghost use Rattle.lsl_top.specs.declared.build_fault.BuildFault.{BuildFault as Fault};
-ghost use Rattle.lsl_top.specs.declared.build_fault.TheConstants as faults;
 
 use crate::build::build;
 use crate::build_fault::{BuildFault, NOT_YET};
@@ -33,7 +33,7 @@ pub struct Output {
 /// The report of a run of this script, or fault 90 where it is outside the built part.
 fn run(alloc: Global, tree: &Tree) -> Result<Vec<u8>, Refusal<BuildFault>>
     ensures ok { IfOk result (λ lines. (said : List (List ℕ)) × IsForm (tree_of tree.now) said × (lines.items ≡ journal.report_of (utf8_of said))) }
-    ensures fault { (fault : Fault) → IsErrOf result (refusals.Fault fault) → HasNoForm (tree_of tree.now) × (fault ≡ faults.NOT_YET) }
+    ensures fault { (fault : Fault) → IsErrOf result (refusals.Fault fault) → HasNoForm (tree_of tree.now) × (fault ≡ outside_fault) }
 {
     match texts_of(alloc, tree)? {
         Some(texts) => {

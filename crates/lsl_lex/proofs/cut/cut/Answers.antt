@@ -1,8 +1,10 @@
-use Rattle.std.proofs.Common.{◌≡◌, ◌-◌, ◌<◌, List, length, take, drop, sym, ap, subst, rules, arith, length-drop}
+use Rattle.std.proofs.Common.{◌≡◌, ◌-◌, ◌<◌, List, length, take, drop, sym, ap, subst, rules, arith, length-drop, None, true, ◌∙◌, append-nil}
+use Rattle.std.specs.Prelude.{slice_index}
+use Rattle.lsl_text.specs.Number.{is_blank}
 use Rattle.std.proofs.lemmas.List.{take_rest}
 use Rattle.lsl_lex.specs.Lexed.{IsRefused}
 use Rattle.lsl_lex.specs.declared.token_types.Token.{Token}
-use Rattle.lsl_lex.proofs.Loop.{Cutting, rest_within, rest_valid, cutting_more, found_right, refused_first, all_cut}
+use Rattle.lsl_lex.proofs.Loop.{Cutting, rest_within, rest_valid, blank_right, cutting_more, found_right, refused_first, all_cut}
 use Rattle.lsl_lex.proofs.cut.cut.Goals as goal
 
 pub next-requires-clause-valid : goal.next-requires-clause-valid
@@ -24,6 +26,14 @@ pieces-smaller c =
     let some : 0 < length c.pieces.rest.now = search rules in
     let right = found_right c.pieces.rest.now c.in-Ok.piece some c.in-Ok.ensures in
     omega (arith, right.0, right.1, ap length (take_rest c.pieces.rest.now c.in-Ok.piece.length), length-drop c.in-Ok.piece.length c.pieces.rest.now)
+
+pub pieces-preserved-then-is_blank : goal.pieces-preserved-then-is_blank
+pieces-preserved-then-is_blank c =
+    let rest = c.pieces.rest.now in
+    let some : 0 < length rest = search rules in
+    let blank : is_blank (slice_index rest 0) ≡ true = sym c.is_blank.ensures ∙ c.if-is_blank.true in
+    let list = c.pieces.list.items in
+    cutting_more c.args.text.now rest _ list list c.pieces.cursor c.step.new.self None 1 c.pieces.invariant (blank_right rest some blank) c.step.ensures.next (c.step.ensures.place c.pieces.invariant.place) (take_rest rest 1) (sym (append-nil list))
 
 pub pieces-preserved : goal.pieces-preserved
 pieces-preserved c =

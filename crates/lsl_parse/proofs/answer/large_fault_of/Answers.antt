@@ -1,6 +1,6 @@
 use Rattle.std.proofs.Common.{◌≡◌, ◌-◌, take, drop, length, ap, ◌∙◌}
 use Rattle.lsl_text.specs.declared.Span.{Span}
-use Rattle.lsl_parse.specs.declared.limits.TheConstants.{TOKENS}
+use Rattle.lsl_parse.specs.Limits.{most_tokens}
 use Rattle.lsl_parse.specs.declared.fault.ParseFault.{ParseFault}
 use Rattle.lsl_parse.specs.declared.fault.ParseKind.TheVariants.{TooLarge}
 use Rattle.lsl_parse.specs.Faults.{span_at}
@@ -9,6 +9,6 @@ use Rattle.lsl_parse.proofs.answer.large_fault_of.Goals as goal
 
 pub returns : goal.returns
 returns c =
-    let e : c.first_span.result ≡ span_at (take (length c.args.tokens.now - TOKENS) (drop TOKENS c.args.tokens.now)) c.args.end 0 = c.first_span.ensures in
+    let e : c.first_span.result ≡ span_at (take (length c.args.tokens.now - most_tokens) (drop most_tokens c.args.tokens.now)) c.args.end 0 = c.first_span.ensures in
     let made : Span → ParseFault = λ s. record { kind = TooLarge; span = s } in
-    ap made (e ∙ span_at-rest TOKENS c.args.tokens.now c.args.end)
+    ap made (e ∙ span_at-rest most_tokens c.args.tokens.now c.args.end)

@@ -1,9 +1,8 @@
-use Rattle.std.proofs.Common.{◌≡◌, ◌+◌, ◌-◌, ◌*◌, Some, [], ◌∷◌, length}
-use Rattle.lsl_parse.specs.declared.limits.TheConstants.{HEIGHT}
-use Rattle.lsl_parse.specs.declared.kind.TokenKind.TheVariants.{Comma}
+use Rattle.std.proofs.Common.{◌≡◌, ◌+◌, ◌*◌, Some, [], ◌∷◌, length}
+use Rattle.lsl_parse.specs.Limits.{height_limit}
+use Rattle.lsl_lex.specs.declared.token_types.Sort.TheVariants.{Comma}
 use Rattle.lsl_tree.specs.Expressions.{expr_of, exprs_of, AndExpr, NoExpr}
-use Rattle.lsl_parse.specs.Operators.{signs}
-use Rattle.lsl_parse.specs.ExpressionReading.{expr_r, level_r, while_r, comma_r, next_operand_r, series_r}
+use Rattle.lsl_parse.specs.ExpressionReading.{expr_r, level_r, while_r, comma_r, series_r, operators_r}
 use Rattle.lsl_parse.proofs.expression.+expression.Given as goal
 
 -- an open construct leaves less room, and the functions that open none have their order
@@ -45,13 +44,13 @@ decreases-assignment l = 64 * l.room + 1
 
 -- what is still to be read gives the whole
 abbrev pub invariant-series-more : goal.invariant-series-more
-invariant-series-more l = while_r (Comma ∷ []) (comma_r AndExpr (expr_r (Some HEIGHT) l.room)) (exprs_of l.all.exprs.items) l.rest ≡ series_r AndExpr NoExpr (expr_r (Some HEIGHT) l.room) l.tokens
+invariant-series-more l = while_r (Comma ∷ []) (comma_r AndExpr (expr_r (Some height_limit) l.room)) (exprs_of l.all.exprs.items) l.rest ≡ series_r AndExpr NoExpr (expr_r (Some height_limit) l.room) l.tokens
 
 abbrev pub decreases-series-more : goal.decreases-series-more
 decreases-series-more l = length l.rest
 
 abbrev pub invariant-level-operations : goal.invariant-level-operations
-invariant-level-operations l = while_r (signs (l.n - 1)) (next_operand_r (Some HEIGHT) (level_r (Some HEIGHT) l.room (l.n - 1)) (signs (l.n - 1))) (expr_of l.left.expr) l.rest ≡ level_r (Some HEIGHT) l.room l.n l.tokens
+invariant-level-operations l = operators_r (Some height_limit) l.room l.n (expr_of l.left.expr) l.rest ≡ level_r (Some height_limit) l.room l.n l.tokens
 
 abbrev pub decreases-level-operations : goal.decreases-level-operations
 decreases-level-operations l = length l.rest

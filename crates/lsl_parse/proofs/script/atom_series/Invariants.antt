@@ -1,5 +1,5 @@
 use Rattle.std.proofs.Common.{◌≡◌, [], ◌∷◌, length}
-use Rattle.lsl_parse.specs.declared.kind.TokenKind.TheVariants.{Comma}
+use Rattle.lsl_lex.specs.declared.token_types.Sort.TheVariants.{Comma}
 use Rattle.lsl_parse.specs.ExpressionReading.{while_r, comma_r, series_r}
 use Rattle.lsl_parse.specs.ScriptGrammar.{added}
 use Rattle.lsl_parse.specs.ScriptReading.{atom_r}

@@ -1,8 +1,9 @@
 use Rattle.std.proofs.Common.{◌≡◌, ◌+◌, ◌*◌, Some, length}
-use Rattle.lsl_parse.specs.declared.limits.TheConstants.{HEIGHT}
+use Rattle.lsl_parse.specs.Limits.{height_limit}
 use Rattle.lsl_tree.specs.Statements.{items_of}
-use Rattle.lsl_parse.specs.ExpressionReading.{while_r}
-use Rattle.lsl_parse.specs.StatementReading.{not_end, next_item_r, item_r, items_r}
+use Rattle.lsl_grammar.specs.Reading.{rounds_r}
+use Rattle.lsl_parse.specs.Kinds.{token_code, not_end}
+use Rattle.lsl_parse.specs.StatementReading.{next_item_r, item_r, items_r}
 use Rattle.lsl_parse.proofs.statement.+statement.Given as goal
 
 -- an open construct leaves less room, and the functions that open none have their order
@@ -38,7 +39,7 @@ decreases-body l = 8 * l.room + 2
 
 -- what is still to be read gives the whole
 abbrev pub invariant-items-all : goal.invariant-items-all
-invariant-items-all l = while_r not_end (next_item_r (item_r (Some HEIGHT) l.room)) (items_of l.all.items) l.rest ≡ items_r (item_r (Some HEIGHT) l.room) l.tokens
+invariant-items-all l = rounds_r token_code not_end (next_item_r (item_r (Some height_limit) l.room)) (items_of l.all.items) l.rest ≡ items_r (item_r (Some height_limit) l.room) l.tokens
 
 abbrev pub decreases-items-all : goal.decreases-items-all
 decreases-items-all l = length l.rest

@@ -1,6 +1,6 @@
 //! Texts with their tokens, places and faults, typed by hand.
 
-use crate::{LexFault, Sort, Token, Tokens, lex};
+use lsl_lex::{LexFault, Sort, Token, Tokens, lex};
 use lsl_text::Refusal;
 use std::alloc::{AllocError, Global};
 use std::test::Fail;

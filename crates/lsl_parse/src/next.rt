@@ -1,0 +1,349 @@
+//! What stands next.
+
+ghost use Rattle.std.specs.Prelude.{◌≡◌, [], ◌∷◌};
+ghost use Rattle.lsl_lex.specs.declared.token_types.Sort.TheVariants.{StateWord, ElseWord, Assign, At, Minus, ParenOpen, ParenClose, BracketOpen, BracketClose, BraceOpen, Comma, Semicolon};
+ghost use Rattle.lsl_grammar.specs.Reading.{begins};
+ghost use Rattle.lsl_parse.specs.Kinds.{Name, Str, codes, token_code, not_end, types};
+ghost use Rattle.lsl_parse.specs.Operators.{prefix_signs, step_signs, assign_signs};
+ghost use Rattle.lsl_parse.specs.StatementReading.{statement_heads};
+ghost use Rattle.lsl_parse.specs.ScriptReading.{header_heads};
+
+use lsl_lex::{Sort, Token};
+
+/// Whether a TYPE stands next.
+pub fn is_type(tokens: &[Token]) -> bool
+    ensures { result ≡ begins token_code (codes types) tokens.now }
+{
+    matches!(
+        tokens,
+        [
+            Token {
+                sort: Sort::IntegerWord | Sort::StringWord | Sort::KeyWord | Sort::ListWord,
+                ..
+            },
+            ..
+        ]
+    )
+}
+
+/// Whether a NAME stands next.
+pub fn is_name(tokens: &[Token]) -> bool
+    ensures { result ≡ begins token_code (codes (Name ∷ [])) tokens.now }
+{
+    matches!(
+        tokens,
+        [
+            Token {
+                sort: Sort::Name(_),
+                ..
+            },
+            ..
+        ]
+    )
+}
+
+/// Whether the sign of a prefix operator stands next.
+pub fn is_prefix(tokens: &[Token]) -> bool
+    ensures { result ≡ begins token_code (codes prefix_signs) tokens.now }
+{
+    matches!(
+        tokens,
+        [
+            Token {
+                sort: Sort::Minus | Sort::Bang | Sort::Tilde,
+                ..
+            },
+            ..
+        ]
+    )
+}
+
+/// Whether `++` or `--` stands next.
+pub fn is_step(tokens: &[Token]) -> bool
+    ensures { result ≡ begins token_code (codes step_signs) tokens.now }
+{
+    matches!(
+        tokens,
+        [
+            Token {
+                sort: Sort::PlusPlus | Sort::MinusMinus,
+                ..
+            },
+            ..
+        ]
+    )
+}
+
+/// Whether the sign of an assignment stands next.
+pub fn is_assignment(tokens: &[Token]) -> bool
+    ensures { result ≡ begins token_code (codes assign_signs) tokens.now }
+{
+    matches!(
+        tokens,
+        [
+            Token {
+                sort: Sort::Assign
+                    | Sort::PlusAssign
+                    | Sort::MinusAssign
+                    | Sort::StarAssign
+                    | Sort::SlashAssign
+                    | Sort::PercentAssign,
+                ..
+            },
+            ..
+        ]
+    )
+}
+
+/// Whether `=` stands next.
+pub fn is_equals(tokens: &[Token]) -> bool
+    ensures { result ≡ begins token_code (codes (Assign ∷ [])) tokens.now }
+{
+    matches!(
+        tokens,
+        [
+            Token {
+                sort: Sort::Assign,
+                ..
+            },
+            ..
+        ]
+    )
+}
+
+/// Whether `,` stands next.
+pub fn is_comma(tokens: &[Token]) -> bool
+    ensures { result ≡ begins token_code (codes (Comma ∷ [])) tokens.now }
+{
+    matches!(
+        tokens,
+        [
+            Token {
+                sort: Sort::Comma,
+                ..
+            },
+            ..
+        ]
+    )
+}
+
+/// Whether `;` stands next.
+pub fn is_semicolon(tokens: &[Token]) -> bool
+    ensures { result ≡ begins token_code (codes (Semicolon ∷ [])) tokens.now }
+{
+    matches!(
+        tokens,
+        [
+            Token {
+                sort: Sort::Semicolon,
+                ..
+            },
+            ..
+        ]
+    )
+}
+
+/// Whether `(` stands next.
+pub fn is_paren_open(tokens: &[Token]) -> bool
+    ensures { result ≡ begins token_code (codes (ParenOpen ∷ [])) tokens.now }
+{
+    matches!(
+        tokens,
+        [
+            Token {
+                sort: Sort::ParenOpen,
+                ..
+            },
+            ..
+        ]
+    )
+}
+
+/// Whether `)` stands next.
+pub fn is_paren_close(tokens: &[Token]) -> bool
+    ensures { result ≡ begins token_code (codes (ParenClose ∷ [])) tokens.now }
+{
+    matches!(
+        tokens,
+        [
+            Token {
+                sort: Sort::ParenClose,
+                ..
+            },
+            ..
+        ]
+    )
+}
+
+/// Whether `[` stands next.
+pub fn is_bracket_open(tokens: &[Token]) -> bool
+    ensures { result ≡ begins token_code (codes (BracketOpen ∷ [])) tokens.now }
+{
+    matches!(
+        tokens,
+        [
+            Token {
+                sort: Sort::BracketOpen,
+                ..
+            },
+            ..
+        ]
+    )
+}
+
+/// Whether `]` stands next.
+pub fn is_bracket_close(tokens: &[Token]) -> bool
+    ensures { result ≡ begins token_code (codes (BracketClose ∷ [])) tokens.now }
+{
+    matches!(
+        tokens,
+        [
+            Token {
+                sort: Sort::BracketClose,
+                ..
+            },
+            ..
+        ]
+    )
+}
+
+/// Whether `{` stands next.
+pub fn is_brace_open(tokens: &[Token]) -> bool
+    ensures { result ≡ begins token_code (codes (BraceOpen ∷ [])) tokens.now }
+{
+    matches!(
+        tokens,
+        [
+            Token {
+                sort: Sort::BraceOpen,
+                ..
+            },
+            ..
+        ]
+    )
+}
+
+/// Whether `@` stands next.
+pub fn is_at(tokens: &[Token]) -> bool
+    ensures { result ≡ begins token_code (codes (At ∷ [])) tokens.now }
+{
+    matches!(tokens, [Token { sort: Sort::At, .. }, ..])
+}
+
+/// Whether `-` stands next.
+pub fn is_minus(tokens: &[Token]) -> bool
+    ensures { result ≡ begins token_code (codes (Minus ∷ [])) tokens.now }
+{
+    matches!(
+        tokens,
+        [
+            Token {
+                sort: Sort::Minus,
+                ..
+            },
+            ..
+        ]
+    )
+}
+
+/// Whether a STRING stands next.
+pub fn is_string(tokens: &[Token]) -> bool
+    ensures { result ≡ begins token_code (codes (Str ∷ [])) tokens.now }
+{
+    matches!(
+        tokens,
+        [
+            Token {
+                sort: Sort::Str(_),
+                ..
+            },
+            ..
+        ]
+    )
+}
+
+/// Whether `else` stands next.
+pub fn is_else(tokens: &[Token]) -> bool
+    ensures { result ≡ begins token_code (codes (ElseWord ∷ [])) tokens.now }
+{
+    matches!(
+        tokens,
+        [
+            Token {
+                sort: Sort::ElseWord,
+                ..
+            },
+            ..
+        ]
+    )
+}
+
+/// Whether `state` stands next.
+pub fn is_state(tokens: &[Token]) -> bool
+    ensures { result ≡ begins token_code (codes (StateWord ∷ [])) tokens.now }
+{
+    matches!(
+        tokens,
+        [
+            Token {
+                sort: Sort::StateWord,
+                ..
+            },
+            ..
+        ]
+    )
+}
+
+/// Whether a global or a function begins.
+pub fn is_header(tokens: &[Token]) -> bool
+    ensures { result ≡ begins token_code (codes header_heads) tokens.now }
+{
+    matches!(
+        tokens,
+        [
+            Token {
+                sort: Sort::IntegerWord
+                    | Sort::StringWord
+                    | Sort::KeyWord
+                    | Sort::ListWord
+                    | Sort::Name(_),
+                ..
+            },
+            ..
+        ]
+    )
+}
+
+/// Whether a statement begins.
+pub fn is_statement(tokens: &[Token]) -> bool
+    ensures { result ≡ begins token_code (codes statement_heads) tokens.now }
+{
+    match tokens {
+        [first, ..] => match first.sort {
+            Sort::BraceOpen | Sort::IfWord | Sort::WhileWord | Sort::DoWord | Sort::ForWord => true,
+            Sort::JumpWord | Sort::ReturnWord | Sort::StateWord | Sort::Semicolon => true,
+            Sort::Minus | Sort::Bang | Sort::Tilde => true,
+            Sort::PlusPlus | Sort::MinusMinus => true,
+            Sort::ParenOpen | Sort::BracketOpen => true,
+            Sort::Str(_) | Sort::Name(_) | Sort::Int(_) => true,
+            _ => false,
+        },
+        [] => false,
+    }
+}
+
+/// Whether something stands next, and it isn't the end of a block.
+pub fn block_goes_on(tokens: &[Token]) -> bool
+    ensures { result ≡ begins token_code not_end tokens.now }
+{
+    !matches!(
+        tokens,
+        [] | [
+            Token {
+                sort: Sort::BraceClose,
+                ..
+            },
+            ..
+        ]
+    )
+}
