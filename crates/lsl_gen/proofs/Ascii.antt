@@ -1,5 +1,5 @@
 -- Names and constants of the tables are ASCII.
-use Rattle.std.proofs.Common.{◌≡◌, ℕ, ◌<◌, List, [], ◌∷◌, Bool, true, ◌&&◌, refl, sym, ap, ◌∙◌, subst, arith, length, nat_lt}
+use Rattle.std.proofs.Common.{◌≡◌, ℕ, ◌<◌, List, [], ◌∷◌, Bool, true, ◌&&◌, refl, sym, ap, ◌∙◌, arith, length, nat_lt}
 use Rattle.std.specs.Prelude.{All}
 use Rattle.std.specs.Str.{IsAscii}
 use Rattle.std.proofs.lemmas.Bool.Decides.{nat_tests}
@@ -11,7 +11,6 @@ use Rattle.lsl_value.specs.declared.names.EventId.{EventId}
 use Rattle.lsl_value.specs.declared.names.EventId.TheVariants as event
 use Rattle.lsl_value.specs.declared.tagged.Value.{Value}
 use Rattle.lsl_value.specs.declared.tagged.Value.TheVariants as value
-use Rattle.lsl_value.specs.Key.{null_key}
 use Rattle.lsl_table.specs.Constants.{constant_value_of}
 use Rattle.lsl_table.specs.Events.{event_name_of}
 

@@ -1,5 +1,5 @@
 -- The code of a program asks at no more places than the program has nodes, so a handler asks few times between two ticks.
-use Rattle.std.proofs.Common.{◌≡◌, ◌≢◌, ℕ, zero, suc, ◌+◌, ◌*◌, ◌≤◌, pos, List, [], ◌∷◌, ◌++◌, length, map, refl, sym, ap, ◌∙◌, subst, arith}
+use Rattle.std.proofs.Common.{◌≡◌, ◌≢◌, ℕ, suc, ◌+◌, ◌*◌, ◌≤◌, pos, List, [], ◌∷◌, ◌++◌, length, map, refl, ap, ◌∙◌, arith}
 use Rattle.std.specs.Prelude.{Option, Some, None}
 use Rattle.lsl_value.specs.declared.names.BuiltinId.{BuiltinId}
 use Rattle.lsl_value.specs.declared.names.ConstantId.{ConstantId}
@@ -15,27 +15,24 @@ use Rattle.lsl_tree.specs.Actions as action
 use Rattle.lsl_tree.specs.Actions.{Action, Actions, NoAction, AndAction}
 use Rattle.lsl_tree.specs.Effects as effect
 use Rattle.lsl_tree.specs.Effects.{Effect}
-use Rattle.lsl_tree.specs.Kinded.{IsKinded}
 use Rattle.lsl_tree.specs.Nodes as node
 use Rattle.lsl_tree.specs.Nodes.{Node, Nodes, NoNode, AndNode}
 use Rattle.lsl_tree.specs.Program.{Routine, Program}
-use Rattle.lsl_tree.specs.Shape.{argument_count, IsShaped}
+use Rattle.lsl_tree.specs.Shape.{argument_count}
 use Rattle.lsl_tree.specs.Signatures.{routines_of}
 use Rattle.lsl_running.specs.Calling as form
 use Rattle.lsl_running.specs.Calling.{CallForm, call_form}
 use Rattle.lsl_running.specs.Results as whole
 use Rattle.lsl_running.specs.Results.{ActiveCall}
 use Rattle.lsl_meaning.specs.Expressions.{step_operator}
-use Rattle.lsl_meaning.specs.Handlers.{whole}
 use Rattle.lsl_code.specs.declared.instructions.Instr.{Instr}
 use Rattle.lsl_code.specs.declared.instructions.Instr.TheVariants as instr
 use Rattle.lsl_code.specs.Bodies.{Body}
 use Rattle.lsl_code.specs.Drafts.{numbered}
-use Rattle.lsl_code.specs.Laws as machine
 use Rattle.lsl_code.specs.Laws.{hosts, hosts_of}
 use Rattle.lsl_code.specs.Machine.{Machine, Ended, Faulted, Lost}
 use Rattle.lsl_code.specs.Runs.{Halt, Over, AskAt, CutAt}
-use Rattle.lsl_code.specs.Wholes.{told, run_of, whole_of_bodies}
+use Rattle.lsl_code.specs.Wholes.{told, run_of}
 use Rattle.lsl_code.proofs.Asking as code
 use Rattle.lsl_code.proofs.Running.{run_law}
 use Rattle.lsl_gen.specs.Counts.{nodes_in_value, nodes_in_values, nodes_in_effect, nodes_in_effects, nodes_in_action, nodes_in_actions, nodes_in_routines}
@@ -43,7 +40,7 @@ use Rattle.lsl_gen.specs.Expressions.{literal, load, store, builtin_code, call_c
 use Rattle.lsl_gen.specs.Laws.{AsksSoOften}
 use Rattle.lsl_gen.specs.Programs.{ending, draft_of}
 use Rattle.lsl_gen.specs.declared.label_places.LabelPlace.{LabelPlace}
-use Rattle.lsl_gen.specs.Statements.{size, sizes, place_of, places_in, action_code, actions_code}
+use Rattle.lsl_gen.specs.Statements.{size, sizes, places_in, action_code, actions_code}
 use Rattle.lsl_gen.proofs.Agreement.{runs_as_meant}
 use Rattle.lsl_gen.proofs.Bodies.{routine_body, bodies_of}
 use Rattle.lsl_gen.proofs.Routes.{generated_forward}

@@ -1,5 +1,5 @@
 -- Calls of built-in functions, and answers of the host.
-use Rattle.std.proofs.Common.{◌≡◌, ℕ, zero, suc, ◌+◌, ◌-◌, ◌≤◌, nat_eq, pos, List, [], ◌∷◌, ◌++◌, Bool, true, false, ◌&&◌, cond, Option, Some, None, refl, sym, ap, ap₂, ◌∙◌, subst, arith, length, take, drop, reverse}
+use Rattle.std.proofs.Common.{◌≡◌, ℕ, ◌+◌, ◌-◌, ◌≤◌, nat_eq, pos, List, [], ◌∷◌, ◌++◌, Bool, true, false, ◌&&◌, cond, Option, Some, None, refl, sym, ap, ap₂, ◌∙◌, subst, arith, length, take, drop, reverse}
 use Rattle.std.specs.Prelude.{is_some}
 use Rattle.std.proofs.lemmas.Bool.Decides.{nat_tests}
 use Rattle.lsl_value.specs.declared.names.BuiltinId.{BuiltinId}
@@ -10,7 +10,6 @@ use Rattle.lsl_table.specs.Calls.{row_of}
 use Rattle.lsl_pure.specs.Pure.{pure_of}
 use Rattle.lsl_running.specs.declared.host.Reply.{Reply}
 use Rattle.lsl_running.specs.declared.host.Reply.TheVariants as reply
-use Rattle.lsl_running.specs.declared.kept.Kept.{Kept}
 use Rattle.lsl_running.specs.Calling as form
 use Rattle.lsl_running.specs.Calling.{CallForm, call_form, parameter_count, is_answer_to, is_answered_by}
 use Rattle.lsl_running.specs.Charging.{hold_all, used}
@@ -71,8 +70,8 @@ module _ (bodies : List Body) (law : (t : ℕ) (m : Machine) → run bodies t m 
   has_sim b c k r h e m = subst (λ b. Sim (Results n b) k r h) e m
 
   replied_sim : (id : BuiltinId) (r : Reply) (q q' : ℕ) (m : Machine) (s : State) (more : List Reply) (ops : List Value)
-    → is_answered_by id r ≡ true → q ≡ q' → s.ticks ≤ n
-    → Sim (Results n (is_some (row_of id).result)) (λ o t. at bodies law f outer t q' (pushed o ops))
+      → is_answered_by id r ≡ true → q ≡ q' → s.ticks ≤ n
+      → Sim (Results n (is_some (row_of id).result)) (λ o t. at bodies law f outer t q' (pushed o ops))
       (reply_given r (site_of bodies f outer ops) (record s { answers = more }))
       (told bodies (on (replied r s.kept more f q s.slots ops outer) (passed bodies s.ticks m) (run bodies s.ticks)))
   replied_sim id (reply.Value (Some v)) q q' m s more ops fits e le =
@@ -84,22 +83,22 @@ module _ (bodies : List Body) (law : (t : ℕ) (m : Machine) → run bodies t m 
 
   -- an answer is taken, or one is asked for
   answered_sim : (id : BuiltinId) (args : List Value) (answers : List Reply) (q q' : ℕ) (m : Machine) (s : State) (ops : List Value)
-    → q ≡ q' → s.ticks ≤ n
-    → Sim (Results n (is_some (row_of id).result)) (λ o t. at bodies law f outer t q' (pushed o ops))
+      → q ≡ q' → s.ticks ≤ n
+      → Sim (Results n (is_some (row_of id).result)) (λ o t. at bodies law f outer t q' (pushed o ops))
       (ask id args (site_of bodies f outer ops) answers s)
       (told bodies (on (answered answers id args (λ r more. replied r s.kept more f q s.slots ops outer)) (passed bodies s.ticks m) (run bodies s.ticks)))
   answered_sim id args [] q q' m s ops e le = record { eq = asked bodies law f outer s.ticks m id args; post = tt }
   answered_sim id args (r ∷ more) q q' m s ops e le = fitting (is_answered_by id r) refl
     where
       fitting : (b : Bool) → is_answered_by id r ≡ b
-        → Sim (Results n (is_some (row_of id).result)) (λ o t. at bodies law f outer t q' (pushed o ops))
+          → Sim (Results n (is_some (row_of id).result)) (λ o t. at bodies law f outer t q' (pushed o ops))
           (cond b (reply_given r (site_of bodies f outer ops) (record s { answers = more })) (Stops whole.Lost))
           (told bodies (on (cond b (replied r s.kept more f q s.slots ops outer) (Halts Lost)) (passed bodies s.ticks m) (run bodies s.ticks)))
       fitting true fits = replied_sim id r q q' m s more ops fits e le
       fitting false fits = record { eq = refl; post = tt }
 
   host_sim : (id : BuiltinId) (pc q : ℕ) (vs ops : List Value) (s : State) → s.ticks ≤ n → length vs ≡ parameter_count id → HasAt bodies f pc (instr.Host id ∷ []) → pc + 1 ≡ q
-    → Sim (Results n (is_some (row_of id).result)) (λ o t. at bodies law f outer t q (pushed o ops))
+      → Sim (Results n (is_some (row_of id).result)) (λ o t. at bodies law f outer t q (pushed o ops))
       (ask id (reverse vs) (site_of bodies f outer ops) s.answers s) (at bodies law f outer s pc (vs ++ ops))
   host_sim id pc q vs ops s le count has e =
       from_sim _ _ _ _ _
@@ -109,7 +108,7 @@ module _ (bodies : List Body) (law : (t : ℕ) (m : Machine) → run bodies t m 
 
   -- a value that one instruction pushes is the call's result
   pushed_sim : (has : Bool) (v : Value) (pc q : ℕ) (from ops : List Value) (s : State) → true ≡ has → s.ticks ≤ n → pc + 1 ≡ q
-    → Sim (Results n has) (λ o t. at bodies law f outer t q (pushed o ops)) (give_result (Some v) (site_of bodies f outer ops) s)
+      → Sim (Results n has) (λ o t. at bodies law f outer t q (pushed o ops)) (give_result (Some v) (site_of bodies f outer ops) s)
       (led bodies law f outer s pc from (gives (base outer) s.slots (v ∷ ops) s.kept))
   pushed_sim has v pc q from ops s result le e =
       has_sim true has (λ o t. at bodies law f outer t q (pushed o ops)) _ _ result
@@ -117,16 +116,16 @@ module _ (bodies : List Body) (law : (t : ℕ) (m : Machine) → run bodies t m 
 
   -- a value of the script's own memory
   own_sim : (i : Instr) (has : Bool) (v : Value) (pc q : ℕ) (vs ops : List Value) (s : State)
-    → vs ≡ [] → true ≡ has → s.ticks ≤ n → pc + 1 ≡ q → at bodies law f outer s pc ops ≡ led bodies law f outer s pc ops (gives (base outer) s.slots (v ∷ ops) s.kept)
-    → Sim (Results n has) (λ o t. at bodies law f outer t q (pushed o ops)) (give_result (Some v) (site_of bodies f outer ops) s) (at bodies law f outer s pc (vs ++ ops))
+      → vs ≡ [] → true ≡ has → s.ticks ≤ n → pc + 1 ≡ q → at bodies law f outer s pc ops ≡ led bodies law f outer s pc ops (gives (base outer) s.slots (v ∷ ops) s.kept)
+      → Sim (Results n has) (λ o t. at bodies law f outer t q (pushed o ops)) (give_result (Some v) (site_of bodies f outer ops) s) (at bodies law f outer s pc (vs ++ ops))
   own_sim i has v pc q vs ops s none result le e step =
       from_sim _ _ _ _ _ (ap (λ l. at bodies law f outer s pc (l ++ ops)) none ∙ step) (pushed_sim has v pc q ops ops s result le e)
 
   -- a built-in call, whose arguments are pushed
   pub builtin_sim : (call : CallForm) (id : BuiltinId) (line pc q : ℕ) (vs ops : List Value) (s : State)
-    → fits_form call (row_of id) ≡ true → s.ticks ≤ n → length vs ≡ parameter_count id
-    → HasAt bodies f pc (builtin_code call id line) → pc + length (builtin_code call id line) ≡ q
-    → Sim (Results n (is_some (row_of id).result)) (λ o t. at bodies law f outer t q (pushed o ops))
+      → fits_form call (row_of id) ≡ true → s.ticks ≤ n → length vs ≡ parameter_count id
+      → HasAt bodies f pc (builtin_code call id line) → pc + length (builtin_code call id line) ≡ q
+      → Sim (Results n (is_some (row_of id).result)) (λ o t. at bodies law f outer t q (pushed o ops))
       (call_builtin call id line (reverse vs) (site_of bodies f outer ops) s) (at bodies law f outer s pc (vs ++ ops))
   builtin_sim form.Pure id line pc q vs ops s fits le count has e =
       from_sim _ _ _ _ _

@@ -1,6 +1,6 @@
 -- Statements: the machine does what they do.
-use Rattle.std.proofs.Common.{◌≡◌, ℕ, zero, suc, ◌+◌, ◌≤◌, ◌<◌, List, [], ◌∷◌, ◌++◌, Bool, true, false, cond, ◌||◌, Option, Some, None, refl, sym, ap, ap₂, ◌∙◌, subst, arith, add_assoc, length, length-append, append_assoc, reverse, slice_get, slice_set}
-use Rattle.std.specs.Prelude.{is_some, All}
+use Rattle.std.proofs.Common.{◌≡◌, ℕ, suc, ◌+◌, ◌≤◌, List, [], ◌∷◌, ◌++◌, Bool, true, false, cond, Option, Some, None, refl, sym, ap, ◌∙◌, arith, add_assoc, length, length-append}
+use Rattle.std.specs.Prelude.{All}
 use Rattle.lsl_value.specs.Values.{truth_of}
 use Rattle.lsl_value.specs.declared.tagged.Value.{Value}
 use Rattle.lsl_tree.specs.declared.program_node.Place.TheVariants.{Slot}
@@ -12,9 +12,9 @@ use Rattle.lsl_tree.specs.Program.{Program}
 use Rattle.lsl_tree.specs.Shape.{labels_in, argument_count, IsShapedEffect, IsShapedAction, AreShapedActions, IsShaped}
 use Rattle.lsl_tree.specs.Signatures.{routines_of}
 use Rattle.lsl_running.specs.Results.{Whole}
-use Rattle.lsl_meaning.specs.Calls.{Lower, call}
-use Rattle.lsl_meaning.specs.Expressions.{storing, value_of, values_of}
-use Rattle.lsl_meaning.specs.State.{State, Site, Evaluation, Gives, Stops, bind, Flow, Normal, Returned, Jumped, tick}
+use Rattle.lsl_meaning.specs.Calls.{Lower}
+use Rattle.lsl_meaning.specs.Expressions.{storing}
+use Rattle.lsl_meaning.specs.State.{State, Evaluation, Gives, Flow, Normal, Returned, Jumped, tick}
 use Rattle.lsl_meaning.specs.Statements.{on_normal, has_label, no_result, perform, perform_all, caught, execute, execute_all}
 use Rattle.lsl_code.specs.declared.instructions.Instr.{Instr}
 use Rattle.lsl_code.specs.declared.instructions.Instr.TheVariants as instr
@@ -42,20 +42,21 @@ module _ (p : Program) (shaped : IsShaped p) (law : (t : ℕ) (m : Machine) → 
   module _ (has : Bool) (f : ℕ) (outer : List MachineCall) where
     -- the call that a statement is has no result
     no_result_sim : (q : ℕ) (o : Option Value) (s : State) → Results n false o s
-      → Sim (Within n) (λ u t. at (bodies_of p) law f outer t q []) (no_result o s) (at (bodies_of p) law f outer s q (pushed o []))
+        → Sim (Within n) (λ u t. at (bodies_of p) law f outer t q []) (no_result o s) (at (bodies_of p) law f outer s q (pushed o []))
     no_result_sim q None s post = record { eq = refl; post = post.0 }
     no_result_sim q (Some v) s post = let never : true ≡ false = post.1 in absurd cc
 
     effect_sim : (x : Effect) (pc : ℕ) (s : State) → s.ticks ≤ n → IsShapedEffect (outline p has) x → HasAt (bodies_of p) f pc (effect_code x)
-      → Sim (Within n) (λ u t. at (bodies_of p) law f outer t (pc + length (effect_code x)) []) (perform (routines_of p) low x (site_of (bodies_of p) f outer []) s) (at (bodies_of p) law f outer s pc [])
+        → Sim (Within n) (λ u t. at (bodies_of p) law f outer t (pc + length (effect_code x)) []) (perform (routines_of p) low x (site_of (bodies_of p) f outer []) s) (at (bodies_of p) law f outer s pc [])
     effect_sim (effect.Value node) pc s le sh stands =
         let code = value_code node in
         then_sim (Within n) (Within n) (λ v t. at (bodies_of p) law f outer t (pc + length code) (v ∷ [])) _ _ _ _
         (value_sim p shaped law low n lower f outer node has pc [] s le sh (has_front (bodies_of p) f pc code (instr.Drop ∷ []) stands))
         (λ v t le'. record {
           eq = one (bodies_of p) law f outer t (pc + length code) (v ∷ []) instr.Drop (last_at (bodies_of p) f pc code instr.Drop stands)
-            ∙ ap (λ q. at (bodies_of p) law f outer t q []) (last_end pc code instr.Drop);
-          post = le' })
+              ∙ ap (λ q. at (bodies_of p) law f outer t q []) (last_end pc code instr.Drop);
+          post = le';
+        })
     effect_sim (effect.Call callee line arguments) pc s le sh stands =
         let code = values_code arguments in
         let end : pc + length code + length (call_code callee line) ≡ pc + length (code ++ call_code callee line) = omega (arith, length-append code (call_code callee line)) in
@@ -66,7 +67,7 @@ module _ (p : Program) (shaped : IsShaped p) (law : (t : ℕ) (m : Machine) → 
         (no_result_sim (pc + length (code ++ call_code callee line))))
 
     effects_sim : (xs : List Effect) (pc : ℕ) (s : State) → s.ticks ≤ n → All (IsShapedEffect (outline p has)) xs → HasAt (bodies_of p) f pc (effects_code xs)
-      → Sim (Within n) (λ u t. at (bodies_of p) law f outer t (pc + length (effects_code xs)) []) (perform_all (routines_of p) low xs (site_of (bodies_of p) f outer []) s) (at (bodies_of p) law f outer s pc [])
+        → Sim (Within n) (λ u t. at (bodies_of p) law f outer t (pc + length (effects_code xs)) []) (perform_all (routines_of p) low xs (site_of (bodies_of p) f outer []) s) (at (bodies_of p) law f outer s pc [])
     effects_sim [] pc s le sh stands =
         let e : pc ≡ pc + 0 = omega arith in
         record { eq = ap (λ q. at (bodies_of p) law f outer s q []) e; post = le }
@@ -82,7 +83,7 @@ module _ (p : Program) (shaped : IsShaped p) (law : (t : ℕ) (m : Machine) → 
     module _ (labels : List ℕ) where
       -- the same on another way behind a normal end
       flow_next : (places : List LabelPlace) (q q' : ℕ) (r : Evaluation Flow) (h : Whole) → ((t : State) → at (bodies_of p) law f outer t q [] ≡ at (bodies_of p) law f outer t q' [])
-        → Sim (Flows n has labels) (flow_at (bodies_of p) law f outer places q) r h → Sim (Flows n has labels) (flow_at (bodies_of p) law f outer places q') r h
+          → Sim (Flows n has labels) (flow_at (bodies_of p) law f outer places q) r h → Sim (Flows n has labels) (flow_at (bodies_of p) law f outer places q') r h
       flow_next places q q' r h e m = map_sim (Flows n has labels) (Flows n has labels) _ _ r h m on_flow
         where
           on_flow : (flow : Flow) (t : State) → Flows n has labels flow t → (flow_at (bodies_of p) law f outer places q flow t ≡ flow_at (bodies_of p) law f outer places q' flow t) × Flows n has labels flow t
@@ -91,24 +92,24 @@ module _ (p : Program) (shaped : IsShaped p) (law : (t : ℕ) (m : Machine) → 
           on_flow (Jumped label) t post = (refl, post)
 
       on_normal_sim : (places : List LabelPlace) (q q' : ℕ) (go : State → Evaluation Flow)
-        → ((t : State) → t.ticks ≤ n → Sim (Flows n has labels) (flow_at (bodies_of p) law f outer places q') (go t) (at (bodies_of p) law f outer t q []))
-        → (flow : Flow) (t : State) → Flows n has labels flow t
-        → Sim (Flows n has labels) (flow_at (bodies_of p) law f outer places q') (on_normal go flow t) (flow_at (bodies_of p) law f outer places q flow t)
+          → ((t : State) → t.ticks ≤ n → Sim (Flows n has labels) (flow_at (bodies_of p) law f outer places q') (go t) (at (bodies_of p) law f outer t q []))
+          → (flow : Flow) (t : State) → Flows n has labels flow t
+          → Sim (Flows n has labels) (flow_at (bodies_of p) law f outer places q') (on_normal go flow t) (flow_at (bodies_of p) law f outer places q flow t)
       on_normal_sim places q q' go next Normal t le = next t le
       on_normal_sim places q q' go next (Returned o) t post = record { eq = refl; post = post }
       on_normal_sim places q q' go next (Jumped label) t post = record { eq = refl; post = post }
 
       -- a conditional jump, where the value holds and where it doesn't
       branch_sim : (k : Flow → State → Whole) (b : Bool) (t : State) (pc to : ℕ) (from : List Value) (r r' : Evaluation Flow)
-        → Sim (Flows n has labels) k r (at (bodies_of p) law f outer t (pc + 1) []) → Sim (Flows n has labels) k r' (at (bodies_of p) law f outer t to [])
-        → Sim (Flows n has labels) k (cond b r r') (led (bodies_of p) law f outer t pc from (cond b (Goes t.slots [] t.kept) (Jumps to [])))
+          → Sim (Flows n has labels) k r (at (bodies_of p) law f outer t (pc + 1) []) → Sim (Flows n has labels) k r' (at (bodies_of p) law f outer t to [])
+          → Sim (Flows n has labels) k (cond b r r') (led (bodies_of p) law f outer t pc from (cond b (Goes t.slots [] t.kept) (Jumps to [])))
       branch_sim k true t pc to from r r' a b = a
       branch_sim k false t pc to from r r' a b = b
 
       -- a jump to a label of this block, or out of it
       caught_sim : (xs : Actions) (places : List LabelPlace) (pc : ℕ) → IsShapedAction (outline p has) labels (action.Block xs) → HasAt (bodies_of p) f pc (action_code (action.Block xs) places pc)
-        → (flow : Flow) (s : State) → Flows n has (labels_in xs ++ labels) flow s
-        → Sim (Flows n has labels) (flow_at (bodies_of p) law f outer places (pc + sizes xs)) (caught (routines_of p) low xs (site_of (bodies_of p) f outer []) flow s)
+          → (flow : Flow) (s : State) → Flows n has (labels_in xs ++ labels) flow s
+          → Sim (Flows n has labels) (flow_at (bodies_of p) law f outer places (pc + sizes xs)) (caught (routines_of p) low xs (site_of (bodies_of p) f outer []) flow s)
           (flow_at (bodies_of p) law f outer (places_in xs pc ++ places) (pc + sizes xs) flow s)
       caught_sim xs places pc sh stands Normal s le = record { eq = refl; post = le }
       caught_sim xs places pc sh stands (Returned o) s post = record { eq = refl; post = post }
@@ -116,15 +117,15 @@ module _ (p : Program) (shaped : IsShaped p) (law : (t : ℕ) (m : Machine) → 
           from_sim _ _ _ _ _ (ap (λ q. at (bodies_of p) law f outer s q []) (place_within xs label pc places)) (go (has_label (labels_in xs) label) refl)
         where
           go : (b : Bool) → has_label (labels_in xs) label ≡ b
-            → Sim (Flows n has labels) (flow_at (bodies_of p) law f outer places (pc + sizes xs)) (cond b (low (action.Block xs) (Some label) (site_of (bodies_of p) f outer []) s) (Gives (Jumped label) s))
+              → Sim (Flows n has labels) (flow_at (bodies_of p) law f outer places (pc + sizes xs)) (cond b (low (action.Block xs) (Some label) (site_of (bodies_of p) f outer []) s) (Gives (Jumped label) s))
               (at (bodies_of p) law f outer s (cond b (place_of label (places_in xs pc)) (place_of label places)) [])
           go true e = lower (action.Block xs) (Some label) has f outer places labels pc s post.0 sh e stands
           go false e = record { eq = refl; post = (post.0, has_outer label (labels_in xs) labels e post.1) }
 
       -- the end of a round: a tick, and the jump back
       again_sim : (a : Action) (line : ℕ) (places : List LabelPlace) (pc q q' : ℕ) (s : State) → s.ticks ≤ n → IsShapedAction (outline p has) labels a → HasAt (bodies_of p) f pc (action_code a places pc)
-        → HasAt (bodies_of p) f q (instr.Tick line ∷ instr.Jump pc ∷ []) → q' ≡ pc + size a
-        → Sim (Flows n has labels) (flow_at (bodies_of p) law f outer places q') (tick s.ticks line (site_of (bodies_of p) f outer []) s (low a None (site_of (bodies_of p) f outer []))) (at (bodies_of p) law f outer s q [])
+          → HasAt (bodies_of p) f q (instr.Tick line ∷ instr.Jump pc ∷ []) → q' ≡ pc + size a
+          → Sim (Flows n has labels) (flow_at (bodies_of p) law f outer places q') (tick s.ticks line (site_of (bodies_of p) f outer []) s (low a None (site_of (bodies_of p) f outer []))) (at (bodies_of p) law f outer s q [])
       again_sim a line places pc q q' s le sh stands end e =
           flow_next places (pc + size a) q' _ _ (λ u. ap (λ m. at (bodies_of p) law f outer u m []) (sym e))
           (from_sim _ _ _ _ _ (one (bodies_of p) law f outer s q [] (instr.Tick line) end.0)
@@ -134,14 +135,14 @@ module _ (p : Program) (shaped : IsShaped p) (law : (t : ℕ) (m : Machine) → 
 
       -- the statements behind a label, which stands before the last one, or is it
       skip_sim : (k : Flow → State → Whole) (s : State) (b : Bool) (q q' : ℕ) (r r' : Evaluation Flow)
-        → (b ≡ true → Sim (Flows n has labels) k r (at (bodies_of p) law f outer s q [])) → (b ≡ false → Sim (Flows n has labels) k r' (at (bodies_of p) law f outer s q' []))
-        → Sim (Flows n has labels) k (cond b r r') (at (bodies_of p) law f outer s (cond b q q') [])
+          → (b ≡ true → Sim (Flows n has labels) k r (at (bodies_of p) law f outer s q [])) → (b ≡ false → Sim (Flows n has labels) k r' (at (bodies_of p) law f outer s q' []))
+          → Sim (Flows n has labels) k (cond b r r') (at (bodies_of p) law f outer s (cond b q q') [])
       skip_sim k s true q q' r r' a b = a refl
       skip_sim k s false q q' r r' a b = b refl
 
     mutual
       action_sim : (a : Action) (labels : List ℕ) (places : List LabelPlace) (pc : ℕ) (s : State) → s.ticks ≤ n → IsShapedAction (outline p has) labels a → HasAt (bodies_of p) f pc (action_code a places pc)
-        → Sim (Flows n has labels) (flow_at (bodies_of p) law f outer places (pc + size a)) (execute (routines_of p) low a None (site_of (bodies_of p) f outer []) s) (at (bodies_of p) law f outer s pc [])
+          → Sim (Flows n has labels) (flow_at (bodies_of p) law f outer places (pc + size a)) (execute (routines_of p) low a None (site_of (bodies_of p) f outer []) s) (at (bodies_of p) law f outer s pc [])
       action_sim (action.Block xs) labels places pc s le sh stands =
           then_sim (Flows n has (labels_in xs ++ labels)) (Flows n has labels) (flow_at (bodies_of p) law f outer (places_in xs pc ++ places) (pc + sizes xs)) _ _ _ _
           (actions_sim xs None (labels_in xs ++ labels) (places_in xs pc ++ places) pc s le sh.1 tt stands)
@@ -155,8 +156,9 @@ module _ (p : Program) (shaped : IsShaped p) (law : (t : ℕ) (m : Machine) → 
           (value_sim p shaped law low n lower f outer node has pc [] s le sh (has_front (bodies_of p) f pc code (instr.Set slot ∷ []) stands))
           (λ v t le'. record {
             eq = one (bodies_of p) law f outer t (pc + length code) (v ∷ []) (instr.Set slot) (last_at (bodies_of p) f pc code (instr.Set slot) stands)
-              ∙ ap (λ q. at (bodies_of p) law f outer (storing (Slot slot) v t) q []) (add_assoc pc (length code) 1);
-            post = le' })
+                ∙ ap (λ q. at (bodies_of p) law f outer (storing (Slot slot) v t) q []) (add_assoc pc (length code) 1);
+            post = le';
+          })
       action_sim (action.Label label) labels places pc s le sh stands =
           let e : pc ≡ pc + 0 = omega arith in
           record { eq = ap (λ q. at (bodies_of p) law f outer s q []) e; post = le }
@@ -234,7 +236,8 @@ module _ (p : Program) (shaped : IsShaped p) (law : (t : ℕ) (m : Machine) → 
           (tick_sim (bodies_of p) law f outer _ _ s.ticks line pc (pc + 1) [] [] s (Gives (Jumped label)) stands.0
           (λ t' same. record {
             eq = one (bodies_of p) law f outer (record s { ticks = t' }) (pc + 1) [] (instr.Jump (place_of label places)) stands.1.0;
-            post = (omega arith, has_contained labels label sh) }))
+            post = (omega arith, has_contained labels label sh);
+          }))
       action_sim action.Return labels places pc s le sh stands = record { eq = leave (bodies_of p) law f outer s pc [] stands.0; post = (le, sym sh) }
       action_sim (action.ReturnValue node) labels places pc s le sh stands =
           let code = value_code node in
@@ -244,8 +247,8 @@ module _ (p : Program) (shaped : IsShaped p) (law : (t : ℕ) (m : Machine) → 
       action_sim (action.State state) labels places pc s le sh stands = record { eq = one (bodies_of p) law f outer s pc [] (instr.GoState state) stands.0; post = tt }
 
       actions_sim : (xs : Actions) (from : Option ℕ) (labels : List ℕ) (places : List LabelPlace) (pc : ℕ) (s : State) → s.ticks ≤ n → AreShapedActions (outline p has) labels xs → CanEnterIn xs from
-        → HasAt (bodies_of p) f pc (actions_code xs places pc)
-        → Sim (Flows n has labels) (flow_at (bodies_of p) law f outer places (pc + sizes xs)) (execute_all (routines_of p) low xs from (site_of (bodies_of p) f outer []) s) (at (bodies_of p) law f outer s (entry_in xs from pc) [])
+          → HasAt (bodies_of p) f pc (actions_code xs places pc)
+          → Sim (Flows n has labels) (flow_at (bodies_of p) law f outer places (pc + sizes xs)) (execute_all (routines_of p) low xs from (site_of (bodies_of p) f outer []) s) (at (bodies_of p) law f outer s (entry_in xs from pc) [])
       actions_sim NoAction None labels places pc s le sh enters stands =
           let e : pc ≡ pc + 0 = omega arith in
           record { eq = ap (λ q. at (bodies_of p) law f outer s q []) e; post = le }
@@ -272,8 +275,8 @@ module _ (p : Program) (shaped : IsShaped p) (law : (t : ℕ) (m : Machine) → 
 
     -- a statement from its start, or from behind a label of its own
     pub execute_sim : (a : Action) (from : Option ℕ) (labels : List ℕ) (places : List LabelPlace) (pc : ℕ) (s : State) → s.ticks ≤ n → IsShapedAction (outline p has) labels a → CanEnter a from
-      → HasAt (bodies_of p) f pc (action_code a places pc)
-      → Sim (Flows n has labels) (flow_at (bodies_of p) law f outer places (pc + size a)) (execute (routines_of p) low a from (site_of (bodies_of p) f outer []) s) (at (bodies_of p) law f outer s (entry a from pc) [])
+        → HasAt (bodies_of p) f pc (action_code a places pc)
+        → Sim (Flows n has labels) (flow_at (bodies_of p) law f outer places (pc + size a)) (execute (routines_of p) low a from (site_of (bodies_of p) f outer []) s) (at (bodies_of p) law f outer s (entry a from pc) [])
     execute_sim a None labels places pc s le sh enters stands = action_sim a labels places pc s le sh stands
     execute_sim (action.Block xs) (Some label) labels places pc s le sh enters stands =
         then_sim (Flows n has (labels_in xs ++ labels)) (Flows n has labels) (flow_at (bodies_of p) law f outer (places_in xs pc ++ places) (pc + sizes xs)) _ _ _ _

@@ -1,25 +1,22 @@
 -- The unit of a program is well formed, where its numbers are small enough.
-use Rattle.std.proofs.Common.{◌≡◌, ◌≢◌, ℕ, zero, suc, ◌+◌, ◌<◌, ◌≤◌, List, [], ◌∷◌, ◌++◌, length, map, take, Option, Some, None, option_map, Bool, true, false, cond, refl, sym, ap, ap₂, ◌∙◌, subst, arith, slice_get, length-append}
-use Rattle.std.specs.Prelude.{is_none, is_some, not, All, ◌&&◌, nat_eq, nat_le}
+use Rattle.std.proofs.Common.{◌≡◌, ◌≢◌, ℕ, suc, ◌+◌, ◌≤◌, List, [], ◌∷◌, ◌++◌, length, map, Some, option_map, Bool, true, false, cond, refl, sym, ap, ap₂, ◌∙◌, arith, slice_get}
+use Rattle.std.specs.Prelude.{is_none, not, All, nat_le}
 use Rattle.std.specs.List.{AllPairs}
 use Rattle.std.proofs.lemmas.Bool.Decides.{nat_tests}
 use Rattle.std.proofs.lemmas.List.Elements.{All-head, All-tail, All-cons, All-nil}
 use Rattle.std.proofs.lemmas.Option.{slice_get-map}
 use Rattle.lsl_value.specs.declared.names.EventId.{EventId}
 use Rattle.lsl_value.specs.declared.names.EventId.TheVariants as event
-use Rattle.lsl_table.specs.Events as table
 use Rattle.lsl_tree.specs.Kinded.{IsHandler, EventsDiffer, IsKinded}
 use Rattle.lsl_tree.specs.Program.{Routine, NamedRoutine, EventRoutine, ProgramState, Program}
 use Rattle.lsl_tree.specs.Shape.{IsShaped}
 use Rattle.lsl_tree.specs.Signatures.{routines_of, handlers_of}
 use Rattle.lsl_meaning.specs.Globals.{initial_globals}
 use Rattle.lsl_meaning.proofs.GlobalLemmas as lemmas
-use Rattle.lsl_code.specs.declared.functions.Handler.{Handler}
-use Rattle.lsl_code.specs.declared.functions.StateCode.{StateCode}
 use Rattle.lsl_code.specs.Bodies.{Body, plain_body}
 use Rattle.lsl_code.specs.Fits.{all_places}
 use Rattle.lsl_code.specs.Kinds.{signature_in, names_in}
-use Rattle.lsl_code.specs.Units.{fits_function, is_plain_function, handles, handler_fits, event_number, same_event, has_event, events_differ, state_fits, fits_states, fits_unit}
+use Rattle.lsl_code.specs.Units.{fits_function, handles, handler_fits, event_number, same_event, has_event, events_differ, state_fits, fits_states, fits_unit}
 use Rattle.lsl_code.proofs.Tested.{both, sames, all_if}
 use Rattle.lsl_gen.specs.Laws.{HasShortCode, UnitsAreWellFormed}
 use Rattle.lsl_gen.specs.Programs.{IsShort, signature_of, names_of, generated_functions, numbered_handlers, numbered_states, generated_states}
@@ -117,20 +114,20 @@ module _ (p : Program) where
         let parts = routines-append s.handlers rest in
         both _ _
         (both _ _ (handlers_ok s.handlers (routines_in rest) m 0 (λ k. from k ∙ ap (λ l. option_map (routine_body p) (slice_get l k)) parts) cut.0)
-          (differ_ok s.handlers m (All-head EventsDiffer s states differ)))
+        (differ_ok s.handlers m (All-head EventsDiffer s states differ)))
         (states_ok states (m + length s.handlers) (suc n)
-          (λ k. let y : m + length s.handlers + k ≡ m + (length (routines_in s.handlers) + k) = omega (arith, map_length (λ h. h.routine) s.handlers) in
-            ap (slice_get bodies) y ∙ from (length (routines_in s.handlers) + k)
-            ∙ ap (λ l. option_map (routine_body p) (slice_get l (length (routines_in s.handlers) + k))) parts
-            ∙ ap (option_map (routine_body p)) (shift_get (routines_in s.handlers) (routines_in rest) k))
-          cut.1 (All-tail EventsDiffer s states differ))
+        (λ k. let y : m + length s.handlers + k ≡ m + (length (routines_in s.handlers) + k) = omega (arith, map_length (λ h. h.routine) s.handlers) in
+        ap (slice_get bodies) y ∙ from (length (routines_in s.handlers) + k)
+        ∙ ap (λ l. option_map (routine_body p) (slice_get l (length (routines_in s.handlers) + k))) parts
+        ∙ ap (option_map (routine_body p)) (shift_get (routines_in s.handlers) (routines_in rest) k))
+        cut.1 (All-tail EventsDiffer s states differ))
 
   module _ (kinded : IsKinded p) (shaped : IsShaped p) (short : HasShortCode p) where
     functions_fit : all_places (fits_function (names_in (initial_globals p) (generated_states p) (bodies_of p))) 0 (bodies_of p) ≡ true
     functions_fit =
         ap (λ names. all_places (fits_function names) 0 (bodies_of p)) (names_same kinded)
         ∙ all_if (fits_function (names_of p)) (bodies_of p) (each_body p (λ k w. fits_function (names_of p) k w ≡ true)
-          (λ k r e. routine_fits p r (kinded_at p kinded shaped k r e) (shaped_at p shaped k r e) k (All-at IsShort (routines_of p) k r short.routines e)))
+        (λ k r e. routine_fits p r (kinded_at p kinded shaped k r e) (shaped_at p shaped k r e) k (All-at IsShort (routines_of p) k r short.routines e)))
 
     from_functions : From (bodies_of p) (length p.functions) (routines_in (handlers_of p.states))
     from_functions k =

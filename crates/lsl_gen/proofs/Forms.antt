@@ -1,5 +1,5 @@
 -- What the forms of built-in calls tell of their rows: which have a result, and which take nothing.
-use Rattle.std.proofs.Common.{◌≡◌, Bool, true, false, ◌&&◌, nat_eq, Option, Some, None, length, refl}
+use Rattle.std.proofs.Common.{◌≡◌, Bool, true, false, ◌&&◌, nat_eq, Option, Some, length, refl}
 use Rattle.std.specs.Prelude.{is_some, is_none}
 use Rattle.lsl_value.specs.declared.names.BuiltinId.{BuiltinId}
 use Rattle.lsl_value.specs.declared.names.BuiltinId.TheVariants as builtin

@@ -23,16 +23,16 @@ pub all_taken : {X : Type 0} (P : X → Type 0) (xs : List X) (i : ℕ) → leng
 all_taken P xs i le all = subst (All P) (take_all i xs le) all
 
 pub made_step : {X A B : Type 0} (F : A → B) (v : X → A) (new old w : List B) (made : B) (xs : List X) (i : ℕ) (x : X) → i < length xs → x ≡ get_or xs i x
-  → old ++ map F (map v (drop i xs)) ≡ w → made ≡ F (v x) → new ≡ old ++ made ∷ [] → new ++ map F (map v (drop (i + 1) xs)) ≡ w
+    → old ++ map F (map v (drop i xs)) ≡ w → made ≡ F (v x) → new ≡ old ++ made ∷ [] → new ++ map F (map v (drop (i + 1) xs)) ≡ w
 made_step F v new old w made xs i x lt is inv one e =
     let rest = map F (map v (drop (i + 1) xs)) in
     ap (λ l. l ++ rest) (e ∙ ap (λ m. old ++ m ∷ []) one) ∙ append_assoc old (F (v x) ∷ []) rest
     ∙ sym (ap (λ l. old ++ map F (map v l)) (rest_of xs i x lt is)) ∙ inv
 
 pub handlers_step : (new old w : List Handler) (functions functions' : List FunctionCode) (made : FunctionCode) (number : ℕ) (h : Handler) (xs : List declared_handler.EventRoutine) (i : ℕ) (x : declared_handler.EventRoutine)
-  → i < length xs → x ≡ get_or xs i x → old ++ numbered_handlers (length functions) (map handler_of (drop i xs)) ≡ w → number ≡ length functions
-  → h ≡ record { event = x.event; function = number } → new ≡ old ++ h ∷ [] → functions' ≡ functions ++ made ∷ []
-  → new ++ numbered_handlers (length functions') (map handler_of (drop (i + 1) xs)) ≡ w
+    → i < length xs → x ≡ get_or xs i x → old ++ numbered_handlers (length functions) (map handler_of (drop i xs)) ≡ w → number ≡ length functions
+    → h ≡ record { event = x.event; function = number } → new ≡ old ++ h ∷ [] → functions' ≡ functions ++ made ∷ []
+    → new ++ numbered_handlers (length functions') (map handler_of (drop (i + 1) xs)) ≡ w
 handlers_step new old w functions functions' made number h xs i x lt is inv count same e more =
     let hs = map handler_of (drop (i + 1) xs) in
     let next : length functions' ≡ suc (length functions) = omega (arith, ap length more, length-append functions (made ∷ [])) in
@@ -46,7 +46,7 @@ map_length f [] = refl
 map_length f (x ∷ xs) = ap suc (map_length f xs)
 
 pub states_made : (F : EventRoutine → FunctionCode) (new old w : List FunctionCode) (xs : List declared_state.ProgramState) (i : ℕ) (x : declared_state.ProgramState) → i < length xs → x ≡ get_or xs i x
-  → old ++ map F (handlers_of (map state_of (drop i xs))) ≡ w → new ≡ old ++ map F (map handler_of x.handlers.items) → new ++ map F (handlers_of (map state_of (drop (i + 1) xs))) ≡ w
+    → old ++ map F (handlers_of (map state_of (drop i xs))) ≡ w → new ≡ old ++ map F (map handler_of x.handlers.items) → new ++ map F (handlers_of (map state_of (drop (i + 1) xs))) ≡ w
 states_made F new old w xs i x lt is inv e =
     let hs = map handler_of x.handlers.items in
     let rest = handlers_of (map state_of (drop (i + 1) xs)) in
@@ -54,9 +54,9 @@ states_made F new old w xs i x lt is inv e =
     ∙ sym (ap (λ l. old ++ map F (handlers_of (map state_of l))) (rest_of xs i x lt is)) ∙ inv
 
 pub states_step : (F : EventRoutine → FunctionCode) (new old w : List StateCode) (functions functions' : List FunctionCode) (s : StateCode) (name : List ℕ) (handlers : List Handler) (xs : List declared_state.ProgramState) (i : ℕ) (x : declared_state.ProgramState)
-  → i < length xs → x ≡ get_or xs i x → old ++ numbered_states (length functions) (map state_of (drop i xs)) ≡ w → name ≡ x.name
-  → handlers ≡ numbered_handlers (length functions) (map handler_of x.handlers.items) → s ≡ record { name = name; handlers = handlers } → new ≡ old ++ s ∷ []
-  → functions' ≡ functions ++ map F (map handler_of x.handlers.items) → new ++ numbered_states (length functions') (map state_of (drop (i + 1) xs)) ≡ w
+    → i < length xs → x ≡ get_or xs i x → old ++ numbered_states (length functions) (map state_of (drop i xs)) ≡ w → name ≡ x.name
+    → handlers ≡ numbered_handlers (length functions) (map handler_of x.handlers.items) → s ≡ record { name = name; handlers = handlers } → new ≡ old ++ s ∷ []
+    → functions' ≡ functions ++ map F (map handler_of x.handlers.items) → new ++ numbered_states (length functions') (map state_of (drop (i + 1) xs)) ≡ w
 states_step F new old w functions functions' s name handlers xs i x lt is inv named listed same e more =
     let hs = map handler_of x.handlers.items in
     let rest = map state_of (drop (i + 1) xs) in

@@ -1,5 +1,5 @@
 -- One more global.
-use Rattle.std.proofs.Common.{◌≡◌, ℕ, suc, ◌+◌, ◌<◌, List, [], ◌∷◌, ◌++◌, length, sym, ap, ap₂, ◌∙◌, refl, subst, arith, map, drop, get_or, drop-cons}
+use Rattle.std.proofs.Common.{◌≡◌, ℕ, suc, ◌+◌, ◌<◌, List, [], ◌∷◌, ◌++◌, length, sym, ap, ap₂, ◌∙◌, subst, arith, map, drop, get_or, drop-cons}
 use Rattle.std.proofs.lemmas.List.{map-append}
 use Rattle.lsl_value.specs.Values.{kind_of}
 use Rattle.lsl_value.specs.declared.tagged.Value.{Value}
@@ -16,18 +16,18 @@ rest_of xs i x lt is =
     drop-cons xs i x lt ∙ ap₂ (λ y n. y ∷ drop n xs) (sym is) next
 
 next_global : (before : List Value) (g : Initial) (gs : List Initial) (w : List Value)
-  → (globals_behind before (g ∷ gs) ≡ w) × AreKindedInitials (map kind_of before) (g ∷ gs)
-  → (globals_behind (before ++ initial_value_of before g ∷ []) gs ≡ w) × AreKindedInitials (map kind_of (before ++ initial_value_of before g ∷ [])) gs
+    → (globals_behind before (g ∷ gs) ≡ w) × AreKindedInitials (map kind_of before) (g ∷ gs)
+    → (globals_behind (before ++ initial_value_of before g ∷ []) gs ≡ w) × AreKindedInitials (map kind_of (before ++ initial_value_of before g ∷ [])) gs
 next_global before g gs w h =
     let v : Value = initial_value_of before g in
     let kinds : map kind_of (before ++ v ∷ []) ≡ map kind_of before ++ initial_kind_of g ∷ [] =
-        map-append kind_of before (v ∷ []) ∙ ap (λ k. map kind_of before ++ k ∷ []) (kind_of-initial_value_of before g h.1.0) in
+    map-append kind_of before (v ∷ []) ∙ ap (λ k. map kind_of before ++ k ∷ []) (kind_of-initial_value_of before g h.1.0) in
     (h.0, subst (λ ks. AreKindedInitials ks gs) (sym kinds) h.1.1)
 
 pub global_step : (new before : List Value) (value : Value) (w : List Value) (gs : List declared.Initial) (i : ℕ) (g : declared.Initial) → i < length gs → g ≡ get_or gs i g
-  → (globals_behind before (map initial_of (drop i gs)) ≡ w) × AreKindedInitials (map kind_of before) (map initial_of (drop i gs))
-  → value ≡ initial_value_of before (initial_of g) → new ≡ before ++ value ∷ []
-  → (globals_behind new (map initial_of (drop (i + 1) gs)) ≡ w) × AreKindedInitials (map kind_of new) (map initial_of (drop (i + 1) gs))
+    → (globals_behind before (map initial_of (drop i gs)) ≡ w) × AreKindedInitials (map kind_of before) (map initial_of (drop i gs))
+    → value ≡ initial_value_of before (initial_of g) → new ≡ before ++ value ∷ []
+    → (globals_behind new (map initial_of (drop (i + 1) gs)) ≡ w) × AreKindedInitials (map kind_of new) (map initial_of (drop (i + 1) gs))
 global_step new before value w gs i g lt is h v e =
     let rest = map initial_of (drop (i + 1) gs) in
     let split = ap (map initial_of) (rest_of gs i g lt is) in

@@ -1,13 +1,10 @@
 -- The jumps of a routine's code lead to the starts of statements, before which no operand waits.
-use Rattle.std.proofs.Common.{◌≡◌, ℕ, zero, suc, ◌+◌, ◌<◌, List, [], ◌∷◌, ◌++◌, length, Option, Some, None, Bool, true, false, cond, ◌||◌, ◌&&◌, nat_eq, pos, refl, sym, ap, ap₂, ◌∙◌, subst, arith, slice_get, length-append}
-use Rattle.std.specs.Prelude.{All}
+use Rattle.std.proofs.Common.{◌≡◌, ℕ, ◌+◌, ◌<◌, List, [], ◌∷◌, ◌++◌, length, Some, Bool, true, false, cond, ◌||◌, ◌&&◌, nat_eq, pos, refl, sym, ap, ◌∙◌, subst, arith, length-append}
 use Rattle.std.specs.List.{list_any}
-use Rattle.std.proofs.lemmas.List.Elements.{All-head, All-tail}
 use Rattle.std.proofs.lemmas.List.Folds.{list_any-append}
 use Rattle.lsl_value.specs.declared.names.BuiltinId.{BuiltinId}
 use Rattle.lsl_value.specs.declared.names.ConstantId.{ConstantId}
 use Rattle.lsl_value.specs.declared.names.ConstantId.TheVariants as constant
-use Rattle.lsl_value.specs.declared.tagged.Kind.{Kind}
 use Rattle.lsl_table.specs.Constants.{constant_value_of}
 use Rattle.lsl_tree.specs.declared.program_node.Callee.{Callee}
 use Rattle.lsl_tree.specs.declared.program_node.Callee.TheVariants.{Function, Builtin}
@@ -22,7 +19,7 @@ use Rattle.lsl_tree.specs.Kinded.{IsKindedNode, IsKindedEffect, IsKindedAction, 
 use Rattle.lsl_tree.specs.Nodes as node
 use Rattle.lsl_tree.specs.Nodes.{Node, Nodes, NoNode, AndNode, node_kind_of}
 use Rattle.lsl_tree.specs.Program.{Routine, Program}
-use Rattle.lsl_tree.specs.Shape.{label_of, labels_in, argument_count, IsShapedAction, AreShapedActions}
+use Rattle.lsl_tree.specs.Shape.{labels_in, argument_count, IsShapedAction, AreShapedActions}
 use Rattle.lsl_running.specs.Calling as form
 use Rattle.lsl_running.specs.Calling.{CallForm, call_form}
 use Rattle.lsl_meaning.specs.Expressions.{step_operator}
@@ -39,7 +36,7 @@ use Rattle.lsl_gen.specs.declared.label_places.LabelPlace.{LabelPlace}
 use Rattle.lsl_gen.specs.Statements.{size, sizes, place_of, place_if_label, places_in, action_code, actions_code}
 use Rattle.lsl_gen.proofs.LabelScopes.{placed_in, has_label-append, has_contained}
 use Rattle.lsl_gen.proofs.Lengths.{code_length, codes_length}
-use Rattle.lsl_gen.proofs.Operands.{value_runs, effect_runs, effects_run, action_runs, actions_run}
+use Rattle.lsl_gen.proofs.Operands.{value_runs, effects_run, action_runs, actions_run}
 use Rattle.lsl_gen.proofs.Routines.{outline}
 
 falls_load : (place : Place) → falls_through (load place) ≡ true
@@ -129,15 +126,15 @@ module _ (p : Program) (r : Routine) (d : List Instr) where
 
   -- nor behind a test
   behind_test : (t : Node) (pc to : ℕ) (rest : List Instr) → IsKindedNode (tree.scope_of p r) t → StandsAt d pc (value_code t ++ (instr.JumpIfNot to ∷ rest)) → kinds_at (scope_of p r) d pc ≡ []
-    → kinds_at (scope_of p r) d (pc + length (value_code t) + 1) ≡ []
+      → kinds_at (scope_of p r) d (pc + length (value_code t) + 1) ≡ []
   behind_test t pc to rest k stands z =
       let top : kinds_at (scope_of p r) d (pc + length (value_code t)) ≡ node_kind_of t ∷ [] =
-          kinds_behind (scope_of p r) d (value_code t) pc (node_kind_of t ∷ []) (has_front d pc (value_code t) (instr.JumpIfNot to ∷ rest) stands) (ap (runs (scope_of p r) (value_code t)) z ∙ value_runs p r t [] k) in
+      kinds_behind (scope_of p r) d (value_code t) pc (node_kind_of t ∷ []) (has_front d pc (value_code t) (instr.JumpIfNot to ∷ rest) stands) (ap (runs (scope_of p r) (value_code t)) z ∙ value_runs p r t [] k) in
       let here = has_back d pc (value_code t) (instr.JumpIfNot to ∷ rest) stands in
       kinds_behind (scope_of p r) d (instr.JumpIfNot to ∷ []) (pc + length (value_code t)) [] (here.0, tt) (ap (runs (scope_of p r) (instr.JumpIfNot to ∷ [])) top)
 
   tested : (t : Node) (pc to : ℕ) (rest : List Instr) → StandsAt d pc (value_code t ++ (instr.JumpIfNot to ∷ rest)) → pc + length (value_code t) < to
-    → Ways (scope_of p r) d pc (value_code t) × Open (scope_of p r) d pc
+      → Ways (scope_of p r) d pc (value_code t) × Open (scope_of p r) d pc
   tested t pc to rest stands lt =
       value_piece t pc (has_front d pc (value_code t) (instr.JumpIfNot to ∷ rest) stands)
       (open_if_not (scope_of p r) d (pc + length (value_code t)) to (has_back d pc (value_code t) (instr.JumpIfNot to ∷ rest) stands).0 lt)
@@ -197,7 +194,7 @@ module _ (p : Program) (r : Routine) (d : List Instr) where
   clear_found label (x ∷ places) c h = by_label (nat_eq label x.label) h (λ w. clear_found label places c.1 w)
     where
       by_label : (b : Bool) → (b || list_any (λ x. nat_eq label x.label) places) ≡ true → (list_any (λ x. nat_eq label x.label) places ≡ true → Clear (scope_of p r) d (place_of label places))
-        → Clear (scope_of p r) d (cond b x.place (place_of label places))
+          → Clear (scope_of p r) d (cond b x.place (place_of label places))
       by_label true e more = c.0
       by_label false e more = more e
 
@@ -207,7 +204,7 @@ module _ (p : Program) (r : Routine) (d : List Instr) where
 
   -- the labels of a block
   pub labels_clear : (xs : Actions) (places : List LabelPlace) (pc : ℕ) → AreKindedActions (tree.scope_of p r) xs → StandsAt d pc (actions_code xs places pc) → kinds_at (scope_of p r) d pc ≡ []
-    → Open (scope_of p r) d (pc + sizes xs) → AllClear (places_in xs pc)
+      → Open (scope_of p r) d (pc + sizes xs) → AllClear (places_in xs pc)
   labels_clear NoAction places pc k stands z o = tt
   labels_clear (AndAction xs a) places pc k stands z o =
       let q = pc + sizes xs in
@@ -229,13 +226,13 @@ module _ (p : Program) (r : Routine) (d : List Instr) where
   around_more xs places labels pc c around = record {
     clear = clear_append (places_in xs pc) places c around.clear;
     has = λ label h. list_any-append (λ (x : LabelPlace). nat_eq label x.label) (places_in xs pc) places
-      ∙ ap (λ b. b || list_any (λ x. nat_eq label x.label) places) (placed_in xs label pc)
-      ∙ either (has_label (labels_in xs) label) (has_label labels label) (list_any (λ x. nat_eq label x.label) places) (sym (has_label-append label (labels_in xs) labels) ∙ h) (around.has label);
+        ∙ ap (λ b. b || list_any (λ x. nat_eq label x.label) places) (placed_in xs label pc)
+        ∙ either (has_label (labels_in xs) label) (has_label labels label) (list_any (λ x. nat_eq label x.label) places) (sym (has_label-append label (labels_in xs) labels) ∙ h) (around.has label);
   }
 
   -- a tick, and a jump behind it
   tick_jump : (pc line to : ℕ) → Clear (scope_of p r) d to → StandsAt d pc (instr.Tick line ∷ instr.Jump to ∷ []) → kinds_at (scope_of p r) d pc ≡ [] → Open (scope_of p r) d (pc + 2)
-    → Ways (scope_of p r) d pc (instr.Tick line ∷ instr.Jump to ∷ [])
+      → Ways (scope_of p r) d pc (instr.Tick line ∷ instr.Jump to ∷ [])
   tick_jump pc line to c stands z o =
       let e : pc + 2 ≡ pc + 1 + 1 = omega arith in
       let out = leaves (instr.Tick line ∷ instr.Jump to ∷ []) pc 2 stands z refl refl in
@@ -245,7 +242,7 @@ module _ (p : Program) (r : Routine) (d : List Instr) where
     mutual
       -- each instruction of a statement goes on to where it may
       pub action_ways : (a : Action) (places : List LabelPlace) (labels : List ℕ) (pc : ℕ) → IsKindedAction (tree.scope_of p r) a → IsShapedAction (outline p gives) labels a → Around places labels
-        → StandsAt d pc (action_code a places pc) → kinds_at (scope_of p r) d pc ≡ [] → Open (scope_of p r) d (pc + size a) → Ways (scope_of p r) d pc (action_code a places pc)
+          → StandsAt d pc (action_code a places pc) → kinds_at (scope_of p r) d pc ≡ [] → Open (scope_of p r) d (pc + size a) → Ways (scope_of p r) d pc (action_code a places pc)
       action_ways (action.Block xs) places labels pc k h w stands z o =
           actions_ways xs (places_in xs pc ++ places) (labels_in xs ++ labels) pc k h.1
           (around_more xs places labels pc (labels_clear xs (places_in xs pc ++ places) pc k stands z o) w) stands z o
@@ -283,7 +280,7 @@ module _ (p : Program) (r : Routine) (d : List Instr) where
           let oa = open_jump (scope_of p r) d (q + size a) (next + size b) more.0 (omega arith) in
           let ob = action_first b places next more.1 out in
           let second : Ways (scope_of p r) d (q + length ca) (over ∷ cb) =
-              subst (λ m. Ways (scope_of p r) d (q + m) (over ∷ cb)) (sym (code_length a places q)) (((out, zout), zn, ob.1), action_ways b places labels next k.2 h.2 w more.1 zn out) in
+          subst (λ m. Ways (scope_of p r) d (q + m) (over ∷ cb)) (sym (code_length a places q)) (((out, zout), zn, ob.1), action_ways b places labels next k.2 h.2 w more.1 zn out) in
           join (scope_of p r) d pc vt _ (tested t pc _ _ stands (omega arith)).0
           (((ob, zn), (action_first a places q ha oa, zq)), join (scope_of p r) d q ca _ (action_ways a places labels q k.1 h.1 w ha zq oa) second)
       action_ways (action.Loop line t xs a) places labels pc k h w stands z o =
@@ -328,8 +325,8 @@ module _ (p : Program) (r : Routine) (d : List Instr) where
           let test = tested t q _ _ more (omega arith) in
           let again = tick_jump end line pc (action_first a places pc ha test.1, z) last.1 zt out in
           let second : Ways (scope_of p r) d (pc + length ca) (vt ++ back) =
-              subst (λ m. Ways (scope_of p r) d (pc + m) (vt ++ back)) (sym (code_length a places pc))
-              (join (scope_of p r) d q vt _ test.0 (((out, zout), (open_at (scope_of p r) d end (instr.Tick line) last.1.0 refl, zt)), again)) in
+          subst (λ m. Ways (scope_of p r) d (pc + m) (vt ++ back)) (sym (code_length a places pc))
+          (join (scope_of p r) d q vt _ test.0 (((out, zout), (open_at (scope_of p r) d end (instr.Tick line) last.1.0 refl, zt)), again)) in
           join (scope_of p r) d pc ca _ (action_ways a places labels pc k.0 h.0 w ha z test.1) second
       action_ways (action.Jump line label) places labels pc k h w stands z o =
           tick_jump pc line (place_of label places) (clear_found label places w.clear (w.has label (has_contained labels label h))) stands z o
@@ -340,7 +337,7 @@ module _ (p : Program) (r : Routine) (d : List Instr) where
       action_ways (action.State n) places labels pc k h w stands z o = (o.1, tt)
 
       pub actions_ways : (xs : Actions) (places : List LabelPlace) (labels : List ℕ) (pc : ℕ) → AreKindedActions (tree.scope_of p r) xs → AreShapedActions (outline p gives) labels xs → Around places labels
-        → StandsAt d pc (actions_code xs places pc) → kinds_at (scope_of p r) d pc ≡ [] → Open (scope_of p r) d (pc + sizes xs) → Ways (scope_of p r) d pc (actions_code xs places pc)
+          → StandsAt d pc (actions_code xs places pc) → kinds_at (scope_of p r) d pc ≡ [] → Open (scope_of p r) d (pc + sizes xs) → Ways (scope_of p r) d pc (actions_code xs places pc)
       actions_ways NoAction places labels pc k h w stands z o = tt
       actions_ways (AndAction xs a) places labels pc k h w stands z o =
           let q = pc + sizes xs in

@@ -1,5 +1,5 @@
 -- Labels and their places.
-use Rattle.std.proofs.Common.{◌≡◌, ℕ, ◌+◌, ◌<◌, List, [], ◌∷◌, ◌++◌, Bool, true, false, cond, ◌||◌, nat_eq, Option, Some, None, refl, sym, ap, ap₂, ◌∙◌, arith, length}
+use Rattle.std.proofs.Common.{◌≡◌, ℕ, ◌+◌, List, [], ◌∷◌, ◌++◌, Bool, true, false, cond, ◌||◌, nat_eq, Option, Some, None, refl, sym, ap, ◌∙◌, arith}
 use Rattle.std.specs.Prelude.{Contains}
 use Rattle.std.specs.List.{list_any}
 use Rattle.std.proofs.lemmas.Bool.Decides.{nat_tests}
@@ -44,7 +44,7 @@ behind_first true c n m k d e = refl
 behind_first false c n m k d e = e
 
 place_of-append : (label : ℕ) (a b : List LabelPlace)
-  → place_of label (a ++ b) ≡ cond (list_any (λ x. nat_eq label x.label) a) (place_of label a) (place_of label b)
+    → place_of label (a ++ b) ≡ cond (list_any (λ x. nat_eq label x.label) a) (place_of label a) (place_of label b)
 place_of-append label [] b = refl
 place_of-append label (x ∷ a) b =
     behind_first (nat_eq label x.label) (list_any (λ x. nat_eq label x.label) a) x.place (place_of label a) (place_of label b) (place_of label (a ++ b)) (place_of-append label a b)
@@ -60,7 +60,7 @@ or_nothing true = refl
 or_nothing false = refl
 
 one_placed : (label : ℕ) (a : Action) (place : ℕ) (b : Bool) (more : List ℕ) → b ≡ has_label more label
-  → (b || list_any (λ x. nat_eq label x.label) (place_if_label a place)) ≡ has_label (label_of a more) label
+    → (b || list_any (λ x. nat_eq label x.label) (place_if_label a place)) ≡ has_label (label_of a more) label
 one_placed label (action.Label n) place b more e = either_way b (nat_eq label n) ∙ ap (λ c. nat_eq label n || c) e
 one_placed label a place b more e = or_nothing b ∙ e
 
@@ -73,19 +73,19 @@ placed_in (AndAction xs a) label place =
 
 -- the labels of a block hide those around it
 pub place_within : (xs : Actions) (label place : ℕ) (around : List LabelPlace)
-  → place_of label (places_in xs place ++ around) ≡ cond (has_label (labels_in xs) label) (place_of label (places_in xs place)) (place_of label around)
+    → place_of label (places_in xs place ++ around) ≡ cond (has_label (labels_in xs) label) (place_of label (places_in xs place)) (place_of label around)
 place_within xs label place around =
     place_of-append label (places_in xs place) around
     ∙ ap (λ b. cond b (place_of label (places_in xs place)) (place_of label around)) (placed_in xs label place)
 
 -- a label that stands before the last statement, or is it
 pub place_last : (xs : Actions) (a : Action) (label place : ℕ)
-  → place_of label (places_in (AndAction xs a) place) ≡ cond (has_label (labels_in xs) label) (place_of label (places_in xs place)) (place_of label (place_if_label a (place + sizes xs)))
+    → place_of label (places_in (AndAction xs a) place) ≡ cond (has_label (labels_in xs) label) (place_of label (places_in xs place)) (place_of label (place_if_label a (place + sizes xs)))
 place_last xs a label place = place_within xs label place (place_if_label a (place + sizes xs))
 
 -- a label that isn't before the last statement is the last statement, which emits nothing
 pub last_label : (a : Action) (label place : ℕ) (more : List ℕ) → has_label more label ≡ false → has_label (label_of a more) label ≡ true
-  → place_of label (place_if_label a place) ≡ place + size a
+    → place_of label (place_if_label a place) ≡ place + size a
 last_label (action.Label n) label place more out there =
     let e : nat_eq label n ≡ true = sym (or_nothing (nat_eq label n)) ∙ sym (ap (λ b. nat_eq label n || b) out) ∙ there in
     let z : place ≡ place + 0 = omega arith in

@@ -1,9 +1,8 @@
 -- Tables of labels, as labels come into scope.
-use Rattle.std.proofs.Common.{◌≡◌, ◌≢◌, ℕ, ◌+◌, ◌<◌, ◌≤◌, List, [], ◌∷◌, ◌++◌, length, Bool, true, false, cond, nat_eq, sym, ap, ◌∙◌, refl, subst, arith, map, reverse, get_or, slice_set}
+use Rattle.std.proofs.Common.{◌≡◌, ◌≢◌, ℕ, ◌<◌, ◌≤◌, List, [], ◌∷◌, ◌++◌, length, Bool, true, false, cond, nat_eq, sym, ap, ◌∙◌, refl, subst, arith, reverse, get_or, slice_set}
 use Rattle.std.proofs.lemmas.Bool.Decides.{nat_tests}
 use Rattle.std.proofs.lemmas.List.{length-set, reverse-append, get_or-set_same, get_or-set_other}
 use Rattle.std.proofs.lemmas.Grind.{get_or_default_zero}
-use Rattle.lsl_gen.specs.declared.label_places.LabelPlace.{LabelPlace}
 use Rattle.lsl_gen.specs.declared.label_places.ScopedLabel.{ScopedLabel}
 use Rattle.lsl_gen.specs.LabelTables.{label_places, seen_in, TellBefore, IsIndexed}
 use Rattle.lsl_gen.specs.Statements.{place_of}
@@ -18,7 +17,7 @@ widened scope old new same le h = record { found = λ label. same label ∙ h.fo
 
 -- with one more label
 pub one_more : (scope new : List ScopedLabel) (places places' : List ℕ) (x : ScopedLabel) → new ≡ scope ++ x ∷ [] → places' ≡ slice_set places x.label x.place → x.label < length places → x.before ≡ get_or places x.label x.before
-  → IsIndexed scope places → IsIndexed new places'
+    → IsIndexed scope places → IsIndexed new places'
 one_more scope new places places' x e f lt was h =
     let back : reverse new ≡ x ∷ reverse scope = ap reverse e ∙ reverse-append scope (x ∷ []) in
     let same : length places ≡ length places' = sym (ap length f ∙ length-set places x.label x.place) in

@@ -4,7 +4,7 @@ use Rattle.lsl_tree.specs.Actions as action
 use Rattle.lsl_tree.specs.Actions.{Action, Actions, NoAction, AndAction}
 use Rattle.lsl_code.specs.declared.instructions.Instr.{Instr}
 use Rattle.lsl_code.specs.declared.instructions.Instr.TheVariants.{Set, Jump, JumpIfNot, Tick, ReturnValue}
-use Rattle.lsl_gen.specs.Expressions.{value_code, effect_code, effects_code}
+use Rattle.lsl_gen.specs.Expressions.{value_code, effects_code}
 use Rattle.lsl_gen.specs.declared.label_places.LabelPlace.{LabelPlace}
 use Rattle.lsl_gen.specs.Statements.{size, sizes, places_in, action_code, actions_code}
 
@@ -15,11 +15,11 @@ if_length : (c a : List Instr) (i : Instr) (m : ℕ) → length a ≡ m → leng
 if_length c a i m e = omega (arith, length-append c (i ∷ a))
 
 if_else_length : (c a b : List Instr) (i j : Instr) (m n : ℕ) → length a ≡ m → length b ≡ n
-  → length (c ++ (i ∷ (a ++ (j ∷ b)))) ≡ length c + 1 + m + 1 + n
+    → length (c ++ (i ∷ (a ++ (j ∷ b)))) ≡ length c + 1 + m + 1 + n
 if_else_length c a b i j m n e d = omega (arith, length-append c (i ∷ (a ++ (j ∷ b))), length-append a (j ∷ b))
 
 loop_length : (c a b : List Instr) (i j k : Instr) (m : ℕ) → length a ≡ m
-  → length (c ++ (i ∷ (a ++ (b ++ (j ∷ k ∷ []))))) ≡ length c + 1 + m + length b + 2
+    → length (c ++ (i ∷ (a ++ (b ++ (j ∷ k ∷ []))))) ≡ length c + 1 + m + length b + 2
 loop_length c a b i j k m e =
     omega (arith, length-append c (i ∷ (a ++ (b ++ (j ∷ k ∷ [])))), length-append a (b ++ (j ∷ k ∷ [])), length-append b (j ∷ k ∷ []))
 

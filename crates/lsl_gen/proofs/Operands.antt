@@ -1,10 +1,9 @@
 -- The code of a program with kinds finds what it needs: the kinds behind the code of an expression, and of a statement.
-use Rattle.std.proofs.Common.{◌≡◌, ◌≢◌, ℕ, zero, suc, ◌+◌, ◌<◌, List, [], ◌∷◌, ◌++◌, length, map, reverse, Option, Some, None, option_map, Bool, true, false, cond, ◌&&◌, nat_eq, pos, refl, sym, ap, ap₂, ◌∙◌, subst, arith, slice_get}
+use Rattle.std.proofs.Common.{◌≡◌, ◌≢◌, ℕ, suc, ◌+◌, List, [], ◌∷◌, ◌++◌, length, reverse, Option, Some, None, option_map, true, cond, ◌&&◌, nat_eq, pos, refl, sym, ap, ap₂, ◌∙◌, arith, slice_get}
 use Rattle.std.specs.Prelude.{option_and_then, nat_lt, is_none, All}
 use Rattle.std.proofs.lemmas.Bool.Decides.{nat_tests}
 use Rattle.std.proofs.lemmas.List.Elements.{All-head, All-tail}
 use Rattle.std.proofs.lemmas.Option.{slice_get-map, none-some}
-use Rattle.lsl_value.specs.OperatorRows.{result_kind_of, casts_of}
 use Rattle.lsl_value.specs.Values.{kind_of}
 use Rattle.lsl_value.specs.declared.names.BuiltinId.{BuiltinId}
 use Rattle.lsl_value.specs.declared.names.ConstantId.{ConstantId}
@@ -42,7 +41,7 @@ use Rattle.lsl_code.proofs.Tested.{same_self}
 use Rattle.lsl_gen.specs.Expressions.{literal, load, store, builtin_code, call_code, value_code, values_code, effect_code, effects_code}
 use Rattle.lsl_gen.specs.Programs.{signature_of, scope_of}
 use Rattle.lsl_gen.specs.declared.label_places.LabelPlace.{LabelPlace}
-use Rattle.lsl_gen.specs.Statements.{size, sizes, places_in, action_code, actions_code}
+use Rattle.lsl_gen.specs.Statements.{sizes, places_in, action_code, actions_code}
 use Rattle.lsl_gen.proofs.Bodies.{routine_at}
 use Rattle.lsl_gen.proofs.Calls.{empty_and}
 use Rattle.lsl_gen.proofs.Forms.{gives_integer, fits_form, form_fits, integer_given}
@@ -76,7 +75,7 @@ none_is (Some k) e = absurd cc
 module _ (s : Scope) where
   -- one stretch behind another
   then_some : (a b : List Instr) (o : Option (List Kind)) (js : List Kind) (r : Option (List Kind))
-    → ((ls : List Kind) → runs s a ls ≡ Some js → runs s (a ++ b) ls ≡ r) → option_and_then (runs s a) o ≡ Some js → option_and_then (runs s (a ++ b)) o ≡ r
+      → ((ls : List Kind) → runs s a ls ≡ Some js → runs s (a ++ b) ls ≡ r) → option_and_then (runs s a) o ≡ Some js → option_and_then (runs s (a ++ b)) o ≡ r
   then_some a b None js r more e = absurd cc
   then_some a b (Some ls) js r more e = more ls e
 
@@ -90,8 +89,8 @@ module _ (s : Scope) where
       ap (λ ps. option_map (pushed g.result) (strip ps (js ++ ks))) e ∙ ap (option_map (pushed g.result)) (strip_self js ks)
 
   own_runs : (i : Instr) (id : BuiltinId) (js : List Kind) (r : Option Kind) (ks : List Kind)
-    → ((ls : List Kind) → behind s i ls ≡ Some (kind.Int ∷ ls)) → (nat_eq (length (row_of id).params) 0 && gives_integer (row_of id).result) ≡ true
-    → reverse (row_of id).params ≡ js → (row_of id).result ≡ r → runs s (i ∷ []) (js ++ ks) ≡ Some (pushed r ks)
+      → ((ls : List Kind) → behind s i ls ≡ Some (kind.Int ∷ ls)) → (nat_eq (length (row_of id).params) 0 && gives_integer (row_of id).result) ≡ true
+      → reverse (row_of id).params ≡ js → (row_of id).result ≡ r → runs s (i ∷ []) (js ++ ks) ≡ Some (pushed r ks)
   own_runs i id js r ks step fits params result =
       let both = empty_and (length (row_of id).params) (gives_integer (row_of id).result) fits in
       ap (λ l. runs s (i ∷ []) (l ++ ks)) (no_kinds (row_of id).params js both.0 params)
@@ -99,8 +98,8 @@ module _ (s : Scope) where
       ∙ ap (λ o. Some (pushed o ks)) (sym (integer_given (row_of id).result both.1) ∙ result)
 
   builtin_runs : (call : CallForm) (id : BuiltinId) (line : ℕ) (js : List Kind) (r : Option Kind) (ks : List Kind)
-    → call_form id ≡ call → fits_form call (row_of id) ≡ true → reverse (row_of id).params ≡ js → (row_of id).result ≡ r → (r ≡ None → ks ≡ [])
-    → runs s (builtin_code call id line) (js ++ ks) ≡ Some (pushed r ks)
+      → call_form id ≡ call → fits_form call (row_of id) ≡ true → reverse (row_of id).params ≡ js → (row_of id).result ≡ r → (r ≡ None → ks ≡ [])
+      → runs s (builtin_code call id line) (js ++ ks) ≡ Some (pushed r ks)
   builtin_runs form.Pure id line js r ks e fits params result alone =
       ap (λ h. option_and_then (runs s []) (called_if (is_pure h) (builtin_signature id) (js ++ ks))) e
       ∙ ap (option_and_then (runs s [])) (called_some (builtin_signature id) js ks params) ∙ ap (λ o. Some (pushed o ks)) result
@@ -126,12 +125,12 @@ module _ (s : Scope) where
 
 module _ (p : Program) (r : Routine) where
   load_runs : (place : Place) (k : Kind) (is : List Instr) (ks : List Kind) → place_kind (tree.scope_of p r) place ≡ Some k
-    → runs (scope_of p r) (load place ∷ is) ks ≡ runs (scope_of p r) is (k ∷ ks)
+      → runs (scope_of p r) (load place ∷ is) ks ≡ runs (scope_of p r) is (k ∷ ks)
   load_runs (Global i) k is ks e = ap (λ o. option_and_then (runs (scope_of p r) is) (with_kind o (λ q. Some (q ∷ ks)))) e
   load_runs (Slot i) k is ks e = ap (λ o. option_and_then (runs (scope_of p r) is) (with_kind o (λ q. Some (q ∷ ks)))) e
 
   store_runs : (place : Place) (k : Kind) (is : List Instr) (ks : List Kind) → place_kind (tree.scope_of p r) place ≡ Some k
-    → runs (scope_of p r) (store place ∷ is) (k ∷ ks) ≡ runs (scope_of p r) is (k ∷ ks)
+      → runs (scope_of p r) (store place ∷ is) (k ∷ ks) ≡ runs (scope_of p r) is (k ∷ ks)
   store_runs (Global i) k is ks e =
       ap (λ o. option_and_then (runs (scope_of p r) is) (with_kind o (λ q. only_if (same_kind q k) (k ∷ ks)))) e
       ∙ ap (λ b. option_and_then (runs (scope_of p r) is) (only_if b (k ∷ ks))) (same_self k)
@@ -140,11 +139,11 @@ module _ (p : Program) (r : Routine) where
       ∙ ap (λ b. option_and_then (runs (scope_of p r) is) (only_if b (k ∷ ks))) (same_self k)
 
   call_runs : (callee : Callee) (line : ℕ) (ts : Nodes) (result : Option Kind) (ks : List Kind) → FitsCall (tree.scope_of p r) callee ts result → (result ≡ None → ks ≡ [])
-    → runs (scope_of p r) (call_code callee line) (stack_of ts ++ ks) ≡ Some (pushed result ks)
+      → runs (scope_of p r) (call_code callee line) (stack_of ts ++ ks) ≡ Some (pushed result ks)
   call_runs (Function n) line ts result ks fits alone =
       let found = routine_at p n fits.0 fits.1 in
       let there : slice_get (scope_of p r).functions n ≡ Some (signature_of found.0) =
-          slice_get-map signature_of (routines_of p) n ∙ ap (option_map signature_of) found.1 in
+      slice_get-map signature_of (routines_of p) n ∙ ap (option_map signature_of) found.1 in
       ap (λ o. option_and_then (runs (scope_of p r) []) (called o (stack_of ts ++ ks))) there
       ∙ ap (option_and_then (runs (scope_of p r) [])) (called_some (scope_of p r) (signature_of found.0) (stack_of ts) ks (ap (λ g. reverse g.params) found.2 ∙ fits.2))
       ∙ ap (λ o. Some (pushed o ks)) (ap (λ g. g.result) found.2 ∙ fits.3)

@@ -1,5 +1,5 @@
 -- Pieces of a draft in the code of a function.
-use Rattle.std.proofs.Common.{◌≡◌, ℕ, ◌+◌, ◌-◌, ◌<◌, List, [], ◌∷◌, ◌++◌, length, Option, Some, option_map, refl, sym, ap, ◌∙◌, subst, arith, append_assoc, length-append, slice_get}
+use Rattle.std.proofs.Common.{◌≡◌, ℕ, ◌+◌, ◌<◌, List, [], ◌∷◌, ◌++◌, length, Some, option_map, refl, sym, ap, ◌∙◌, subst, arith, append_assoc, length-append, slice_get}
 use Rattle.std.proofs.lemmas.Option.{slice_get-get_or}
 use Rattle.std.proofs.Math.Seq.{get_or-append_seam}
 use Rattle.lsl_code.specs.declared.instructions.Instr.{Instr}
@@ -44,11 +44,11 @@ has_from bodies f d (i ∷ is) before e c =
 
 -- the code of a draft can be seen as the draft
 pub draft_seen : (bodies : List Body) (f : ℕ) (name : List ℕ) (s : Scope) (params : ℕ) (d : List Instr)
-  → slice_get bodies f ≡ Some (plain_body (finished name s params d)) → (j : ℕ) → seen bodies f j ≡ slice_get d j
+    → slice_get bodies f ≡ Some (plain_body (finished name s params d)) → (j : ℕ) → seen bodies f j ≡ slice_get d j
 draft_seen bodies f name s params d e j =
     ap (λ o. option_map (with_line (lines_in o)) (instruction_in o j)) e ∙ draft_reads d j
 
 -- and stands at the function's start
 pub draft_stands : (bodies : List Body) (f : ℕ) (name : List ℕ) (s : Scope) (params : ℕ) (d : List Instr)
-  → slice_get bodies f ≡ Some (plain_body (finished name s params d)) → HasAt bodies f 0 d
+    → slice_get bodies f ≡ Some (plain_body (finished name s params d)) → HasAt bodies f 0 d
 draft_stands bodies f name s params d e = has_from bodies f d d [] (draft_seen bodies f name s params d e) refl

@@ -1,5 +1,5 @@
 -- From the facts of a program to those of its functions, and back.
-use Rattle.std.proofs.Common.{◌≡◌, ℕ, ◌+◌, ◌≤◌, List, [], ◌∷◌, ◌++◌, length, true, sym, ap, ap₂, ◌∙◌, refl, subst, arith, map}
+use Rattle.std.proofs.Common.{◌≡◌, ◌≤◌, List, [], ◌∷◌, ◌++◌, length, true, sym, ap, ap₂, ◌∙◌, subst, arith, map}
 use Rattle.std.specs.Prelude.{All, is_some}
 use Rattle.std.proofs.lemmas.List.{map-append}
 use Rattle.std.proofs.lemmas.List.Elements.{All-head, All-tail, All-append, All-cons, All-nil, All-map, All-weaker}
@@ -22,7 +22,7 @@ use Rattle.lsl_code.specs.declared.signatures.Names.{Names}
 use Rattle.lsl_code.specs.Bodies.{plain_body}
 use Rattle.lsl_code.specs.Units.{fits_unit}
 use Rattle.lsl_gen.specs.Laws.{Agrees, HasShortCode}
-use Rattle.lsl_gen.specs.Programs.{draft_of, made_by, IsReady, IsShort, names_with, names_of, generated_functions, numbered_states, generated_states}
+use Rattle.lsl_gen.specs.Programs.{made_by, IsReady, IsShort, names_with, names_of, generated_functions, numbered_states, generated_states}
 use Rattle.lsl_gen.proofs.Fitting.{unit_fits}
 use Rattle.lsl_gen.proofs.FunctionSteps.{map_length}
 use Rattle.lsl_gen.proofs.Generated.{generated_agrees}
@@ -103,28 +103,28 @@ module _ (program : declared_program.Program) where
 
   -- the functions, and behind them the handlers
   pub functions_are : (names : Names) (functions all : List FunctionCode) (fs : List declared_function.NamedRoutine) (states : List declared_state.ProgramState) → names ≡ names_of p → fs ≡ program.functions.items → states ≡ program.states.items
-    → functions ≡ [] ++ map (λ f. made_by names f.name f.routine) (map function_of fs) → all ≡ functions ++ map (λ h. made_by names (event_name_of h.event) h.routine) (handlers_of (map state_of states))
-    → all ≡ generated_functions p
+      → functions ≡ [] ++ map (λ f. made_by names f.name f.routine) (map function_of fs) → all ≡ functions ++ map (λ h. made_by names (event_name_of h.event) h.routine) (handlers_of (map state_of states))
+      → all ≡ generated_functions p
   functions_are names functions all fs states en ef es first second =
       second ∙ ap (λ l. l ++ map (λ h. made_by names (event_name_of h.event) h.routine) (handlers_of (map state_of states))) first
       ∙ ap₂ (λ fs states. map (λ f. made_by names f.name f.routine) (map function_of fs) ++ map (λ h. made_by names (event_name_of h.event) h.routine) (handlers_of (map state_of states))) ef es
       ∙ ap (λ names. map (λ f. made_by names f.name f.routine) p.functions ++ map (λ h. made_by names (event_name_of h.event) h.routine) (handlers_of p.states)) en
 
   pub states_are : (names : Names) (functions : List FunctionCode) (listed : List StateCode) (fs : List declared_function.NamedRoutine) (states : List declared_state.ProgramState) → fs ≡ program.functions.items → states ≡ program.states.items
-    → functions ≡ [] ++ map (λ f. made_by names f.name f.routine) (map function_of fs) → listed ≡ numbered_states (length functions) (map state_of states) → listed ≡ generated_states p
+      → functions ≡ [] ++ map (λ f. made_by names f.name f.routine) (map function_of fs) → listed ≡ numbered_states (length functions) (map state_of states) → listed ≡ generated_states p
   states_are names functions listed fs states ef es first second =
       second ∙ ap₂ (λ n states. numbered_states n (map state_of states)) (ap length first ∙ map_length (λ f. made_by names f.name f.routine) (map function_of fs) ∙ ap (λ fs. length (map function_of fs)) ef) es
 
   pub is_short : (fs : List declared_function.NamedRoutine) (states : List declared_state.ProgramState) → fs ≡ program.functions.items → states ≡ program.states.items
-    → All (OfFunction IsShort) fs → All (OfState IsShort) states → length program.states.items ≤ 65535 → HasShortCode p
+      → All (OfFunction IsShort) fs → All (OfState IsShort) states → length program.states.items ≤ 65535 → HasShortCode p
   is_short fs states ef es first second few = record {
     routines = All-append IsShort (map (λ f. f.routine) p.functions) (map (λ h. h.routine) (handlers_of p.states))
-      (functions_all IsShort program.functions.items (subst (All (OfFunction IsShort)) ef first)) (states_all IsShort program.states.items (subst (All (OfState IsShort)) es second));
+        (functions_all IsShort program.functions.items (subst (All (OfFunction IsShort)) ef first)) (states_all IsShort program.states.items (subst (All (OfState IsShort)) es second));
     states = omega (arith, few, map_length state_of program.states.items);
   }
 
   pub fits : (globals : List Value) (states : List StateCode) (functions : List FunctionCode) → globals ≡ initial_globals p → states ≡ generated_states p → functions ≡ generated_functions p
-    → IsKinded p → IsShaped p → HasShortCode p → fits_unit globals states (map plain_body functions) ≡ true
+      → IsKinded p → IsShaped p → HasShortCode p → fits_unit globals states (map plain_body functions) ≡ true
   fits globals states functions eg es ef kinded shaped short =
       ap₂ (λ g l. fits_unit g l (map plain_body functions)) eg es ∙ ap (λ l. fits_unit (initial_globals p) (generated_states p) (map plain_body l)) ef ∙ unit_fits p kinded shaped short
 

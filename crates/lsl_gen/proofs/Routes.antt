@@ -1,6 +1,6 @@
 -- The code of a whole routine is in order, and goes back only behind ticks.
-use Rattle.std.proofs.Common.{◌≡◌, ℕ, zero, suc, ◌+◌, ◌<◌, ◌≤◌, List, [], ◌∷◌, ◌++◌, length, map, Option, Some, None, option_map, Bool, true, false, refl, sym, ap, ap₂, ◌∙◌, subst, arith, slice_get, length-append, append-nil}
-use Rattle.std.specs.Prelude.{option_and_then, is_none, is_some, not, All, ◌&&◌}
+use Rattle.std.proofs.Common.{◌≡◌, ℕ, ◌+◌, ◌<◌, ◌≤◌, List, [], ◌∷◌, ◌++◌, length, Option, Some, None, option_map, Bool, true, false, refl, sym, ap, ◌∙◌, subst, arith, slice_get, length-append, append-nil}
+use Rattle.std.specs.Prelude.{option_and_then, is_none, is_some, not}
 use Rattle.std.proofs.lemmas.Option.{slice_get_past, slice_get-map}
 use Rattle.lsl_value.specs.declared.tagged.Kind.{Kind}
 use Rattle.lsl_tree.specs.Actions as action
@@ -26,11 +26,10 @@ use Rattle.lsl_code.proofs.UnitTold.{forward_told}
 use Rattle.lsl_code.proofs.Ways.{Quiet, Open, kinds_at, Ways}
 use Rattle.lsl_gen.specs.Expressions.{value_code}
 use Rattle.lsl_gen.specs.Programs.{ending, draft_of, names_of, scope_of}
-use Rattle.lsl_gen.specs.declared.label_places.LabelPlace.{LabelPlace}
-use Rattle.lsl_gen.specs.Statements.{size, sizes, places_in, action_code, actions_code}
+use Rattle.lsl_gen.specs.Statements.{sizes, places_in, action_code, actions_code}
 use Rattle.lsl_gen.proofs.Bodies.{routine_body, bodies_of, All-at, shaped_at}
-use Rattle.lsl_gen.proofs.JumpTargets.{returning, action_first, actions_first, AllClear, labels_clear, Around, around_more, action_ways, actions_ways}
-use Rattle.lsl_gen.proofs.Lengths.{code_length, codes_length}
+use Rattle.lsl_gen.proofs.JumpTargets.{returning, actions_first, AllClear, labels_clear, Around, around_more, actions_ways}
+use Rattle.lsl_gen.proofs.Lengths.{codes_length}
 use Rattle.lsl_gen.proofs.Operands.{then, action_runs}
 use Rattle.lsl_gen.proofs.Routines.{outline}
 
@@ -50,8 +49,8 @@ module _ (p : Program) (r : Routine) (d : List Instr) where
 
   -- statements whose last one returns a value
   value_ways : (gives : Bool) (body : Actions) → ends_with_value body ≡ true → AreKindedActions (tree.scope_of p r) body → AreShapedActions (outline p gives) (labels_in body ++ []) body
-    → StandsAt d 1 (actions_code body (places_in body 1 ++ []) 1) → kinds_at (scope_of p r) d 1 ≡ [] → Quiet (scope_of p r) d (1 + sizes body)
-    → Ways (scope_of p r) d 1 (actions_code body (places_in body 1 ++ []) 1) × Open (scope_of p r) d 1
+      → StandsAt d 1 (actions_code body (places_in body 1 ++ []) 1) → kinds_at (scope_of p r) d 1 ≡ [] → Quiet (scope_of p r) d (1 + sizes body)
+      → Ways (scope_of p r) d 1 (actions_code body (places_in body 1 ++ []) 1) × Open (scope_of p r) d 1
   value_ways gives (AndAction xs (action.ReturnValue t)) e k h stands z quiet =
       let labels = labels_in xs ++ [] in
       let body = AndAction xs (action.ReturnValue t) in
@@ -67,13 +66,13 @@ module _ (p : Program) (r : Routine) (d : List Instr) where
       let around : Around p r d places labels = around_more p r d body [] [] 1 clear (record { clear = tt; has = λ label h. h }) in
       let first = actions_ways p r d gives xs places labels 1 k.0 h.0 around front z last.1 in
       let second : Ways (scope_of p r) d (1 + length cs) ca =
-          subst (λ m. Ways (scope_of p r) d (1 + m) ca) (sym (codes_length xs places 1)) (join (scope_of p r) d q (value_code t) _ last.0 (subst (Quiet (scope_of p r) d) end quiet, tt)) in
+      subst (λ m. Ways (scope_of p r) d (1 + m) ca) (sym (codes_length xs places 1)) (join (scope_of p r) d q (value_code t) _ last.0 (subst (Quiet (scope_of p r) d) end quiet, tt)) in
       (join (scope_of p r) d 1 cs ca first second, actions_first p r d xs places 1 front last.1)
   value_ways gives body e k h stands z quiet = absurd cc
 
   body_ways : (kind : Option Kind) (body : Actions) → (is_some kind ≡ true → ends_with_value body ≡ true) → AreKindedActions (tree.scope_of p r) body → AreShapedActions (outline p (is_some kind)) (labels_in body ++ []) body
-    → StandsAt d 1 (action_code (action.Block body) [] 1 ++ ending kind) → kinds_at (scope_of p r) d 1 ≡ [] → length d ≡ 1 + length (action_code (action.Block body) [] 1 ++ ending kind)
-    → Ways (scope_of p r) d 1 (action_code (action.Block body) [] 1 ++ ending kind) × Open (scope_of p r) d 1
+      → StandsAt d 1 (action_code (action.Block body) [] 1 ++ ending kind) → kinds_at (scope_of p r) d 1 ≡ [] → length d ≡ 1 + length (action_code (action.Block body) [] 1 ++ ending kind)
+      → Ways (scope_of p r) d 1 (action_code (action.Block body) [] 1 ++ ending kind) × Open (scope_of p r) d 1
   body_ways None body ends k h stands z len =
       let code = action_code (action.Block body) [] 1 in
       let size_is = codes_length body (places_in body 1 ++ []) 1 in
@@ -115,7 +114,7 @@ module _ (p : Program) (r : Routine) (kinded : IsKindedRoutine p r) (shaped : Is
 module _ (p : Program) where
   -- what holds of each routine's function
   pub each_body : (P : ℕ → Body → Type 0) → ((k : ℕ) (r : Routine) → slice_get (routines_of p) k ≡ Some r → P k (routine_body p r))
-    → (k : ℕ) (w : Body) → slice_get (bodies_of p) k ≡ Some w → P k w
+      → (k : ℕ) (w : Body) → slice_get (bodies_of p) k ≡ Some w → P k w
   each_body P h k w e = found (slice_get (routines_of p) k) refl (sym (slice_get-map (routine_body p) (routines_of p) k) ∙ e)
     where
       found : (o : Option Routine) → slice_get (routines_of p) k ≡ o → option_map (routine_body p) o ≡ Some w → P k w

@@ -1,7 +1,6 @@
 -- Calls of the script's own functions: a routine from its first tick to the result that its caller is handed.
-use Rattle.std.proofs.Common.{◌≡◌, ℕ, zero, suc, ◌+◌, ◌-◌, ◌≤◌, List, [], ◌∷◌, ◌++◌, Bool, true, false, cond, Option, Some, None, refl, sym, ap, ap₂, ◌∙◌, subst, arith, length, reverse, take, slice_get}
+use Rattle.std.proofs.Common.{◌≡◌, ℕ, suc, ◌+◌, ◌-◌, ◌≤◌, List, [], ◌∷◌, ◌++◌, Bool, true, false, cond, Option, Some, None, refl, sym, ap, ◌∙◌, subst, arith, length, reverse, take, slice_get}
 use Rattle.std.specs.Prelude.{is_some}
-use Rattle.std.proofs.lemmas.List.{length-take-le}
 use Rattle.lsl_value.specs.declared.tagged.Kind.{Kind}
 use Rattle.lsl_value.specs.declared.tagged.Value.{Value}
 use Rattle.lsl_table.specs.Calls.{row_of}
@@ -16,10 +15,10 @@ use Rattle.lsl_running.specs.Calling.{call_form}
 use Rattle.lsl_running.specs.Charging.{call_charge, charges_of, hold_all, used, is_within}
 use Rattle.lsl_running.specs.Results as whole
 use Rattle.lsl_meaning.specs.Calls.{Lower, first_slots, result_behind, run_routine, enter, call}
-use Rattle.lsl_meaning.specs.State.{State, Evaluation, Gives, Stops, bind, Flow, Normal, Returned, Jumped, within_call, give_result, tick}
+use Rattle.lsl_meaning.specs.State.{State, Stops, bind, Flow, Normal, Returned, Jumped, give_result, tick}
 use Rattle.lsl_code.specs.declared.instructions.Instr.{Instr}
 use Rattle.lsl_code.specs.declared.instructions.Instr.TheVariants as instr
-use Rattle.lsl_code.specs.Acts.{Did, Enters, Fails, within, entered_with, entered}
+use Rattle.lsl_code.specs.Acts.{Enters, Fails, within, entered_with, entered}
 use Rattle.lsl_code.specs.Machine.{MachineCall, Machine, Lost, base, call_at, step}
 use Rattle.lsl_code.specs.Pieces.{HasAt}
 use Rattle.lsl_code.specs.Runs.{Over, on, passed, run}
@@ -32,7 +31,7 @@ use Rattle.lsl_gen.proofs.Bodies.{routine_body, bodies_of, body_at, routine_at, 
 use Rattle.lsl_gen.proofs.Calls.{popped, builtin_sim, has_sim}
 use Rattle.lsl_gen.proofs.Forms.{form_fits}
 use Rattle.lsl_gen.proofs.LabelScopes.{entry, CanEnter}
-use Rattle.lsl_gen.proofs.Leaves.{pushed, Results, Flows, site_of, here, at, led, any, one, tick_sim, resume, flow_at, leave, received_sim}
+use Rattle.lsl_gen.proofs.Leaves.{pushed, Results, Flows, site_of, at, led, any, one, tick_sim, resume, flow_at, leave, received_sim}
 use Rattle.lsl_gen.proofs.Lengths.{code_length}
 use Rattle.lsl_gen.proofs.Pieces.{has_front, draft_seen, draft_stands}
 use Rattle.lsl_gen.proofs.Simulations.{Sim, then_sim, from_sim}
@@ -60,13 +59,13 @@ module _ (p : Program) (shaped : IsShaped p) (law : (t : ℕ) (m : Machine) → 
       (a : Action) (from : Option ℕ) (has : Bool) (f : ℕ) (outer : List MachineCall) (places : List LabelPlace) (labels : List ℕ) (pc : ℕ) (s : State)
       → suc s.ticks ≤ n → IsShapedAction (outline p has) labels a → CanEnter a from → HasAt (bodies_of p) f pc (action_code a places pc)
       → Sim (Flows n has labels) (flow_at (bodies_of p) law f outer places (pc + size a)) (low a from (site_of (bodies_of p) f outer []) s)
-        (at (bodies_of p) law f outer s (entry a from pc) [])
+      (at (bodies_of p) law f outer s (entry a from pc) [])
 
   module _ (low : Lower) (n : ℕ) (lower : LowerSim n low) where
     -- the end of a routine's statements
     end_sim : (kind : Option Kind) (k : ℕ) (outer : List MachineCall) (q : ℕ) → seen (bodies_of p) k q ≡ slice_get (ending kind) 0
-      → (flow : Flow) (s : State) → Flows n (is_some kind) [] flow s
-      → Sim (Results n (is_some kind)) (λ o t. resume (bodies_of p) law k outer t o) (result_behind kind flow s) (flow_at (bodies_of p) law k outer [] q flow s)
+        → (flow : Flow) (s : State) → Flows n (is_some kind) [] flow s
+        → Sim (Results n (is_some kind)) (λ o t. resume (bodies_of p) law k outer t o) (result_behind kind flow s) (flow_at (bodies_of p) law k outer [] q flow s)
     end_sim None k outer q e Normal s le = record { eq = leave (bodies_of p) law k outer s q [] e; post = (le, refl) }
     end_sim (Some kind) k outer q e Normal s le = record { eq = any (bodies_of p) law k outer s q [] None e; post = tt }
     end_sim None k outer q e (Returned o) s post = record { eq = refl; post = post }
@@ -76,7 +75,7 @@ module _ (p : Program) (shaped : IsShaped p) (law : (t : ℕ) (m : Machine) → 
 
     -- a routine from its tick
     pub routine_sim : (r : Routine) (k : ℕ) (outer : List MachineCall) (s : State) → slice_get (routines_of p) k ≡ Some r → s.ticks ≤ n
-      → Sim (Results n (is_some r.kind)) (λ o t. resume (bodies_of p) law k outer t o)
+        → Sim (Results n (is_some r.kind)) (λ o t. resume (bodies_of p) law k outer t o)
         (tick s.ticks r.line (site_of (bodies_of p) k outer []) s (λ t. bind (low (Block r.body) None (site_of (bodies_of p) k outer []) t) (result_behind r.kind)))
         (at (bodies_of p) law k outer s 0 [])
     routine_sim r k outer s e le =
@@ -84,8 +83,8 @@ module _ (p : Program) (shaped : IsShaped p) (law : (t : ℕ) (m : Machine) → 
         let there = body_at p k r e in
         let has = draft_stands (bodies_of p) k [] (scope_of p r) r.params (draft_of r) there in
         let end : seen (bodies_of p) k (1 + sizes r.body) ≡ slice_get (ending r.kind) 0 =
-            draft_seen (bodies_of p) k [] (scope_of p r) r.params (draft_of r) there (1 + sizes r.body)
-            ∙ end_seen (instr.Tick r.line) code (ending r.kind) (sizes r.body) (code_length (Block r.body) [] 1) in
+        draft_seen (bodies_of p) k [] (scope_of p r) r.params (draft_of r) there (1 + sizes r.body)
+        ∙ end_seen (instr.Tick r.line) code (ending r.kind) (sizes r.body) (code_length (Block r.body) [] 1) in
         let is_shaped = shaped_at p shaped k r e in
         from_sim _ _ _ _ _ (one (bodies_of p) law k outer s 0 [] (instr.Tick r.line) has.0)
         (tick_sim (bodies_of p) law k outer (Results n (is_some r.kind)) (λ o t. resume (bodies_of p) law k outer t o) s.ticks r.line 0 1 [] [] s
@@ -96,16 +95,16 @@ module _ (p : Program) (shaped : IsShaped p) (law : (t : ℕ) (m : Machine) → 
 
     -- a function is entered, where its slots can be charged
     enter_within : (b : Bool) (r : Routine) (k f : ℕ) (outer : List MachineCall) (pc : ℕ) (args from ops : List Value) (s : State) → slice_get (routines_of p) k ≡ Some r → s.ticks ≤ n
-      → Sim (Results n (is_some r.kind)) (λ o t. resume (bodies_of p) law k (call_at f (pc + 1) s.slots ops ∷ outer) t o)
+        → Sim (Results n (is_some r.kind)) (λ o t. resume (bodies_of p) law k (call_at f (pc + 1) s.slots ops ∷ outer) t o)
         (cond b (tick s.ticks r.line (site_of (bodies_of p) k (call_at f (pc + 1) s.slots ops ∷ outer) []) (record s { slots = first_slots r args })
-          (λ t. bind (low (Block r.body) None (site_of (bodies_of p) k (call_at f (pc + 1) s.slots ops ∷ outer) []) t) (result_behind r.kind))) (Stops (whole.Fails StackHeap)))
+        (λ t. bind (low (Block r.body) None (site_of (bodies_of p) k (call_at f (pc + 1) s.slots ops ∷ outer) []) t) (result_behind r.kind))) (Stops (whole.Fails StackHeap)))
         (led (bodies_of p) law f outer s pc from (cond b (Enters k (first_slots r args) ops) (Fails StackHeap)))
     enter_within true r k f outer pc args from ops s e le = routine_sim r k (call_at f (pc + 1) s.slots ops ∷ outer) (record s { slots = first_slots r args }) e le
     enter_within false r k f outer pc args from ops s e le = record { eq = refl; post = tt }
 
     -- the caller goes on with the result
     returned_sim : (has : Bool) (k f : ℕ) (outer : List MachineCall) (pc q : ℕ) (slots ops : List Value) (o : Option Value) (t : State) → pc + 1 ≡ q → Results n has o t
-      → Sim (Results n has) (λ o u. at (bodies_of p) law f outer u q (pushed o ops)) (give_result o (site_of (bodies_of p) f outer ops) (record t { slots = slots }))
+        → Sim (Results n has) (λ o u. at (bodies_of p) law f outer u q (pushed o ops)) (give_result o (site_of (bodies_of p) f outer ops) (record t { slots = slots }))
         (resume (bodies_of p) law k (call_at f (pc + 1) slots ops ∷ outer) t o)
     returned_sim has k f outer pc q slots ops None t e post =
         record { eq = ap (λ q. at (bodies_of p) law f outer (record t { slots = slots }) q ops) e; post = post }
@@ -114,8 +113,8 @@ module _ (p : Program) (shaped : IsShaped p) (law : (t : ℕ) (m : Machine) → 
         (received_sim (bodies_of p) law f outer n (pc + 1) q (λ next. Over Lost) (record t { slots = slots }) v ops e post.0)
 
     enter_sim : (r : Routine) (k line f : ℕ) (outer : List MachineCall) (pc q : ℕ) (args from ops : List Value) (s : State)
-      → slice_get (routines_of p) k ≡ Some r → line_at (bodies_of p) f (pc + 1 - 1) ≡ line → pc + 1 ≡ q → s.ticks ≤ n
-      → Sim (Results n (is_some r.kind)) (λ o t. at (bodies_of p) law f outer t q (pushed o ops)) (enter low (Some r) k line args (site_of (bodies_of p) f outer ops) s)
+        → slice_get (routines_of p) k ≡ Some r → line_at (bodies_of p) f (pc + 1 - 1) ≡ line → pc + 1 ≡ q → s.ticks ≤ n
+        → Sim (Results n (is_some r.kind)) (λ o t. at (bodies_of p) law f outer t q (pushed o ops)) (enter low (Some r) k line args (site_of (bodies_of p) f outer ops) s)
         (led (bodies_of p) law f outer s pc from (entered_with (routine_body p r) args ops k s.kept (base outer) s.slots))
     enter_sim r k line f outer pc q args from ops s e at_line d le =
         let caller = call_at f (pc + 1) s.slots ops in
@@ -130,8 +129,8 @@ module _ (p : Program) (shaped : IsShaped p) (law : (t : ℕ) (m : Machine) → 
 
     -- a call whose arguments are pushed
     pub call_sim : (callee : Callee) (line : ℕ) (other has : Bool) (count f : ℕ) (outer : List MachineCall) (pc q : ℕ) (vs ops : List Value) (s : State)
-      → FitsCallee (outline p other) callee count has → s.ticks ≤ n → length vs ≡ count → HasAt (bodies_of p) f pc (call_code callee line) → pc + length (call_code callee line) ≡ q
-      → Sim (Results n has) (λ o t. at (bodies_of p) law f outer t q (pushed o ops)) (call (routines_of p) low callee line (reverse vs) (site_of (bodies_of p) f outer ops) s)
+        → FitsCallee (outline p other) callee count has → s.ticks ≤ n → length vs ≡ count → HasAt (bodies_of p) f pc (call_code callee line) → pc + length (call_code callee line) ≡ q
+        → Sim (Results n has) (λ o t. at (bodies_of p) law f outer t q (pushed o ops)) (call (routines_of p) low callee line (reverse vs) (site_of (bodies_of p) f outer ops) s)
         (at (bodies_of p) law f outer s pc (vs ++ ops))
     call_sim (Function k) line other has count f outer pc q vs ops s fits le len stands d =
         let found = routine_at p k fits.0 fits.1 in

@@ -19,13 +19,13 @@ pub record Sim {A : Type 0} (P : A → State → Type 0) (k : A → State → Wh
 
 -- one evaluation behind another
 pub then_sim : {A B : Type 0} (P : A → State → Type 0) (Q : B → State → Type 0) (k : A → State → Whole) (l : B → State → Whole) (r : Evaluation A) (go : A → State → Evaluation B) (h : Whole)
-  → Sim P k r h → ((a : A) (s : State) → P a s → Sim Q l (go a s) (k a s)) → Sim Q l (bind r go) h
+    → Sim P k r h → ((a : A) (s : State) → P a s → Sim Q l (go a s) (k a s)) → Sim Q l (bind r go) h
 then_sim P Q k l (Gives a s) go h m next = let b = next a s m.post in record { eq = m.eq ∙ b.eq; post = b.post }
 then_sim P Q k l (Stops whole) go h m next = record { eq = m.eq; post = tt }
 
 -- another way on, and a weaker fact
 pub map_sim : {A : Type 0} (P Q : A → State → Type 0) (k l : A → State → Whole) (r : Evaluation A) (h : Whole)
-  → Sim P k r h → ((a : A) (s : State) → P a s → (k a s ≡ l a s) × Q a s) → Sim Q l r h
+    → Sim P k r h → ((a : A) (s : State) → P a s → (k a s ≡ l a s) × Q a s) → Sim Q l r h
 map_sim P Q k l (Gives a s) h m on = let b = on a s m.post in record { eq = m.eq ∙ b.0; post = b.1 }
 map_sim P Q k l (Stops whole) h m on = record { eq = m.eq; post = tt }
 

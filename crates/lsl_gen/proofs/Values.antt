@@ -1,9 +1,7 @@
 -- Expressions: the machine pushes the values that they give.
-use Rattle.std.proofs.Common.{◌≡◌, ℕ, zero, suc, ◌+◌, ◌≤◌, pos, nat_le, List, [], ◌∷◌, ◌++◌, Bool, true, false, cond, Option, Some, None, refl, sym, ap, ap₂, ◌∙◌, subst, arith, length, length-append, append_assoc, reverse, take, drop, get_or, slice_set}
-use Rattle.std.specs.Prelude.{is_some}
+use Rattle.std.proofs.Common.{◌≡◌, ℕ, ◌+◌, ◌≤◌, pos, List, [], ◌∷◌, ◌++◌, Bool, true, false, cond, Option, Some, None, refl, sym, ap, ◌∙◌, subst, arith, length, length-append, reverse, get_or, slice_set}
 use Rattle.std.proofs.lemmas.Bool.Decides.{nat_tests}
 use Rattle.lsl_value.specs.Values.{charge_of}
-use Rattle.lsl_value.specs.declared.operators.BinaryOp.{BinaryOp}
 use Rattle.lsl_value.specs.declared.names.ConstantId.{ConstantId}
 use Rattle.lsl_value.specs.declared.names.ConstantId.TheVariants as constant
 use Rattle.lsl_value.specs.declared.tagged.Value.{Value}
@@ -20,14 +18,13 @@ use Rattle.lsl_tree.specs.Shape.{argument_count, IsShapedNode, AreShapedNodes, I
 use Rattle.lsl_tree.specs.Signatures.{routines_of}
 use Rattle.lsl_running.specs.declared.ends.Fault.TheVariants.{StackHeap}
 use Rattle.lsl_running.specs.declared.kept.Kept.{Kept}
-use Rattle.lsl_running.specs.Charging.{call_charge, charges_of, hold_all, used, is_within, with_global}
+use Rattle.lsl_running.specs.Charging.{hold_all, used, is_within, with_global}
 use Rattle.lsl_running.specs.Results as whole
 use Rattle.lsl_running.specs.Results.{Whole}
 use Rattle.lsl_running.specs.Values.{absent, unary_value, binary_value, list_value}
-use Rattle.lsl_meaning.specs.Calls.{Lower, call}
-use Rattle.lsl_meaning.specs.Expressions.{value_at, storing, assign, give_operation, step_operator, assign_step, step_behind, needed, value_of, values_of}
-use Rattle.lsl_meaning.specs.State.{State, Site, holding, holding_all, Evaluation, Gives, Stops, bind, give}
-use Rattle.lsl_code.specs.declared.instructions.Instr.{Instr}
+use Rattle.lsl_meaning.specs.Calls.{Lower}
+use Rattle.lsl_meaning.specs.Expressions.{value_at, storing, assign, step_operator, assign_step, step_behind, needed, value_of, values_of}
+use Rattle.lsl_meaning.specs.State.{State, Site, holding_all, Evaluation, Gives, Stops, bind, give}
 use Rattle.lsl_code.specs.declared.instructions.Instr.TheVariants as instr
 use Rattle.lsl_code.specs.Acts.{gives, act}
 use Rattle.lsl_code.specs.Bodies.{Body}
@@ -41,7 +38,7 @@ use Rattle.lsl_gen.proofs.Calls.{popped}
 use Rattle.lsl_gen.proofs.Leaves.{pushed, Results, site_of, at, led, one, give_sim, operation_sim}
 use Rattle.lsl_gen.proofs.Pieces.{has_front, has_back, last_at, last_end}
 use Rattle.lsl_gen.proofs.Routines.{outline, LowerSim, call_sim}
-use Rattle.lsl_gen.proofs.Simulations.{Holds, Sim, then_sim, map_sim, from_sim, Within}
+use Rattle.lsl_gen.proofs.Simulations.{Holds, Sim, then_sim, from_sim, Within}
 
 -- how many values, and how many ticks at most
 abbrev pub Values : ℕ → ℕ → List Value → State → Type 0
@@ -52,14 +49,14 @@ hold_more held ops [] = refl
 hold_more held ops (v ∷ vs) = ap (λ n. n + charge_of v) (hold_more held ops vs)
 
 site_more : (bodies : List Body) (f : ℕ) (outer : List MachineCall) (ops vs : List Value)
-  → site_of bodies f outer (vs ++ ops) ≡ holding_all (site_of bodies f outer ops) vs
+    → site_of bodies f outer (vs ++ ops) ≡ holding_all (site_of bodies f outer ops) vs
 site_more bodies f outer ops vs =
     let site = site_of bodies f outer ops in
     ap (λ (held : ℕ). record site { held = held }) (sym (hold_more (base outer) ops vs))
 
 -- a constant's value is pushed by one instruction
 literal_act : (id : ConstantId) (bodies : List Body) (g : Kept) (held : ℕ) (slots ops : List Value)
-  → act bodies (Some (literal (constant_value_of id))) g held slots ops ≡ gives held slots (constant_value_of id ∷ ops) g
+    → act bodies (Some (literal (constant_value_of id))) g held slots ops ≡ gives held slots (constant_value_of id ∷ ops) g
 literal_act constant.True bodies g held slots ops = refl
 literal_act id bodies g held slots ops = refl
 
@@ -69,7 +66,7 @@ also_sim P Q k (Gives a s) h m q = record { eq = m.eq; post = (m.post, q) }
 also_sim P Q k (Stops w) h m q = record { eq = m.eq; post = tt }
 
 given_within : (b : Bool) (held : ℕ) (v : Value) (s : State) → is_within s.kept (used (held + charge_of v) s.slots s.kept) ≡ b
-  → Holds (λ w t. is_within t.kept (used (held + charge_of w) t.slots t.kept) ≡ true) (cond b (Gives v s) (Stops (whole.Fails StackHeap)))
+    → Holds (λ w t. is_within t.kept (used (held + charge_of w) t.slots t.kept) ≡ true) (cond b (Gives v s) (Stops (whole.Fails StackHeap)))
 given_within true held v s e = e
 given_within false held v s e = tt
 
@@ -83,7 +80,7 @@ module _ (p : Program) (shaped : IsShaped p) (law : (t : ℕ) (m : Machine) → 
     (low : Lower) (n : ℕ) (lower : LowerSim p shaped law n low) where
   module _ (f : ℕ) (outer : List MachineCall) where
     load_sim : (place : Place) (pc q : ℕ) (ops : List Value) (s : State) → s.ticks ≤ n → seen (bodies_of p) f pc ≡ Some (load place) → pc + 1 ≡ q
-      → Sim (Within n) (λ v t. at (bodies_of p) law f outer t q (v ∷ ops)) (give (value_at place s) (site_of (bodies_of p) f outer ops) s) (at (bodies_of p) law f outer s pc ops)
+        → Sim (Within n) (λ v t. at (bodies_of p) law f outer t q (v ∷ ops)) (give (value_at place s) (site_of (bodies_of p) f outer ops) s) (at (bodies_of p) law f outer s pc ops)
     load_sim (Slot i) pc q ops s le e d =
         from_sim _ _ _ _ _ (one (bodies_of p) law f outer s pc ops (instr.Load i) e)
         (give_sim (bodies_of p) law f outer n pc q s s ops (get_or s.slots i absent) ops d refl refl le)
@@ -92,7 +89,7 @@ module _ (p : Program) (shaped : IsShaped p) (law : (t : ℕ) (m : Machine) → 
         (give_sim (bodies_of p) law f outer n pc q s s ops (get_or s.kept.globals i absent) ops d refl refl le)
 
     store_sim : (place : Place) (v : Value) (pc q : ℕ) (ops : List Value) (s : State) → s.ticks ≤ n → seen (bodies_of p) f pc ≡ Some (store place) → pc + 1 ≡ q
-      → Sim (Within n) (λ v t. at (bodies_of p) law f outer t q (v ∷ ops)) (assign place v (site_of (bodies_of p) f outer ops) s) (at (bodies_of p) law f outer s pc (v ∷ ops))
+        → Sim (Within n) (λ v t. at (bodies_of p) law f outer t q (v ∷ ops)) (assign place v (site_of (bodies_of p) f outer ops) s) (at (bodies_of p) law f outer s pc (v ∷ ops))
     store_sim (Slot i) v pc q ops s le e d =
         from_sim _ _ _ _ _ (one (bodies_of p) law f outer s pc (v ∷ ops) (instr.Store i) e)
         (give_sim (bodies_of p) law f outer n pc q s (record s { slots = slice_set s.slots i v }) (v ∷ ops) v ops d refl refl le)
@@ -102,21 +99,21 @@ module _ (p : Program) (shaped : IsShaped p) (law : (t : ℕ) (m : Machine) → 
 
     -- the charge of a value that was held already can't be too much
     room_sim : (b : Bool) (q : ℕ) (s : State) (v : Value) (ops : List Value) → b ≡ true → s.ticks ≤ n
-      → Sim (Within n) (λ w t. at (bodies_of p) law f outer t q (w ∷ ops)) (cond b (Gives v s) (Stops (whole.Fails StackHeap))) (at (bodies_of p) law f outer s q (v ∷ ops))
+        → Sim (Within n) (λ w t. at (bodies_of p) law f outer t q (w ∷ ops)) (cond b (Gives v s) (Stops (whole.Fails StackHeap))) (at (bodies_of p) law f outer s q (v ∷ ops))
     room_sim true q s v ops e le = record { eq = refl; post = le }
     room_sim false q s v ops e le = absurd cc
 
     -- the new value goes, and the old one is given again
     old_sim : (pc q : ℕ) (s : State) (old new : Value) (ops : List Value) → s.ticks ≤ n → is_within s.kept (used (hold_all (base outer) ops + charge_of old + charge_of new) s.slots s.kept) ≡ true
-      → seen (bodies_of p) f pc ≡ Some instr.Drop → pc + 1 ≡ q
-      → Sim (Within n) (λ w t. at (bodies_of p) law f outer t q (w ∷ ops)) (give old (site_of (bodies_of p) f outer ops) s) (at (bodies_of p) law f outer s pc (new ∷ old ∷ ops))
+        → seen (bodies_of p) f pc ≡ Some instr.Drop → pc + 1 ≡ q
+        → Sim (Within n) (λ w t. at (bodies_of p) law f outer t q (w ∷ ops)) (give old (site_of (bodies_of p) f outer ops) s) (at (bodies_of p) law f outer s pc (new ∷ old ∷ ops))
     old_sim pc q s old new ops le fits e d =
         from_sim _ _ _ _ _ (one (bodies_of p) law f outer s pc (new ∷ old ∷ ops) instr.Drop e ∙ ap (λ q. at (bodies_of p) law f outer s q (old ∷ ops)) d)
         (room_sim (is_within s.kept (used (hold_all (base outer) ops + charge_of old) s.slots s.kept)) q s old ops
         (less_within s.kept (used (hold_all (base outer) ops + charge_of old + charge_of new) s.slots s.kept) (used (hold_all (base outer) ops + charge_of old) s.slots s.kept) (omega arith) fits) le)
 
     step_sim : (place : Place) (op : StepOp) (pc q : ℕ) (ops : List Value) (s : State) → s.ticks ≤ n → HasAt (bodies_of p) f pc (step_code place op) → pc + 1 + 1 + 1 + 1 + 1 + 1 ≡ q
-      → Sim (Within n) (λ v t. at (bodies_of p) law f outer t q (v ∷ ops)) (step_behind place op (site_of (bodies_of p) f outer ops) s) (at (bodies_of p) law f outer s pc ops)
+        → Sim (Within n) (λ v t. at (bodies_of p) law f outer t q (v ∷ ops)) (step_behind place op (site_of (bodies_of p) f outer ops) s) (at (bodies_of p) law f outer s pc ops)
     step_sim place op pc q ops s le has d =
         let site = site_of (bodies_of p) f outer in
         let at_place = at (bodies_of p) law f outer in
@@ -137,13 +134,13 @@ module _ (p : Program) (shaped : IsShaped p) (law : (t : ℕ) (m : Machine) → 
         (λ w u post. old_sim (pc + 1 + 1 + 1 + 1 + 1) q u old w ops post.0 post.1 has.1.1.1.1.1.0 d))
 
     needed_sim : (q : ℕ) (ops : List Value) (o : Option Value) (s : State) → Results n true o s
-      → Sim (Within n) (λ v t. at (bodies_of p) law f outer t q (v ∷ ops)) (needed o s) (at (bodies_of p) law f outer s q (pushed o ops))
+        → Sim (Within n) (λ v t. at (bodies_of p) law f outer t q (v ∷ ops)) (needed o s) (at (bodies_of p) law f outer s q (pushed o ops))
     needed_sim q ops None s post = let never : false ≡ true = post.1 in absurd cc
     needed_sim q ops (Some v) s post = record { eq = refl; post = post.0 }
 
     mutual
       pub value_sim : (t : Node) (other : Bool) (pc : ℕ) (ops : List Value) (s : State) → s.ticks ≤ n → IsShapedNode (outline p other) t → HasAt (bodies_of p) f pc (value_code t)
-        → Sim (Within n) (λ v u. at (bodies_of p) law f outer u (pc + length (value_code t)) (v ∷ ops)) (value_of (routines_of p) low t (site_of (bodies_of p) f outer ops) s) (at (bodies_of p) law f outer s pc ops)
+          → Sim (Within n) (λ v u. at (bodies_of p) law f outer u (pc + length (value_code t)) (v ∷ ops)) (value_of (routines_of p) low t (site_of (bodies_of p) f outer ops) s) (at (bodies_of p) law f outer s pc ops)
       value_sim (node.Int i) other pc ops s le sh has =
           from_sim _ _ _ _ _ (one (bodies_of p) law f outer s pc ops (instr.Int i) has.0) (give_sim (bodies_of p) law f outer n pc (pc + 1) s s ops (value.Int i) ops refl refl refl le)
       value_sim (node.Str text) other pc ops s le sh has =
@@ -204,7 +201,7 @@ module _ (p : Program) (shaped : IsShaped p) (law : (t : ℕ) (m : Machine) → 
       value_sim (node.StepBehind place op) other pc ops s le sh has = step_sim place op pc (pc + 6) ops s le has (omega arith)
 
       pub values_sim : (ts : Nodes) (other : Bool) (pc : ℕ) (ops : List Value) (s : State) → s.ticks ≤ n → AreShapedNodes (outline p other) ts → HasAt (bodies_of p) f pc (values_code ts)
-        → Sim (Values n (argument_count ts)) (λ vs u. at (bodies_of p) law f outer u (pc + length (values_code ts)) (vs ++ ops)) (values_of (routines_of p) low ts (site_of (bodies_of p) f outer ops) s) (at (bodies_of p) law f outer s pc ops)
+          → Sim (Values n (argument_count ts)) (λ vs u. at (bodies_of p) law f outer u (pc + length (values_code ts)) (vs ++ ops)) (values_of (routines_of p) low ts (site_of (bodies_of p) f outer ops) s) (at (bodies_of p) law f outer s pc ops)
       values_sim NoNode other pc ops s le sh has =
           let e : pc ≡ pc + 0 = omega arith in
           record { eq = ap (λ q. at (bodies_of p) law f outer s q ops) e; post = (le, refl) }

@@ -1,5 +1,5 @@
 -- The parts of trees, as lists.
-use Rattle.std.proofs.Common.{◌≡◌, ℕ, suc, ◌+◌, ◌<◌, List, [], ◌∷◌, ◌++◌, length, Vec, Global, refl, sym, ap, ◌∙◌, arith, take, get_or, map, drop}
+use Rattle.std.proofs.Common.{◌≡◌, ℕ, ◌+◌, ◌<◌, List, [], ◌∷◌, ◌++◌, length, Vec, Global, refl, sym, ap, ◌∙◌, arith, take, get_or}
 use Rattle.std.proofs.lemmas.List.{take_more}
 use mathlib.Core.Former.{Count}
 use Rattle.lsl_value.specs.declared.tagged.Kind.{Kind}
@@ -56,12 +56,12 @@ actions_push (y ∷ xs) x ts = actions_push xs x (AndAction ts (action_of y))
 
 -- one more
 pub nodes_more : (xs : List declared.Node) (i : ℕ) (x : declared.Node) → i < length xs → x ≡ get_or xs i x
-  → nodes_of (take (i + 1) xs) ≡ AndNode (nodes_of (take i xs)) (node_of x)
+    → nodes_of (take (i + 1) xs) ≡ AndNode (nodes_of (take i xs)) (node_of x)
 nodes_more xs i x lt is =
     ap nodes_of (take_more xs i x lt) ∙ nodes_push (take i xs) (get_or xs i x) NoNode ∙ ap (λ y. AndNode (nodes_of (take i xs)) (node_of y)) (sym is)
 
 pub actions_more : (xs : List declared_action.Action) (i : ℕ) (x : declared_action.Action) → i < length xs → x ≡ get_or xs i x
-  → actions_of (take (i + 1) xs) ≡ AndAction (actions_of (take i xs)) (action_of x)
+    → actions_of (take (i + 1) xs) ≡ AndAction (actions_of (take i xs)) (action_of x)
 actions_more xs i x lt is =
     ap actions_of (take_more xs i x lt) ∙ actions_push (take i xs) (get_or xs i x) NoAction ∙ ap (λ y. AndAction (actions_of (take i xs)) (action_of y)) (sym is)
 

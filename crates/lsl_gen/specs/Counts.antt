@@ -43,7 +43,8 @@ abbrev mutual
   nodes_in_action (action.Label label) = 1
   nodes_in_action (action.If test a) = nodes_in_value test + nodes_in_action a + 1
   nodes_in_action (action.IfElse test a b) = nodes_in_value test + nodes_in_action a + nodes_in_action b + 1
-  nodes_in_action (action.Loop line test steps a) = nodes_in_value test + nodes_in_effects steps + nodes_in_action a + 1
+  nodes_in_action (action.Loop line test steps a) =
+      nodes_in_value test + nodes_in_effects steps + nodes_in_action a + 1
   nodes_in_action (action.Do line a test) = nodes_in_action a + nodes_in_value test + 1
   nodes_in_action (action.Jump line label) = 1
   nodes_in_action action.Return = 1

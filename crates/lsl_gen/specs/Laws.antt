@@ -1,5 +1,5 @@
 -- What the code of a program is, and what it comes to.
-use Rattle.std.specs.Prelude.{◌≡◌, ◌≢◌, ℕ, suc, ◌+◌, ◌*◌, ◌<◌, ◌≤◌, List, [], ◌∷◌, ◌++◌, length, map, All, true}
+use Rattle.std.specs.Prelude.{◌≡◌, ◌≢◌, ℕ, suc, ◌*◌, ◌≤◌, List, ◌++◌, length, map, All, true}
 use Rattle.lsl_value.specs.declared.names.BuiltinId.{BuiltinId}
 use Rattle.lsl_value.specs.declared.tagged.Value.{Value}
 use Rattle.lsl_tree.specs.Kinded.{IsKinded}
@@ -41,6 +41,9 @@ UnitsAreWellFormed =
 -- where a handler is cut, and goes on with one tick and this many answers more, it doesn't ask before its next tick
 abbrev pub AsksSoOften : Type 0
 AsksSoOften =
-    (p : Program) → IsKinded p → IsShaped p → (number : ℕ) (kept : Kept) (arguments : List Value) (ticks : ℕ) (answers replies : List Reply) (calls : List ActiveCall)
-    → whole p number kept arguments ticks answers ≡ Cut calls → kept.limit ≤ default_limit → 2048 * nodes_of p ≤ length replies
-    → (id : BuiltinId) (asked : List Value) → whole p number kept arguments (suc ticks) (answers ++ replies) ≢ Asks id asked
+    (p : Program) → IsKinded p → IsShaped p
+    → (number : ℕ) (kept : Kept) (arguments : List Value) (ticks : ℕ) (answers replies : List Reply) (calls : List ActiveCall)
+    → whole p number kept arguments ticks answers ≡ Cut calls
+    → kept.limit ≤ default_limit → 2048 * nodes_of p ≤ length replies
+    → (id : BuiltinId) (asked : List Value)
+    → whole p number kept arguments (suc ticks) (answers ++ replies) ≢ Asks id asked

@@ -1,11 +1,10 @@
 -- The code of a program: the functions in text order, and behind them the handlers, state by state.
-use Rattle.std.specs.Prelude.{ℕ, suc, ◌+◌, List, [], ◌∷◌, ◌++◌, length, map, Option, Some, None, is_some, IsTrue, ◌<◌}
+use Rattle.std.specs.Prelude.{ℕ, suc, ◌+◌, List, [], ◌∷◌, ◌++◌, length, map, take, Option, Some, None, is_some, IsTrue, ◌<◌}
 use Rattle.lsl_value.specs.declared.tagged.Kind.{Kind}
 use Rattle.lsl_table.specs.Events.{event_name_of}
 use Rattle.lsl_tree.specs.Actions.{Block}
 use Rattle.lsl_tree.specs.Initials.{global_kinds}
 use Rattle.lsl_tree.specs.Program.{Routine, NamedRoutine, EventRoutine, ProgramState, Program}
-use Rattle.lsl_tree.specs.Signatures as tree
 use Rattle.lsl_tree.specs.Signatures.{routines_of, handlers_of}
 use Rattle.lsl_code.specs.declared.functions.FunctionCode.{FunctionCode}
 use Rattle.lsl_code.specs.declared.functions.Handler.{Handler}
@@ -29,11 +28,16 @@ abbrev pub draft_of : Routine → List Instr
 draft_of r = Tick r.line ∷ (action_code (Block r.body) [] 1 ++ ending r.kind)
 
 abbrev pub signature_of : Routine → Signature
-signature_of r = record { params = (tree.signature_of_routine r).params; result = (tree.signature_of_routine r).result }
+signature_of r = record { params = take r.params r.slots; result = r.kind }
+
+-- what handlers take and give
+abbrev pub handler_signatures : List EventRoutine → List Signature
+handler_signatures hs = map signature_of (map (λ h. h.routine) hs)
 
 -- what the code of a program can name, where its globals have these kinds
 abbrev pub names_with : List Kind → Program → Names
-names_with kinds p = record { globals = kinds; functions = map signature_of (routines_of p); states = length p.states }
+names_with kinds p =
+    record { globals = kinds; functions = map signature_of (routines_of p); states = length p.states }
 
 abbrev pub names_of : Program → Names
 names_of p = names_with (global_kinds p) p
@@ -57,15 +61,16 @@ IsShort r = length (draft_of r) < 4294967296
 abbrev pub routine_code : Program → List ℕ → Routine → FunctionCode
 routine_code p = made_by (names_of p)
 
-abbrev pub function_code : Program → NamedRoutine → FunctionCode
-function_code p f = routine_code p f.name f.routine
+-- the functions of the script
+abbrev pub functions_made : Names → List NamedRoutine → List FunctionCode
+functions_made names fs = map (λ f. made_by names f.name f.routine) fs
 
--- a handler's function has its event's name
-abbrev pub handler_code : Program → EventRoutine → FunctionCode
-handler_code p h = routine_code p (event_name_of h.event) h.routine
+-- the functions of handlers, which have their events' names
+abbrev pub handlers_made : Names → List EventRoutine → List FunctionCode
+handlers_made names hs = map (λ h. made_by names (event_name_of h.event) h.routine) hs
 
 abbrev pub generated_functions : Program → List FunctionCode
-generated_functions p = map (function_code p) p.functions ++ map (handler_code p) (handlers_of p.states)
+generated_functions p = functions_made (names_of p) p.functions ++ handlers_made (names_of p) (handlers_of p.states)
 
 -- these handlers, whose functions are numbered from this number on
 abbrev pub numbered_handlers : ℕ → List EventRoutine → List Handler

@@ -54,11 +54,13 @@ abbrev mutual
   action_code (action.IfElse test a b) labels place =
       let then = place + length (value_code test) + 1 in
       let otherwise = then + size a + 1 in
-      value_code test ++ (JumpIfNot otherwise ∷ (action_code a labels then ++ (Jump (otherwise + size b) ∷ action_code b labels otherwise)))
+      value_code test
+      ++ (JumpIfNot otherwise ∷ (action_code a labels then ++ (Jump (otherwise + size b) ∷ action_code b labels otherwise)))
   action_code (action.Loop line test steps a) labels place =
       let body = place + length (value_code test) + 1 in
       let end = body + size a + length (effects_code steps) in
-      value_code test ++ (JumpIfNot (end + 2) ∷ (action_code a labels body ++ (effects_code steps ++ (Tick line ∷ Jump place ∷ []))))
+      value_code test
+      ++ (JumpIfNot (end + 2) ∷ (action_code a labels body ++ (effects_code steps ++ (Tick line ∷ Jump place ∷ []))))
   action_code (action.Do line a test) labels place =
       let end = place + size a + length (value_code test) + 1 in
       action_code a labels place ++ (value_code test ++ (JumpIfNot (end + 2) ∷ Tick line ∷ Jump place ∷ []))

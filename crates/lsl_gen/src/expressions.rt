@@ -193,7 +193,10 @@ pub fn emit_value(alloc: Global, draft: &mut Draft, node: &Node) -> Result<(), N
             Ok(())
         }
         Node::Binary {
-            op, left, right, ..
+            op,
+            left,
+            right,
+            ..
         } => {
             emit_value(alloc, draft, right)?;
             emit_value(alloc, draft, left)?;

@@ -1,10 +1,9 @@
 //! The code of routines, as functions of a unit.
 
 ghost use Rattle.std.specs.Prelude.{◌≡◌, ◌<◌, [], ◌∷◌, ◌++◌, IfOk, OnOk, All, length, map};
-ghost use Rattle.lsl_table.specs.Events.{event_name_of};
 ghost use Rattle.lsl_tree.specs.Program.{routine_of, function_of, handler_of, state_of};
 ghost use Rattle.lsl_tree.specs.Signatures.{handlers_of};
-ghost use Rattle.lsl_gen.specs.Programs.{draft_of, made_by, IsReady, IsShort, numbered_handlers, numbered_states};
+ghost use Rattle.lsl_gen.specs.Programs.{draft_of, functions_made, handlers_made, made_by, IsReady, IsShort, numbered_handlers, numbered_states};
 
 use crate::labels::Labels;
 use crate::numbers::short;
@@ -53,7 +52,15 @@ fn function(
 {
     let draft = emit_routine(alloc, routine)?;
     let slots = copy_kinds(alloc, &routine.slots)?;
-    let made = finish(alloc, names, name, slots, routine.kind, routine.params, draft)?;
+    let made = finish(
+        alloc,
+        names,
+        name,
+        slots,
+        routine.kind,
+        routine.params,
+        draft,
+    )?;
     Ok(made)
 }
 
@@ -65,7 +72,7 @@ pub fn push_functions(
     routines: &[NamedRoutine],
 ) -> Result<(), NoMemory>
     requires { All (λ r. IsReady names.now (routine_of r.routine)) routines.now }
-    ensures made { OnOk result (functions.new ≡ functions.old ++ map (λ f. made_by names.now f.name f.routine) (map function_of routines.now)) }
+    ensures made { OnOk result (functions.new ≡ functions.old ++ functions_made names.now (map function_of routines.now)) }
     ensures small { OnOk result (All (λ r. IsShort (routine_of r.routine)) routines.now) }
 {
     for r in routines {
@@ -84,7 +91,7 @@ fn push_handlers(
     routines: &[EventRoutine],
 ) -> Result<Sequence<Handler>, NoMemory>
     requires { All (λ r. IsReady names.now (routine_of r.routine)) routines.now }
-    ensures made { OnOk result (functions.new ≡ functions.old ++ map (λ h. made_by names.now (event_name_of h.event) h.routine) (map handler_of routines.now)) }
+    ensures made { OnOk result (functions.new ≡ functions.old ++ handlers_made names.now (map handler_of routines.now)) }
     ensures small { OnOk result (All (λ r. IsShort (routine_of r.routine)) routines.now) }
     ensures listed { IfOk result (λ handlers. handlers ≡ numbered_handlers (length functions.old) (map handler_of routines.now)) }
 {
@@ -110,7 +117,7 @@ pub fn push_states(
     states: &[ProgramState],
 ) -> Result<Sequence<StateCode>, NoMemory>
     requires { All (λ s. All (λ r. IsReady names.now (routine_of r.routine)) s.handlers.items) states.now }
-    ensures made { OnOk result (functions.new ≡ functions.old ++ map (λ h. made_by names.now (event_name_of h.event) h.routine) (handlers_of (map state_of states.now))) }
+    ensures made { OnOk result (functions.new ≡ functions.old ++ handlers_made names.now (handlers_of (map state_of states.now))) }
     ensures small { OnOk result (All (λ s. All (λ r. IsShort (routine_of r.routine)) s.handlers.items) states.now) }
     ensures listed { IfOk result (λ found. found ≡ numbered_states (length functions.old) (map state_of states.now)) }
 {

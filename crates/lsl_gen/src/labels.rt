@@ -78,7 +78,12 @@ impl Labels {
     }
 
     /// Takes the labels into scope that stand directly in a block whose code begins at this place, and counts them.
-    pub fn enter(&mut self, alloc: Global, actions: &[Action], place: usize) -> Result<usize, NoMemory>
+    pub fn enter(
+        &mut self,
+        alloc: Global,
+        actions: &[Action],
+        place: usize,
+    ) -> Result<usize, NoMemory>
         ensures labels { OnOk result (self.new ≡ places_in (actions_of actions.now) place ++ self.old) }
         ensures count { IfOk result (λ n. n ≡ length (places_in (actions_of actions.now) place)) }
     {

@@ -7,7 +7,7 @@ ghost use Rattle.lsl_tree.specs.Program.{routine_of, handler_of, program_of};
 ghost use Rattle.lsl_tree.specs.Shape.{IsShaped};
 ghost use Rattle.lsl_meaning.specs.Globals.{initial_globals};
 ghost use Rattle.lsl_gen.specs.Laws.{Agrees};
-ghost use Rattle.lsl_gen.specs.Programs.{generated_functions, generated_states, names_with, signature_of};
+ghost use Rattle.lsl_gen.specs.Programs.{generated_functions, generated_states, handler_signatures, names_with, signature_of};
 
 use crate::functions::{copy_kinds, push_functions, push_states};
 use crate::globals::initial_values;
@@ -23,16 +23,18 @@ const MAX_STATES: usize = 65_535;
 /// The unit of a program whose names and kinds are in order: its globals' initial values, its states, and the code of its functions
 /// and handlers, which run as they are meant.
 ///
-/// Takes memory for all of it, and time in proportion to the text. Want of memory also where a number is too large for its field:
-/// more than 65,535 slots, functions, points or states, or a function of 4,294,967,296 instructions.
+/// Takes memory for all of it. A statement is walked once, and once more for each statement and block around it, for the length
+/// of its code; labels, points and functions are found without a search. Want of memory also where a number is too large for its
+/// field: from 65,536 slots, functions or points, 65,536 states, or 4,294,967,296 instructions of a function on, and where a list
+/// of a global has more than 65,536 elements or a value is cast that is charged more than 65,536.
 pub fn generate(alloc: Global, program: &Program, digest: [u8; 32]) -> Result<Unit, NoMemory>
     requires kinded { IsKinded (program_of program.now) }
     requires shaped { IsShaped (program_of program.now) }
-    ensures digest { IfOk result (λ unit. unit.digest ≡ digest) }
-    ensures globals { IfOk result (λ unit. unit.globals ≡ initial_globals (program_of program.now)) }
-    ensures states { IfOk result (λ unit. unit.states ≡ generated_states (program_of program.now)) }
-    ensures functions { IfOk result (λ unit. unit.functions ≡ generated_functions (program_of program.now)) }
-    ensures meaning { IfOk result (λ unit. Agrees unit.functions (program_of program.now)) }
+    ensures digest { IfOk result (λ u. u.digest ≡ digest) }
+    ensures globals { IfOk result (λ u. u.globals ≡ initial_globals (program_of program.now)) }
+    ensures states { IfOk result (λ u. u.states ≡ generated_states (program_of program.now)) }
+    ensures functions { IfOk result (λ u. u.functions ≡ generated_functions (program_of program.now)) }
+    ensures meaning { IfOk result (λ u. Agrees u.functions (program_of program.now)) }
 {
     let unit = unit_of(alloc, program, digest)?;
     Ok(unit)
@@ -42,10 +44,10 @@ pub fn generate(alloc: Global, program: &Program, digest: [u8; 32]) -> Result<Un
 fn unit_of(alloc: Global, program: &Program, digest: [u8; 32]) -> Result<Unit, NoMemory>
     requires kinded { IsKinded (program_of program.now) }
     requires shaped { IsShaped (program_of program.now) }
-    ensures digest { IfOk result (λ unit. unit.digest ≡ digest) }
-    ensures globals { IfOk result (λ unit. unit.globals ≡ initial_globals (program_of program.now)) }
-    ensures states { IfOk result (λ unit. unit.states ≡ generated_states (program_of program.now)) }
-    ensures functions { IfOk result (λ unit. unit.functions ≡ generated_functions (program_of program.now)) }
+    ensures digest { IfOk result (λ u. u.digest ≡ digest) }
+    ensures globals { IfOk result (λ u. u.globals ≡ initial_globals (program_of program.now)) }
+    ensures states { IfOk result (λ u. u.states ≡ generated_states (program_of program.now)) }
+    ensures functions { IfOk result (λ u. u.functions ≡ generated_functions (program_of program.now)) }
 {
     if program.states.len() > MAX_STATES {
         return Err(AllocError);
@@ -112,7 +114,7 @@ fn push_signatures(
     signatures: &mut Sequence<Signature>,
     handlers: &[EventRoutine],
 ) -> Result<(), NoMemory>
-    ensures { OnOk result (signatures.new ≡ signatures.old ++ map signature_of (map (λ h. h.routine) (map handler_of handlers.now))) }
+    ensures { OnOk result (signatures.new ≡ signatures.old ++ handler_signatures (map handler_of handlers.now)) }
 {
     for h in handlers {
         let s = signature(alloc, &h.routine)?;

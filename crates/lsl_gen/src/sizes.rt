@@ -153,7 +153,10 @@ pub fn action_size(action: &Action) -> Result<usize, NoMemory>
             add(n, k)
         }
         Action::Loop {
-            test, steps, body, ..
+            test,
+            steps,
+            body,
+            ..
         } => {
             let n = value_size(test)?;
             let m = action_size(body)?;

@@ -1,4 +1,4 @@
-use Rattle.std.proofs.Common.{◌≡◌, ◌+◌, ◌≤◌, ℕ, get_or, length}
+use Rattle.std.proofs.Common.{◌≡◌, ◌+◌, ℕ, get_or, length}
 use Rattle.lsl_gen.proofs.labels.widen.Given as goal
 
 abbrev pub invariant-loop : goal.invariant-loop
