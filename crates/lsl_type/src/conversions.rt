@@ -49,16 +49,8 @@ pub(crate) fn empty_node(alloc: Global, kind: Kind) -> Result<Node, NoMemory>
 {
     match kind {
         Kind::Int => Ok(Node::Int { value: 0 }),
-        Kind::Str => Ok(Node::Str {
-            text: Text::new(),
-        }),
-        Kind::Key => cast(
-            alloc,
-            Kind::Key,
-            Node::Str {
-                text: Text::new(),
-            },
-        ),
+        Kind::Str => Ok(Node::Str { text: Text::new() }),
+        Kind::Key => cast(alloc, Kind::Key, Node::Str { text: Text::new() }),
         Kind::List => Ok(Node::List {
             elements: Vec::new(alloc),
         }),

@@ -52,9 +52,7 @@ fn part(alloc: Global, scope: &Scope, atom: &Atom) -> Result<Part, Refused>
     match atom {
         Atom::Int { value, .. } => Ok(Part::Int { value: *value }),
         Atom::Negative { value, .. } => Ok(Part::Negative { value: *value }),
-        Atom::Str { text, .. } => Ok(Part::Str {
-            text: text.copy()?,
-        }),
+        Atom::Str { text, .. } => Ok(Part::Str { text: text.copy()? }),
         Atom::Constant { name } => match scope.variable(name) {
             Some(
                 Variable {
@@ -169,15 +167,11 @@ pub(crate) fn empty_initial(alloc: Global, kind: Kind) -> Initial
             part: Part::Int { value: 0 },
         },
         Kind::Str => Initial::Part {
-            part: Part::Str {
-                text: Text::new(),
-            },
+            part: Part::Str { text: Text::new() },
         },
         Kind::Key => Initial::Cast {
             kind,
-            part: Part::Str {
-                text: Text::new(),
-            },
+            part: Part::Str { text: Text::new() },
         },
         Kind::List => Initial::List {
             parts: Vec::new(alloc),

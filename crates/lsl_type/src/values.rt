@@ -24,9 +24,7 @@ impl Checker<'_> {
     {
         match expr {
             Expr::Int { value, .. } => Ok(Node::Int { value: *value }),
-            Expr::Str { text, .. } => Ok(Node::Str {
-                text: text.copy()?,
-            }),
+            Expr::Str { text, .. } => Ok(Node::Str { text: text.copy()? }),
             Expr::Variable { name } => scope.read(name),
             Expr::StepBehind { name, op } => scope.step_behind(name, *op),
             Expr::StepBefore { op, name, .. } => scope.step_before(self.alloc, name, *op),
