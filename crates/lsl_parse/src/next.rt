@@ -10,19 +10,19 @@ ghost use Rattle.lsl_parse.specs.ScriptReading.{header_heads};
 
 use lsl_lex::{Sort, Token};
 
+macro_rules! stands {
+    ($tokens:expr, $sort:pat) => {
+        matches!($tokens, [Token { sort: $sort, .. }, ..])
+    };
+}
+
 /// Whether a TYPE stands next.
 pub fn is_type(tokens: &[Token]) -> bool
     ensures { result ≡ begins token_code (codes types) tokens.now }
 {
-    matches!(
+    stands!(
         tokens,
-        [
-            Token {
-                sort: Sort::IntegerWord | Sort::StringWord | Sort::KeyWord | Sort::ListWord,
-                ..
-            },
-            ..
-        ]
+        Sort::IntegerWord | Sort::StringWord | Sort::KeyWord | Sort::ListWord
     )
 }
 
@@ -30,68 +30,35 @@ pub fn is_type(tokens: &[Token]) -> bool
 pub fn is_name(tokens: &[Token]) -> bool
     ensures { result ≡ begins token_code (codes (Name ∷ [])) tokens.now }
 {
-    matches!(
-        tokens,
-        [
-            Token {
-                sort: Sort::Name(_),
-                ..
-            },
-            ..
-        ]
-    )
+    stands!(tokens, Sort::Name(_))
 }
 
 /// Whether the sign of a prefix operator stands next.
 pub fn is_prefix(tokens: &[Token]) -> bool
     ensures { result ≡ begins token_code (codes prefix_signs) tokens.now }
 {
-    matches!(
-        tokens,
-        [
-            Token {
-                sort: Sort::Minus | Sort::Bang | Sort::Tilde,
-                ..
-            },
-            ..
-        ]
-    )
+    stands!(tokens, Sort::Minus | Sort::Bang | Sort::Tilde)
 }
 
 /// Whether `++` or `--` stands next.
 pub fn is_step(tokens: &[Token]) -> bool
     ensures { result ≡ begins token_code (codes step_signs) tokens.now }
 {
-    matches!(
-        tokens,
-        [
-            Token {
-                sort: Sort::PlusPlus | Sort::MinusMinus,
-                ..
-            },
-            ..
-        ]
-    )
+    stands!(tokens, Sort::PlusPlus | Sort::MinusMinus)
 }
 
 /// Whether the sign of an assignment stands next.
 pub fn is_assignment(tokens: &[Token]) -> bool
     ensures { result ≡ begins token_code (codes assign_signs) tokens.now }
 {
-    matches!(
+    stands!(
         tokens,
-        [
-            Token {
-                sort: Sort::Assign
-                    | Sort::PlusAssign
-                    | Sort::MinusAssign
-                    | Sort::StarAssign
-                    | Sort::SlashAssign
-                    | Sort::PercentAssign,
-                ..
-            },
-            ..
-        ]
+        Sort::Assign
+            | Sort::PlusAssign
+            | Sort::MinusAssign
+            | Sort::StarAssign
+            | Sort::SlashAssign
+            | Sort::PercentAssign
     )
 }
 
@@ -99,218 +66,100 @@ pub fn is_assignment(tokens: &[Token]) -> bool
 pub fn is_equals(tokens: &[Token]) -> bool
     ensures { result ≡ begins token_code (codes (Assign ∷ [])) tokens.now }
 {
-    matches!(
-        tokens,
-        [
-            Token {
-                sort: Sort::Assign,
-                ..
-            },
-            ..
-        ]
-    )
+    stands!(tokens, Sort::Assign)
 }
 
 /// Whether `,` stands next.
 pub fn is_comma(tokens: &[Token]) -> bool
     ensures { result ≡ begins token_code (codes (Comma ∷ [])) tokens.now }
 {
-    matches!(
-        tokens,
-        [
-            Token {
-                sort: Sort::Comma,
-                ..
-            },
-            ..
-        ]
-    )
+    stands!(tokens, Sort::Comma)
 }
 
 /// Whether `;` stands next.
 pub fn is_semicolon(tokens: &[Token]) -> bool
     ensures { result ≡ begins token_code (codes (Semicolon ∷ [])) tokens.now }
 {
-    matches!(
-        tokens,
-        [
-            Token {
-                sort: Sort::Semicolon,
-                ..
-            },
-            ..
-        ]
-    )
+    stands!(tokens, Sort::Semicolon)
 }
 
 /// Whether `(` stands next.
 pub fn is_paren_open(tokens: &[Token]) -> bool
     ensures { result ≡ begins token_code (codes (ParenOpen ∷ [])) tokens.now }
 {
-    matches!(
-        tokens,
-        [
-            Token {
-                sort: Sort::ParenOpen,
-                ..
-            },
-            ..
-        ]
-    )
+    stands!(tokens, Sort::ParenOpen)
 }
 
 /// Whether `)` stands next.
 pub fn is_paren_close(tokens: &[Token]) -> bool
     ensures { result ≡ begins token_code (codes (ParenClose ∷ [])) tokens.now }
 {
-    matches!(
-        tokens,
-        [
-            Token {
-                sort: Sort::ParenClose,
-                ..
-            },
-            ..
-        ]
-    )
+    stands!(tokens, Sort::ParenClose)
 }
 
 /// Whether `[` stands next.
 pub fn is_bracket_open(tokens: &[Token]) -> bool
     ensures { result ≡ begins token_code (codes (BracketOpen ∷ [])) tokens.now }
 {
-    matches!(
-        tokens,
-        [
-            Token {
-                sort: Sort::BracketOpen,
-                ..
-            },
-            ..
-        ]
-    )
+    stands!(tokens, Sort::BracketOpen)
 }
 
 /// Whether `]` stands next.
 pub fn is_bracket_close(tokens: &[Token]) -> bool
     ensures { result ≡ begins token_code (codes (BracketClose ∷ [])) tokens.now }
 {
-    matches!(
-        tokens,
-        [
-            Token {
-                sort: Sort::BracketClose,
-                ..
-            },
-            ..
-        ]
-    )
+    stands!(tokens, Sort::BracketClose)
 }
 
 /// Whether `{` stands next.
 pub fn is_brace_open(tokens: &[Token]) -> bool
     ensures { result ≡ begins token_code (codes (BraceOpen ∷ [])) tokens.now }
 {
-    matches!(
-        tokens,
-        [
-            Token {
-                sort: Sort::BraceOpen,
-                ..
-            },
-            ..
-        ]
-    )
+    stands!(tokens, Sort::BraceOpen)
 }
 
 /// Whether `@` stands next.
 pub fn is_at(tokens: &[Token]) -> bool
     ensures { result ≡ begins token_code (codes (At ∷ [])) tokens.now }
 {
-    matches!(tokens, [Token { sort: Sort::At, .. }, ..])
+    stands!(tokens, Sort::At)
 }
 
 /// Whether `-` stands next.
 pub fn is_minus(tokens: &[Token]) -> bool
     ensures { result ≡ begins token_code (codes (Minus ∷ [])) tokens.now }
 {
-    matches!(
-        tokens,
-        [
-            Token {
-                sort: Sort::Minus,
-                ..
-            },
-            ..
-        ]
-    )
+    stands!(tokens, Sort::Minus)
 }
 
 /// Whether a STRING stands next.
 pub fn is_string(tokens: &[Token]) -> bool
     ensures { result ≡ begins token_code (codes (Str ∷ [])) tokens.now }
 {
-    matches!(
-        tokens,
-        [
-            Token {
-                sort: Sort::Str(_),
-                ..
-            },
-            ..
-        ]
-    )
+    stands!(tokens, Sort::Str(_))
 }
 
 /// Whether `else` stands next.
 pub fn is_else(tokens: &[Token]) -> bool
     ensures { result ≡ begins token_code (codes (ElseWord ∷ [])) tokens.now }
 {
-    matches!(
-        tokens,
-        [
-            Token {
-                sort: Sort::ElseWord,
-                ..
-            },
-            ..
-        ]
-    )
+    stands!(tokens, Sort::ElseWord)
 }
 
 /// Whether `state` stands next.
 pub fn is_state(tokens: &[Token]) -> bool
     ensures { result ≡ begins token_code (codes (StateWord ∷ [])) tokens.now }
 {
-    matches!(
-        tokens,
-        [
-            Token {
-                sort: Sort::StateWord,
-                ..
-            },
-            ..
-        ]
-    )
+    stands!(tokens, Sort::StateWord)
 }
 
 /// Whether a global or a function begins.
 pub fn is_header(tokens: &[Token]) -> bool
     ensures { result ≡ begins token_code (codes header_heads) tokens.now }
 {
-    matches!(
+    stands!(
         tokens,
-        [
-            Token {
-                sort: Sort::IntegerWord
-                    | Sort::StringWord
-                    | Sort::KeyWord
-                    | Sort::ListWord
-                    | Sort::Name(_),
-                ..
-            },
-            ..
-        ]
+        Sort::IntegerWord | Sort::StringWord | Sort::KeyWord | Sort::ListWord | Sort::Name(_)
     )
 }
 
