@@ -4,6 +4,7 @@ pub mod BlockLemmas
 pub mod BlockShapes
 pub mod BlockWalks
 pub mod BodyWalks
+pub mod BranchLemmas
 pub mod CallKinds
 pub mod Deciding
 pub mod FitLemmas

@@ -1,7 +1,9 @@
 use Rattle.std.proofs.Common.{◌≡◌, ◌<◌, ◌≤◌, ◌++◌, ◌∷◌, [], Ok, length, sym, ap, ◌∙◌, arith, rules}
 use Rattle.std.proofs.lemmas.Result.{err_from_is_err_and}
 use Rattle.lsl_tree.specs.Statements.{stmt_of, item_of, items_of}
-use Rattle.lsl_tree.specs.Actions.{Action, Actions, AndAction, actions_of}
+use Rattle.lsl_tree.specs.Expressions.{expr_of}
+use Rattle.lsl_tree.specs.Nodes.{node_of}
+use Rattle.lsl_tree.specs.Actions.{Action, Actions, AndAction, action_of, actions_of}
 use Rattle.lsl_type.specs.Known.{known_of}
 use Rattle.lsl_type.specs.Scope.{FrameView, frame_of}
 use Rattle.lsl_type.specs.Verdict.{Verdict, ◌>>=◌}
@@ -10,6 +12,7 @@ use Rattle.lsl_tree.proofs.ProgramRows.{action_of-Block, actions_of-append}
 use Rattle.lsl_tree.proofs.SyntaxRows.{stmt_of-Block}
 use Rattle.lsl_type.proofs.Walks.{items_walk, item_next, walked, each_next, each_stop, each_end, fails_as}
 use Rattle.lsl_type.proofs.BlockLemmas.{block_ok, block_leaves}
+use Rattle.lsl_type.proofs.BranchLemmas.{otherwise_fails}
 use Rattle.lsl_type.proofs.checker.Checker.+statement.Goals as goal
 
 pub block-returns-clause-found : goal.block-returns-clause-found
@@ -66,3 +69,13 @@ statement-returns-in-Block-clause-found t c =
 
 pub statement-returns-in-Empty-clause-found : goal.statement-returns-in-Empty-clause-found
 statement-returns-in-Empty-clause-found t c = rw action_of-Block (search rules)
+
+pub statement-returns-in_err-otherwise-in-IfElse-clause-found : goal.statement-returns-in_err-otherwise-in-IfElse-clause-found
+statement-returns-in_err-otherwise-in-IfElse-clause-found t c =
+    let known = known_of c.args.self.now.known.now in
+    let p = err_from_is_err_and c.from_residual-in_err-otherwise-in-IfElse.result c.from_residual-in_err-otherwise-in-IfElse.ensures.1 in
+    let g = c.statement-in-IfElse.new.frame in
+    rw (p.1, p.2, ap stmt_of c.in-IfElse.is) (otherwise_fails known c.args.self.now.home (frame_of c.args.frame.now) (frame_of g) c.in-IfElse.span
+    (expr_of c.in-IfElse.test) (stmt_of c.in-IfElse.then.value) (stmt_of c.in-IfElse.otherwise.value)
+    (node_of c.in_ok-test-in-IfElse.test) (action_of c.in_ok-then-in-IfElse.then) g.slots.items c.in_err-otherwise-in-IfElse.field-0.0
+    c.in_ok-test-in-IfElse.ensures c.in_ok-then-in-IfElse.ensures.found c.in_ok-then-in-IfElse.ensures.unchanged c.in_err-otherwise-in-IfElse.ensures.found)

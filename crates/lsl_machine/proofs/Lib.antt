@@ -1,0 +1,14 @@
+pub mod Arguments
+pub mod Charges
+pub mod Doing
+pub mod Parting
+pub mod Laying
+pub mod Leaving
+pub mod Remaining
+pub mod Viewing
+pub mod Storing
+pub mod Moving
+pub mod Halting
+pub mod Ticking
+pub mod Answering
+pub mod Beginning

@@ -1,0 +1,47 @@
+use Rattle.std.proofs.Common.{◌≡◌, sym, subst, [], ◌∷◌}
+use Rattle.lsl_machine.specs.Laid.{machine_of}
+use Rattle.lsl_running.specs.declared.host.Reply.TheVariants as reply
+use Rattle.lsl_machine.specs.State.{State, Wants, IsIn}
+use Rattle.lsl_machine.specs.Futures.{whole_from}
+use Rattle.lsl_machine.specs.Laid.{state_of, IsLaid}
+use Rattle.lsl_machine.specs.declared.standing.Standing.TheVariants as standing
+use Rattle.lsl_machine.proofs.Answering.{whole_answered, of_answered, has_asked, ready_runs}
+use Rattle.lsl_machine.proofs.Machine.answer.Goals as goal
+
+pub receive-self-inside-requires : goal.receive-self-inside-requires
+receive-self-inside-requires c =
+    let wants : Wants c.self.inside.standing c.args.value =
+    subst (λ (s : State). Wants s.standing c.args.value) (sym c.self.view_is) c.requires in
+    let x = has_asked c.self.inside.standing c.args.value wants in
+    let laid : IsLaid c.self.inside.running (standing.Asking x.0) =
+    subst (IsLaid c.self.inside.running) x.1 c.self.invariant in
+    record { held = laid.0; room = laid.1 }
+
+pub returns-clause-whole : goal.returns-clause-whole
+returns-clause-whole c bodies t more =
+    let wants : Wants c.self.inside.standing c.args.value =
+    subst (λ (s : State). Wants s.standing c.args.value) (sym c.self.view_is) c.requires in
+    let x = has_asked c.self.inside.standing c.args.value wants in
+    let e = whole_answered bodies x.0 c.args.value (machine_of c.self.inside.running)
+    (machine_of c.receive-self-inside.new.self) c.receive-self-inside.result t more x.2
+    c.receive-self-inside.ensures.ready (c.receive-self-inside.ensures.went more) in
+    subst (λ (s : State). whole_from bodies s t (reply.Value c.args.value ∷ more) ≡ whole_from bodies
+    (state_of c.receive-self-inside.new.self c.receive-self-inside.result) t more) c.self.view_is
+    (subst (λ z. whole_from bodies (state_of c.self.inside.running z) t
+    (reply.Value c.args.value ∷ more) ≡ whole_from bodies
+    (state_of c.receive-self-inside.new.self c.receive-self-inside.result) t more) (sym x.1) e)
+
+pub returns-clause-ready : goal.returns-clause-ready
+returns-clause-ready c = ready_runs c.receive-self-inside.result c.receive-self-inside.ensures.ready
+
+pub returns-clause-of : goal.returns-clause-of
+returns-clause-of c unit old =
+    let wants : Wants c.self.inside.standing c.args.value =
+    subst (λ (s : State). Wants s.standing c.args.value) (sym c.self.view_is) c.requires in
+    let x = has_asked c.self.inside.standing c.args.value wants in
+    let k : IsIn unit (standing.Asking x.0) (machine_of c.self.inside.running) =
+    subst (λ z. IsIn unit z (machine_of c.self.inside.running)) x.1
+    (subst (λ (s : State). IsIn unit s.standing s.machine) (sym c.self.view_is) old) in
+    of_answered unit x.0 c.args.value (machine_of c.self.inside.running) (machine_of c.receive-self-inside.new.self)
+    c.receive-self-inside.result x.2 c.receive-self-inside.ensures.ready (c.receive-self-inside.ensures.went [])
+    k

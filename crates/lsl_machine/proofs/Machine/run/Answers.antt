@@ -1,0 +1,31 @@
+use Rattle.std.proofs.Common.{◌≡◌, sym, subst, ◌+◌}
+use Rattle.lsl_machine.specs.Laid.{machine_of}
+use Rattle.lsl_machine.specs.State.{State, IsIn, CanRun, bodies_of}
+use Rattle.lsl_machine.specs.Futures.{whole_from, whole_behind, ticks_passed, IsCut}
+use Rattle.lsl_machine.specs.Laid.{state_of}
+use Rattle.lsl_machine.proofs.Machine.run.Goals as goal
+
+pub halt-halt-requires : goal.halt-halt-requires
+halt-halt-requires c = record {
+  able = subst (λ (s : State). CanRun s.standing) (sym c.self.view_is) c.requires.able;
+  laid = c.self.invariant;
+  of = subst (λ (s : State). IsIn c.args.unit.now s.standing s.machine) (sym c.self.view_is) c.requires.of;
+}
+
+pub returns-clause-whole : goal.returns-clause-whole
+returns-clause-whole c lacks t a =
+    let bodies = bodies_of c.args.unit.now in
+    subst (λ (s : State). whole_from bodies s (ticks_passed s.standing + t) a ≡ whole_behind bodies
+    c.halt-halt.result (state_of c.halt-halt.new.self c.standing_at-self-inside.result) t a) c.self.view_is
+    (subst (λ z. whole_from bodies (state_of c.self.inside.running c.self.inside.standing)
+    (ticks_passed c.self.inside.standing + t) a ≡ whole_behind bodies c.halt-halt.result
+    (state_of c.halt-halt.new.self z) t a) (sym c.standing_at-self-inside.ensures)
+    (c.halt-halt.ensures.whole lacks t a))
+
+pub returns-clause-cut : goal.returns-clause-cut
+returns-clause-cut c e = subst (λ z. IsCut (bodies_of c.args.unit.now) (state_of c.halt-halt.new.self z))
+    (sym c.standing_at-self-inside.ensures) (c.halt-halt.ensures.cut e)
+
+pub returns-clause-of : goal.returns-clause-of
+returns-clause-of c = subst (λ z. IsIn c.args.unit.now z (machine_of c.halt-halt.new.self))
+    (sym c.standing_at-self-inside.ensures) c.halt-halt.ensures.of

@@ -1,0 +1,75 @@
+-- What comes of a machine that stands somewhere, for further ticks and answers; and what a run up to a halt makes of it.
+use Rattle.std.specs.Prelude.{◌≡◌, ◌≢◌, ℕ, ◌+◌, true, cond, List, [], ◌∷◌}
+use Rattle.lsl_value.specs.declared.names.BuiltinId.{BuiltinId}
+use Rattle.lsl_table.specs.Calls.{row_of}
+use Rattle.lsl_running.specs.declared.ends.Fault.TheVariants.{StackHeap}
+use Rattle.lsl_running.specs.declared.host.Reply.{Reply}
+use Rattle.lsl_running.specs.Calling.{call_form, is_answered_by}
+use Rattle.lsl_running.specs.Results as whole
+use Rattle.lsl_running.specs.Results.{Whole}
+use Rattle.lsl_code.specs.Bodies.{Body}
+use Rattle.lsl_code.specs.Effects.{is_asked}
+use Rattle.lsl_code.specs.Kinds.{kinds_of}
+use Rattle.lsl_code.specs.Laws.{with_answers}
+use Rattle.lsl_code.specs.Machine.{Machine, Faulted, Lost, Next, On, Pauses, Halts}
+use Rattle.lsl_code.specs.Runs as runs
+use Rattle.lsl_code.specs.Runs.{Over, run}
+use Rattle.lsl_code.specs.Wholes.{told, active_calls}
+use Rattle.lsl_machine.specs.declared.standing.Standing.{Standing}
+use Rattle.lsl_machine.specs.declared.standing.Standing.TheVariants as standing
+use Rattle.lsl_machine.specs.declared.standing.Halt.{Halt}
+use Rattle.lsl_machine.specs.declared.standing.Halt.TheVariants as halt
+use Rattle.lsl_machine.specs.State.{State, replied_to}
+
+-- on from what an answer leads to
+abbrev pub run_on : List Body → ℕ → Next → runs.Halt
+run_on bodies t (On m) = run bodies t m
+run_on bodies t (Pauses x) = Over Lost
+run_on bodies t (Halts e) = Over e
+
+-- on with answers to this call, which was asked for
+abbrev pub answered_with : List Body → BuiltinId → Machine → ℕ → List Reply → runs.Halt
+answered_with bodies id m t [] = Over Lost
+answered_with bodies id m t (r ∷ more) =
+    cond (is_answered_by id r) (run_on bodies t (replied_to r m.kept more m.calls)) (Over Lost)
+
+abbrev pub halt_from : Standing → List Body → Machine → ℕ → List Reply → runs.Halt
+halt_from standing.Ready bodies m t answers = run bodies t (with_answers answers m)
+halt_from standing.AtTick bodies m t answers = run bodies t (with_answers answers m)
+halt_from standing.Full bodies m t answers = Over (Faulted StackHeap)
+halt_from (standing.Asking id) bodies m t answers = answered_with bodies id m t answers
+halt_from (standing.Ended way) bodies m t answers = Over Lost
+halt_from standing.Lost bodies m t answers = Over Lost
+
+-- what comes of a machine for so many ticks and these answers
+abbrev pub whole_from : List Body → State → ℕ → List Reply → Whole
+whole_from bodies s t answers = told bodies (halt_from s.standing bodies s.machine t answers)
+
+-- how many ticks a run passes
+abbrev pub ticks_passed : Standing → ℕ
+ticks_passed standing.AtTick = 1
+ticks_passed s = 0
+
+-- what comes of a machine behind this halt
+abbrev pub whole_behind : List Body → Halt → State → ℕ → List Reply → Whole
+whole_behind bodies (halt.Asks call) s t [] = whole.Asks call.id call.args
+whole_behind bodies (halt.Asks call) s t (r ∷ more) = whole_from bodies s t (r ∷ more)
+whole_behind bodies halt.AtTick s t answers = whole_from bodies s t answers
+whole_behind bodies (halt.Ended way) s t answers = whole.Ends way s.machine.kept
+whole_behind bodies (halt.Faulted fault) s t answers = whole.Fails fault
+whole_behind bodies halt.NoMemory s t answers = whole.Lost
+
+-- unless memory is wanting, what comes of the machine behind the halt is what came of it before
+abbrev pub GoesOn : List Body → State → Halt → State → Type 0
+GoesOn bodies old h new =
+    h ≢ halt.NoMemory → (t : ℕ) (answers : List Reply)
+    → whole_from bodies old (ticks_passed old.standing + t) answers ≡ whole_behind bodies h new t answers
+
+-- with no tick more nothing more comes of it
+abbrev pub IsCut : List Body → State → Type 0
+IsCut bodies s = whole_from bodies s 0 [] ≡ whole.Cut (active_calls bodies s.machine.calls)
+
+-- what is asked for is a call that the host answers, with arguments of its kinds
+abbrev pub IsAsked : Halt → Type 0
+IsAsked (halt.Asks call) = (is_asked (call_form call.id) ≡ true) × (kinds_of call.args ≡ (row_of call.id).params)
+IsAsked h = Unit {0}

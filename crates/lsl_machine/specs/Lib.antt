@@ -1,0 +1,5 @@
+pub mod Entry
+pub mod Futures
+pub mod Laid
+pub mod State
+pub mod Steps

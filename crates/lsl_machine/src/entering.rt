@@ -1,0 +1,117 @@
+//! The beginning of a handler, and answers to it.
+
+ghost use Rattle.std.specs.Prelude.{◌≡◌, ◌+◌, ◌≤◌, ◌<◌, List, cond, min, nat_le, length, slice_get, IfOk, Some, vec_capacity};
+ghost use Rattle.lsl_running.specs.Charging.{charges_of, default_limit};
+ghost use Rattle.lsl_running.specs.declared.host.Reply.TheVariants as reply;
+ghost use Rattle.lsl_code.specs.Acts.{first_slots};
+ghost use Rattle.lsl_code.specs.Bodies.{Body};
+ghost use Rattle.lsl_machine.specs.Entry.{Begins, IsReady, went};
+ghost use Rattle.lsl_machine.specs.Laid.{Held, IsLaid, kept_of, machine_of};
+ghost use Rattle.lsl_machine.specs.State.{AreArguments, bodies_of, replied_to};
+ghost use Rattle.lsl_running.specs.declared.host.Reply.{Reply};
+
+use crate::calls::{CALL_CHARGE, behind, push_empties};
+use crate::running::{Activation, Running, Step};
+use crate::standing::Standing;
+use lsl_code::Unit;
+use lsl_running::Kept;
+use lsl_text::NoMemory;
+use lsl_value::{Value, Values, charge};
+use std::alloc::Global;
+
+/// What a script is charged with no globals and no call.
+const SCRIPT_CHARGE: u64 = 1_024;
+
+/// A function before its first tick, where it stands: it may be charged more than the limit.
+pub fn enter(
+    alloc: Global,
+    unit: &Unit,
+    handler: u16,
+    globals: Values,
+    limit: u32,
+    args: Values,
+) -> Result<(Running, Standing), NoMemory>
+    requires limit { limit ≤ default_limit }
+    requires args { AreArguments (slice_get (bodies_of unit.now) handler) args }
+    ensures { IfOk result (λ begun. (body : Body) → slice_get (bodies_of unit.now) handler ≡ Some body →
+        Begins handler globals limit (first_slots body args) begun.0 begun.1) }
+{
+    let function = &unit.functions.as_slice()[handler as usize];
+    let kinds = behind(function.slots.as_slice(), function.params.len());
+    let mut stack = args.into_vec();
+    push_empties(alloc, &mut stack, kinds, function.most)?;
+    let globals = globals.into_vec();
+    let charge = charge_from(SCRIPT_CHARGE + CALL_CHARGE, stack.as_slice());
+    let global_charge = charge_from(0, globals.as_slice());
+    let running = Running {
+        alloc,
+        globals,
+        global_charge,
+        limit,
+        active: Activation {
+            function: handler,
+            place: 0,
+            base: 0,
+            floor: stack.len(),
+            charge,
+        },
+        callers: Vec::new(alloc),
+        stack,
+    };
+    Ok((running, standing_within(charge, global_charge, limit)))
+}
+
+/// Where a machine stands that is charged so much beside its globals, for which it is charged so much.
+fn standing_within(charge: u64, global_charge: u64, limit: u32) -> Standing
+    ensures { result ≡ cond (nat_le (charge + global_charge) limit) Standing.Ready Standing.Full }
+{
+    let limit = u64::from(limit);
+    if global_charge <= limit && charge <= limit - global_charge {
+        return Standing::Ready;
+    }
+    Standing::Full
+}
+
+/// The values' charges beside this one, and the greatest number where they are more.
+#[tactic(auto, using(crate::proofs::Charges::charges_step))]
+fn charge_from(held: u64, values: &[Value]) -> u64
+    ensures { result ≡ min (held + charges_of values.now) 18446744073709551615 }
+{
+    let mut sum = held;
+    for value in values {
+        sum = sum.saturating_add(charge(value));
+    }
+    sum
+}
+
+impl Running {
+    /// Takes the answer to what was asked for, and tells where the machine stands then. Takes no memory.
+    pub fn receive(&mut self, value: Option<Value>) -> Standing
+        requires held { Held self.old }
+        requires room { length self.old.stack.items < vec_capacity self.old.stack }
+        ensures ready { IsReady result }
+        ensures laid { IsLaid self.new result }
+        ensures went { (more : List Reply) →
+            replied_to (reply.Value value) (machine_of self.old).kept more (machine_of self.old).calls ≡ went result more (machine_of self.new) }
+    {
+        match value {
+            Some(value) => match self.push(value) {
+                Step::Goes => Standing::Ready,
+                Step::Faults(_) => Standing::Full,
+                _ => unreachable!(),
+            },
+            None => Standing::Ready,
+        }
+    }
+
+    /// The globals and the limit.
+    pub fn kept(self) -> Kept
+        ensures { result ≡ kept_of self }
+    {
+        let Running { globals, limit, .. } = self;
+        Kept {
+            globals: Values::from_vec(globals),
+            limit,
+        }
+    }
+}

@@ -1,0 +1,41 @@
+//! The handler that runs: one vector for the slots and the operands of all its calls.
+
+use lsl_running::{Call, Fault, Outcome};
+use lsl_value::Value;
+use std::alloc::Global;
+
+/// A call: where its slots and its operands begin in the one vector, and what is charged of all up to it.
+#[derive(Clone, Copy, Debug)]
+pub struct Activation {
+    pub function: u16,
+    pub place: usize,
+    pub base: usize,
+    pub floor: usize,
+    pub charge: u64,
+}
+
+/// The globals with their charge, the limit, the call in hand, the calls around it from the outermost, and what all of
+/// them hold.
+#[derive(Debug, Drop)]
+pub struct Running {
+    pub alloc: Global,
+    pub globals: Vec<Value>,
+    pub global_charge: u64,
+    pub limit: u32,
+    pub active: Activation,
+    pub callers: Vec<Activation>,
+    pub stack: Vec<Value>,
+}
+
+/// What one instruction comes to.
+#[derive(Debug, Drop)]
+pub enum Step {
+    Goes,
+    Ticks,
+    Asks(Call),
+    Ends(Outcome),
+    Faults(Fault),
+    /// No instruction, or none that finds its operands: no code of a unit comes here.
+    Lost,
+    NoMemory,
+}
