@@ -75,7 +75,9 @@ statement-returns-in_err-otherwise-in-IfElse-clause-found t c =
     let known = known_of c.args.self.now.known.now in
     let p = err_from_is_err_and c.from_residual-in_err-otherwise-in-IfElse.result c.from_residual-in_err-otherwise-in-IfElse.ensures.1 in
     let g = c.statement-in-IfElse.new.frame in
-    rw (p.1, p.2, ap stmt_of c.in-IfElse.is) (otherwise_fails known c.args.self.now.home (frame_of c.args.frame.now) (frame_of g) c.in-IfElse.span
-    (expr_of c.in-IfElse.test) (stmt_of c.in-IfElse.then.value) (stmt_of c.in-IfElse.otherwise.value)
-    (node_of c.in_ok-test-in-IfElse.test) (action_of c.in_ok-then-in-IfElse.then) g.slots.items c.in_err-otherwise-in-IfElse.field-0.0
+    let first : c.deref-in-IfElse.result.now ≡ c.in-IfElse.then.value = search rules in
+    let second : c.deref-in-IfElse-2.result.now ≡ c.in-IfElse.otherwise.value = search rules in
+    rw (p.1, p.2, ap stmt_of c.in-IfElse.is) (otherwise_fails stmt_of known c.args.self.now.home (frame_of c.args.frame.now) (frame_of g) c.in-IfElse.span
+    (expr_of c.in-IfElse.test) c.in-IfElse.then.value c.in-IfElse.otherwise.value c.deref-in-IfElse.result.now c.deref-in-IfElse-2.result.now
+    (node_of c.in_ok-test-in-IfElse.test) (action_of c.in_ok-then-in-IfElse.then) g.slots.items c.in_err-otherwise-in-IfElse.field-0.0 first second
     c.in_ok-test-in-IfElse.ensures c.in_ok-then-in-IfElse.ensures.found c.in_ok-then-in-IfElse.ensures.unchanged c.in_err-otherwise-in-IfElse.ensures.found)
