@@ -1,0 +1,75 @@
+//! The whole compiler: from a text to its checked program and the code that runs it, or its first fault.
+//! Nothing here runs it.
+#![tactic(auto)]
+
+ghost use Rattle.std.specs.Prelude.{◌≡◌, IfOk, IsErrOf, MatchResult};
+ghost use Rattle.lsl_text.specs.declared.Refusal.TheVariants as refusals;
+ghost use Rattle.lsl_tree.specs.Kinded.{IsKinded};
+ghost use Rattle.lsl_tree.specs.Program as program;
+ghost use Rattle.lsl_tree.specs.Program.{program_of};
+ghost use Rattle.lsl_tree.specs.Shape.{IsShaped};
+ghost use Rattle.lsl_gen.specs.Laws.{Agrees};
+ghost use Rattle.lsl_build.specs.Accepted.{Accepted};
+ghost use Rattle.lsl_build.specs.Codes.{IsCodeOf};
+ghost use Rattle.lsl_build.specs.Faults.{FirstFault, IsThat};
+ghost use Rattle.lsl_build.specs.declared.faults.BuildFault.{BuildFault as Fault};
+
+mod digest;
+mod faults;
+mod front;
+
+use crate::digest::digest_of;
+pub use crate::faults::BuildFault;
+use crate::front::checked;
+use lsl_code::Unit;
+use lsl_gen::generate;
+use lsl_text::Refusal;
+use lsl_tree::Program;
+use std::alloc::Global;
+
+/// A script that is accepted: its checked program, and the code that runs it.
+#[derive(Drop)]
+pub struct Built {
+    pub program: Program,
+    pub code: Unit,
+}
+
+/// The program and the code of a text of UTF-8, or its first fault.
+///
+/// A lexical fault comes before any fault of the grammar, and that before any of names and kinds. The span is
+/// that of the lexical fault, of the token, or of the part of the script. The code's digest is the SHA-256 of
+/// the text. Takes memory for the tokens, the tree, the program and the code; want of memory also where the
+/// code passes the ranges of its numbers.
+pub fn build(alloc: Global, text: &[u8]) -> Result<Built, Refusal<BuildFault>>
+    // What is found is the program of the text.
+    ensures found { IfOk result (λ b. Accepted text.now (program_of b.program)) }
+    // A text with a program is accepted with it, unless memory runs out.
+    ensures every { (p : program.Program) → Accepted text.now p
+        → MatchResult result (λ b. program_of b.program ≡ p) (λ refusal. refusal ≡ Refusal.NoMemory) }
+    // A fault is the first one.
+    ensures first { (fault : Fault) → IsErrOf result (refusals.Fault fault) → FirstFault text.now fault }
+    // A text with a first fault is refused with it, unless memory runs out.
+    ensures only { (fault : Fault) → FirstFault text.now fault → MatchResult result (λ _. ⊥) (IsThat fault) }
+    // The code is that of the text and its program, and runs as the program is meant.
+    ensures code { IfOk result (λ b. IsCodeOf text.now (program_of b.program) b.code) }
+    ensures meaning { IfOk result (λ b. Agrees b.code.functions (program_of b.program)) }
+    // The program's names and kinds are in order.
+    ensures shaped { IfOk result (λ b. IsShaped (program_of b.program)) }
+    ensures kinded { IfOk result (λ b. IsKinded (program_of b.program)) }
+{
+    compiled(alloc, text)
+}
+
+// The same, as far as it is said of what is found and of a fault.
+fn compiled(alloc: Global, text: &[u8]) -> Result<Built, Refusal<BuildFault>>
+    ensures found { IfOk result (λ b. Accepted text.now (program_of b.program)) }
+    ensures first { (fault : Fault) → IsErrOf result (refusals.Fault fault) → FirstFault text.now fault }
+    ensures code { IfOk result (λ b. IsCodeOf text.now (program_of b.program) b.code) }
+    ensures meaning { IfOk result (λ b. Agrees b.code.functions (program_of b.program)) }
+    ensures shaped { IfOk result (λ b. IsShaped (program_of b.program)) }
+    ensures kinded { IfOk result (λ b. IsKinded (program_of b.program)) }
+{
+    let program = checked(alloc, text)?;
+    let code = generate(alloc, &program, digest_of(text))?;
+    Ok(Built { program, code })
+}
