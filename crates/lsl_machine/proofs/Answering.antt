@@ -107,19 +107,19 @@ answer_fits (Some k) None e = absurd cc
 
 -- what comes of the machine with its answer
 pub whole_answered : (bodies : List Body) (id : BuiltinId) (given : Option Value) (old new : Machine) (s : Standing)
-    (t : ℕ) (more : List Reply)
+    (t : ℕ) (more : List Reply) (room more_room : ℕ)
     → Answers id (reply.Value given) → IsReady s
     → replied_to (reply.Value given) old.kept more old.calls ≡ went s more new
-    → whole_from bodies (record { machine = old; standing = standing.Asking id }) t
-    (reply.Value given ∷ more) ≡ whole_from bodies (record { machine = new; standing = s }) t more
-whole_answered bodies id given old new s t more fits ready e =
+    → whole_from bodies (record { machine = old; standing = standing.Asking id; room = room }) t
+    (reply.Value given ∷ more) ≡ whole_from bodies (record { machine = new; standing = s; room = more_room }) t more
+whole_answered bodies id given old new s t more room more_room fits ready e =
     let yes : is_answered_by id (reply.Value given) ≡ true = answer_fits (row_of id).result given fits in
     ap (λ b. told bodies
     (cond b (run_on bodies t (replied_to (reply.Value given) old.kept more old.calls)) (Over Lost))) yes
     ∙ ap (λ x. told bodies (run_on bodies t x)) e ∙ on_ready s ready
   where
     on_ready : (s : Standing) → IsReady s → told bodies (run_on bodies t (went s more new)) ≡ whole_from bodies
-        (record { machine = new; standing = s }) t more
+        (record { machine = new; standing = s; room = more_room }) t more
     on_ready standing.Ready r = refl
     on_ready standing.Full r = refl
     on_ready s r = absurd r

@@ -30,6 +30,11 @@ use Rattle.lsl_machine.proofs.Parting.{body_at}
 use Rattle.std.proofs.lemmas.Option.{slice_get_within}
 use Rattle.std.proofs.lemmas.List.{length-map}
 use Rattle.lsl_machine.specs.State.{State, AreArguments, CanRun, IsKinded, IsOf, bodies_of, kept_with}
+use Rattle.lsl_code.specs.Machine.{Machine}
+use Rattle.std.specs.Prelude.{vec_capacity}
+use Rattle.lsl_machine.specs.Rooms.{IsReserved}
+use Rattle.lsl_machine.specs.Reservations.{HasEntered}
+use Rattle.lsl_machine.proofs.Reserving.{entered_reserved}
 use Rattle.lsl_machine.proofs.Viewing.{machine_view}
 
 -- the fields of a machine that begins
@@ -77,9 +82,9 @@ pub record HasBegun (unit : Code) (f : ℕ) (kept : Kept) (args : List Value) (s
 pub has_begun : (unit : Code) (f limit : ℕ) (globals args : List Value) (body : Body) (r : Running) (s : Standing)
     → slice_get (bodies_of unit) f ≡ Some body
     → kinds_of globals ≡ kinds_of unit.globals → kinds_of args ≡ body.params
-    → Begins f globals limit (first_slots body args) r s
+    → Begins f globals limit (first_slots body args) r s → HasEntered (bodies_of unit) r
     → HasBegun unit f (kept_with globals limit) args (state_of r s)
-has_begun unit f limit globals args body r standing.Ready there kg ka h =
+has_begun unit f limit globals args body r standing.Ready there kg ka h entered =
     let bodies = bodies_of unit in
     let kept = kept_with globals limit in
     let slots = first_slots body args in
@@ -92,13 +97,17 @@ has_begun unit f limit globals args body r standing.Ready there kg ka h =
           ∙ ap (λ b. told bodies (cond b (run bodies t (begun f kept slots a)) (Over (Faulted StackHeap)))) yes
           ∙ ap (λ m. told bodies (run bodies t (with_answers a m))) (sym view);
       ready = tt;
-      of = subst (IsKinded unit) (sym view)
-          (begins_kinded unit.globals unit.states bodies unit.fits f body kept args [] there kg ka);
+      of = (
+        subst (IsKinded unit) (sym view)
+            (begins_kinded unit.globals unit.states bodies unit.fits f body kept args [] there kg ka),
+        subst (λ (m : Machine). IsReserved bodies (vec_capacity r.stack) m.calls) (sym view)
+            (entered_reserved bodies r kept f slots [] h entered, tt),
+      );
     }
   where
     within_is : (n limit : ℕ) → n ≤ limit → nat_le n limit ≡ true
     within_is n limit le = grind (arith, nat_tests)
-has_begun unit f limit globals args body r standing.Full there kg ka h =
+has_begun unit f limit globals args body r standing.Full there kg ka h entered =
     let bodies = bodies_of unit in
     let kept = kept_with globals limit in
     let slots = first_slots body args in
@@ -108,12 +117,12 @@ has_begun unit f limit globals args body r standing.Full there kg ka h =
       whole = λ t a. ap (λ o. told bodies (started o bodies f kept args t a)) there
           ∙ ap (λ b. told bodies (cond b (run bodies t (begun f kept slots a)) (Over (Faulted StackHeap)))) no_room;
       ready = tt;
-      of = tt;
+      of = (tt, tt);
     }
   where
     over_is : (n limit : ℕ) → limit < n → nat_le n limit ≡ false
     over_is n limit lt = grind (arith, nat_tests)
-has_begun unit f limit globals args body r s there kg ka h = absurd h
+has_begun unit f limit globals args body r s there kg ka h entered = absurd h
 
 pub begun_laid : (f limit : ℕ) (globals slots : List Value) (r : Running) (s : Standing)
     → Begins f globals limit slots r s → IsLaid r s

@@ -12,3 +12,5 @@ pub mod Halting
 pub mod Ticking
 pub mod Answering
 pub mod Beginning
+pub mod Sparing
+pub mod Reserving

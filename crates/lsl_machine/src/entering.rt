@@ -8,6 +8,7 @@ ghost use Rattle.lsl_code.specs.Bodies.{Body};
 ghost use Rattle.lsl_machine.specs.Entry.{Begins, IsReady, went};
 ghost use Rattle.lsl_machine.specs.Laid.{Held, IsLaid, kept_of, machine_of};
 ghost use Rattle.lsl_machine.specs.State.{AreArguments, bodies_of, replied_to};
+ghost use Rattle.lsl_machine.specs.Reservations.{HasEntered, KeepsRoom};
 ghost use Rattle.lsl_running.specs.declared.host.Reply.{Reply};
 
 use crate::calls::{CALL_CHARGE, behind, push_empties};
@@ -33,8 +34,9 @@ pub fn enter(
 ) -> Result<(Running, Standing), NoMemory>
     requires limit { limit ≤ default_limit }
     requires args { AreArguments (slice_get (bodies_of unit.now) handler) args }
-    ensures { IfOk result (λ begun. (body : Body) → slice_get (bodies_of unit.now) handler ≡ Some body →
+    ensures begun { IfOk result (λ begun. (body : Body) → slice_get (bodies_of unit.now) handler ≡ Some body →
         Begins handler globals limit (first_slots body args) begun.0 begun.1) }
+    ensures entered { IfOk result (λ begun. HasEntered (bodies_of unit.now) begun.0) }
 {
     let function = &unit.functions.as_slice()[handler as usize];
     let kinds = behind(function.slots.as_slice(), function.params.len());
@@ -91,6 +93,7 @@ impl Running {
         requires room { length self.old.stack.items < vec_capacity self.old.stack }
         ensures ready { IsReady result }
         ensures laid { IsLaid self.new result }
+        ensures room { KeepsRoom self.old self.new }
         ensures went { (more : List Reply) →
             replied_to (reply.Value value) (machine_of self.old).kept more (machine_of self.old).calls ≡ went result more (machine_of self.new) }
     {

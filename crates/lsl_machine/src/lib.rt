@@ -12,6 +12,7 @@ ghost use Rattle.lsl_code.specs.Kinds.{kinds_of};
 ghost use Rattle.lsl_code.specs.Wholes.{whole_of_unit};
 ghost use Rattle.lsl_code.specs.declared.units.Unit.{Unit as Code};
 ghost use Rattle.lsl_machine.specs.Futures.{whole_from, GoesOn, IsCut, IsAsked};
+ghost use Rattle.lsl_machine.specs.Memory.{TakesNone};
 ghost use Rattle.lsl_machine.specs.State.{State, IsOf, CanRun, Wants, HasEnded, AreArguments, bodies_of, standing_of, kept_with};
 
 use lsl_code::Unit;
@@ -90,6 +91,8 @@ impl Machine {
         ensures listens { result ≢ Halt.Faulted Fault.TooManyListens }
         ensures standing { self.new.standing ≡ standing_of result }
         ensures of { IsOf unit.now self.new }
+        // On integers alone it takes no memory, but to enter a function and to ask.
+        ensures memory { TakesNone (bodies_of unit.now) self.old → result ≢ Halt.NoMemory }
     {
         let halt = self.running.halt(self.standing, unit);
         self.standing = standing_at(&halt);

@@ -8,6 +8,7 @@ ghost use Rattle.lsl_running.specs.Charging.{charges_of};
 ghost use Rattle.lsl_running.specs.Values.{unary_value as unary_of};
 ghost use Rattle.lsl_code.specs.Bodies.{Body};
 ghost use Rattle.lsl_code.specs.declared.instructions.Instr.TheVariants as instrs;
+ghost use Rattle.lsl_machine.specs.Reservations.{KeepsRoom, Spares};
 ghost use Rattle.lsl_machine.specs.Steps.{Able, Performs};
 
 use crate::running::{Running, Step};
@@ -23,7 +24,9 @@ impl Running {
     /// Pops an integer, and pushes the operator's value.
     pub fn unary(&mut self, op: UnaryOp) -> Step
         requires { Able (instrs.Unary op) self.old }
-        ensures { (bodies : List Body) → Performs (instrs.Unary op) bodies self.old result self.new }
+        ensures done { (bodies : List Body) → Performs (instrs.Unary op) bodies self.old result self.new }
+        ensures memory { Spares (instrs.Unary op) self.old result }
+        ensures room { KeepsRoom self.old self.new }
     {
         let Some(value) = self.pop() else {
             return Step::Lost;
@@ -34,7 +37,9 @@ impl Running {
     /// Pops the left operand and the right one, and pushes the operator's value.
     pub fn binary(&mut self, op: BinaryOp) -> Step
         requires { Able (instrs.Binary op) self.old }
-        ensures { (bodies : List Body) → Performs (instrs.Binary op) bodies self.old result self.new }
+        ensures done { (bodies : List Body) → Performs (instrs.Binary op) bodies self.old result self.new }
+        ensures memory { Spares (instrs.Binary op) self.old result }
+        ensures room { KeepsRoom self.old self.new }
     {
         let Some(left) = self.pop() else {
             return Step::Lost;
@@ -52,7 +57,9 @@ impl Running {
     /// Pops, and pushes the value as one of this kind.
     pub fn cast(&mut self, kind: Kind) -> Step
         requires { Able (instrs.Cast kind) self.old }
-        ensures { (bodies : List Body) → Performs (instrs.Cast kind) bodies self.old result self.new }
+        ensures done { (bodies : List Body) → Performs (instrs.Cast kind) bodies self.old result self.new }
+        ensures memory { Spares (instrs.Cast kind) self.old result }
+        ensures room { KeepsRoom self.old self.new }
     {
         let Some(value) = self.pop() else {
             return Step::Lost;
@@ -66,7 +73,9 @@ impl Running {
     /// Pops so many elements, and pushes their list.
     pub fn make_list(&mut self, count: u32) -> Step
         requires { Able (instrs.MakeList count) self.old }
-        ensures { (bodies : List Body) → Performs (instrs.MakeList count) bodies self.old result self.new }
+        ensures done { (bodies : List Body) →
+            Performs (instrs.MakeList count) bodies self.old result self.new }
+        ensures room { KeepsRoom self.old self.new }
     {
         let Ok(values) = self.take_operands(count as usize) else {
             return Step::NoMemory;
@@ -80,7 +89,8 @@ impl Running {
     /// Pops the arguments of a call that only has a value, and pushes it.
     pub fn pure(&mut self, id: BuiltinId) -> Step
         requires { Able (instrs.Pure id) self.old }
-        ensures { (bodies : List Body) → Performs (instrs.Pure id) bodies self.old result self.new }
+        ensures done { (bodies : List Body) → Performs (instrs.Pure id) bodies self.old result self.new }
+        ensures room { KeepsRoom self.old self.new }
     {
         let Ok(args) = self.take_operands(id.row().params.as_slice().len()) else {
             return Step::NoMemory;
@@ -95,7 +105,9 @@ impl Running {
     /// Pushes how much the script is charged.
     pub fn give_used(&mut self) -> Step
         requires { Able instrs.Used self.old }
-        ensures { (bodies : List Body) → Performs instrs.Used bodies self.old result self.new }
+        ensures done { (bodies : List Body) → Performs instrs.Used bodies self.old result self.new }
+        ensures memory { Spares instrs.Used self.old result }
+        ensures room { KeepsRoom self.old self.new }
     {
         let used = self.active.charge + self.global_charge;
         self.give(number(used))
@@ -104,7 +116,9 @@ impl Running {
     /// Pushes how much more it may be charged.
     pub fn give_free(&mut self) -> Step
         requires { Able instrs.Free self.old }
-        ensures { (bodies : List Body) → Performs instrs.Free bodies self.old result self.new }
+        ensures done { (bodies : List Body) → Performs instrs.Free bodies self.old result self.new }
+        ensures memory { Spares instrs.Free self.old result }
+        ensures room { KeepsRoom self.old self.new }
     {
         let free = self.free();
         self.give(number(free))
@@ -113,7 +127,8 @@ impl Running {
     /// Pops the arguments of a call, and asks for it.
     pub fn ask(&mut self, id: BuiltinId) -> Step
         requires { Able (instrs.Host id) self.old }
-        ensures { (bodies : List Body) → Performs (instrs.Host id) bodies self.old result self.new }
+        ensures done { (bodies : List Body) → Performs (instrs.Host id) bodies self.old result self.new }
+        ensures room { KeepsRoom self.old self.new }
     {
         let Ok(args) = self.take_operands(id.row().params.as_slice().len()) else {
             return Step::NoMemory;

@@ -1,7 +1,10 @@
 use Rattle.std.proofs.Common.{◌≡◌, sym, subst, [], ◌∷◌}
 use Rattle.lsl_machine.specs.Laid.{machine_of}
 use Rattle.lsl_running.specs.declared.host.Reply.TheVariants as reply
-use Rattle.lsl_machine.specs.State.{State, Wants, IsIn}
+use Rattle.lsl_machine.specs.State.{State, HasReserved, Wants, IsIn, bodies_of}
+use Rattle.lsl_machine.specs.Rooms.{IsReserved}
+use Rattle.std.specs.Prelude.{vec_capacity}
+use Rattle.lsl_machine.proofs.Reserving.{answered_reserved}
 use Rattle.lsl_machine.specs.Futures.{whole_from}
 use Rattle.lsl_machine.specs.Laid.{state_of, IsLaid}
 use Rattle.lsl_machine.specs.declared.standing.Standing.TheVariants as standing
@@ -23,7 +26,8 @@ returns-clause-whole c bodies t more =
     subst (λ (s : State). Wants s.standing c.args.value) (sym c.self.view_is) c.requires in
     let x = has_asked c.self.inside.standing c.args.value wants in
     let e = whole_answered bodies x.0 c.args.value (machine_of c.self.inside.running)
-    (machine_of c.receive-self-inside.new.self) c.receive-self-inside.result t more x.2
+    (machine_of c.receive-self-inside.new.self) c.receive-self-inside.result t more
+    (vec_capacity c.self.inside.running.stack) (vec_capacity c.receive-self-inside.new.self.stack) x.2
     c.receive-self-inside.ensures.ready (c.receive-self-inside.ensures.went more) in
     subst (λ (s : State). whole_from bodies s t (reply.Value c.args.value ∷ more) ≡ whole_from bodies
     (state_of c.receive-self-inside.new.self c.receive-self-inside.result) t more) c.self.view_is
@@ -41,7 +45,17 @@ returns-clause-of c unit old =
     let x = has_asked c.self.inside.standing c.args.value wants in
     let k : IsIn unit (standing.Asking x.0) (machine_of c.self.inside.running) =
     subst (λ z. IsIn unit z (machine_of c.self.inside.running)) x.1
-    (subst (λ (s : State). IsIn unit s.standing s.machine) (sym c.self.view_is) old) in
-    of_answered unit x.0 c.args.value (machine_of c.self.inside.running) (machine_of c.receive-self-inside.new.self)
-    c.receive-self-inside.result x.2 c.receive-self-inside.ensures.ready (c.receive-self-inside.ensures.went [])
-    k
+    (subst (λ (s : State). IsIn unit s.standing s.machine) (sym c.self.view_is) old.0) in
+    let bodies = bodies_of unit in
+    let room : IsReserved bodies (vec_capacity c.self.inside.running.stack) (machine_of c.self.inside.running).calls =
+    subst (λ z. HasReserved bodies z (vec_capacity c.self.inside.running.stack) (machine_of c.self.inside.running)) x.1
+    (subst (λ (s : State). HasReserved bodies s.standing s.room s.machine) (sym c.self.view_is) old.1) in (
+      of_answered unit x.0 c.args.value (machine_of c.self.inside.running)
+          (machine_of c.receive-self-inside.new.self) c.receive-self-inside.result x.2
+          c.receive-self-inside.ensures.ready (c.receive-self-inside.ensures.went []) k,
+      answered_reserved bodies c.args.value (machine_of c.self.inside.running)
+          (machine_of c.receive-self-inside.new.self) c.receive-self-inside.result
+          (vec_capacity c.self.inside.running.stack) (vec_capacity c.receive-self-inside.new.self.stack)
+          c.receive-self-inside.ensures.ready (c.receive-self-inside.ensures.went []) room
+          c.receive-self-inside.ensures.room,
+    )

@@ -8,12 +8,12 @@ pub invariant_of-result : goal.invariant_of-result
 invariant_of-result c =
     let b = body_of_arguments (slice_get (bodies_of c.args.unit.now) c.args.handler) c.args.args c.requires.args in
     begun_laid c.args.handler c.args.limit c.args.globals (first_slots b.0 c.args.args) c.in_ok-running.running
-    c.in_ok-running.standing (c.in_ok-running.ensures b.0 b.1)
+    c.in_ok-running.standing (c.in_ok-running.ensures.begun b.0 b.1)
 
 pub returns : goal.returns
 returns c =
     let b = body_of_arguments (slice_get (bodies_of c.args.unit.now) c.args.handler) c.args.args c.requires.args in
     let h = has_begun c.args.unit.now c.args.handler c.args.limit c.args.globals c.args.args b.0
     c.in_ok-running.running c.in_ok-running.standing b.1 c.requires.globals b.2
-    (c.in_ok-running.ensures b.0 b.1) in
+    (c.in_ok-running.ensures.begun b.0 b.1) c.in_ok-running.ensures.entered in
     record { whole = h.whole; ready = h.ready; of = h.of }

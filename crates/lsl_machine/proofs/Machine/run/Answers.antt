@@ -1,6 +1,8 @@
 use Rattle.std.proofs.Common.{◌≡◌, sym, subst, ◌+◌}
 use Rattle.lsl_machine.specs.Laid.{machine_of}
-use Rattle.lsl_machine.specs.State.{State, IsIn, CanRun, bodies_of}
+use Rattle.lsl_machine.specs.State.{State, HasReserved, IsIn, CanRun, bodies_of}
+use Rattle.lsl_machine.specs.Memory.{TakesNone}
+use Rattle.std.specs.Prelude.{vec_capacity}
 use Rattle.lsl_machine.specs.Futures.{whole_from, whole_behind, ticks_passed, IsCut}
 use Rattle.lsl_machine.specs.Laid.{state_of}
 use Rattle.lsl_machine.proofs.Machine.run.Goals as goal
@@ -9,7 +11,9 @@ pub halt-halt-requires : goal.halt-halt-requires
 halt-halt-requires c = record {
   able = subst (λ (s : State). CanRun s.standing) (sym c.self.view_is) c.requires.able;
   laid = c.self.invariant;
-  of = subst (λ (s : State). IsIn c.args.unit.now s.standing s.machine) (sym c.self.view_is) c.requires.of;
+  of = subst (λ (s : State). IsIn c.args.unit.now s.standing s.machine) (sym c.self.view_is) c.requires.of.0;
+  reserved = subst (λ (s : State). HasReserved (bodies_of c.args.unit.now) s.standing s.room s.machine)
+      (sym c.self.view_is) c.requires.of.1;
 }
 
 pub returns-clause-whole : goal.returns-clause-whole
@@ -27,5 +31,12 @@ returns-clause-cut c e = subst (λ z. IsCut (bodies_of c.args.unit.now) (state_o
     (sym c.standing_at-self-inside.ensures) (c.halt-halt.ensures.cut e)
 
 pub returns-clause-of : goal.returns-clause-of
-returns-clause-of c = subst (λ z. IsIn c.args.unit.now z (machine_of c.halt-halt.new.self))
-    (sym c.standing_at-self-inside.ensures) c.halt-halt.ensures.of
+returns-clause-of c =
+    let new = c.halt-halt.new.self in
+    subst (λ z. IsIn c.args.unit.now z (machine_of new)
+    × HasReserved (bodies_of c.args.unit.now) z (vec_capacity new.stack) (machine_of new))
+    (sym c.standing_at-self-inside.ensures) (c.halt-halt.ensures.of, c.halt-halt.ensures.reserved)
+
+pub returns-clause-memory : goal.returns-clause-memory
+returns-clause-memory c free =
+    c.halt-halt.ensures.memory (subst (TakesNone (bodies_of c.args.unit.now)) (sym c.self.view_is) free)

@@ -10,8 +10,8 @@ use Rattle.lsl_machine.proofs.Beginning.{begins, bodies_same}
 use Rattle.std.proofs.Common.{min}
 use Rattle.lsl_machine.proofs.entering.enter.Goals as goal
 
-pub returns : goal.returns
-returns c body there =
+pub returns-clause-begun : goal.returns-clause-begun
+returns-clause-begun c body there =
     let fn = plain_body c.index-as_slice-handler.result in
     let args = c.args.args in
     let same : fn ≡ body = bodies_same c.args.unit.now.functions c.as_slice.result.now c.args.handler
@@ -38,7 +38,7 @@ returns c body there =
     ∙ ap {A = ℕ} (λ k. drop k c.as_slice-2.result.now) c.len.ensures
     ∙ ap (drop (length fn.params)) c.as_slice-2.ensures in
     let slots : c.push_empties.new.stack.items ≡ first_slots body args =
-    c.in_ok-push_empties.ensures ∙ ap (λ l. l ++ map empty_of c.behind-kinds.result.now) c.into_vec-stack.ensures
+    c.in_ok-push_empties.ensures.pushed ∙ ap (λ l. l ++ map empty_of c.behind-kinds.result.now) c.into_vec-stack.ensures
     ∙ ap (λ l. args ++ map empty_of l) kinds ∙ ap (λ b. first_slots b args) same in
     let c1 = c.charge_from-charge.ensures
     ∙ ap {A = ℕ} (λ x. min (1056 + x) 18446744073709551615)

@@ -11,8 +11,8 @@ use Rattle.lsl_machine.proofs.running.Running.ask.Goals as goal
 pub take_operands-requires : goal.take_operands-requires
 take_operands-requires c = able_held (instrs.Host c.args.id) _ c.requires
 
-pub returns-in-Ok-reserve : goal.returns-in-Ok-reserve
-returns-in-Ok-reserve c bodies g f place sl ops outer h =
+pub returns-in-Ok-reserve-clause-done : goal.returns-in-Ok-reserve-clause-done
+returns-in-Ok-reserve-clause-done c bodies g f place sl ops outer h =
     let t = c.in-Ok.ensures.taken g f place sl ops outer h in
     let n : length c.as_slice.result.now ≡ parameter_count c.args.id =
     ap length (c.as_slice.ensures.value ∙ c.row.ensures.params) in

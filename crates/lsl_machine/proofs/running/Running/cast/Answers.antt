@@ -26,17 +26,17 @@ give-requires c =
     let r = c.requires.9.place in
     record { held = c.in-Some.ensures.held; place = omega arith }
 
-pub returns-in-Ok : goal.returns-in-Ok
-returns-in-Ok c bodies g f place sl ops outer h =
+pub returns-in-Ok-clause-done : goal.returns-in-Ok-clause-done
+returns-in-Ok-clause-done c bodies g f place sl ops outer h =
     with_top g f place sl ops outer _ _ _ _ _ (c.in-Some.ensures.popped g f place sl ops outer h)
     (λ rest k. subst (λ w. Does (gives (base outer) sl (w ∷ rest) g) g f place sl outer c.give.result
     c.give.new.self) c.in-Ok.ensures.ok (c.give.ensures.done g f place sl rest outer k))
 
-pub returns-in-Err : goal.returns-in-Err
-returns-in-Err c bodies g f place sl ops outer h =
+pub returns-in-Err-clause-done : goal.returns-in-Err-clause-done
+returns-in-Err-clause-done c bodies g f place sl ops outer h =
     with_top g f place sl ops outer _ _ _ _ _ (c.in-Some.ensures.popped g f place sl ops outer h)
     (λ rest k. gives_lacks g g f place sl sl (cast_of c.in-Some.value c.args.kind ∷ rest) outer _)
 
-pub returns-in_default : goal.returns-in_default
-returns-in_default c bodies g f place sl ops outer h =
+pub returns-in_default-clause-done : goal.returns-in_default-clause-done
+returns-in_default-clause-done c bodies g f place sl ops outer h =
     with_none g f place sl ops outer _ _ _ (c.in_default.ensures.popped g f place sl ops outer h)

@@ -73,13 +73,13 @@ overflow_sub-caller c =
     let e = c.charges_of-given.ensures in
     omega arith
 
-pub returns-then-callee-functions : goal.returns-then-callee-functions
-returns-then-callee-functions c point g f place sl ops outer h =
+pub returns-then-callee-functions-clause-done : goal.returns-then-callee-functions-clause-done
+returns-then-callee-functions-clause-done c point g f place sl ops outer h =
     entered_lost _ c.args.callee g f place sl ops outer _
     (no_body c.args.functions.now c.args.callee c.if-callee-functions.true)
 
-pub returns-then-kinds-free : goal.returns-then-kinds-free
-returns-then-kinds-free c point g f place sl ops outer h =
+pub returns-then-kinds-free-clause-done : goal.returns-then-kinds-free-clause-done
+returns-then-kinds-free-clause-done c point g f place sl ops outer h =
     let fn = plain_body c.index-functions-callee.result in
     let kd : c.behind-kinds.result.now ≡ drop (length fn.params) fn.slots = c.behind-kinds.ensures
     ∙ ap {A = ℕ} (λ k. drop k c.as_slice-2.result.now) c.len-4.ensures
@@ -93,8 +93,8 @@ returns-then-kinds-free c point g f place sl ops outer h =
     (body_at c.args.functions.now c.args.callee c.index-functions-callee.result c.if-callee-functions.false
     c.index-functions-callee.is) refl (omega arith)
 
-pub returns-then-more-free : goal.returns-then-more-free
-returns-then-more-free c point g f place sl ops outer h =
+pub returns-then-more-free-clause-done : goal.returns-then-more-free-clause-done
+returns-then-more-free-clause-done c point g f place sl ops outer h =
     let fn = plain_body c.index-functions-callee.result in
     let kd : c.behind-kinds.result.now ≡ drop (length fn.params) fn.slots = c.behind-kinds.ensures
     ∙ ap {A = ℕ} (λ k. drop k c.as_slice-2.result.now) c.len-4.ensures
@@ -108,8 +108,8 @@ returns-then-more-free c point g f place sl ops outer h =
     (ap {A = ℕ} (λ k. 32 + k) (c.empties_charge-more.ensures.value ∙ ap (λ l. charges_of (map empty_of l)) kd))
     (omega arith)
 
-pub returns-in-Ok-push : goal.returns-in-Ok-push
-returns-in-Ok-push c point g f place sl ops outer h =
+pub returns-in-Ok-push-clause-done : goal.returns-in-Ok-push-clause-done
+returns-in-Ok-push-clause-done c point g f place sl ops outer h =
     let fn = plain_body c.index-functions-callee.result in
     let st = c.args.self.now.stack in
     let lenis : c.len.result ≡ length st.items = c.len.ensures ∙ st.ok.0 in
@@ -131,7 +131,7 @@ returns-in-Ok-push c point g f place sl ops outer h =
     (body_at c.args.functions.now c.args.callee c.index-functions-callee.result c.if-callee-functions.false
     c.index-functions-callee.is)
     (ap {A = ℕ} (λ k. 32 + k) (c.empties_charge-more.ensures.value ∙ ap (λ l. charges_of (map empty_of l)) kd))
-    (omega arith) n (c.in-Ok.ensures ∙ ap (λ l. st.items ++ map empty_of l) kd) c.in-Ok-push.ensures.items refl
+    (omega arith) n (c.in-Ok.ensures.pushed ∙ ap (λ l. st.items ++ map empty_of l) kd) c.in-Ok-push.ensures.items refl
     (c.charges_of-given.ensures ∙ ap charges_of above)
     (ap {A = ℕ} {B = Activation}
     (λ x. record {

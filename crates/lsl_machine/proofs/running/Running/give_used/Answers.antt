@@ -21,8 +21,8 @@ number-requires c =
     let d = h.8.limit in
     omega arith
 
-pub returns : goal.returns
-returns c bodies g f place sl ops outer h =
+pub returns-clause-done : goal.returns-clause-done
+returns-clause-done c bodies g f place sl ops outer h =
     let a : c.args.self.now.active.charge ≡ hold_all (base outer) ops + call_charge + charges_of sl =
     ap (λ x. x.charge) h.active in
     let b = h.global_charge in

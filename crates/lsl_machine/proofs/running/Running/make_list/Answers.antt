@@ -23,14 +23,14 @@ give-requires c =
     let r = c.requires.9.place in
     record { held = c.in-Ok.ensures.held; place = omega arith }
 
-pub returns-in-Ok-list_of : goal.returns-in-Ok-list_of
-returns-in-Ok-list_of c bodies g f place sl ops outer h =
+pub returns-in-Ok-list_of-clause-done : goal.returns-in-Ok-list_of-clause-done
+returns-in-Ok-list_of-clause-done c bodies g f place sl ops outer h =
     let t = c.in-Ok.ensures.taken g f place sl ops outer h in
     subst (λ w. Does (gives (base outer) sl (w ∷ drop c.args.count ops) g) g f place sl outer c.give.result
     c.give.new.self)
     (ap value.List (c.in-Ok-list_of.ensures ∙ ap (flat_map atoms_of) (c.as_slice.ensures.value ∙ t.0)))
     (c.give.ensures.done g f place sl (drop c.args.count ops) outer t.1)
 
-pub returns-in_default : goal.returns-in_default
-returns-in_default c bodies g f place sl ops outer h =
+pub returns-in_default-clause-done : goal.returns-in_default-clause-done
+returns-in_default-clause-done c bodies g f place sl ops outer h =
     gives_lacks g g f place sl sl (list_value (reverse (take c.args.count ops)) ∷ drop c.args.count ops) outer _

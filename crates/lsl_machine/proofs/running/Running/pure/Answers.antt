@@ -30,8 +30,8 @@ give-requires c =
     let r = c.requires.9.place in
     record { held = c.in-Ok.ensures.held; place = omega arith }
 
-pub returns-in-Ok-call : goal.returns-in-Ok-call
-returns-in-Ok-call c bodies g f place sl ops outer h =
+pub returns-in-Ok-call-clause-done : goal.returns-in-Ok-call-clause-done
+returns-in-Ok-call-clause-done c bodies g f place sl ops outer h =
     let t = c.in-Ok.ensures.taken g f place sl ops outer h in
     let n : length c.as_slice.result.now ≡ parameter_count c.args.id =
     ap length (c.as_slice.ensures.value ∙ c.row.ensures.params) in
@@ -42,8 +42,8 @@ returns-in-Ok-call c bodies g f place sl ops outer h =
     (c.give.ensures.done g f place sl (drop (parameter_count c.args.id) ops) outer
     (subst (λ k. Lays c.take_operands.new.self g (call_at f place sl (drop k ops)) outer) n t.1))
 
-pub returns-in-Err-TooBig : goal.returns-in-Err-TooBig
-returns-in-Err-TooBig c bodies g f place sl ops outer h =
+pub returns-in-Err-TooBig-clause-done : goal.returns-in-Err-TooBig-clause-done
+returns-in-Err-TooBig-clause-done c bodies g f place sl ops outer h =
     let t = c.in-Ok.ensures.taken g f place sl ops outer h in
     let n : length c.as_slice.result.now ≡ parameter_count c.args.id =
     ap length (c.as_slice.ensures.value ∙ c.row.ensures.params) in
@@ -53,8 +53,8 @@ returns-in-Err-TooBig c bodies g f place sl ops outer h =
     (c.from_vec.ensures ∙ t.0 ∙ ap {A = ℕ} (λ k. reverse (take k ops)) n)
     (c.in-Err-TooBig.ensures.too_big c.in-Err-TooBig.field-0-is))
 
-pub returns-in-Err-NoMemory : goal.returns-in-Err-NoMemory
-returns-in-Err-NoMemory c bodies g f place sl ops outer h =
+pub returns-in-Err-NoMemory-clause-done : goal.returns-in-Err-NoMemory-clause-done
+returns-in-Err-NoMemory-clause-done c bodies g f place sl ops outer h =
     gives_lacks g g f place sl sl
     (pure_of c.args.id (reverse (take (parameter_count c.args.id) ops)) ∷ drop (parameter_count c.args.id) ops)
     outer _

@@ -1,4 +1,4 @@
-use Rattle.std.proofs.Common.{[], ◌∷◌}
+use Rattle.std.proofs.Common.{arith, [], ◌∷◌}
 use Rattle.lsl_code.specs.Machine.{put}
 use Rattle.lsl_machine.proofs.Answering.{none_went, some_went, full_went, push_only}
 use Rattle.lsl_machine.proofs.running.Running.receive.Goals as goal
@@ -19,6 +19,7 @@ returns-in-None c =
     record {
       ready = tt;
       laid = c.requires.held;
+      room = omega arith;
       went =
           λ more. rw c.in-None.is (none_went c.args.self.now more c.requires.held);
     }
@@ -30,6 +31,7 @@ returns-in-Goes c =
       ready = tt;
       laid = (some_went c.args.self.now c.push.new.self c.in-Some.value [] h
           (c.in-Goes.ensures.done h.0 h.1 h.2 h.3 h.4 h.5 h.6)).1;
+      room = c.in-Goes.ensures.room;
       went = λ more. rw c.in-Some.is
           (some_went c.args.self.now c.push.new.self c.in-Some.value more h
           (c.in-Goes.ensures.done h.0 h.1 h.2 h.3 h.4 h.5 h.6)).0;

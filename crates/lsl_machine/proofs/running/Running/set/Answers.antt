@@ -16,12 +16,12 @@ fall_through-requires c =
     let r = c.requires.9.place in
     omega arith
 
-pub returns : goal.returns
-returns c bodies g f place sl ops outer h =
+pub returns-clause-done : goal.returns-clause-done
+returns-clause-done c bodies g f place sl ops outer h =
     with_top g f place sl ops outer _ _ _ _ _ (c.in-Some.ensures.popped g f place sl ops outer h)
-    (λ rest k. c.fall_through.ensures g f place (slice_set sl c.args.n c.in-Some.value) rest outer
+    (λ rest k. c.fall_through.ensures.done g f place (slice_set sl c.args.n c.in-Some.value) rest outer
     (c.set_slot.ensures.set g f place sl rest outer k))
 
-pub returns-in_default : goal.returns-in_default
-returns-in_default c bodies g f place sl ops outer h =
+pub returns-in_default-clause-done : goal.returns-in_default-clause-done
+returns-in_default-clause-done c bodies g f place sl ops outer h =
     with_none g f place sl ops outer _ _ _ (c.in_default.ensures.popped g f place sl ops outer h)

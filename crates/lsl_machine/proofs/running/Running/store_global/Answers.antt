@@ -6,6 +6,7 @@ use Rattle.lsl_code.specs.Machine.{base}
 use Rattle.lsl_machine.specs.Steps.{Does}
 use Rattle.lsl_machine.proofs.Doing.{with_top, with_none, gives_same, gives_lacks, able_held}
 use Rattle.lsl_code.specs.declared.instructions.Instr.TheVariants as instrs
+use Rattle.lsl_machine.proofs.Sparing.{top_integer}
 use Rattle.lsl_machine.proofs.running.Running.store_global.Goals as goal
 
 pub pop-requires : goal.pop-requires
@@ -13,7 +14,7 @@ pop-requires c = able_held (instrs.StoreGlobal c.args.n) _ c.requires
 
 pub set_global-requires : goal.set_global-requires
 set_global-requires c =
-    let e = ap charge_of c.in-Ok.ensures in
+    let e = ap charge_of c.in-Ok.ensures.same in
     let f = c.in-Some.ensures.fits in
     record { held = c.in-Some.ensures.held; charged = omega arith }
 
@@ -24,21 +25,26 @@ give-requires c =
     let r = c.requires.9.place in
     record { held = c.set_global.ensures.held; place = omega arith }
 
-pub returns-in-Ok : goal.returns-in-Ok
-returns-in-Ok c bodies g f place sl ops outer h =
+pub returns-in-Ok-clause-done : goal.returns-in-Ok-clause-done
+returns-in-Ok-clause-done c bodies g f place sl ops outer h =
     with_top g f place sl ops outer _ _ _ _ _ (c.in-Some.ensures.popped g f place sl ops outer h)
     (λ rest k. gives_same (with_global g c.args.n c.in-Some.value) g f place sl sl (c.in-Some.value ∷ rest) outer _
     _ (subst (λ w. Does (gives (base outer) sl (c.in-Some.value ∷ rest) (with_global g c.args.n w))
-    (with_global g c.args.n w) f place sl outer c.give.result c.give.new.self) c.in-Ok.ensures
+    (with_global g c.args.n w) f place sl outer c.give.result c.give.new.self) c.in-Ok.ensures.same
     (c.give.ensures.done (with_global g c.args.n c.in-Ok.copied) f place sl rest outer
     (c.set_global.ensures.set g f place sl rest outer k))))
 
-pub returns-in-Err : goal.returns-in-Err
-returns-in-Err c bodies g f place sl ops outer h =
+pub returns-in-Err-clause-done : goal.returns-in-Err-clause-done
+returns-in-Err-clause-done c bodies g f place sl ops outer h =
     with_top g f place sl ops outer _ _ _ _ _ (c.in-Some.ensures.popped g f place sl ops outer h)
     (λ rest k. gives_lacks (with_global g c.args.n c.in-Some.value) g f place sl sl (c.in-Some.value ∷ rest) outer
     _)
 
-pub returns-in_default : goal.returns-in_default
-returns-in_default c bodies g f place sl ops outer h =
+pub returns-in_default-clause-done : goal.returns-in_default-clause-done
+returns-in_default-clause-done c bodies g f place sl ops outer h =
     with_none g f place sl ops outer _ _ _ (c.in_default.ensures.popped g f place sl ops outer h)
+
+pub returns-in-Err-clause-memory : goal.returns-in-Err-clause-memory
+returns-in-Err-clause-memory c g f place sl ops outer h free room e =
+    let ok = c.in-Err.ensures.memory (top_integer g f place sl ops outer c.in-Some.value c.pop.new.self
+    (c.in-Some.ensures.popped g f place sl ops outer h) free) in absurd cc

@@ -15,12 +15,12 @@ give-requires c =
     let r = c.requires.9.place in
     record { held = c.in-Some.ensures.held; place = omega arith }
 
-pub returns : goal.returns
-returns c bodies g f place sl ops outer h =
+pub returns-clause-done : goal.returns-clause-done
+returns-clause-done c bodies g f place sl ops outer h =
     with_top g f place sl ops outer _ _ _ _ _ (c.in-Some.ensures.popped g f place sl ops outer h)
     (λ rest k. subst (λ w. Does (gives (base outer) sl (w ∷ rest) g) g f place sl outer c.give.result
     c.give.new.self) c.unary_value.ensures (c.give.ensures.done g f place sl rest outer k))
 
-pub returns-in_default : goal.returns-in_default
-returns-in_default c bodies g f place sl ops outer h =
+pub returns-in_default-clause-done : goal.returns-in_default-clause-done
+returns-in_default-clause-done c bodies g f place sl ops outer h =
     with_none g f place sl ops outer _ _ _ (c.in_default.ensures.popped g f place sl ops outer h)
