@@ -29,7 +29,7 @@ use Rattle.lsl_code.specs.Wholes.{told}
 use Rattle.lsl_machine.specs.declared.standing.Standing.{Standing}
 use Rattle.lsl_machine.specs.declared.standing.Standing.TheVariants as standing
 use Rattle.lsl_machine.specs.Entry.{IsReady, went}
-use Rattle.lsl_machine.specs.Futures.{whole_from, run_on}
+use Rattle.lsl_machine.specs.Futures.{whole_from, ticks_passed, run_on}
 use Rattle.lsl_machine.specs.State.{CanRun, Wants, IsIn, bodies_of, replied_to}
 use Rattle.lsl_machine.proofs.Viewing.{machine_view}
 
@@ -146,3 +146,8 @@ pub ready_runs : (s : Standing) → IsReady s → CanRun s
 ready_runs standing.Ready r = tt
 ready_runs standing.Full r = tt
 ready_runs s r = absurd r
+
+pub ready_passes_none : (s : Standing) → IsReady s → ticks_passed s ≡ 0
+ready_passes_none standing.Ready r = refl
+ready_passes_none standing.Full r = refl
+ready_passes_none s r = absurd r

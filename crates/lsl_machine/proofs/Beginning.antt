@@ -24,7 +24,7 @@ use Rattle.lsl_code.proofs.MachineKinds.{begins_kinded}
 use Rattle.lsl_machine.specs.declared.standing.Standing.{Standing}
 use Rattle.lsl_machine.specs.declared.standing.Standing.TheVariants as standing
 use Rattle.lsl_machine.specs.Entry.{Begins}
-use Rattle.lsl_machine.specs.Futures.{whole_from}
+use Rattle.lsl_machine.specs.Futures.{whole_from, ticks_passed}
 use Rattle.lsl_machine.specs.Laid.{state_of, IsLaid}
 use Rattle.lsl_machine.proofs.Parting.{body_at}
 use Rattle.std.proofs.lemmas.Option.{slice_get_within}
@@ -77,6 +77,7 @@ pub record HasBegun (unit : Code) (f : ℕ) (kept : Kept) (args : List Value) (s
   pub whole : (t : ℕ) (a : List Reply) → whole_of_unit unit.functions f kept args t a ≡ whole_from (bodies_of unit)
       s t a
   pub ready : CanRun s.standing
+  pub behind : ticks_passed s.standing ≡ 0
   pub of : IsOf unit s
 
 pub has_begun : (unit : Code) (f limit : ℕ) (globals args : List Value) (body : Body) (r : Running) (s : Standing)
@@ -97,6 +98,7 @@ has_begun unit f limit globals args body r standing.Ready there kg ka h entered 
           ∙ ap (λ b. told bodies (cond b (run bodies t (begun f kept slots a)) (Over (Faulted StackHeap)))) yes
           ∙ ap (λ m. told bodies (run bodies t (with_answers a m))) (sym view);
       ready = tt;
+      behind = refl;
       of = (
         subst (IsKinded unit) (sym view)
             (begins_kinded unit.globals unit.states bodies unit.fits f body kept args [] there kg ka),
@@ -117,6 +119,7 @@ has_begun unit f limit globals args body r standing.Full there kg ka h entered =
       whole = λ t a. ap (λ o. told bodies (started o bodies f kept args t a)) there
           ∙ ap (λ b. told bodies (cond b (run bodies t (begun f kept slots a)) (Over (Faulted StackHeap)))) no_room;
       ready = tt;
+      behind = refl;
       of = (tt, tt);
     }
   where

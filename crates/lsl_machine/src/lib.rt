@@ -11,7 +11,7 @@ ghost use Rattle.lsl_code.specs.Bodies.{Body};
 ghost use Rattle.lsl_code.specs.Kinds.{kinds_of};
 ghost use Rattle.lsl_code.specs.Wholes.{whole_of_unit};
 ghost use Rattle.lsl_code.specs.declared.units.Unit.{Unit as Code};
-ghost use Rattle.lsl_machine.specs.Futures.{whole_from, GoesOn, IsCut, IsAsked};
+ghost use Rattle.lsl_machine.specs.Futures.{whole_from, ticks_passed, GoesOn, IsCut, IsAsked};
 ghost use Rattle.lsl_machine.specs.Memory.{TakesNone};
 ghost use Rattle.lsl_machine.specs.State.{State, IsOf, CanRun, Wants, HasEnded, AreArguments, bodies_of, standing_of, kept_with};
 
@@ -72,14 +72,15 @@ impl Machine {
         ensures whole { IfOk result (λ begun. (ticks : ℕ) (answers : List Reply) →
             whole_of_unit unit.now.functions handler (kept_with globals limit) args ticks answers ≡ whole_from (bodies_of unit.now) begun ticks answers) }
         ensures ready { IfOk result (λ begun. CanRun begun.standing) }
+        ensures behind { IfOk result (λ begun. ticks_passed begun.standing ≡ 0) }
         ensures of { IfOk result (IsOf unit.now) }
     {
         let (running, standing) = enter(alloc, unit, handler, globals, limit, args)?;
         Ok(Machine { running, standing })
     }
 
-    /// Goes on to the next tick, ask or end. From a tick it passes that tick; a machine just begun stops before its first
-    /// one. After `NoMemory` or `Faulted` the machine is only to be dropped.
+    /// Goes on to the next tick, ask or end. From a tick it passes that tick; a machine just begun or answered passes
+    /// none. After `NoMemory` or `Faulted` the machine is only to be dropped.
     ///
     /// Takes no memory on integers, but to enter a function and to ask.
     pub fn run(&mut self, unit: &Unit) -> Halt
@@ -105,6 +106,7 @@ impl Machine {
         ensures whole { (bodies : List Body) (ticks : ℕ) (more : List Reply) →
             whole_from bodies self.old ticks (reply.Value value ∷ more) ≡ whole_from bodies self.new ticks more }
         ensures ready { CanRun self.new.standing }
+        ensures behind { ticks_passed self.new.standing ≡ 0 }
         ensures of { (unit : Code) → IsOf unit self.old → IsOf unit self.new }
     {
         self.standing = self.running.receive(value);

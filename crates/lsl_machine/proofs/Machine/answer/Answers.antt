@@ -8,7 +8,7 @@ use Rattle.lsl_machine.proofs.Reserving.{answered_reserved}
 use Rattle.lsl_machine.specs.Futures.{whole_from}
 use Rattle.lsl_machine.specs.Laid.{state_of, IsLaid}
 use Rattle.lsl_machine.specs.declared.standing.Standing.TheVariants as standing
-use Rattle.lsl_machine.proofs.Answering.{whole_answered, of_answered, has_asked, ready_runs}
+use Rattle.lsl_machine.proofs.Answering.{whole_answered, of_answered, has_asked, ready_runs, ready_passes_none}
 use Rattle.lsl_machine.proofs.Machine.answer.Goals as goal
 
 pub receive-self-inside-requires : goal.receive-self-inside-requires
@@ -37,6 +37,9 @@ returns-clause-whole c bodies t more =
 
 pub returns-clause-ready : goal.returns-clause-ready
 returns-clause-ready c = ready_runs c.receive-self-inside.result c.receive-self-inside.ensures.ready
+
+pub returns-clause-behind : goal.returns-clause-behind
+returns-clause-behind c = ready_passes_none c.receive-self-inside.result c.receive-self-inside.ensures.ready
 
 pub returns-clause-of : goal.returns-clause-of
 returns-clause-of c unit old =

@@ -16,4 +16,4 @@ returns c =
     let h = has_begun c.args.unit.now c.args.handler c.args.limit c.args.globals c.args.args b.0
     c.in_ok-running.running c.in_ok-running.standing b.1 c.requires.globals b.2
     (c.in_ok-running.ensures.begun b.0 b.1) c.in_ok-running.ensures.entered in
-    record { whole = h.whole; ready = h.ready; of = h.of }
+    record { whole = h.whole; ready = h.ready; behind = h.behind; of = h.of }
