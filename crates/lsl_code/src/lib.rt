@@ -5,6 +5,7 @@
 mod drafts;
 mod effects;
 mod finishing;
+mod frames;
 mod functions;
 mod instructions;
 mod kind_stack;
@@ -16,6 +17,7 @@ mod units;
 
 pub use crate::drafts::Draft;
 pub use crate::finishing::finish;
+pub use crate::frames::{Frame, Sack};
 pub use crate::functions::{FunctionCode, Handler, Point, StateCode};
 pub use crate::instructions::Instr;
 pub use crate::library::Library;
