@@ -9,12 +9,14 @@ pub mod Further
 pub mod Keeping
 pub mod MachineKinds
 pub mod Made
+pub mod ModeRuns
 pub mod Numbering
 pub mod Passes
 pub mod Placed
 pub mod Points
 pub mod Ranks
 pub mod Reading
+pub mod Repeating
 pub mod Resuming
 pub mod Running
 pub mod Sames

@@ -8,8 +8,13 @@ pub mod Kinded
 pub mod Kinds
 pub mod Laws
 pub mod Machine
+pub mod ModeLaws
+pub mod ModeRuns
+pub mod Modes
 pub mod Pieces
+pub mod Restoring
 pub mod Runs
+pub mod Saving
 pub mod Units
 pub mod WellFormed
 pub mod Wholes

@@ -11,6 +11,7 @@ mod instructions;
 mod kind_stack;
 pub mod laws;
 mod library;
+pub mod mode_laws;
 mod sequence;
 mod signatures;
 mod units;
