@@ -4,6 +4,7 @@ pub mod Asked
 pub mod Asking
 pub mod Due
 pub mod FewCalls
+pub mod Fitting
 pub mod Following
 pub mod Further
 pub mod Keeping

@@ -3,6 +3,8 @@ pub mod Bodies
 pub mod Drafts
 pub mod Effects
 pub mod Fits
+pub mod FrameFaults
+pub mod Frames
 pub mod Forward
 pub mod Kinded
 pub mod Kinds

@@ -2,6 +2,7 @@
 //! machine that runs them comes to (in `specs/`). Nothing here runs a unit.
 #![tactic(auto)]
 
+mod checking;
 mod drafts;
 mod effects;
 mod finishing;
@@ -16,6 +17,7 @@ mod sequence;
 mod signatures;
 mod units;
 
+pub use crate::checking::FrameFault;
 pub use crate::drafts::Draft;
 pub use crate::finishing::finish;
 pub use crate::frames::{Frame, Sack};
