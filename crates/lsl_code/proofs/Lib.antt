@@ -2,6 +2,9 @@ pub mod ActKinds
 pub mod Acts
 pub mod Asked
 pub mod Asking
+pub mod AtPoints
+pub mod Calling
+pub mod Chaining
 pub mod Due
 pub mod FewCalls
 pub mod Fitting
@@ -26,6 +29,7 @@ pub mod Seen
 pub mod Sinking
 pub mod Stacks
 pub mod Steps
+pub mod Stood
 pub mod Taking
 pub mod Tested
 pub mod Told

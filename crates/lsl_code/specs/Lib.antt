@@ -3,9 +3,10 @@ pub mod Bodies
 pub mod Drafts
 pub mod Effects
 pub mod Fits
-pub mod FrameFaults
-pub mod Frames
 pub mod Forward
+pub mod FrameFaults
+pub mod FrameLaws
+pub mod Frames
 pub mod Kinded
 pub mod Kinds
 pub mod Laws
@@ -17,6 +18,7 @@ pub mod Pieces
 pub mod Restoring
 pub mod Runs
 pub mod Saving
+pub mod Standing
 pub mod Units
 pub mod WellFormed
 pub mod Wholes

@@ -6,6 +6,7 @@ mod checking;
 mod drafts;
 mod effects;
 mod finishing;
+pub mod frame_laws;
 mod frames;
 mod functions;
 mod instructions;
