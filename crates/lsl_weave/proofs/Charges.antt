@@ -11,7 +11,7 @@ use Rattle.lsl_running.specs.Charging.{script_charge, call_charge, charges_of, h
 use Rattle.lsl_code.specs.Bodies.{Body}
 use Rattle.lsl_code.specs.Machine.{MachineCall, base, used_in}
 use Rattle.lsl_code.specs.Frames.{frame_charge, parked_charge}
-use Rattle.lsl_weave.specs.Lifting.{Stands, Wait, HasFrames}
+use Rattle.lsl_code.specs.Standing.{Stands, Wait, HasFrames}
 
 pub more_charge : (v : Value) (vs : List Value) → charges_of (v ∷ vs) ≡ charge_of v + charges_of vs
 more_charge v vs = sum_by-cons charge_of v vs

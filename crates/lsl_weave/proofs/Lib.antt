@@ -2,7 +2,9 @@ pub mod Besides
 pub mod Charges
 pub mod Lift
 pub mod Moved
+pub mod OnePlaced
 pub mod Placing
 pub mod Restored
 pub mod Running
 pub mod Saved
+pub mod Units

@@ -7,7 +7,8 @@ use Rattle.lsl_code.specs.Runs.{CutAt, run}
 use Rattle.lsl_code.specs.Forward.{Forward}
 use Rattle.lsl_code.specs.Laws.{after_ticks}
 use Rattle.lsl_weave.specs.Layout.{all_woven}
-use Rattle.lsl_weave.specs.Lifting.{lift_machine, lift_halt, AreBehindCalls, OuterAreBehind, Stands, Wait, HasFrames}
+use Rattle.lsl_code.specs.Standing.{Stands, Wait, HasFrames}
+use Rattle.lsl_weave.specs.Lifting.{lift_machine, lift_halt, AreBehindCalls, OuterAreBehind}
 use Rattle.lsl_code.proofs.Resuming.{ticks_law}
 use Rattle.lsl_weave.proofs.Running.{runs_alike}
 

@@ -15,7 +15,8 @@ use Rattle.lsl_code.specs.Machine.{MachineCall, call_at}
 use Rattle.lsl_code.specs.Modes.{repeat, at_place}
 use Rattle.lsl_code.specs.Saving.{saving, Keeps, keeps_slot, frame_of, save_act, save_after, save_step, begins_saving}
 use Rattle.lsl_weave.specs.Layout.{shift, waiting, save_place, main, keep_tops, keep_slots, woven_code, woven_of, all_woven}
-use Rattle.lsl_weave.specs.Lifting.{woven_place, lift_waiting, lift, point_instr, Stands, Wait, HasFrames}
+use Rattle.lsl_code.specs.Standing.{point_instr, Stands, Wait, HasFrames}
+use Rattle.lsl_weave.specs.Lifting.{woven_place, lift_waiting, lift}
 use Rattle.lsl_code.proofs.Repeating.{first_then, both_then, then_one}
 use Rattle.lsl_weave.proofs.Placing.{HasAt, laid}
 

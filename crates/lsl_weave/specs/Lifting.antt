@@ -1,13 +1,11 @@
--- Where a machine of plain code stands in woven code, and which machines stand so.
-use Rattle.std.specs.Prelude.{ℕ, ◌+◌, ◌-◌, ◌*◌, ◌≡◌, List, [], ◌∷◌, ◌++◌, Option, Some, None, length, map, reverse, slice_get, sum_by}
+-- Where a machine of plain code stands in woven code.
+use Rattle.std.specs.Prelude.{ℕ, ◌+◌, ◌-◌, ◌*◌, ◌≡◌, List, [], ◌∷◌, Option, Some, None, length, map, slice_get, sum_by}
 use Rattle.lsl_code.specs.declared.frames.Frame.{Frame}
-use Rattle.lsl_code.specs.declared.functions.Point.{Point}
-use Rattle.lsl_code.specs.declared.instructions.Instr.{Instr}
-use Rattle.lsl_code.specs.declared.instructions.Instr.TheVariants.{Tick, Call}
+use Rattle.lsl_code.specs.declared.instructions.Instr.TheVariants.{Call}
 use Rattle.lsl_code.specs.Bodies.{Body}
-use Rattle.lsl_code.specs.Kinds.{kinds_of}
 use Rattle.lsl_code.specs.Machine.{MachineCall, Machine}
 use Rattle.lsl_code.specs.Modes.{at_place}
+use Rattle.lsl_code.specs.Standing.{point_instr}
 use Rattle.lsl_code.specs.Runs.{Halt, Over, AskAt, CutAt}
 use Rattle.lsl_weave.specs.Layout.{shift, place_of}
 
@@ -51,39 +49,6 @@ AreBehindCalls bodies (c ∷ outer) = IsBehindCall bodies c × AreBehindCalls bo
 abbrev pub OuterAreBehind : List Body → List MachineCall → Type 0
 OuterAreBehind bodies [] = Unit {0}
 OuterAreBehind bodies (c ∷ outer) = AreBehindCalls bodies outer
-
--- the instruction of a point: a tick, or a call of a function
-abbrev pub point_instr : Option ℕ → ℕ → Instr
-point_instr None p = Tick p
-point_instr (Some g) p = Call g p
-
--- the call is at the frame's point, whose instruction is at place k, and has the frame's values
-pub record Stands (bodies : List Body) (c : MachineCall) (k : ℕ) (callee : Option ℕ) (frame : Frame) : Type 0 where
-  pub body : Body
-  pub found : slice_get bodies c.function ≡ Some body
-  pub here : slice_get body.code k ≡ Some (point_instr callee frame.point)
-  pub point : Point
-  pub mapped : slice_get body.points frame.point ≡ Some point
-  pub calls : point.calls ≡ callee
-  pub kinds : kinds_of frame.slots ≡ point.kinds
-  pub slots : length c.slots ≡ length body.slots
-  pub function : frame.function ≡ c.function
-  pub values : frame.slots ≡ c.slots ++ reverse c.operands
-
--- the calls wait for a call of g, the outermost of them is the handler's, and these are their frames
-abbrev pub Wait : List Body → ℕ → List MachineCall → List Frame → ℕ → Type 0
-Wait bodies h [] [] g = g ≡ h
-Wait bodies h [] (frame ∷ frames) g = ⊥
-Wait bodies h (c ∷ outer) [] g = ⊥
-Wait bodies h (c ∷ outer) (frame ∷ frames) g =
-    (k : ℕ) × (c.place ≡ k + 1) × Stands bodies c k (Some g) frame × Wait bodies h outer frames c.function
-
--- the calls of a machine of this handler at a tick, and their frames
-abbrev pub HasFrames : List Body → ℕ → List MachineCall → List Frame → Type 0
-HasFrames bodies h [] frames = ⊥
-HasFrames bodies h (c ∷ outer) [] = ⊥
-HasFrames bodies h (c ∷ outer) (frame ∷ frames) =
-    Stands bodies c c.place None frame × Wait bodies h outer frames c.function
 
 -- how many values they have
 abbrev pub values_count : List Frame → ℕ

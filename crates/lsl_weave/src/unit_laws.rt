@@ -1,0 +1,16 @@
+//! Laws of the woven code of a unit.
+
+ghost use Rattle.lsl_weave.specs.UnitLaws.{UnitsMove, UnitsRestore, UnitsRunAlike, UnitsSave};
+
+/// The woven code of a unit weaves: saving any machine of it at a tick ends with its frames and the same globals and
+/// limit, and restoring any frames that fit ends with the machine that has them, within the bound.
+pub fn units_weave()
+    ensures save { UnitsSave }
+    ensures restore { UnitsRestore }
+    ensures back { UnitsMove }
+{}
+
+/// While it runs, it has the asks, ticks, ends and faults of the plain code.
+pub fn units_run_alike()
+    ensures { UnitsRunAlike }
+{}
