@@ -22,3 +22,4 @@ pub mod Standing
 pub mod Units
 pub mod WellFormed
 pub mod Wholes
+pub mod WovenBodies

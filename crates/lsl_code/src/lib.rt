@@ -17,6 +17,7 @@ pub mod mode_laws;
 mod sequence;
 mod signatures;
 mod units;
+mod woven_functions;
 
 pub use crate::checking::FrameFault;
 pub use crate::drafts::Draft;
@@ -28,3 +29,4 @@ pub use crate::library::Library;
 pub use crate::sequence::Sequence;
 pub use crate::signatures::{Names, Signature};
 pub use crate::units::{Unit, Woven};
+pub use crate::woven_functions::WovenCode;

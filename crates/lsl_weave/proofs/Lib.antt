@@ -1,10 +1,13 @@
 pub mod Besides
 pub mod Charges
+pub mod Emitting
 pub mod Lift
 pub mod Moved
 pub mod OnePlaced
+pub mod Places
 pub mod Placing
 pub mod Restored
 pub mod Running
 pub mod Saved
+pub mod Sums
 pub mod Units

@@ -1,4 +1,5 @@
 pub mod Laws
 pub mod Layout
 pub mod Lifting
+pub mod Tables
 pub mod UnitLaws

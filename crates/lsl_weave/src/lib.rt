@@ -1,5 +1,10 @@
 //! Woven code: code that saves and restores its own calls.
 #![tactic(auto)]
 
+mod blocks;
+mod copies;
 pub mod laws;
+mod numbers;
+mod stacks;
+mod tables;
 pub mod unit_laws;

@@ -1,0 +1,9 @@
+use Rattle.std.proofs.Common.{◌≡◌, ◌++◌, drop}
+use Rattle.lsl_code.specs.Bodies.{plain_body}
+use Rattle.lsl_weave.specs.Layout.{flat, back_block}
+use Rattle.lsl_weave.proofs.blocks.push_backs.Given as goal
+
+abbrev pub invariant-loop-i : goal.invariant-loop-i
+invariant-loop-i l =
+    l.code ++ flat (back_block (plain_body l.function)) l.i (drop l.i l.function.points)
+    ≡ l.fn.code ++ flat (back_block (plain_body l.function)) 0 l.function.points
