@@ -1,10 +1,15 @@
 -- Code that is written part by part: what is written, and what is left, are together the whole.
 use Rattle.std.proofs.Common.{◌≡◌, ℕ, zero, suc, ◌+◌, ◌-◌, ◌<◌, List, [], ◌∷◌, ◌++◌, length, map, drop, Option, Some, None, refl, sym, ap, ◌∙◌, arith, append_assoc, append-nil}
 use Rattle.std.specs.Prelude.{slice_get}
+use Rattle.std.proofs.lemmas.List.{map-append}
 use Rattle.lsl_value.specs.declared.tagged.Kind.{Kind}
 use Rattle.lsl_code.specs.declared.instructions.Instr.{Instr}
 use Rattle.lsl_code.specs.declared.instructions.Instr.TheVariants.{KeepTop, KeepSlot, BackSlot, BackTop}
-use Rattle.lsl_weave.specs.Layout.{flat, keep_tops, keep_slots, back_slots, back_tops, nones}
+use Rattle.lsl_code.specs.declared.functions.FunctionCode.{FunctionCode}
+use Rattle.lsl_code.specs.declared.woven_functions.WovenCode.{WovenCode}
+use Rattle.lsl_code.specs.Bodies.{Body, plain_body}
+use Rattle.lsl_code.specs.WovenBodies.{woven_body}
+use Rattle.lsl_weave.specs.Layout.{woven_of, all_woven, flat, keep_tops, keep_slots, back_slots, back_tops, nones}
 
 drop_here : {A : Type 0} (xs : List A) (k : ℕ) (x : A) → slice_get xs k ≡ Some x → drop k xs ≡ x ∷ drop (k + 1) xs
 drop_here [] k x e = cc
@@ -80,3 +85,24 @@ nones_more done done' m i all lt l h =
 
 pub nones_done : (done : List (Option (List Kind))) (m : ℕ) (all : List (Option (List Kind))) → done ++ nones (m - m) ≡ all → done ≡ all
 nones_done done m all h = sym (append-nil done) ∙ ap (λ n. done ++ nones n) (sym (none_left m)) ∙ h
+
+pub made_more : (done done' : List WovenCode) (w : WovenCode) (f : FunctionCode) (rest rest' : List FunctionCode)
+    (all : List Body) → done' ≡ done ++ w ∷ [] → rest ≡ f ∷ rest' → woven_body w ≡ woven_of (plain_body f)
+    → map woven_body done ++ all_woven (map plain_body rest) ≡ all
+    → map woven_body done' ++ all_woven (map plain_body rest') ≡ all
+made_more done done' w f rest rest' all e r same h =
+    let left = all_woven (map plain_body rest') in
+    ap (λ l. map woven_body l ++ left) e ∙ ap (λ l. l ++ left) (map-append woven_body done (w ∷ []))
+    ∙ append_assoc (map woven_body done) (woven_body w ∷ []) left
+    ∙ ap (λ b. map woven_body done ++ b ∷ left) same
+    ∙ ap (λ l. map woven_body done ++ all_woven (map plain_body l)) (sym r) ∙ h
+
+none_of : {A : Type 0} (xs : List A) → length xs ≡ 0 → xs ≡ []
+none_of [] e = refl
+none_of (x ∷ xs) e = absurd (omega arith)
+
+pub made_all : (done : List WovenCode) (rest : List FunctionCode) (all : List Body) → length rest ≡ 0
+    → map woven_body done ++ all_woven (map plain_body rest) ≡ all → map woven_body done ≡ all
+made_all done rest all e h =
+    sym (append-nil (map woven_body done))
+    ∙ ap (λ l. map woven_body done ++ all_woven (map plain_body l)) (sym (none_of rest e)) ∙ h

@@ -8,3 +8,6 @@ mod numbers;
 mod stacks;
 mod tables;
 pub mod unit_laws;
+mod weaving;
+
+pub use crate::weaving::{weave_function, weave_functions};

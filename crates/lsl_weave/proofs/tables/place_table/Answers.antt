@@ -1,4 +1,4 @@
-use Rattle.std.proofs.Common.{rules, ◌≡◌}
+use Rattle.std.proofs.Common.{rules}
 use Rattle.lsl_weave.proofs.Places.{places_start, places_more, places_end}
 use Rattle.lsl_weave.proofs.tables.place_table.Goals as goal
 

@@ -1,4 +1,4 @@
-use Rattle.std.proofs.Common.{rules, arith, ◌≡◌, slice_get, ◌+◌, Some, [], ◌∷◌, ◌++◌, refl}
+use Rattle.std.proofs.Common.{rules, ◌≡◌, slice_get, ◌+◌, Some, [], ◌∷◌, ◌++◌, refl}
 use Rattle.std.proofs.lemmas.Option.{slice_get_read}
 use Rattle.lsl_weave.specs.Layout.{width}
 use Rattle.lsl_weave.proofs.Sums.{table_starts, table_more, table_ends}

@@ -1,4 +1,4 @@
-use Rattle.std.proofs.Common.{arith, ap, subst, sym, refl, ◌∙◌, ◌≡◌, ◌+◌, ◌<◌, Some, length, slice_get}
+use Rattle.std.proofs.Common.{arith, ap, subst, sym, ◌≡◌, ◌+◌, ◌<◌, Some, length, slice_get}
 use Rattle.lsl_code.specs.Bodies.{plain_body}
 use Rattle.lsl_weave.specs.Layout.{width, save_width, back_width, saves_from, backs_from, place_of}
 use Rattle.lsl_weave.specs.Tables.{IsTable, block_width}
