@@ -33,14 +33,16 @@ pub record HasMap (points : List Point) (p : ℕ) (callee : Option ℕ) (ks : Li
   pub calls : point.calls ≡ callee
   pub kinds : point.kinds ≡ ks
 
-map_told : (points : List Point) (p : ℕ) (o : Option Point) (callee : Option ℕ) (ks : List Kind) → slice_get points p ≡ o
+map_told : (points : List Point) (p : ℕ) (o : Option Point) (callee : Option ℕ) (ks : List Kind)
+    → slice_get points p ≡ o
     → is_point o callee ks ≡ true → HasMap points p callee ks
 map_told points p None callee ks e t = absurd cc
 map_told points p (Some point) callee ks e t =
     let b = both_true _ _ t in
     record { point = point; mapped = e; calls = callee_is _ _ b.0; kinds = sames_are _ _ b.1 }
 
-kinds_there : (s : Scope) (w : Body) (k : ℕ) (i : Instr) (o : Option (Option (List Kind))) → slice_get w.stacks k ≡ o
+kinds_there : (s : Scope) (w : Body) (k : ℕ) (i : Instr) (o : Option (Option (List Kind)))
+    → slice_get w.stacks k ≡ o
     → may_be_bare i ≡ false → fits_where s w k i o ≡ true → (ks : List Kind) × StandsWith w k ks
 kinds_there s w k i None e bare fits = absurd cc
 kinds_there s w k i (Some None) e bare fits = absurd cc
@@ -88,7 +90,8 @@ module _ (globals : List Value) (states : List StateCode) (bodies : List Body)
     -- a running machine stands before each point's instruction
     pub stack_there : (k p : ℕ) (callee : Option ℕ) → slice_get w.code k ≡ Some (point_instr callee p)
         → (ks : List Kind) × StandsWith w k ks
-    stack_there k p None here = kinds_there own w k (Tick p) (slice_get w.stacks k) refl refl (all_fit k (Tick p) here)
+    stack_there k p None here = kinds_there own w k (Tick p) (slice_get w.stacks k) refl refl
+        (all_fit k (Tick p) here)
     stack_there k p (Some g) here =
         kinds_there own w k (Call g p) (slice_get w.stacks k) refl refl (all_fit k (Call g p) here)
 

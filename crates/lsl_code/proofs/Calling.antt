@@ -35,19 +35,22 @@ Found code p = (k : ℕ) × (callee : Option ℕ) × (slice_get code k ≡ Some 
 found_on : (i : Instr) (code : List Instr) (p : ℕ) → Found code p → Found (i ∷ code) p
 found_on i code p f = (suc f.0, f.1, f.2)
 
-tick_found : (b : Bool) (p q : ℕ) (code : List Instr) (n more : ℕ) → nat_eq p q ≡ b → cond b (suc more) more ≡ suc n
+tick_found : (b : Bool) (p q : ℕ) (code : List Instr) (n more : ℕ) → nat_eq p q ≡ b
+    → cond b (suc more) more ≡ suc n
     → (more ≡ suc n → Found code p) → Found (Tick q ∷ code) p
 tick_found true p q code n more e c go = (0, None, ap (λ x. Some (Tick x)) (sym (eq_is p q e)))
 tick_found false p q code n more e c go = found_on (Tick q) code p (go c)
 
-call_found : (b : Bool) (f p q : ℕ) (code : List Instr) (n more : ℕ) → nat_eq p q ≡ b → cond b (suc more) more ≡ suc n
+call_found : (b : Bool) (f p q : ℕ) (code : List Instr) (n more : ℕ) → nat_eq p q ≡ b
+    → cond b (suc more) more ≡ suc n
     → (more ≡ suc n → Found code p) → Found (Call f q ∷ code) p
 call_found true f p q code n more e c go = (0, Some f, ap (λ x. Some (Call f x)) (sym (eq_is p q e)))
 call_found false f p q code n more e c go = found_on (Call f q) code p (go c)
 
 pub found_in : (code : List Instr) (p n : ℕ) → count_of p code ≡ suc n → Found code p
 found_in [] p n e = absurd cc
-found_in (Tick q ∷ code) p n e = tick_found (nat_eq p q) p q code n (count_of p code) refl e (λ c. found_in code p n c)
+found_in (Tick q ∷ code) p n e =
+    tick_found (nat_eq p q) p q code n (count_of p code) refl e (λ c. found_in code p n c)
 found_in (Call f q ∷ code) p n e =
     call_found (nat_eq p q) f p q code n (count_of p code) refl e (λ c. found_in code p n c)
 found_in (i ∷ code) p n e = found_on i code p (found_in code p n e)
@@ -66,7 +69,8 @@ back_kinds xs a b e = kinds_drop (length a) xs ∙ ap (drop (length a)) e ∙ dr
 -- the call of a frame, with its slots and its operands, at this place
 abbrev call_of : Body → ℕ → Frame → MachineCall
 call_of w place frame =
-    call_at frame.function place (take (length w.slots) frame.slots) (reverse (drop (length w.slots) frame.slots))
+    call_at frame.function place (take (length w.slots) frame.slots)
+        (reverse (drop (length w.slots) frame.slots))
 
 same_some : {A : Type 0} (o : Option A) (x y : A) → o ≡ Some x → o ≡ Some y → x ≡ y
 same_some o x y p q = cc
@@ -87,7 +91,8 @@ module _ (bodies : List Body) where
       by_body : (o : Option Body) → slice_get bodies frame.function ≡ o → body_point o frame.point ≡ Some at.0
           → Homed frame callee
       by_body None e m = absurd cc
-      by_body (Some w) e m = record { body = w; found = e; point = at.0; mapped = m; calls = at.2; kinds = at.3 }
+      by_body (Some w) e m =
+          record { body = w; found = e; point = at.0; mapped = m; calls = at.2; kinds = at.3 }
 
   -- the call of a frame whose point's map has these kinds
   call_stands : (frame : Frame) (callee : Option ℕ) (place k : ℕ) (ks : List Kind) (at : Homed frame callee)
@@ -165,7 +170,8 @@ module _ (globals : List Value) (states : List StateCode) (bodies : List Body)
       let w = at.body in
       let place = placed frame (Some g) at in
       let k = place.0 in
-      let m = call_map globals states bodies fits frame.function w at.found k frame.point g callee place.1 there in
+      let m = call_map globals states bodies fits frame.function w at.found k frame.point g callee place.1
+          there in
       let kinds = (map_is bodies frame (Some g) (Some g) (w.slots ++ reverse m.0) at m.1).1 in
       let c = call_of w (k + 1) frame in
       let one = call_stands bodies frame (Some g) (k + 1) k m.0 at place.1 kinds in
@@ -192,7 +198,8 @@ frames_have_calls globals states bodies fits h (frame ∷ frames) fit =
     let c = call_of w k frame in
     let one = call_stands bodies frame None k k stack.0 at place.1 kinds in
     let stands = subst (StandsWith w k) (sym one.2) stack.1 in
-    let more = made globals states bodies fits h frames f w at.found (ends globals states bodies fits h frame frames fit.0.1) fit.1 in
+    let more = made globals states bodies fits h frames f w at.found
+        (ends globals states bodies fits h frame frames fit.0.1) fit.1 in
     (
       c ∷ more.calls,
       (one.0, more.wait),

@@ -67,12 +67,14 @@ module _ (bodies : List Body) (h : ℕ) where
   after_chained (Fails fault) i g a f place sl ops outer here by c = tt
   after_chained Stuck i g a f place sl ops outer here by c = tt
 
-  at_instruction : (g : Kept) (a : List Reply) (caller : MachineCall) (outer : List MachineCall) (o : Option Instr)
+  at_instruction : (g : Kept) (a : List Reply) (caller : MachineCall) (outer : List MachineCall)
+      (o : Option Instr)
       → instruction_at bodies caller.function caller.place ≡ o → AreChained bodies h caller.function outer
       → Chained (done_by bodies o g a caller.function caller.place caller.slots caller.operands outer)
   at_instruction g a caller outer None here c = tt
   at_instruction g a caller outer (Some i) here c =
-      after_chained (act bodies (Some i) g (base outer) caller.slots caller.operands) i g a caller.function caller.place
+      after_chained (act bodies (Some i) g
+          (base outer) caller.slots caller.operands) i g a caller.function caller.place
       caller.slots caller.operands outer here (act_by bodies i g (base outer) caller.slots caller.operands) c
 
   step_chained : (g : Kept) (a : List Reply) (calls : List MachineCall) → IsChain bodies h calls

@@ -15,7 +15,8 @@ one_off xs i x lt is =
 pub range_to_end : {A : Type 0} (xs : List A) (n : ℕ) → take (length xs - n) (drop n xs) ≡ drop n xs
 range_to_end xs n = ap (λ k. take k (drop n xs)) (sym (length-drop n xs)) ∙ take-length (drop n xs)
 
-module _ (points : Points) (handler : ℕ) (callee : Option ℕ) (whole : List Frame) (i : ℕ) (frame : Frame) (outer : List Frame) where
+module _ (points : Points) (handler : ℕ) (callee : Option ℕ) (whole : List Frame) (i : ℕ) (frame : Frame)
+    (outer : List Frame) where
   -- what holds of the frames from here on holds of all
   abbrev From : Option ℕ → ℕ → List Frame → Type 0
   From callee i left =
@@ -26,14 +27,17 @@ module _ (points : Points) (handler : ℕ) (callee : Option ℕ) (whole : List F
       → (FitsFrame points handler callee frame outer → ⊥) → FirstUnfit points handler None whole i
   unfit_here e from unfit =
       let z : i + 0 ≡ i = omega arith in
-      subst (FirstUnfit points handler None whole) z (from.1 0 (subst (λ l. FirstUnfit points handler callee l 0) (sym e) unfit))
+      subst (FirstUnfit points handler None whole) z
+          (from.1 0 (subst (λ l. FirstUnfit points handler callee l 0) (sym e) unfit))
 
-  pub fit_on : drop i whole ≡ frame ∷ outer → From callee i (drop i whole) → FitsFrame points handler callee frame outer
+  pub fit_on : drop i whole ≡ frame ∷ outer → From callee i (drop i whole)
+      → FitsFrame points handler callee frame outer
       → From (Some frame.function) (i + 1) outer
   fit_on e from fit = (
     (λ more. from.0 (subst (FitFrames points handler callee) (sym e) (fit, more))),
     (λ n h. let z : i + suc n ≡ i + 1 + n = omega arith in
-        subst (FirstUnfit points handler None whole) z (from.1 (suc n) (subst (λ l. FirstUnfit points handler callee l (suc n)) (sym e) (fit, h)))),
+        subst (FirstUnfit points handler None whole) z
+            (from.1 (suc n) (subst (λ l. FirstUnfit points handler callee l (suc n)) (sym e) (fit, h)))),
   )
 
 -- what a test that failed tells

@@ -28,14 +28,16 @@ point_is : (callee : Option ℕ) (p : ℕ) → point_in (Some (point_instr calle
 point_is None p = refl
 point_is (Some g) p = refl
 
-same_body : (bodies : List Body) (f : ℕ) (a b : Body) → slice_get bodies f ≡ Some a → slice_get bodies f ≡ Some b → a ≡ b
+same_body : (bodies : List Body) (f : ℕ) (a b : Body) → slice_get bodies f ≡ Some a
+    → slice_get bodies f ≡ Some b → a ≡ b
 same_body bodies f a b p q = cc
 
 module _ (bodies : List Body) where
   -- the call of a frame at a point whose map has its kinds
   stands_with : (c : MachineCall) (k p : ℕ) (callee : Option ℕ) (w : Body) (ks : List Kind)
       → slice_get bodies c.function ≡ Some w → slice_get w.code k ≡ Some (point_instr callee p)
-      → HasMap w.points p callee (w.slots ++ reverse ks) → kinds_of c.slots ≡ w.slots → kinds_of c.operands ≡ ks
+      → HasMap w.points p callee (w.slots ++ reverse ks) → kinds_of c.slots ≡ w.slots
+          → kinds_of c.operands ≡ ks
       → Stands bodies c k callee (frame_at bodies k c)
   stands_with c k p callee w ks found here m slots operands =
       let values = c.slots ++ reverse c.operands in
@@ -98,7 +100,8 @@ ticks_have_frames globals states bodies fits h m kinded chain tick = by_calls m.
         let w = kinded.0 in
         let here : slice_get w.code c.place ≡ Some (Tick tick.0) =
         sym (ap (λ o. instruction_in o c.place) kinded.1) ∙ tick.1 in
-        let m = tick_map globals states bodies fits c.function w kinded.1 c.place tick.0 (kinds_of c.operands) here kinded.2.1 in
+        let m = tick_map globals states bodies fits c.function w kinded.1 c.place tick.0
+            (kinds_of c.operands) here kinded.2.1 in
         (
           stands_with bodies c c.place tick.0 None w (kinds_of c.operands) kinded.1 here m kinded.2.0 refl,
           waits_stand globals states bodies fits h outer c.function w kinded.1 chain kinded.3,
@@ -110,7 +113,8 @@ module _ (bodies : List Body) (h : ℕ) where
   at_point c k callee frame st =
       (
         st.point,
-        ap (λ f. points_of bodies f frame.point) st.function ∙ ap (λ o. body_point o frame.point) st.found ∙ st.mapped,
+        ap (λ f. points_of bodies f frame.point) st.function ∙ ap (λ o. body_point o frame.point) st.found
+            ∙ st.mapped,
         st.calls,
         st.kinds,
       )
@@ -122,7 +126,8 @@ module _ (bodies : List Body) (h : ℕ) where
   ends_in c frame (d ∷ outer) [] e w = absurd w
   ends_in c frame (d ∷ outer) (next ∷ frames) e w = tt
 
-  waits_fit : (outer : List MachineCall) (frames : List Frame) (g f : ℕ) → f ≡ g → Wait bodies h outer frames g
+  waits_fit : (outer : List MachineCall) (frames : List Frame) (g f : ℕ) → f ≡ g
+      → Wait bodies h outer frames g
       → FitFrames (points_of bodies) h (Some f) frames
   waits_fit [] [] g f e w = tt
   waits_fit [] (frame ∷ frames) g f e w = absurd w

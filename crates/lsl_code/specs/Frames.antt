@@ -42,8 +42,8 @@ body_point (Some body) p = slice_get body.points p
 abbrev pub points_of : List Body → Points
 points_of bodies f p = body_point (slice_get bodies f) p
 
--- a frame is at a point of its function: at a tick, or at a call of this function; it has one value of each kind of the
--- point's map
+-- a frame is at a point of its function: at a tick, or at a call of this function; it has one value of each
+-- kind of the point's map
 abbrev pub IsAtPoint : Points → Option ℕ → Frame → Type 0
 IsAtPoint points callee frame =
     (point : Point) × (points frame.function frame.point ≡ Some point) × (point.calls ≡ callee)

@@ -1,5 +1,5 @@
--- What saving a machine, and restoring frames, end with: the code's own instructions do it, and what stands beside the
--- calls stays.
+-- What saving a machine, and restoring frames, end with: the code's own instructions do it, and what stands
+-- beside the calls stays.
 use Rattle.std.specs.Prelude.{ℕ, ◌≡◌, List, [], Option, Some, slice_get, option_map}
 use Rattle.lsl_running.specs.declared.host.Reply.{Reply}
 use Rattle.lsl_running.specs.declared.kept.Kept.{Kept}

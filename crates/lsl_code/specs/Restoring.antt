@@ -1,5 +1,5 @@
--- The machine while it restores: what the added instructions make of the innermost call, of the frame in hand and of
--- the frames that are left.
+-- The machine while it restores: what the added instructions make of the innermost call, of the frame in
+-- hand and of the frames that are left.
 use Rattle.std.specs.Prelude.{ℕ, ◌+◌, List, [], ◌∷◌, Option, Some, None, Bool, true, false, map, slice_get, slice_set, option_map}
 use Rattle.lsl_value.specs.declared.tagged.Value.{Value}
 use Rattle.lsl_running.specs.Values.{empty_of}
@@ -10,8 +10,8 @@ use Rattle.lsl_code.specs.Bodies.{Body, instruction_in, instruction_at}
 use Rattle.lsl_code.specs.Machine.{MachineCall, call_at}
 use Rattle.lsl_code.specs.Modes.{at_place, landing}
 
--- the calls so far, the innermost first, the point and the values of the frame in hand, the frames that are left, and
--- whether restoring has ended
+-- the calls so far, the innermost first, the point and the values of the frame in hand, the frames that are
+-- left, and whether restoring has ended
 pub record Restoring : Type 0 where
   pub calls : List MachineCall
   pub point : ℕ
@@ -60,8 +60,8 @@ abbrev pub where_slot : Option Value → BackAct → BackAct
 where_slot None act = NoBack
 where_slot (Some v) act = act
 
--- a jump directly behind `Again` or `Awake` belongs to it: a restored call waits directly behind its call, and a
--- restored machine stands at its tick
+-- a jump directly behind `Again` or `Awake` belongs to it: a restored call waits directly behind its call,
+-- and a restored machine stands at its tick
 abbrev pub lands : Option Body → MachineCall → MachineCall
 lands body c = at_place c (landing (instruction_in body (c.place + 1)) (c.place + 1)) c.operands
 
@@ -71,7 +71,8 @@ back_act body (Some (TestBack to)) c point hand sack = Moves (at_place c to c.op
 back_act body (Some (Jump to)) c point hand sack = Moves (at_place c to c.operands) point hand sack
 back_act body (Some Unpack) c point hand sack =
     unpacked sack (λ left last. Moves (at_place c (c.place + 1) c.operands) last.point last.slots left)
-back_act body (Some Branch) c point hand sack = Moves (at_place c (c.place + 1 + point) c.operands) point hand sack
+back_act body (Some Branch) c point hand sack =
+    Moves (at_place c (c.place + 1 + point) c.operands) point hand sack
 back_act body (Some (BackSlot n)) c point hand sack =
     takes hand (λ v rest. where_slot (slice_get c.slots n) (Moves (with_slot c n v) point rest sack))
 back_act body (Some BackTop) c point hand sack =
@@ -81,8 +82,10 @@ back_act body (Some Awake) c point hand sack = Wakes (lands body c)
 back_act body i c point hand sack = NoBack
 
 -- put back before the outer calls
-abbrev pub back_after : List Body → BackAct → List MachineCall → ℕ → List Value → List Frame → Option Restoring
-back_after bodies (Moves c point' hand' sack') outer point hand sack = Some (restoring (c ∷ outer) point' hand' sack')
+abbrev pub back_after : List Body → BackAct → List MachineCall → ℕ → List Value → List Frame
+    → Option Restoring
+back_after bodies (Moves c point' hand' sack') outer point hand sack =
+    Some (restoring (c ∷ outer) point' hand' sack')
 back_after bodies (Reenters f c) outer point hand sack =
     option_map (λ callee. restoring (blank f callee ∷ c ∷ outer) point hand sack) (slice_get bodies f)
 back_after bodies (Wakes c) outer point hand sack = Some (awake_with (c ∷ outer) point hand sack)
@@ -92,7 +95,8 @@ abbrev pub back_step_in : List Body → List MachineCall → ℕ → List Value 
 back_step_in bodies [] point hand sack = None
 back_step_in bodies (c ∷ outer) point hand sack =
     back_after bodies
-    (back_act (slice_get bodies c.function) (instruction_at bodies c.function c.place) c point hand sack) outer point
+    (back_act (slice_get bodies c.function)
+        (instruction_at bodies c.function c.place) c point hand sack) outer point
     hand sack
 
 abbrev pub unless_awake : Bool → Option Restoring → Option Restoring

@@ -1,4 +1,5 @@
--- The machine while it saves: what the added instructions make of the innermost call and of the frame in hand.
+-- The machine while it saves: what the added instructions make of the innermost call and of the frame in
+-- hand.
 use Rattle.std.specs.Prelude.{ℕ, ◌+◌, List, [], ◌∷◌, ◌++◌, Option, Some, None, slice_get}
 use Rattle.lsl_value.specs.declared.tagged.Value.{Value}
 use Rattle.lsl_code.specs.declared.frames.Frame.{Frame}
@@ -8,7 +9,8 @@ use Rattle.lsl_code.specs.Bodies.{Body, instruction_at}
 use Rattle.lsl_code.specs.Machine.{MachineCall}
 use Rattle.lsl_code.specs.Modes.{at_place}
 
--- the calls that are left, the innermost first, the values that the frame in hand has, and the frames saved so far
+-- the calls that are left, the innermost first, the values that the frame in hand has, and the frames saved
+-- so far
 pub record Saving : Type 0 where
   pub calls : List MachineCall
   pub hand : List Value
@@ -43,7 +45,8 @@ save_act (Some (TestSave to)) c hand = Keeps (at_place c to c.operands) hand
 save_act (Some (Jump to)) c hand = Keeps (at_place c to c.operands) hand
 save_act (Some (KeepSlot n)) c hand =
     keeps_slot (slice_get c.slots n) (λ v. Keeps (at_place c (c.place + 1) c.operands) (v ∷ hand))
-save_act (Some KeepTop) c hand = keeps_top c.operands (λ v rest. Keeps (at_place c (c.place + 1) rest) (v ∷ hand))
+save_act (Some KeepTop) c hand =
+    keeps_top c.operands (λ v rest. Keeps (at_place c (c.place + 1) rest) (v ∷ hand))
 save_act (Some (Seal point)) c hand = Seals (frame_of c.function point hand)
 save_act i c hand = NoSave
 

@@ -40,7 +40,8 @@ point_instr None p = Tick p
 point_instr (Some g) p = Call g p
 
 -- the call is at the frame's point, whose instruction is at place k, and has the frame's values
-pub record Stands (bodies : List Body) (c : MachineCall) (k : ℕ) (callee : Option ℕ) (frame : Frame) : Type 0 where
+pub record Stands (bodies : List Body) (c : MachineCall) (k : ℕ) (callee : Option ℕ)
+    (frame : Frame) : Type 0 where
   pub body : Body
   pub found : slice_get bodies c.function ≡ Some body
   pub here : slice_get body.code k ≡ Some (point_instr callee frame.point)

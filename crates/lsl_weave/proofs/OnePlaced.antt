@@ -42,7 +42,8 @@ counted_if p (Tick q) n e = ap (λ b. cond b (suc n) n) e
 counted_if p (Call f q) n e = ap (λ b. cond b (suc n) n) e
 counted_if p i n e = absurd cc
 
-some_count : (code : List Instr) (p k : ℕ) (callee : Option ℕ) → slice_get code k ≡ Some (point_instr callee p)
+some_count : (code : List Instr) (p k : ℕ) (callee : Option ℕ)
+    → slice_get code k ≡ Some (point_instr callee p)
     → 1 ≤ count_of p code
 some_count [] p k callee e = absurd cc
 some_count (i ∷ code) p zero callee e =
@@ -57,11 +58,13 @@ one_place [] p k callee once e = absurd cc
 one_place (i ∷ code) p zero callee once e =
     let same : i ≡ point_instr callee p = cc in
     ap (λ b. cond b 0 (suc (place_of p code))) (ap (has_point p) same ∙ point_there p callee)
-one_place (i ∷ code) p (suc k) callee once e = by_test (has_point p i) refl (λ more. one_place code p k callee more e)
+one_place (i ∷ code) p (suc k) callee once e =
+    by_test (has_point p i) refl (λ more. one_place code p k callee more e)
   where
     by_test : (b : Bool) → has_point p i ≡ b → (count_of p code ≡ 1 → place_of p code ≡ k)
         → cond b 0 (suc (place_of p code)) ≡ suc k
-    by_test true h go = absurd (omega (arith, once, counted_if p i (count_of p code) h, some_count code p k callee e))
+    by_test true h go = absurd (omega
+        (arith, once, counted_if p i (count_of p code) h, some_count code p k callee e))
     by_test false h go = ap suc (go (left h))
       where
         counted_not : (j : Instr) → has_point p j ≡ false → counted p j (count_of p code) ≡ count_of p code

@@ -14,10 +14,12 @@ use Rattle.lsl_weave.specs.Lifting.{lift_machine, lift_halt, OuterAreBehind, mos
 -- saving a machine at a tick ends with its frames, and with the same globals, limit and answers
 abbrev pub SavesItsFrames : Type 0
 SavesItsFrames =
-    (bodies : List Body) (handler : ℕ) (m : Machine) (frames : List Frame) → HasFrames bodies handler m.calls frames
+    (bodies : List Body) (handler : ℕ) (m : Machine) (frames : List Frame)
+        → HasFrames bodies handler m.calls frames
     → SaveRun (all_woven bodies) (lift_machine bodies m) frames (beside_of m)
 
--- restoring these frames beside the same ends with that machine, within 16 instructions, 8 a frame and 4 a value
+-- restoring these frames beside the same ends with that machine, within 16 instructions, 8 a frame and 4 a
+-- value
 abbrev pub RestoresTheMachine : Type 0
 RestoresTheMachine =
     (bodies : List Body) → AreOnePlaced bodies
@@ -25,8 +27,8 @@ RestoresTheMachine =
     → (n : ℕ) × (n ≤ most_steps frames)
     × BackRun (all_woven bodies) handler frames (beside_of m) (lift_machine bodies m) n
 
--- a run of woven code comes to what the run of the plain code comes to: the same ask, end or fault, or the same machine
--- where it is cut, with the same ticks left
+-- a run of woven code comes to what the run of the plain code comes to: the same ask, end or fault, or the
+-- same machine where it is cut, with the same ticks left
 abbrev pub RunsAlike : Type 0
 RunsAlike =
     (bodies : List Body) → Forward bodies → (ticks : ℕ) (m : Machine) → OuterAreBehind bodies m.calls
@@ -40,7 +42,8 @@ ChargesAlike =
 -- and that of its frames
 abbrev pub FramesAreCharged : Type 0
 FramesAreCharged =
-    (bodies : List Body) (handler : ℕ) (m : Machine) (frames : List Frame) → HasFrames bodies handler m.calls frames
+    (bodies : List Body) (handler : ℕ) (m : Machine) (frames : List Frame)
+        → HasFrames bodies handler m.calls frames
     → used_in m.calls m.kept ≡ parked_charge m.kept.globals frames
 
 -- a machine that is cut, saved and restored goes on as if nothing had been

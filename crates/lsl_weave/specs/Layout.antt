@@ -1,6 +1,6 @@
--- The woven code of a function: its instructions, with a test behind each tick and each call, then a block for each
--- point that keeps its values, then code that takes a frame and goes to the block of the frame's point, then a block for
--- each point that puts its values back.
+-- The woven code of a function: its instructions, with a test behind each tick and each call, then a block
+-- for each point that keeps its values, then code that takes a frame and goes to the block of the frame's
+-- point, then a block for each point that puts its values back.
 use Rattle.std.specs.Prelude.{ℕ, zero, suc, ◌+◌, ◌-◌, List, [], ◌∷◌, ◌++◌, Option, Some, None, Bool, false, cond, length, map, nat_eq, slice_get}
 use Rattle.lsl_value.specs.declared.tagged.Kind.{Kind}
 use Rattle.lsl_code.specs.declared.functions.Point.{Point}

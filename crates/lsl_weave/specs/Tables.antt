@@ -9,7 +9,8 @@ use Rattle.lsl_weave.specs.declared.tables.Tables.{Tables}
 use Rattle.lsl_weave.specs.Layout.{offset, width, save_width, back_width, saves_from, backs_from, place_of}
 
 -- the sums of the first 0, 1 .. n widths, from a start
-pub record IsTableTo {A : Type 0} (start : ℕ) (w : A → ℕ) (xs : List A) (n : ℕ) (table : List ℕ) (sum : ℕ) : Type 0 where
+pub record IsTableTo {A : Type 0} (start : ℕ) (w : A → ℕ) (xs : List A) (n : ℕ) (table : List ℕ)
+    (sum : ℕ) : Type 0 where
   pub long : length table ≡ n + 1
   pub at : (k : ℕ) → k ≤ n → slice_get table k ≡ Some (start + offset w xs k)
   pub sum_is : sum ≡ start + offset w xs n
@@ -29,8 +30,8 @@ with_place places (Tick p) place = slice_set places p place
 with_place places (Call f p) place = slice_set places p place
 with_place places i place = places
 
--- where the plain instructions, the blocks that save and those that restore stand, and where each point stands in plain
--- code
+-- where the plain instructions, the blocks that save and those that restore stand, and where each point
+-- stands in plain code
 pub record AreTables (b : Body) (shifts saves backs places : List ℕ) : Type 0 where
   pub shifts_are : IsTable 1 width b.code shifts
   pub saves_are : IsTable (saves_from b) (save_width b) b.points saves

@@ -18,25 +18,33 @@ use Rattle.lsl_weave.specs.Lifting.{lift_machine, lift_halt, most_steps}
 -- a machine at a tick, in which all kinds are right, is saved as its frames
 abbrev pub UnitsSave : Type 0
 UnitsSave =
-    (globals : List Value) (states : List StateCode) (bodies : List Body) → fits_unit globals states bodies ≡ true
-    → (handler : ℕ) (m : Machine) → IsKindedMachine (kinds_of globals) bodies m → IsChain bodies handler m.calls
+    (globals : List Value) (states : List StateCode) (bodies : List Body)
+        → fits_unit globals states bodies ≡ true
+    → (handler : ℕ) (m : Machine) → IsKindedMachine (kinds_of globals) bodies m
+        → IsChain bodies handler m.calls
     → IsAtTick bodies m.calls
     → SaveRun (all_woven bodies) (lift_machine bodies m) (frames_of bodies m.calls) (beside_of m)
 
--- frames that fit, wherever they come from, are restored to a machine that has them, in which all kinds are right
+-- frames that fit, wherever they come from, are restored to a machine that has them, in which all kinds are
+-- right
 abbrev pub UnitsRestore : Type 0
 UnitsRestore =
-    (globals : List Value) (states : List StateCode) (bodies : List Body) → fits_unit globals states bodies ≡ true
+    (globals : List Value) (states : List StateCode) (bodies : List Body)
+        → fits_unit globals states bodies ≡ true
     → (handler : ℕ) (frames : List Frame) (x : Beside) → AreFrames (points_of bodies) handler frames
-    → (m : Machine) × (beside_of m ≡ x) × HasFrames bodies handler m.calls frames × AreKindedCalls bodies m.calls
+    → (m : Machine) × (beside_of m ≡ x) × HasFrames bodies handler m.calls frames
+        × AreKindedCalls bodies m.calls
     × IsChain bodies handler m.calls × IsAtTick bodies m.calls
-    × ((n : ℕ) × (n ≤ most_steps frames) × BackRun (all_woven bodies) handler frames x (lift_machine bodies m) n)
+    × ((n : ℕ) × (n ≤ most_steps frames)
+        × BackRun (all_woven bodies) handler frames x (lift_machine bodies m) n)
 
 -- what is saved is restored to the same machine
 abbrev pub UnitsMove : Type 0
 UnitsMove =
-    (globals : List Value) (states : List StateCode) (bodies : List Body) → fits_unit globals states bodies ≡ true
-    → (handler : ℕ) (m : Machine) → IsKindedMachine (kinds_of globals) bodies m → IsChain bodies handler m.calls
+    (globals : List Value) (states : List StateCode) (bodies : List Body)
+        → fits_unit globals states bodies ≡ true
+    → (handler : ℕ) (m : Machine) → IsKindedMachine (kinds_of globals) bodies m
+        → IsChain bodies handler m.calls
     → IsAtTick bodies m.calls
     → (n : ℕ) × (n ≤ most_steps (frames_of bodies m.calls))
     × BackRun (all_woven bodies) handler (frames_of bodies m.calls) (beside_of m) (lift_machine bodies m) n
@@ -44,6 +52,7 @@ UnitsMove =
 -- a run of its woven code comes to what the run of the plain code comes to
 abbrev pub UnitsRunAlike : Type 0
 UnitsRunAlike =
-    (globals : List Value) (states : List StateCode) (bodies : List Body) → fits_unit globals states bodies ≡ true
+    (globals : List Value) (states : List StateCode) (bodies : List Body)
+        → fits_unit globals states bodies ≡ true
     → (handler ticks : ℕ) (m : Machine) → IsChain bodies handler m.calls
     → run (all_woven bodies) ticks (lift_machine bodies m) ≡ lift_halt bodies (run bodies ticks m)

@@ -17,7 +17,8 @@ pub fn running_of(
     function: &FunctionCode,
     count: usize,
 ) -> Result<Sequence<Option<Sequence<Kind>>>, NoMemory>
-    ensures { IfOk result (λ r. r ≡ Some [] ∷ (flat (main_stacks (plain_body function.now)) 0 function.now.code ++ nones count)) }
+    ensures { IfOk result (λ running. running
+        ≡ Some [] ∷ (flat (main_stacks (plain_body function.now)) 0 function.now.code ++ nones count)) }
 {
     let mut running = Sequence::new(alloc);
     running.push(Some(Sequence::new(alloc)))?;

@@ -10,8 +10,8 @@ use lsl_code::{FunctionCode, Instr, Point};
 use lsl_text::NoMemory;
 use std::alloc::Global;
 
-/// The places of the instructions, of the blocks that save and of those that restore, each with its end, and the place
-/// of each point in plain code.
+/// The places of the instructions, of the blocks that save and of those that restore, each with its end, and the
+/// place of each point in plain code.
 #[derive(Drop)]
 pub struct Tables {
     pub shifts: Vec<u32>,

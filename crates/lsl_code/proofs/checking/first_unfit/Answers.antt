@@ -16,7 +16,8 @@ returns-then-not-fits c =
     (range_to_end frames (at + 1)) c.fits.ensures in
     let front = one_off frames at frame c.loop-i-test.true c.index-frames-i.is in
     unfit_here points c.args.handler c.loop-i.callee frames at frame outer front c.loop-i.invariant
-    (refuted c.fits.result (FitsFrame points c.args.handler c.loop-i.callee frame outer) test c.if-not-fits.true)
+    (refuted c.fits.result
+        (FitsFrame points c.args.handler c.loop-i.callee frame outer) test c.if-not-fits.true)
 
 pub loop-i-preserved : goal.loop-i-preserved
 loop-i-preserved c =

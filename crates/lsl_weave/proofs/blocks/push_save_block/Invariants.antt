@@ -9,4 +9,5 @@ invariant-loop-i l =
 
 abbrev pub invariant-loop-j : goal.invariant-loop-j
 invariant-loop-j l =
-    (tail : List Instr) → l.code ++ keep_slots (l.slots - l.j) tail ≡ l.fn.code ++ keep_tops l.waits (keep_slots l.slots tail)
+    (tail : List Instr) → l.code ++ keep_slots (l.slots - l.j) tail
+        ≡ l.fn.code ++ keep_tops l.waits (keep_slots l.slots tail)
