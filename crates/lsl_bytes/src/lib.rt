@@ -7,6 +7,7 @@
 
 use lsl_text::NoMemory;
 
+mod elements;
 mod examples;
 mod laws;
 mod numbers;

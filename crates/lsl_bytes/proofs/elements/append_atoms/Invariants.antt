@@ -1,7 +1,7 @@
 use Rattle.std.proofs.Common.{◌≡◌, ◌++◌, take}
 use Rattle.std.specs.List.{flat_map}
 use Rattle.lsl_bytes.specs.Fields.{atom_bytes}
-use Rattle.lsl_bytes.proofs.values.append_atoms.Given as goal
+use Rattle.lsl_bytes.proofs.elements.append_atoms.Given as goal
 
 abbrev pub invariant-atoms : goal.invariant-atoms
 invariant-atoms l = l.out.items ≡ l.fn.out.items ++ flat_map atom_bytes (take l.atom-index l.atoms)

@@ -5,7 +5,7 @@ use Rattle.std.specs.Int.{w32, cast_signed, cast_unsigned}
 use Rattle.std.proofs.lemmas.Int.{to_z-of_z}
 use Rattle.lsl_value.specs.Text.{IsText}
 use Rattle.lsl_bytes.proofs.AtomLemmas.{atom-int, atom-key, atom-no_tag, atom-other_tag, atom-spelled, atom-str, int-found, key-found, str-found, tagged-none}
-use Rattle.lsl_bytes.proofs.values.take_atom.Goals as goal
+use Rattle.lsl_bytes.proofs.elements.take_atom.Goals as goal
 
 pub returns-in_default : goal.returns-in_default
 returns-in_default c = atom-no_tag c.args.bytes.now c.args.place c.in_default.ensures

@@ -1,6 +1,6 @@
 use Rattle.std.proofs.Common.{arith, ◌≡◌}
 use Rattle.lsl_bytes.proofs.ListLemmas.{list-found, list-no_atoms, list-no_count, list-too_long}
-use Rattle.lsl_bytes.proofs.values.take_items.Goals as goal
+use Rattle.lsl_bytes.proofs.elements.take_items.Goals as goal
 
 pub returns-in_default : goal.returns-in_default
 returns-in_default c = list-no_count c.args.bytes.now c.args.place c.in_default.ensures

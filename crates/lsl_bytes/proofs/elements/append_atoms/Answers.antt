@@ -2,7 +2,7 @@ use Rattle.std.proofs.Common.{◌≡◌, Result, Ok, Err, OnErr, take, rules}
 use Rattle.std.specs.List.{flat_map}
 use Rattle.lsl_bytes.specs.Fields.{atom_bytes}
 use Rattle.lsl_bytes.proofs.PlaceLemmas.{front-kept}
-use Rattle.lsl_bytes.proofs.values.append_atoms.Goals as goal
+use Rattle.lsl_bytes.proofs.elements.append_atoms.Goals as goal
 
 at_err : {T E : Type 0} (r : Result T E) (P : Type 0) → P → OnErr r P
 at_err (Ok x) P holds = tt
