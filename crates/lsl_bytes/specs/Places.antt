@@ -7,7 +7,7 @@ pub record StandsAt (bytes : List ℕ) (place : ℕ) (part : List ℕ) (next : �
   pub behind : next ≡ place + length part
   pub within : next ≤ length bytes
 
--- a value whose bytes stand at the place, with the place behind them, and none exactly where no value's bytes do
+-- a value whose bytes stand at the place, with the place behind them; none exactly where no value's bytes do
 pub record Takes {V : Type 0} (form : V → List ℕ) (Fits : V → Type 0) (bytes : List ℕ) (place : ℕ)
     (answer : Option (V × ℕ)) : Type 0 where
   pub found : IfSome answer (λ taken. Fits taken.0 × StandsAt bytes place (form taken.0) taken.1)

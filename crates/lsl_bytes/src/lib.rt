@@ -1,8 +1,8 @@
 //! Fields as bytes, both ways: numbers, texts and values.
 //!
-//! A `push_` call appends a field. It takes memory where the vector grows, and after an `Err` the vector is unchanged.
-//! A `take_` call reads the field at a place: its value and the place behind it, or none exactly where no field of that
-//! form stands there, as at a place past the end. It walks the field once.
+//! A `push_` call appends a field. It takes memory where the vector grows, and after an `Err` the vector is
+//! unchanged. A `take_` call reads the field at a place: its value and the place behind it, or none exactly
+//! where no field of that form stands there, as at a place past the end. It walks the field once.
 #![tactic(auto)]
 
 use lsl_text::NoMemory;

@@ -50,7 +50,8 @@ pub fn take_text(alloc: Global, bytes: &[u8], place: usize) -> Taken<Text>
 
 // Takes bytes behind their count.
 fn take_counted(bytes: &[u8], place: usize) -> Option<(&[u8], usize)>
-    ensures { Takes counted_bytes IsCountable bytes.now place (option_map (λ taken. (taken.0.now, taken.1)) result) }
+    ensures { Takes counted_bytes IsCountable bytes.now place
+        (option_map (λ taken. (taken.0.now, taken.1)) result) }
 {
     let (count, start) = take_u32(bytes, place)?;
     let part = bytes[start..].get(..count as usize)?;

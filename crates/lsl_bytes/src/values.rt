@@ -27,8 +27,8 @@ pub fn push_value(out: &mut Vec<u8>, value: &Value) -> Result<(), NoMemory>
     pushed
 }
 
-/// Takes a value. Takes memory for its text, or for its elements and their texts: in proportion to the bytes that are
-/// there, whatever count they claim.
+/// Takes a value. Takes memory for its text, or for its elements and their texts: in proportion to the bytes
+/// that are there, whatever count they claim.
 pub fn take_value(alloc: Global, bytes: &[u8], place: usize) -> Taken<Value>
     ensures { IfOk result (λ answer. Takes value_bytes IsValue bytes.now place answer) }
 {
