@@ -40,7 +40,7 @@ fn items(alloc: Global, words: &str) -> Result<Items, Fail> {
     Ok(items)
 }
 
-fn value(alloc: Global, word: &str) -> Result<Value, Fail> {
+pub(crate) fn value(alloc: Global, word: &str) -> Result<Value, Fail> {
     if let Some(number) = word.strip_prefix("I") {
         Ok(Value::Int(number.parse::<i32>()?))
     } else if let Some(characters) = word.strip_prefix("S") {

@@ -1,8 +1,10 @@
-//! Tests of values, operators, tables and pure calls: what no clause says of them, by tables whose values come from outside.
+//! Tests of values, their bytes, operators, tables and pure calls: what no clause says of them, by tables whose values come from outside.
 #![tactic(auto)]
 
 #[cfg(test)]
 mod calls;
+#[cfg(test)]
+mod fields;
 #[cfg(test)]
 mod numbers;
 #[cfg(test)]
