@@ -1,0 +1,11 @@
+pub mod Adding
+pub mod FilterLaws
+pub mod Filters
+pub mod Journal
+pub mod Listens
+pub mod Mailbox
+pub mod Queue
+pub mod Tables
+pub mod Timer
+pub mod Timing
+pub mod Told

@@ -1,0 +1,15 @@
+-- How listens are kept: in a table, each under what it asks.
+use Rattle.std.specs.Prelude.{◌≡◌, ℤ, List, map}
+use Rattle.lsl_post.specs.declared.filters.Filter.{Filter}
+use Rattle.lsl_post.specs.declared.listen.Listen.{Listen}
+use Rattle.lsl_post.specs.Listens.{filter_of, standing, IsStanding}
+
+abbrev pub asked_of : List (Filter × Listen) → List Filter
+asked_of entries = map (λ e. e.0) entries
+
+abbrev pub listens_of : List (Filter × Listen) → List Listen
+listens_of entries = map (λ e. e.1) entries
+
+pub record IsTable (next : ℤ) (entries : List (Filter × Listen)) : Type 0 where
+  pub keys : asked_of entries ≡ map filter_of (listens_of entries)
+  pub standing : IsStanding (standing next (listens_of entries))
