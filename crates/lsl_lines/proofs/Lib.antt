@@ -1,0 +1,6 @@
+pub mod Digits
+pub mod KeyTable
+pub mod LastLemmas
+pub mod LineLemmas
+pub mod Texts
+pub mod Top

@@ -1,0 +1,11 @@
+pub mod Checks
+pub mod Faults
+pub mod Fields
+pub mod Forms
+pub mod Keys
+pub mod Lines
+pub mod NotYet
+pub mod Reading
+pub mod Reads
+pub mod Words
+pub mod World

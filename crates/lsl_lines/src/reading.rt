@@ -1,0 +1,177 @@
+//! What was read so far, and what a line adds to it.
+
+use crate::additions::{add_file, add_key, must, new_prim};
+use crate::faults::FileKind;
+use crate::fields::Field;
+use crate::file::{ObjectLine, ScriptLine, Step};
+use crate::forms::{Line, parse_line};
+use crate::keys::Keys;
+use crate::lasts::{add_last_prim, add_last_script};
+use crate::sequence::Sequence;
+use crate::words::is_skipped;
+use lsl_value::Text;
+use std::alloc::Global;
+
+/// How many objects, scripts and steps there are at most.
+const MAX_OBJECTS: usize = 64;
+
+const MAX_SCRIPTS: u32 = 256;
+
+const MAX_STEPS: usize = 100_000;
+
+/// The part of the file that a line stands in.
+#[derive(Clone, Copy, Debug, PartialEq, Eq)]
+pub enum Part {
+    Objects,
+    Steps,
+    Ended,
+}
+
+/// What was read so far.
+#[derive(Drop)]
+pub struct Reading {
+    pub part: Part,
+    pub objects: Sequence<ObjectLine>,
+    /// How many scripts there are.
+    pub scripts: u32,
+    pub files: Sequence<Text>,
+    pub keys: Keys,
+    pub steps: Sequence<Step>,
+    /// The last clock.
+    pub clock: u64,
+}
+
+impl Reading {
+    ghost use Rattle.std.specs.Prelude.{◌≡◌};
+    ghost use Rattle.lsl_lines.specs.Reading.{begun, is_objects, is_steps, object_added, prim_added, script_added, step_added, line_added, read_line};
+    ghost use Rattle.lsl_lines.specs.Reads.{Makes};
+
+    /// Nothing yet. Takes no memory.
+    pub fn new(alloc: Global) -> Reading
+        ensures { result ≡ begun }
+    {
+        Reading {
+            part: Part::Objects,
+            objects: Sequence::new(alloc),
+            scripts: 0,
+            files: Sequence::new(alloc),
+            keys: Keys::new(alloc),
+            steps: Sequence::new(alloc),
+            clock: 0,
+        }
+    }
+
+    /// Reads a line. After a refusal the value is only to be dropped.
+    #[tactic(auto, unfolding(crate::specs::Reading::read_line))]
+    pub fn read_line(&mut self, alloc: Global, line: &[u8]) -> Field<()>
+        ensures { Makes result self.new (read_line line.now self.old) }
+    {
+        if is_skipped(line) {
+            return Ok(());
+        }
+        let line = parse_line(alloc, line)?;
+        self.add_line(alloc, line)
+    }
+
+    fn add_line(&mut self, alloc: Global, line: Line) -> Field<()>
+        ensures { Makes result self.new (line_added line self.old) }
+    {
+        match line {
+            Line::Object(key, name, owner, region) => self.add_object(
+                alloc, key, name, owner, region,
+            ),
+            Line::Prim(key, name) => self.add_prim(alloc, key, name),
+            Line::Script(name, file) => self.add_script(name, file),
+            Line::Begin => self.begin(),
+            Line::Step(step) => self.add_step(step),
+            Line::End => self.end(),
+        }
+    }
+
+    fn begin(&mut self) -> Field<()>
+        ensures { Makes result self.new (line_added Line.Begin self.old) }
+    {
+        must(self.in_objects(), FileKind::BadLine)?;
+        self.part = Part::Steps;
+        Ok(())
+    }
+
+    fn end(&mut self) -> Field<()>
+        ensures { Makes result self.new (line_added Line.End self.old) }
+    {
+        must(self.in_steps(), FileKind::BadLine)?;
+        self.part = Part::Ended;
+        Ok(())
+    }
+
+    fn in_objects(&self) -> bool
+        ensures { result ≡ is_objects self.now.part }
+    {
+        matches!(self.part, Part::Objects)
+    }
+
+    fn in_steps(&self) -> bool
+        ensures { result ≡ is_steps self.now.part }
+    {
+        matches!(self.part, Part::Steps)
+    }
+
+    fn add_object(
+        &mut self,
+        alloc: Global,
+        key: Text,
+        name: Text,
+        owner: Text,
+        region: Text,
+    ) -> Field<()>
+        ensures { Makes result self.new (object_added key name owner region self.old) }
+    {
+        must(self.in_objects(), FileKind::BadLine)?;
+        must(self.objects.len() < MAX_OBJECTS, FileKind::TooMany)?;
+        add_key(alloc, &mut self.keys, &key)?;
+        let mut prims = Sequence::new(alloc);
+        prims.push(new_prim(alloc, key, name))?;
+        self.objects.push(ObjectLine {
+            owner,
+            region,
+            prims,
+        })?;
+        Ok(())
+    }
+
+    fn add_prim(&mut self, alloc: Global, key: Text, name: Text) -> Field<()>
+        ensures { Makes result self.new (prim_added key name self.old) }
+    {
+        must(self.in_objects(), FileKind::BadLine)?;
+        add_last_prim(&mut self.objects, new_prim(alloc, key.copy()?, name))?;
+        add_key(alloc, &mut self.keys, &key)?;
+        Ok(())
+    }
+
+    fn add_script(&mut self, name: Text, file: Text) -> Field<()>
+        ensures { Makes result self.new (script_added name file self.old) }
+    {
+        must(
+            self.in_objects() && !self.objects.is_empty(),
+            FileKind::BadLine,
+        )?;
+        must(self.scripts < MAX_SCRIPTS, FileKind::TooMany)?;
+        let file = add_file(&mut self.files, file)?;
+        add_last_script(&mut self.objects, ScriptLine { name, file })?;
+        self.scripts += 1;
+        Ok(())
+    }
+
+    fn add_step(&mut self, step: Step) -> Field<()>
+        ensures { Makes result self.new (step_added step self.old) }
+    {
+        must(self.in_steps(), FileKind::BadLine)?;
+        must(self.steps.len() < MAX_STEPS, FileKind::TooMany)?;
+        must(self.knows(&step), FileKind::Unknown)?;
+        let clock = self.clock_behind(&step);
+        must(self.clock <= clock, FileKind::ClockBack)?;
+        self.steps.push(step)?;
+        self.clock = clock;
+        Ok(())
+    }
+}
