@@ -1,0 +1,13 @@
+//! Tests of world files: what good ones say, and the first fault of the others.
+#![tactic(auto)]
+
+#[cfg(test)]
+mod bad_forms;
+#[cfg(test)]
+mod bad_worlds;
+#[cfg(test)]
+mod good_worlds;
+#[cfg(test)]
+mod limits;
+#[cfg(test)]
+mod texts;
