@@ -3,6 +3,7 @@ pub mod Faults
 pub mod Fields
 pub mod Forms
 pub mod Keys
+pub mod Laws
 pub mod Lines
 pub mod NotYet
 pub mod Reading

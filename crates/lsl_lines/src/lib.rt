@@ -22,6 +22,7 @@ mod forms;
 mod keys;
 mod known;
 mod lasts;
+pub mod laws;
 mod lines;
 mod not_yet;
 mod reading;
