@@ -1,3 +1,4 @@
+pub mod CutAgain
 pub mod Digits
 pub mod KeyTable
 pub mod LastLemmas

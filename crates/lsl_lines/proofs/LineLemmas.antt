@@ -38,7 +38,7 @@ prefix_len-stops p (b ∷ l) = go (p b) refl (prefix_len-stops p l)
 
 -- ---- a line that ends with a line feed
 
-line_cut : (front more : List ℕ) → list_all is_in_line front ≡ true → lines_of (front ++ 10 ∷ more) ≡ without_return front ∷ lines_of more
+pub line_cut : (front more : List ℕ) → list_all is_in_line front ≡ true → lines_of (front ++ 10 ∷ more) ≡ without_return front ∷ lines_of more
 line_cut [] more h = refl
 line_cut (b ∷ []) more h = go (b == 10) (b == 13) (not_feed (b == 10) (and_both (not (b == 10)) true h).0)
   where

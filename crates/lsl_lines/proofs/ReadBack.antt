@@ -1,12 +1,12 @@
 -- A text that was written between quotes is read back.
-use Rattle.std.proofs.Common.{◌≡◌, ℕ, ◌==◌, Bool, true, false, cond, ◌||◌, if◌then◌else◌, List, [], ◌∷◌, ◌++◌, Result, Ok, refl, sym, ap, ◌∙◌, append_assoc, append-nil}
+use Rattle.std.proofs.Common.{◌≡◌, ℕ, ◌==◌, Bool, true, false, ◌||◌, if◌then◌else◌, List, [], ◌∷◌, ◌++◌, Result, Ok, refl, sym, ap, ◌∙◌, append_assoc, append-nil}
 use Rattle.std.proofs.lemmas.Bool.{eqb-true}
 use Rattle.std.specs.List.{flat_map}
 use Rattle.std.specs.Str.{encode_utf8_all}
 use Rattle.lsl_text.specs.Quoted.{escaped, quoted}
 use Rattle.lsl_value.specs.Text.{IsText}
 use Rattle.lsl_lines.specs.Checks.{◌>>=◌}
-use Rattle.lsl_lines.specs.Words.{words_of, quoted_words, escaped_words, text_of, behind_quote, escape_of}
+use Rattle.lsl_lines.specs.Words.{words_of, quoted_words, behind_quote}
 use Rattle.lsl_lines.specs.declared.faults.FileKind.{FileKind}
 use Rattle.lsl_lines.specs.declared.words.Word.{Word}
 use Rattle.lsl_lines.specs.declared.words.Word.TheVariants.{Quoted}

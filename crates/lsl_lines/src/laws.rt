@@ -1,6 +1,14 @@
-//! Laws of the words of a line.
+//! Laws of lines and words.
 
-ghost use Rattle.lsl_lines.specs.Laws.{ReadBack};
+ghost use Rattle.std.specs.Prelude.{[], ◌∷◌};
+ghost use Rattle.lsl_lines.specs.Laws.{CutAgain, ReadBack};
+
+/// Lines that are written with a line feed at their ends, or a carriage return and a line feed, are cut again as
+/// they were.
+pub fn lines_are_cut_again()
+    ensures feed { CutAgain (10 ∷ []) }
+    ensures both { CutAgain (13 ∷ 10 ∷ []) }
+{}
 
 /// A text as `push_quoted` of `lsl_text` writes it is read back as that text.
 pub fn quoted_texts_are_read_back()
