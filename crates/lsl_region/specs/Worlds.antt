@@ -1,0 +1,61 @@
+-- A world of objects and scripts as their texts mean it: no instruction, frame or image is in it.
+use Rattle.std.specs.Prelude.{ℕ, List, [], Option, Some, None, get_or, slice_get, slice_set}
+use Rattle.lsl_post.specs.Told.{Told, as_value, quiet}
+use Rattle.lsl_script.specs.Scripts.{Script}
+
+-- a prim: its key and its name
+pub record Prim : Type 0 where
+  pub key : List ℕ
+  pub name : List ℕ
+
+-- an object: its owner's key, the region in which it is, and its prims, the root first
+pub record Object : Type 0 where
+  pub owner : List ℕ
+  pub region : List ℕ
+  pub prims : List Prim
+
+-- a script with the places of its object and its prim, and its name
+pub record Member : Type 0 where
+  pub object : ℕ
+  pub prim : ℕ
+  pub name : List ℕ
+  pub script : Script
+
+-- the reading of the clock in milliseconds, the objects, and the scripts. Both are told by numbers that are one more than
+-- their places here
+pub record World : Type 0 where
+  pub clock : ℕ
+  pub objects : List Object
+  pub members : List Member
+
+abbrev pub no_prim : Prim
+no_prim = record { key = []; name = [] }
+
+abbrev pub no_object : Object
+no_object = record { owner = []; region = []; prims = [] }
+
+abbrev pub object_at : World → ℕ → Object
+object_at w place = get_or w.objects place no_object
+
+abbrev pub object_of : World → Member → Object
+object_of w m = object_at w m.object
+
+abbrev pub prim_at : Object → ℕ → Prim
+prim_at o place = get_or o.prims place no_prim
+
+abbrev pub prim_of : World → Member → Prim
+prim_of w m = prim_at (object_of w m) m.prim
+
+abbrev pub with_member : World → ℕ → Member → World
+with_member w place m = record w { members = slice_set w.members place m }
+
+abbrev pub with_object : World → ℕ → Object → World
+with_object w place o = record w { objects = slice_set w.objects place o }
+
+abbrev pub changed_at : ℕ → (Member → Told Script) → World → Option Member → Told World
+changed_at place thing w None = quiet w
+changed_at place thing w (Some m) = as_value (λ s. with_member w place (record m { script = s })) (thing m)
+
+-- something becomes of the script at this place
+abbrev pub at_member : ℕ → (Member → Told Script) → World → Told World
+at_member place thing w = changed_at place thing w (slice_get w.members place)

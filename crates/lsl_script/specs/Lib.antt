@@ -1,0 +1,4 @@
+pub mod Rules
+pub mod Scripts
+pub mod Handlers
+pub mod Laws

@@ -1,0 +1,34 @@
+//! Laws of scripts. Each law is a function whose clause is the law; it does nothing.
+
+ghost use Rattle.lsl_script.specs.Laws.{ChargeComesFirst, ExitComesFirst, FaultsAreForGood, LeavingGoesOn, NewStateKeepsTimer, ResetBeginsAgain, SameStateIsReturn};
+
+/// A change to the state in which a script stands is a return.
+pub fn same_state_is_return()
+    ensures { SameStateIsReturn }
+{}
+
+/// A script that leaves its state takes its exit first, and whatever that does leads to the state for which it leaves.
+pub fn leaving_goes_on()
+    ensures goes { LeavingGoesOn }
+    ensures first { ExitComesFirst }
+{}
+
+/// In a new state nothing is listened to and only the entry waits; the timer stays, and listens are numbered on.
+pub fn new_state_keeps_timer()
+    ensures { NewStateKeepsTimer }
+{}
+
+/// A reset brings back what a script had at its start.
+pub fn reset_begins_again()
+    ensures { ResetBeginsAgain }
+{}
+
+/// A script that stopped takes no event and is never ready again; its state stays.
+pub fn faults_are_for_good()
+    ensures { FaultsAreForGood }
+{}
+
+/// The charge at a handler's end is that of the globals that it left, and is told before events go.
+pub fn charge_comes_first()
+    ensures { ChargeComesFirst }
+{}
