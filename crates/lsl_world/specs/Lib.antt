@@ -1,0 +1,5 @@
+pub mod Programs
+pub mod Starts
+pub mod Steps
+pub mod Reports
+pub mod Laws

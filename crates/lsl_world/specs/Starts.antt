@@ -1,0 +1,39 @@
+-- The world of a file at its start: the clock is 0, and each script stands in its first state, whose entry is posted.
+use Rattle.std.specs.Prelude.{ℕ, suc, List, [], ◌∷◌, ◌++◌, map}
+use Rattle.lsl_lines.specs.declared.file.ObjectLine.{ObjectLine}
+use Rattle.lsl_lines.specs.declared.file.PrimLine.{PrimLine}
+use Rattle.lsl_lines.specs.declared.file.ScriptLine.{ScriptLine}
+use Rattle.lsl_lines.specs.declared.file.WorldFile.{WorldFile}
+use Rattle.lsl_script.specs.Rules.{Rules}
+use Rattle.lsl_script.specs.Scripts.{new_script}
+use Rattle.lsl_region.specs.Worlds.{Member, Object, Prim, World}
+
+abbrev pub prim_of_line : PrimLine → Prim
+prim_of_line line = record { key = line.key; name = line.name }
+
+abbrev pub object_of_line : ObjectLine → Object
+object_of_line line = record { owner = line.owner; region = line.region; prims = map prim_of_line line.prims }
+
+-- the scripts of the prim at this place of the object at this place
+abbrev pub members_of_prim : Rules → ℕ → ℕ → List ScriptLine → List Member
+members_of_prim r object prim lines =
+    map (λ l. record { object = object; prim = prim; name = l.name; script = new_script r l.file }) lines
+
+-- of these prims, whose places are from this one on
+abbrev pub members_of_prims : Rules → ℕ → ℕ → List PrimLine → List Member
+members_of_prims r object prim [] = []
+members_of_prims r object prim (line ∷ lines) =
+    members_of_prim r object prim line.scripts ++ members_of_prims r object (suc prim) lines
+
+-- of these objects, whose places are from this one on
+abbrev pub members_of_objects : Rules → ℕ → List ObjectLine → List Member
+members_of_objects r object [] = []
+members_of_objects r object (line ∷ lines) =
+    members_of_prims r object 0 line.prims ++ members_of_objects r (suc object) lines
+
+abbrev pub start : Rules → WorldFile → World
+start r file = record {
+  clock = 0;
+  objects = map object_of_line file.objects;
+  members = members_of_objects r 0 file.objects;
+}
