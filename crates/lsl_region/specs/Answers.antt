@@ -19,7 +19,7 @@ use Rattle.lsl_post.specs.Listens.{Standing, closed, controlled, listened}
 use Rattle.lsl_post.specs.Mailbox.{Mailbox, timer_set}
 use Rattle.lsl_post.specs.Told.{Told, as_value, lead, quiet}
 use Rattle.lsl_script.specs.Rules.{Rules}
-use Rattle.lsl_script.specs.Scripts.{Doing, Resting, Flying, Stopped, Script, napped}
+use Rattle.lsl_script.specs.Scripts.{Doing, Resting, Flying, Stopped, napped}
 use Rattle.lsl_region.specs.Links.{is_for, link_of, prim_or_this}
 use Rattle.lsl_region.specs.Posting.{message_event, post_all, said_to_all}
 use Rattle.lsl_region.specs.Texts.{cut_name, cut_speech}

@@ -12,7 +12,7 @@ use Rattle.lsl_script.specs.Scripts.{handles}
 use Rattle.lsl_region.specs.Links.{link_of, prim_named}
 use Rattle.lsl_region.specs.Posting.{post_all, ring_all, said_to_all}
 use Rattle.lsl_region.specs.Texts.{cut_speech}
-use Rattle.lsl_region.specs.Worlds.{Member, Object, World, object_at}
+use Rattle.lsl_region.specs.Worlds.{Member, World, object_at}
 
 -- someone with this name and key says a text
 abbrev pub say : Rules → ℤ → (name key text : List ℕ) → World → Told World

@@ -1,14 +1,13 @@
 -- What holds of every world, whatever its scripts mean.
-use Rattle.std.specs.Prelude.{◌≡◌, ℕ, ◌≤◌, ℤ, pos, negsuc, Bool, true, List, [], ◌∷◌, length, Some, None}
+use Rattle.std.specs.Prelude.{◌≡◌, ℕ, ◌≤◌, pos, List, [], ◌∷◌, length, Some}
 use Rattle.std.specs.Str.{encode_utf8_all}
-use Rattle.std.specs.Ordering.{int_eq}
 use Rattle.lsl_value.specs.declared.names.BuiltinId.TheVariants as builtin
 use Rattle.lsl_value.specs.declared.tagged.Value.{Value}
 use Rattle.lsl_value.specs.declared.tagged.Value.TheVariants as value
 use Rattle.lsl_post.specs.Told.{quiet}
 use Rattle.lsl_script.specs.Rules.{Rules}
 use Rattle.lsl_region.specs.Answers.{answer_of, nothing}
-use Rattle.lsl_region.specs.Links.{is_for, link_of, prim_named}
+use Rattle.lsl_region.specs.Links.{prim_named}
 use Rattle.lsl_region.specs.Segments.{turn}
 use Rattle.lsl_region.specs.Texts.{cut_to}
 use Rattle.lsl_region.specs.Worlds.{Member, World}

@@ -1,5 +1,5 @@
 -- Events that are posted to scripts, in the order of their numbers.
-use Rattle.std.specs.Prelude.{ℕ, ◌+◌, ℤ, pos, Bool, not, ◌&&◌, if◌then◌else◌, List, [], ◌∷◌, length, None, refl}
+use Rattle.std.specs.Prelude.{ℕ, ◌+◌, ℤ, Bool, not, ◌&&◌, if◌then◌else◌, List, [], ◌∷◌, length, None, refl}
 use Rattle.std.specs.Str.{bytes_eq}
 use Rattle.lsl_value.specs.declared.names.EventId.TheVariants as event
 use Rattle.lsl_value.specs.declared.tagged.Value.TheVariants as value
@@ -8,7 +8,7 @@ use Rattle.lsl_post.specs.declared.filters.Filter.{Filter}
 use Rattle.lsl_post.specs.Mailbox.{is_heard}
 use Rattle.lsl_post.specs.Told.{Told, each, quiet}
 use Rattle.lsl_script.specs.Rules.{Rules}
-use Rattle.lsl_script.specs.Scripts.{Script, post_to, ring_to}
+use Rattle.lsl_script.specs.Scripts.{post_to, ring_to}
 use Rattle.lsl_region.specs.Worlds.{Member, World, at_member, prim_of}
 
 -- to the script at this place, where the test holds of it

@@ -1,11 +1,11 @@
 -- A script runs from one tick to the next, or to its handler's end: what comes of the handler's text from its start, for one
 -- tick more. While it asks, the host answers.
-use Rattle.std.specs.Prelude.{ℕ, ◌+◌, Bool, false, not, List, length, Option, Some, None, slice_get}
+use Rattle.std.specs.Prelude.{ℕ, ◌+◌, Bool, false, not, Option, Some, None, slice_get}
 use Rattle.std.proofs.Common.{zero, suc}
 use Rattle.lsl_running.specs.Results.{Whole, Ends, Asks, Cut, Fails, Lost}
 use Rattle.lsl_post.specs.Told.{Told, as_value, next_to, quiet, until}
 use Rattle.lsl_script.specs.Rules.{Rules}
-use Rattle.lsl_script.specs.Scripts.{Flight, Doing, Resting, Flying, Stopped, Script, is_ready}
+use Rattle.lsl_script.specs.Scripts.{Flight, Doing, Resting, Flying, Stopped, is_ready}
 use Rattle.lsl_script.specs.Handlers.{ended, failed, given, take_next, ticked, whole_of_flight, with_flight}
 use Rattle.lsl_region.specs.Answers.{answer}
 use Rattle.lsl_region.specs.Worlds.{Member, World, at_member}

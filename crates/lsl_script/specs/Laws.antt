@@ -1,5 +1,5 @@
 -- What holds of every script, whatever its code means.
-use Rattle.std.specs.Prelude.{◌≡◌, ℕ, Bool, false, List, [], ◌∷◌, length, Option, Some}
+use Rattle.std.specs.Prelude.{◌≡◌, ℕ, Bool, false, List, [], ◌∷◌, Some}
 use Rattle.lsl_running.specs.declared.ends.Fault.{Fault}
 use Rattle.lsl_running.specs.declared.ends.Outcome.{Outcome}
 use Rattle.lsl_running.specs.declared.ends.Outcome.TheVariants as outcome
@@ -12,7 +12,7 @@ use Rattle.lsl_post.specs.Mailbox.{Mailbox, new_mailbox}
 use Rattle.lsl_post.specs.Timing.{stopped}
 use Rattle.lsl_script.specs.Rules.{Rules, initial_kept}
 use Rattle.lsl_script.specs.Scripts.{Script, fresh, is_ready, state_exit, takes}
-use Rattle.lsl_script.specs.Handlers.{Stays, Leaves, Enters, ended, entered, event_due, failed, going_from, going_of, gone, resting_charge}
+use Rattle.lsl_script.specs.Handlers.{Stays, Enters, ended, entered, event_due, failed, going_from, going_of, resting_charge}
 
 -- a change to the state in which a script stands is a return
 abbrev pub SameStateIsReturn : Type 0

@@ -1,5 +1,5 @@
 -- What is asked of the code of a script: of a unit, or of a program. Codes are known by their numbers.
-use Rattle.std.specs.Prelude.{◌≡◌, ◌≢◌, ℕ, ◌+◌, ◌≤◌, List, ◌++◌, Option, Some, None}
+use Rattle.std.specs.Prelude.{◌≡◌, ◌≢◌, ℕ, ◌+◌, List, ◌++◌, Option, Some, None}
 use Rattle.lsl_value.specs.declared.names.BuiltinId.{BuiltinId}
 use Rattle.lsl_value.specs.declared.names.EventId.{EventId}
 use Rattle.lsl_value.specs.declared.tagged.Value.{Value}

@@ -1,9 +1,8 @@
 -- A script as its text means it: it knows no instruction, frame or place in code. A handler in flight is the event
 -- with which it began, and how far it has come: the ticks that it passed and the answers that it was given.
-use Rattle.std.specs.Prelude.{◌≡◌, ℕ, Bool, true, false, ◌&&◌, ◌||◌, nat_le, nat_lt, if◌then◌else◌, List, [], ◌∷◌, ◌++◌, length, Option, Some, None, is_some, refl}
+use Rattle.std.specs.Prelude.{ℕ, Bool, true, false, ◌&&◌, ◌||◌, nat_le, nat_lt, if◌then◌else◌, List, [], ◌∷◌, length, Option, None, is_some, refl}
 use Rattle.lsl_value.specs.declared.names.EventId.{EventId}
 use Rattle.lsl_value.specs.declared.names.EventId.TheVariants as event
-use Rattle.lsl_value.specs.declared.tagged.Value.{Value}
 use Rattle.lsl_running.specs.declared.ends.Fault.{Fault}
 use Rattle.lsl_running.specs.declared.host.Reply.{Reply}
 use Rattle.lsl_running.specs.declared.kept.Kept.{Kept}
@@ -12,7 +11,7 @@ use Rattle.lsl_post.specs.declared.entries.Entry.TheVariants as entry
 use Rattle.lsl_post.specs.declared.events.Event.{Event}
 use Rattle.lsl_post.specs.declared.parts.Posted.{Posted}
 use Rattle.lsl_post.specs.declared.parts.Posted.TheVariants.{Queued, Dropped, Unheard}
-use Rattle.lsl_post.specs.Mailbox.{Mailbox, new_mailbox, next_event, posted, posting, taken, timer_due, timer_read}
+use Rattle.lsl_post.specs.Mailbox.{Mailbox, new_mailbox, posted, posting, timer_due, timer_read}
 use Rattle.lsl_post.specs.Told.{Told, quiet}
 use Rattle.lsl_script.specs.Rules.{Rules, initial_kept}
 

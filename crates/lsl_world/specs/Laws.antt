@@ -1,11 +1,10 @@
 -- What holds of every run of steps.
-use Rattle.std.specs.Prelude.{◌≡◌, List, ◌++◌, [], ◌∷◌}
+use Rattle.std.specs.Prelude.{◌≡◌, List, ◌++◌}
 use Rattle.lsl_lines.specs.declared.file.Step.{Step}
-use Rattle.lsl_lines.specs.declared.file.Step.TheVariants.{Pause, Cross, Go, Run}
-use Rattle.lsl_post.specs.Told.{next_to, quiet}
+use Rattle.lsl_post.specs.Told.{next_to}
 use Rattle.lsl_script.specs.Rules.{Rules}
 use Rattle.lsl_region.specs.Worlds.{World}
-use Rattle.lsl_world.specs.Steps.{next, reference}
+use Rattle.lsl_world.specs.Steps.{reference}
 
 -- a run of two lists of steps is the run of the first, and then the run of the second from where that ended
 abbrev pub TwoListsAreTwoRuns : Type 0
