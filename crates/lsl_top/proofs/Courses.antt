@@ -1,193 +1,198 @@
--- The course of a handler that says texts: where each run of its machine begins, and what it comes to.
-use Rattle.std.proofs.Common.{◌≡◌, ℕ, zero, suc, ◌+◌, List, [], ◌∷◌, ◌++◌, length, refl, ap, sym, ◌∙◌, subst, append_assoc, append-nil, Some, ◌⊎◌, inl, inr, length-append, arith}
-use Rattle.std.specs.Prelude.{slice_get}
-use Rattle.lsl_value.specs.declared.names.BuiltinId.TheVariants as calls
+-- How a run goes on, from each halt of its machine to the next.
+use Rattle.std.specs.Prelude.{Result, Ok, Err, OnOk}
+use Rattle.std.proofs.Common.{◌≡◌, ◌≢◌, ℕ, zero, suc, ◌+◌, ◌-◌, ◌*◌, ◌<◌, ◌≤◌, List, [], ◌∷◌, ◌++◌, length, true, Option, Some, None, slice_get, flat_map, map, refl, sym, ap, ap₂, ◌∙◌, subst, arith, append-nil, length-append}
+use Rattle.std.proofs.lemmas.List.{append_assoc, flat_map_more}
+use Rattle.std.specs.Prelude.{codes}
+use Rattle.std.specs.Str.{encode_utf8_all}
+use Rattle.lsl_text.specs.Quoted.{quoted}
+use Rattle.lsl_value.specs.Values.{kind_of}
+use Rattle.lsl_value.specs.declared.names.BuiltinId.{BuiltinId}
+use Rattle.lsl_value.specs.declared.names.BuiltinId.TheVariants.{OwnerSay}
+use Rattle.lsl_value.specs.declared.tagged.Kind.{Kind}
+use Rattle.lsl_value.specs.declared.tagged.Kind.TheVariants as kind
 use Rattle.lsl_value.specs.declared.tagged.Value.{Value}
-use Rattle.lsl_value.specs.declared.tagged.Value.TheVariants as values
-use Rattle.lsl_literal_code.specs.declared.instructions.Instr.{Instr}
-use Rattle.lsl_literal_code.specs.declared.instructions.Instr.TheVariants.{Str, Host, Tick, Return}
-use Rattle.lsl_literal_code.specs.declared.results.Call.{Call}
-use Rattle.lsl_literal_code.specs.declared.results.Outcome.{Outcome}
-use Rattle.lsl_literal_code.specs.declared.results.Outcome.TheVariants as outcomes
-use Rattle.lsl_literal_code.specs.Bodies.{Body}
-use Rattle.lsl_literal_code.specs.Machine.{Active, Plain, Stepped, Goes, Asks, Halts, Ends, performed, step_of, step_at, Reaches}
-use Rattle.lsl_literal_machine.specs.declared.standing.Standing.TheVariants.{Ready, AtTick, Asking}
-use Rattle.lsl_literal_machine.specs.declared.standing.Halt.TheVariants as halts
-use Rattle.lsl_literal_machine.specs.State.{State}
-use Rattle.lsl_literal_machine.specs.Run.{ComesTo, started}
-use Rattle.lsl_top.specs.Program.{saying_code, handler_code, handler_body}
+use Rattle.lsl_value.specs.declared.tagged.Value.TheVariants.{Int, Str, Key, List as ListValue}
+use Rattle.lsl_table.specs.Calls.{row_of}
+use Rattle.lsl_tree.specs.Program.{Program}
+use Rattle.lsl_running.specs.declared.ends.Fault.{Fault}
+use Rattle.lsl_running.specs.declared.ends.Outcome.{Outcome}
+use Rattle.lsl_running.specs.declared.host.Call.{Call}
+use Rattle.lsl_running.specs.declared.host.Reply.{Reply}
+use Rattle.lsl_running.specs.declared.host.Reply.TheVariants as reply
+use Rattle.lsl_running.specs.Results as whole
+use Rattle.lsl_running.specs.Results.{ActiveCall, Whole}
+use Rattle.lsl_meaning.specs.Globals.{initial_kept}
+use Rattle.lsl_meaning.proofs.MoreHandlers.{more_ticks}
+use Rattle.lsl_code.specs.Bodies.{Body}
+use Rattle.lsl_code.specs.Kinds.{kinds_of}
+use Rattle.lsl_code.specs.Wholes.{active_calls}
+use Rattle.lsl_machine.specs.declared.standing.Halt.{Halt}
+use Rattle.lsl_machine.specs.declared.standing.Halt.TheVariants as halt
+use Rattle.lsl_machine.specs.declared.standing.Standing.TheVariants as standing
+use Rattle.lsl_machine.specs.Futures.{whole_from, whole_behind, ticks_passed, GoesOn, IsCut, IsAsked}
+use Rattle.lsl_machine.specs.State.{State}
+use Rattle.lsl_top.specs.Built.{is_built}
+use Rattle.lsl_top.specs.Chat.{cut_text}
+use Rattle.lsl_top.specs.Course.{Course, Goes, HasRun}
+use Rattle.lsl_top.specs.Journal.{IsJournal, Says, line, answers, done_line, ending, entry_whole, fault_line, most_ticks, owner_line, whole_after}
+use Rattle.lsl_top.proofs.OnlySays.{asks_owner_say}
 
--- the instructions up to where these texts were said
-abbrev pub said_code : List (List ℕ) → List Instr
-said_code said = Tick 0 ∷ saying_code said
+-- one answer more
+answers-more : (n : ℕ) (given : List Reply) → answers n ++ (reply.Value None ∷ given) ≡ answers (suc n) ++ given
+answers-more zero given = refl
+answers-more (suc n) given = ap (λ l. reply.Value None ∷ l) (answers-more n given)
 
-abbrev call_at : ℕ → List Value → Active
-call_at place operands = record { function = 0; place = place; slots = []; operands = operands }
+-- what doesn't end in a cut is the same with more ticks
+with_more : (p : Program) (ticks most : ℕ) (given : List Reply) (w : Whole) → ticks ≤ most → entry_whole p ticks given ≡ w
+    → ((calls : List ActiveCall) → w ≢ whole.Cut calls) → entry_whole p most given ≡ w
+with_more p ticks most given w le e uncut =
+    let all : most ≡ ticks + (most - ticks) = omega arith in
+    ap (λ t. entry_whole p t given) all
+    ∙ more_ticks p (length p.functions) (initial_kept p) [] ticks (most - ticks) given (λ calls cut. uncut calls (sym e ∙ cut))
+    ∙ e
 
--- the machine before the instruction at a place
-abbrev pub at : ℕ → List Value → Plain
-at place operands = record { globals = []; calls = call_at place operands ∷ [] }
+-- what is known of each place of a list, with one element more
+pushed : (P : ℕ → List ℕ → Type 0) (texts : List (List ℕ)) (text : List ℕ)
+    → ((n : ℕ) (t : List ℕ) → slice_get texts n ≡ Some t → P n t) → P (length texts) text
+    → (n : ℕ) (t : List ℕ) → slice_get (texts ++ text ∷ []) n ≡ Some t → P n t
+pushed P [] text all last zero t e = let same : text ≡ t = cc in subst (P 0) same last
+pushed P [] text all last (suc n) t e = absurd cc
+pushed P (x ∷ texts) text all last zero t e = all zero t e
+pushed P (x ∷ texts) text all last (suc n) t e = pushed (λ k. P (suc k)) texts text (λ k. all (suc k)) last n t e
 
-slice_get-seam : {X : Type 0} (xs ys : List X) → slice_get (xs ++ ys) (length xs) ≡ slice_get ys 0
-slice_get-seam [] ys = refl
-slice_get-seam (x ∷ xs) ys = slice_get-seam xs ys
+one_text : (args : List Value) → kinds_of args ≡ kind.Str ∷ [] → (text : List ℕ) × (args ≡ Str text ∷ [])
+one_text [] e = absurd cc
+one_text (Str text ∷ []) e = (text, refl)
+one_text (Int n ∷ args) e = absurd cc
+one_text (Key k ∷ args) e = absurd cc
+one_text (ListValue l ∷ args) e = absurd cc
+one_text (Str text ∷ v ∷ args) e = absurd cc
 
-saying_code-append : (said left : List (List ℕ)) → saying_code (said ++ left) ≡ saying_code said ++ saying_code left
-saying_code-append [] left = refl
-saying_code-append (text ∷ said) left = ap (λ z. Str text ∷ Host calls.OwnerSay ∷ z) (saying_code-append said left)
+module _ (p : Program) (bodies : List Body) (ticks : ℕ) (old new : State) (before now : List ℕ) (course : Course p bodies ticks old before now) where
+  -- what comes of the program behind the answers so far
+  comes : (h : Halt) → GoesOn bodies old h new → h ≢ halt.NoMemory
+      → entry_whole p ticks (answers (length course.texts)) ≡ whole_behind bodies h new 0 []
+  comes h on lacks =
+      let none : ticks ≡ ticks + 0 = omega arith in
+      ap₂ (λ t a. entry_whole p t a) none (sym (append-nil (answers (length course.texts))))
+      ∙ course.goes 0 [] ∙ on lacks 0 []
 
-pub handler_code-split : (said left : List (List ℕ)) → handler_code (said ++ left) ≡ said_code said ++ (saying_code left ++ Return ∷ [])
-handler_code-split said left = ap (λ z. Tick 0 ∷ z ++ Return ∷ []) (saying_code-append said left) ∙ append_assoc (said_code said) (saying_code left) (Return ∷ [])
+  -- a tick was reached, and may be passed
+  pub Course-tick : GoesOn bodies old halt.AtTick new → new.standing ≡ standing.AtTick → Course p bodies (ticks + 1) new before now
+  Course-tick on stands = record {
+    texts = course.texts;
+    asked = course.asked;
+    goes = λ more given.
+        let one : ticks + 1 + more ≡ ticks + (1 + more) = omega arith in
+        ap (λ t. entry_whole p t (answers (length course.texts) ++ given)) one
+        ∙ course.goes (1 + more) given ∙ on (λ e. absurd cc) (1 + more) given
+        ∙ ap (λ s. whole_from bodies new (ticks_passed s + more) given) (sym stands);
+    written = course.written;
+  }
 
-step_is : (bodies : List Body) (texts : List (List ℕ)) (instr : Instr) (place : ℕ) (operands : List Value) → bodies ≡ handler_body texts ∷ [] → slice_get (handler_code texts) place ≡ Some instr → step_of bodies (at place operands) ≡ performed instr [] (call_at place operands) []
-step_is bodies texts instr place operands only here =
-    ap (λ z. step_of z (at place operands)) only ∙ ap (λ z. step_at z [] (call_at place operands) []) here
-
-module _ (bodies : List Body) (texts : List (List ℕ)) (only : bodies ≡ handler_body texts ∷ []) where
-  -- the first instruction is a tick
-  pub step_at_tick : step_of bodies (at 0 []) ≡ Halts
-  step_at_tick = step_is bodies texts (Tick 0) 0 [] only refl
-
-  module _ (said : List (List ℕ)) where
-    step_push : (text : List ℕ) (left : List (List ℕ)) → texts ≡ said ++ text ∷ left → step_of bodies (at (length (said_code said)) []) ≡ Goes (at (length (said_code said) + 1) (values.Str text ∷ []))
-    step_push text left all =
-        step_is bodies texts (Str text) (length (said_code said)) [] only
-        (ap (λ z. slice_get z (length (said_code said))) (ap handler_code all ∙ handler_code-split said (text ∷ left))
-        ∙ slice_get-seam (said_code said) (saying_code (text ∷ left) ++ Return ∷ []))
-
-    step_ask : (text : List ℕ) (left : List (List ℕ)) → texts ≡ said ++ text ∷ left → step_of bodies (at (length (said_code said) + 1) (values.Str text ∷ [])) ≡ Asks calls.OwnerSay (values.Str text ∷ []) (at (length (said_code said) + 1 + 1) [])
-    step_ask text left all =
-        let rest : List Instr = saying_code left ++ Return ∷ [] in
-        let front : List Instr = said_code said ++ Str text ∷ [] in
-        let len : length front ≡ length (said_code said) + 1 = length-append (said_code said) (Str text ∷ []) in
-        let code : handler_code texts ≡ front ++ Host calls.OwnerSay ∷ rest =
-        ap handler_code all ∙ handler_code-split said (text ∷ left) ∙ sym (append_assoc (said_code said) (Str text ∷ []) (Host calls.OwnerSay ∷ rest)) in
-        step_is bodies texts (Host calls.OwnerSay) (length (said_code said) + 1) (values.Str text ∷ []) only
-        (ap (λ z. slice_get z (length (said_code said) + 1)) code ∙ ap (λ n. slice_get (front ++ Host calls.OwnerSay ∷ rest) n) (sym len) ∙ slice_get-seam front (Host calls.OwnerSay ∷ rest))
-
-    step_return : texts ≡ said → step_of bodies (at (length (said_code said)) []) ≡ Ends outcomes.Return
-    step_return all =
-        step_is bodies texts Return (length (said_code said)) [] only
-        (ap (λ z. slice_get (handler_code z) (length (said_code said))) all ∙ slice_get-seam (said_code said) (Return ∷ []))
-
--- a machine whose next instruction doesn't go on stays
-pub Reaches-stop : (bodies : List Body) (count : ℕ) (first mid : Plain) (s : Stepped) → step_of bodies first ≡ s → ((m : Plain) → s ≡ Goes m → ⊥) → Reaches bodies count first mid → mid ≡ first
-Reaches-stop bodies zero first mid s is stops r = r
-Reaches-stop bodies (suc count) first mid s is stops r = absurd (stops r.0 (sym is ∙ r.1))
-
-Goes-same : (a b : Plain) → Goes a ≡ Goes b → a ≡ b
-Goes-same a b e = cc
-
--- a machine whose next instruction goes on to one that stays
-Reaches-next : (bodies : List Body) (count : ℕ) (first second mid : Plain) (s : Stepped) → step_of bodies first ≡ Goes second → step_of bodies second ≡ s → ((m : Plain) → s ≡ Goes m → ⊥) → Reaches bodies count first mid → (mid ≡ first) ⊎ (mid ≡ second)
-Reaches-next bodies zero first second mid s goes is stops r = inl r
-Reaches-next bodies (suc count) first second mid s goes is stops r =
-    let same = Goes-same r.0 second (sym r.1 ∙ goes) in
-    inr (Reaches-stop bodies count r.0 mid s (ap (step_of bodies) same ∙ is) stops r.2 ∙ same)
-
--- where a run begins once these texts were said
-pub data Where : State → List (List ℕ) → Type 0 where
-  begun : {s : State} → s.plain ≡ at 0 [] → s.standing ≡ Ready → Where s []
-  ticking : {s : State} → s.plain ≡ at 0 [] → s.standing ≡ AtTick → Where s []
-  going : {s : State} {said : List (List ℕ)} → s.plain ≡ at (length (said_code said)) [] → s.standing ≡ Ready → Where s said
-
-module _ (bodies : List Body) (texts : List (List ℕ)) (only : bodies ≡ handler_body texts ∷ []) where
-  -- what is said next, where the run asks
-  pub record Said (said : List (List ℕ)) (left : List (List ℕ)) (call : Call) (new : State) : Type 0 where
+  -- what is asked for is that a text is said
+  pub record Asked (call : Call) : Type 0 where
     pub text : List ℕ
-    pub rest : List (List ℕ)
-    pub left_is : left ≡ text ∷ rest
-    pub args : call.args ≡ values.Str text ∷ []
-    pub plain : new.plain ≡ at (length (said_code said) + 1 + 1) []
-    pub standing : new.standing ≡ Asking calls.OwnerSay
+    pub id : call.id ≡ OwnerSay
+    pub args : call.args ≡ Str text ∷ []
+    pub whole : whole_after p (length course.texts) ≡ whole.Asks OwnerSay (Str text ∷ [])
 
-  ask_from_text : (said : List (List ℕ)) (text : List ℕ) (rest : List (List ℕ)) (call : Call) (new : State) → texts ≡ said ++ text ∷ rest → ComesTo bodies (at (length (said_code said)) []) (halts.Asks call) new → Said said (text ∷ rest) call new
-  ask_from_text said text rest call new all run =
-      let goes = step_push bodies texts only said text rest all in
-      let asks = step_ask bodies texts only said text rest all in
-      let is : Asks calls.OwnerSay (values.Str text ∷ []) (at (length (said_code said) + 1 + 1) []) ≡ Asks call.id call.args new.plain =
-      elim (Reaches-next bodies run.1.steps (at (length (said_code said)) []) _ run.0 _ goes asks (λ m e. cc) run.1.reached) [
-        | inl e ↦ absurd (let f : Goes (at (length (said_code said) + 1) (values.Str text ∷ [])) ≡ Asks call.id call.args new.plain = sym goes ∙ ap (step_of bodies) (sym e) ∙ run.2 in cc)
-        | inr e ↦ sym asks ∙ ap (step_of bodies) (sym e) ∙ run.2
-      ] in
-      record { text = text; rest = rest; left_is = refl; args = cc; plain = cc; standing = run.3 ∙ ap Asking (sym (let i : calls.OwnerSay ≡ call.id = cc in i)) }
+  module _ (built : is_built p ≡ true) (within : ticks ≤ most_ticks) (call : Call) (on : GoesOn bodies old (halt.Asks call) new) where
+    pub asked_text : IsAsked (halt.Asks call) → Asked call
+    asked_text asked =
+        let here : entry_whole p ticks (answers (length course.texts)) ≡ whole.Asks call.id call.args = comes (halt.Asks call) on (λ e. absurd cc) in
+        let says : call.id ≡ OwnerSay =
+        asks_owner_say p built (length p.functions) (initial_kept p) [] ticks (answers (length course.texts)) call.id call.args here in
+        let one = one_text call.args (asked.1 ∙ ap (λ id. (row_of id).params) says) in
+        record {
+          text = one.0;
+          id = says;
+          args = one.1;
+          whole = with_more p ticks most_ticks (answers (length course.texts)) (whole.Asks OwnerSay (Str one.0 ∷ [])) within
+              (here ∙ ap₂ (λ i a. whole.Asks i a) says one.1) (λ calls e. absurd cc);
+        }
 
-  ask_from_end : (said : List (List ℕ)) (call : Call) (new : State) → texts ≡ said → ComesTo bodies (at (length (said_code said)) []) (halts.Asks call) new → ⊥
-  ask_from_end said call new all run =
-      let ends = step_return bodies texts only said all in
-      let e = Reaches-stop bodies run.1.steps (at (length (said_code said)) []) run.0 _ ends (λ m e. cc) run.1.reached in
-      let f : Ends outcomes.Return ≡ Asks call.id call.args new.plain = sym ends ∙ ap (step_of bodies) (sym e) ∙ run.2 in
-      cc
+    -- it was said, and answered with nothing
+    pub Course-said : (a : Asked call) (answered : State) (after : List ℕ)
+        → ((t : ℕ) (more : List Reply) → whole_from bodies new t (reply.Value None ∷ more) ≡ whole_from bodies answered t more)
+        → ticks_passed answered.standing ≡ 0 → after ≡ now ++ owner_line a.text → Course p bodies ticks answered before after
+    Course-said a answered after received passes wrote =
+        let one : length (course.texts ++ a.text ∷ []) ≡ suc (length course.texts) =
+        length-append course.texts (a.text ∷ []) ∙ omega arith in
+        record {
+          texts = course.texts ++ a.text ∷ [];
+          asked = pushed (λ n t. whole_after p n ≡ whole.Asks OwnerSay (Str t ∷ [])) course.texts a.text course.asked a.whole;
+          goes = λ more given.
+              ap (λ n. entry_whole p (ticks + more) (answers n ++ given)) one
+              ∙ ap (λ l. entry_whole p (ticks + more) l) (sym (answers-more (length course.texts) given))
+              ∙ course.goes more (reply.Value None ∷ given) ∙ on (λ e. absurd cc) more (reply.Value None ∷ given)
+              ∙ received more given ∙ ap (λ t. whole_from bodies answered t given) (none passes more);
+          written = wrote ∙ ap (λ l. l ++ owner_line a.text) course.written ∙ flat_map_more owner_line before course.texts a.text;
+        }
+      where
+        none : {n : ℕ} → n ≡ 0 → (more : ℕ) → more ≡ n + more
+        none e more = omega (arith, e)
 
-  ask_from_tick : (call : Call) (new : State) → ComesTo bodies (at 0 []) (halts.Asks call) new → ⊥
-  ask_from_tick call new run =
-      let halts = step_at_tick bodies texts only in
-      let e = Reaches-stop bodies run.1.steps (at 0 []) run.0 _ halts (λ m e. cc) run.1.reached in
-      let f : Halts ≡ Asks call.id call.args new.plain = sym halts ∙ ap (step_of bodies) (sym e) ∙ run.2 in
-      cc
+  -- the run comes to this, which has these lines
+  ended_with : (w : Whole) (end after : List ℕ) → entry_whole p most_ticks (answers (length course.texts)) ≡ w → ending w ≡ Some end
+      → after ≡ now ++ end → HasRun p before after
+  ended_with w end after e lines wrote = record {
+    texts = course.texts;
+    last = w;
+    end = end;
+    says = record { asks = course.asked; ends = e };
+    ended = lines;
+    written = wrote ∙ ap (λ l. l ++ end) course.written ∙ append_assoc before (flat_map owner_line course.texts) end;
+  }
 
-  tick_from_text : (said : List (List ℕ)) (text : List ℕ) (rest : List (List ℕ)) (new : State) → texts ≡ said ++ text ∷ rest → ComesTo bodies (at (length (said_code said)) []) halts.AtTick new → ⊥
-  tick_from_text said text rest new all run =
-      let goes = step_push bodies texts only said text rest all in
-      let asks = step_ask bodies texts only said text rest all in
-      elim (Reaches-next bodies run.0.steps (at (length (said_code said)) []) _ new.plain _ goes asks (λ m e. cc) run.0.reached) [
-        | inl e ↦ let f : Goes (at (length (said_code said) + 1) (values.Str text ∷ [])) ≡ Halts = sym goes ∙ ap (step_of bodies) (sym e) ∙ run.1 in cc
-        | inr e ↦ let f : Asks calls.OwnerSay (values.Str text ∷ []) (at (length (said_code said) + 1 + 1) []) ≡ Halts = sym asks ∙ ap (step_of bodies) (sym e) ∙ run.1 in cc
-      ]
+  pub HasRun-ended : ticks ≤ most_ticks → (way : Outcome) → GoesOn bodies old (halt.Ended way) new
+      → (after : List ℕ) → after ≡ now ++ done_line new.machine.kept → HasRun p before after
+  HasRun-ended within way on after wrote =
+      ended_with (whole.Ends way new.machine.kept) (done_line new.machine.kept) after
+      (with_more p ticks most_ticks (answers (length course.texts)) (whole.Ends way new.machine.kept) within
+      (comes (halt.Ended way) on (λ e. absurd cc)) (λ calls e. absurd cc))
+      refl wrote
 
-  tick_from_end : (said : List (List ℕ)) (new : State) → texts ≡ said → ComesTo bodies (at (length (said_code said)) []) halts.AtTick new → ⊥
-  tick_from_end said new all run =
-      let ends = step_return bodies texts only said all in
-      let e = Reaches-stop bodies run.0.steps (at (length (said_code said)) []) new.plain _ ends (λ m e. cc) run.0.reached in
-      let f : Ends outcomes.Return ≡ Halts = sym ends ∙ ap (step_of bodies) (sym e) ∙ run.1 in
-      cc
+  pub HasRun-faulted : ticks ≤ most_ticks → (fault : Fault) → GoesOn bodies old (halt.Faulted fault) new
+      → (after : List ℕ) → after ≡ now ++ fault_line fault → HasRun p before after
+  HasRun-faulted within fault on after wrote =
+      ended_with (whole.Fails fault) (fault_line fault) after
+      (with_more p ticks most_ticks (answers (length course.texts)) (whole.Fails fault) within
+      (comes (halt.Faulted fault) on (λ e. absurd cc)) (λ calls e. absurd cc))
+      refl wrote
 
-  end_from_text : (said : List (List ℕ)) (text : List ℕ) (rest : List (List ℕ)) (outcome : Outcome) (new : State) → texts ≡ said ++ text ∷ rest → ComesTo bodies (at (length (said_code said)) []) (halts.Ended outcome) new → ⊥
-  end_from_text said text rest outcome new all run =
-      let goes = step_push bodies texts only said text rest all in
-      let asks = step_ask bodies texts only said text rest all in
-      elim (Reaches-next bodies run.0.steps (at (length (said_code said)) []) _ new.plain _ goes asks (λ m e. cc) run.0.reached) [
-        | inl e ↦ let f : Goes (at (length (said_code said) + 1) (values.Str text ∷ [])) ≡ Ends outcome = sym goes ∙ ap (step_of bodies) (sym e) ∙ run.1 in cc
-        | inr e ↦ let f : Asks calls.OwnerSay (values.Str text ∷ []) (at (length (said_code said) + 1 + 1) []) ≡ Ends outcome = sym asks ∙ ap (step_of bodies) (sym e) ∙ run.1 in cc
-      ]
+  pub HasRun-cut : ticks ≡ most_ticks → GoesOn bodies old halt.AtTick new → IsCut bodies new → HasRun p before now
+  HasRun-cut all on cut =
+      ended_with (whole.Cut (active_calls bodies new.machine.calls)) [] now
+      (ap (λ t. entry_whole p t (answers (length course.texts))) (sym all) ∙ comes halt.AtTick on (λ e. absurd cc) ∙ cut)
+      refl (sym (append-nil now))
 
-  end_from_tick : (outcome : Outcome) (new : State) → ComesTo bodies (at 0 []) (halts.Ended outcome) new → ⊥
-  end_from_tick outcome new run =
-      let stays = step_at_tick bodies texts only in
-      let e = Reaches-stop bodies run.0.steps (at 0 []) new.plain _ stays (λ m e. cc) run.0.reached in
-      let f : Halts ≡ Ends outcome = sym stays ∙ ap (step_of bodies) (sym e) ∙ run.1 in
-      cc
+-- what is returned with a result that may lack memory
+pub on_ok : {A E : Type 0} (r : Result A E) (P Q : Type 0) → OnOk r P → (P → Q) → OnOk r Q
+on_ok (Ok a) P Q h f = f h
+on_ok (Err e) P Q h f = tt
 
-  -- where the next instruction is
-  abbrev pub Start : State → List (List ℕ) → Type 0
-  Start state said = ((started state.standing state.plain ≡ at 0 []) × (said ≡ [])) ⊎ (started state.standing state.plain ≡ at (length (said_code said)) [])
+-- a line more is written
+pub smaller_said : (ticks a b : ℕ) (old new text : List ℕ) → new ≡ old ++ owner_line text → a ≡ length old → b ≡ length new → b < 18446744073709551616
+    → ticks * 18446744073709551616 + (18446744073709551615 - b) < ticks * 18446744073709551616 + (18446744073709551615 - a)
+smaller_said ticks a b old new text wrote la lb fits =
+    let e = ap length wrote ∙ length-append old (owner_line text) in
+    let f = length-append (codes "owner 1 " ++ quoted (encode_utf8_all (cut_text text))) (10 ∷ []) in
+    omega (arith, e, f, la, lb)
 
-  pub start_of : (state : State) (said : List (List ℕ)) → Where state said → Start state said
-  start_of state [] (begun plain standing) = inl (ap (λ z. started z state.plain) standing ∙ plain, refl)
-  start_of state [] (ticking plain standing) = inr (ap (λ z. started z state.plain) standing ∙ ap (λ z. started AtTick z) plain)
-  start_of state said (going plain standing) = inr (ap (λ z. started z state.plain) standing ∙ plain)
-
-  pub ask_at : (state new : State) (said left : List (List ℕ)) (call : Call) → texts ≡ said ++ left → Start state said → ComesTo bodies (started state.standing state.plain) (halts.Asks call) new → Said said left call new
-  ask_at state new said left call all (inl first) run =
-      absurd (ask_from_tick call new (subst (λ z. ComesTo bodies z (halts.Asks call) new) first.0 run))
-  ask_at state new said [] call all (inr first) run =
-      absurd (ask_from_end said call new (all ∙ append-nil said) (subst (λ z. ComesTo bodies z (halts.Asks call) new) first run))
-  ask_at state new said (text ∷ left) call all (inr first) run =
-      ask_from_text said text left call new all (subst (λ z. ComesTo bodies z (halts.Asks call) new) first run)
-
-  pub end_at : (state new : State) (said left : List (List ℕ)) (outcome : Outcome) → texts ≡ said ++ left → Start state said → ComesTo bodies (started state.standing state.plain) (halts.Ended outcome) new → left ≡ []
-  end_at state new said left outcome all (inl first) run =
-      absurd (end_from_tick outcome new (subst (λ z. ComesTo bodies z (halts.Ended outcome) new) first.0 run))
-  end_at state new said [] outcome all (inr first) run = refl
-  end_at state new said (text ∷ left) outcome all (inr first) run =
-      absurd (end_from_text said text left outcome new all (subst (λ z. ComesTo bodies z (halts.Ended outcome) new) first run))
-
-  pub never_ticks : (state new : State) (said left : List (List ℕ)) → texts ≡ said ++ left → started state.standing state.plain ≡ at (length (said_code said)) [] → ComesTo bodies (started state.standing state.plain) halts.AtTick new → ⊥
-  never_ticks state new said [] all first run = tick_from_end said new (all ∙ append-nil said) (subst (λ z. ComesTo bodies z halts.AtTick new) first run)
-  never_ticks state new said (text ∷ left) all first run = tick_from_text said text left new all (subst (λ z. ComesTo bodies z halts.AtTick new) first run)
-
-pub said_code-push : (said : List (List ℕ)) (text : List ℕ) → length (said_code (said ++ text ∷ [])) ≡ length (said_code said) + 1 + 1
-said_code-push said text =
-    ap (λ z. length (Tick 0 ∷ z)) (saying_code-append said (text ∷ []))
-    ∙ length-append (said_code said) (Str text ∷ Host calls.OwnerSay ∷ [])
-    ∙ omega arith
+-- the lines of a run between its first line and its home
+pub IsJournal-from_run : (p : Program) (start first now out : List ℕ) → start ≡ [] → first ≡ start ++ line (codes "took 1 state_entry") → HasRun p first now
+    → out ≡ now ++ line (codes "home 1 " ++ quoted (codes "here")) → IsJournal p out
+IsJournal-from_run p start first now out empty took run home =
+    let said = flat_map owner_line run.texts in
+    let tail = line (codes "home 1 " ++ quoted (codes "here")) in
+    let head = line (codes "took 1 state_entry") in
+    record {
+      texts = run.texts;
+      last = run.last;
+      end = run.end;
+      says = run.says;
+      ended = run.ended;
+      lines_are = home ∙ ap (λ l. l ++ tail) (run.written ∙ ap (λ l. l ++ (said ++ run.end)) (took ∙ ap (λ l. l ++ head) empty))
+          ∙ append_assoc head (said ++ run.end) tail ∙ ap (λ l. head ++ l) (append_assoc said run.end tail);
+    }

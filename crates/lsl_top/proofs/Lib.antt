@@ -1,7 +1,8 @@
 pub mod Accepted
-pub mod Forms
-pub mod Programs
+pub mod BuiltSteps
 pub mod Courses
-pub mod Halting
+pub mod Cuts
+pub mod Entries
+pub mod Only
+pub mod OnlySays
 pub mod Promises
-pub mod Reports

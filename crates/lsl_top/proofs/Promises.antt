@@ -8,17 +8,16 @@ use Rattle.lsl_lex.specs.Lexed.{LexFirst, IsFirstFault}
 use Rattle.lsl_lex.specs.declared.faults.LexFault.{LexFault}
 use Rattle.lsl_lex.specs.declared.faults.LexKind.{LexKind}
 use Rattle.lsl_lex.specs.declared.faults.LexKind.TheVariants.{NotText, StringEnd, CommentEnd, FloatLiteral, StrayCharacter, TextTooLong}
-use Rattle.lsl_top.specs.declared.build_fault.BuildFault.{BuildFault}
+use Rattle.lsl_build.specs.declared.faults.BuildFault.{BuildFault}
 use Rattle.lsl_top.specs.declared.status.Status.{Status}
 use Rattle.lsl_top.specs.declared.status.Status.TheVariants.{Ok, Usage, BadWorld, BadScript, ReadFault, WriteFault, BadImage, NoMemory}
 use Rattle.lsl_tree.specs.Scripts.{Tree}
 use Rattle.lsl_tree.specs.Program.{Program}
-use Rattle.lsl_top.specs.Accepted.{IsAccepted}
+use Rattle.lsl_build.specs.Accepted.{IsAccepted}
 use Rattle.lsl_top.specs.Answer.{IsReport, IsFault, IsRefusal, Wrote}
-use Rattle.lsl_top.specs.Faults.{FirstFault}
+use Rattle.lsl_build.specs.Faults.{FirstFault}
 use Rattle.lsl_top.specs.Promise.{ReportIn, FaultIn, Reports, Refuses, OutputOf, Runs}
 use Rattle.lsl_top.specs.Words.{Command, Once, Check, file_of}
-use Rattle.lsl_top.proofs.Forms.{AreLiterals-from_says}
 
 -- a head that is short is the file
 head_whole : (file : List ℕ) → length (head_of 65536 file) ≤ 65536 → head_of 65536 file ≡ file
@@ -34,7 +33,7 @@ accepted_whole : (file : List ℕ) (script : Tree) (program : Program) → IsAcc
 accepted_whole file script program accepted = head_whole file accepted.lexed.source.short
 
 report_whole : (command : Command) (file lines : List ℕ) → IsReport command (head_of 65536 file) lines → head_of 65536 file ≡ file
-report_whole (Once name) file lines (texts, says, same) = accepted_whole file says.script says.program says.accepted
+report_whole (Once name) file lines (program, accepted, built, journal) = accepted_whole file accepted.0 program accepted.1
 report_whole (Check name) file lines (program, accepted, same) = accepted_whole file accepted.0 program accepted.1
 
 report_in : (file : Option (List ℕ)) (command : Command) (head lines : List ℕ) → IsHeadOf 65536 file head → IsReport command head lines → ReportIn file command lines
@@ -61,7 +60,7 @@ long_first head file fault many long (inr (inr s)) = absurd (omega (arith, s.lex
 
 long_refusal : (command : Command) (head file : List ℕ) (fault : BuildFault) → 65536 < length head → 65536 < length file → IsFault command head fault → IsFault command file fault
 long_refusal (Once name) head file fault many long (inl first) = inl (long_first head file fault many long first)
-long_refusal (Once name) head file fault many long (inr outside) = absurd (omega (arith, outside.accepted.lexed.source.short))
+long_refusal (Once name) head file fault many long (inr outside) = absurd (omega (arith, outside.accepted.1.lexed.source.short))
 long_refusal (Check name) head file fault many long first = long_first head file fault many long first
 
 fault_in : (file : Option (List ℕ)) (command : Command) (head : List ℕ) (fault : BuildFault) → IsHeadOf 65536 file head → IsFault command head fault → FaultIn file command fault
@@ -72,7 +71,7 @@ fault_in (Some file) command head fault h refused = elim (cases_lt 65536 (length
 ]
 
 reports : (held : Option Files) (command : Command) (head lines : List ℕ) → IsHead held (file_of command) 65536 head → IsReport command head lines → Reports held command lines
-reports None (Once name) head lines h (texts, says, same) = (texts, AreLiterals-from_says head texts says, same)
+reports None (Once name) head lines h (program, accepted, built, journal) = (program, built, journal)
 reports None (Check name) head lines h (program, accepted, same) = same
 reports (Some files) command head lines h report = report_in (files (file_of command)) command head lines h report
 

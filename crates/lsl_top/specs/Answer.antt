@@ -1,19 +1,20 @@
 -- What is written for a file that was read.
-use Rattle.std.specs.Prelude.{◌≡◌, ℕ, ◌⊎◌, List, Option}
+use Rattle.std.specs.Prelude.{◌≡◌, true, ℕ, ◌⊎◌, List, Option}
 use Rattle.lsl_ports.specs.Sink.{Grew, GrewByPrefix}
 use Rattle.lsl_tree.specs.Program.{Program}
 use Rattle.lsl_top.specs.declared.status.Status.{Status}
 use Rattle.lsl_top.specs.declared.status.Status.TheVariants.{Ok, Usage, BadWorld, BadScript, ReadFault, WriteFault, BadImage, NoMemory}
-use Rattle.lsl_top.specs.declared.build_fault.BuildFault.{BuildFault}
-use Rattle.lsl_top.specs.Accepted.{Accepted}
-use Rattle.lsl_top.specs.Faults.{FirstFault, IsOutside}
-use Rattle.lsl_top.specs.Form.{Says}
-use Rattle.lsl_top.specs.Journal.{report_of, accepted_line, refusal_of}
+use Rattle.lsl_build.specs.declared.faults.BuildFault.{BuildFault}
+use Rattle.lsl_build.specs.Accepted.{Accepted}
+use Rattle.lsl_build.specs.Faults.{FirstFault}
+use Rattle.lsl_top.specs.Faults.{IsOutside}
+use Rattle.lsl_top.specs.Built.{is_built}
+use Rattle.lsl_top.specs.Journal.{IsJournal, accepted_line, refusal_of}
 use Rattle.lsl_top.specs.Words.{Command, Once, Check, file_of}
 
 -- the command does what it is for with the file, and these lines are its report
 abbrev pub IsReport : Command → List ℕ → List ℕ → Type 0
-IsReport (Once name) file lines = (texts : List (List ℕ)) × Says file texts × (lines ≡ report_of texts)
+IsReport (Once name) file lines = (program : Program) × Accepted file program × (is_built program ≡ true) × IsJournal program lines
 IsReport (Check name) file lines = (program : Program) × Accepted file program × (lines ≡ accepted_line name)
 
 -- the command refuses the file for this fault: its first, or for a run that it is outside the built part

@@ -1,82 +1,17 @@
--- The first fault of a file: a lexical one, else a syntax fault, else one of names and kinds. A run of an accepted script that is outside the
--- built part has fault 90 at its start.
-use Rattle.std.specs.Prelude.{◌≡◌, ℕ, List, ◌⊎◌}
-use Rattle.lsl_text.specs.declared.Refusal.{Refusal}
-use Rattle.lsl_text.specs.declared.Refusal.TheVariants as refusals
-use Rattle.lsl_lex.specs.Lexed.{Lexes, LexFirst}
-use Rattle.lsl_lex.specs.declared.faults.LexFault.{LexFault}
-use Rattle.lsl_lex.specs.declared.faults.LexKind.{LexKind}
-use Rattle.lsl_lex.specs.declared.faults.LexKind.TheVariants.{NotText, StringEnd, CommentEnd, FloatLiteral, StrayCharacter, TextTooLong}
-use Rattle.lsl_lex.specs.declared.token_types.Tokens.{Tokens}
-use Rattle.lsl_tree.specs.Scripts.{Tree}
+-- What a run answers of an accepted script that is outside the built part.
+use Rattle.std.specs.Prelude.{◌≡◌, false, ℕ, List}
 use Rattle.lsl_tree.specs.Program.{Program}
-use Rattle.lsl_parse.specs.Faults.{Derives, IsFirst}
-use Rattle.lsl_parse.specs.FaultNumbers.{number_of}
-use Rattle.lsl_parse.specs.declared.fault.ParseFault.{ParseFault}
-use Rattle.lsl_type.specs.Typed.{TypeFirst}
-use Rattle.lsl_type.specs.FaultNumbers.{number_of as semantic_number_of}
-use Rattle.lsl_type.specs.declared.faults.TypeFault.{TypeFault}
-use Rattle.lsl_top.specs.declared.build_fault.BuildFault.{BuildFault}
-use Rattle.lsl_top.specs.Accepted.{IsAccepted}
-use Rattle.lsl_top.specs.Form.{HasNoForm}
+use Rattle.lsl_build.specs.Accepted.{Accepted}
+use Rattle.lsl_build.specs.declared.faults.BuildFault.{BuildFault}
+use Rattle.lsl_top.specs.Built.{is_built}
 
--- what a run of a script outside the built part answers, at the script's start
+-- fault 90, at the script's start
 abbrev pub outside_fault : BuildFault
 outside_fault = record { number = 90; span = record { start = 0; end = 0; line = 1; col = 1 } }
 
-abbrev pub lexical_number_of : LexKind → ℕ
-lexical_number_of NotText = 1
-lexical_number_of StringEnd = 2
-lexical_number_of CommentEnd = 3
-lexical_number_of FloatLiteral = 4
-lexical_number_of StrayCharacter = 5
-lexical_number_of TextTooLong = 6
-
-abbrev pub lexical_fault_of : LexFault → BuildFault
-lexical_fault_of fault = record { number = lexical_number_of fault.kind; span = fault.span }
-
-abbrev pub syntax_fault_of : ParseFault → BuildFault
-syntax_fault_of fault = record { number = number_of fault.kind; span = fault.span }
-
-abbrev pub semantic_fault_of : TypeFault → BuildFault
-semantic_fault_of fault = record { number = semantic_number_of fault.kind; span = fault.span }
-
--- a refusal with another fault in it
-abbrev pub refused_with : {F : Type 0} → (F → BuildFault) → Refusal F → Refusal BuildFault
-refused_with seen (refusals.Fault fault) = refusals.Fault (seen fault)
-refused_with seen refusals.NoMemory = refusals.NoMemory
-
--- the file's first lexical fault
-pub record IsLexical (file : List ℕ) (fault : BuildFault) : Type 0 where
-  pub lexical : LexFault
-  pub first : LexFirst file lexical
-  pub fault_is : fault ≡ lexical_fault_of lexical
-
--- the first syntax fault of the file's tokens
-pub record IsSyntactic (file : List ℕ) (fault : BuildFault) : Type 0 where
-  pub tokens : Tokens
-  pub lexed : Lexes file tokens
-  pub syntactic : ParseFault
-  pub first : IsFirst tokens.list tokens.end syntactic
-  pub fault_is : fault ≡ syntax_fault_of syntactic
-
--- the first fault of names and kinds of the file's script
-pub record IsSemantic (file : List ℕ) (fault : BuildFault) : Type 0 where
-  pub tokens : Tokens
-  pub lexed : Lexes file tokens
-  pub script : Tree
-  pub derived : Derives tokens.list script
-  pub semantic : TypeFault
-  pub first : TypeFirst script semantic
-  pub fault_is : fault ≡ semantic_fault_of semantic
-
-abbrev pub FirstFault : List ℕ → BuildFault → Type 0
-FirstFault file fault = IsLexical file fault ⊎ (IsSyntactic file fault ⊎ IsSemantic file fault)
-
 -- the file is accepted, and outside the built part
 pub record IsOutside (file : List ℕ) (fault : BuildFault) : Type 0 where
-  pub script : Tree
   pub program : Program
-  pub accepted : IsAccepted file script program
-  pub formless : HasNoForm script
+  pub accepted : Accepted file program
+  pub outside : is_built program ≡ false
   pub fault_is : fault ≡ outside_fault

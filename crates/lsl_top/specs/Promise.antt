@@ -1,14 +1,14 @@
 -- What a call promises of the words, the shelf and the sink.
-use Rattle.std.specs.Prelude.{◌≡◌, ℕ, ◌⊎◌, List, Option, Some, None}
+use Rattle.std.specs.Prelude.{◌≡◌, true, ℕ, ◌⊎◌, List, Option, Some, None}
 use Rattle.lsl_ports.specs.Counts.{Rose}
 use Rattle.lsl_ports.specs.Shelf.{Files}
 use Rattle.lsl_ports.specs.Sink.{Grew, GrewByPrefix}
 use Rattle.lsl_tree.specs.Program.{Program}
-use Rattle.lsl_top.specs.declared.build_fault.BuildFault.{BuildFault}
-use Rattle.lsl_top.specs.Accepted.{Accepted}
+use Rattle.lsl_build.specs.declared.faults.BuildFault.{BuildFault}
+use Rattle.lsl_build.specs.Accepted.{Accepted}
 use Rattle.lsl_top.specs.Answer.{IsReport, IsFault}
-use Rattle.lsl_top.specs.Form.{Says, AreLiterals}
-use Rattle.lsl_top.specs.Journal.{report_of, accepted_line, refusal_of}
+use Rattle.lsl_top.specs.Built.{is_built}
+use Rattle.lsl_top.specs.Journal.{IsJournal, accepted_line, refusal_of}
 use Rattle.lsl_top.specs.Words.{Command, Once, Check, file_of}
 use Rattle.lsl_top.specs.declared.status.Status.{Status}
 use Rattle.lsl_top.specs.declared.status.Status.TheVariants.{Ok, Usage, BadWorld, BadScript, ReadFault, WriteFault, BadImage, NoMemory}
@@ -24,7 +24,7 @@ FaultIn (Some file) command fault = IsFault command file fault
 
 -- the report of some script
 abbrev pub IsSomeReport : Command → List ℕ → Type 0
-IsSomeReport (Once name) lines = (texts : List (List ℕ)) × AreLiterals texts × (lines ≡ report_of texts)
+IsSomeReport (Once name) lines = (program : Program) × (is_built program ≡ true) × IsJournal program lines
 IsSomeReport (Check name) lines = lines ≡ accepted_line name
 
 -- the command's file is there, and these lines are its report; a shelf that doesn't tell may hold any script
@@ -64,7 +64,7 @@ NamedRose (Some command) old new = Rose (old (file_of command)) (new (file_of co
 
 -- the file is a script for the command: for a run one of the built part, for a check any that is accepted
 abbrev pub IsScript : Command → List ℕ → Type 0
-IsScript (Once name) file = (texts : List (List ℕ)) × Says file texts
+IsScript (Once name) file = (program : Program) × Accepted file program × (is_built program ≡ true)
 IsScript (Check name) file = (program : Program) × Accepted file program
 
 abbrev pub ScriptIn : Option (List ℕ) → Command → Type 0

@@ -8,12 +8,10 @@ ghost use Rattle.lsl_top.specs.Promise.{HasNoScript, HasScript, NamedRose, Write
 ghost use Rattle.lsl_top.specs.Meant.{asked_by};
 ghost use Rattle.lsl_top.specs.Words.{command_of, file_of};
 
-mod build;
-mod build_fault;
+mod built;
+mod chat;
 mod journal;
-mod literal_form;
 mod output;
-mod program;
 mod running;
 mod status;
 mod words;

@@ -1,27 +1,37 @@
 //! What is written for a file, and how that ends.
-ghost use Rattle.std.specs.Prelude.{◌≡◌, ◌≤◌, ℕ, List, IfOk, IsErrOf};
+
+ghost use Rattle.std.specs.Prelude.{◌≡◌, ◌≤◌, false, true, IfOk, IsErrOf};
 ghost use Rattle.lsl_text.specs.declared.Refusal.TheVariants as refusals;
 ghost use Rattle.lsl_ports.specs.Counts.{Rose};
 ghost use Rattle.lsl_ports.specs.Sink.{GrewByPrefix};
-ghost use Rattle.lsl_tree.specs.Scripts.{tree_of};
+ghost use Rattle.lsl_tree.specs.Program.{program_of};
+ghost use Rattle.lsl_build.specs.declared.faults.BuildFault.{BuildFault as Fault};
 ghost use Rattle.lsl_top.specs.Answer.{Answers, IsFault, IsReport, Wrote};
+ghost use Rattle.lsl_top.specs.Built.{is_built as is_built_program};
+ghost use Rattle.lsl_top.specs.Course.{Runs};
 ghost use Rattle.lsl_top.specs.Faults.{outside_fault};
-ghost use Rattle.lsl_top.specs.Form.{HasNoForm, IsForm, utf8_of};
-ghost use Rattle.lsl_top.specs.Journal as journal;
+ghost use Rattle.lsl_top.specs.Journal.{IsJournal};
 ghost use Rattle.lsl_top.specs.Meant.{asked_by};
-ghost use Rattle.lsl_top.specs.declared.build_fault.BuildFault.{BuildFault as Fault};
 
-use crate::build::build;
-use crate::build_fault::{BuildFault, NOT_YET};
+use crate::built::is_built;
 use crate::journal::{acceptance, refusal, run_report};
-use crate::literal_form::texts_of;
-use crate::program::unit_of;
 use crate::status::Status;
 use crate::words::Command;
+use lsl_build::{BuildFault, Built, build};
 use lsl_ports::{Sink, write_all};
-use lsl_text::{NoMemory, Refusal};
-use lsl_tree::Tree;
+use lsl_text::{NoMemory, Refusal, Span};
 use std::alloc::{AllocError, Global};
+
+/// A run of a script that is outside the built part.
+const OUTSIDE: BuildFault = BuildFault {
+    number: 90,
+    span: Span {
+        start: 0,
+        end: 0,
+        line: 1,
+        col: 1,
+    },
+};
 
 /// What is written for a file, and the status where all of it is written.
 #[derive(Debug, Drop)]
@@ -31,17 +41,15 @@ pub struct Output {
 }
 
 /// The report of a run of this script, or fault 90 where it is outside the built part.
-fn run(alloc: Global, tree: &Tree) -> Result<Vec<u8>, Refusal<BuildFault>>
-    ensures ok { IfOk result (λ lines. (said : List (List ℕ)) × IsForm (tree_of tree.now) said × (lines.items ≡ journal.report_of (utf8_of said))) }
-    ensures fault { (fault : Fault) → IsErrOf result (refusals.Fault fault) → HasNoForm (tree_of tree.now) × (fault ≡ outside_fault) }
+fn run(alloc: Global, built: &Built) -> Result<Vec<u8>, Refusal<BuildFault>>
+    requires { Runs (program_of built.now.program) built.now.code }
+    ensures ok { IfOk result (λ lines. (is_built_program (program_of built.now.program) ≡ true) × IsJournal (program_of built.now.program) lines.items) }
+    ensures fault { (fault : Fault) → IsErrOf result (refusals.Fault fault) → (is_built_program (program_of built.now.program) ≡ false) × (fault ≡ outside_fault) }
 {
-    match texts_of(alloc, tree)? {
-        Some(texts) => {
-            let unit = unit_of(alloc, texts)?;
-            Ok(run_report(alloc, &unit)?)
-        }
-        None => Err(Refusal::Fault(NOT_YET)),
+    if !is_built(&built.program) {
+        return Err(Refusal::Fault(OUTSIDE));
     }
+    Ok(run_report(alloc, built)?)
 }
 
 /// The report of a command, or the fault for which it refuses the file.
@@ -55,7 +63,7 @@ fn report_of(
 {
     let built = build(alloc, file)?;
     match command {
-        Command::Once(_) => run(alloc, &built.tree),
+        Command::Once(_) => run(alloc, &built),
         Command::Check(name) => Ok(acceptance(alloc, name)?),
     }
 }

@@ -1,10 +1,20 @@
-use Rattle.std.proofs.Common.{ap}
-use Rattle.lsl_tree.specs.Scripts.{tree_of}
+use Rattle.std.proofs.Common.{ap, sym, subst, inr}
 use Rattle.lsl_tree.specs.Program.{program_of}
+use Rattle.lsl_top.specs.Answer.{IsFault}
+use Rattle.lsl_top.specs.Faults.{IsOutside}
 use Rattle.lsl_top.specs.Meant.{asked_by}
-use Rattle.lsl_top.proofs.Reports.{IsReport-run}
+use Rattle.lsl_top.specs.Words.{Command, Once}
 use Rattle.lsl_top.proofs.output.report_of.Goals as goal
 
-pub returns-in-Once-clause-ok : goal.returns-in-Once-clause-ok
-returns-in-Once-clause-ok c =
-    IsReport-run c.run.result (λ lines. lines.items) (asked_by c.args.command) c.in-Once.field-0.now c.args.file.now (tree_of c.in_ok-built.built.tree) (program_of c.in_ok-built.built.program) (ap asked_by c.in-Once.is) c.in_ok-built.ensures.ok c.run.ensures.ok
+pub returns-in-Once-clause-fault : goal.returns-in-Once-clause-fault
+returns-in-Once-clause-fault c fault is =
+    let file = c.args.file.now in
+    let refused = c.run.ensures.fault fault is in
+    let outside : IsOutside file fault = record {
+      program = program_of c.in_ok-built.built.program;
+      accepted = c.in_ok-built.ensures.found;
+      outside = refused.0;
+      fault_is = refused.1;
+    } in
+    let told : IsFault (Once c.in-Once.field-0.now) file fault = inr outside in
+    subst (λ (command : Command). IsFault command file fault) (sym (ap asked_by c.in-Once.is)) told

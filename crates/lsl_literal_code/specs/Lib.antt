@@ -1,4 +1,0 @@
-pub mod Bodies
-pub mod HostRow
-pub mod Kinds
-pub mod Machine

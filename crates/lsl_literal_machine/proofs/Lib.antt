@@ -1,4 +1,0 @@
-pub mod Entry
-pub mod Fitting
-pub mod Moves
-pub mod Runs
