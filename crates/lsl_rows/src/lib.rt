@@ -14,4 +14,6 @@ mod printed;
 #[cfg(test)]
 mod programs;
 #[cfg(test)]
+mod runs;
+#[cfg(test)]
 mod scripts;

@@ -1,4 +1,4 @@
-//! `once FILE` on scripts that say literal texts, and on other texts.
+//! `once FILE` on scripts that say literal texts, and on texts that are refused.
 
 use crate::outside::{Outside, call, refusal_line};
 use crate::scripts::{long_script, many_semicolons, nested_blocks};
@@ -9,8 +9,6 @@ use std::test::Fail;
 const LITERAL: &[u8] = b"default{state_entry(){llOwnerSay(\"hi\");}}";
 
 const LITERAL_REPORT: &[u8] = b"took 1 state_entry\nowner 1 \"hi\"\ndone 1 1024\nhome 1 \"here\"\n";
-
-const NOT_BUILT: &[u8] = b"bad script \"s.lsl\" 1:1 fault 90\n";
 
 #[test]
 fn scripts_that_say_texts(rt: HostRuntime) -> Result<(), Fail> {
@@ -65,8 +63,12 @@ fn refused_scripts(rt: HostRuntime) -> Result<(), Fail> {
             25,
         ),
         ("default{state_entry(){llOwnerSay(1);}}", "1:34", 22),
-        ("default{state_entry(){llOwnerSay(NULL_KEY);}}", "1:1", 90),
         ("default{state_entry(){llSay(1,\"a\");}}", "1:1", 90),
+        ("f(){llSleep(1);} default{state_entry(){}}", "1:1", 90),
+        ("default{state_entry(){if(llGetUnixTime());}}", "1:1", 90),
+        ("default{state_entry(){llResetScript();}}", "1:1", 90),
+        ("default{state_entry(){}timer(){}}", "1:1", 90),
+        ("default{state_entry(){}}state s{timer(){}}", "1:1", 90),
         ("default{timer(){llOwnerSay(\"a\");}}", "1:1", 90),
         ("default { timer() { llOwnerSay(\"x); } }", "1:32", 2),
         ("/*", "1:1", 3),
@@ -119,7 +121,7 @@ fn every_byte_in_a_literal(rt: HostRuntime) -> Result<(), Fail> {
 #[test]
 fn long_literals_and_files(rt: HostRuntime) -> Result<(), Fail> {
     let alloc = rt.alloc();
-    for (length, written) in [(1023, 1079), (1024, 1080)] {
+    for (length, written) in [(1023, 1079), (1024, 1080), (1025, 1080)] {
         let script = long_script(alloc, length)?;
         let ended = call(alloc, &["once", "s.lsl"], Outside::of(script.as_slice()))?;
         assert_eq!(rt; ended.status, 0, "{length} bytes");
@@ -132,9 +134,7 @@ fn long_literals_and_files(rt: HostRuntime) -> Result<(), Fail> {
     let mut beyond = Vec::from_slice(alloc, LITERAL)?;
     beyond.resize(65_537, b' ')?;
     for (script, place, number) in [
-        (long_script(alloc, 1025)?, "1:1", 90),
         (long_script(alloc, 70_000)?, "1:1", 6),
-        (nested_blocks(alloc, 199)?, "1:1", 90),
         (nested_blocks(alloc, 200)?, "1:222", 13),
         (beyond, "1:1", 6),
         (many_semicolons(alloc, 32_760, b"}}")?, "1:1", 90),

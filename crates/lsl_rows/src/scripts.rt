@@ -35,3 +35,22 @@ pub fn nested_blocks(alloc: Global, count: usize) -> Result<Vec<u8>, AllocError>
     script.extend_from_slice(b"}}")?;
     Ok(script)
 }
+
+/// A script that says a text of so many `x` and this end.
+pub fn said_text(alloc: Global, count: usize, end: &str) -> Result<Vec<u8>, AllocError> {
+    let mut script = Vec::from_slice(alloc, b"default{state_entry(){llOwnerSay(\"")?;
+    push_many(&mut script, b'x', count)?;
+    script.extend_from_slice(end.as_bytes())?;
+    script.extend_from_slice(b"\");}}")?;
+    Ok(script)
+}
+
+/// A script whose handler has so many locals, each an empty list in a block of its own.
+pub fn many_lists(alloc: Global, count: usize) -> Result<Vec<u8>, AllocError> {
+    let mut script = Vec::from_slice(alloc, b"default{state_entry(){return;")?;
+    for _ in 0..count {
+        script.extend_from_slice(b"{list l;}")?;
+    }
+    script.extend_from_slice(b"}}")?;
+    Ok(script)
+}
