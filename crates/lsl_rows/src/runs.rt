@@ -144,14 +144,16 @@ fn endless_loop(rt: HostRuntime) -> Result<(), Fail> {
 
 #[test]
 fn the_last_tick(rt: HostRuntime) -> Result<(), Fail> {
-    let script = "default { state_entry() { integer n; do ; while (++n < 1000000); llOwnerSay((string)n); } }";
+    let script =
+        "default { state_entry() { integer n; do ; while (++n < 1000000); llOwnerSay((string)n); } }";
     assert!(rt; runs(rt.alloc(), script, "owner 1 \"1000000\"\ndone 1 1024\n")?);
     Ok(())
 }
 
 #[test]
 fn one_tick_too_many(rt: HostRuntime) -> Result<(), Fail> {
-    let script = "default { state_entry() { integer n; do ; while (++n < 1000001); llOwnerSay((string)n); } }";
+    let script =
+        "default { state_entry() { integer n; do ; while (++n < 1000001); llOwnerSay((string)n); } }";
     assert!(rt; runs(rt.alloc(), script, "")?);
     Ok(())
 }
@@ -222,6 +224,9 @@ fn the_deepest_blocks(rt: HostRuntime) -> Result<(), Fail> {
         Outside::of(script.as_slice()),
     )?;
     assert_eq!(rt; ended.status, 0);
-    assert_eq!(rt; ended.sunk.as_slice(), b"took 1 state_entry\ndone 1 1024\nhome 1 \"here\"\n".as_slice());
+    assert_eq!(rt;
+        ended.sunk.as_slice(),
+        b"took 1 state_entry\ndone 1 1024\nhome 1 \"here\"\n".as_slice()
+    );
     Ok(())
 }
