@@ -1,7 +1,6 @@
 -- A file that is a script isn't refused, and the other way round.
 use Rattle.std.proofs.Common.{◌≡◌, ℕ, List, Option, Some, None, ◌⊎◌, inl, inr, refl, sym, ap, ◌∙◌, true, false}
 use Rattle.lsl_ports.specs.Shelf.{Files}
-use Rattle.lsl_tree.specs.Program.{Program}
 use Rattle.lsl_build.specs.declared.faults.BuildFault.{BuildFault}
 use Rattle.lsl_build.proofs.Accepted.{accepted-no_fault, one_program}
 use Rattle.lsl_top.specs.declared.status.Status.{Status}

@@ -1,14 +1,11 @@
 -- How a run goes on, from each halt of its machine to the next.
 use Rattle.std.specs.Prelude.{Result, Ok, Err, OnOk}
-use Rattle.std.proofs.Common.{◌≡◌, ◌≢◌, ℕ, zero, suc, ◌+◌, ◌-◌, ◌*◌, ◌<◌, ◌≤◌, List, [], ◌∷◌, ◌++◌, length, true, Option, Some, None, slice_get, flat_map, map, refl, sym, ap, ap₂, ◌∙◌, subst, arith, append-nil, length-append}
+use Rattle.std.proofs.Common.{◌≡◌, ◌≢◌, ℕ, zero, suc, ◌+◌, ◌-◌, ◌*◌, ◌<◌, ◌≤◌, List, [], ◌∷◌, ◌++◌, length, true, Some, None, slice_get, flat_map, refl, sym, ap, ap₂, ◌∙◌, subst, arith, append-nil, length-append}
 use Rattle.std.proofs.lemmas.List.{append_assoc, flat_map_more}
 use Rattle.std.specs.Prelude.{codes}
 use Rattle.std.specs.Str.{encode_utf8_all}
 use Rattle.lsl_text.specs.Quoted.{quoted}
-use Rattle.lsl_value.specs.Values.{kind_of}
-use Rattle.lsl_value.specs.declared.names.BuiltinId.{BuiltinId}
 use Rattle.lsl_value.specs.declared.names.BuiltinId.TheVariants.{OwnerSay}
-use Rattle.lsl_value.specs.declared.tagged.Kind.{Kind}
 use Rattle.lsl_value.specs.declared.tagged.Kind.TheVariants as kind
 use Rattle.lsl_value.specs.declared.tagged.Value.{Value}
 use Rattle.lsl_value.specs.declared.tagged.Value.TheVariants.{Int, Str, Key, List as ListValue}
@@ -33,8 +30,8 @@ use Rattle.lsl_machine.specs.Futures.{whole_from, whole_behind, ticks_passed, Go
 use Rattle.lsl_machine.specs.State.{State}
 use Rattle.lsl_top.specs.Built.{is_built}
 use Rattle.lsl_top.specs.Chat.{cut_text}
-use Rattle.lsl_top.specs.Course.{Course, Goes, HasRun}
-use Rattle.lsl_top.specs.Journal.{IsJournal, Says, line, answers, done_line, ending, entry_whole, fault_line, most_ticks, owner_line, whole_after}
+use Rattle.lsl_top.specs.Course.{Course, HasRun}
+use Rattle.lsl_top.specs.Journal.{IsJournal, line, answers, done_line, ending, entry_whole, fault_line, most_ticks, owner_line, whole_after}
 use Rattle.lsl_top.proofs.OnlySays.{asks_owner_say}
 
 -- one answer more

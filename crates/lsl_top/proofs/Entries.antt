@@ -1,7 +1,7 @@
 -- The beginning of a run.
 use Rattle.std.specs.Prelude.{Result, Ok, Err, IfOk}
 use Rattle.std.specs.List.{All}
-use Rattle.std.proofs.Common.{◌≡◌, ℕ, zero, suc, ◌+◌, List, [], ◌∷◌, ◌++◌, length, true, Option, Some, None, slice_get, refl, sym, ap, ap₂, ◌∙◌, subst, arith, append-nil}
+use Rattle.std.proofs.Common.{◌≡◌, ℕ, ◌+◌, List, [], ◌∷◌, length, true, Some, slice_get, refl, sym, ap, ap₂, ◌∙◌, subst, arith, append-nil}
 use Rattle.std.proofs.lemmas.Bool.{and_parts}
 use Rattle.lsl_value.specs.declared.names.EventId.{EventId}
 use Rattle.lsl_value.specs.declared.names.EventId.TheVariants.{StateEntry}
@@ -9,15 +9,12 @@ use Rattle.lsl_value.specs.declared.tagged.Value.{Value}
 use Rattle.lsl_table.specs.Events.{signature_of}
 use Rattle.lsl_tree.specs.Program.{EventRoutine, ProgramState, Program}
 use Rattle.lsl_running.specs.declared.host.Reply.{Reply}
-use Rattle.lsl_running.specs.Charging.{default_limit}
-use Rattle.lsl_meaning.specs.Globals.{initial_globals, initial_kept}
+use Rattle.lsl_meaning.specs.Globals.{initial_kept}
 use Rattle.lsl_code.specs.declared.units.Unit.{Unit as Code}
-use Rattle.lsl_code.specs.Bodies.{Body}
-use Rattle.lsl_code.specs.Units.{fits_unit, handler_of}
+use Rattle.lsl_code.specs.Units.{handler_of}
 use Rattle.lsl_code.specs.WellFormed.{IsWellFormedState}
 use Rattle.lsl_code.specs.Wholes.{whole_of_unit}
 use Rattle.lsl_code.proofs.UnitTold.{fits_tells}
-use Rattle.lsl_gen.specs.Laws.{Agrees}
 use Rattle.lsl_gen.specs.Programs.{numbered_handlers, numbered_states}
 use Rattle.lsl_machine.specs.Futures.{whole_from, ticks_passed}
 use Rattle.lsl_machine.specs.State.{AreArguments, State, bodies_of, kept_with}
@@ -103,6 +100,7 @@ module _ (p : Program) (code : Code) (runs : Runs p code) (built : is_built p �
     where
       zero_more : (more : ℕ) → 0 + more ≡ more
       zero_more more = omega arith
+
       none_passed : {n : ℕ} → n ≡ 0 → (more : ℕ) → more ≡ n + more
       none_passed e more = omega (arith, e)
 

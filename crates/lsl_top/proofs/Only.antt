@@ -18,7 +18,7 @@ use Rattle.lsl_running.specs.Charging.{used, is_within}
 use Rattle.lsl_running.specs.Results.{Whole, Asks, Fails, Lost}
 use Rattle.lsl_meaning.specs.State.{State, Site, holding, Evaluation, Gives, Stops, bind, Flow, Normal, Returned, Jumped, give, give_result, tick}
 use Rattle.lsl_meaning.specs.Calls.{result_at_end, result_behind, reply_given, ask, call_builtin}
-use Rattle.lsl_meaning.specs.Expressions.{value_at, storing, assign, give_operation, step_operator, assign_step, step_behind, needed}
+use Rattle.lsl_meaning.specs.Expressions.{value_at, storing, give_operation, step_operator, assign_step, step_behind, needed}
 use Rattle.lsl_running.specs.Values.{binary_value}
 use Rattle.lsl_top.specs.Built.{is_built_call, is_owner_say}
 

@@ -1,5 +1,5 @@
 -- A program that `once` runs asks for nothing but `llOwnerSay`.
-use Rattle.std.proofs.Common.{◌≡◌, ℕ, zero, suc, List, [], ◌∷◌, ◌++◌, Bool, true, Option, Some, None, refl, sym, subst, map, reverse, slice_get, ◌∙◌, ap, ◌&&◌}
+use Rattle.std.proofs.Common.{◌≡◌, ℕ, zero, suc, List, [], ◌∷◌, ◌++◌, true, Option, Some, None, refl, subst, map, reverse, slice_get, ◌&&◌}
 use Rattle.std.proofs.lemmas.Bool.{and_parts}
 use Rattle.lsl_value.specs.Values.{truth_of}
 use Rattle.lsl_value.specs.declared.names.BuiltinId.{BuiltinId}
@@ -20,9 +20,9 @@ use Rattle.lsl_running.specs.declared.ends.Fault.TheVariants.{StackHeap}
 use Rattle.lsl_running.specs.declared.host.Reply.{Reply}
 use Rattle.lsl_running.specs.declared.kept.Kept.{Kept}
 use Rattle.lsl_running.specs.Charging.{used, is_within}
-use Rattle.lsl_running.specs.Results.{Whole, Asks, Fails}
+use Rattle.lsl_running.specs.Results.{Asks, Fails}
 use Rattle.lsl_running.specs.Values.{unary_value, binary_value, list_value}
-use Rattle.lsl_meaning.specs.State.{State, Site, holding, holding_all, within_call, Evaluation, Gives, Stops, bind, Flow, Normal, Returned, Jumped, give, tick}
+use Rattle.lsl_meaning.specs.State.{State, Site, holding, holding_all, within_call, Evaluation, Gives, Stops, bind, Flow, Normal, Returned, Jumped}
 use Rattle.lsl_meaning.specs.Calls.{Lower, first_slots, result_behind, run_routine, enter, call}
 use Rattle.lsl_meaning.specs.Expressions.{value_at, storing, needed, value_of, values_of}
 use Rattle.lsl_meaning.specs.Handlers.{level, ended, outermost, whole_of, whole}

@@ -14,8 +14,10 @@ use Rattle.lsl_top.specs.Words.{Command, Once, Check, file_of}
 
 -- the command does what it is for with the file, and these lines are its report
 abbrev pub IsReport : Command → List ℕ → List ℕ → Type 0
-IsReport (Once name) file lines = (program : Program) × Accepted file program × (is_built program ≡ true) × IsJournal program lines
-IsReport (Check name) file lines = (program : Program) × Accepted file program × (lines ≡ accepted_line name)
+IsReport (Once name) file lines =
+    (program : Program) × Accepted file program × (is_built program ≡ true) × IsJournal program lines
+IsReport (Check name) file lines =
+    (program : Program) × Accepted file program × (lines ≡ accepted_line name)
 
 -- the command refuses the file for this fault: its first, or for a run that it is outside the built part
 abbrev pub IsFault : Command → List ℕ → BuildFault → Type 0
@@ -24,7 +26,8 @@ IsFault (Check name) file fault = FirstFault file fault
 
 -- these lines refuse the file for its fault
 abbrev pub IsRefusal : Command → List ℕ → List ℕ → Type 0
-IsRefusal command file lines = (fault : BuildFault) × IsFault command file fault × (lines ≡ refusal_of (file_of command) fault)
+IsRefusal command file lines =
+    (fault : BuildFault) × IsFault command file fault × (lines ≡ refusal_of (file_of command) fault)
 
 -- the lines for a file, and the status where they are written
 abbrev pub Answers : Command → List ℕ → Status → List ℕ → Type 0

@@ -1,4 +1,5 @@
--- The programs that `once` runs: one state with the one handler `state_entry`, and no call that the host answers but `llOwnerSay`.
+-- The programs that `once` runs: one state with the one handler `state_entry`, and no call that the host answers but
+-- `llOwnerSay`.
 use Rattle.std.specs.Prelude.{Bool, true, false, ◌&&◌, List, [], ◌∷◌}
 use Rattle.lsl_value.specs.declared.names.BuiltinId.{BuiltinId}
 use Rattle.lsl_value.specs.declared.names.BuiltinId.TheVariants.{OwnerSay}

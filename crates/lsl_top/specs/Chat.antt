@@ -1,6 +1,5 @@
 -- Texts as they are said.
-use Rattle.std.specs.Prelude.{ℕ, ◌-◌, nat_le, cond, List, [], ◌∷◌, length}
-use Rattle.std.specs.Str.{encode_utf8_all}
+use Rattle.std.specs.Prelude.{ℕ, ◌-◌, nat_le, cond, List, [], ◌∷◌}
 use Rattle.std.specs.Char.{len_utf8}
 
 -- the first characters that have at most so many bytes of UTF-8

@@ -21,16 +21,19 @@ pub record Runs (p : Program) (code : Code) : Type 0 where
   pub states : code.states ≡ generated_states p
   pub meaning : Agrees code.functions p
 
--- with so many ticks that a machine may pass, what comes of it is what comes of the program behind so many answers
+-- with so many ticks that it may pass, what comes of a machine is what comes of the program behind so many answers
 abbrev pub Goes : Program → List Body → ℕ → ℕ → State → Type 0
 Goes p bodies ticks said s =
     (more : ℕ) (given : List Reply)
-    → entry_whole p (ticks + more) (answers said ++ given) ≡ whole_from bodies s (ticks_passed s.standing + more) given
+    → entry_whole p (ticks + more) (answers said ++ given)
+    ≡ whole_from bodies s (ticks_passed s.standing + more) given
 
 -- it has said these texts, and their lines stand behind what stood before
-pub record Course (p : Program) (bodies : List Body) (ticks : ℕ) (s : State) (before now : List ℕ) : Type 0 where
+pub record Course (p : Program) (bodies : List Body) (ticks : ℕ) (s : State) (before now : List ℕ)
+    : Type 0 where
   pub texts : List (List ℕ)
-  pub asked : (n : ℕ) (text : List ℕ) → slice_get texts n ≡ Some text → whole_after p n ≡ Asks OwnerSay (Str text ∷ [])
+  pub asked : (n : ℕ) (text : List ℕ) → slice_get texts n ≡ Some text
+      → whole_after p n ≡ Asks OwnerSay (Str text ∷ [])
   pub goes : Goes p bodies ticks (length texts) s
   pub written : now ≡ before ++ flat_map owner_line texts
 

@@ -41,7 +41,8 @@ whole_after p n = entry_whole p most_ticks (answers n)
 
 -- it says these texts to the owner, in order, and then comes to this
 pub record Says (p : Program) (texts : List (List ℕ)) (last : Whole) : Type 0 where
-  pub asks : (n : ℕ) (text : List ℕ) → slice_get texts n ≡ Some text → whole_after p n ≡ Asks OwnerSay (Str text ∷ [])
+  pub asks : (n : ℕ) (text : List ℕ) → slice_get texts n ≡ Some text
+      → whole_after p n ≡ Asks OwnerSay (Str text ∷ [])
   pub ends : whole_after p (length texts) ≡ last
 
 -- the first script says a text to its owner
@@ -92,11 +93,13 @@ accepted_line file = line (codes "accepted " ++ quoted file)
 
 -- where a fault stands, and its number
 abbrev pub place_of : ℕ → ℕ → ℕ → List ℕ
-place_of line_number col number = codes " " ++ (decimal line_number ++ (codes ":" ++ (decimal col ++ (codes " fault " ++ (decimal number ++ 10 ∷ [])))))
+place_of line_number col number =
+    codes " " ++ (decimal line_number ++ (codes ":" ++ (decimal col ++ (codes " fault " ++ (decimal number ++ 10 ∷ [])))))
 
 -- the refusal of a file for a fault at a place
 abbrev pub refusal_line : List ℕ → ℕ → ℕ → ℕ → List ℕ
-refusal_line file line_number col number = codes "bad script " ++ (quoted file ++ place_of line_number col number)
+refusal_line file line_number col number =
+    codes "bad script " ++ (quoted file ++ place_of line_number col number)
 
 -- the refusal of a file for a fault
 abbrev pub refusal_of : List ℕ → BuildFault → List ℕ

@@ -84,7 +84,9 @@ fn value_is_built(node: &Node) -> bool
         Node::Int { .. } | Node::Str { .. } => true,
         Node::Constant { .. } | Node::Variable { .. } | Node::StepBehind { .. } => true,
         Node::Call {
-            callee, arguments, ..
+            callee,
+            arguments,
+            ..
         } => callee_is_built(*callee) & values_are_built(arguments),
         Node::List { elements } => values_are_built(elements),
         Node::Cast { operand, .. } => value_is_built(operand),
@@ -111,7 +113,9 @@ fn effect_is_built(effect: &Effect) -> bool
     match effect {
         Effect::Value { node } => value_is_built(node),
         Effect::Call {
-            callee, arguments, ..
+            callee,
+            arguments,
+            ..
         } => callee_is_built(*callee) & values_are_built(arguments),
     }
 }
@@ -141,7 +145,10 @@ fn action_is_built(action: &Action) -> bool
             otherwise,
         } => value_is_built(test) & (action_is_built(then) & action_is_built(otherwise)),
         Action::Loop {
-            test, steps, body, ..
+            test,
+            steps,
+            body,
+            ..
         } => value_is_built(test) & (effects_are_built(steps) & action_is_built(body)),
         Action::Do { body, test, .. } => action_is_built(body) & value_is_built(test),
         Action::ReturnValue { value } => value_is_built(value),

@@ -43,8 +43,10 @@ pub struct Output {
 /// The report of a run of this script, or fault 90 where it is outside the built part.
 fn run(alloc: Global, built: &Built) -> Result<Vec<u8>, Refusal<BuildFault>>
     requires { Runs (program_of built.now.program) built.now.code }
-    ensures ok { IfOk result (λ lines. (is_built_program (program_of built.now.program) ≡ true) × IsJournal (program_of built.now.program) lines.items) }
-    ensures fault { (fault : Fault) → IsErrOf result (refusals.Fault fault) → (is_built_program (program_of built.now.program) ≡ false) × (fault ≡ outside_fault) }
+    ensures ok { IfOk result (λ lines. (is_built_program (program_of built.now.program) ≡ true)
+        × IsJournal (program_of built.now.program) lines.items) }
+    ensures fault { (fault : Fault) → IsErrOf result (refusals.Fault fault)
+        → (is_built_program (program_of built.now.program) ≡ false) × (fault ≡ outside_fault) }
 {
     if !is_built(&built.program) {
         return Err(Refusal::Fault(OUTSIDE));

@@ -58,19 +58,28 @@ fn begun(alloc: Global, built: &Built) -> Result<Machine, NoMemory>
     requires built { is_built (program_of built.now.program) ≡ true }
     ensures able { IfOk result (λ machine. CanRun machine.standing) }
     ensures of { IfOk result (λ machine. IsOf built.now.code machine) }
-    ensures course { IfOk result (λ machine. (before : List ℕ) → Course (program_of built.now.program) (bodies_of built.now.code) 0 machine before before) }
+    ensures course { IfOk result (λ machine. (before : List ℕ) →
+        Course (program_of built.now.program) (bodies_of built.now.code) 0 machine before before) }
 {
     let Some(handler) = built.code.handler(0, EventId::StateEntry) else {
         unreachable!()
     };
     let globals = built.code.globals().copy(alloc)?;
-    Machine::begin(alloc, &built.code, handler, globals, LIMIT, Values::new(alloc))
+    Machine::begin(
+        alloc,
+        &built.code,
+        handler,
+        globals,
+        LIMIT,
+        Values::new(alloc),
+    )
 }
 
 /// Adds the line of a call that says a text to the owner.
 fn push_said(out: &mut Vec<u8>, args: &Values) -> Result<(), NoMemory>
     requires { (text : List ℕ) × (args.now ≡ values.Str text ∷ []) }
-    ensures { OnOk result ((text : List ℕ) → args.now ≡ values.Str text ∷ [] → out.new.items ≡ out.old.items ++ owner_line text) }
+    ensures { OnOk result ((text : List ℕ) → args.now ≡ values.Str text ∷ []
+        → out.new.items ≡ out.old.items ++ owner_line text) }
 {
     match args.as_slice() {
         [Value::Str(text)] => push_owner_line(out, text),

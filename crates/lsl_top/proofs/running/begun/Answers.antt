@@ -1,4 +1,4 @@
-use Rattle.std.proofs.Common.{◌≡◌, ℕ, List, [], Option, Some, sym, ◌∙◌, subst, slice_get, length}
+use Rattle.std.proofs.Common.{◌≡◌, ℕ, List, Some, sym, ◌∙◌, subst, slice_get, length}
 use Rattle.lsl_value.specs.declared.tagged.Value.{Value}
 use Rattle.lsl_tree.specs.Program.{program_of}
 use Rattle.lsl_machine.specs.State.{AreArguments, bodies_of}

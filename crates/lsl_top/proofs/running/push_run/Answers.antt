@@ -1,4 +1,4 @@
-use Rattle.std.proofs.Common.{◌≡◌, ℕ, ◌+◌, ◌-◌, ◌++◌, Option, None, refl, sym, ap, ◌∙◌, subst, arith}
+use Rattle.std.proofs.Common.{◌≡◌, ◌+◌, ◌-◌, ◌++◌, Option, None, refl, sym, ap, ◌∙◌, subst, arith}
 use Rattle.lsl_value.specs.declared.tagged.Value.{Value}
 use Rattle.lsl_tree.specs.Program.{program_of}
 use Rattle.lsl_machine.specs.declared.standing.Standing.{Standing}

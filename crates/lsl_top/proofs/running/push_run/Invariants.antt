@@ -1,4 +1,4 @@
-use Rattle.std.proofs.Common.{ℕ, ◌-◌, ◌+◌, ◌*◌, ◌≤◌}
+use Rattle.std.proofs.Common.{◌-◌, ◌+◌, ◌*◌, ◌≤◌}
 use Rattle.lsl_tree.specs.Program.{program_of}
 use Rattle.lsl_machine.specs.State.{CanRun, IsOf, bodies_of}
 use Rattle.std.specs.Vec.{vec_len}
