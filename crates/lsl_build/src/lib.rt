@@ -34,6 +34,18 @@ pub struct Built {
     pub code: Unit,
 }
 
+/// The program of a text of UTF-8, or its first fault, which comes as that of [`build`] does. Takes memory for the
+/// tokens, the tree and the program.
+pub fn accept(alloc: Global, text: &[u8]) -> Result<Program, Refusal<BuildFault>>
+    ensures found { IfOk result (λ p. Accepted text.now (program_of p)) }
+    ensures every { (p : program.Program) → Accepted text.now p
+        → MatchResult result (λ q. program_of q ≡ p) (λ refusal. refusal ≡ Refusal.NoMemory) }
+    ensures first { (fault : Fault) → IsErrOf result (refusals.Fault fault) → FirstFault text.now fault }
+    ensures only { (fault : Fault) → FirstFault text.now fault → MatchResult result (λ _. ⊥) (IsThat fault) }
+{
+    checked(alloc, text)
+}
+
 /// The program and the code of a text of UTF-8, or its first fault.
 ///
 /// A lexical fault comes before any fault of the grammar, and that before any of names and kinds. The span is
