@@ -17,7 +17,7 @@ use crate::built::is_built;
 use crate::journal::{acceptance, refusal, run_report};
 use crate::status::Status;
 use crate::words::Command;
-use lsl_build::{BuildFault, Built, build};
+use lsl_build::{BuildFault, Built, accept, build};
 use lsl_ports::{Sink, write_all};
 use lsl_text::{NoMemory, Refusal, Span};
 use std::alloc::{AllocError, Global};
@@ -63,10 +63,15 @@ fn report_of(
     ensures ok { IfOk result (λ lines. IsReport (asked_by command.entry) file.now lines.items) }
     ensures fault { (fault : Fault) → IsErrOf result (refusals.Fault fault) → IsFault (asked_by command.entry) file.now fault }
 {
-    let built = build(alloc, file)?;
     match command {
-        Command::Once(_) => run(alloc, &built),
-        Command::Check(name) => Ok(acceptance(alloc, name)?),
+        Command::Once(_) => {
+            let built = build(alloc, file)?;
+            run(alloc, &built)
+        }
+        Command::Check(name) => {
+            let _program = accept(alloc, file)?;
+            Ok(acceptance(alloc, name)?)
+        }
     }
 }
 
