@@ -18,9 +18,11 @@ use Rattle.lsl_weave.proofs.Restored.{frames_restored}
 pub machine_saved : (bs : List Body) (h : ℕ) (m : Machine) (frs : List Frame) → HasFrames bs h m.calls frs
     → SaveRun (all_woven bs) (lift_machine bs m) frs (beside_of m)
 machine_saved bs h m frs w =
-    let r = frames_saved bs h m.calls frs w in
-    (r.0, runs_beside (save_step (all_woven bs)) r.0 (beside_of m) (begins_saving (lift_machine bs m).calls)
-        ∙ ap (option_map (whole (beside_of m))) r.1)
+    let r = frames_saved bs h m.calls frs w in (
+      r.0,
+      runs_beside (save_step (all_woven bs)) r.0 (beside_of m) (begins_saving (lift_machine bs m).calls)
+          ∙ ap (option_map (whole (beside_of m))) r.1,
+    )
 
 -- restoring its frames beside these ends with that machine, within the bound
 pub machine_restored : (bs : List Body) (h : ℕ) (m : Machine) (frs : List Frame) → AreOnePlaced bs
@@ -28,6 +30,14 @@ pub machine_restored : (bs : List Body) (h : ℕ) (m : Machine) (frs : List Fram
     × BackRun (all_woven bs) h frs (beside_of m) (lift_machine bs m) n
 machine_restored bs h m frs one w =
     let r = frames_restored bs h m.calls frs one w in
-    let q = r.2 in
-    (r.0, r.1, (q.0, q.1, q.2, runs_beside (back_step (all_woven bs)) r.0 (beside_of m)
-        (begins_restoring h q.0 frs) ∙ ap (option_map (whole (beside_of m))) q.3))
+    let q = r.2 in (
+      r.0,
+      r.1,
+      (
+        q.0,
+        q.1,
+        q.2,
+        runs_beside (back_step (all_woven bs)) r.0 (beside_of m)
+            (begins_restoring h q.0 frs) ∙ ap (option_map (whole (beside_of m))) q.3,
+      ),
+    )

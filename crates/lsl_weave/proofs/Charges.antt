@@ -38,8 +38,14 @@ charges_reverse xs = charges_aux xs [] ∙ omega arith
 one_charge : (h : ℕ) (c : MachineCall) (fr : Frame) → fr.slots ≡ c.slots ++ reverse c.operands
     → hold_all h c.operands + call_charge + charges_of c.slots ≡ h + frame_charge fr
 one_charge h c fr e =
-    omega (arith, hold_sum h c.operands, ap charges_of e, charges_append c.slots
-        (reverse c.operands), charges_reverse c.operands)
+    omega (
+      arith,
+      hold_sum h c.operands,
+      ap charges_of e,
+      charges_append c.slots
+          (reverse c.operands),
+      charges_reverse c.operands,
+    )
 
 base_charge : (bs : List Body) (h g : ℕ) (cs : List MachineCall) (frs : List Frame) → Wait bs h cs frs g
     → base cs ≡ script_charge + sum_by frame_charge frs
@@ -48,8 +54,13 @@ base_charge bs h g [] (fr ∷ frs) w = absurd w
 base_charge bs h g (c ∷ cs) [] w = absurd w
 base_charge bs h g (c ∷ cs) (fr ∷ frs) w =
     let st : Stands bs c w.0 (Some g) fr = w.2 in
-    omega (arith, more_frames fr frs, one_charge
-        (base cs) c fr st.values, base_charge bs h c.function cs frs w.3)
+    omega (
+      arith,
+      more_frames fr frs,
+      one_charge
+          (base cs) c fr st.values,
+      base_charge bs h c.function cs frs w.3,
+    )
 
 -- the charge of the machine is that of its frames, with 1,024 and the globals
 pub machine_charge : (bs : List Body) (h : ℕ) (calls : List MachineCall) (frs : List Frame) (g : Kept)
@@ -58,5 +69,10 @@ machine_charge bs h [] frs g w = absurd w
 machine_charge bs h (c ∷ cs) [] g w = absurd w
 machine_charge bs h (c ∷ cs) (fr ∷ frs) g w =
     let st : Stands bs c c.place None fr = w.0 in
-    omega (arith, more_frames fr frs, one_charge
-        (base cs) c fr st.values, base_charge bs h c.function cs frs w.1)
+    omega (
+      arith,
+      more_frames fr frs,
+      one_charge
+          (base cs) c fr st.values,
+      base_charge bs h c.function cs frs w.1,
+    )

@@ -32,15 +32,15 @@ pub flat_more : {A B : Type 0} (g : ℕ → A → List B) (xs : List A) (i : ℕ
 flat_more g xs i x code code' all e l h =
     let z : i + 1 ≡ suc i = omega arith in
     ap (λ c. c ++ flat g (i + 1) (drop (i + 1) xs)) l
-        ∙ append_assoc code (g i x) (flat g (i + 1) (drop (i + 1) xs))
-        ∙ ap (λ n. code ++ (g i x ++ flat g n (drop (i + 1) xs))) z
-        ∙ ap (λ ys. code ++ flat g i ys) (sym (drop_here xs i x e)) ∙ h
+    ∙ append_assoc code (g i x) (flat g (i + 1) (drop (i + 1) xs))
+    ∙ ap (λ n. code ++ (g i x ++ flat g n (drop (i + 1) xs))) z
+    ∙ ap (λ ys. code ++ flat g i ys) (sym (drop_here xs i x e)) ∙ h
 
 pub flat_done : {A B : Type 0} (g : ℕ → A → List B) (xs : List A) (n : ℕ) (code all : List B) → n ≡ length xs
     → code ++ flat g n (drop n xs) ≡ all → code ≡ all
 flat_done g xs n code all e h =
     sym (append-nil code) ∙ ap (λ ys. code ++ flat g n ys) (sym (drop_all xs))
-        ∙ ap (λ m. code ++ flat g n (drop m xs)) (sym e) ∙ h
+    ∙ ap (λ m. code ++ flat g n (drop m xs)) (sym e) ∙ h
 
 pub one_more : {B : Type 0} (code code' : List B) (x : B) (rest all : List B) → code' ≡ code ++ x ∷ []
     → code ++ x ∷ rest ≡ all → code' ++ rest ≡ all
@@ -54,7 +54,7 @@ pub tops_more : (code code' : List Instr) (m i : ℕ) (all : List Instr → List
     → (tail : List Instr) → code' ++ keep_tops (m - (i + 1)) tail ≡ all tail
 tops_more code code' m i all lt l h tail =
     one_more code code' KeepTop (keep_tops (m - (i + 1)) tail) (all tail) l
-        (ap (λ n. code ++ keep_tops n tail) (sym (left m i lt)) ∙ h tail)
+    (ap (λ n. code ++ keep_tops n tail) (sym (left m i lt)) ∙ h tail)
 
 pub slots_more : (code code' : List Instr) (n j : ℕ) (all : List Instr → List Instr) → j < n
     → code' ≡ code ++ KeepSlot (n - 1 - j) ∷ []
@@ -63,8 +63,8 @@ pub slots_more : (code code' : List Instr) (n j : ℕ) (all : List Instr → Lis
 slots_more code code' n j all lt l h tail =
     let z : n - 1 - j ≡ n - (j + 1) = omega arith in
     one_more code code' (KeepSlot (n - (j + 1))) (keep_slots (n - (j + 1)) tail) (all tail)
-        (l ∙ ap (λ k. code ++ KeepSlot k ∷ []) z)
-        (ap (λ k. code ++ keep_slots k tail) (sym (left n j lt)) ∙ h tail)
+    (l ∙ ap (λ k. code ++ KeepSlot k ∷ []) z)
+    (ap (λ k. code ++ keep_slots k tail) (sym (left n j lt)) ∙ h tail)
 
 pub back_slots_more : (code code' : List Instr) (n i : ℕ) (all : List Instr → List Instr) → i < n
     → code' ≡ code ++ BackSlot i ∷ [] → ((tail : List Instr) → code ++ back_slots i (n - i) tail ≡ all tail)
@@ -72,15 +72,15 @@ pub back_slots_more : (code code' : List Instr) (n i : ℕ) (all : List Instr �
 back_slots_more code code' n i all lt l h tail =
     let z : suc i ≡ i + 1 = omega arith in
     one_more code code' (BackSlot i) (back_slots (i + 1) (n - (i + 1)) tail) (all tail) l
-        (ap (λ k. code ++ BackSlot i ∷ back_slots k (n - (i + 1)) tail) (sym z)
-        ∙ ap (λ k. code ++ back_slots i k tail) (sym (left n i lt)) ∙ h tail)
+    (ap (λ k. code ++ BackSlot i ∷ back_slots k (n - (i + 1)) tail) (sym z)
+    ∙ ap (λ k. code ++ back_slots i k tail) (sym (left n i lt)) ∙ h tail)
 
 pub back_tops_more : (code code' : List Instr) (m j : ℕ) (all : List Instr → List Instr) → j < m
     → code' ≡ code ++ BackTop ∷ [] → ((tail : List Instr) → code ++ back_tops (m - j) tail ≡ all tail)
     → (tail : List Instr) → code' ++ back_tops (m - (j + 1)) tail ≡ all tail
 back_tops_more code code' m j all lt l h tail =
     one_more code code' BackTop (back_tops (m - (j + 1)) tail) (all tail) l
-        (ap (λ n. code ++ back_tops n tail) (sym (left m j lt)) ∙ h tail)
+    (ap (λ n. code ++ back_tops n tail) (sym (left m j lt)) ∙ h tail)
 
 none_left : (m : ℕ) → m - m ≡ 0
 none_left m = omega arith
@@ -110,13 +110,13 @@ pub map_more : {A B : Type 0} (g : A → B) (xs : List A) (i : ℕ) (x : A) (don
     → done' ++ map g (drop (i + 1) xs) ≡ all
 map_more g xs i x done done' all e l h =
     one_more done done' (g x) (map g (drop (i + 1) xs)) all l
-        (ap (λ ys. done ++ map g ys) (sym (drop_here xs i x e)) ∙ h)
+    (ap (λ ys. done ++ map g ys) (sym (drop_here xs i x e)) ∙ h)
 
 pub map_done : {A B : Type 0} (g : A → B) (xs : List A) (n : ℕ) (done all : List B) → n ≡ length xs
     → done ++ map g (drop n xs) ≡ all → done ≡ all
 map_done g xs n done all e h =
     sym (append-nil done) ∙ ap (λ ys. done ++ map g ys) (sym (drop_all xs))
-        ∙ ap (λ m. done ++ map g (drop m xs)) (sym e) ∙ h
+    ∙ ap (λ m. done ++ map g (drop m xs)) (sym e) ∙ h
 
 pub nones_more : (done done' : List (Option (List Kind))) (m i : ℕ) (all : List (Option (List Kind))) → i < m
     → done' ≡ done ++ None ∷ [] → done ++ nones (m - i) ≡ all → done' ++ nones (m - (i + 1)) ≡ all

@@ -1,6 +1,8 @@
 pub mod Besides
 pub mod Charges
 pub mod Emitting
+pub mod Examples
+pub mod Forwards
 pub mod Lift
 pub mod Moved
 pub mod OnePlaced
@@ -10,4 +12,6 @@ pub mod Restored
 pub mod Running
 pub mod Saved
 pub mod Sums
+pub mod Tested
 pub mod Units
+pub mod WovenForward

@@ -103,10 +103,10 @@ module _ (b : Body) (bs : List Body) where
   act_lift (JumpIfNot t) g held sl (v ∷ ops) = branch_lifted (truth_of v) t sl ops g
   act_lift (Call j p) g held sl ops =
       subst (Lifted b (entered (slice_get bs j) j g held sl ops))
-          (sym (ap (λ o. entered o j g held sl ops) (slice_get-map woven_of bs j)
-          ∙ entered_same (slice_get bs j) j g held sl ops))
-          (same_lifted (Call j p) (entered (slice_get bs j) j g held sl ops)
-          (act_by bs (Call j p) g held sl ops) (λ t x. x))
+      (sym (ap (λ o. entered o j g held sl ops) (slice_get-map woven_of bs j)
+      ∙ entered_same (slice_get bs j) j g held sl ops))
+      (same_lifted (Call j p) (entered (slice_get bs j) j g held sl ops)
+      (act_by bs (Call j p) g held sl ops) (λ t x. x))
   act_lift i g held sl ops = same_lifted i (act bs (Some i) g held sl ops) (act_by bs i g held sl ops)
       (λ t x. x)
 
@@ -132,10 +132,15 @@ width_some (x ∷ xs) = omega (arith, wide x, width_some xs)
 
 code_longer : (b : Body) → length b.code ≤ length (woven_code b)
 code_longer b =
-    omega (arith, width_some b.code, length-append (flat (main b) 0 b.code)
-        (flat (save_block b) 0 b.points ++
-        (Unpack ∷ Branch ∷ (flat (table b) 0 b.points ++ flat (back_block b) 0 b.points))), flat_length
-        (main b) width (main_length b) 0 b.code)
+    omega (
+      arith,
+      width_some b.code,
+      length-append (flat (main b) 0 b.code)
+          (flat (save_block b) 0 b.points ++
+          (Unpack ∷ Branch ∷ (flat (table b) 0 b.points ++ flat (back_block b) 0 b.points))),
+      flat_length
+          (main b) width (main_length b) 0 b.code,
+    )
 
 length_lift : (o : Option Body) → length_in o ≤ length_in (option_map woven_of o)
 length_lift None = omega arith

@@ -36,11 +36,11 @@ drop_all (x ∷ xs) = drop_all xs
 pub places_start : (code : List Instr) (points end : ℕ) (items : List ℕ) → items ≡ replicate points end
     → end ≡ 0 + length code
     → (p : ℕ) → p < points → slice_get items p
-        ≡ Some (length code - 0 + place_of p (drop (length code - 0) code))
+    ≡ Some (length code - 0 + place_of p (drop (length code - 0) code))
 places_start code points end items e is p lt =
     let z : length code - 0 ≡ length code = omega arith in
     let none : place_of p (drop (length code - 0) code) ≡ 0 = ap (λ n. place_of p (drop n code)) z
-        ∙ ap (place_of p) (drop_all code) in
+    ∙ ap (place_of p) (drop_all code) in
     let all : end ≡ length code - 0 + place_of p (drop (length code - 0) code) = omega (arith, none, is) in
     let long : p < length (replicate points end) = omega (arith, lt, length-replicate points end) in
     ap (λ l. slice_get l p) e ∙ slice_get-get_or (replicate points end) p end long
@@ -56,7 +56,7 @@ placed_more (Tick q) items k p n h = by_test (nat_eq p q) refl
         let z : k ≡ k + 0 = omega arith in
         let same = eq_is p q e in
         ap (λ x. slice_get (slice_set items x k) p) (sym same)
-            ∙ get_set_same items p k (slice_get_within items p _ h) ∙ ap Some z
+        ∙ get_set_same items p k (slice_get_within items p _ h) ∙ ap Some z
     by_test false e = let z : suc k + n ≡ k + suc n = omega arith in get_set_other items q p k (differ p q e)
         ∙ h ∙ ap Some z
 placed_more (Call f q) items k p n h = by_test (nat_eq p q) refl
@@ -66,7 +66,7 @@ placed_more (Call f q) items k p n h = by_test (nat_eq p q) refl
         let z : k ≡ k + 0 = omega arith in
         let same = eq_is p q e in
         ap (λ x. slice_get (slice_set items x k) p) (sym same)
-            ∙ get_set_same items p k (slice_get_within items p _ h) ∙ ap Some z
+        ∙ get_set_same items p k (slice_get_within items p _ h) ∙ ap Some z
     by_test false e = let z : suc k + n ≡ k + suc n = omega arith in get_set_other items q p k (differ p q e)
         ∙ h ∙ ap Some z
 placed_more i items k p n h = let z : suc k + n ≡ k + suc n = omega arith in h ∙ ap Some z
@@ -74,7 +74,7 @@ placed_more i items k p n h = let z : suc k + n ≡ k + suc n = omega arith in h
 pub places_more : (code : List Instr) (i points : ℕ) (x : Instr) (items items' : List ℕ) → i < length code
     → x ≡ get_or code (length code - 1 - i) x → items' ≡ with_place items x (length code - 1 - i)
     → ((p : ℕ) → p < points → slice_get items p
-        ≡ Some (length code - i + place_of p (drop (length code - i) code)))
+    ≡ Some (length code - i + place_of p (drop (length code - i) code)))
     → (p : ℕ) → p < points
     → slice_get items' p ≡ Some (length code - (i + 1) + place_of p (drop (length code - (i + 1)) code))
 places_more code i points x items items' lt is e h p within =
@@ -93,7 +93,7 @@ places_more code i points x items items' lt is e h p within =
 
 pub places_end : (code : List Instr) (i points : ℕ) (items : List ℕ) → i ≡ length code
     → ((p : ℕ) → p < points → slice_get items p
-        ≡ Some (length code - i + place_of p (drop (length code - i) code)))
+    ≡ Some (length code - i + place_of p (drop (length code - i) code)))
     → (p : ℕ) → p < points → slice_get items p ≡ Some (place_of p code)
 places_end code i points items e h p within =
     let z : length code - i ≡ 0 = omega (arith, e) in

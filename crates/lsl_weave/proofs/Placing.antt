@@ -48,14 +48,14 @@ flat_at code g w len s i (y ∷ xs) zero x h e =
     let z : s ≡ s + 0 = omega arith in
     let z' : i ≡ i + 0 = omega arith in
     subst (λ n. HasAt code n (g (i + 0) x)) z
-        (subst (λ n. HasAt code s (g n x)) z' (subst (λ v. HasAt code s (g i v)) same here))
+    (subst (λ n. HasAt code s (g n x)) z' (subst (λ v. HasAt code s (g i v)) same here))
 flat_at code g w len s i (y ∷ xs) (suc k) x h e =
     let there = has_back code s (g i y) (flat g (suc i) xs) h in
     let rest = flat_at code g w len (s + length (g i y)) (suc i) xs k x there e in
     let z : s + length (g i y) + offset w xs k ≡ s + (w y + offset w xs k) = omega (arith, len i y) in
     let z' : suc i + k ≡ i + suc k = omega arith in
     subst (λ n. HasAt code n (g (i + suc k) x)) z
-        (subst (λ n. HasAt code (s + length (g i y) + offset w xs k) (g n x)) z' rest)
+    (subst (λ n. HasAt code (s + length (g i y) + offset w xs k) (g n x)) z' rest)
 
 pub flat_length : {A B : Type 0} (g : ℕ → A → List B) (w : A → ℕ) → ((i : ℕ) (x : A) → length (g i x) ≡ w x)
     → (i : ℕ) (xs : List A) → length (flat g i xs) ≡ offset w xs (length xs)
@@ -89,8 +89,12 @@ main_length b k _ = refl
 
 pub save_length : (b : Body) (k : ℕ) (p : Point) → length (save_block b k p) ≡ save_width b p
 save_length b k p =
-    omega (arith, keep_tops_length (waiting b p)
-        (keep_slots (length b.slots) (Seal k ∷ [])), keep_slots_length (length b.slots) (Seal k ∷ []))
+    omega (
+      arith,
+      keep_tops_length (waiting b p)
+          (keep_slots (length b.slots) (Seal k ∷ [])),
+      keep_slots_length (length b.slots) (Seal k ∷ []),
+    )
 
 end_length : (b : Body) (k : ℕ) (o : Option ℕ) → length (back_end b k o) ≡ 2
 end_length b k None = refl
@@ -98,9 +102,14 @@ end_length b k (Some f) = refl
 
 pub back_length : (b : Body) (k : ℕ) (p : Point) → length (back_block b k p) ≡ back_width b p
 back_length b k p =
-    omega (arith, back_slots_length 0 (length b.slots)
-        (back_tops (waiting b p) (back_end b k p.calls)), back_tops_length (waiting b p)
-        (back_end b k p.calls), end_length b k p.calls)
+    omega (
+      arith,
+      back_slots_length 0 (length b.slots)
+          (back_tops (waiting b p) (back_end b k p.calls)),
+      back_tops_length (waiting b p)
+          (back_end b k p.calls),
+      end_length b k p.calls,
+    )
 
 table_total : (ps : List Point) (k : ℕ) → k ≤ length ps → offset (λ p. 1) ps k ≡ k
 table_total [] k le = omega arith
@@ -154,14 +163,18 @@ module _ (b : Body) where
   at_table =
       let z : backs_from b + 1 + 1 ≡ backs_from b + 2 = omega arith in
       subst (λ n. HasAt (woven_code b) n
-          (flat (table b) 0 b.points ++ flat (back_block b) 0 b.points)) z at_backs.1.1
+      (flat (table b) 0 b.points ++ flat (back_block b) 0 b.points)) z at_backs.1.1
 
   at_blocks : HasAt (woven_code b) (backs_from b + 2 + length b.points) (flat (back_block b) 0 b.points)
   at_blocks =
       let z : backs_from b + 2 + length (flat (table b) 0 b.points)
-          ≡ backs_from b + 2 + length b.points =
-          omega (arith, flat_length (table b) (λ p. 1) (table_length b) 0 b.points, table_total b.points
-          (length b.points) (omega arith)) in
+      ≡ backs_from b + 2 + length b.points =
+      omega (
+        arith,
+        flat_length (table b) (λ p. 1) (table_length b) 0 b.points,
+        table_total b.points
+            (length b.points) (omega arith),
+      ) in
       has_behind (woven_code b) (backs_from b + 2) _ (flat (table b) 0 b.points) _ z at_table
 
   from_zero : (k : ℕ) → 0 + k ≡ k
@@ -171,34 +184,37 @@ module _ (b : Body) where
       → HasAt (woven_code b) (shift b k) (main b k i)
   laid_main k i e =
       subst (λ n. HasAt (woven_code b) (shift b k) (main b n i)) (from_zero k)
-          (flat_at (woven_code b) (main b) width (main_length b) 1 0 b.code k i
-          (has_front (woven_code b) 1 (flat (main b) 0 b.code) _ in_saves) e)
+      (flat_at (woven_code b) (main b) width (main_length b) 1 0 b.code k i
+      (has_front (woven_code b) 1 (flat (main b) 0 b.code) _ in_saves) e)
 
   laid_save : (p : ℕ) (pt : Point) → slice_get b.points p ≡ Some pt
       → HasAt (woven_code b) (save_place b p) (save_block b p pt)
   laid_save p pt e =
       subst (λ n. HasAt (woven_code b) (save_place b p) (save_block b n pt)) (from_zero p)
-          (flat_at (woven_code b) (save_block b) (save_width b) (save_length b) (saves_from b) 0 b.points p pt
-          (has_front (woven_code b) (saves_from b) (flat (save_block b) 0 b.points) _ at_saves) e)
+      (flat_at (woven_code b) (save_block b) (save_width b) (save_length b) (saves_from b) 0 b.points p pt
+      (has_front (woven_code b) (saves_from b) (flat (save_block b) 0 b.points) _ at_saves) e)
 
   laid_table : (p : ℕ) (pt : Point) → slice_get b.points p ≡ Some pt
       → slice_get (woven_code b) (backs_from b + 2 + p) ≡ Some (Jump (back_place b p))
   laid_table p pt e =
       let z : backs_from b + 2 + offset (λ q. 1) b.points p
-          ≡ backs_from b + 2 + p = omega (arith, table_total b.points p
-          (omega (arith, slice_get_within b.points p pt e))) in
+      ≡ backs_from b + 2 + p = omega (
+        arith,
+        table_total b.points p
+            (omega (arith, slice_get_within b.points p pt e)),
+      ) in
       let h = flat_at (woven_code b) (table b) (λ q. 1) (table_length b) (backs_from b + 2) 0 b.points p pt
-          (has_front (woven_code b) (backs_from b + 2) (flat (table b) 0 b.points) _ at_table) e in
+      (has_front (woven_code b) (backs_from b + 2) (flat (table b) 0 b.points) _ at_table) e in
       let h' = subst (λ n. HasAt (woven_code b) (backs_from b + 2 + offset (λ q. 1) b.points p)
-          (table b n pt)) (from_zero p) h in
+      (table b n pt)) (from_zero p) h in
       subst (λ n. slice_get (woven_code b) n ≡ Some (Jump (back_place b p))) z h'.0
 
   laid_back : (p : ℕ) (pt : Point) → slice_get b.points p ≡ Some pt
       → HasAt (woven_code b) (back_place b p) (back_block b p pt)
   laid_back p pt e =
       subst (λ n. HasAt (woven_code b) (back_place b p) (back_block b n pt)) (from_zero p)
-          (flat_at (woven_code b) (back_block b) (back_width b) (back_length b)
-          (backs_from b + 2 + length b.points) 0 b.points p pt at_blocks e)
+      (flat_at (woven_code b) (back_block b) (back_width b) (back_length b)
+      (backs_from b + 2 + length b.points) 0 b.points p pt at_blocks e)
 
 pub laid : (b : Body) → Laid b (woven_code b)
 laid b =

@@ -50,9 +50,9 @@ module _ (ws : List Body) (f : ℕ) (w : Body) (found : slice_get ws f ≡ Some 
       (call_at f k slots ops) point hand sack) rest point hand sack
   back_at k slots ops rest point hand sack i e =
       ap (λ o. back_after ws (back_act o (instruction_in o k)
-          (call_at f k slots ops) point hand sack) rest point hand sack) found
-          ∙ ap (λ o. back_after ws (back_act (Some w) o
-          (call_at f k slots ops) point hand sack) rest point hand sack) e
+      (call_at f k slots ops) point hand sack) rest point hand sack) found
+      ∙ ap (λ o. back_after ws (back_act (Some w) o
+      (call_at f k slots ops) point hand sack) rest point hand sack) e
 
   slots_back : (vs ds done more : List Value) (i k : ℕ) (rest : List MachineCall) (point : ℕ)
       (sack : List Frame) (tail : List Instr) → i ≡ length done → length ds ≡ length vs
@@ -66,22 +66,25 @@ module _ (ws : List Body) (f : ℕ) (w : Body) (found : slice_get ws f ≡ Some 
   slots_back (v ∷ vs) (d ∷ ds) done more i k rest point sack tail e l h =
       let next : suc i ≡ length (done ++ v ∷ []) = omega (arith, length-append done (v ∷ [])) in
       let r = slots_back vs ds (done ++ v ∷ []) more (suc i) (k + 1) rest point sack tail next
-          (omega arith) h.1 in
+      (omega arith) h.1 in
       let S0 = restoring (call_at f k (done ++ d ∷ ds) [] ∷ rest) point (v ∷ (vs ++ more)) sack in
       let S1 = restoring (call_at f (k + 1) ((done ++ v ∷ []) ++ ds) [] ∷ rest) point (vs ++ more) sack in
       let has : slice_get (done ++ d ∷ ds) i ≡ Some d = ap (λ n. slice_get (done ++ d ∷ ds) n) e
-          ∙ get_seam done d ds in
+      ∙ get_seam done d ds in
       let put : slice_set (done ++ d ∷ ds) i v
-          ≡ (done ++ v ∷ []) ++ ds = ap (λ n. slice_set (done ++ d ∷ ds) n v) e ∙ set_seam done d v ds
-          ∙ sym (append_assoc done (v ∷ []) ds) in
+      ≡ (done ++ v ∷ []) ++ ds = ap (λ n. slice_set (done ++ d ∷ ds) n v) e ∙ set_seam done d v ds
+      ∙ sym (append_assoc done (v ∷ []) ds) in
       let st = back_at k (done ++ d ∷ ds) [] rest point (v ∷ (vs ++ more)) sack (BackSlot i) h.0
-          ∙ ap (λ o. back_after ws (where_slot o
-          (Moves (call_at f (k + 1) (slice_set (done ++ d ∷ ds) i v) []) point (vs ++ more) sack)) rest point
-          (v ∷ (vs ++ more)) sack) has ∙ ap
-          (λ l. Some (restoring (call_at f (k + 1) l [] ∷ rest) point (vs ++ more) sack)) put in
-      (r.0, first_then (back_step ws) (length vs) S0 S1 _ st
-          (r.1 ∙ ap (λ l. Some (restoring (call_at f r.0 l [] ∷ rest) point more sack))
-          (append_assoc done (v ∷ []) vs)), r.2)
+      ∙ ap (λ o. back_after ws (where_slot o
+      (Moves (call_at f (k + 1) (slice_set (done ++ d ∷ ds) i v) []) point (vs ++ more) sack)) rest point
+      (v ∷ (vs ++ more)) sack) has ∙ ap
+      (λ l. Some (restoring (call_at f (k + 1) l [] ∷ rest) point (vs ++ more) sack)) put in (
+        r.0,
+        first_then (back_step ws) (length vs) S0 S1 _ st
+            (r.1 ∙ ap (λ l. Some (restoring (call_at f r.0 l [] ∷ rest) point more sack))
+            (append_assoc done (v ∷ []) vs)),
+        r.2,
+      )
 
   tops_back : (vs : List Value) (k : ℕ) (slots ops : List Value) (rest : List MachineCall) (point : ℕ)
       (sack : List Frame) (tail : List Instr) → HasAt w.code k (back_tops (length vs) tail) → (k' : ℕ)
@@ -90,11 +93,14 @@ module _ (ws : List Body) (f : ℕ) (w : Body) (found : slice_get ws f ≡ Some 
       × HasAt w.code k' tail
   tops_back [] k slots ops rest point sack tail h = (k, refl, h)
   tops_back (v ∷ vs) k slots ops rest point sack tail h =
-      let r = tops_back vs (k + 1) slots (v ∷ ops) rest point sack tail h.1 in
-      (r.0, first_then (back_step ws) (length vs)
-          (restoring (call_at f k slots ops ∷ rest) point (v ∷ vs) sack)
-          (restoring (call_at f (k + 1) slots (v ∷ ops) ∷ rest) point vs sack) _
-          (back_at k slots ops rest point (v ∷ vs) sack BackTop h.0) r.1, r.2)
+      let r = tops_back vs (k + 1) slots (v ∷ ops) rest point sack tail h.1 in (
+        r.0,
+        first_then (back_step ws) (length vs)
+            (restoring (call_at f k slots ops ∷ rest) point (v ∷ vs) sack)
+            (restoring (call_at f (k + 1) slots (v ∷ ops) ∷ rest) point vs sack) _
+            (back_at k slots ops rest point (v ∷ vs) sack BackTop h.0) r.1,
+        r.2,
+      )
 
   -- from the function's start to a point's block
   pub head_back : (r q : ℕ) (slots : List Value) (rest : List MachineCall) (point : ℕ) (hand : List Value)
@@ -114,13 +120,13 @@ module _ (ws : List Body) (f : ℕ) (w : Body) (found : slice_get ws f ≡ Some 
       let e3' = subst (λ n. slice_get w.code n ≡ Some (Jump q)) z e3 in
       let s1 = back_at 0 slots [] rest point hand all (TestBack r) e0 in
       let s2 = back_at r slots [] rest point hand all Unpack e1
-          ∙ ap (λ a. back_after ws a rest point hand all)
-          (unpacked_end sack fr (λ left x. Moves (call_at f (r + 1) slots []) x.point x.slots left)) in
+      ∙ ap (λ a. back_after ws a rest point hand all)
+      (unpacked_end sack fr (λ left x. Moves (call_at f (r + 1) slots []) x.point x.slots left)) in
       let s3 = back_at (r + 1) slots [] rest fr.point fr.slots sack Branch e2 in
       let s4 = back_at (r + 1 + 1 + fr.point) slots [] rest fr.point fr.slots sack (Jump q) e3' in
       first_then (back_step ws) 3 S0 S1 _ s1
-          (first_then (back_step ws) 2 S1 S2 _ s2
-          (first_then (back_step ws) 1 S2 S3 _ s3 (first_then (back_step ws) 0 S3 S4 _ s4 refl)))
+      (first_then (back_step ws) 2 S1 S2 _ s2
+      (first_then (back_step ws) 1 S2 S3 _ s3 (first_then (back_step ws) 0 S3 S4 _ s4 refl)))
 
 more_values : (fr : Frame) (frs : List Frame) → values_count (fr ∷ frs) ≡ length fr.slots + values_count frs
 more_values fr frs = sum_by-cons (λ (frame : Frame). length frame.slots) fr frs
@@ -146,37 +152,40 @@ module _ (bs : List Body) where
       let l = laid b in
       let empties = map empty_of b.slots in
       let head = head_back ws c.function w wf (backs_from b)
-          (back_place b p) empties rest point hand sack fr l.head l.unpack l.branch
-          (l.tables p st.point st.mapped) in
+      (back_place b p) empties rest point hand sack fr l.head l.unpack l.branch
+      (l.tables p st.point st.mapped) in
       let block = l.backs p st.point st.mapped in
       let block1 = subst (λ n. HasAt (woven_code b) (back_place b p)
-          (back_slots 0 n (back_tops (waiting b st.point) (back_end b p st.point.calls))))
-          (sym st.slots) block in
+      (back_slots 0 n (back_tops (waiting b st.point) (back_end b p st.point.calls))))
+      (sym st.slots) block in
       let ops_len : length (reverse c.operands) ≡ length c.operands = length-reverse c.operands in
       let wait : waiting b st.point ≡ length (reverse c.operands) = waits_for bs c k callee fr st
-          ∙ sym ops_len in
+      ∙ sym ops_len in
       let block2 = subst (λ n. HasAt (woven_code b) (back_place b p)
-          (back_slots 0 (length c.slots) (back_tops n (back_end b p st.point.calls)))) wait block1 in
+      (back_slots 0 (length c.slots) (back_tops n (back_end b p st.point.calls)))) wait block1 in
       let block3 = subst (λ o. HasAt (woven_code b) (back_place b p)
-          (back_slots 0 (length c.slots) (back_tops (length (reverse c.operands))
-          (back_end b p o)))) st.calls block2 in
+      (back_slots 0 (length c.slots) (back_tops (length (reverse c.operands))
+      (back_end b p o)))) st.calls block2 in
       let fit : length empties ≡ length c.slots = length_map empty_of b.slots ∙ sym st.slots in
       let s = slots_back ws c.function w wf c.slots empties [] (reverse c.operands) 0
-          (back_place b p) rest p sack _ refl fit block3 in
+      (back_place b p) rest p sack _ refl fit block3 in
       let t = tops_back ws c.function w wf (reverse c.operands) s.0 c.slots [] rest p sack _ s.2 in
       let S1 = restoring (call_at c.function (back_place b p) empties [] ∷ rest) p fr.slots sack in
       let S1' = restoring (call_at c.function (back_place b p) empties [] ∷ rest) p
-          (c.slots ++ reverse c.operands) sack in
+      (c.slots ++ reverse c.operands) sack in
       let S2 = restoring (call_at c.function s.0 c.slots [] ∷ rest) p (reverse c.operands) sack in
       let head' = head ∙ ap (λ v. Some
-          (restoring (call_at c.function (back_place b p) empties [] ∷ rest) p v sack)) st.values in
+      (restoring (call_at c.function (back_place b p) empties [] ∷ rest) p v sack)) st.values in
       let twice : reverse_aux (reverse c.operands) [] ≡ c.operands = reverse-reverse c.operands in
       let t' = t.1 ∙ ap (λ o. Some (restoring (call_at c.function t.0 c.slots o ∷ rest) p [] sack)) twice in
       let t'' = subst (λ n. repeat (back_step ws) n S2
-          ≡ Some (restoring (call_at c.function t.0 c.slots c.operands ∷ rest) p [] sack)) ops_len t' in
-      (t.0, both_then (back_step ws) 4 (length c.slots + length c.operands)
-          (restoring (blank c.function w ∷ rest) point hand (sack ++ fr ∷ [])) S1' _ head'
-          (both_then (back_step ws) (length c.slots) (length c.operands) S1' S2 _ s.1 t''), t.2)
+      ≡ Some (restoring (call_at c.function t.0 c.slots c.operands ∷ rest) p [] sack)) ops_len t' in (
+        t.0,
+        both_then (back_step ws) 4 (length c.slots + length c.operands)
+            (restoring (blank c.function w ∷ rest) point hand (sack ++ fr ∷ [])) S1' _ head'
+            (both_then (back_step ws) (length c.slots) (length c.operands) S1' S2 _ s.1 t''),
+        t.2,
+      )
 
   -- the calls that wait, from the outermost inwards, up to the entry of the function that they wait for
   waits_back : (cs : List MachineCall) (frs : List Frame) (h g : ℕ) (bh bg : Body) (frs0 : List Frame)
@@ -186,10 +195,14 @@ module _ (bs : List Body) where
       ≡ Some (restoring (blank g (woven_of bg) ∷ map (lift_waiting bs) cs) point [] frs0))
   waits_back [] [] h g bh bg frs0 one fh fg w =
       let e : bh ≡ bg = sym (same_body bs g h bg bh w fg fh) in
-      let s = restoring (blank h (woven_of bh) ∷ []) 0 [] in
-      (0, omega arith, 0, ap (λ l. Some (restoring (blank h (woven_of bh) ∷ []) 0 [] l)) (append-nil frs0)
-          ∙ ap (λ b. Some (restoring (blank h (woven_of b) ∷ []) 0 [] frs0)) e
-          ∙ ap (λ f. Some (restoring (blank f (woven_of bg) ∷ []) 0 [] frs0)) (sym w))
+      let s = restoring (blank h (woven_of bh) ∷ []) 0 [] in (
+        0,
+        omega arith,
+        0,
+        ap (λ l. Some (restoring (blank h (woven_of bh) ∷ []) 0 [] l)) (append-nil frs0)
+            ∙ ap (λ b. Some (restoring (blank h (woven_of b) ∷ []) 0 [] frs0)) e
+            ∙ ap (λ f. Some (restoring (blank f (woven_of bg) ∷ []) 0 [] frs0)) (sym w),
+      )
   waits_back [] (fr ∷ frs) h g bh bg frs0 one fh fg w = absurd w
   waits_back (c ∷ cs) [] h g bh bg frs0 one fh fg w = absurd w
   waits_back (c ∷ cs) (fr ∷ frs) h g bh bg frs0 one fh fg w =
@@ -202,28 +215,38 @@ module _ (bs : List Body) where
       let S0 = restoring (blank h (woven_of bh) ∷ []) 0 [] (frs0 ++ fr ∷ frs) in
       let S1 = restoring (blank c.function (woven_of b) ∷ rest) a.2 [] (frs0 ++ fr ∷ []) in
       let a' = subst (λ l. repeat (back_step ws) a.0 (restoring (blank h (woven_of bh) ∷ []) 0 [] l)
-          ≡ Some S1) (append_assoc frs0 (fr ∷ []) frs) a.3 in
+      ≡ Some S1) (append_assoc frs0 (fr ∷ []) frs) a.3 in
       let m = frame_back c k (Some g) fr rest a.2 [] frs0 st in
       let S2 = restoring (call_at c.function m.0 c.slots c.operands ∷ rest) fr.point [] frs0 in
       let back = λ (o : Option Instr). λ (x : Body). Some
-          (restoring (blank g x ∷ at_place c (landing o (m.0 + 1)) c.operands ∷ rest) fr.point [] frs0) in
+      (restoring (blank g x ∷ at_place c (landing o (m.0 + 1)) c.operands ∷ rest) fr.point [] frs0) in
       let again = back_at ws c.function (woven_of b)
-          (woven_found bs c.function b st.found) m.0 c.slots c.operands rest fr.point [] frs0
-          (Again g) m.2.0 in
+      (woven_found bs c.function b st.found) m.0 c.slots c.operands rest fr.point [] frs0
+      (Again g) m.2.0 in
       let enter = ap (option_map (λ callee. restoring
-          (blank g callee ∷ at_place c (landing (slice_get (woven_code b) (m.0 + 1))
-          (m.0 + 1)) c.operands ∷ rest) fr.point [] frs0)) (woven_found bs g bg fg) in
+      (blank g callee ∷ at_place c (landing (slice_get (woven_code b) (m.0 + 1))
+      (m.0 + 1)) c.operands ∷ rest) fr.point [] frs0)) (woven_found bs g bg fg) in
       let jump = ap (λ o. back o (woven_of bg)) m.2.1.0 in
       let home = ap (λ x. Some (restoring
-          (blank g (woven_of bg) ∷ at_place c x c.operands ∷ rest) fr.point [] frs0))
-          (ap (λ x. shift b x + 1) (one c.function b st.found k fr.point (Some g) st.here)
-          ∙ sym (waiting_at bs c k b st.found w.1)) in
+      (blank g (woven_of bg) ∷ at_place c x c.operands ∷ rest) fr.point [] frs0))
+      (ap (λ x. shift b x + 1) (one c.function b st.found k fr.point (Some g) st.here)
+      ∙ sym (waiting_at bs c k b st.found w.1)) in
       let n1 = 4 + (length c.slots + length c.operands) in
-      let count : a.0 + (n1 + 1) ≤ 5 * length (fr ∷ frs) + values_count (fr ∷ frs) = omega
-          (arith, a.1, more_values fr frs, ap length st.values, length-append c.slots
-          (reverse c.operands), length-reverse c.operands) in
-      (a.0 + (n1 + 1), count, fr.point, both_then (back_step ws) a.0 (n1 + 1) S0 S1 _ a'
-          (then_one (back_step ws) n1 S1 S2 _ m.1 (again ∙ enter ∙ jump ∙ home)))
+      let count : a.0 + (n1 + 1) ≤ 5 * length (fr ∷ frs) + values_count (fr ∷ frs) = omega (
+        arith,
+        a.1,
+        more_values fr frs,
+        ap length st.values,
+        length-append c.slots
+            (reverse c.operands),
+        length-reverse c.operands,
+      ) in (
+        a.0 + (n1 + 1),
+        count,
+        fr.point,
+        both_then (back_step ws) a.0 (n1 + 1) S0 S1 _ a'
+            (then_one (back_step ws) n1 S1 S2 _ m.1 (again ∙ enter ∙ jump ∙ home)),
+      )
 
   handler_found : (cs : List MachineCall) (frs : List Frame) (h g : ℕ) (bg : Body) → slice_get bs g ≡ Some bg
       → Wait bs h cs frs g → (bh : Body) × (slice_get bs h ≡ Some bh)
@@ -250,14 +273,28 @@ module _ (bs : List Body) where
       let S2 = restoring (call_at c.function m.0 c.slots c.operands ∷ rest) fr.point [] [] in
       let done = λ (x : ℕ). Some (awake_with (at_place c x c.operands ∷ rest) fr.point [] []) in
       let wake = back_at ws c.function (woven_of b)
-          (woven_found bs c.function b st.found) m.0 c.slots c.operands rest fr.point [] [] Awake m.2.0 in
+      (woven_found bs c.function b st.found) m.0 c.slots c.operands rest fr.point [] [] Awake m.2.0 in
       let jump = ap (λ o. done (landing o (m.0 + 1))) m.2.1.0 in
       let home = ap done (ap (shift b) (one c.function b st.found c.place fr.point None st.here)
-          ∙ ap (λ o. woven_place o c.place) (sym st.found)) in
+      ∙ ap (λ o. woven_place o c.place) (sym st.found)) in
       let n1 = 4 + (length c.slots + length c.operands) in
-      let count : a.0 + (n1 + 1) ≤ most_steps (fr ∷ frs) = omega
-          (arith, a.1, more_values fr frs, ap length st.values, length-append c.slots
-          (reverse c.operands), length-reverse c.operands) in
-      (a.0 + (n1 + 1), count, (woven_of bh.0, fr.point, woven_found bs h bh.0 bh.1, both_then
-          (back_step ws) a.0 (n1 + 1) S0 S1 _ a.3
-          (then_one (back_step ws) n1 S1 S2 _ m.1 (wake ∙ jump ∙ home))))
+      let count : a.0 + (n1 + 1) ≤ most_steps (fr ∷ frs) = omega (
+        arith,
+        a.1,
+        more_values fr frs,
+        ap length st.values,
+        length-append c.slots
+            (reverse c.operands),
+        length-reverse c.operands,
+      ) in (
+        a.0 + (n1 + 1),
+        count,
+        (
+          woven_of bh.0,
+          fr.point,
+          woven_found bs h bh.0 bh.1,
+          both_then
+              (back_step ws) a.0 (n1 + 1) S0 S1 _ a.3
+              (then_one (back_step ws) n1 S1 S2 _ m.1 (wake ∙ jump ∙ home)),
+        ),
+      )

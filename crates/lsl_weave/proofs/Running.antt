@@ -60,19 +60,21 @@ end_still b = by_points b.points refl
     by_points : (ps : List Point) → b.points ≡ ps → StillAt (woven_code b) (saves_from b)
     by_points [] e =
         let z : backs_from b ≡ saves_from b = omega
-            (arith, ap (λ ps. offset (save_width b) ps (length ps)) e) in
-        (Unpack, subst (λ n. slice_get (woven_code b) n ≡ Some Unpack) z (laid b).unpack,
-            ((λ bs g held sl ops. refl), (λ q next. refl)))
+        (arith, ap (λ ps. offset (save_width b) ps (length ps)) e) in (
+          Unpack,
+          subst (λ n. slice_get (woven_code b) n ≡ Some Unpack) z (laid b).unpack,
+          ((λ bs g held sl ops. refl), (λ q next. refl)),
+        )
     by_points (p ∷ ps) e =
         let mapped : slice_get b.points 0 ≡ Some p = ap (λ l. slice_get l 0) e in
         let z : save_place b 0 ≡ saves_from b = omega (arith, offset_none (save_width b) b.points) in
         subst (StillAt (woven_code b)) z
-            (block_still (woven_code b) (save_place b 0) _ _ 0 ((laid b).saves 0 p mapped))
+        (block_still (woven_code b) (save_place b 0) _ _ 0 ((laid b).saves 0 p mapped))
 
 pub past_still : (b : Body) (k : ℕ) → slice_get b.code k ≡ None → StillAt (woven_code b) (shift b k)
 past_still b k e =
     let z : saves_from b ≡ shift b k = ap (λ n. 1 + n)
-        (sym (offset_past width b.code k (none_past b.code k e))) in
+    (sym (offset_past width b.code k (none_past b.code k e))) in
     subst (StillAt (woven_code b)) z (end_still b)
 
 -- the woven machine comes to where the plain one has come, or is one test before it
@@ -84,7 +86,7 @@ abbrev pub Alike : List Body → Next → Next → Type 0
 Alike bs (On m) y = (u : Machine) × (y ≡ On u) × OuterAreBehind bs m.calls × Reaches bs m u
 Alike bs (Pauses (Passing m)) y =
     (u : Machine) × (y ≡ Pauses (Passing u)) × OuterAreBehind bs m.calls
-        × (step (all_woven bs) u ≡ On (lift_machine bs m)) × (2 * left bs m < fuel (all_woven bs) u)
+    × (step (all_woven bs) u ≡ On (lift_machine bs m)) × (2 * left bs m < fuel (all_woven bs) u)
 Alike bs (Pauses (Waiting id args)) y = y ≡ Pauses (Waiting id args)
 Alike bs (Halts e) y = y ≡ Halts e
 
@@ -95,7 +97,7 @@ woven_does : (bs : List Body) (g : Kept) (a : List Reply) (f x : ℕ) (sl ops : 
     → step (all_woven bs) (put g a f x sl ops low) ≡ done_by (all_woven bs) (Some i) g a f x sl ops low
 woven_does bs g a f x sl ops low b i found e =
     ap (λ o. done_by (all_woven bs) (instruction_in o x) g a f x sl ops low) (woven_found bs f b found)
-        ∙ ap (λ o. done_by (all_woven bs) o g a f x sl ops low) e
+    ∙ ap (λ o. done_by (all_woven bs) o g a f x sl ops low) e
 
 -- the place of a lifted call
 top_is : (bs : List Body) (g : Kept) (a : List Reply) (f k : ℕ) (sl ops : List Value)
@@ -118,7 +120,7 @@ module _ (bs : List Body) (g : Kept) (a : List Reply) where
       let low = map (lift_waiting bs) rest in
       let z : 0 + 1 ≡ shift b 0 = omega (arith, offset_none width b.code) in
       woven_does bs g a f 0 ns [] low b (TestBack (backs_from b)) found (laid b).head
-          ∙ ap (λ n. On (put g a f n ns [] low)) z ∙ ap On (top_is bs g a f 0 ns [] rest b found)
+      ∙ ap (λ n. On (put g a f n ns [] low)) z ∙ ap On (top_is bs g a f 0 ns [] rest b found)
 
   -- the test behind a point
   test_step : (f k t : ℕ) (sl ops : List Value) (rest : List MachineCall) (b : Body) → slice_get bs f ≡ Some b
@@ -129,7 +131,7 @@ module _ (bs : List Body) (g : Kept) (a : List Reply) where
       let low = map (lift_waiting bs) rest in
       let z : shift b k + 1 + 1 ≡ shift b (k + 1) = omega (arith, s) in
       woven_does bs g a f (shift b k + 1) sl ops low b (TestSave t) found e
-          ∙ ap (λ n. On (put g a f n sl ops low)) z ∙ ap On (top_is bs g a f (k + 1) sl ops rest b found)
+      ∙ ap (λ n. On (put g a f n sl ops low)) z ∙ ap On (top_is bs g a f (k + 1) sl ops rest b found)
 
   -- a caller that has come back
   caller_reaches : (c : MachineCall) (rest : List MachineCall) (ops : List Value) → IsBehindCall bs c
@@ -142,12 +144,12 @@ module _ (bs : List Body) (g : Kept) (a : List Reply) where
       let low = map (lift_waiting bs) rest in
       let z : c.place - 1 ≡ k = omega (arith, h.5) in
       let x_is : (lift_waiting bs c).place ≡ shift b k + 1 = ap (λ o. woven_place o (c.place - 1) + 1) found
-          ∙ ap (λ n. shift b n + 1) z in
+      ∙ ap (λ n. shift b n + 1) z in
       let test = ((laid b).mains k (Call h.2 h.3) h.6).1.0 in
       let s = test_step c.function k (save_place b h.3) c.slots ops rest b found test
-          (shift_next b k (Call h.2 h.3) h.6) in
+      (shift_next b k (Call h.2 h.3) h.6) in
       inr (ap (λ n. step (all_woven bs) (put g a c.function n c.slots ops low)) x_is ∙ s
-          ∙ ap (λ n. On (lift_machine bs (put g a c.function n c.slots ops rest))) (sym h.5))
+      ∙ ap (λ n. On (lift_machine bs (put g a c.function n c.slots ops rest))) (sym h.5))
 
   checked_alike : (t t' : Bool) (m u : Machine) → t' ≡ t → OuterAreBehind bs m.calls → Reaches bs m u
       → Alike bs (cond t (On m) (Halts (Faulted StackHeap))) (cond t' (On u) (Halts (Faulted StackHeap)))
@@ -157,16 +159,20 @@ module _ (bs : List Body) (g : Kept) (a : List Reply) where
   left_alike : (rest : List MachineCall) (o : Option Value) → AreBehindCalls bs rest
       → Alike bs (left_to rest g a o) (left_to (map (lift_waiting bs) rest) g a o)
   left_alike [] o h = refl
-  left_alike (c ∷ rest) None h =
-      (put g a c.function (lift_waiting bs c).place c.slots c.operands
-          (map (lift_waiting bs) rest), refl, h.1, caller_reaches c rest c.operands h.0)
+  left_alike (c ∷ rest) None h = (
+    put g a c.function (lift_waiting bs c).place c.slots c.operands
+        (map (lift_waiting bs) rest),
+    refl,
+    h.1,
+    caller_reaches c rest c.operands h.0,
+  )
   left_alike (c ∷ rest) (Some v) h =
       let ops = v ∷ c.operands in
       let m = put g a c.function c.place c.slots ops rest in
       let u = put g a c.function (lift_waiting bs c).place c.slots ops (map (lift_waiting bs) rest) in
       checked_alike (is_within g (used_in m.calls g)) (is_within g (used_in u.calls g)) m u
-          (ap (λ n. is_within g (used (hold_all n ops) c.slots g)) (base_lift bs rest)) h.1
-          (caller_reaches c rest ops h.0)
+      (ap (λ n. is_within g (used (hold_all n ops) c.slots g)) (base_lift bs rest)) h.1
+      (caller_reaches c rest ops h.0)
 
   only_if_alike : (t : Bool) (x y : Next) → Alike bs x y
       → Alike bs (cond t x (Halts Lost)) (cond t y (Halts Lost))
@@ -189,13 +195,17 @@ module _ (bs : List Body) (g : Kept) (a : List Reply) where
       let m = put g more f (k + 1) sl (v ∷ r) rest in
       let u = put g more f x sl (v ∷ r) low in
       checked_alike (is_within g (used_in m.calls g)) (is_within g (used_in u.calls g)) m u
-          (ap (λ n. is_within g (used (hold_all n (v ∷ r)) sl g)) (base_lift bs rest)) h
-          (inl (ap (λ n. put g more f n sl (v ∷ r) low) s
-          ∙ top_is bs g more f (k + 1) sl (v ∷ r) rest b found))
+      (ap (λ n. is_within g (used (hold_all n (v ∷ r)) sl g)) (base_lift bs rest)) h
+      (inl (ap (λ n. put g more f n sl (v ∷ r) low) s
+      ∙ top_is bs g more f (k + 1) sl (v ∷ r) rest b found))
   replied_alike more f k x sl r rest b found s h (reply.Value None) =
-      let low = map (lift_waiting bs) rest in
-      (put g more f x sl r low, refl, h, inl
-          (ap (λ n. put g more f n sl r low) s ∙ top_is bs g more f (k + 1) sl r rest b found))
+      let low = map (lift_waiting bs) rest in (
+        put g more f x sl r low,
+        refl,
+        h,
+        inl
+            (ap (λ n. put g more f n sl r low) s ∙ top_is bs g more f (k + 1) sl r rest b found),
+      )
   replied_alike more f k x sl r rest b found s h (reply.Stop fault) = refl
 
   -- one instruction of a function that is there
@@ -205,43 +215,59 @@ module _ (bs : List Body) (g : Kept) (a : List Reply) where
       (after d' g a f (shift b k) sl ops (map (lift_waiting bs) rest))
   after_alike (Goes sl' ops' g') i f k sl ops rest b found e by h d' l =
       let low = map (lift_waiting bs) rest in
-      let s : shift b k + 1 ≡ shift b (k + 1) = omega (arith, shift_next b k i e, straight_width i by) in
-      (put g' a f (shift b k + 1) sl' ops' low, ap (λ d. after d g a f (shift b k) sl ops low) l, h, inl
-          (ap (λ n. put g' a f n sl' ops' low) s ∙ top_is bs g' a f (k + 1) sl' ops' rest b found))
+      let s : shift b k + 1 ≡ shift b (k + 1) = omega (arith, shift_next b k i e, straight_width i by) in (
+        put g' a f (shift b k + 1) sl' ops' low,
+        ap (λ d. after d g a f (shift b k) sl ops low) l,
+        h,
+        inl
+            (ap (λ n. put g' a f n sl' ops' low) s ∙ top_is bs g' a f (k + 1) sl' ops' rest b found),
+      )
   after_alike (Jumps t ops') i f k sl ops rest b found e by h d' l =
-      let low = map (lift_waiting bs) rest in
-      (put g a f (shift b t) sl ops' low, ap (λ d. after d g a f (shift b k) sl ops low) l, h, inl
-          (top_is bs g a f t sl ops' rest b found))
+      let low = map (lift_waiting bs) rest in (
+        put g a f (shift b t) sl ops' low,
+        ap (λ d. after d g a f (shift b k) sl ops low) l,
+        h,
+        inl
+            (top_is bs g a f t sl ops' rest b found),
+      )
   after_alike (Enters j ns r) i f k sl ops rest b found e by h d' l =
       let low = map (lift_waiting bs) rest in
       let c = call_at f (k + 1) sl r in
       let z : k + 1 - 1 ≡ k = omega arith in
       let wait : (lift_waiting bs c).place ≡ shift b k + 1 = ap (λ o. woven_place o (k + 1 - 1) + 1) found
-          ∙ ap (λ n. shift b n + 1) z in
+      ∙ ap (λ n. shift b n + 1) z in
       let u = put g a j 0 ns [] (map (lift_waiting bs) (c ∷ rest)) in
-      let is : slice_get b.code k ≡ Some (Call j by.0) = e ∙ ap Some by.1 in
-      (u, ap (λ d. after d g a f (shift b k) sl ops low) l
-          ∙ ap (λ n. On (put g a j 0 ns [] (call_at f n sl r ∷ low))) (sym wait),
-          ((b, k, j, by.0, found, refl, is), h), inr (head_step j by.2 ns (c ∷ rest) by.3))
+      let is : slice_get b.code k ≡ Some (Call j by.0) = e ∙ ap Some by.1 in (
+        u,
+        ap (λ d. after d g a f (shift b k) sl ops low) l
+            ∙ ap (λ n. On (put g a j 0 ns [] (call_at f n sl r ∷ low))) (sym wait),
+        ((b, k, j, by.0, found, refl, is), h),
+        inr (head_step j by.2 ns (c ∷ rest) by.3),
+      )
   after_alike (Leaves o) i f k sl ops rest b found e by h d' l =
       subst (Alike bs (left_to rest g a o))
-          (sym (ap (λ d. after d g a f (shift b k) sl ops (map (lift_waiting bs) rest)) l))
-          (left_alike rest o h)
+      (sym (ap (λ d. after d g a f (shift b k) sl ops (map (lift_waiting bs) rest)) l))
+      (left_alike rest o h)
   after_alike Passes i f k sl ops rest b found e by h d' l =
       let low = map (lift_waiting bs) rest in
       let is : slice_get b.code k ≡ Some (Tick by.0) = e ∙ ap Some by.1 in
-      let test = ((laid b).mains k (Tick by.0) is).1.0 in
-      (put g a f (shift b k + 1) sl ops low, ap
-          (λ d. after d g a f (shift b k) sl ops low) l, h, test_step f k
-          (save_place b by.0) sl ops rest b found test (shift_next b k (Tick by.0) is), fuel_top bs g a f
-          (k + 1) (shift b k + 1) sl ops sl ops rest)
+      let test = ((laid b).mains k (Tick by.0) is).1.0 in (
+        put g a f (shift b k + 1) sl ops low,
+        ap
+            (λ d. after d g a f (shift b k) sl ops low) l,
+        h,
+        test_step f k
+            (save_place b by.0) sl ops rest b found test (shift_next b k (Tick by.0) is),
+        fuel_top bs g a f
+            (k + 1) (shift b k + 1) sl ops sl ops rest,
+      )
   after_alike (Asks id args r) i f k sl ops rest b found e by h d' l =
       let low = map (lift_waiting bs) rest in
       let s : shift b k + 1 ≡ shift b (k + 1) = omega (arith, shift_next b k i e, ap width by) in
       subst (Alike bs (answered a id args (λ x more. replied x g more f (k + 1) sl r rest)))
-          (sym (ap (λ d. after d g a f (shift b k) sl ops low) l))
-          (answered_alike a id args _ _ (λ x more. replied_alike more f k
-          (shift b k + 1) sl r rest b found s h x))
+      (sym (ap (λ d. after d g a f (shift b k) sl ops low) l))
+      (answered_alike a id args _ _ (λ x more. replied_alike more f k
+      (shift b k + 1) sl r rest b found s h x))
   after_alike (Ends s) i f k sl ops rest b found e by h d' l =
       ap (λ d. after d g a f (shift b k) sl ops (map (lift_waiting bs) rest)) l
   after_alike (Fails x) i f k sl ops rest b found e by h d' l =
@@ -257,10 +283,10 @@ module _ (bs : List Body) where
       ≡ Halts Lost
   unknown_alike g a c rest found =
       let there : slice_get (all_woven bs) c.function ≡ None = slice_get-map woven_of bs c.function
-          ∙ ap (option_map woven_of) found in
+      ∙ ap (option_map woven_of) found in
       let x = woven_place (slice_get bs c.function) c.place in
       ap (λ o. done_by (all_woven bs) (instruction_in o x) g a c.function x c.slots c.operands
-          (map (lift_waiting bs) rest)) there
+      (map (lift_waiting bs) rest)) there
 
   past_alike : (g : Kept) (a : List Reply) (f k : ℕ) (sl ops : List Value) (rest : List MachineCall)
       (b : Body) → slice_get bs f ≡ Some b → slice_get b.code k ≡ None
@@ -269,8 +295,8 @@ module _ (bs : List Body) where
       let low = map (lift_waiting bs) rest in
       let s = past_still b k e in
       ap (step (all_woven bs)) (sym (top_is bs g a f k sl ops rest b found))
-          ∙ woven_does bs g a f (shift b k) sl ops low b s.0 found s.1
-          ∙ ap (λ d. after d g a f (shift b k) sl ops low) (s.2.0 (all_woven bs) g (base low) sl ops)
+      ∙ woven_does bs g a f (shift b k) sl ops low b s.0 found s.1
+      ∙ ap (λ d. after d g a f (shift b k) sl ops low) (s.2.0 (all_woven bs) g (base low) sl ops)
 
   found_alike : (g : Kept) (a : List Reply) (f k : ℕ) (sl ops : List Value) (rest : List MachineCall)
       (b : Body) (i : Instr) → slice_get bs f ≡ Some b → slice_get b.code k ≡ Some i → AreBehindCalls bs rest
@@ -283,12 +309,12 @@ module _ (bs : List Body) where
       let d' = act ws (Some (first b i)) g (base rest) sl ops in
       let there = first_at b (woven_code b) (shift b k) k i ((laid b).mains k i e) in
       let s = ap (step ws) (sym (top_is bs g a f k sl ops rest b found))
-          ∙ woven_does bs g a f (shift b k) sl ops low b (first b i) found there
-          ∙ ap (λ n. after (act ws (Some (first b i)) g n sl ops) g a f (shift b k) sl ops low)
-          (base_lift bs rest) in
+      ∙ woven_does bs g a f (shift b k) sl ops low b (first b i) found there
+      ∙ ap (λ n. after (act ws (Some (first b i)) g n sl ops) g a f (shift b k) sl ops low)
+      (base_lift bs rest) in
       subst (Alike bs (after d g a f k sl ops rest)) (sym s)
-          (after_alike bs g a d i f k sl ops rest b found e (act_by bs i g (base rest) sl ops) h d'
-          (act_lift b bs i g (base rest) sl ops))
+      (after_alike bs g a d i f k sl ops rest b found e (act_by bs i g (base rest) sl ops) h d'
+      (act_lift b bs i g (base rest) sl ops))
 
   fetched_alike : (g : Kept) (a : List Reply) (c : MachineCall) (rest : List MachineCall) (ob : Option Body)
       (oi : Option Instr) → AreBehindCalls bs rest → slice_get bs c.function ≡ ob
@@ -357,29 +383,29 @@ module _ (bs : List Body) (forward : Forward bs) where
         steps_on ws (passed ws t) (suc n) (lift_machine bs m) alike.0 alike.1
         ∙ ⊎_elim
         (λ (same : alike.0 ≡ lift_machine bs next). ap (steps ws (passed ws t) (suc n)) same
-            ∙ go k refl (suc n) next (omega arith) (omega arith) alike.2)
+        ∙ go k refl (suc n) next (omega arith) (omega arith) alike.2)
         (λ (test : step ws alike.0 ≡ On (lift_machine bs next)). steps_on ws (passed ws t) n alike.0
-            (lift_machine bs next) test ∙ go k refl n next (omega arith) (omega arith) alike.2)
+        (lift_machine bs next) test ∙ go k refl n next (omega arith) (omega arith) alike.2)
         alike.3
     on_alike k n m (Pauses (Passing next)) go le more falls alike =
         steps_end (all_woven bs) (passed (all_woven bs) t) n (lift_machine bs m)
-            (Pauses (Passing alike.0)) _ alike.1 (λ _. tick m next alike.0 alike.2 alike.3 alike.4)
+        (Pauses (Passing alike.0)) _ alike.1 (λ _. tick m next alike.0 alike.2 alike.3 alike.4)
     on_alike k n m (Pauses (Waiting id args)) go le more falls alike =
         steps_end (all_woven bs) (passed (all_woven bs) t) n (lift_machine bs m)
-            (Pauses (Waiting id args)) _ alike
-            (λ _. asked (all_woven bs) t (lift_machine bs m) id args
-            ∙ sym (ap (lift_halt bs) (asked bs t m id args)))
+        (Pauses (Waiting id args)) _ alike
+        (λ _. asked (all_woven bs) t (lift_machine bs m) id args
+        ∙ sym (ap (lift_halt bs) (asked bs t m id args)))
     on_alike k n m (Halts e) go le more falls alike =
         steps_end (all_woven bs) (passed (all_woven bs) t) n (lift_machine bs m) (Halts e) _ alike (λ _. refl)
 
     stretch : (k : ℕ) → Stretch k
     stretch zero n m le more h =
         on_alike zero n m (step bs m) (λ j e. absurd (omega arith)) le more (step_falls bs forward m)
-            (step_alike bs m h) ∙ sym (ap (lift_halt bs) (run_law bs forward t m))
+        (step_alike bs m h) ∙ sym (ap (lift_halt bs) (run_law bs forward t m))
     stretch (suc k) n m le more h =
         on_alike (suc k) n m (step bs m)
-            (λ j e. let same : k ≡ j = omega arith in subst Stretch same (stretch k)) le more
-            (step_falls bs forward m) (step_alike bs m h) ∙ sym (ap (lift_halt bs) (run_law bs forward t m))
+        (λ j e. let same : k ≡ j = omega arith in subst Stretch same (stretch k)) le more
+        (step_falls bs forward m) (step_alike bs m h) ∙ sym (ap (lift_halt bs) (run_law bs forward t m))
 
   tick_alike : (t : ℕ) → TickAlike t
   tick_alike zero m next u h e le = refl
@@ -391,7 +417,7 @@ module _ (bs : List Body) (forward : Forward bs) where
       by_fuel tick (suc n) z =
           let ws = all_woven bs in
           run_is ws t u ∙ ap (λ n. steps ws (passed ws t) n u) z
-              ∙ steps_on ws (passed ws t) n u (lift_machine bs next) e
+          ∙ steps_on ws (passed ws t) n u (lift_machine bs next) e
           ∙ stretch t tick (left bs next) n next (omega arith) (omega arith) h
 
   -- the run of the woven unit is that of the plain one
@@ -399,10 +425,13 @@ module _ (bs : List Body) (forward : Forward bs) where
       → run (all_woven bs) t (lift_machine bs m) ≡ lift_halt bs (run bs t m)
   runs_alike t m h =
       run_is (all_woven bs) t (lift_machine bs m)
-          ∙ stretch t (tick_alike t) (left bs m) (fuel (all_woven bs) (lift_machine bs m)) m (omega arith)
-          (enough m.calls) h
+      ∙ stretch t (tick_alike t) (left bs m) (fuel (all_woven bs) (lift_machine bs m)) m (omega arith)
+      (enough m.calls) h
     where
       enough : (calls : List MachineCall) → 2 * left_in bs calls ≤ fuel_in (all_woven bs) (lift bs calls)
       enough [] = omega arith
-      enough (c ∷ rest) = omega (arith, fuel_top bs m.kept m.answers c.function c.place
-          (woven_place (slice_get bs c.function) c.place) c.slots c.operands c.slots c.operands rest)
+      enough (c ∷ rest) = omega (
+        arith,
+        fuel_top bs m.kept m.answers c.function c.place
+            (woven_place (slice_get bs c.function) c.place) c.slots c.operands c.slots c.operands rest,
+      )

@@ -46,7 +46,7 @@ module _ (ws : List Body) (f : ℕ) (w : Body) (found : slice_get ws f ≡ Some 
       ≡ save_after (save_act (Some i) (call_at f k slots ops) hand) rest sack
   save_at k slots ops rest hand sack i e =
       ap (λ o. save_after (save_act o (call_at f k slots ops) hand) rest sack)
-          (ap (λ o. instruction_in o k) found ∙ e)
+      (ap (λ o. instruction_in o k) found ∙ e)
 
   tops_kept : (ops : List Value) (k : ℕ) (slots : List Value) (rest : List MachineCall) (hand : List Value)
       (sack : List Frame) (tail : List Instr) → HasAt w.code k (keep_tops (length ops) tail) → (k' : ℕ)
@@ -54,10 +54,13 @@ module _ (ws : List Body) (f : ℕ) (w : Body) (found : slice_get ws f ≡ Some 
       ≡ Some (saving (call_at f k' slots [] ∷ rest) (reverse_aux ops hand) sack)) × HasAt w.code k' tail
   tops_kept [] k slots rest hand sack tail h = (k, refl, h)
   tops_kept (v ∷ ops) k slots rest hand sack tail h =
-      let r = tops_kept ops (k + 1) slots rest (v ∷ hand) sack tail h.1 in
-      (r.0, first_then (save_step ws) (length ops) (saving (call_at f k slots (v ∷ ops) ∷ rest) hand sack)
-          (saving (call_at f (k + 1) slots ops ∷ rest) (v ∷ hand) sack) _
-          (save_at k slots (v ∷ ops) rest hand sack KeepTop h.0) r.1, r.2)
+      let r = tops_kept ops (k + 1) slots rest (v ∷ hand) sack tail h.1 in (
+        r.0,
+        first_then (save_step ws) (length ops) (saving (call_at f k slots (v ∷ ops) ∷ rest) hand sack)
+            (saving (call_at f (k + 1) slots ops ∷ rest) (v ∷ hand) sack) _
+            (save_at k slots (v ∷ ops) rest hand sack KeepTop h.0) r.1,
+        r.2,
+      )
 
   slots_kept : (n k : ℕ) (slots : List Value) (rest : List MachineCall) (hand : List Value)
       (sack : List Frame) (tail : List Instr) → n ≤ length slots → HasAt w.code k (keep_slots n tail)
@@ -68,12 +71,15 @@ module _ (ws : List Body) (f : ℕ) (w : Body) (found : slice_get ws f ≡ Some 
       let v = has_value slots n (omega arith) in
       let r = slots_kept n (k + 1) slots rest (v.0 ∷ hand) sack tail (omega arith) h.1 in
       let st = save_at k slots [] rest hand sack (KeepSlot n) h.0
-          ∙ ap (λ o. save_after (keeps_slot o
-          (λ u. Keeps (call_at f (k + 1) slots []) (u ∷ hand))) rest sack) v.1 in
-      (r.0, first_then (save_step ws) n (saving (call_at f k slots [] ∷ rest) hand sack)
-          (saving (call_at f (k + 1) slots [] ∷ rest) (v.0 ∷ hand) sack) _ st
-          (r.1 ∙ ap (λ l. Some (saving (call_at f r.0 slots [] ∷ rest) l sack))
-          (take_one_more slots n v.0 hand v.1)), r.2)
+      ∙ ap (λ o. save_after (keeps_slot o
+      (λ u. Keeps (call_at f (k + 1) slots []) (u ∷ hand))) rest sack) v.1 in (
+        r.0,
+        first_then (save_step ws) n (saving (call_at f k slots [] ∷ rest) hand sack)
+            (saving (call_at f (k + 1) slots [] ∷ rest) (v.0 ∷ hand) sack) _ st
+            (r.1 ∙ ap (λ l. Some (saving (call_at f r.0 slots [] ∷ rest) l sack))
+            (take_one_more slots n v.0 hand v.1)),
+        r.2,
+      )
 
   -- a whole block
   block_kept : (k p : ℕ) (slots ops : List Value) (rest : List MachineCall) (sack : List Frame)
@@ -85,16 +91,16 @@ module _ (ws : List Body) (f : ℕ) (w : Body) (found : slice_get ws f ≡ Some 
       let a = tops_kept ops k slots rest [] sack _ h in
       let b = slots_kept (length slots) a.0 slots rest (reverse_aux ops []) sack _ (omega arith) a.2 in
       let v : take (length slots) slots ++ reverse_aux ops []
-          ≡ slots ++ reverse ops = ap (λ l. l ++ reverse ops) (take_all slots) in
+      ≡ slots ++ reverse ops = ap (λ l. l ++ reverse ops) (take_all slots) in
       let st = save_at b.0 slots [] rest (take (length slots) slots ++ reverse_aux ops []) sack
-          (Seal p) b.2.0 in
+      (Seal p) b.2.0 in
       let st' = st ∙ ap (λ l. Some (saving rest [] (sack ++ frame_of f p l ∷ []))) v in
       both_then (save_step ws) (length ops) (length slots + 1) (saving (call_at f k slots ops ∷ rest) [] sack)
-          (saving (call_at f a.0 slots [] ∷ rest) (reverse_aux ops []) sack) _ a.1
-          (then_one (save_step ws) (length slots)
-          (saving (call_at f a.0 slots [] ∷ rest) (reverse_aux ops []) sack)
-          (saving (call_at f b.0 slots [] ∷ rest)
-          (take (length slots) slots ++ reverse_aux ops []) sack) _ b.1 st')
+      (saving (call_at f a.0 slots [] ∷ rest) (reverse_aux ops []) sack) _ a.1
+      (then_one (save_step ws) (length slots)
+      (saving (call_at f a.0 slots [] ∷ rest) (reverse_aux ops []) sack)
+      (saving (call_at f b.0 slots [] ∷ rest)
+      (take (length slots) slots ++ reverse_aux ops []) sack) _ b.1 st')
 
 -- directly behind a point stands the test that leads to its block
 test_behind : (b : Body) (code : List Instr) (s k p : ℕ) (callee : Option ℕ)
@@ -111,16 +117,23 @@ frame_is : (f p : ℕ) (values : List Value) (fr : Frame) → fr.function ≡ f 
     → frame_of f p values ≡ fr
 frame_is f p values fr a b c =
     ap (λ x. frame_of x p values) (sym a) ∙ ap (λ x. frame_of fr.function x values) (sym b)
-        ∙ ap (λ x. frame_of fr.function fr.point x) (sym c)
+    ∙ ap (λ x. frame_of fr.function fr.point x) (sym c)
 
 module _ (bs : List Body) where
   -- how many operands wait is told by the point's map
   pub waits_for : (c : MachineCall) (k : ℕ) (callee : Option ℕ) (fr : Frame) (st : Stands bs c k callee fr)
       → waiting st.body st.point ≡ length c.operands
   waits_for c k callee fr st =
-      omega
-          (arith, ap length st.kinds, length_map kind_of fr.slots, ap length st.values, length-append c.slots
-          (reverse c.operands), length-reverse c.operands, st.slots)
+      omega (
+        arith,
+        ap length st.kinds,
+        length_map kind_of fr.slots,
+        ap length st.values,
+        length-append c.slots
+            (reverse c.operands),
+        length-reverse c.operands,
+        st.slots,
+      )
 
   one_saved : (c : MachineCall) (k : ℕ) (callee : Option ℕ) (fr : Frame) (rest : List MachineCall)
       (sack : List Frame) (x : ℕ) (st : Stands bs c k callee fr) → x ≡ shift st.body k + 1 → (n : ℕ)
@@ -133,22 +146,24 @@ module _ (bs : List Body) where
       let wf = woven_found bs c.function b st.found in
       let l = laid b in
       let test = test_behind b (woven_code b) (shift b k) k p callee
-          (l.mains k (point_instr callee p) st.here) in
+      (l.mains k (point_instr callee p) st.here) in
       let test' = subst (λ n. slice_get (woven_code b) n ≡ Some (TestSave (save_place b p))) (sym e) test in
       let go = save_at ws c.function (woven_of b) wf x c.slots c.operands rest [] sack
-          (TestSave (save_place b p)) test' in
+      (TestSave (save_place b p)) test' in
       let block = l.saves p st.point st.mapped in
       let block' = subst (λ n. HasAt (woven_code b) (save_place b p)
-          (keep_tops n (keep_slots (length b.slots) (Seal p ∷ [])))) (waits_for c k callee fr st) block in
+      (keep_tops n (keep_slots (length b.slots) (Seal p ∷ [])))) (waits_for c k callee fr st) block in
       let block'' = subst (λ n. HasAt (woven_code b) (save_place b p)
-          (keep_tops (length c.operands) (keep_slots n (Seal p ∷ [])))) (sym st.slots) block' in
+      (keep_tops (length c.operands) (keep_slots n (Seal p ∷ [])))) (sym st.slots) block' in
       let kept = block_kept ws c.function (woven_of b) wf
-          (save_place b p) p c.slots c.operands rest sack block'' in
+      (save_place b p) p c.slots c.operands rest sack block'' in
       let kept' = kept ∙ ap (λ r. Some (saving rest [] (sack ++ r ∷ [])))
-          (frame_is c.function p (c.slots ++ reverse c.operands) fr st.function refl st.values) in
-      (suc (length c.operands + (length c.slots + 1)), first_then (save_step ws)
-          (length c.operands + (length c.slots + 1)) (saving (at_place c x c.operands ∷ rest) [] sack)
-          (saving (at_place c (save_place b p) c.operands ∷ rest) [] sack) _ go kept')
+      (frame_is c.function p (c.slots ++ reverse c.operands) fr st.function refl st.values) in (
+        suc (length c.operands + (length c.slots + 1)),
+        first_then (save_step ws)
+            (length c.operands + (length c.slots + 1)) (saving (at_place c x c.operands ∷ rest) [] sack)
+            (saving (at_place c (save_place b p) c.operands ∷ rest) [] sack) _ go kept',
+      )
 
   pub waiting_at : (c : MachineCall) (k : ℕ) (b : Body) → slice_get bs c.function ≡ Some b → c.place ≡ k + 1
       → woven_place (slice_get bs c.function) (c.place - 1) + 1 ≡ shift b k + 1
@@ -167,12 +182,14 @@ module _ (bs : List Body) where
       let st : Stands bs c k (Some g) fr = w.2 in
       let rest = map (lift_waiting bs) cs in
       let a = one_saved c k (Some g) fr rest sack (woven_place (slice_get bs c.function) (c.place - 1) + 1) st
-          (waiting_at c k st.body st.found w.1) in
+      (waiting_at c k st.body st.found w.1) in
       let b = waits_saved cs frs h c.function (sack ++ fr ∷ []) w.3 in
-      let e = append_assoc sack (fr ∷ []) frs in
-      (a.0 + b.0, both_then (save_step (all_woven bs)) a.0 b.0
-          (saving (map (lift_waiting bs) (c ∷ cs)) [] sack) (saving rest [] (sack ++ fr ∷ [])) _ a.1
-          (b.1 ∙ ap (λ l. Some (saving [] [] l)) e))
+      let e = append_assoc sack (fr ∷ []) frs in (
+        a.0 + b.0,
+        both_then (save_step (all_woven bs)) a.0 b.0
+            (saving (map (lift_waiting bs) (c ∷ cs)) [] sack) (saving rest [] (sack ++ fr ∷ [])) _ a.1
+            (b.1 ∙ ap (λ l. Some (saving [] [] l)) e),
+      )
 
   -- saving ends with the frames
   pub frames_saved : (h : ℕ) (cs : List MachineCall) (frs : List Frame) → HasFrames bs h cs frs → (n : ℕ)
@@ -184,6 +201,8 @@ module _ (bs : List Body) where
       let rest = map (lift_waiting bs) cs in
       let x = woven_place (slice_get bs c.function) c.place + 1 in
       let a = one_saved c c.place None fr rest [] x st (ap (λ o. woven_place o c.place + 1) st.found) in
-      let b = waits_saved cs frs h c.function (fr ∷ []) w.1 in
-      (a.0 + b.0, both_then (save_step (all_woven bs)) a.0 b.0 (begins_saving (lift bs (c ∷ cs)))
-          (saving rest [] (fr ∷ [])) _ a.1 b.1)
+      let b = waits_saved cs frs h c.function (fr ∷ []) w.1 in (
+        a.0 + b.0,
+        both_then (save_step (all_woven bs)) a.0 b.0 (begins_saving (lift bs (c ∷ cs)))
+            (saving rest [] (fr ∷ [])) _ a.1 b.1,
+      )

@@ -58,10 +58,10 @@ pub looks : {A : Type 0} (start : ℕ) (w : A → ℕ) (xs : List A) (table : Li
 looks start w xs table place r t inside past =
     ⊎_elim
     (λ lt. let e : Some r ≡ Some (start + offset w xs place) = sym (inside lt)
-        ∙ t.at place (omega (arith, t.long)) in cc)
+    ∙ t.at place (omega (arith, t.long)) in cc)
     (λ ge. let z : length table - 1 ≡ length xs = omega (arith, t.long) in
     let e : Some r ≡ Some (start + offset w xs (length xs)) = sym (past ge) ∙ ap (slice_get table) z
-        ∙ t.at (length xs) (omega arith) in
+    ∙ t.at (length xs) (omega arith) in
     let same : offset w xs place ≡ offset w xs (length xs) = offset_past w xs place (omega (arith, t.long)) in
     let r_is : r ≡ start + offset w xs (length xs) = cc in
     omega arith)

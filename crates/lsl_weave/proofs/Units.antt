@@ -40,4 +40,4 @@ units_restore globals states bodies fits h frames x fit =
 pub units_run_alike : UnitsRunAlike
 units_run_alike globals states bodies fits h ticks m chain =
     runs_alike bodies (fits_tells globals states bodies fits).forward ticks m
-        (chain_behind bodies h m.calls chain)
+    (chain_behind bodies h m.calls chain)

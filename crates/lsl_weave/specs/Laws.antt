@@ -15,7 +15,7 @@ use Rattle.lsl_weave.specs.Lifting.{lift_machine, lift_halt, OuterAreBehind, mos
 abbrev pub SavesItsFrames : Type 0
 SavesItsFrames =
     (bodies : List Body) (handler : ℕ) (m : Machine) (frames : List Frame)
-        → HasFrames bodies handler m.calls frames
+    → HasFrames bodies handler m.calls frames
     → SaveRun (all_woven bodies) (lift_machine bodies m) frames (beside_of m)
 
 -- restoring these frames beside the same ends with that machine, within 16 instructions, 8 a frame and 4 a
@@ -43,7 +43,7 @@ ChargesAlike =
 abbrev pub FramesAreCharged : Type 0
 FramesAreCharged =
     (bodies : List Body) (handler : ℕ) (m : Machine) (frames : List Frame)
-        → HasFrames bodies handler m.calls frames
+    → HasFrames bodies handler m.calls frames
     → used_in m.calls m.kept ≡ parked_charge m.kept.globals frames
 
 -- a machine that is cut, saved and restored goes on as if nothing had been

@@ -1,6 +1,6 @@
 //! Laws of the woven code of a unit.
 
-ghost use Rattle.lsl_weave.specs.UnitLaws.{UnitsMove, UnitsRestore, UnitsRunAlike, UnitsSave};
+ghost use Rattle.lsl_weave.specs.UnitLaws.{UnitsGoForward, UnitsMove, UnitsRestore, UnitsRunAlike, UnitsSave};
 
 /// The woven code of a unit weaves: saving any machine of it at a tick ends with its frames and the same globals and
 /// limit, and restoring any frames that fit ends with the machine that has them, within the bound.
@@ -10,7 +10,8 @@ pub fn units_weave()
     ensures back { UnitsMove }
 {}
 
-/// While it runs, it has the asks, ticks, ends and faults of the plain code.
+/// While it runs, it has the asks, ticks, ends and faults of the plain code, and goes back only behind ticks.
 pub fn units_run_alike()
-    ensures { UnitsRunAlike }
+    ensures run { UnitsRunAlike }
+    ensures forward { UnitsGoForward }
 {}

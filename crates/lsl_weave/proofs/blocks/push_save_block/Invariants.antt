@@ -10,4 +10,4 @@ invariant-loop-i l =
 abbrev pub invariant-loop-j : goal.invariant-loop-j
 invariant-loop-j l =
     (tail : List Instr) → l.code ++ keep_slots (l.slots - l.j) tail
-        ≡ l.fn.code ++ keep_tops l.waits (keep_slots l.slots tail)
+    ≡ l.fn.code ++ keep_tops l.waits (keep_slots l.slots tail)

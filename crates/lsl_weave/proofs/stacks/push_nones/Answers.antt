@@ -6,4 +6,4 @@ pub loop-i-preserved : goal.loop-i-preserved
 loop-i-preserved c =
     let pushed : c.push.new.self ≡ c.loop-i.running ++ None ∷ [] = search rules in
     nones_more c.loop-i.running c.push.new.self c.args.count c.loop-i.i _ c.loop-i-test.true pushed
-        c.loop-i.invariant
+    c.loop-i.invariant

@@ -14,16 +14,16 @@ loop-i-preserved c =
     let xs = c.args.points.now in
     let x = c.index-points-i.result in
     let found : slice_get xs c.loop-i.i
-        ≡ Some x = slice_get_read xs _ c.loop-i.i x refl c.loop-i-test.true c.index-points-i.is in
+    ≡ Some x = slice_get_read xs _ c.loop-i.i x refl c.loop-i-test.true c.index-points-i.is in
     let wide : c.in_ok-sum.sum ≡ c.loop-i.sum + w x =
     omega (arith, c.waiting_of.ensures, c.in_ok-plus.ensures, c.in_ok-plus-2.ensures, c.in_ok-sum.ensures) in
     let pushed : c.push.new.self.items ≡ c.loop-i.table.items ++ c.in_ok-sum.sum ∷ [] = search rules in
     table_more c.args.start w xs c.loop-i.i c.loop-i.table.items c.push.new.self.items c.loop-i.sum
-        c.in_ok-sum.sum x
+    c.in_ok-sum.sum x
     c.loop-i.invariant found wide pushed
 
 pub returns : goal.returns
 returns c =
     table_ends c.args.start
-        (block_width c.args.slots c.args.extra) c.args.points.now c.loop-i.i c.loop-i.table.items
+    (block_width c.args.slots c.args.extra) c.args.points.now c.loop-i.i c.loop-i.table.items
     c.loop-i.sum c.loop-i.invariant (search rules)

@@ -12,7 +12,7 @@ loop-i-preserved c =
     let xs = c.args.code.now in
     let x = c.index-code-i.result in
     let found : slice_get xs c.loop-i.i
-        ≡ Some x = slice_get_read xs _ c.loop-i.i x refl c.loop-i-test.true c.index-code-i.is in
+    ≡ Some x = slice_get_read xs _ c.loop-i.i x refl c.loop-i-test.true c.index-code-i.is in
     let wide : c.in_ok-sum.sum ≡ c.loop-i.sum + width x = search rules in
     let pushed : c.push.new.self.items ≡ c.loop-i.table.items ++ c.in_ok-sum.sum ∷ [] = search rules in
     table_more 1 width xs c.loop-i.i c.loop-i.table.items c.push.new.self.items c.loop-i.sum c.in_ok-sum.sum x
@@ -21,4 +21,4 @@ loop-i-preserved c =
 pub returns : goal.returns
 returns c =
     table_ends 1 width c.args.code.now c.loop-i.i c.loop-i.table.items c.loop-i.sum c.loop-i.invariant
-        (search rules)
+    (search rules)

@@ -15,28 +15,28 @@ returns c =
     let save_items = c.in_ok-saves.saves.items in
     let back_items = c.in_ok-backs.backs.items in
     let shifts : IsTable 1 width b.code shift_items = subst
-        (λ l. IsTable 1 width l shift_items) code c.in_ok-shifts.ensures in
+    (λ l. IsTable 1 width l shift_items) code c.in_ok-shifts.ensures in
     let from : c.look-saves_start.result ≡ saves_from b =
     looks_at 1 width b.code shift_items _
-        (length b.code) _ c.look-saves_start.result shifts c.deref.ensures.value
+    (length b.code) _ c.look-saves_start.result shifts c.deref.ensures.value
     (ap length code) c.look-saves_start.ensures.inside c.look-saves_start.ensures.past in
     let saves0 = subst (λ l. IsTable c.look-saves_start.result
-        (block_width c.len-slots.result 1) l save_items) points c.in_ok-saves.ensures in
+    (block_width c.len-slots.result 1) l save_items) points c.in_ok-saves.ensures in
     let saves1 = subst (λ n. IsTable c.look-saves_start.result
-        (block_width n 1) b.points save_items) slots saves0 in
+    (block_width n 1) b.points save_items) slots saves0 in
     let saves : IsTable (saves_from b) (save_width b) b.points save_items =
     subst (λ n. IsTable n (save_width b) b.points save_items) from saves1 in
     let heads : c.look-heads_start.result ≡ backs_from b =
     looks_at (saves_from b) (save_width b) b.points save_items _
-        (length b.points) _ c.look-heads_start.result saves
+    (length b.points) _ c.look-heads_start.result saves
     c.deref-2.ensures.value
-        (ap length points) c.look-heads_start.ensures.inside c.look-heads_start.ensures.past in
+    (ap length points) c.look-heads_start.ensures.inside c.look-heads_start.ensures.past in
     let start : c.in_ok-backs_start.backs_start ≡ backs_from b + 2 + length b.points =
     omega (arith, c.in_ok-plus.ensures, c.in_ok-backs_start.ensures, heads, ap length points) in
     let backs0 = subst (λ l. IsTable c.in_ok-backs_start.backs_start
-        (block_width c.len-slots.result 2) l back_items) points c.in_ok-backs.ensures in
+    (block_width c.len-slots.result 2) l back_items) points c.in_ok-backs.ensures in
     let backs1 = subst (λ n. IsTable c.in_ok-backs_start.backs_start
-        (block_width n 2) b.points back_items) slots backs0 in
+    (block_width n 2) b.points back_items) slots backs0 in
     let backs : IsTable (backs_from b + 2 + length b.points) (back_width b) b.points back_items =
     subst (λ n. IsTable n (back_width b) b.points back_items) start backs1 in
     record {

@@ -1,5 +1,9 @@
+use Rattle.lsl_weave.proofs.Forwards.{units_go_forward}
 use Rattle.lsl_weave.proofs.Units.{units_run_alike}
 use Rattle.lsl_weave.proofs.unit_laws.units_run_alike.Goals as goal
 
-pub returns : goal.returns
-returns c = units_run_alike
+pub returns-clause-run : goal.returns-clause-run
+returns-clause-run c = units_run_alike
+
+pub returns-clause-forward : goal.returns-clause-forward
+returns-clause-forward c = units_go_forward

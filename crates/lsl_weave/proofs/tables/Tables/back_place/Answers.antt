@@ -8,6 +8,6 @@ pub returns : goal.returns
 returns c =
     let b = plain_body c.args.function.now in
     looks_at (backs_from b + 2 + length b.points)
-        (back_width b) b.points c.args.self.now.backs.items _ c.args.point
+    (back_width b) b.points c.args.self.now.backs.items _ c.args.point
     c.args.point c.look.result c.requires.backs_are c.deref.ensures.value refl c.look.ensures.inside
-        c.look.ensures.past
+    c.look.ensures.past

@@ -8,5 +8,5 @@ pub returns : goal.returns
 returns c =
     let b = plain_body c.args.function.now in
     looks_at (saves_from b)
-        (save_width b) b.points c.args.self.now.saves.items _ c.args.point c.args.point c.look.result
+    (save_width b) b.points c.args.self.now.saves.items _ c.args.point c.args.point c.look.result
     c.requires.saves_are c.deref.ensures.value refl c.look.ensures.inside c.look.ensures.past

@@ -8,5 +8,5 @@ pub returns : goal.returns
 returns c =
     let b = plain_body c.args.function.now in
     looks_at 1 width b.code c.args.self.now.shifts.items _ c.args.place c.args.place c.look.result
-        c.requires.shifts_are
+    c.requires.shifts_are
     c.deref.ensures.value refl c.look.ensures.inside c.look.ensures.past
