@@ -7,7 +7,7 @@ use std::alloc::Global;
 use std::process::Abort;
 use std::test::Fail;
 
-fn frame(alloc: Global, function: u16, point: u16, values: &[i32]) -> Result<Frame, NoMemory> {
+pub fn frame(alloc: Global, function: u16, point: u16, values: &[i32]) -> Result<Frame, NoMemory> {
     let mut slots = Values::new(alloc);
     for value in values {
         slots.push(Value::Int(*value))?;
@@ -20,7 +20,14 @@ fn frame(alloc: Global, function: u16, point: u16, values: &[i32]) -> Result<Fra
 }
 
 /// The frame is of this function and point, with these values.
-fn shows(rt: &impl Abort, alloc: Global, frame: &Frame, function: u16, point: u16, values: &[i32]) -> Result<(), NoMemory> {
+fn shows(
+    rt: &impl Abort,
+    alloc: Global,
+    frame: &Frame,
+    function: u16,
+    point: u16,
+    values: &[i32],
+) -> Result<(), NoMemory> {
     let mut want = Values::new(alloc);
     for value in values {
         want.push(Value::Int(*value))?;
@@ -34,7 +41,10 @@ fn shows(rt: &impl Abort, alloc: Global, frame: &Frame, function: u16, point: u1
 #[test]
 fn sacks_are_copied(rt: HostRuntime) -> Result<(), Fail> {
     let alloc = rt.alloc();
-    let frames = vec![in alloc; frame(alloc, 0, 0, &[4, 2, 1])?, frame(alloc, 1, 3, &[1, 10])?]?;
+    let frames = vec![in alloc;
+        frame(alloc, 0, 0, &[4, 2, 1])?,
+        frame(alloc, 1, 3, &[1, 10])?,
+    ]?;
     let sack = Sack::from_vec(frames);
     let copy = sack.copy(alloc)?;
     for held in [&sack, &copy] {

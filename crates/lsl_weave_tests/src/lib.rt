@@ -4,6 +4,8 @@
 #[cfg(test)]
 mod frames;
 #[cfg(test)]
+mod refused;
+#[cfg(test)]
 mod samples;
 #[cfg(test)]
 mod woven;

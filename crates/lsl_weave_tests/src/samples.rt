@@ -1,24 +1,45 @@
 //! A function with a slot, which calls itself with an operand waiting.
 
+ghost use Rattle.std.specs.Prelude.{◌≡◌, IfOk};
+ghost use Rattle.lsl_code.specs.Bodies.{plain_body};
+ghost use Rattle.lsl_weave_tests.specs.Samples.{sample_body};
+
 use lsl_code::{FunctionCode, Instr, Point, Sequence};
 use lsl_text::NoMemory;
 use lsl_value::{Kind, Text};
 use std::alloc::Global;
 
 /// Its code, with its points and the kinds before each instruction.
-pub fn sample(alloc: Global) -> Result<FunctionCode, NoMemory> {
-    let one = vec![in alloc; Kind::Int]?;
-    let two = vec![in alloc; Kind::Int, Kind::Int]?;
-    let points = vec![in alloc;
-        Point { kinds: Sequence::from_vec(one), calls: None },
-        Point { kinds: Sequence::from_vec(two), calls: Some(0) }
+pub fn sample(alloc: Global) -> Result<FunctionCode, NoMemory>
+    ensures { IfOk result (λ f. plain_body f ≡ sample_body) }
+{
+    let before_call = Sequence::from_vec(vec![in alloc; Kind::Int]?);
+    let before_drop = Sequence::from_vec(vec![in alloc; Kind::Int]?);
+    let stacks = vec![in alloc;
+        Sequence::new(alloc),
+        Sequence::new(alloc),
+        before_call,
+        before_drop,
+        Sequence::new(alloc),
     ]?;
     let code = vec![in alloc;
         Instr::Tick(0),
         Instr::Int(7),
         Instr::Call(0, 1),
         Instr::Drop,
-        Instr::Return
+        Instr::Return,
+    ]?;
+    let tick = Sequence::from_vec(vec![in alloc; Kind::Int]?);
+    let call = Sequence::from_vec(vec![in alloc; Kind::Int, Kind::Int]?);
+    let points = vec![in alloc;
+        Point {
+            kinds: tick,
+            calls: None
+        },
+        Point {
+            kinds: call,
+            calls: Some(0)
+        },
     ]?;
     Ok(FunctionCode {
         name: Text::new(),
@@ -29,18 +50,6 @@ pub fn sample(alloc: Global) -> Result<FunctionCode, NoMemory> {
         points: Sequence::from_vec(points),
         lines: Sequence::from_vec(vec![in alloc; 1, 2]?),
         code: Sequence::from_vec(code),
-        stacks: stacks(alloc)?,
+        stacks: Sequence::from_vec(stacks),
     })
-}
-
-fn stacks(alloc: Global) -> Result<Sequence<Sequence<Kind>>, NoMemory> {
-    let mut stacks = Sequence::new(alloc);
-    for waits in [false, false, true, true, false] {
-        let mut kinds = Sequence::new(alloc);
-        if waits {
-            kinds.push(Kind::Int)?;
-        }
-        stacks.push(kinds)?;
-    }
-    Ok(stacks)
 }
