@@ -1,0 +1,15 @@
+//! Tests of what waits for a script and of scripts at rest, by tables whose values come from outside.
+#![tactic(auto)]
+
+#[cfg(test)]
+mod events;
+#[cfg(test)]
+mod hearing;
+#[cfg(test)]
+mod listens;
+#[cfg(test)]
+mod posting;
+#[cfg(test)]
+mod queues;
+#[cfg(test)]
+mod timers;
