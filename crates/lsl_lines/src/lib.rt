@@ -1,4 +1,5 @@
-//! World files: every text is the file of a world, or is refused at its first fault.
+//! World files and journals: every text is the file of a world, or is refused at its first fault; and every
+//! entry of a journal has its line.
 //!
 //! A file has lines, a line has words, and the first word says what the others are. Objects with their prims
 //! and scripts come first, then `begin`, the steps, and `end`.
@@ -19,6 +20,8 @@ mod faults;
 mod fields;
 mod file;
 mod forms;
+mod journal;
+mod journal_words;
 mod keys;
 mod known;
 mod lasts;
@@ -33,6 +36,7 @@ mod world;
 
 pub use crate::faults::{FileFault, FileKind};
 pub use crate::file::{Gaps, ObjectLine, PrimLine, ScriptLine, Step, WorldFile};
+pub use crate::journal::{push_line, push_lines};
 pub use crate::sequence::Sequence;
 
 /// The world that a file tells, or the file's first fault.
