@@ -11,7 +11,8 @@ use Rattle.lsl_bytes.specs.Places.{Takes}
 use Rattle.lsl_bytes.proofs.PlaceLemmas.{same-fronts, takes_no}
 
 -- forms of one length from which the value is read back
-fixed-prefix_free : {V : Type 0} (form : V → List ℕ) (Fits : V → Type 0) (n : ℕ) (back : List ℕ → V) → ((v : V) → length (form v) ≡ n) → ((v : V) → Fits v → back (form v) ≡ v) → IsPrefixFree form Fits
+fixed-prefix_free : {V : Type 0} (form : V → List ℕ) (Fits : V → Type 0) (n : ℕ) (back : List ℕ → V)
+    → ((v : V) → length (form v) ≡ n) → ((v : V) → Fits v → back (form v) ≡ v) → IsPrefixFree form Fits
 fixed-prefix_free {V} form Fits n back long again v w a b fits_v fits_w same =
     let parts = same-fronts n (form v) (form w) a b (long v) (long w) same in
     (sym (again v fits_v) ∙ ap back parts.0 ∙ again w fits_w, parts.1)
@@ -43,15 +44,18 @@ u8-of_bytes [] long = absurd (omega arith)
 u8-of_bytes (b ∷ []) long = refl
 u8-of_bytes (b ∷ c ∷ bytes) long = absurd (omega arith)
 
-pub u16-of_bytes : (bytes : List ℕ) (n : ℕ) → length bytes ≡ 2 → ((i : ℕ) → get_or bytes i 0 < 256) → n ≡ from_be_bytes w16 bytes → bytes ≡ u16_bytes n
+pub u16-of_bytes : (bytes : List ℕ) (n : ℕ) → length bytes ≡ 2 → ((i : ℕ) → get_or bytes i 0 < 256)
+    → n ≡ from_be_bytes w16 bytes → bytes ≡ u16_bytes n
 unfolding u16_bytes
 u16-of_bytes bytes n long fits is = sym (be_bytes_2 bytes n long fits is)
 
-pub u32-of_bytes : (bytes : List ℕ) (n : ℕ) → length bytes ≡ 4 → ((i : ℕ) → get_or bytes i 0 < 256) → n ≡ from_be_bytes w32 bytes → bytes ≡ u32_bytes n
+pub u32-of_bytes : (bytes : List ℕ) (n : ℕ) → length bytes ≡ 4 → ((i : ℕ) → get_or bytes i 0 < 256)
+    → n ≡ from_be_bytes w32 bytes → bytes ≡ u32_bytes n
 unfolding u32_bytes
 u32-of_bytes bytes n long fits is = sym (be_bytes_4 bytes n long fits is)
 
-pub u64-of_bytes : (bytes : List ℕ) (n : ℕ) → length bytes ≡ 8 → ((i : ℕ) → get_or bytes i 0 < 256) → n ≡ from_be_bytes w64 bytes → bytes ≡ u64_bytes n
+pub u64-of_bytes : (bytes : List ℕ) (n : ℕ) → length bytes ≡ 8 → ((i : ℕ) → get_or bytes i 0 < 256)
+    → n ≡ from_be_bytes w64 bytes → bytes ≡ u64_bytes n
 unfolding u64_bytes
 u64-of_bytes bytes n long fits is = sym (be_bytes_8 bytes n long fits is)
 
@@ -73,20 +77,24 @@ u8-prefix_free = fixed-prefix_free u8_bytes FitsU8 1 (λ bytes. get_or bytes 0 0
 
 pub u16-prefix_free : IsPrefixFree u16_bytes FitsU16
 unfolding u16_bytes
-u16-prefix_free = fixed-prefix_free u16_bytes FitsU16 2 (from_be_bytes w16) length-u16 (λ n fits. from_be_bytes-to_be_bytes_2 n fits)
+u16-prefix_free = fixed-prefix_free u16_bytes FitsU16 2 (from_be_bytes w16) length-u16
+    (λ n fits. from_be_bytes-to_be_bytes_2 n fits)
 
 pub u32-prefix_free : IsPrefixFree u32_bytes FitsU32
 unfolding u32_bytes
-u32-prefix_free = fixed-prefix_free u32_bytes FitsU32 4 (from_be_bytes w32) length-u32 (λ n fits. from_be_bytes-to_be_bytes_4 n fits)
+u32-prefix_free = fixed-prefix_free u32_bytes FitsU32 4 (from_be_bytes w32) length-u32
+    (λ n fits. from_be_bytes-to_be_bytes_4 n fits)
 
 pub u64-prefix_free : IsPrefixFree u64_bytes FitsU64
 unfolding u64_bytes
-u64-prefix_free = fixed-prefix_free u64_bytes FitsU64 8 (from_be_bytes w64) length-u64 (λ n fits. from_be_bytes-to_be_bytes_8 n fits)
+u64-prefix_free = fixed-prefix_free u64_bytes FitsU64 8 (from_be_bytes w64) length-u64
+    (λ n fits. from_be_bytes-to_be_bytes_8 n fits)
 
 pub i32-prefix_free : IsPrefixFree i32_bytes FitsI32
 unfolding i32_bytes
 i32-prefix_free v w a b fits_v fits_w same =
-    let parts = u32-prefix_free (cast_unsigned w32 v) (cast_unsigned w32 w) a b (cast-fits v fits_v) (cast-fits w fits_w) same in
+    let parts = u32-prefix_free (cast_unsigned w32 v) (cast_unsigned w32 w) a b (cast-fits v fits_v)
+    (cast-fits w fits_w) same in
     (sym (to_z-of_z w32 v fits_v) ∙ ap (cast_signed w32) parts.0 ∙ to_z-of_z w32 w fits_w, parts.1)
 
 -- bytes as they are
@@ -97,7 +105,8 @@ abbrev pub IsArray : ℕ → List ℕ → Type 0
 IsArray n part = length part ≡ n
 
 -- where so many bytes don't stand, no number of that many bytes does
-pub array-none : {V : Type 0} (form : V → List ℕ) (Fits : V → Type 0) (n : ℕ) → ((v : V) → length (form v) ≡ n) → (bytes : List ℕ) (p : ℕ)
+pub array-none : {V : Type 0} (form : V → List ℕ) (Fits : V → Type 0) (n : ℕ) → ((v : V) → length (form v) ≡ n)
+    → (bytes : List ℕ) (p : ℕ)
     → Takes array_bytes (IsArray n) bytes p None → Takes form Fits bytes p None
 array-none form Fits n long bytes p takes =
     takes_no array_bytes (IsArray n) form Fits bytes p (λ v fits. (form v, long v, [], sym (append-nil (form v)))) takes

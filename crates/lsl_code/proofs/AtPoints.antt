@@ -114,8 +114,7 @@ module _ (globals : List Value) (states : List StateCode) (bodies : List Body)
         let t = taken (signature_in callee) ks told.0 (ap (λ o. called o ks) (sym named) ∙ told.1) in
         let left = drop (length callee.params) ks in
         let wait : waiting (slice_get own.functions g) ks ≡ left = ap (λ o. waiting o ks) named in
-        let m = map_told w.points p (slice_get w.points p) (Some g) _ refl told.3 in
-        (
+        let m = map_told w.points p (slice_get w.points p) (Some g) _ refl told.3 in (
           left,
           subst (λ l. HasMap w.points p (Some g) (w.slots ++ reverse l)) wait m,
           subst (StandsWith w (k + 1)) (sym t.rest) (finds_told w (k + 1) told.0 told.2),
@@ -129,8 +128,7 @@ module _ (globals : List Value) (states : List StateCode) (bodies : List Body)
         (w.slots ++ reverse stack.0, tick_map k p stack.0 here stack.1)
     some_map k p (Some g) here =
         let stack = stack_there k p (Some g) here in
-        let told = well_formed.finds k (Call g p) stack.0 here stack.1 in
-        (
+        let told = well_formed.finds k (Call g p) stack.0 here stack.1 in (
           w.slots ++ reverse (waiting (slice_get own.functions g) stack.0),
           map_told w.points p (slice_get w.points p) (Some g) _ refl told.3,
         )

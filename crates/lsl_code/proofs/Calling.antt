@@ -70,7 +70,7 @@ back_kinds xs a b e = kinds_drop (length a) xs ∙ ap (drop (length a)) e ∙ dr
 abbrev call_of : Body → ℕ → Frame → MachineCall
 call_of w place frame =
     call_at frame.function place (take (length w.slots) frame.slots)
-        (reverse (drop (length w.slots) frame.slots))
+    (reverse (drop (length w.slots) frame.slots))
 
 same_some : {A : Type 0} (o : Option A) (x y : A) → o ≡ Some x → o ≡ Some y → x ≡ y
 same_some o x y p q = cc
@@ -104,8 +104,7 @@ module _ (bodies : List Body) where
   call_stands frame callee place k ks at here kinds =
       let n = length at.body.slots in
       let slots = front_kinds frame.slots at.body.slots (reverse ks) kinds in
-      let behind = back_kinds frame.slots at.body.slots (reverse ks) kinds in
-      (
+      let behind = back_kinds frame.slots at.body.slots (reverse ks) kinds in (
         record {
           body = at.body;
           found = at.found;
@@ -171,7 +170,7 @@ module _ (globals : List Value) (states : List StateCode) (bodies : List Body)
       let place = placed frame (Some g) at in
       let k = place.0 in
       let m = call_map globals states bodies fits frame.function w at.found k frame.point g callee place.1
-          there in
+      there in
       let kinds = (map_is bodies frame (Some g) (Some g) (w.slots ++ reverse m.0) at m.1).1 in
       let c = call_of w (k + 1) frame in
       let one = call_stands bodies frame (Some g) (k + 1) k m.0 at place.1 kinds in
@@ -199,8 +198,7 @@ frames_have_calls globals states bodies fits h (frame ∷ frames) fit =
     let one = call_stands bodies frame None k k stack.0 at place.1 kinds in
     let stands = subst (StandsWith w k) (sym one.2) stack.1 in
     let more = made globals states bodies fits h frames f w at.found
-        (ends globals states bodies fits h frame frames fit.0.1) fit.1 in
-    (
+    (ends globals states bodies fits h frame frames fit.0.1) fit.1 in (
       c ∷ more.calls,
       (one.0, more.wait),
       (w, at.found, (one.1, stands), more.kinded),

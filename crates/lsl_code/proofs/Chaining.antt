@@ -74,7 +74,7 @@ module _ (bodies : List Body) (h : ℕ) where
   at_instruction g a caller outer None here c = tt
   at_instruction g a caller outer (Some i) here c =
       after_chained (act bodies (Some i) g
-          (base outer) caller.slots caller.operands) i g a caller.function caller.place
+      (base outer) caller.slots caller.operands) i g a caller.function caller.place
       caller.slots caller.operands outer here (act_by bodies i g (base outer) caller.slots caller.operands) c
 
   step_chained : (g : Kept) (a : List Reply) (calls : List MachineCall) → IsChain bodies h calls

@@ -28,7 +28,7 @@ module _ (points : Points) (handler : ℕ) (callee : Option ℕ) (whole : List F
   unfit_here e from unfit =
       let z : i + 0 ≡ i = omega arith in
       subst (FirstUnfit points handler None whole) z
-          (from.1 0 (subst (λ l. FirstUnfit points handler callee l 0) (sym e) unfit))
+      (from.1 0 (subst (λ l. FirstUnfit points handler callee l 0) (sym e) unfit))
 
   pub fit_on : drop i whole ≡ frame ∷ outer → From callee i (drop i whole)
       → FitsFrame points handler callee frame outer
@@ -37,7 +37,7 @@ module _ (points : Points) (handler : ℕ) (callee : Option ℕ) (whole : List F
     (λ more. from.0 (subst (FitFrames points handler callee) (sym e) (fit, more))),
     (λ n h. let z : i + suc n ≡ i + 1 + n = omega arith in
         subst (FirstUnfit points handler None whole) z
-            (from.1 (suc n) (subst (λ l. FirstUnfit points handler callee l (suc n)) (sym e) (fit, h)))),
+        (from.1 (suc n) (subst (λ l. FirstUnfit points handler callee l (suc n)) (sym e) (fit, h)))),
   )
 
 -- what a test that failed tells

@@ -35,17 +35,17 @@ beside_kept step n x s v e = kept_whole x (repeat step n s) v (sym (runs_beside 
 pub saving_keeps : SavingKeeps
 saving_keeps bodies m frames x r =
     beside_kept (save_step bodies) r.0 (beside_of m) (begins_saving m.calls)
-        (whole x (saving [] [] frames)) r.1
+    (whole x (saving [] [] frames)) r.1
 
 pub restoring_keeps : RestoringKeeps
 restoring_keeps bodies h frames x m n r =
     beside_kept (back_step bodies) n x (begins_restoring h r.0 frames)
-        (whole (beside_of m) (awake_with m.calls r.1 [] [])) r.3
+    (whole (beside_of m) (awake_with m.calls r.1 [] [])) r.3
 
 pub one_saving : OneSaving
 one_saving bodies m a b x y r s =
     let e = one_end (step_beside (save_step bodies)) r.0 s.0 (whole (beside_of m) (begins_saving m.calls))
-        (whole x (saving [] [] a)) (whole y (saving [] [] b)) r.1 refl s.1 refl in
+    (whole x (saving [] [] a)) (whole y (saving [] [] b)) r.1 refl s.1 refl in
     (ap (λ w. w.part.sack) e.1, ap (λ w. w.beside) e.1)
 
 abbrev machine_of : List MachineCall → Beside → Machine
@@ -55,8 +55,8 @@ pub one_restoring : OneRestoring
 one_restoring bodies h frames x m m' n n' r s =
     let same : r.0 ≡ s.0 = cc (r.2, s.2) in
     let first = subst (λ c. repeat (step_beside (back_step bodies)) n (whole x (begins_restoring h c frames))
-        ≡ Some (whole (beside_of m) (awake_with m.calls r.1 [] []))) same r.3 in
+    ≡ Some (whole (beside_of m) (awake_with m.calls r.1 [] []))) same r.3 in
     let e = one_end (step_beside (back_step bodies)) n n' (whole x (begins_restoring h s.0 frames))
-        (whole (beside_of m) (awake_with m.calls r.1 [] []))
-        (whole (beside_of m') (awake_with m'.calls s.1 [] [])) first refl s.3 refl in
+    (whole (beside_of m) (awake_with m.calls r.1 [] []))
+    (whole (beside_of m') (awake_with m'.calls s.1 [] [])) first refl s.3 refl in
     (ap (λ w. machine_of w.part.calls w.beside) e.1, e.0)

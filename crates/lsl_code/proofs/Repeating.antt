@@ -25,7 +25,7 @@ both_then step zero n s t u a b =
 both_then step (suc m) n s t u a b =
     let z : suc m + n ≡ suc (m + n) = omega arith in
     subst (λ k. repeat step k s ≡ u) (sym z)
-        (split_run step m n t u (λ s' a'. both_then step m n s' t u a' b) (step s) a)
+    (split_run step m n t u (λ s' a'. both_then step m n s' t u a' b) (step s) a)
 
 repeat_one : {S : Type 0} (step : S → Option S) (t : S) (o u : Option S) → step t ≡ o → o ≡ u
     → repeat step 1 t ≡ u

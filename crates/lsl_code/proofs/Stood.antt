@@ -37,7 +37,7 @@ module _ (bodies : List Body) where
   stands_with : (c : MachineCall) (k p : ℕ) (callee : Option ℕ) (w : Body) (ks : List Kind)
       → slice_get bodies c.function ≡ Some w → slice_get w.code k ≡ Some (point_instr callee p)
       → HasMap w.points p callee (w.slots ++ reverse ks) → kinds_of c.slots ≡ w.slots
-          → kinds_of c.operands ≡ ks
+      → kinds_of c.operands ≡ ks
       → Stands bodies c k callee (frame_at bodies k c)
   stands_with c k p callee w ks found here m slots operands =
       let values = c.slots ++ reverse c.operands in
@@ -82,8 +82,7 @@ module _ (globals : List Value) (states : List StateCode) (bodies : List Body)
   waits_stand (c ∷ outer) g callee there chain waits =
       let b = chain.0.0 in
       let k = chain.0.1 in
-      let p = chain.0.2 in
-      (
+      let p = chain.0.2 in (
         k,
         chain.0.4,
         waiting_stands c g k p callee b waits.0 there chain.0.3 chain.0.4 chain.0.5 waits.1 waits.2,
@@ -101,8 +100,7 @@ ticks_have_frames globals states bodies fits h m kinded chain tick = by_calls m.
         let here : slice_get w.code c.place ≡ Some (Tick tick.0) =
         sym (ap (λ o. instruction_in o c.place) kinded.1) ∙ tick.1 in
         let m = tick_map globals states bodies fits c.function w kinded.1 c.place tick.0
-            (kinds_of c.operands) here kinded.2.1 in
-        (
+        (kinds_of c.operands) here kinded.2.1 in (
           stands_with bodies c c.place tick.0 None w (kinds_of c.operands) kinded.1 here m kinded.2.0 refl,
           waits_stand globals states bodies fits h outer c.function w kinded.1 chain kinded.3,
         )
@@ -110,14 +108,13 @@ ticks_have_frames globals states bodies fits h m kinded chain tick = by_calls m.
 module _ (bodies : List Body) (h : ℕ) where
   at_point : (c : MachineCall) (k : ℕ) (callee : Option ℕ) (frame : Frame) → Stands bodies c k callee frame
       → IsAtPoint (points_of bodies) callee frame
-  at_point c k callee frame st =
-      (
-        st.point,
-        ap (λ f. points_of bodies f frame.point) st.function ∙ ap (λ o. body_point o frame.point) st.found
-            ∙ st.mapped,
-        st.calls,
-        st.kinds,
-      )
+  at_point c k callee frame st = (
+    st.point,
+    ap (λ f. points_of bodies f frame.point) st.function ∙ ap (λ o. body_point o frame.point) st.found
+        ∙ st.mapped,
+    st.calls,
+    st.kinds,
+  )
 
   ends_in : (c : MachineCall) (frame : Frame) (outer : List MachineCall) (frames : List Frame)
       → frame.function ≡ c.function → Wait bodies h outer frames c.function → EndsIn h frame frames
@@ -133,8 +130,7 @@ module _ (bodies : List Body) (h : ℕ) where
   waits_fit [] (frame ∷ frames) g f e w = absurd w
   waits_fit (c ∷ outer) [] g f e w = tt
   waits_fit (c ∷ outer) (frame ∷ frames) g f e w =
-      let st : Stands bodies c w.0 (Some g) frame = w.2 in
-      (
+      let st : Stands bodies c w.0 (Some g) frame = w.2 in (
         (
           subst (λ n. IsAtPoint (points_of bodies) (Some n) frame) (sym e) (at_point c w.0 (Some g) frame st),
           ends_in c frame outer frames st.function w.3,
@@ -146,8 +142,7 @@ pub frames_fit : FramesFit
 frames_fit bodies h [] frames w = absurd w
 frames_fit bodies h (c ∷ outer) [] w = absurd w
 frames_fit bodies h (c ∷ outer) (frame ∷ frames) w =
-    let st : Stands bodies c c.place None frame = w.0 in
-    (
+    let st : Stands bodies c c.place None frame = w.0 in (
       (at_point bodies h c c.place None frame st, ends_in bodies h c frame outer frames st.function w.1),
       waits_fit bodies h outer frames c.function frame.function st.function w.1,
     )

@@ -54,7 +54,8 @@ behind_told code place (JumpIfNot to) next j p f = (both_true _ _ j).1
 behind_told code place (Tick point) next j p f = absurd cc
 behind_told code place i next j p f = j
 
-module _ (bodies : List Body) (start : (f : ℕ) (w : Body) → slice_get bodies f ≡ Some w → begins_with_tick w.code ≡ true)
+module _ (bodies : List Body) (start : (f : ℕ) (w : Body) → slice_get bodies f ≡ Some w
+    → begins_with_tick w.code ≡ true)
     (plain : all_places is_plain_function 0 bodies ≡ true) where
   module _ (f : ℕ) (w : Body) (there : slice_get bodies f ≡ Some w) where
     only_plain : all_places plain_at 0 w.code ≡ true
@@ -168,10 +169,12 @@ fits_tells globals states bodies e =
     let functions = both_true _ _ both.0 in
     let counts = both_true _ _ both.1 in
     let names = names_in globals states bodies in
-    let told = λ (f : ℕ) (w : Body) (there : slice_get bodies f ≡ Some w). function_told names f w (all_at (fits_function names) bodies f w functions.0 there) in
+    let told = λ (f : ℕ) (w : Body) (there : slice_get bodies f ≡ Some w).
+    function_told names f w (all_at (fits_function names) bodies f w functions.0 there) in
     record {
       functions = told;
-      plain = λ f place w i there here. plain_told bodies (λ f w there. (told f w there).begins) functions.1 f w there place i here;
+      plain = λ f place w i there here. plain_told bodies (λ f w there. (told f w there).begins) functions.1 f w
+          there place i here;
       forward = forward_told bodies (λ f w there. (told f w there).begins) functions.1;
       some_state = at_most _ _ (both_true _ _ counts.0).0;
       few_states = at_most _ _ (both_true _ _ counts.0).1;

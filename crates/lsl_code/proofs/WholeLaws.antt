@@ -1,4 +1,5 @@
--- What comes of a handler is the same with more ticks where it isn't cut, and with further answers where it doesn't ask.
+-- What comes of a handler is the same with more ticks where it isn't cut, and with further answers where it
+-- doesn't ask.
 use Rattle.std.proofs.Common.{◌≡◌, ◌≢◌, ℕ, ◌+◌, List, ◌++◌, Bool, true, false, cond, Option, None, Some, refl, ap, ◌∙◌, slice_get}
 use Rattle.lsl_value.specs.declared.names.BuiltinId.{BuiltinId}
 use Rattle.lsl_value.specs.declared.tagged.Value.{Value}
@@ -61,7 +62,8 @@ module _ (bodies : List Body) (forward : Forward bodies) (f : ℕ) (kept : Kept)
   begun_answers ticks slots answers further false loose = refl
 
   started_answers : (o : Option Body) (args : List Value) (ticks : ℕ) (answers further : List Reply)
-      → ((id : BuiltinId) (asked : List Value) → told bodies (started o bodies f kept args ticks answers) ≢ Asks id asked)
+      → ((id : BuiltinId) (asked : List Value)
+      → told bodies (started o bodies f kept args ticks answers) ≢ Asks id asked)
       → told bodies (started o bodies f kept args ticks (answers ++ further))
       ≡ told bodies (started o bodies f kept args ticks answers)
   started_answers None args ticks answers further loose = refl

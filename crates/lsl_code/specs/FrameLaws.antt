@@ -21,9 +21,9 @@ StaysChained =
 abbrev pub TicksHaveFrames : Type 0
 TicksHaveFrames =
     (globals : List Value) (states : List StateCode) (bodies : List Body)
-        → fits_unit globals states bodies ≡ true
+    → fits_unit globals states bodies ≡ true
     → (handler : ℕ) (m : Machine) → IsKindedMachine (kinds_of globals) bodies m
-        → IsChain bodies handler m.calls
+    → IsChain bodies handler m.calls
     → IsAtTick bodies m.calls → HasFrames bodies handler m.calls (frames_of bodies m.calls)
 
 -- such frames fit
@@ -36,7 +36,7 @@ FramesFit =
 abbrev pub FramesHaveCalls : Type 0
 FramesHaveCalls =
     (globals : List Value) (states : List StateCode) (bodies : List Body)
-        → fits_unit globals states bodies ≡ true
+    → fits_unit globals states bodies ≡ true
     → (handler : ℕ) (frames : List Frame) → AreFrames (points_of bodies) handler frames
     → (calls : List MachineCall) × HasFrames bodies handler calls frames × AreKindedCalls bodies calls
     × IsChain bodies handler calls × IsAtTick bodies calls

@@ -96,7 +96,7 @@ back_step_in bodies [] point hand sack = None
 back_step_in bodies (c ∷ outer) point hand sack =
     back_after bodies
     (back_act (slice_get bodies c.function)
-        (instruction_at bodies c.function c.place) c point hand sack) outer point
+    (instruction_at bodies c.function c.place) c point hand sack) outer point
     hand sack
 
 abbrev pub unless_awake : Bool → Option Restoring → Option Restoring

@@ -5,7 +5,8 @@ use lsl_parse::ParseKind;
 use std::alloc::{AllocError, Global};
 use std::test::Fail;
 
-/// A handler with this many constructs in one another: what opens each, what stands inside all, what closes each, and what ends all.
+/// A handler with this many constructs in one another: what opens each, what stands inside all, what closes
+/// each, and what ends all.
 fn nested<'a>(
     alloc: Global,
     open: &'a str,

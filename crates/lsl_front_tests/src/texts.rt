@@ -5,7 +5,8 @@ use lsl_parse::parse;
 use lsl_text::Refusal;
 use std::alloc::{AllocError, Global};
 
-/// The fault of a text, as number, line and column; 0 where it is parsed, and 99 where it has no tokens or memory ran out.
+/// The fault of a text, as number, line and column; 0 where it is parsed, and 99 where it has no tokens or
+/// memory ran out.
 pub fn fault(alloc: Global, text: &str) -> (u8, u32, u32) {
     let Ok(tokens) = lex(alloc, text.as_bytes()) else {
         return (99, 0, 0);

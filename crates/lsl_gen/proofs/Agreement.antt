@@ -27,45 +27,60 @@ use Rattle.lsl_gen.proofs.Leaves.{Results, Flows, resume}
 use Rattle.lsl_gen.proofs.Routines.{LowerSim, routine_sim}
 use Rattle.lsl_gen.proofs.Simulations.{Sim, map_sim}
 
-weaker : (n : ℕ) (has : Bool) (labels : List ℕ) (flow : Flow) (s : State) → Flows n has labels flow s → Flows (suc n) has labels flow s
+weaker : (n : ℕ) (has : Bool) (labels : List ℕ) (flow : Flow) (s : State) → Flows n has labels flow s
+    → Flows (suc n) has labels flow s
 weaker n has labels Normal s le = omega arith
 weaker n has labels (Returned o) s post = (omega (arith, post.0), post.1)
 weaker n has labels (Jumped label) s post = (omega (arith, post.0), post.1)
 
-module _ (p : Program) (shaped : IsShaped p) (law : (t : ℕ) (m : Machine) → run (bodies_of p) t m ≡ on (step (bodies_of p) m) (passed (bodies_of p) t m) (run (bodies_of p) t)) where
+module _ (p : Program) (shaped : IsShaped p)
+    (law : (t : ℕ) (m : Machine) → run (bodies_of p) t m
+    ≡ on (step (bodies_of p) m) (passed (bodies_of p) t m) (run (bodies_of p) t)) where
   -- by induction on the ticks
   level_sim : (n : ℕ) → LowerSim p shaped law n (level (routines_of p) n)
   level_sim zero a from has f outer places labels pc s le sh enters stands = absurd (omega arith)
   level_sim (suc n) a from has f outer places labels pc s le sh enters stands =
       map_sim (Flows n has labels) (Flows (suc n) has labels) _ _ _ _
-      (execute_sim p shaped law (level (routines_of p) n) n (level_sim n) has f outer a from labels places pc s (omega arith) sh enters stands)
+      (execute_sim p shaped law (level (routines_of p) n) n (level_sim n) has f outer a from labels places pc s
+      (omega arith) sh enters stands)
       (λ flow t post. (refl, weaker n has labels flow t post))
 
-  ended_is : (f n : ℕ) (has : Bool) (r : Evaluation (Option Value)) (h : Whole) → Sim (Results n has) (λ o t. resume (bodies_of p) law f [] t o) r h → h ≡ ended r
+  ended_is : (f n : ℕ) (has : Bool) (r : Evaluation (Option Value)) (h : Whole)
+      → Sim (Results n has) (λ o t. resume (bodies_of p) law f [] t o) r h → h ≡ ended r
   ended_is f n has (Gives o s) h m = m.eq
   ended_is f n has (Stops w) h m = m.eq
 
   begun_is : (b : Bool) (r : Routine) (f : ℕ) (s : State) → slice_get (routines_of p) f ≡ Some r
-      → told (bodies_of p) (cond b (run (bodies_of p) s.ticks (begun f s.kept s.slots s.answers)) (Over (Faulted StackHeap)))
-      ≡ ended (cond b (tick s.ticks r.line (outermost f) s (λ t. bind (level (routines_of p) s.ticks (Block r.body) None (outermost f) t) (result_behind r.kind))) (Stops (whole.Fails StackHeap)))
+      → told (bodies_of p) (cond b (run (bodies_of p) s.ticks (begun f s.kept s.slots s.answers))
+      (Over (Faulted StackHeap)))
+      ≡ ended (cond b (tick s.ticks r.line (outermost f) s
+      (λ t. bind (level (routines_of p) s.ticks (Block r.body) None (outermost f) t)
+      (result_behind r.kind))) (Stops (whole.Fails StackHeap)))
   begun_is true r f s e =
-      ended_is f s.ticks (is_some r.kind) _ _ (routine_sim p shaped law (level (routines_of p) s.ticks) s.ticks (level_sim s.ticks) r f [] s e (omega arith))
+      ended_is f s.ticks (is_some r.kind) _ _
+      (routine_sim p shaped law (level (routines_of p) s.ticks) s.ticks (level_sim s.ticks) r f [] s e
+      (omega arith))
   begun_is false r f s e = refl
 
-  started_is : (o : Option Routine) (f : ℕ) (kept : Kept) (args : List Value) (ticks : ℕ) (answers : List Reply) → slice_get (routines_of p) f ≡ o
-      → told (bodies_of p) (started (option_map (routine_body p) o) (bodies_of p) f kept args ticks answers) ≡ whole_of (routines_of p) o f kept args ticks answers
+  started_is : (o : Option Routine) (f : ℕ) (kept : Kept) (args : List Value) (ticks : ℕ) (answers : List Reply)
+      → slice_get (routines_of p) f ≡ o
+      → told (bodies_of p) (started (option_map (routine_body p) o) (bodies_of p) f kept args ticks answers)
+      ≡ whole_of (routines_of p) o f kept args ticks answers
   started_is None f kept args ticks answers e = refl
   started_is (Some r) f kept args ticks answers e =
-      ap (λ slots. told (bodies_of p) (started_with (bodies_of p) f kept slots ticks answers)) (slots_same p r args (shaped_at p shaped f r e).params)
+      ap (λ slots. told (bodies_of p) (started_with (bodies_of p) f kept slots ticks answers))
+      (slots_same p r args (shaped_at p shaped f r e).params)
       ∙ begun_is (is_within kept (used script_charge (first_slots r args) kept)) r f
       (record { kept = kept; slots = first_slots r args; ticks = ticks; answers = answers }) e
 
   pub runs_as_meant : (f : ℕ) (kept : Kept) (args : List Value) (ticks : ℕ) (answers : List Reply)
       → whole_of_bodies (bodies_of p) f kept args ticks answers ≡ whole p f kept args ticks answers
   runs_as_meant f kept args ticks answers =
-      ap (λ o. told (bodies_of p) (started o (bodies_of p) f kept args ticks answers)) (slice_get-map (routine_body p) (routines_of p) f)
+      ap (λ o. told (bodies_of p) (started o (bodies_of p) f kept args ticks answers))
+      (slice_get-map (routine_body p) (routines_of p) f)
       ∙ started_is (slice_get (routines_of p) f) f kept args ticks answers refl
 
   pub agrees : Agrees (generated_functions p) p
   agrees f kept args ticks answers =
-      ap (λ bodies. whole_of_bodies bodies f kept args ticks answers) (bodies_generated p) ∙ runs_as_meant f kept args ticks answers
+      ap (λ bodies. whole_of_bodies bodies f kept args ticks answers) (bodies_generated p)
+      ∙ runs_as_meant f kept args ticks answers

@@ -62,5 +62,6 @@ event_ascii e = low_ascii (event_name_of e) (first_true (all_low (event_name_of 
 
 pub event_short : (e : EventId) → length (event_name_of e) < 64
 event_short e =
-    let test : nat_lt (length (event_name_of e)) 64 ≡ true = (first_true (all_low (event_name_of e)) _ (event_plain e)).1 in
+    let test : nat_lt (length (event_name_of e)) 64 ≡ true =
+    (first_true (all_low (event_name_of e)) _ (event_plain e)).1 in
     grind (arith, nat_tests)

@@ -1,4 +1,5 @@
--- The code of a program asks at no more places than the program has nodes, so a handler asks few times between two ticks.
+-- The code of a program asks at no more places than the program has nodes, so a handler asks few times between
+-- two ticks.
 use Rattle.std.proofs.Common.{◌≡◌, ◌≢◌, ℕ, suc, ◌+◌, ◌*◌, ◌≤◌, pos, List, [], ◌∷◌, ◌++◌, length, map, refl, ap, ◌∙◌, arith}
 use Rattle.std.specs.Prelude.{Option, Some, None}
 use Rattle.lsl_value.specs.declared.names.BuiltinId.{BuiltinId}
@@ -90,14 +91,23 @@ mutual
   value_hosts (node.Call callee kind line ts) =
       let r = values_hosts ts in
       omega (arith, hosts-append (values_code ts) (call_code callee line), call_hosts callee line)
-  value_hosts (node.ListLiteral ts) = let r = values_hosts ts in omega (arith, hosts-append (values_code ts) (instr.MakeList (argument_count ts) ∷ []))
-  value_hosts (node.Cast kind t) = let r = value_hosts t in omega (arith, hosts-append (value_code t) (instr.Cast kind ∷ []))
-  value_hosts (node.Unary op t) = let r = value_hosts t in omega (arith, hosts-append (value_code t) (instr.Unary op ∷ []))
+  value_hosts (node.ListLiteral ts) = let r = values_hosts ts in
+      omega (arith, hosts-append (values_code ts) (instr.MakeList (argument_count ts) ∷ []))
+  value_hosts (node.Cast kind t) = let r = value_hosts t in
+      omega (arith, hosts-append (value_code t) (instr.Cast kind ∷ []))
+  value_hosts (node.Unary op t) = let r = value_hosts t in
+      omega (arith, hosts-append (value_code t) (instr.Unary op ∷ []))
   value_hosts (node.Binary op kind a b) =
       let r = value_hosts a in
       let s = value_hosts b in
-      omega (arith, hosts-append (value_code b) (value_code a ++ instr.Binary op ∷ []), hosts-append (value_code a) (instr.Binary op ∷ []))
-  value_hosts (node.Assign place kind t) = let r = value_hosts t in omega (arith, hosts-append (value_code t) (store place ∷ []), store_hosts place [])
+      omega (
+        arith,
+        hosts-append (value_code b) (value_code a ++ instr.Binary op ∷ []),
+        hosts-append
+            (value_code a) (instr.Binary op ∷ []),
+      )
+  value_hosts (node.Assign place kind t) = let r = value_hosts t in
+      omega (arith, hosts-append (value_code t) (store place ∷ []), store_hosts place [])
   value_hosts (node.StepBehind place op) =
       let c : List Instr = instr.Drop ∷ [] in
       let b : List Instr = instr.Binary (step_operator op) ∷ store place ∷ c in
@@ -127,7 +137,8 @@ mutual
   action_hosts : (a : Action) (places : List LabelPlace) (pc : ℕ) → hosts (action_code a places pc) ≤ nodes_in_action a
   action_hosts (action.Block xs) places pc = let r = actions_hosts xs (places_in xs pc ++ places) pc in omega arith
   action_hosts (action.Effect x) places pc = let r = effect_hosts x in omega arith
-  action_hosts (action.Declare slot t) places pc = let r = value_hosts t in omega (arith, hosts-append (value_code t) (instr.Set slot ∷ []))
+  action_hosts (action.Declare slot t) places pc = let r = value_hosts t in
+      omega (arith, hosts-append (value_code t) (instr.Set slot ∷ []))
   action_hosts (action.Label label) places pc = omega arith
   action_hosts (action.If t a) places pc =
       let q = pc + length (value_code t) + 1 in
@@ -142,7 +153,13 @@ mutual
       let r = value_hosts t in
       let ra = action_hosts a places q in
       let rb = action_hosts b places next in
-      omega (arith, hosts-append (value_code t) (instr.JumpIfNot next ∷ (ca ++ (instr.Jump (next + size b) ∷ cb))), hosts-append ca (instr.Jump (next + size b) ∷ cb))
+      omega (
+        arith,
+        hosts-append (value_code t)
+            (instr.JumpIfNot next ∷ (ca ++ (instr.Jump (next + size b) ∷ cb))),
+        hosts-append ca
+            (instr.Jump (next + size b) ∷ cb),
+      )
   action_hosts (action.Loop line t xs a) places pc =
       let q = pc + length (value_code t) + 1 in
       let end = q + size a + length (effects_code xs) in
@@ -152,7 +169,13 @@ mutual
       let r = value_hosts t in
       let ra = action_hosts a places q in
       let rs = effects_hosts xs in
-      omega (arith, hosts-append (value_code t) (instr.JumpIfNot (end + 2) ∷ (ca ++ (cs ++ back))), hosts-append ca (cs ++ back), hosts-append cs back)
+      omega (
+        arith,
+        hosts-append (value_code t) (instr.JumpIfNot (end + 2) ∷ (ca ++ (cs ++ back))),
+        hosts-append
+            ca (cs ++ back),
+        hosts-append cs back,
+      )
   action_hosts (action.Do line a t) places pc =
       let end = pc + size a + length (value_code t) + 1 in
       let ca = action_code a places pc in
@@ -162,10 +185,12 @@ mutual
       omega (arith, hosts-append ca (value_code t ++ back), hosts-append (value_code t) back)
   action_hosts (action.Jump line label) places pc = omega arith
   action_hosts action.Return places pc = omega arith
-  action_hosts (action.ReturnValue t) places pc = let r = value_hosts t in omega (arith, hosts-append (value_code t) (instr.ReturnValue ∷ []))
+  action_hosts (action.ReturnValue t) places pc = let r = value_hosts t in
+      omega (arith, hosts-append (value_code t) (instr.ReturnValue ∷ []))
   action_hosts (action.State n) places pc = omega arith
 
-  actions_hosts : (xs : Actions) (places : List LabelPlace) (pc : ℕ) → hosts (actions_code xs places pc) ≤ nodes_in_actions xs
+  actions_hosts : (xs : Actions) (places : List LabelPlace) (pc : ℕ)
+      → hosts (actions_code xs places pc) ≤ nodes_in_actions xs
   actions_hosts NoAction places pc = omega arith
   actions_hosts (AndAction xs a) places pc =
       let r = actions_hosts xs places pc in
@@ -180,7 +205,8 @@ routine_hosts : (p : Program) (r : Routine) → hosts (routine_body p r).code �
 routine_hosts p r =
     let code = actions_code r.body (places_in r.body 1 ++ []) 1 in
     let h = actions_hosts r.body (places_in r.body 1 ++ []) 1 in
-    let e : hosts (numbered (draft_of r) 0) ≡ hosts code + hosts (ending r.kind) = hosts_numbered (draft_of r) 0 ∙ hosts-append code (ending r.kind) in
+    let e : hosts (numbered (draft_of r) 0) ≡ hosts code + hosts (ending r.kind) =
+    hosts_numbered (draft_of r) 0 ∙ hosts-append code (ending r.kind) in
     omega (arith, ending_hosts r.kind)
 
 bodies_hosts : (p : Program) (rs : List Routine) → hosts_of (map (routine_body p) rs) ≤ nodes_in_routines rs
@@ -188,14 +214,16 @@ bodies_hosts p [] = omega arith
 bodies_hosts p (r ∷ rs) = let a = routine_hosts p r in let b = bodies_hosts p rs in omega arith
 
 -- what the end of a run tells
-cut_told : (bodies : List Body) (h : Halt) (calls : List ActiveCall) → told bodies h ≡ whole.Cut calls → (m : Machine) × (h ≡ CutAt m)
+cut_told : (bodies : List Body) (h : Halt) (calls : List ActiveCall) → told bodies h ≡ whole.Cut calls
+    → (m : Machine) × (h ≡ CutAt m)
 cut_told bodies (CutAt m) calls e = (m, refl)
 cut_told bodies (AskAt id args m t) calls e = absurd cc
 cut_told bodies (Over (Ended way kept)) calls e = absurd cc
 cut_told bodies (Over (Faulted fault)) calls e = absurd cc
 cut_told bodies (Over Lost) calls e = absurd cc
 
-ask_told : (bodies : List Body) (h : Halt) (id : BuiltinId) (args : List Value) → told bodies h ≡ whole.Asks id args → ((m : Machine) (t : ℕ) → h ≢ AskAt id args m t) → ⊥
+ask_told : (bodies : List Body) (h : Halt) (id : BuiltinId) (args : List Value)
+    → told bodies h ≡ whole.Asks id args → ((m : Machine) (t : ℕ) → h ≢ AskAt id args m t) → ⊥
 ask_told bodies (CutAt m) id args e never = absurd cc
 ask_told bodies (AskAt i given m t) id args e never =
     let a : i ≡ id = cc in
@@ -209,8 +237,11 @@ pub asks_so_often : AsksSoOften
 asks_so_often p kinded shaped f kept args ticks answers replies calls cut limit enough id asked e =
     let forward = generated_forward p kinded shaped in
     let law = run_law (bodies_of p) forward in
-    let at = cut_told (bodies_of p) (run_of (bodies_of p) f kept args ticks answers) calls (runs_as_meant p shaped law f kept args ticks answers ∙ cut) in
+    let at = cut_told (bodies_of p) (run_of (bodies_of p) f kept args ticks answers) calls
+    (runs_as_meant p shaped law f kept args ticks answers ∙ cut) in
     let few = bodies_hosts p (routines_of p) in
     let many : 2048 * hosts_of (bodies_of p) ≤ length replies = omega arith in
-    ask_told (bodies_of p) (run_of (bodies_of p) f kept args (suc ticks) (answers ++ replies)) id asked (runs_as_meant p shaped law f kept args (suc ticks) (answers ++ replies) ∙ e)
-    (λ m t. code.asks_so_often (bodies_of p) forward f kept args ticks answers replies at.0 at.1 limit many id asked m t)
+    ask_told (bodies_of p) (run_of (bodies_of p) f kept args (suc ticks) (answers ++ replies)) id asked
+    (runs_as_meant p shaped law f kept args (suc ticks) (answers ++ replies) ∙ e)
+    (λ m t. code.asks_so_often (bodies_of p) forward f kept args ticks answers replies at.0 at.1 limit many id
+    asked m t)

@@ -29,20 +29,25 @@ All-at P xs k x all e =
 
 pub shaped_at : (p : Program) → IsShaped p → (k : ℕ) (r : Routine) → slice_get (routines_of p) k ≡ Some r
     → IsShapedRoutine (function_signatures p) (length p.states) r
-shaped_at p shaped k r e = All-at (IsShapedRoutine (function_signatures p) (length p.states)) (routines_of p) k r shaped.routines e
+shaped_at p shaped k r e = All-at (IsShapedRoutine (function_signatures p) (length p.states)) (routines_of p) k
+    r shaped.routines e
 
 maps_same : {X : Type 0} (p : Program) (code : X → FunctionCode) (routine : X → Routine) (xs : List X)
-    → ((x : X) → plain_body (code x) ≡ routine_body p (routine x)) → map plain_body (map code xs) ≡ map (routine_body p) (map routine xs)
+    → ((x : X) → plain_body (code x) ≡ routine_body p (routine x))
+    → map plain_body (map code xs) ≡ map (routine_body p) (map routine xs)
 maps_same p code routine [] same = refl
 maps_same p code routine (x ∷ xs) same = ap₂ (λ b bs. b ∷ bs) (same x) (maps_same p code routine xs same)
 
 pub bodies_generated : (p : Program) → map plain_body (generated_functions p) ≡ bodies_of p
 bodies_generated p =
     map-append plain_body (functions_made (names_of p) p.functions) (handlers_made (names_of p) (handlers_of p.states))
-    ∙ ap₂ (λ a b. a ++ b) (maps_same p (λ f. routine_code p f.name f.routine) (λ f. f.routine) p.functions (λ f. refl)) (maps_same p (λ h. routine_code p (event_name_of h.event) h.routine) (λ h. h.routine) (handlers_of p.states) (λ h. refl))
+    ∙ ap₂ (λ a b. a ++ b) (maps_same p (λ f. routine_code p f.name f.routine) (λ f. f.routine) p.functions
+    (λ f. refl)) (maps_same p (λ h. routine_code p (event_name_of h.event) h.routine) (λ h. h.routine)
+    (handlers_of p.states) (λ h. refl))
     ∙ sym (map-append (routine_body p) (map (λ f. f.routine) p.functions) (map (λ h. h.routine) (handlers_of p.states)))
 
-pub body_at : (p : Program) (k : ℕ) (r : Routine) → slice_get (routines_of p) k ≡ Some r → slice_get (bodies_of p) k ≡ Some (routine_body p r)
+pub body_at : (p : Program) (k : ℕ) (r : Routine) → slice_get (routines_of p) k ≡ Some r
+    → slice_get (bodies_of p) k ≡ Some (routine_body p r)
 body_at p k r e = slice_get-map (routine_body p) (routines_of p) k ∙ ap (option_map (routine_body p)) e
 
 called_at : (functions : List NamedRoutine) (more : List Routine) (k : ℕ) (g : Signature)
@@ -53,7 +58,8 @@ called_at (f ∷ functions) more zero g e = let same : signature_of_routine f.ro
 called_at (f ∷ functions) more (suc k) g e = called_at functions more k g e
 
 -- the routine of a function that is called
-pub routine_at : (p : Program) (k : ℕ) (g : Signature) → slice_get (map (λ f. signature_of_routine f.routine) p.functions) k ≡ Some g
+pub routine_at : (p : Program) (k : ℕ) (g : Signature)
+    → slice_get (map (λ f. signature_of_routine f.routine) p.functions) k ≡ Some g
     → (r : Routine) × (slice_get (routines_of p) k ≡ Some r) × (signature_of_routine r ≡ g)
 routine_at p k g e = called_at p.functions (map (λ h. h.routine) (handlers_of p.states)) k g e
 

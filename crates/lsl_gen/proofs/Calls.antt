@@ -39,12 +39,14 @@ drop_front [] ops = refl
 drop_front (v ∷ vs) ops = drop_front vs ops
 
 -- the operands that a call takes, and those below
-pub popped : {A : Type 0} (n : ℕ) (vs ops : List Value) (F : List Value → List Value → A) → length vs ≡ n → F (take n (vs ++ ops)) (drop n (vs ++ ops)) ≡ F vs ops
+pub popped : {A : Type 0} (n : ℕ) (vs ops : List Value) (F : List Value → List Value → A) → length vs ≡ n
+    → F (take n (vs ++ ops)) (drop n (vs ++ ops)) ≡ F vs ops
 popped n vs ops F e =
     ap (λ n. F (take n (vs ++ ops)) (drop n (vs ++ ops))) (sym e) ∙ ap₂ F (take_front vs ops) (drop_front vs ops)
 
 -- an answer that the call can have brings a value where the call has a result
-answer_fits : (result : Option Kind) (o : Option Value) → is_answer_to result (reply.Value o) ≡ true → is_some o ≡ is_some result
+answer_fits : (result : Option Kind) (o : Option Value) → is_answer_to result (reply.Value o) ≡ true
+    → is_some o ≡ is_some result
 answer_fits None None e = refl
 answer_fits None (Some v) e = absurd cc
 answer_fits (Some kind) None e = absurd cc
@@ -65,8 +67,11 @@ empty_and n b e =
     let zero_is : n ≡ 0 = grind (arith, nat_tests) in
     (zero_is, both.1)
 
-module _ (bodies : List Body) (law : (t : ℕ) (m : Machine) → run bodies t m ≡ on (step bodies m) (passed bodies t m) (run bodies t)) (n : ℕ) (f : ℕ) (outer : List MachineCall) where
-  pub has_sim : (b c : Bool) (k : Option Value → State → Whole) (r : Evaluation (Option Value)) (h : Whole) → b ≡ c → Sim (Results n b) k r h → Sim (Results n c) k r h
+module _ (bodies : List Body) (law : (t : ℕ) (m : Machine)
+    → run bodies t m ≡ on (step bodies m) (passed bodies t m) (run bodies t)) (n : ℕ) (f : ℕ)
+    (outer : List MachineCall) where
+  pub has_sim : (b c : Bool) (k : Option Value → State → Whole) (r : Evaluation (Option Value)) (h : Whole)
+      → b ≡ c → Sim (Results n b) k r h → Sim (Results n c) k r h
   has_sim b c k r h e m = subst (λ b. Sim (Results n b) k r h) e m
 
   replied_sim : (id : BuiltinId) (r : Reply) (q q' : ℕ) (m : Machine) (s : State) (more : List Reply) (ops : List Value)
@@ -75,40 +80,52 @@ module _ (bodies : List Body) (law : (t : ℕ) (m : Machine) → run bodies t m 
       (reply_given r (site_of bodies f outer ops) (record s { answers = more }))
       (told bodies (on (replied r s.kept more f q s.slots ops outer) (passed bodies s.ticks m) (run bodies s.ticks)))
   replied_sim id (reply.Value (Some v)) q q' m s more ops fits e le =
-      has_sim true (is_some (row_of id).result) (λ o t. at bodies law f outer t q' (pushed o ops)) _ _ (answer_fits (row_of id).result (Some v) fits)
+      has_sim true (is_some (row_of id).result) (λ o t. at bodies law f outer t q' (pushed o ops)) _ _
+      (answer_fits (row_of id).result (Some v) fits)
       (received_sim bodies law f outer n q q' (passed bodies s.ticks m) (record s { answers = more }) v ops e le)
   replied_sim id (reply.Value None) q q' m s more ops fits e le =
-      record { eq = ap (λ q. at bodies law f outer (record s { answers = more }) q ops) e; post = (le, answer_fits (row_of id).result None fits) }
+      record {
+        eq = ap (λ q. at bodies law f outer (record s { answers = more }) q ops) e;
+        post =
+            (le, answer_fits (row_of id).result None fits);
+      }
   replied_sim id (reply.Stop fault) q q' m s more ops fits e le = record { eq = refl; post = tt }
 
   -- an answer is taken, or one is asked for
-  answered_sim : (id : BuiltinId) (args : List Value) (answers : List Reply) (q q' : ℕ) (m : Machine) (s : State) (ops : List Value)
+  answered_sim : (id : BuiltinId) (args : List Value) (answers : List Reply) (q q' : ℕ) (m : Machine)
+      (s : State) (ops : List Value)
       → q ≡ q' → s.ticks ≤ n
       → Sim (Results n (is_some (row_of id).result)) (λ o t. at bodies law f outer t q' (pushed o ops))
       (ask id args (site_of bodies f outer ops) answers s)
-      (told bodies (on (answered answers id args (λ r more. replied r s.kept more f q s.slots ops outer)) (passed bodies s.ticks m) (run bodies s.ticks)))
+      (told bodies (on (answered answers id args (λ r more. replied r s.kept more f q s.slots ops outer))
+      (passed bodies s.ticks m) (run bodies s.ticks)))
   answered_sim id args [] q q' m s ops e le = record { eq = asked bodies law f outer s.ticks m id args; post = tt }
   answered_sim id args (r ∷ more) q q' m s ops e le = fitting (is_answered_by id r) refl
     where
       fitting : (b : Bool) → is_answered_by id r ≡ b
           → Sim (Results n (is_some (row_of id).result)) (λ o t. at bodies law f outer t q' (pushed o ops))
           (cond b (reply_given r (site_of bodies f outer ops) (record s { answers = more })) (Stops whole.Lost))
-          (told bodies (on (cond b (replied r s.kept more f q s.slots ops outer) (Halts Lost)) (passed bodies s.ticks m) (run bodies s.ticks)))
+          (told bodies (on (cond b (replied r s.kept more f q s.slots ops outer) (Halts Lost))
+          (passed bodies s.ticks m) (run bodies s.ticks)))
       fitting true fits = replied_sim id r q q' m s more ops fits e le
       fitting false fits = record { eq = refl; post = tt }
 
-  host_sim : (id : BuiltinId) (pc q : ℕ) (vs ops : List Value) (s : State) → s.ticks ≤ n → length vs ≡ parameter_count id → HasAt bodies f pc (instr.Host id ∷ []) → pc + 1 ≡ q
+  host_sim : (id : BuiltinId) (pc q : ℕ) (vs ops : List Value) (s : State) → s.ticks ≤ n
+      → length vs ≡ parameter_count id → HasAt bodies f pc (instr.Host id ∷ []) → pc + 1 ≡ q
       → Sim (Results n (is_some (row_of id).result)) (λ o t. at bodies law f outer t q (pushed o ops))
       (ask id (reverse vs) (site_of bodies f outer ops) s.answers s) (at bodies law f outer s pc (vs ++ ops))
   host_sim id pc q vs ops s le count has e =
       from_sim _ _ _ _ _
       (one bodies law f outer s pc (vs ++ ops) (instr.Host id) has.0
-      ∙ popped (parameter_count id) vs ops (λ args rest. led bodies law f outer s pc (vs ++ ops) (Asks id (reverse args) rest)) count)
+      ∙ popped (parameter_count id) vs ops
+      (λ args rest. led bodies law f outer s pc (vs ++ ops) (Asks id (reverse args) rest)) count)
       (answered_sim id (reverse vs) s.answers (pc + 1) q (here bodies law f outer s pc (vs ++ ops)) s ops e le)
 
   -- a value that one instruction pushes is the call's result
-  pushed_sim : (has : Bool) (v : Value) (pc q : ℕ) (from ops : List Value) (s : State) → true ≡ has → s.ticks ≤ n → pc + 1 ≡ q
-      → Sim (Results n has) (λ o t. at bodies law f outer t q (pushed o ops)) (give_result (Some v) (site_of bodies f outer ops) s)
+  pushed_sim : (has : Bool) (v : Value) (pc q : ℕ) (from ops : List Value) (s : State) → true ≡ has
+      → s.ticks ≤ n → pc + 1 ≡ q
+      → Sim (Results n has) (λ o t. at bodies law f outer t q (pushed o ops))
+      (give_result (Some v) (site_of bodies f outer ops) s)
       (led bodies law f outer s pc from (gives (base outer) s.slots (v ∷ ops) s.kept))
   pushed_sim has v pc q from ops s result le e =
       has_sim true has (λ o t. at bodies law f outer t q (pushed o ops)) _ _ result
@@ -116,10 +133,14 @@ module _ (bodies : List Body) (law : (t : ℕ) (m : Machine) → run bodies t m 
 
   -- a value of the script's own memory
   own_sim : (i : Instr) (has : Bool) (v : Value) (pc q : ℕ) (vs ops : List Value) (s : State)
-      → vs ≡ [] → true ≡ has → s.ticks ≤ n → pc + 1 ≡ q → at bodies law f outer s pc ops ≡ led bodies law f outer s pc ops (gives (base outer) s.slots (v ∷ ops) s.kept)
-      → Sim (Results n has) (λ o t. at bodies law f outer t q (pushed o ops)) (give_result (Some v) (site_of bodies f outer ops) s) (at bodies law f outer s pc (vs ++ ops))
+      → vs ≡ [] → true ≡ has → s.ticks ≤ n → pc + 1 ≡ q
+      → at bodies law f outer s pc ops
+      ≡ led bodies law f outer s pc ops (gives (base outer) s.slots (v ∷ ops) s.kept)
+      → Sim (Results n has) (λ o t. at bodies law f outer t q (pushed o ops))
+      (give_result (Some v) (site_of bodies f outer ops) s) (at bodies law f outer s pc (vs ++ ops))
   own_sim i has v pc q vs ops s none result le e step =
-      from_sim _ _ _ _ _ (ap (λ l. at bodies law f outer s pc (l ++ ops)) none ∙ step) (pushed_sim has v pc q ops ops s result le e)
+      from_sim _ _ _ _ _ (ap (λ l. at bodies law f outer s pc (l ++ ops)) none ∙ step)
+      (pushed_sim has v pc q ops ops s result le e)
 
   -- a built-in call, whose arguments are pushed
   pub builtin_sim : (call : CallForm) (id : BuiltinId) (line pc q : ℕ) (vs ops : List Value) (s : State)
@@ -130,24 +151,37 @@ module _ (bodies : List Body) (law : (t : ℕ) (m : Machine) → run bodies t m 
   builtin_sim form.Pure id line pc q vs ops s fits le count has e =
       from_sim _ _ _ _ _
       (one bodies law f outer s pc (vs ++ ops) (instr.Pure id) has.0
-      ∙ popped (parameter_count id) vs ops (λ args rest. led bodies law f outer s pc (vs ++ ops) (gives (base outer) s.slots (pure_of id (reverse args) ∷ rest) s.kept)) count)
+      ∙ popped (parameter_count id) vs ops
+      (λ args rest. led bodies law f outer s pc (vs ++ ops)
+      (gives (base outer) s.slots (pure_of id (reverse args) ∷ rest) s.kept)) count)
       (pushed_sim _ (pure_of id (reverse vs)) pc q (vs ++ ops) ops s (sym fits) le e)
   builtin_sim form.UsedMemory id line pc q vs ops s fits le count has e =
       let both = empty_and (parameter_count id) (gives_integer (row_of id).result) fits in
       own_sim instr.Used _ (value.Int (pos (used (hold_all (base outer) ops) s.slots s.kept))) pc q vs ops s
-      (no_values vs (count ∙ both.0)) (sym (ap is_some (integer_given (row_of id).result both.1))) le e (one bodies law f outer s pc ops instr.Used has.0)
+      (no_values vs (count ∙ both.0)) (sym (ap is_some (integer_given (row_of id).result both.1))) le e
+      (one bodies law f outer s pc ops instr.Used has.0)
   builtin_sim form.FreeMemory id line pc q vs ops s fits le count has e =
       let both = empty_and (parameter_count id) (gives_integer (row_of id).result) fits in
-      own_sim instr.Free _ (value.Int (pos (s.kept.limit - used (hold_all (base outer) ops) s.slots s.kept))) pc q vs ops s
-      (no_values vs (count ∙ both.0)) (sym (ap is_some (integer_given (row_of id).result both.1))) le e (one bodies law f outer s pc ops instr.Free has.0)
+      own_sim instr.Free _ (value.Int (pos (s.kept.limit - used (hold_all (base outer) ops) s.slots s.kept))) pc
+      q vs ops s
+      (no_values vs (count ∙ both.0)) (sym (ap is_some (integer_given (row_of id).result both.1))) le e
+      (one bodies law f outer s pc ops instr.Free has.0)
   builtin_sim form.Asked id line pc q vs ops s fits le count has e = host_sim id pc q vs ops s le count has e
   builtin_sim form.AskedAndWaits id line pc q vs ops s fits le count has e =
       let d : pc + 1 + 1 ≡ q = omega (arith, e) in
-      then_sim (Results n (is_some (row_of id).result)) (Results n (is_some (row_of id).result)) (λ o t. at bodies law f outer t (pc + 1) (pushed o ops)) (λ o t. at bodies law f outer t q (pushed o ops))
-      (ask id (reverse vs) (site_of bodies f outer ops) s.answers s) (λ o t. tick t.ticks line (site_of bodies f outer ops) t (Gives o)) _
+      then_sim (Results n (is_some (row_of id).result)) (Results n (is_some (row_of id).result))
+      (λ o t. at bodies law f outer t (pc + 1) (pushed o ops))
+      (λ o t. at bodies law f outer t q (pushed o ops))
+      (ask id (reverse vs) (site_of bodies f outer ops) s.answers s)
+      (λ o t. tick t.ticks line (site_of bodies f outer ops) t (Gives o)) _
       (host_sim id pc (pc + 1) vs ops s le count (has.0, tt) refl)
       (λ o t post. from_sim _ _ _ _ _ (one bodies law f outer t (pc + 1) (pushed o ops) (instr.Tick line) has.1.0)
-      (tick_sim bodies law f outer (Results n (is_some (row_of id).result)) (λ o t. at bodies law f outer t q (pushed o ops)) t.ticks line (pc + 1) (pc + 1 + 1) ops (pushed o ops) t (Gives o) has.1.0
-      (λ t' e'. record { eq = ap (λ q. at bodies law f outer (record t { ticks = t' }) q (pushed o ops)) d; post = (omega (arith, post.0, e'), post.1) })))
+      (tick_sim bodies law f outer (Results n (is_some (row_of id).result))
+      (λ o t. at bodies law f outer t q (pushed o ops)) t.ticks line (pc + 1) (pc + 1 + 1) ops
+      (pushed o ops) t (Gives o) has.1.0
+      (λ t' e'. record {
+        eq = ap (λ q. at bodies law f outer (record t { ticks = t' }) q (pushed o ops)) d;
+        post = (omega (arith, post.0, e'), post.1);
+      })))
   builtin_sim form.Resets id line pc q vs ops s fits le count has e =
       record { eq = one bodies law f outer s pc (vs ++ ops) instr.Reset has.0; post = tt }

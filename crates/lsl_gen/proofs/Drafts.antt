@@ -11,11 +11,14 @@ use Rattle.lsl_code.specs.Drafts.{numbered, lines_of}
 use Rattle.lsl_code.specs.Wholes.{with_line}
 
 one_more : (before : List ℕ) (line : ℕ) (is : List Instr) (j : ℕ)
-    → option_map (with_line ((before ++ line ∷ []) ++ lines_of is)) (slice_get (numbered is (length (before ++ line ∷ []))) j) ≡ slice_get is j
-    → option_map (with_line (before ++ line ∷ lines_of is)) (slice_get (numbered is (suc (length before))) j) ≡ slice_get is j
+    → option_map (with_line ((before ++ line ∷ []) ++ lines_of is))
+    (slice_get (numbered is (length (before ++ line ∷ []))) j) ≡ slice_get is j
+    → option_map (with_line (before ++ line ∷ lines_of is)) (slice_get (numbered is (suc (length before))) j)
+    ≡ slice_get is j
 one_more before line is j h =
     let n : suc (length before) ≡ length (before ++ line ∷ []) = omega (arith, length-append before (line ∷ [])) in
-    ap₂ (λ l k. option_map (with_line l) (slice_get (numbered is k) j)) (sym (append_assoc before (line ∷ []) (lines_of is))) n
+    ap₂ (λ l k. option_map (with_line l) (slice_get (numbered is k) j))
+    (sym (append_assoc before (line ∷ []) (lines_of is))) n
     ∙ h
 
 reads : (before : List ℕ) (d : List Instr) (j : ℕ)
@@ -28,10 +31,12 @@ reads before (Tick line ∷ is) (suc j) = one_more before line is j (reads (befo
 reads before (Call f line ∷ is) (suc j) = one_more before line is j (reads (before ++ line ∷ []) is j)
 reads before (i ∷ is) (suc j) = reads before is j
 
-pub draft_reads : (d : List Instr) (j : ℕ) → option_map (with_line (lines_of d)) (slice_get (numbered d 0) j) ≡ slice_get d j
+pub draft_reads : (d : List Instr) (j : ℕ)
+    → option_map (with_line (lines_of d)) (slice_get (numbered d 0) j) ≡ slice_get d j
 draft_reads d j = reads [] d j
 
-pub act_seen : (lines : List ℕ) (i : Option Instr) (bodies : List Body) (kept : Kept) (held : ℕ) (slots ops : List Value)
+pub act_seen : (lines : List ℕ) (i : Option Instr) (bodies : List Body) (kept : Kept) (held : ℕ)
+    (slots ops : List Value)
     → act bodies i kept held slots ops ≡ act bodies (option_map (with_line lines) i) kept held slots ops
 act_seen lines None bodies kept held slots ops = refl
 act_seen lines (Some (Tick point)) bodies kept held slots ops = refl

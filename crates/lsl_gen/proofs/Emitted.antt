@@ -10,38 +10,58 @@ use Rattle.lsl_code.specs.declared.instructions.Instr.TheVariants as instr
 use Rattle.lsl_gen.specs.Expressions.{call_code, value_code, values_code}
 use Rattle.lsl_gen.proofs.Views.{node_of-List, node_of-Call, nodes_more, argument_count-nodes_of}
 
-pub values_step : (new code base : List Instr) (xs : List declared.Node) (i : ℕ) (x : declared.Node) → i < length xs → x ≡ get_or xs i x
-    → code ≡ base ++ values_code (nodes_of (take i xs)) → new ≡ code ++ value_code (node_of x) → new ≡ base ++ values_code (nodes_of (take (i + 1) xs))
+pub values_step : (new code base : List Instr) (xs : List declared.Node) (i : ℕ) (x : declared.Node)
+    → i < length xs → x ≡ get_or xs i x
+    → code ≡ base ++ values_code (nodes_of (take i xs)) → new ≡ code ++ value_code (node_of x)
+    → new ≡ base ++ values_code (nodes_of (take (i + 1) xs))
 values_step new code base xs i x lt is inv e =
-    e ∙ ap (λ l. l ++ value_code (node_of x)) inv ∙ append_assoc base _ _ ∙ ap (λ ts. base ++ values_code ts) (sym (nodes_more xs i x lt is))
+    e ∙ ap (λ l. l ++ value_code (node_of x)) inv ∙ append_assoc base _ _
+    ∙ ap (λ ts. base ++ values_code ts) (sym (nodes_more xs i x lt is))
 
-pub call_step : (new code base : List Instr) (e : declared.Node) (c : Callee) (k : Kind) (l : ℕ) (args : Vec declared.Node Global) (xs : List declared.Node)
-    → e ≡ declared.Call c k l args → xs ≡ args.items → code ≡ base ++ values_code (nodes_of xs) → new ≡ code ++ call_code c l → new ≡ base ++ value_code (node_of e)
+pub call_step : (new code base : List Instr) (e : declared.Node) (c : Callee) (k : Kind) (l : ℕ)
+    (args : Vec declared.Node Global) (xs : List declared.Node)
+    → e ≡ declared.Call c k l args → xs ≡ args.items → code ≡ base ++ values_code (nodes_of xs)
+    → new ≡ code ++ call_code c l → new ≡ base ++ value_code (node_of e)
 call_step new code base e c k l args xs is same inv last =
-    last ∙ ap (λ d. d ++ call_code c l) inv ∙ append_assoc base _ _ ∙ ap (λ ys. base ++ (values_code (nodes_of ys) ++ call_code c l)) same
+    last ∙ ap (λ d. d ++ call_code c l) inv ∙ append_assoc base _ _
+    ∙ ap (λ ys. base ++ (values_code (nodes_of ys) ++ call_code c l)) same
     ∙ ap (λ t. base ++ value_code t) (sym (ap node_of is ∙ node_of-Call c k l args))
 
-pub list_step : (new code base : List Instr) (e : declared.Node) (n m : ℕ) (args : Vec declared.Node Global) (xs : List declared.Node)
-    → e ≡ declared.List args → xs ≡ args.items → n ≡ length args.items → m ≡ n → code ≡ base ++ values_code (nodes_of xs) → new ≡ code ++ instr.MakeList m ∷ []
+pub list_step : (new code base : List Instr) (e : declared.Node) (n m : ℕ) (args : Vec declared.Node Global)
+    (xs : List declared.Node)
+    → e ≡ declared.List args → xs ≡ args.items → n ≡ length args.items → m ≡ n
+    → code ≡ base ++ values_code (nodes_of xs) → new ≡ code ++ instr.MakeList m ∷ []
     → new ≡ base ++ value_code (node_of e)
 list_step new code base e n m args xs is same len long inv last =
-    last ∙ ap₂ (λ c m. c ++ instr.MakeList m ∷ []) inv (long ∙ len ∙ sym (argument_count-nodes_of args.items)) ∙ append_assoc base _ _
-    ∙ ap (λ ys. base ++ (values_code (nodes_of ys) ++ instr.MakeList (argument_count (nodes_of args.items)) ∷ [])) same ∙ ap (λ t. base ++ value_code t) (sym (ap node_of is ∙ node_of-List args))
+    last ∙ ap₂ (λ c m. c ++ instr.MakeList m ∷ []) inv (long ∙ len ∙ sym (argument_count-nodes_of args.items))
+    ∙ append_assoc base _ _
+    ∙ ap (λ ys. base ++ (values_code (nodes_of ys) ++ instr.MakeList
+    (argument_count (nodes_of args.items)) ∷ [])) same
+    ∙ ap (λ t. base ++ value_code t) (sym (ap node_of is ∙ node_of-List args))
 
-pub values_size_step : (total' total n : ℕ) (xs : List declared.Node) (i : ℕ) (x : declared.Node) → i < length xs → x ≡ get_or xs i x → total ≡ length (values_code (nodes_of (take i xs)))
-    → n ≡ length (value_code (node_of x)) → total' ≡ total + n → total' ≡ length (values_code (nodes_of (take (i + 1) xs)))
+pub values_size_step : (total' total n : ℕ) (xs : List declared.Node) (i : ℕ) (x : declared.Node)
+    → i < length xs → x ≡ get_or xs i x → total ≡ length (values_code (nodes_of (take i xs)))
+    → n ≡ length (value_code (node_of x)) → total' ≡ total + n
+    → total' ≡ length (values_code (nodes_of (take (i + 1) xs)))
 values_size_step total' total n xs i x lt is inv len e =
-    e ∙ ap₂ (λ a b. a + b) inv len ∙ sym (length-append (values_code (nodes_of (take i xs))) (value_code (node_of x))) ∙ ap (λ ts. length (values_code ts)) (sym (nodes_more xs i x lt is))
+    e ∙ ap₂ (λ a b. a + b) inv len ∙ sym (length-append (values_code (nodes_of (take i xs)))
+    (value_code (node_of x))) ∙ ap (λ ts. length (values_code ts)) (sym (nodes_more xs i x lt is))
 
-pub call_size_step : (m n k : ℕ) (e : declared.Node) (c : Callee) (kind : Kind) (l : ℕ) (args : Vec declared.Node Global) (xs : List declared.Node) → e ≡ declared.Call c kind l args → xs ≡ args.items
-    → n ≡ length (values_code (nodes_of xs)) → k ≡ length (call_code c l) → m ≡ n + k → m ≡ length (value_code (node_of e))
+pub call_size_step : (m n k : ℕ) (e : declared.Node) (c : Callee) (kind : Kind) (l : ℕ)
+    (args : Vec declared.Node Global) (xs : List declared.Node) → e ≡ declared.Call c kind l args
+    → xs ≡ args.items
+    → n ≡ length (values_code (nodes_of xs)) → k ≡ length (call_code c l) → m ≡ n + k
+    → m ≡ length (value_code (node_of e))
 call_size_step m n k e c kind l args xs is same len called last =
-    last ∙ ap₂ (λ a b. a + b) (len ∙ ap (λ ys. length (values_code (nodes_of ys))) same) called ∙ sym (length-append (values_code (nodes_of args.items)) (call_code c l))
+    last ∙ ap₂ (λ a b. a + b) (len ∙ ap (λ ys. length (values_code (nodes_of ys))) same) called
+    ∙ sym (length-append (values_code (nodes_of args.items)) (call_code c l))
     ∙ ap (λ t. length (value_code t)) (sym (ap node_of is ∙ node_of-Call c kind l args))
 
-pub list_size_step : (m n : ℕ) (e : declared.Node) (args : Vec declared.Node Global) (xs : List declared.Node) → e ≡ declared.List args → xs ≡ args.items
+pub list_size_step : (m n : ℕ) (e : declared.Node) (args : Vec declared.Node Global) (xs : List declared.Node)
+    → e ≡ declared.List args → xs ≡ args.items
     → n ≡ length (values_code (nodes_of xs)) → m ≡ n + 1 → m ≡ length (value_code (node_of e))
 list_size_step m n e args xs is same len last =
     last ∙ ap (λ a. a + 1) (len ∙ ap (λ ys. length (values_code (nodes_of ys))) same)
-    ∙ sym (length-append (values_code (nodes_of args.items)) (instr.MakeList (argument_count (nodes_of args.items)) ∷ []))
+    ∙ sym (length-append (values_code (nodes_of args.items))
+    (instr.MakeList (argument_count (nodes_of args.items)) ∷ []))
     ∙ ap (λ t. length (value_code t)) (sym (ap node_of is ∙ node_of-List args))

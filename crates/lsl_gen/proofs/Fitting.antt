@@ -39,15 +39,20 @@ event_is a b e = let same : Some a ≡ Some b = sym (event_at a) ∙ ap (slice_g
 
 other_event : (a b : EventId) (t : Bool) → same_event a b ≡ t → a ≢ b → t ≡ false
 other_event a b false e h = refl
-other_event a b true e h = let same : event_number a ≡ event_number b = grind (arith, nat_tests) in absurd (h (event_is a b same))
+other_event a b true e h = let same : event_number a ≡ event_number b = grind (arith, nat_tests) in
+    absurd (h (event_is a b same))
 
-none_has : (h : EventRoutine) (hs : List EventRoutine) (n : ℕ) → All (λ b. h.event ≢ b.event) hs → has_event h.event (numbered_handlers n hs) ≡ false
+none_has : (h : EventRoutine) (hs : List EventRoutine) (n : ℕ) → All (λ b. h.event ≢ b.event) hs
+    → has_event h.event (numbered_handlers n hs) ≡ false
 none_has h [] n all = refl
 none_has h (x ∷ hs) n all =
-    ap (λ t. cond t true (has_event h.event (numbered_handlers (suc n) hs))) (other_event h.event x.event (same_event h.event x.event) refl (All-head (λ b. h.event ≢ b.event) x hs all))
+    ap (λ t. cond t true (has_event h.event (numbered_handlers (suc n) hs)))
+    (other_event h.event x.event (same_event h.event x.event) refl
+    (All-head (λ b. h.event ≢ b.event) x hs all))
     ∙ none_has h hs (suc n) (All-tail (λ b. h.event ≢ b.event) x hs all)
 
-differ_ok : (hs : List EventRoutine) (n : ℕ) → AllPairs (λ a b. a.event ≢ b.event) hs → events_differ (numbered_handlers n hs) ≡ true
+differ_ok : (hs : List EventRoutine) (n : ℕ) → AllPairs (λ a b. a.event ≢ b.event) hs
+    → events_differ (numbered_handlers n hs) ≡ true
 differ_ok [] n pairs = refl
 differ_ok (h ∷ hs) n pairs =
     both _ _ (ap not (none_has h hs (suc n) (λ k d lt. pairs 0 (suc k) d (omega arith) (omega arith))))
@@ -80,24 +85,30 @@ module _ (p : Program) where
 
   names_same : IsKinded p → names_in (initial_globals p) (generated_states p) (bodies_of p) ≡ names_of p
   names_same kinded =
-      ap₂ (λ gs fs. record { globals = gs; functions = fs; states = length (generated_states p) }) (lemmas.globals p kinded) (signatures (routines_of p))
-      ∙ ap (λ n. record { globals = (names_of p).globals; functions = (names_of p).functions; states = n }) (states_length p.states (length p.functions))
+      ap₂ (λ gs fs. record { globals = gs; functions = fs; states = length (generated_states p) })
+      (lemmas.globals p kinded) (signatures (routines_of p))
+      ∙ ap (λ n. record { globals = (names_of p).globals; functions = (names_of p).functions; states = n })
+      (states_length p.states (length p.functions))
 
   module _ (bodies : List Body) where
     -- from this number on the functions are those of these routines
     abbrev From : ℕ → List Routine → Type 0
     From m rs = (k : ℕ) → slice_get bodies (m + k) ≡ option_map (routine_body p) (slice_get rs k)
 
-    handlers_ok : (hs : List EventRoutine) (more : List Routine) (m n : ℕ) → From m (routines_in hs ++ more) → All IsHandler hs → all_places (handler_fits bodies) n (numbered_handlers m hs) ≡ true
+    handlers_ok : (hs : List EventRoutine) (more : List Routine) (m n : ℕ) → From m (routines_in hs ++ more)
+        → All IsHandler hs → all_places (handler_fits bodies) n (numbered_handlers m hs) ≡ true
     handlers_ok [] more m n from all = refl
     handlers_ok (h ∷ hs) more m n from all =
         let z : m + 0 ≡ m = omega arith in
         let known = All-head IsHandler h hs all in
         let here : slice_get bodies m ≡ Some (routine_body p h.routine) = ap (slice_get bodies) (sym z) ∙ from 0 in
-        both _ _ (ap (handles (record { event = h.event; function = m })) here ∙ both _ _ (sames _ _ known.params) (ap is_none known.result))
-        (handlers_ok hs more (suc m) (suc n) (λ k. let y : suc m + k ≡ m + suc k = omega arith in ap (slice_get bodies) y ∙ from (suc k)) (All-tail IsHandler h hs all))
+        both _ _ (ap (handles (record { event = h.event; function = m })) here
+        ∙ both _ _ (sames _ _ known.params) (ap is_none known.result))
+        (handlers_ok hs more (suc m) (suc n) (λ k. let y : suc m + k ≡ m + suc k = omega arith in
+        ap (slice_get bodies) y ∙ from (suc k)) (All-tail IsHandler h hs all))
 
-    state_handlers : (s : ProgramState) (states : List ProgramState) → All IsHandler (handlers_of (s ∷ states)) → All IsHandler s.handlers × All IsHandler (handlers_of states)
+    state_handlers : (s : ProgramState) (states : List ProgramState) → All IsHandler (handlers_of (s ∷ states))
+        → All IsHandler s.handlers × All IsHandler (handlers_of states)
     state_handlers s states all = split s.handlers (handlers_of states) all
       where
         split : (a b : List EventRoutine) → All IsHandler (a ++ b) → All IsHandler a × All IsHandler b
@@ -106,33 +117,40 @@ module _ (p : Program) where
             let rest = split a b (All-tail IsHandler x (a ++ b) all) in
             (All-cons IsHandler x a (All-head IsHandler x (a ++ b) all) rest.0, rest.1)
 
-    states_ok : (states : List ProgramState) (m n : ℕ) → From m (routines_in (handlers_of states)) → All IsHandler (handlers_of states) → All EventsDiffer states → all_places (state_fits bodies) n (numbered_states m states) ≡ true
+    states_ok : (states : List ProgramState) (m n : ℕ) → From m (routines_in (handlers_of states))
+        → All IsHandler (handlers_of states) → All EventsDiffer states
+        → all_places (state_fits bodies) n (numbered_states m states) ≡ true
     states_ok [] m n from all differ = refl
     states_ok (s ∷ states) m n from all differ =
         let rest = handlers_of states in
         let cut = state_handlers s states all in
         let parts = routines-append s.handlers rest in
         both _ _
-        (both _ _ (handlers_ok s.handlers (routines_in rest) m 0 (λ k. from k ∙ ap (λ l. option_map (routine_body p) (slice_get l k)) parts) cut.0)
+        (both _ _ (handlers_ok s.handlers (routines_in rest) m 0
+        (λ k. from k ∙ ap (λ l. option_map (routine_body p) (slice_get l k)) parts) cut.0)
         (differ_ok s.handlers m (All-head EventsDiffer s states differ)))
         (states_ok states (m + length s.handlers) (suc n)
-        (λ k. let y : m + length s.handlers + k ≡ m + (length (routines_in s.handlers) + k) = omega (arith, map_length (λ h. h.routine) s.handlers) in
+        (λ k. let y : m + length s.handlers + k ≡ m + (length (routines_in s.handlers) + k) =
+        omega (arith, map_length (λ h. h.routine) s.handlers) in
         ap (slice_get bodies) y ∙ from (length (routines_in s.handlers) + k)
         ∙ ap (λ l. option_map (routine_body p) (slice_get l (length (routines_in s.handlers) + k))) parts
         ∙ ap (option_map (routine_body p)) (shift_get (routines_in s.handlers) (routines_in rest) k))
         cut.1 (All-tail EventsDiffer s states differ))
 
   module _ (kinded : IsKinded p) (shaped : IsShaped p) (short : HasShortCode p) where
-    functions_fit : all_places (fits_function (names_in (initial_globals p) (generated_states p) (bodies_of p))) 0 (bodies_of p) ≡ true
+    functions_fit : all_places (fits_function (names_in (initial_globals p) (generated_states p) (bodies_of p)))
+        0 (bodies_of p) ≡ true
     functions_fit =
         ap (λ names. all_places (fits_function names) 0 (bodies_of p)) (names_same kinded)
         ∙ all_if (fits_function (names_of p)) (bodies_of p) (each_body p (λ k w. fits_function (names_of p) k w ≡ true)
-        (λ k r e. routine_fits p r (kinded_at p kinded shaped k r e) (shaped_at p shaped k r e) k (All-at IsShort (routines_of p) k r short.routines e)))
+        (λ k r e. routine_fits p r (kinded_at p kinded shaped k r e) (shaped_at p shaped k r e) k
+        (All-at IsShort (routines_of p) k r short.routines e)))
 
     from_functions : From (bodies_of p) (length p.functions) (routines_in (handlers_of p.states))
     from_functions k =
         let functions = map (λ (f : NamedRoutine). f.routine) p.functions in
-        let z : length p.functions + k ≡ length functions + k = omega (arith, map_length (λ (f : NamedRoutine). f.routine) p.functions) in
+        let z : length p.functions + k ≡ length functions + k =
+        omega (arith, map_length (λ (f : NamedRoutine). f.routine) p.functions) in
         slice_get-map (routine_body p) (routines_of p) (length p.functions + k)
         ∙ ap (λ n. option_map (routine_body p) (slice_get (routines_of p) n)) z
         ∙ ap (option_map (routine_body p)) (shift_get functions (routines_in (handlers_of p.states)) k)
@@ -142,7 +160,8 @@ module _ (p : Program) where
         let count = states_length p.states (length p.functions) in
         let some : 1 ≤ length (generated_states p) = omega (arith, shaped.states, count) in
         let few : length (generated_states p) ≤ 65535 = omega (arith, short.states, count) in
-        both _ _ (both _ _ (at_least 1 (length (generated_states p)) some) (at_least (length (generated_states p)) 65535 few))
+        both _ _ (both _ _ (at_least 1 (length (generated_states p)) some)
+        (at_least (length (generated_states p)) 65535 few))
         (states_ok (bodies_of p) p.states (length p.functions) 0 from_functions kinded.handlers kinded.events)
 
     pub unit_fits : fits_unit (initial_globals p) (generated_states p) (map plain_body (generated_functions p)) ≡ true

@@ -56,9 +56,11 @@ either true c d e f = refl
 either false c d e f = f e
 
 module _ (p : Program) (r : Routine) (d : List Instr) where
-  -- code whose instructions go on to where they may, and that begins at an open place, where an open place stands behind it
+  -- code whose instructions go on to where they may, and that begins at an open place, where an open place
+  -- stands behind it
   abbrev Piece : ℕ → List Instr → Type 0
-  Piece pc is = StandsAt d pc is → Open (scope_of p r) d (pc + length is) → Ways (scope_of p r) d pc is × Open (scope_of p r) d pc
+  Piece pc is = StandsAt d pc is → Open (scope_of p r) d (pc + length is) → Ways (scope_of p r) d pc is
+      × Open (scope_of p r) d pc
 
   seq : (pc : ℕ) (a b : List Instr) → Piece pc a → Piece (pc + length a) b → Piece pc (a ++ b)
   seq pc a b first second stands o =
@@ -75,7 +77,8 @@ module _ (p : Program) (r : Routine) (d : List Instr) where
   builtin_piece form.UsedMemory id line pc = lone pc instr.Used refl
   builtin_piece form.FreeMemory id line pc = lone pc instr.Free refl
   builtin_piece form.Asked id line pc = lone pc (instr.Host id) refl
-  builtin_piece form.AskedAndWaits id line pc = through_piece (scope_of p r) d (instr.Host id ∷ instr.Tick line ∷ []) pc refl
+  builtin_piece form.AskedAndWaits id line pc =
+      through_piece (scope_of p r) d (instr.Host id ∷ instr.Tick line ∷ []) pc refl
   builtin_piece form.Resets id line pc = λ stands o. ((o.1, tt), open_at (scope_of p r) d pc instr.Reset stands.0 refl)
 
   call_piece : (callee : Callee) (line pc : ℕ) → Piece pc (call_code callee line)
@@ -88,61 +91,82 @@ module _ (p : Program) (r : Routine) (d : List Instr) where
     value_piece (node.Str text) pc = lone pc _ refl
     value_piece (node.Constant id kind) pc = lone pc _ (falls_literal id)
     value_piece (node.Variable place kind) pc = lone pc _ (falls_load place)
-    value_piece (node.Call callee kind line ts) pc = seq pc (values_code ts) (call_code callee line) (values_piece ts pc) (call_piece callee line _)
-    value_piece (node.ListLiteral ts) pc = seq pc (values_code ts) _ (values_piece ts pc) (lone _ (instr.MakeList (argument_count ts)) refl)
+    value_piece (node.Call callee kind line ts) pc =
+        seq pc (values_code ts) (call_code callee line) (values_piece ts pc) (call_piece callee line _)
+    value_piece (node.ListLiteral ts) pc =
+        seq pc (values_code ts) _ (values_piece ts pc) (lone _ (instr.MakeList (argument_count ts)) refl)
     value_piece (node.Cast kind t) pc = seq pc (value_code t) _ (value_piece t pc) (lone _ (instr.Cast kind) refl)
     value_piece (node.Unary op t) pc = seq pc (value_code t) _ (value_piece t pc) (lone _ (instr.Unary op) refl)
     value_piece (node.Binary op kind a b) pc =
-        seq pc (value_code b) _ (value_piece b pc) (seq _ (value_code a) _ (value_piece a (pc + length (value_code b))) (lone _ (instr.Binary op) refl))
-    value_piece (node.Assign place kind t) pc = seq pc (value_code t) _ (value_piece t pc) (lone _ (store place) (falls_store place))
+        seq pc (value_code b) _ (value_piece b pc)
+        (seq _ (value_code a) _ (value_piece a (pc + length (value_code b)))
+        (lone _ (instr.Binary op) refl))
+    value_piece (node.Assign place kind t) pc =
+        seq pc (value_code t) _ (value_piece t pc) (lone _ (store place) (falls_store place))
     value_piece (node.StepBehind place op) pc =
         let c : List Instr = instr.Drop ∷ [] in
         let b : List Instr = store place ∷ c in
         let a : List Instr = instr.Int (pos 1) ∷ load place ∷ instr.Binary (step_operator op) ∷ b in
         seq pc (load place ∷ []) a (lone pc (load place) (falls_load place))
-        (seq _ (instr.Int (pos 1) ∷ []) (load place ∷ instr.Binary (step_operator op) ∷ b) (lone _ (instr.Int (pos 1)) refl)
+        (seq _ (instr.Int (pos 1) ∷ []) (load place ∷ instr.Binary (step_operator op) ∷ b)
+        (lone _ (instr.Int (pos 1)) refl)
         (seq _ (load place ∷ []) (instr.Binary (step_operator op) ∷ b) (lone _ (load place) (falls_load place))
         (seq _ (instr.Binary (step_operator op) ∷ []) b (lone _ (instr.Binary (step_operator op)) refl)
         (seq _ (store place ∷ []) c (lone _ (store place) (falls_store place)) (lone _ instr.Drop refl)))))
 
-    values_piece : (ts : Nodes) (pc : ℕ) → StandsAt d pc (values_code ts) → Open (scope_of p r) d (pc + length (values_code ts)) → Ways (scope_of p r) d pc (values_code ts) × Open (scope_of p r) d pc
+    values_piece : (ts : Nodes) (pc : ℕ) → StandsAt d pc (values_code ts)
+        → Open (scope_of p r) d (pc + length (values_code ts)) → Ways (scope_of p r) d pc (values_code ts)
+        × Open (scope_of p r) d pc
     values_piece NoNode pc stands o = let e : pc + 0 ≡ pc = omega arith in (tt, subst (Open (scope_of p r) d) e o)
     values_piece (AndNode ts t) pc stands o =
-        seq pc (values_code ts) (value_code t) (values_piece ts pc) (value_piece t (pc + length (values_code ts))) stands o
+        seq pc (values_code ts) (value_code t) (values_piece ts pc)
+        (value_piece t (pc + length (values_code ts))) stands o
 
   effect_piece : (x : Effect) (pc : ℕ) → Piece pc (effect_code x)
   effect_piece (effect.Value t) pc = seq pc (value_code t) _ (value_piece t pc) (lone _ instr.Drop refl)
-  effect_piece (effect.Call callee line ts) pc = seq pc (values_code ts) (call_code callee line) (values_piece ts pc) (call_piece callee line _)
+  effect_piece (effect.Call callee line ts) pc =
+      seq pc (values_code ts) (call_code callee line) (values_piece ts pc) (call_piece callee line _)
 
   effects_piece : (xs : List Effect) (pc : ℕ) → Piece pc (effects_code xs)
   effects_piece [] pc stands o = let e : pc + 0 ≡ pc = omega arith in (tt, subst (Open (scope_of p r) d) e o)
   effects_piece (x ∷ xs) pc stands o =
-      seq pc (effect_code x) (effects_code xs) (effect_piece x pc) (effects_piece xs (pc + length (effect_code x))) stands o
+      seq pc (effect_code x) (effects_code xs) (effect_piece x pc)
+      (effects_piece xs (pc + length (effect_code x))) stands o
 
   -- no operand waits behind code that leaves none
-  leaves : (is : List Instr) (pc n : ℕ) → StandsAt d pc is → kinds_at (scope_of p r) d pc ≡ [] → runs (scope_of p r) is [] ≡ Some [] → length is ≡ n → kinds_at (scope_of p r) d (pc + n) ≡ []
+  leaves : (is : List Instr) (pc n : ℕ) → StandsAt d pc is → kinds_at (scope_of p r) d pc ≡ []
+      → runs (scope_of p r) is [] ≡ Some [] → length is ≡ n → kinds_at (scope_of p r) d (pc + n) ≡ []
   leaves is pc n stands z e len =
-      ap (λ n. kinds_at (scope_of p r) d (pc + n)) (sym len) ∙ kinds_behind (scope_of p r) d is pc [] stands (ap (runs (scope_of p r) is) z ∙ e)
+      ap (λ n. kinds_at (scope_of p r) d (pc + n)) (sym len)
+      ∙ kinds_behind (scope_of p r) d is pc [] stands (ap (runs (scope_of p r) is) z ∙ e)
 
   -- nor behind a test
-  behind_test : (t : Node) (pc to : ℕ) (rest : List Instr) → IsKindedNode (tree.scope_of p r) t → StandsAt d pc (value_code t ++ (instr.JumpIfNot to ∷ rest)) → kinds_at (scope_of p r) d pc ≡ []
+  behind_test : (t : Node) (pc to : ℕ) (rest : List Instr) → IsKindedNode (tree.scope_of p r) t
+      → StandsAt d pc (value_code t ++ (instr.JumpIfNot to ∷ rest)) → kinds_at (scope_of p r) d pc ≡ []
       → kinds_at (scope_of p r) d (pc + length (value_code t) + 1) ≡ []
   behind_test t pc to rest k stands z =
       let top : kinds_at (scope_of p r) d (pc + length (value_code t)) ≡ node_kind_of t ∷ [] =
-      kinds_behind (scope_of p r) d (value_code t) pc (node_kind_of t ∷ []) (has_front d pc (value_code t) (instr.JumpIfNot to ∷ rest) stands) (ap (runs (scope_of p r) (value_code t)) z ∙ value_runs p r t [] k) in
+      kinds_behind (scope_of p r) d (value_code t) pc (node_kind_of t ∷ [])
+      (has_front d pc (value_code t) (instr.JumpIfNot to ∷ rest) stands)
+      (ap (runs (scope_of p r) (value_code t)) z ∙ value_runs p r t [] k) in
       let here = has_back d pc (value_code t) (instr.JumpIfNot to ∷ rest) stands in
-      kinds_behind (scope_of p r) d (instr.JumpIfNot to ∷ []) (pc + length (value_code t)) [] (here.0, tt) (ap (runs (scope_of p r) (instr.JumpIfNot to ∷ [])) top)
+      kinds_behind (scope_of p r) d (instr.JumpIfNot to ∷ []) (pc + length (value_code t)) [] (here.0, tt)
+      (ap (runs (scope_of p r) (instr.JumpIfNot to ∷ [])) top)
 
-  tested : (t : Node) (pc to : ℕ) (rest : List Instr) → StandsAt d pc (value_code t ++ (instr.JumpIfNot to ∷ rest)) → pc + length (value_code t) < to
+  tested : (t : Node) (pc to : ℕ) (rest : List Instr)
+      → StandsAt d pc (value_code t ++ (instr.JumpIfNot to ∷ rest)) → pc + length (value_code t) < to
       → Ways (scope_of p r) d pc (value_code t) × Open (scope_of p r) d pc
   tested t pc to rest stands lt =
       value_piece t pc (has_front d pc (value_code t) (instr.JumpIfNot to ∷ rest) stands)
-      (open_if_not (scope_of p r) d (pc + length (value_code t)) to (has_back d pc (value_code t) (instr.JumpIfNot to ∷ rest) stands).0 lt)
+      (open_if_not (scope_of p r) d (pc + length (value_code t)) to
+      (has_back d pc (value_code t) (instr.JumpIfNot to ∷ rest) stands).0 lt)
 
-  pub returning : (t : Node) (pc : ℕ) → StandsAt d pc (value_code t ++ instr.ReturnValue ∷ []) → Ways (scope_of p r) d pc (value_code t) × Open (scope_of p r) d pc
+  pub returning : (t : Node) (pc : ℕ) → StandsAt d pc (value_code t ++ instr.ReturnValue ∷ [])
+      → Ways (scope_of p r) d pc (value_code t) × Open (scope_of p r) d pc
   returning t pc stands =
       value_piece t pc (has_front d pc (value_code t) (instr.ReturnValue ∷ []) stands)
-      (open_at (scope_of p r) d (pc + length (value_code t)) instr.ReturnValue (has_back d pc (value_code t) (instr.ReturnValue ∷ []) stands).0 refl)
+      (open_at (scope_of p r) d (pc + length (value_code t)) instr.ReturnValue
+      (has_back d pc (value_code t) (instr.ReturnValue ∷ []) stands).0 refl)
 
   -- code of this length behind a statement's
   behind_size : (pc n : ℕ) (a b : List Instr) → length a ≡ n → StandsAt d pc (a ++ b) → StandsAt d (pc + n) b
@@ -150,27 +174,36 @@ module _ (p : Program) (r : Routine) (d : List Instr) where
 
   -- a statement begins at an open place, where an open place stands behind it
   mutual
-    pub action_first : (a : Action) (places : List LabelPlace) (pc : ℕ) → StandsAt d pc (action_code a places pc) → Open (scope_of p r) d (pc + size a) → Open (scope_of p r) d pc
+    pub action_first : (a : Action) (places : List LabelPlace) (pc : ℕ)
+        → StandsAt d pc (action_code a places pc) → Open (scope_of p r) d (pc + size a)
+        → Open (scope_of p r) d pc
     action_first (action.Block xs) places pc stands o = actions_first xs (places_in xs pc ++ places) pc stands o
     action_first (action.Effect x) places pc stands o = (effect_piece x pc stands o).1
     action_first (action.Declare slot t) places pc stands o =
-        (seq pc (value_code t) _ (value_piece t pc) (lone _ (instr.Set slot) refl) stands (subst (λ n. Open (scope_of p r) d (pc + n)) (sym (code_length (action.Declare slot t) places pc)) o)).1
-    action_first (action.Label label) places pc stands o = let e : pc + 0 ≡ pc = omega arith in subst (Open (scope_of p r) d) e o
+        (seq pc (value_code t) _ (value_piece t pc) (lone _ (instr.Set slot) refl) stands
+        (subst (λ n. Open (scope_of p r) d (pc + n)) (sym (code_length (action.Declare slot t) places pc))
+        o)).1
+    action_first (action.Label label) places pc stands o = let e : pc + 0 ≡ pc = omega arith in
+        subst (Open (scope_of p r) d) e o
     action_first (action.If t a) places pc stands o = (tested t pc _ _ stands (omega arith)).1
     action_first (action.IfElse t a b) places pc stands o = (tested t pc _ _ stands (omega arith)).1
     action_first (action.Loop line t xs a) places pc stands o = (tested t pc _ _ stands (omega arith)).1
     action_first (action.Do line a t) places pc stands o =
         let q = pc + size a in
         let ca = action_code a places pc in
-        let rest = value_code t ++ (instr.JumpIfNot (q + length (value_code t) + 1 + 2) ∷ instr.Tick line ∷ instr.Jump pc ∷ []) in
+        let rest = value_code t ++ (instr.JumpIfNot (q + length (value_code t) + 1 + 2) ∷ instr.Tick
+        line ∷ instr.Jump pc ∷ []) in
         let more = behind_size pc (size a) ca rest (code_length a places pc) stands in
         action_first a places pc (has_front d pc ca rest stands) (tested t q _ _ more (omega arith)).1
-    action_first (action.Jump line label) places pc stands o = open_at (scope_of p r) d pc (instr.Tick line) stands.0 refl
+    action_first (action.Jump line label) places pc stands o =
+        open_at (scope_of p r) d pc (instr.Tick line) stands.0 refl
     action_first action.Return places pc stands o = open_at (scope_of p r) d pc instr.Return stands.0 refl
     action_first (action.ReturnValue t) places pc stands o = (returning t pc stands).1
     action_first (action.State n) places pc stands o = open_at (scope_of p r) d pc (instr.GoState n) stands.0 refl
 
-    pub actions_first : (xs : Actions) (places : List LabelPlace) (pc : ℕ) → StandsAt d pc (actions_code xs places pc) → Open (scope_of p r) d (pc + sizes xs) → Open (scope_of p r) d pc
+    pub actions_first : (xs : Actions) (places : List LabelPlace) (pc : ℕ)
+        → StandsAt d pc (actions_code xs places pc) → Open (scope_of p r) d (pc + sizes xs)
+        → Open (scope_of p r) d pc
     actions_first NoAction places pc stands o = let e : pc + 0 ≡ pc = omega arith in subst (Open (scope_of p r) d) e o
     actions_first (AndAction xs a) places pc stands o =
         let q = pc + sizes xs in
@@ -178,7 +211,8 @@ module _ (p : Program) (r : Routine) (d : List Instr) where
         let ca = action_code a places q in
         let more = behind_size pc (sizes xs) cs ca (codes_length xs places pc) stands in
         let e : pc + (sizes xs + size a) ≡ q + size a = omega arith in
-        actions_first xs places pc (has_front d pc cs ca stands) (action_first a places q more (subst (Open (scope_of p r) d) e o))
+        actions_first xs places pc (has_front d pc cs ca stands)
+        (action_first a places q more (subst (Open (scope_of p r) d) e o))
 
   -- each of these labels has a place where a jump may lead
   abbrev pub AllClear : List LabelPlace → Type 0
@@ -189,11 +223,14 @@ module _ (p : Program) (r : Routine) (d : List Instr) where
   clear_append [] b ca cb = cb
   clear_append (x ∷ a) b ca cb = (ca.0, clear_append a b ca.1 cb)
 
-  clear_found : (label : ℕ) (places : List LabelPlace) → AllClear places → list_any (λ x. nat_eq label x.label) places ≡ true → Clear (scope_of p r) d (place_of label places)
+  clear_found : (label : ℕ) (places : List LabelPlace) → AllClear places
+      → list_any (λ x. nat_eq label x.label) places ≡ true → Clear (scope_of p r) d (place_of label places)
   clear_found label [] c h = absurd cc
   clear_found label (x ∷ places) c h = by_label (nat_eq label x.label) h (λ w. clear_found label places c.1 w)
     where
-      by_label : (b : Bool) → (b || list_any (λ x. nat_eq label x.label) places) ≡ true → (list_any (λ x. nat_eq label x.label) places ≡ true → Clear (scope_of p r) d (place_of label places))
+      by_label : (b : Bool) → (b || list_any (λ x. nat_eq label x.label) places) ≡ true
+          → (list_any (λ x. nat_eq label x.label) places ≡ true
+          → Clear (scope_of p r) d (place_of label places))
           → Clear (scope_of p r) d (cond b x.place (place_of label places))
       by_label true e more = c.0
       by_label false e more = more e
@@ -203,7 +240,9 @@ module _ (p : Program) (r : Routine) (d : List Instr) where
   label_clear a q c = tt
 
   -- the labels of a block
-  pub labels_clear : (xs : Actions) (places : List LabelPlace) (pc : ℕ) → AreKindedActions (tree.scope_of p r) xs → StandsAt d pc (actions_code xs places pc) → kinds_at (scope_of p r) d pc ≡ []
+  pub labels_clear : (xs : Actions) (places : List LabelPlace) (pc : ℕ)
+      → AreKindedActions (tree.scope_of p r) xs → StandsAt d pc (actions_code xs places pc)
+      → kinds_at (scope_of p r) d pc ≡ []
       → Open (scope_of p r) d (pc + sizes xs) → AllClear (places_in xs pc)
   labels_clear NoAction places pc k stands z o = tt
   labels_clear (AndAction xs a) places pc k stands z o =
@@ -215,40 +254,66 @@ module _ (p : Program) (r : Routine) (d : List Instr) where
       let e : pc + (sizes xs + size a) ≡ q + size a = omega arith in
       let oq = action_first a places q more (subst (Open (scope_of p r) d) e o) in
       clear_append (places_in xs pc) (place_if_label a q) (labels_clear xs places pc k.0 front z oq)
-      (label_clear a q (oq, leaves cs pc (sizes xs) front z (actions_run p r xs places pc k.0) (codes_length xs places pc)))
+      (label_clear a q (
+        oq,
+        leaves cs pc (sizes xs) front z (actions_run p r xs places pc k.0)
+            (codes_length xs places pc),
+      ))
 
   -- all the labels around
   pub record Around (places : List LabelPlace) (labels : List ℕ) : Type 0 where
     pub clear : AllClear places
     pub has : (label : ℕ) → has_label labels label ≡ true → list_any (λ x. nat_eq label x.label) places ≡ true
 
-  pub around_more : (xs : Actions) (places : List LabelPlace) (labels : List ℕ) (pc : ℕ) → AllClear (places_in xs pc) → Around places labels → Around (places_in xs pc ++ places) (labels_in xs ++ labels)
+  pub around_more : (xs : Actions) (places : List LabelPlace) (labels : List ℕ) (pc : ℕ)
+      → AllClear (places_in xs pc) → Around places labels
+      → Around (places_in xs pc ++ places) (labels_in xs ++ labels)
   around_more xs places labels pc c around = record {
     clear = clear_append (places_in xs pc) places c around.clear;
     has = λ label h. list_any-append (λ (x : LabelPlace). nat_eq label x.label) (places_in xs pc) places
         ∙ ap (λ b. b || list_any (λ x. nat_eq label x.label) places) (placed_in xs label pc)
-        ∙ either (has_label (labels_in xs) label) (has_label labels label) (list_any (λ x. nat_eq label x.label) places) (sym (has_label-append label (labels_in xs) labels) ∙ h) (around.has label);
+        ∙ either (has_label (labels_in xs) label) (has_label labels label)
+        (list_any (λ x. nat_eq label x.label) places)
+        (sym (has_label-append label (labels_in xs) labels) ∙ h) (around.has label);
   }
 
   -- a tick, and a jump behind it
-  tick_jump : (pc line to : ℕ) → Clear (scope_of p r) d to → StandsAt d pc (instr.Tick line ∷ instr.Jump to ∷ []) → kinds_at (scope_of p r) d pc ≡ [] → Open (scope_of p r) d (pc + 2)
+  tick_jump : (pc line to : ℕ) → Clear (scope_of p r) d to
+      → StandsAt d pc (instr.Tick line ∷ instr.Jump to ∷ []) → kinds_at (scope_of p r) d pc ≡ []
+      → Open (scope_of p r) d (pc + 2)
       → Ways (scope_of p r) d pc (instr.Tick line ∷ instr.Jump to ∷ [])
   tick_jump pc line to c stands z o =
       let e : pc + 2 ≡ pc + 1 + 1 = omega arith in
-      let out = leaves (instr.Tick line ∷ instr.Jump to ∷ []) pc 2 stands z refl refl in
-      (within_list d (pc + 1) (instr.Jump to) stands.1.0, ((c, ap (kinds_at (scope_of p r) d) (sym e) ∙ out, (subst (Open (scope_of p r) d) e o).1), tt))
+      let out = leaves (instr.Tick line ∷ instr.Jump to ∷ []) pc 2 stands z refl refl in (
+        within_list d (pc + 1) (instr.Jump to)
+            stands.1.0,
+        (
+          (
+            c,
+            ap (kinds_at (scope_of p r) d) (sym e)
+                ∙ out,
+            (subst (Open (scope_of p r) d) e o).1,
+          ),
+          tt,
+        ),
+      )
 
   module _ (gives : Bool) where
     mutual
       -- each instruction of a statement goes on to where it may
-      pub action_ways : (a : Action) (places : List LabelPlace) (labels : List ℕ) (pc : ℕ) → IsKindedAction (tree.scope_of p r) a → IsShapedAction (outline p gives) labels a → Around places labels
-          → StandsAt d pc (action_code a places pc) → kinds_at (scope_of p r) d pc ≡ [] → Open (scope_of p r) d (pc + size a) → Ways (scope_of p r) d pc (action_code a places pc)
+      pub action_ways : (a : Action) (places : List LabelPlace) (labels : List ℕ) (pc : ℕ)
+          → IsKindedAction (tree.scope_of p r) a → IsShapedAction (outline p gives) labels a
+          → Around places labels
+          → StandsAt d pc (action_code a places pc) → kinds_at (scope_of p r) d pc ≡ []
+          → Open (scope_of p r) d (pc + size a) → Ways (scope_of p r) d pc (action_code a places pc)
       action_ways (action.Block xs) places labels pc k h w stands z o =
           actions_ways xs (places_in xs pc ++ places) (labels_in xs ++ labels) pc k h.1
           (around_more xs places labels pc (labels_clear xs (places_in xs pc ++ places) pc k stands z o) w) stands z o
       action_ways (action.Effect x) places labels pc k h w stands z o = (effect_piece x pc stands o).0
       action_ways (action.Declare slot t) places labels pc k h w stands z o =
-          (seq pc (value_code t) _ (value_piece t pc) (lone _ (instr.Set slot) refl) stands (subst (λ n. Open (scope_of p r) d (pc + n)) (sym (code_length (action.Declare slot t) places pc)) o)).0
+          (seq pc (value_code t) _ (value_piece t pc) (lone _ (instr.Set slot) refl) stands
+          (subst (λ n. Open (scope_of p r) d (pc + n)) (sym (code_length (action.Declare slot t) places pc))
+          o)).0
       action_ways (action.Label label) places labels pc k h w stands z o = tt
       action_ways (action.If t a) places labels pc k h w stands z o =
           let vt = value_code t in
@@ -259,8 +324,11 @@ module _ (p : Program) (r : Routine) (d : List Instr) where
           let out = subst (Open (scope_of p r) d) e o in
           let zq = behind_test t pc (q + size a) ca k.0 stands z in
           let zout = leaves ca q (size a) rest.1 zq (action_runs p r a places q k.1) (code_length a places q) in
-          join (scope_of p r) d pc vt _ (tested t pc _ _ stands (omega arith)).0
-          (((out, zout), (action_first a places q rest.1 out, zq)), action_ways a places labels q k.1 h.1 w rest.1 zq out)
+          join (scope_of p r) d pc vt _ (tested t pc _ _ stands (omega arith)).0 (
+            ((out, zout), (action_first a places q rest.1 out, zq)),
+            action_ways a places labels q k.1 h.1 w
+                rest.1 zq out,
+          )
       action_ways (action.IfElse t a b) places labels pc k h w stands z o =
           let vt = value_code t in
           let q = pc + length vt + 1 in
@@ -276,13 +344,18 @@ module _ (p : Program) (r : Routine) (d : List Instr) where
           let zq = behind_test t pc next (ca ++ (over ∷ cb)) k.0 stands z in
           let za = leaves ca q (size a) ha zq (action_runs p r a places q k.1) (code_length a places q) in
           let zn = leaves (over ∷ []) (q + size a) 1 (more.0, tt) za refl refl in
-          let zout = leaves cb next (size b) more.1 zn (action_runs p r b places next k.2) (code_length b places next) in
+          let zout = leaves cb next (size b) more.1 zn (action_runs p r b places next k.2)
+          (code_length b places next) in
           let oa = open_jump (scope_of p r) d (q + size a) (next + size b) more.0 (omega arith) in
           let ob = action_first b places next more.1 out in
           let second : Ways (scope_of p r) d (q + length ca) (over ∷ cb) =
-          subst (λ m. Ways (scope_of p r) d (q + m) (over ∷ cb)) (sym (code_length a places q)) (((out, zout), zn, ob.1), action_ways b places labels next k.2 h.2 w more.1 zn out) in
-          join (scope_of p r) d pc vt _ (tested t pc _ _ stands (omega arith)).0
-          (((ob, zn), (action_first a places q ha oa, zq)), join (scope_of p r) d q ca _ (action_ways a places labels q k.1 h.1 w ha zq oa) second)
+          subst (λ m. Ways (scope_of p r) d (q + m) (over ∷ cb)) (sym (code_length a places q))
+          (((out, zout), zn, ob.1), action_ways b places labels next k.2 h.2 w more.1 zn out) in
+          join (scope_of p r) d pc vt _ (tested t pc _ _ stands (omega arith)).0 (
+            ((ob, zn), (action_first a places q ha oa, zq)),
+            join (scope_of p r) d q ca _
+                (action_ways a places labels q k.1 h.1 w ha zq oa) second,
+          )
       action_ways (action.Loop line t xs a) places labels pc k h w stands z o =
           let vt = value_code t in
           let q = pc + length vt + 1 in
@@ -305,9 +378,13 @@ module _ (p : Program) (r : Routine) (d : List Instr) where
           let zout = leaves back end 2 last zs refl refl in
           let os = effects_piece xs behind hs (open_at (scope_of p r) d end (instr.Tick line) last.0 refl) in
           let round = join (scope_of p r) d behind cs back os.0 (tick_jump end line pc (test.1, z) last zs out) in
-          let second : Ways (scope_of p r) d (q + length ca) (cs ++ back) = subst (λ m. Ways (scope_of p r) d (q + m) (cs ++ back)) (sym (code_length a places q)) round in
-          join (scope_of p r) d pc vt _ test.0
-          (((out, zout), (action_first a places q ha os.1, zq)), join (scope_of p r) d q ca _ (action_ways a places labels q k.2 h.2 w ha zq os.1) second)
+          let second : Ways (scope_of p r) d (q + length ca) (cs ++ back) =
+          subst (λ m. Ways (scope_of p r) d (q + m) (cs ++ back)) (sym (code_length a places q)) round in
+          join (scope_of p r) d pc vt _ test.0 (
+            ((out, zout), (action_first a places q ha os.1, zq)),
+            join (scope_of p r) d q ca _
+                (action_ways a places labels q k.2 h.2 w ha zq os.1) second,
+          )
       action_ways (action.Do line a t) places labels pc k h w stands z o =
           let vt = value_code t in
           let q = pc + size a in
@@ -326,18 +403,24 @@ module _ (p : Program) (r : Routine) (d : List Instr) where
           let again = tick_jump end line pc (action_first a places pc ha test.1, z) last.1 zt out in
           let second : Ways (scope_of p r) d (pc + length ca) (vt ++ back) =
           subst (λ m. Ways (scope_of p r) d (pc + m) (vt ++ back)) (sym (code_length a places pc))
-          (join (scope_of p r) d q vt _ test.0 (((out, zout), (open_at (scope_of p r) d end (instr.Tick line) last.1.0 refl, zt)), again)) in
+          (join (scope_of p r) d q vt _ test.0
+          (((out, zout), (open_at (scope_of p r) d end (instr.Tick line) last.1.0 refl, zt)), again)) in
           join (scope_of p r) d pc ca _ (action_ways a places labels pc k.0 h.0 w ha z test.1) second
       action_ways (action.Jump line label) places labels pc k h w stands z o =
-          tick_jump pc line (place_of label places) (clear_found label places w.clear (w.has label (has_contained labels label h))) stands z o
+          tick_jump pc line (place_of label places)
+          (clear_found label places w.clear (w.has label (has_contained labels label h))) stands z o
       action_ways action.Return places labels pc k h w stands z o = (o.1, tt)
       action_ways (action.ReturnValue t) places labels pc k h w stands z o =
           let e : pc + (length (value_code t) + 1) ≡ pc + length (value_code t) + 1 = omega arith in
-          join (scope_of p r) d pc (value_code t) _ (returning t pc stands).0 ((subst (Open (scope_of p r) d) e o).1, tt)
+          join (scope_of p r) d pc (value_code t) _ (returning t pc stands).0
+          ((subst (Open (scope_of p r) d) e o).1, tt)
       action_ways (action.State n) places labels pc k h w stands z o = (o.1, tt)
 
-      pub actions_ways : (xs : Actions) (places : List LabelPlace) (labels : List ℕ) (pc : ℕ) → AreKindedActions (tree.scope_of p r) xs → AreShapedActions (outline p gives) labels xs → Around places labels
-          → StandsAt d pc (actions_code xs places pc) → kinds_at (scope_of p r) d pc ≡ [] → Open (scope_of p r) d (pc + sizes xs) → Ways (scope_of p r) d pc (actions_code xs places pc)
+      pub actions_ways : (xs : Actions) (places : List LabelPlace) (labels : List ℕ) (pc : ℕ)
+          → AreKindedActions (tree.scope_of p r) xs → AreShapedActions (outline p gives) labels xs
+          → Around places labels
+          → StandsAt d pc (actions_code xs places pc) → kinds_at (scope_of p r) d pc ≡ []
+          → Open (scope_of p r) d (pc + sizes xs) → Ways (scope_of p r) d pc (actions_code xs places pc)
       actions_ways NoAction places labels pc k h w stands z o = tt
       actions_ways (AndAction xs a) places labels pc k h w stands z o =
           let q = pc + sizes xs in
@@ -348,5 +431,7 @@ module _ (p : Program) (r : Routine) (d : List Instr) where
           let e : pc + (sizes xs + size a) ≡ q + size a = omega arith in
           let out = subst (Open (scope_of p r) d) e o in
           let zq = leaves cs pc (sizes xs) front z (actions_run p r xs places pc k.0) (codes_length xs places pc) in
-          join (scope_of p r) d pc cs _ (actions_ways xs places labels pc k.0 h.0 w front z (action_first a places q more out))
-          (subst (λ m. Ways (scope_of p r) d (pc + m) ca) (sym (codes_length xs places pc)) (action_ways a places labels q k.1 h.1 w more zq out))
+          join (scope_of p r) d pc cs _ (actions_ways xs places labels pc k.0 h.0 w front z
+          (action_first a places q more out))
+          (subst (λ m. Ways (scope_of p r) d (pc + m) ca) (sym (codes_length xs places pc))
+          (action_ways a places labels q k.1 h.1 w more zq out))

@@ -47,7 +47,8 @@ place_of-append : (label : ℕ) (a b : List LabelPlace)
     → place_of label (a ++ b) ≡ cond (list_any (λ x. nat_eq label x.label) a) (place_of label a) (place_of label b)
 place_of-append label [] b = refl
 place_of-append label (x ∷ a) b =
-    behind_first (nat_eq label x.label) (list_any (λ x. nat_eq label x.label) a) x.place (place_of label a) (place_of label b) (place_of label (a ++ b)) (place_of-append label a b)
+    behind_first (nat_eq label x.label) (list_any (λ x. nat_eq label x.label) a) x.place (place_of label a)
+    (place_of label b) (place_of label (a ++ b)) (place_of-append label a b)
 
 either_way : (b c : Bool) → (b || (c || false)) ≡ (c || b)
 either_way true true = refl
@@ -65,29 +66,37 @@ one_placed label (action.Label n) place b more e = either_way b (nat_eq label n)
 one_placed label a place b more e = or_nothing b ∙ e
 
 -- the labels with places are those that stand in the block
-pub placed_in : (xs : Actions) (label place : ℕ) → list_any (λ x. nat_eq label x.label) (places_in xs place) ≡ has_label (labels_in xs) label
+pub placed_in : (xs : Actions) (label place : ℕ)
+    → list_any (λ x. nat_eq label x.label) (places_in xs place) ≡ has_label (labels_in xs) label
 placed_in NoAction label place = refl
 placed_in (AndAction xs a) label place =
-    list_any-append (λ (x : LabelPlace). nat_eq label x.label) (places_in xs place) (place_if_label a (place + sizes xs))
-    ∙ one_placed label a (place + sizes xs) (list_any (λ x. nat_eq label x.label) (places_in xs place)) (labels_in xs) (placed_in xs label place)
+    list_any-append (λ (x : LabelPlace). nat_eq label x.label) (places_in xs place)
+    (place_if_label a (place + sizes xs))
+    ∙ one_placed label a (place + sizes xs) (list_any (λ x. nat_eq label x.label) (places_in xs place))
+    (labels_in xs) (placed_in xs label place)
 
 -- the labels of a block hide those around it
 pub place_within : (xs : Actions) (label place : ℕ) (around : List LabelPlace)
-    → place_of label (places_in xs place ++ around) ≡ cond (has_label (labels_in xs) label) (place_of label (places_in xs place)) (place_of label around)
+    → place_of label (places_in xs place ++ around)
+    ≡ cond (has_label (labels_in xs) label) (place_of label (places_in xs place)) (place_of label around)
 place_within xs label place around =
     place_of-append label (places_in xs place) around
     ∙ ap (λ b. cond b (place_of label (places_in xs place)) (place_of label around)) (placed_in xs label place)
 
 -- a label that stands before the last statement, or is it
 pub place_last : (xs : Actions) (a : Action) (label place : ℕ)
-    → place_of label (places_in (AndAction xs a) place) ≡ cond (has_label (labels_in xs) label) (place_of label (places_in xs place)) (place_of label (place_if_label a (place + sizes xs)))
+    → place_of label (places_in (AndAction xs a) place)
+    ≡ cond (has_label (labels_in xs) label) (place_of label (places_in xs place))
+    (place_of label (place_if_label a (place + sizes xs)))
 place_last xs a label place = place_within xs label place (place_if_label a (place + sizes xs))
 
 -- a label that isn't before the last statement is the last statement, which emits nothing
-pub last_label : (a : Action) (label place : ℕ) (more : List ℕ) → has_label more label ≡ false → has_label (label_of a more) label ≡ true
+pub last_label : (a : Action) (label place : ℕ) (more : List ℕ) → has_label more label ≡ false
+    → has_label (label_of a more) label ≡ true
     → place_of label (place_if_label a place) ≡ place + size a
 last_label (action.Label n) label place more out there =
-    let e : nat_eq label n ≡ true = sym (or_nothing (nat_eq label n)) ∙ sym (ap (λ b. nat_eq label n || b) out) ∙ there in
+    let e : nat_eq label n ≡ true = sym (or_nothing (nat_eq label n)) ∙ sym (ap (λ b. nat_eq label n || b) out)
+    ∙ there in
     let z : place ≡ place + 0 = omega arith in
     ap (λ b. cond b place 0) e ∙ z
 last_label a label place more out there = let never : false ≡ true = sym out ∙ there in absurd cc
@@ -96,7 +105,8 @@ pub has_label-append : (label : ℕ) (a b : List ℕ) → has_label (a ++ b) lab
 has_label-append label a b = list_any-append (nat_eq label) a b
 
 -- a label that is around the block where it isn't in it
-pub has_outer : (label : ℕ) (a b : List ℕ) → has_label a label ≡ false → has_label (a ++ b) label ≡ true → has_label b label ≡ true
+pub has_outer : (label : ℕ) (a b : List ℕ) → has_label a label ≡ false → has_label (a ++ b) label ≡ true
+    → has_label b label ≡ true
 has_outer label a b out there = sym (ap (λ c. c || has_label b label) out) ∙ sym (has_label-append label a b) ∙ there
 
 pub has_contained : (labels : List ℕ) (label : ℕ) → Contains labels label → has_label labels label ≡ true

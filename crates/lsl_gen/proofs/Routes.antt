@@ -40,7 +40,8 @@ ending_runs s (Some k) e = refl
 -- the code of a routine finds what it needs
 pub draft_runs : (p : Program) (r : Routine) → IsKindedRoutine p r → runs (scope_of p r) (draft_of r) [] ≡ Some []
 draft_runs p r kinded =
-    then (scope_of p r) (action_code (action.Block r.body) [] 1) (ending r.kind) [] [] _ (action_runs p r (action.Block r.body) [] 1 kinded) (ending_runs (scope_of p r) r.kind refl)
+    then (scope_of p r) (action_code (action.Block r.body) [] 1) (ending r.kind) [] [] _
+    (action_runs p r (action.Block r.body) [] 1 kinded) (ending_runs (scope_of p r) r.kind refl)
 
 module _ (p : Program) (r : Routine) (d : List Instr) where
   -- nothing stands behind the code
@@ -48,8 +49,11 @@ module _ (p : Program) (r : Routine) (d : List Instr) where
   quiet_end q le = ap (λ o. not (is_back q o)) (slice_get_past d q le)
 
   -- statements whose last one returns a value
-  value_ways : (gives : Bool) (body : Actions) → ends_with_value body ≡ true → AreKindedActions (tree.scope_of p r) body → AreShapedActions (outline p gives) (labels_in body ++ []) body
-      → StandsAt d 1 (actions_code body (places_in body 1 ++ []) 1) → kinds_at (scope_of p r) d 1 ≡ [] → Quiet (scope_of p r) d (1 + sizes body)
+  value_ways : (gives : Bool) (body : Actions) → ends_with_value body ≡ true
+      → AreKindedActions (tree.scope_of p r) body
+      → AreShapedActions (outline p gives) (labels_in body ++ []) body
+      → StandsAt d 1 (actions_code body (places_in body 1 ++ []) 1) → kinds_at (scope_of p r) d 1 ≡ []
+      → Quiet (scope_of p r) d (1 + sizes body)
       → Ways (scope_of p r) d 1 (actions_code body (places_in body 1 ++ []) 1) × Open (scope_of p r) d 1
   value_ways gives (AndAction xs (action.ReturnValue t)) e k h stands z quiet =
       let labels = labels_in xs ++ [] in
@@ -62,28 +66,44 @@ module _ (p : Program) (r : Routine) (d : List Instr) where
       let more = subst (λ m. StandsAt d (1 + m) ca) (codes_length xs places 1) (has_back d 1 cs ca stands) in
       let last = returning p r d t q more in
       let end : 1 + (sizes xs + (length (value_code t) + 1)) ≡ q + length (value_code t) + 1 = omega arith in
-      let clear : AllClear p r d (places_in xs 1 ++ []) = subst (AllClear p r d) (sym (append-nil (places_in xs 1))) (labels_clear p r d xs places 1 k.0 front z last.1) in
-      let around : Around p r d places labels = around_more p r d body [] [] 1 clear (record { clear = tt; has = λ label h. h }) in
+      let clear : AllClear p r d (places_in xs 1 ++ []) =
+      subst (AllClear p r d) (sym (append-nil (places_in xs 1)))
+      (labels_clear p r d xs places 1 k.0 front z last.1) in
+      let around : Around p r d places labels =
+      around_more p r d body [] [] 1 clear (record { clear = tt; has = λ label h. h }) in
       let first = actions_ways p r d gives xs places labels 1 k.0 h.0 around front z last.1 in
       let second : Ways (scope_of p r) d (1 + length cs) ca =
-      subst (λ m. Ways (scope_of p r) d (1 + m) ca) (sym (codes_length xs places 1)) (join (scope_of p r) d q (value_code t) _ last.0 (subst (Quiet (scope_of p r) d) end quiet, tt)) in
+      subst (λ m. Ways (scope_of p r) d (1 + m) ca) (sym (codes_length xs places 1))
+      (join (scope_of p r) d q (value_code t) _ last.0 (subst (Quiet (scope_of p r) d) end quiet, tt)) in
       (join (scope_of p r) d 1 cs ca first second, actions_first p r d xs places 1 front last.1)
   value_ways gives body e k h stands z quiet = absurd cc
 
-  body_ways : (kind : Option Kind) (body : Actions) → (is_some kind ≡ true → ends_with_value body ≡ true) → AreKindedActions (tree.scope_of p r) body → AreShapedActions (outline p (is_some kind)) (labels_in body ++ []) body
-      → StandsAt d 1 (action_code (action.Block body) [] 1 ++ ending kind) → kinds_at (scope_of p r) d 1 ≡ [] → length d ≡ 1 + length (action_code (action.Block body) [] 1 ++ ending kind)
+  body_ways : (kind : Option Kind) (body : Actions) → (is_some kind ≡ true → ends_with_value body ≡ true)
+      → AreKindedActions (tree.scope_of p r) body
+      → AreShapedActions (outline p (is_some kind)) (labels_in body ++ []) body
+      → StandsAt d 1 (action_code (action.Block body) [] 1 ++ ending kind) → kinds_at (scope_of p r) d 1 ≡ []
+      → length d ≡ 1 + length (action_code (action.Block body) [] 1 ++ ending kind)
       → Ways (scope_of p r) d 1 (action_code (action.Block body) [] 1 ++ ending kind) × Open (scope_of p r) d 1
   body_ways None body ends k h stands z len =
       let code = action_code (action.Block body) [] 1 in
       let size_is = codes_length body (places_in body 1 ++ []) 1 in
       let front = has_front d 1 code (instr.Return ∷ []) stands in
-      let last = subst (λ m. StandsAt d (1 + m) (instr.Return ∷ [])) size_is (has_back d 1 code (instr.Return ∷ []) stands) in
+      let last = subst (λ m. StandsAt d (1 + m) (instr.Return ∷ [])) size_is
+      (has_back d 1 code (instr.Return ∷ []) stands) in
       let o = open_at (scope_of p r) d (1 + sizes body) instr.Return last.0 refl in
-      let quiet = quiet_end (1 + sizes body + 1) (omega (arith, len, size_is, length-append code (instr.Return ∷ []))) in
+      let quiet = quiet_end (1 + sizes body + 1)
+      (omega (arith, len, size_is, length-append code (instr.Return ∷ []))) in
       let places = places_in body 1 ++ [] in
-      let around : Around p r d places (labels_in body ++ []) = around_more p r d body [] [] 1 (labels_clear p r d body places 1 k front z o) (record { clear = tt; has = λ label h. h }) in
-      let second : Ways (scope_of p r) d (1 + length code) (instr.Return ∷ []) = subst (λ m. Ways (scope_of p r) d (1 + m) (instr.Return ∷ [])) (sym size_is) (quiet, tt) in
-      (join (scope_of p r) d 1 code (instr.Return ∷ []) (actions_ways p r d false body places (labels_in body ++ []) 1 k h around front z o) second, actions_first p r d body places 1 front o)
+      let around : Around p r d places (labels_in body ++ []) =
+      around_more p r d body [] [] 1 (labels_clear p r d body places 1 k front z o)
+      (record { clear = tt; has = λ label h. h }) in
+      let second : Ways (scope_of p r) d (1 + length code) (instr.Return ∷ []) =
+      subst (λ m. Ways (scope_of p r) d (1 + m) (instr.Return ∷ [])) (sym size_is) (quiet, tt) in (
+        join (scope_of p r) d 1 code (instr.Return ∷ [])
+            (actions_ways p r d false body places (labels_in body ++ []) 1 k h around front z o)
+            second,
+        actions_first p r d body places 1 front o,
+      )
   body_ways (Some kind) body ends k h stands z len =
       let code = action_code (action.Block body) [] 1 in
       let nil = append-nil code in
@@ -92,7 +112,8 @@ module _ (p : Program) (r : Routine) (d : List Instr) where
       subst (λ is. Ways (scope_of p r) d 1 is × Open (scope_of p r) d 1) (sym nil)
       (value_ways true body (ends refl) k h (subst (StandsAt d 1) nil stands) z quiet)
 
-module _ (p : Program) (r : Routine) (kinded : IsKindedRoutine p r) (shaped : IsShapedRoutine (function_signatures p) (length p.states) r) where
+module _ (p : Program) (r : Routine) (kinded : IsKindedRoutine p r)
+    (shaped : IsShapedRoutine (function_signatures p) (length p.states) r) where
   draft_ways : Ways (scope_of p r) (draft_of r) 0 (draft_of r)
   draft_ways =
       let d = draft_of r in
@@ -106,16 +127,20 @@ module _ (p : Program) (r : Routine) (kinded : IsKindedRoutine p r) (shaped : Is
 
   -- a routine's code is well formed, where its length is a number of 32 bits
   pub routine_fits : (f : ℕ) → length (draft_of r) < 4294967296 → fits_function (names_of p) f (routine_body p r) ≡ true
-  routine_fits f short = made (names_of p) r.slots r.kind [] r.params (draft_of r) [] (draft_runs p r kinded) draft_ways f refl short
+  routine_fits f short = made (names_of p) r.slots r.kind [] r.params (draft_of r) [] (draft_runs p r kinded)
+      draft_ways f refl short
 
   pub routine_plain : (f : ℕ) → is_plain_function f (routine_body p r) ≡ true
-  routine_plain f = made_plain (names_of p) r.slots r.kind [] r.params (draft_of r) [] (draft_runs p r kinded) draft_ways f
+  routine_plain f = made_plain (names_of p) r.slots r.kind [] r.params (draft_of r) [] (draft_runs p r kinded)
+      draft_ways f
 
 module _ (p : Program) where
   -- what holds of each routine's function
-  pub each_body : (P : ℕ → Body → Type 0) → ((k : ℕ) (r : Routine) → slice_get (routines_of p) k ≡ Some r → P k (routine_body p r))
+  pub each_body : (P : ℕ → Body → Type 0)
+      → ((k : ℕ) (r : Routine) → slice_get (routines_of p) k ≡ Some r → P k (routine_body p r))
       → (k : ℕ) (w : Body) → slice_get (bodies_of p) k ≡ Some w → P k w
-  each_body P h k w e = found (slice_get (routines_of p) k) refl (sym (slice_get-map (routine_body p) (routines_of p) k) ∙ e)
+  each_body P h k w e = found (slice_get (routines_of p) k) refl
+      (sym (slice_get-map (routine_body p) (routines_of p) k) ∙ e)
     where
       found : (o : Option Routine) → slice_get (routines_of p) k ≡ o → option_map (routine_body p) o ≡ Some w → P k w
       found None there e = absurd cc
@@ -132,4 +157,5 @@ module _ (p : Program) where
 
     -- the code of a program goes back only behind ticks
     pub generated_forward : Forward (bodies_of p)
-    generated_forward = forward_told (bodies_of p) (each_body (λ k w. begins_with_tick w.code ≡ true) (λ k r e. refl)) all_plain
+    generated_forward = forward_told (bodies_of p)
+        (each_body (λ k w. begins_with_tick w.code ≡ true) (λ k r e. refl)) all_plain

@@ -13,12 +13,14 @@ Holds P (Gives a s) = P a s
 Holds P (Stops whole) = Unit {0}
 
 -- the end h is that of the evaluation, where a result leads on by k; and a result is as P says
-pub record Sim {A : Type 0} (P : A → State → Type 0) (k : A → State → Whole) (r : Evaluation A) (h : Whole) : Type 0 where
+pub record Sim {A : Type 0} (P : A → State → Type 0) (k : A → State → Whole) (r : Evaluation A)
+    (h : Whole) : Type 0 where
   pub eq : h ≡ finish r k
   pub post : Holds P r
 
 -- one evaluation behind another
-pub then_sim : {A B : Type 0} (P : A → State → Type 0) (Q : B → State → Type 0) (k : A → State → Whole) (l : B → State → Whole) (r : Evaluation A) (go : A → State → Evaluation B) (h : Whole)
+pub then_sim : {A B : Type 0} (P : A → State → Type 0) (Q : B → State → Type 0) (k : A → State → Whole)
+    (l : B → State → Whole) (r : Evaluation A) (go : A → State → Evaluation B) (h : Whole)
     → Sim P k r h → ((a : A) (s : State) → P a s → Sim Q l (go a s) (k a s)) → Sim Q l (bind r go) h
 then_sim P Q k l (Gives a s) go h m next = let b = next a s m.post in record { eq = m.eq ∙ b.eq; post = b.post }
 then_sim P Q k l (Stops whole) go h m next = record { eq = m.eq; post = tt }
@@ -30,7 +32,8 @@ map_sim P Q k l (Gives a s) h m on = let b = on a s m.post in record { eq = m.eq
 map_sim P Q k l (Stops whole) h m on = record { eq = m.eq; post = tt }
 
 -- from an earlier place
-pub from_sim : {A : Type 0} (P : A → State → Type 0) (k : A → State → Whole) (r : Evaluation A) (h h' : Whole) → h ≡ h' → Sim P k r h' → Sim P k r h
+pub from_sim : {A : Type 0} (P : A → State → Type 0) (k : A → State → Whole) (r : Evaluation A) (h h' : Whole)
+    → h ≡ h' → Sim P k r h' → Sim P k r h
 from_sim P k r h h' e m = record { eq = e ∙ m.eq; post = m.post }
 
 -- at most n ticks are left

@@ -42,7 +42,8 @@ UnitsAreWellFormed =
 abbrev pub AsksSoOften : Type 0
 AsksSoOften =
     (p : Program) → IsKinded p → IsShaped p
-    → (number : ℕ) (kept : Kept) (arguments : List Value) (ticks : ℕ) (answers replies : List Reply) (calls : List ActiveCall)
+    → (number : ℕ) (kept : Kept) (arguments : List Value) (ticks : ℕ) (answers replies : List Reply)
+    (calls : List ActiveCall)
     → whole p number kept arguments ticks answers ≡ Cut calls
     → kept.limit ≤ default_limit → 2048 * nodes_of p ≤ length replies
     → (id : BuiltinId) (asked : List Value)

@@ -55,7 +55,8 @@ abbrev mutual
       let then = place + length (value_code test) + 1 in
       let otherwise = then + size a + 1 in
       value_code test
-      ++ (JumpIfNot otherwise ∷ (action_code a labels then ++ (Jump (otherwise + size b) ∷ action_code b labels otherwise)))
+      ++ (JumpIfNot otherwise ∷ (action_code a labels
+      then ++ (Jump (otherwise + size b) ∷ action_code b labels otherwise)))
   action_code (action.Loop line test steps a) labels place =
       let body = place + length (value_code test) + 1 in
       let end = body + size a + length (effects_code steps) in

@@ -72,7 +72,8 @@ pub fn push_functions(
     routines: &[NamedRoutine],
 ) -> Result<(), NoMemory>
     requires { All (λ r. IsReady names.now (routine_of r.routine)) routines.now }
-    ensures made { OnOk result (functions.new ≡ functions.old ++ functions_made names.now (map function_of routines.now)) }
+    ensures made { OnOk result (functions.new
+        ≡ functions.old ++ functions_made names.now (map function_of routines.now)) }
     ensures small { OnOk result (All (λ r. IsShort (routine_of r.routine)) routines.now) }
 {
     for r in routines {
@@ -91,9 +92,11 @@ fn push_handlers(
     routines: &[EventRoutine],
 ) -> Result<Sequence<Handler>, NoMemory>
     requires { All (λ r. IsReady names.now (routine_of r.routine)) routines.now }
-    ensures made { OnOk result (functions.new ≡ functions.old ++ handlers_made names.now (map handler_of routines.now)) }
+    ensures made { OnOk result (functions.new
+        ≡ functions.old ++ handlers_made names.now (map handler_of routines.now)) }
     ensures small { OnOk result (All (λ r. IsShort (routine_of r.routine)) routines.now) }
-    ensures listed { IfOk result (λ handlers. handlers ≡ numbered_handlers (length functions.old) (map handler_of routines.now)) }
+    ensures listed { IfOk result (λ handlers. handlers
+        ≡ numbered_handlers (length functions.old) (map handler_of routines.now)) }
 {
     let mut handlers = Sequence::new(alloc);
     for r in routines {
@@ -117,7 +120,8 @@ pub fn push_states(
     states: &[ProgramState],
 ) -> Result<Sequence<StateCode>, NoMemory>
     requires { All (λ s. All (λ r. IsReady names.now (routine_of r.routine)) s.handlers.items) states.now }
-    ensures made { OnOk result (functions.new ≡ functions.old ++ handlers_made names.now (handlers_of (map state_of states.now))) }
+    ensures made { OnOk result (functions.new
+        ≡ functions.old ++ handlers_made names.now (handlers_of (map state_of states.now))) }
     ensures small { OnOk result (All (λ s. All (λ r. IsShort (routine_of r.routine)) s.handlers.items) states.now) }
     ensures listed { IfOk result (λ found. found ≡ numbered_states (length functions.old) (map state_of states.now)) }
 {

@@ -93,8 +93,8 @@ fn constant(alloc: Global, id: ConstantId) -> Result<Value, NoMemory>
     }
 }
 
-// The value as one of this kind. A string as a key is the same text; any other value that is charged more than a cast may take
-// is want of memory.
+// The value as one of this kind. A string as a key is the same text; any other value that is charged more than
+// a cast may take is want of memory.
 fn casted(alloc: Global, value: Value, kind: Kind) -> Result<Value, NoMemory>
     requires { casts_of (kind_of value) kind ≡ true }
     ensures { IfOk result (λ v. v ≡ cast_of value kind) }

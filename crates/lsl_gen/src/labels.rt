@@ -12,8 +12,8 @@ use lsl_tree::Action;
 use std::alloc::Global;
 use std::marker::Model;
 
-/// The labels in scope, which contracts see with the innermost first. `places` has for each number the place of the innermost label
-/// that has it, and 0 where none has.
+/// The labels in scope, which contracts see with the innermost first. `places` has for each number the place of
+/// the innermost label that has it, and 0 where none has.
 #[derive(Drop)]
 pub struct Labels {
     scope: Vec<ScopedLabel>,

@@ -21,7 +21,8 @@ pub fn emit_action(
     labels: &mut Labels,
     action: &Action,
 ) -> Result<(), NoMemory>
-    ensures code { OnOk result (draft.new ≡ draft.old ++ action_code (action_of action.now) labels.old (length draft.old)) }
+    ensures code { OnOk result (draft.new
+        ≡ draft.old ++ action_code (action_of action.now) labels.old (length draft.old)) }
     ensures labels { OnOk result (labels.new ≡ labels.old) }
 {
     match action {
@@ -134,7 +135,8 @@ pub fn emit_block(
     labels: &mut Labels,
     actions: &[Action],
 ) -> Result<(), NoMemory>
-    ensures code { OnOk result (draft.new ≡ draft.old ++ action_code (Block (actions_of actions.now)) labels.old (length draft.old)) }
+    ensures code { OnOk result (draft.new
+        ≡ draft.old ++ action_code (Block (actions_of actions.now)) labels.old (length draft.old)) }
     ensures labels { OnOk result (labels.new ≡ labels.old) }
 {
     let own = labels.enter(alloc, actions, draft.len())?;
@@ -151,7 +153,8 @@ fn emit_actions(
     labels: &mut Labels,
     actions: &[Action],
 ) -> Result<(), NoMemory>
-    ensures code { OnOk result (draft.new ≡ draft.old ++ actions_code (actions_of actions.now) labels.old (length draft.old)) }
+    ensures code { OnOk result (draft.new
+        ≡ draft.old ++ actions_code (actions_of actions.now) labels.old (length draft.old)) }
     ensures labels { OnOk result (labels.new ≡ labels.old) }
 {
     for action in actions {

@@ -11,7 +11,8 @@ none_front [] v e = refl
 none_front (t ∷ u) v e = absurd (cc)
 
 -- one of two fronts of a list begins the other
-split : {Tok : Type 0} (u v p q : List Tok) → u ++ v ≡ p ++ q → ((r : List Tok) × (u ≡ p ++ r) × (q ≡ r ++ v)) ⊎ ((r : List Tok) × (p ≡ u ++ r))
+split : {Tok : Type 0} (u v p q : List Tok) → u ++ v ≡ p ++ q → ((r : List Tok) × (u ≡ p ++ r) × (q ≡ r ++ v))
+    ⊎ ((r : List Tok) × (p ≡ u ++ r))
 split u v [] q e = inl (u, refl, sym e)
 split [] v (t ∷ p) q e = inr (t ∷ p, refl)
 split (s ∷ u) v (t ∷ p) q e =
@@ -32,7 +33,8 @@ one_fronts {Tok} kind ks = record { within = λ u t h. inr (t, h.0, h.1); closed
     closed [] v (inr h) = inl refl
     closed (s ∷ u) v (inr (t, e, m)) = inr (t, ap (λ z. z ∷ u) (cc) ∙ ap (λ l. t ∷ l) (none_front u v (cc)), m)
 
-pub then_fronts : {Tok A B : Type 0} {L : Lang Tok A} {K : A → Lang Tok B} → Fronts L → ((x : A) → Fronts (K x)) → Fronts (L >=> K)
+pub then_fronts : {Tok A B : Type 0} {L : Lang Tok A} {K : A → Lang Tok B} → Fronts L → ((x : A) → Fronts (K x))
+    → Fronts (L >=> K)
 then_fronts {Tok = Tok} {L = L} {K = K} l k = record {
   within = λ u y (x, p, q, e, w, v). inr (x, p, q, e, w, (k x).within q y v);
   closed = closed;
@@ -61,7 +63,16 @@ module _ {Tok A : Type 0} (round : A → Lang Tok A) (f : (a : A) → Fronts (ro
       (λ (s, g, i).
       let (m, c, p2, q2, e2, h2, o) = whole_rounds n x b s r (subst (λ l. Rounds round n x l b) i h) in
       (suc m, c, p ++ p2, q2, g ∙ ap (λ l. p ++ l) e2 ∙ sym (append_assoc p p2 q2), (x, p, p2, refl, w, h2), o))
-      (λ (s, g). (0, a, [], u, refl, (refl, refl), inr ((f a).closed u s (subst (round a).opens g ((f a).within p x w)))))
+      (λ (s, g). (
+        0,
+        a,
+        [],
+        u,
+        refl,
+        (refl, refl),
+        inr
+            ((f a).closed u s (subst (round a).opens g ((f a).within p x w))),
+      ))
       (split u r p q e)
 
   pub rounds_fronts : (a : A) → Fronts (rounds round a)
@@ -76,6 +87,15 @@ module _ {Tok A : Type 0} (round : A → Lang Tok A) (f : (a : A) → Fronts (ro
 
       closed : (u v : List Tok) → (rounds round a).opens (u ++ v) → (rounds round a).opens u
       closed u v (n, b, p, q, e, h, o) = ⊎_elim
-          (λ (r, g, i). (n, b, p, r, g, h, ⊎_elim (λ z. inl (none_front r v (sym i ∙ z))) (λ z. inr ((f b).closed r v (subst (round b).opens i z))) o))
+          (λ (r, g, i). (
+            n,
+            b,
+            p,
+            r,
+            g,
+            h,
+            ⊎_elim (λ z. inl (none_front r v (sym i ∙ z)))
+                (λ z. inr ((f b).closed r v (subst (round b).opens i z))) o,
+          ))
           (λ (r, g). whole_rounds n a b u r (subst (λ l. Rounds round n a l b) g h))
           (split u v p q e)

@@ -46,11 +46,13 @@ never = record { whole = λ u t. ⊥; opens = λ u. u ≡ [] }
 -- n rounds, each of which goes on from what the one before it gave
 abbrev pub Rounds : {Tok A : Type 0} → (A → Lang Tok A) → ℕ → A → List Tok → A → Type 0
 Rounds round zero a u c = (u ≡ []) × (c ≡ a)
-Rounds {Tok} {A} round (suc n) a u c = (b : A) × (p : List Tok) × (q : List Tok) × (u ≡ p ++ q) × (round a).whole p b × Rounds round n b q c
+Rounds {Tok} {A} round (suc n) a u c = (b : A) × (p : List Tok) × (q : List Tok) × (u ≡ p ++ q)
+    × (round a).whole p b × Rounds round n b q c
 
 -- any number of rounds
 abbrev pub rounds : {Tok A : Type 0} → (A → Lang Tok A) → A → Lang Tok A
 rounds {Tok} {A} round a = record {
   whole = λ u c. (n : ℕ) × Rounds round n a u c;
-  opens = λ u. (n : ℕ) × (b : A) × (p : List Tok) × (q : List Tok) × (u ≡ p ++ q) × Rounds round n a p b × ((q ≡ []) ⊎ (round b).opens q);
+  opens = λ u. (n : ℕ) × (b : A) × (p : List Tok) × (q : List Tok) × (u ≡ p ++ q) × Rounds round n a p b
+      × ((q ≡ []) ⊎ (round b).opens q);
 }

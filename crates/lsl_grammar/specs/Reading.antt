@@ -44,7 +44,8 @@ deep_r kind why ks ts = Err (deep_stop kind why ks ts)
 
 abbrev pub turns_r : {Tok A : Type 0} → (Tok → ℕ) → List ℕ → (A → Reader Tok A) → ℕ → A → Reader Tok A
 turns_r kind ks round zero a ts = Ok (a, ts)
-turns_r kind ks round (suc n) a ts = cond (begins kind ks ts) (round a ts >>= λ x. turns_r kind ks round n x.0 x.1) (Ok (a, ts))
+turns_r kind ks round (suc n) a ts = cond (begins kind ks ts)
+    (round a ts >>= λ x. turns_r kind ks round n x.0 x.1) (Ok (a, ts))
 
 -- rounds as long as the next token is of these kinds
 abbrev pub rounds_r : {Tok A : Type 0} → (Tok → ℕ) → List ℕ → (A → Reader Tok A) → A → Reader Tok A

@@ -1,5 +1,5 @@
-//! Languages of tokens, readers of them from left to right, and what one owes the other: a theory for parsers, with the one
-//! type that readers of any language share. It holds no code to run.
+//! Languages of tokens, readers of them from left to right, and what one owes the other: a theory for parsers,
+//! with the one type that readers of any language share. It holds no code to run.
 #![tactic(auto)]
 
 /// Why a reader stopped at a token.

@@ -20,7 +20,8 @@ AllHigh (b ∷ bytes) = (128 ≤ b) × AllHigh bytes
 
 plain : (b : ℕ) (bytes : List ℕ) → (b ≡ 92 → ⊥) → escapes_read (b ∷ bytes) ≡ b ∷ escapes_read bytes
 plain b [] h = refl
-plain b (c ∷ bytes) h = ap (λ t. cond t (escape_of c ++ escapes_read bytes) (b ∷ escapes_read (c ∷ bytes))) (eq_false b 92 h)
+plain b (c ∷ bytes) h = ap (λ t. cond t (escape_of c ++ escapes_read bytes) (b ∷ escapes_read (c ∷ bytes)))
+    (eq_false b 92 h)
 
 high : (u rest : List ℕ) → AllHigh u → escapes_read (u ++ rest) ≡ u ++ escapes_read rest
 high [] rest h = refl
@@ -34,15 +35,41 @@ encode_high : (c : ℕ) → 128 ≤ c → (b : ℕ) × (u : List ℕ) × (encode
 unfolding encode
 encode_high c h = first (nat_lt c 128) refl
   where
-    third : (t : Bool) → (b : ℕ) × (u : List ℕ) × (cond t ((224 + c / 4096) ∷ (128 + c / 64 % 64) ∷ (128 + c % 64) ∷ []) ((240 + c / 262144) ∷ (128 + c / 4096 % 64) ∷ (128 + c / 64 % 64) ∷ (128 + c % 64) ∷ []) ≡ b ∷ u) × AllHigh (b ∷ u)
-    third true = (224 + c / 4096, (128 + c / 64 % 64) ∷ (128 + c % 64) ∷ [], refl, (omega arith, (omega arith, (omega arith, tt))))
-    third false = (240 + c / 262144, (128 + c / 4096 % 64) ∷ (128 + c / 64 % 64) ∷ (128 + c % 64) ∷ [], refl, (omega arith, (omega arith, (omega arith, (omega arith, tt)))))
+    third : (t : Bool) → (b : ℕ) × (u : List ℕ)
+        × (cond t ((224 + c / 4096) ∷ (128 + c / 64 % 64) ∷ (128 + c % 64) ∷ [])
+        ((240 + c / 262144) ∷ (128 + c / 4096 % 64) ∷ (128 + c / 64 % 64) ∷ (128 + c % 64) ∷ []) ≡ b ∷ u)
+        × AllHigh (b ∷ u)
+    third true = (
+      224 + c / 4096,
+      (128 + c / 64 % 64) ∷ (128 + c % 64) ∷ [],
+      refl,
+      (
+        omega
+            arith,
+        (omega arith, (omega arith, tt)),
+      ),
+    )
+    third false = (
+      240 + c / 262144,
+      (128 + c / 4096 % 64) ∷ (128 + c / 64 % 64) ∷ (128 + c %
+          64) ∷ [],
+      refl,
+      (omega arith, (omega arith, (omega arith, (omega arith, tt)))),
+    )
 
-    second : (t : Bool) → (b : ℕ) × (u : List ℕ) × (cond t ((192 + c / 64) ∷ (128 + c % 64) ∷ []) (cond (nat_lt c 65536) ((224 + c / 4096) ∷ (128 + c / 64 % 64) ∷ (128 + c % 64) ∷ []) ((240 + c / 262144) ∷ (128 + c / 4096 % 64) ∷ (128 + c / 64 % 64) ∷ (128 + c % 64) ∷ [])) ≡ b ∷ u) × AllHigh (b ∷ u)
+    second : (t : Bool) → (b : ℕ) × (u : List ℕ)
+        × (cond t ((192 + c / 64) ∷ (128 + c % 64) ∷ [])
+        (cond (nat_lt c 65536) ((224 + c / 4096) ∷ (128 + c / 64 % 64) ∷ (128 + c % 64) ∷ [])
+        ((240 + c / 262144) ∷ (128 + c / 4096 % 64) ∷ (128 + c / 64 % 64) ∷ (128 + c % 64) ∷ [])) ≡ b ∷ u)
+        × AllHigh (b ∷ u)
     second true = (192 + c / 64, (128 + c % 64) ∷ [], refl, (omega arith, (omega arith, tt)))
     second false = third (nat_lt c 65536)
 
-    first : (t : Bool) → nat_lt c 128 ≡ t → (b : ℕ) × (u : List ℕ) × (cond t (c ∷ []) (cond (nat_lt c 2048) ((192 + c / 64) ∷ (128 + c % 64) ∷ []) (cond (nat_lt c 65536) ((224 + c / 4096) ∷ (128 + c / 64 % 64) ∷ (128 + c % 64) ∷ []) ((240 + c / 262144) ∷ (128 + c / 4096 % 64) ∷ (128 + c / 64 % 64) ∷ (128 + c % 64) ∷ []))) ≡ b ∷ u) × AllHigh (b ∷ u)
+    first : (t : Bool) → nat_lt c 128 ≡ t → (b : ℕ) × (u : List ℕ)
+        × (cond t (c ∷ []) (cond (nat_lt c 2048) ((192 + c / 64) ∷ (128 + c % 64) ∷ [])
+        (cond (nat_lt c 65536) ((224 + c / 4096) ∷ (128 + c / 64 % 64) ∷ (128 + c % 64) ∷ [])
+        ((240 + c / 262144) ∷ (128 + c / 4096 % 64) ∷ (128 + c / 64 % 64) ∷ (128 + c % 64) ∷ []))) ≡ b ∷ u)
+        × AllHigh (b ∷ u)
     first true e = absurd (let below = ltb-true c 128 e in omega (arith, below, h))
     first false e = second (nat_lt c 2048)
 
@@ -50,7 +77,8 @@ encode_high c h = first (nat_lt c 128) refl
 
 other_escape : (b : ℕ) → 128 ≤ b → escape_of b ≡ b ∷ []
 other_escape b h =
-    ap (λ t. cond t (10 ∷ []) (cond (b == 116) (32 ∷ 32 ∷ 32 ∷ 32 ∷ []) (b ∷ []))) (eq_false b 110 (λ e. omega (arith, h, e)))
+    ap (λ t. cond t (10 ∷ []) (cond (b == 116) (32 ∷ 32 ∷ 32 ∷ 32 ∷ []) (b ∷ [])))
+    (eq_false b 110 (λ e. omega (arith, h, e)))
     ∙ ap (λ t. cond t (32 ∷ 32 ∷ 32 ∷ 32 ∷ []) (b ∷ [])) (eq_false b 116 (λ e. omega (arith, h, e)))
 
 spaces : encode_utf8_all (32 ∷ 32 ∷ 32 ∷ 32 ∷ []) ≡ 32 ∷ 32 ∷ 32 ∷ 32 ∷ []
@@ -64,30 +92,39 @@ backslash = refl
 encodes_escape_low : (d : ℕ) → d < 128 → encode_utf8_all (escape_of d) ≡ escape_of d
 encodes_escape_low d h = first (d == 110) refl
   where
-    second : (t : Bool) → encode_utf8_all (cond t (32 ∷ 32 ∷ 32 ∷ 32 ∷ []) (d ∷ [])) ≡ cond t (32 ∷ 32 ∷ 32 ∷ 32 ∷ []) (d ∷ [])
+    second : (t : Bool) → encode_utf8_all (cond t (32 ∷ 32 ∷ 32 ∷ 32 ∷ []) (d ∷ []))
+        ≡ cond t (32 ∷ 32 ∷ 32 ∷ 32 ∷ []) (d ∷ [])
     second true = spaces
     second false = ap (λ l. l ++ []) (encode_ascii d h)
 
-    first : (t : Bool) → (d == 110) ≡ t → encode_utf8_all (cond t (10 ∷ []) (cond (d == 116) (32 ∷ 32 ∷ 32 ∷ 32 ∷ []) (d ∷ []))) ≡ cond t (10 ∷ []) (cond (d == 116) (32 ∷ 32 ∷ 32 ∷ 32 ∷ []) (d ∷ []))
+    first : (t : Bool) → (d == 110) ≡ t → encode_utf8_all
+        (cond t (10 ∷ []) (cond (d == 116) (32 ∷ 32 ∷ 32 ∷ 32 ∷ []) (d ∷ [])))
+        ≡ cond t (10 ∷ []) (cond (d == 116) (32 ∷ 32 ∷ 32 ∷ 32 ∷ []) (d ∷ []))
     first true e = ap (λ l. l ++ []) (encode_ascii 10 (omega arith))
     first false e = second (d == 116)
 
 -- what a backslash before a character stands for
-escape_bytes : (d : ℕ) (rest : List ℕ) → escapes_read (92 ∷ (encode d ++ rest)) ≡ encode_utf8_all (escape_of d) ++ escapes_read rest
+escape_bytes : (d : ℕ) (rest : List ℕ) → escapes_read (92 ∷ (encode d ++ rest))
+    ≡ encode_utf8_all (escape_of d) ++ escapes_read rest
 escape_bytes d rest = go (cases_lt d 128)
   where
-    go : (d < 128) ⊎ (128 ≤ d) → escapes_read (92 ∷ (encode d ++ rest)) ≡ encode_utf8_all (escape_of d) ++ escapes_read rest
-    go (inl h) = ap (λ l. escapes_read (92 ∷ (l ++ rest))) (encode_ascii d h) ∙ ap (λ l. l ++ escapes_read rest) (sym (encodes_escape_low d h))
+    go : (d < 128) ⊎ (128 ≤ d) → escapes_read (92 ∷ (encode d ++ rest))
+        ≡ encode_utf8_all (escape_of d) ++ escapes_read rest
+    go (inl h) = ap (λ l. escapes_read (92 ∷ (l ++ rest))) (encode_ascii d h)
+        ∙ ap (λ l. l ++ escapes_read rest) (sym (encodes_escape_low d h))
     go (inr h) =
         let (b, u, e, all) = encode_high d h in
         ap (λ l. escapes_read (92 ∷ (l ++ rest))) e
         ∙ ap (λ l. l ++ escapes_read (u ++ rest)) (other_escape b all.0)
         ∙ ap (λ l. b ∷ l) (high u rest all.1)
-        ∙ ap (λ l. l ++ escapes_read rest) (sym e ∙ sym (append-nil (encode d)) ∙ ap encode_utf8_all (sym (other_escape d h)))
+        ∙ ap (λ l. l ++ escapes_read rest)
+        (sym e ∙ sym (append-nil (encode d)) ∙ ap encode_utf8_all (sym (other_escape d h)))
 
-low_character : (c : ℕ) (rest : List ℕ) → c < 128 → (c ≡ 92 → ⊥) → escapes_read (encode c ++ rest) ≡ encode c ++ escapes_read rest
+low_character : (c : ℕ) (rest : List ℕ) → c < 128 → (c ≡ 92 → ⊥)
+    → escapes_read (encode c ++ rest) ≡ encode c ++ escapes_read rest
 low_character c rest h n =
-    ap (λ l. escapes_read (l ++ rest)) (encode_ascii c h) ∙ plain c rest n ∙ ap (λ l. l ++ escapes_read rest) (sym (encode_ascii c h))
+    ap (λ l. escapes_read (l ++ rest)) (encode_ascii c h) ∙ plain c rest n
+    ∙ ap (λ l. l ++ escapes_read rest) (sym (encode_ascii c h))
 
 high_character : (c : ℕ) (rest : List ℕ) → 128 ≤ c → escapes_read (encode c ++ rest) ≡ encode c ++ escapes_read rest
 high_character c rest h =
@@ -112,7 +149,9 @@ escapes_read-encodes (c ∷ []) = go (c == 92) refl
     go false e = character c [] (not_eq c 92 e)
 escapes_read-encodes (c ∷ d ∷ cs) = go (c == 92) refl (escapes_read-encodes cs) (escapes_read-encodes (d ∷ cs))
   where
-    slash : c ≡ 92 → escapes_read (encode_utf8_all cs) ≡ encode_utf8_all (escapes_read cs) → escapes_read (encode c ++ (encode d ++ encode_utf8_all cs)) ≡ encode_utf8_all (escape_of d ++ escapes_read cs)
+    slash : c ≡ 92 → escapes_read (encode_utf8_all cs) ≡ encode_utf8_all (escapes_read cs)
+        → escapes_read (encode c ++ (encode d ++ encode_utf8_all cs))
+        ≡ encode_utf8_all (escape_of d ++ escapes_read cs)
     slash e ih =
         ap (λ z. escapes_read (encode z ++ (encode d ++ encode_utf8_all cs))) e
         ∙ ap (λ l. escapes_read (l ++ (encode d ++ encode_utf8_all cs))) (encode_ascii 92 (omega arith))
@@ -120,13 +159,17 @@ escapes_read-encodes (c ∷ d ∷ cs) = go (c == 92) refl (escapes_read-encodes 
         ∙ ap (λ l. encode_utf8_all (escape_of d) ++ l) ih
         ∙ sym (encodes-append (escape_of d) (escapes_read cs))
 
-    go : (t : Bool) → (c == 92) ≡ t → escapes_read (encode_utf8_all cs) ≡ encode_utf8_all (escapes_read cs) → escapes_read (encode_utf8_all (d ∷ cs)) ≡ encode_utf8_all (escapes_read (d ∷ cs)) → escapes_read (encode c ++ (encode d ++ encode_utf8_all cs)) ≡ encode_utf8_all (cond t (escape_of d ++ escapes_read cs) (c ∷ escapes_read (d ∷ cs)))
+    go : (t : Bool) → (c == 92) ≡ t → escapes_read (encode_utf8_all cs) ≡ encode_utf8_all (escapes_read cs)
+        → escapes_read (encode_utf8_all (d ∷ cs)) ≡ encode_utf8_all (escapes_read (d ∷ cs))
+        → escapes_read (encode c ++ (encode d ++ encode_utf8_all cs))
+        ≡ encode_utf8_all (cond t (escape_of d ++ escapes_read cs) (c ∷ escapes_read (d ∷ cs)))
     go true e ih two = slash (eq_true c 92 e) ih
     go false e ih two = character c (encode d ++ encode_utf8_all cs) (not_eq c 92 e) ∙ ap (λ l. encode c ++ l) two
 
 scalars-append : (xs ys : List ℕ) → all_scalars xs ≡ true → all_scalars ys ≡ true → all_scalars (xs ++ ys) ≡ true
 scalars-append [] ys h k = k
-scalars-append (x ∷ xs) ys h k = let both = and_both (scalar x) (all_scalars xs) h in ap (λ t. t && all_scalars (xs ++ ys)) both.0 ∙ scalars-append xs ys both.1 k
+scalars-append (x ∷ xs) ys h k = let both = and_both (scalar x) (all_scalars xs) h in
+    ap (λ t. t && all_scalars (xs ++ ys)) both.0 ∙ scalars-append xs ys both.1 k
 
 scalars_escape : (d : ℕ) → scalar d ≡ true → all_scalars (escape_of d) ≡ true
 scalars_escape d h = first (d == 110)
@@ -142,7 +185,8 @@ scalars_escape d h = first (d == 110)
 scalars-escapes_read : (cs : List ℕ) → all_scalars cs ≡ true → all_scalars (escapes_read cs) ≡ true
 scalars-escapes_read [] h = refl
 scalars-escapes_read (c ∷ []) h = h
-scalars-escapes_read (c ∷ d ∷ cs) h = go (c == 92) (scalars-escapes_read cs rest.1) (scalars-escapes_read (d ∷ cs) both.1)
+scalars-escapes_read (c ∷ d ∷ cs) h = go (c == 92) (scalars-escapes_read cs rest.1)
+    (scalars-escapes_read (d ∷ cs) both.1)
   where
     both : (scalar c ≡ true) × (all_scalars (d ∷ cs) ≡ true)
     both = and_both (scalar c) (all_scalars (d ∷ cs)) h
@@ -150,13 +194,15 @@ scalars-escapes_read (c ∷ d ∷ cs) h = go (c == 92) (scalars-escapes_read cs 
     rest : (scalar d ≡ true) × (all_scalars cs ≡ true)
     rest = and_both (scalar d) (all_scalars cs) both.1
 
-    go : (t : Bool) → all_scalars (escapes_read cs) ≡ true → all_scalars (escapes_read (d ∷ cs)) ≡ true → all_scalars (cond t (escape_of d ++ escapes_read cs) (c ∷ escapes_read (d ∷ cs))) ≡ true
+    go : (t : Bool) → all_scalars (escapes_read cs) ≡ true → all_scalars (escapes_read (d ∷ cs)) ≡ true
+        → all_scalars (cond t (escape_of d ++ escapes_read cs) (c ∷ escapes_read (d ∷ cs))) ≡ true
     go true ih two = scalars-append (escape_of d) (escapes_read cs) (scalars_escape d rest.0) ih
     go false ih two = ap (λ t. t && all_scalars (escapes_read (d ∷ cs))) both.0 ∙ two
 
 -- a body of UTF-8 stands for UTF-8
 pub IsUtf8-escapes_read : (body : List ℕ) → IsUtf8 body → IsUtf8 (escapes_read body)
-IsUtf8-escapes_read body (cs, (valid, e)) = (escapes_read cs, (scalars-escapes_read cs valid, sym (escapes_read-encodes cs) ∙ ap escapes_read e))
+IsUtf8-escapes_read body (cs, (valid, e)) =
+    (escapes_read cs, (scalars-escapes_read cs valid, sym (escapes_read-encodes cs) ∙ ap escapes_read e))
 
 -- and its characters are the body's, with the escapes read
 pub chars-escapes_read : (body : List ℕ) → IsUtf8 body → chars (escapes_read body) ≡ escapes_read (chars body)
@@ -177,7 +223,8 @@ no_escape (b ∷ bytes) h =
     neither false t e = (refl, e)
 
 -- a body with no backslash stands for itself
-pub plain_body : (body : List ℕ) → IsUtf8 body → list_any (λ b. b == 92) body ≡ false → chars body ≡ escapes_read (chars body)
+pub plain_body : (body : List ℕ) → IsUtf8 body → list_any (λ b. b == 92) body ≡ false
+    → chars body ≡ escapes_read (chars body)
 plain_body body valid h = ap chars (sym (no_escape body h)) ∙ chars-escapes_read body valid
 
 escape_short : (d : ℕ) → length (escape_of d) ≤ 4
@@ -196,7 +243,10 @@ length-escapes_read [] = omega arith
 length-escapes_read (b ∷ []) = omega arith
 length-escapes_read (b ∷ c ∷ bytes) = go (b == 92) (length-escapes_read bytes) (length-escapes_read (c ∷ bytes))
   where
-    go : (t : Bool) → length (escapes_read bytes) ≤ 2 * length bytes → length (escapes_read (c ∷ bytes)) ≤ 2 * length (c ∷ bytes) → length (cond t (escape_of c ++ escapes_read bytes) (b ∷ escapes_read (c ∷ bytes))) ≤ 2 * length (b ∷ c ∷ bytes)
+    go : (t : Bool) → length (escapes_read bytes) ≤ 2 * length bytes
+        → length (escapes_read (c ∷ bytes)) ≤ 2 * length (c ∷ bytes)
+        → length (cond t (escape_of c ++ escapes_read bytes) (b ∷ escapes_read (c ∷ bytes)))
+        ≤ 2 * length (b ∷ c ∷ bytes)
     go true ih two = omega (arith, ih, escape_short c, length-append (escape_of c) (escapes_read bytes))
     go false ih two = omega (arith, two)
 
@@ -208,9 +258,11 @@ at_seam (a ∷ u) b rest = at_seam u b rest
 
 drop_past : (u : List ℕ) (b : ℕ) (rest : List ℕ) → drop (length u + 1) (u ++ b ∷ rest) ≡ rest
 drop_past [] b rest = refl
-drop_past (a ∷ u) b rest = let one : length (a ∷ u) + 1 ≡ suc (length u + 1) = omega arith in ap (λ n. drop n (a ∷ (u ++ b ∷ rest))) one ∙ drop_past u b rest
+drop_past (a ∷ u) b rest = let one : length (a ∷ u) + 1 ≡ suc (length u + 1) = omega arith in
+    ap (λ n. drop n (a ∷ (u ++ b ∷ rest))) one ∙ drop_past u b rest
 
-body_whole : (text more : List ℕ) (n : ℕ) → EndsText text → text ≡ 34 ∷ more → quote_of more ≡ Some n → IsUtf8 (take n more)
+body_whole : (text more : List ℕ) (n : ℕ) → EndsText text → text ≡ 34 ∷ more → quote_of more ≡ Some n
+    → IsUtf8 (take n more)
 body_whole text more n (front, valid) e f =
     let (body, rest, e1, e2, h) = quote_some more n f in
     let whole = front ++ 34 ∷ (body ++ 34 ∷ rest) in
@@ -220,19 +272,25 @@ body_whole text more n (front, valid) e f =
     let j = i + length body in
     let split : whole ≡ (front ++ 34 ∷ body) ++ 34 ∷ rest = sym (append_assoc front (34 ∷ body) (34 ∷ rest)) in
     let place : length (front ++ 34 ∷ body) ≡ j = omega (arith, length-append front (34 ∷ body)) in
-    let size : length whole ≡ length front + (1 + (length body + (1 + length rest))) = omega (arith, length-append front (34 ∷ (body ++ 34 ∷ rest)), length-append body (34 ∷ rest)) in
+    let size : length whole ≡ length front + (1 + (length body + (1 + length rest))) =
+    omega (arith, length-append front (34 ∷ (body ++ 34 ∷ rest)), length-append body (34 ∷ rest)) in
     let opening : get_or whole (length front) 0 ≡ 34 = at_seam front 34 (body ++ 34 ∷ rest) in
-    let closing : get_or whole j 0 ≡ 34 = ap (λ l. get_or l j 0) split ∙ ap (λ k. get_or ((front ++ 34 ∷ body) ++ 34 ∷ rest) k 0) (sym place) ∙ at_seam (front ++ 34 ∷ body) 34 rest in
+    let closing : get_or whole j 0 ≡ 34 =
+    ap (λ l. get_or l j 0) split ∙ ap (λ k. get_or ((front ++ 34 ∷ body) ++ 34 ∷ rest) k 0) (sym place)
+    ∙ at_seam (front ++ 34 ∷ body) 34 rest in
     let cut : IsUtf8 (take (j - i) (drop i whole)) = IsUtf8-between whole i j good (omega arith)
     (IsCharBoundary-after_ascii whole (length front) good (omega (arith, size)) (omega (arith, opening)))
     (IsCharBoundary-before_ascii whole j (omega (arith, size)) (omega (arith, closing))) in
     let inner : take (j - i) (drop i whole) ≡ take n more =
-    ap (λ k. take k (drop i whole)) (omega (arith, e2)) ∙ ap (take n) (drop_past front 34 (body ++ 34 ∷ rest) ∙ sym e1) in
+    ap (λ k. take k (drop i whole)) (omega (arith, e2))
+    ∙ ap (take n) (drop_past front 34 (body ++ 34 ∷ rest) ∙ sym e1) in
     subst IsUtf8 inner cut
 
 opening_quote : (text : List ℕ) → slice_index text 0 ≡ 34 → text ≡ 34 ∷ drop 1 text
 opening_quote [] e = absurd (omega (arith, e))
 opening_quote (b ∷ text) e = ap (λ z. z ∷ text) e
 
-pub body_valid : (text more : List ℕ) (n : ℕ) → EndsText text → slice_index text 0 ≡ 34 → more ≡ drop 1 text → Some n ≡ quote_of more → IsUtf8 (take n more)
-body_valid text more n valid quote e f = body_whole text more n valid (opening_quote text quote ∙ ap (λ l. 34 ∷ l) (sym e)) (sym f)
+pub body_valid : (text more : List ℕ) (n : ℕ) → EndsText text → slice_index text 0 ≡ 34 → more ≡ drop 1 text
+    → Some n ≡ quote_of more → IsUtf8 (take n more)
+body_valid text more n valid quote e f = body_whole text more n valid
+    (opening_quote text quote ∙ ap (λ l. 34 ∷ l) (sym e)) (sym f)

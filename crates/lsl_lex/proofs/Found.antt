@@ -46,17 +46,24 @@ drop_seam [] v = refl
 drop_seam (x ∷ u) v = drop_seam u v
 
 -- a piece at the front, by its length
-piece_at : (text : List ℕ) (g : Option Sort) (u rest : List ℕ) (k : ℕ) → k ≡ length u → 0 < length u → IsPiece text g u rest → Clear text → Right text (Ok (g, k))
+piece_at : (text : List ℕ) (g : Option Sort) (u rest : List ℕ) (k : ℕ) → k ≡ length u → 0 < length u
+    → IsPiece text g u rest → Clear text → Right text (Ok (g, k))
 piece_at text g u rest k n some h clear =
     let t : take k text ≡ u = ap (λ m. take m text) n ∙ ap (take (length u)) h.split ∙ take-append_seam u rest in
     let d : drop k text ≡ rest = ap (λ m. drop m text) n ∙ ap (drop (length u)) h.split ∙ drop_seam u rest in
     let P : List ℕ → Type 0 = λ l. IsPiece text g l (drop k text) in
-    let Q : List ℕ → Type 0 = λ l. IsPiece text g u l in
-    (omega (arith, n, some), omega (arith, n, ap length h.split, length-append u rest), subst P (sym t) (subst Q (sym d) h), clear)
+    let Q : List ℕ → Type 0 = λ l. IsPiece text g u l in (
+      omega (arith, n, some),
+      omega (arith, n, ap length h.split, length-append u rest),
+      subst P (sym t)
+          (subst Q (sym d) h),
+      clear,
+    )
 
 -- ---- where no fault stands
 
-token_no_case : (text u rest : List ℕ) (s : Sort) → text ≡ u ++ rest → Spells u s → (OpensComment text → ⊥) → (IsOpenString text → ⊥) → (IsFloat text → ⊥) → (kind : LexKind) → Case text kind → ⊥
+token_no_case : (text u rest : List ℕ) (s : Sort) → text ≡ u ++ rest → Spells u s → (OpensComment text → ⊥)
+    → (IsOpenString text → ⊥) → (IsFloat text → ⊥) → (kind : LexKind) → Case text kind → ⊥
 token_no_case text u rest s e h comment open_string float NotText f = f
 token_no_case text u rest s e h comment open_string float TextTooLong f = f
 token_no_case text u rest s e h comment open_string float StringEnd f = open_string f
@@ -65,7 +72,9 @@ token_no_case text u rest s e h comment open_string float FloatLiteral f = float
 token_no_case text u rest s e h comment open_string float StrayCharacter f = f.no_token u rest s e h
 
 -- a token that goes as far as a token can, where no comment begins and no fault stands
-pub token_right : (text u rest : List ℕ) (s : Sort) (k : ℕ) → text ≡ u ++ rest → k ≡ length u → reach text ≡ length u → Spells u s → (OpensComment text → ⊥) → (IsOpenString text → ⊥) → (IsFloat text → ⊥) → Right text (Ok (Some s, k))
+pub token_right : (text u rest : List ℕ) (s : Sort) (k : ℕ) → text ≡ u ++ rest → k ≡ length u
+    → reach text ≡ length u → Spells u s → (OpensComment text → ⊥) → (IsOpenString text → ⊥)
+    → (IsFloat text → ⊥) → Right text (Ok (Some s, k))
 token_right text u rest s k e n far h comment open_string float =
     piece_at text (Some s) u rest k n (not_empty u s h) (record {
       split = e;
@@ -99,11 +108,13 @@ blank_right (b ∷ text) some e =
     none StringEnd f = let q = blank_range b e in omega (arith, string_lead (b ∷ text) f, q.1)
     none CommentEnd f = let q = blank_range b e in omega (arith, comment_lead (b ∷ text) f, q.1)
     none FloatLiteral f = float (float_lead (b ∷ text) f)
-    none StrayCharacter f = let (c, rest, g, h) = f.some in let same : is_blank b ≡ false = ap (λ l. is_blank (lead l)) g ∙ h in let both = sym e ∙ same in cc
+    none StrayCharacter f = let (c, rest, g, h) = f.some in let same : is_blank b ≡ false =
+        ap (λ l. is_blank (lead l)) g ∙ h in let both = sym e ∙ same in cc
 
 -- ---- comments
 
-comment_no_case : (text : List ℕ) → OpensComment text → (Case text CommentEnd → ⊥) → (kind : LexKind) → Case text kind → ⊥
+comment_no_case : (text : List ℕ) → OpensComment text → (Case text CommentEnd → ⊥) → (kind : LexKind)
+    → Case text kind → ⊥
 comment_no_case text o none NotText f = f
 comment_no_case text o none TextTooLong f = f
 comment_no_case text o none StringEnd f = omega (arith, string_lead text f, opens_lead text o)
@@ -130,9 +141,11 @@ block_right text more e = go (close_of (drop 2 text)) refl
         piece_at text None u rest (n + 2) (omega (arith, e2, length-append body (42 ∷ 47 ∷ []))) (omega arith) (record {
           split = all;
           kind = inr (inl (body, refl, none));
-        }) (comment_no_case text (42, more, e, inl refl) (λ (more', e', closed). closed body rest (ap (drop 2) (sym e' ∙ e) ∙ e1)))
+        }) (comment_no_case text (42, more, e, inl refl)
+        (λ (more', e', closed). closed body rest (ap (drop 2) (sym e' ∙ e) ∙ e1)))
 
-    go : (o : Option ℕ) → close_of (drop 2 text) ≡ o → Right text (elim o as (λ _. Found) [ None ↦ Err CommentEnd | Some n ↦ Ok (None, n + 2) ])
+    go : (o : Option ℕ) → close_of (drop 2 text) ≡ o
+        → Right text (elim o as (λ _. Found) [ None ↦ Err CommentEnd | Some n ↦ Ok (None, n + 2) ])
     go None f = (more, e, close_none more (ap close_of (sym rest_is) ∙ f))
     go (Some n) f = found n f
 
@@ -143,11 +156,19 @@ line_right text more e =
     let n = prefix_len is_in_line more in
     let u = 47 ∷ 47 ∷ take n more in
     let all : text ≡ u ++ drop n more = e ∙ ap (λ l. 47 ∷ 47 ∷ l) (sym (take-append-drop n more)) in
-    let long : prefix_len is_in_line (drop 2 text) + 2 ≡ length u = omega (arith, ap (prefix_len is_in_line) rest_is, length-prefix_len is_in_line more) in
+    let long : prefix_len is_in_line (drop 2 text) + 2 ≡ length u =
+    omega (arith, ap (prefix_len is_in_line) rest_is, length-prefix_len is_in_line more) in
     piece_at text None u (drop n more) (prefix_len is_in_line (drop 2 text) + 2) long (omega arith) (record {
       split = all;
-      kind = inr (inr (take n more, refl, AllPass-from_list_all is_in_line (take n more) (list_all-prefix is_in_line more), stops (prefix_len-stops is_in_line more)));
-    }) (comment_no_case text (47, more, e, inr refl) (λ (more', e', closed). let same : 47 ≡ 42 = ap (λ l. head (drop 1 l)) (sym e ∙ e') in omega (arith, same)))
+      kind = inr (inr (
+        take n more,
+        refl,
+        AllPass-from_list_all is_in_line (take n more)
+            (list_all-prefix is_in_line more),
+        stops (prefix_len-stops is_in_line more),
+      ));
+    }) (comment_no_case text (47, more, e, inr refl) (λ (more', e', closed). let same : 47 ≡ 42 =
+    ap (λ l. head (drop 1 l)) (sym e ∙ e') in omega (arith, same)))
   where
     is_feed : (b : ℕ) → is_in_line b ≡ false → b ≡ 10
     is_feed b g = go (b == 10) refl g
@@ -156,7 +177,9 @@ line_right text more e =
         go true e g = eq_true b 10 e
         go false e g = absurd (cc)
 
-    stops : Stops is_in_line (drop (prefix_len is_in_line more) more) → (drop (prefix_len is_in_line more) more ≡ []) ⊎ ((rest : List ℕ) × (drop (prefix_len is_in_line more) more ≡ 10 ∷ rest))
+    stops : Stops is_in_line (drop (prefix_len is_in_line more) more)
+        → (drop (prefix_len is_in_line more) more ≡ [])
+        ⊎ ((rest : List ℕ) × (drop (prefix_len is_in_line more) more ≡ 10 ∷ rest))
     stops (inl f) = inl f
     stops (inr (b, rest, f, g)) = inr (rest, f ∙ ap (λ z. z ∷ rest) (is_feed b g))
 
@@ -193,30 +216,44 @@ name_right text l =
     let long : length u ≡ n = length-prefix_len is_name_byte text in
     let some : 0 < length u = omega (arith, name_some text l, long) in
     let first : lead u ≡ lead text = sym (ap lead split ∙ lead-append u (drop n text) some) in
-    let id : IsIdentifier u = record { first = ap is_letter first ∙ l; each = AllPass-from_list_all is_name_byte u (list_all-prefix is_name_byte text) } in
-    let far : reach text ≡ length u = choose_letter (lead text) n (number_reach text) (string_reach text) (sign_reach text) l ∙ sym long in
+    let id : IsIdentifier u = record {
+      first = ap is_letter first ∙ l;
+      each =
+          AllPass-from_list_all is_name_byte u (list_all-prefix is_name_byte text);
+    } in
+    let far : reach text ≡ length u = choose_letter (lead text) n (number_reach text) (string_reach text)
+    (sign_reach text) l ∙ sym long in
     let q = letter_range (lead text) l in
     token_right text u (drop n text) (word_sort u) n split (sym long) far (word_or_name u id)
-    (no_comment_by text (λ e. omega (arith, e, q.0))) (no_string_by text (λ e. omega (arith, e, q.0))) (letter_no_float text l)
+    (no_comment_by text (λ e. omega (arith, e, q.0))) (no_string_by text (λ e. omega (arith, e, q.0)))
+    (letter_no_float text l)
 
 -- ---- integers
 
 no_blanks : (b : ℕ) (text : List ℕ) → is_blank b ≡ false → drop (prefix_len is_blank (b ∷ text)) (b ∷ text) ≡ b ∷ text
 no_blanks b text e = ap (λ t. drop (cond t (1 + prefix_len is_blank text) 0) (b ∷ text)) e
 
-unsigned_leads : (text : List ℕ) → 0 < length text → is_decimal (lead text) ≡ true → leading_integer_of text ≡ unsigned_integer text
+unsigned_leads : (text : List ℕ) → 0 < length text → is_decimal (lead text) ≡ true
+    → leading_integer_of text ≡ unsigned_integer text
 unsigned_leads [] some d = absurd (omega arith)
 unsigned_leads (b ∷ text) some d =
     let r = decimal_range b d in
-    ap signed_integer (no_blanks b text (false_by (is_blank b) (λ e. let q = blank_range b e in omega (arith, r.0, q.1))))
-    ∙ ap (λ t. cond t (int_wrapping_neg w32 (unsigned_integer text)) (cond (b == 43) (unsigned_integer text) (unsigned_integer (b ∷ text)))) (eq_false b 45 (λ e. omega (arith, r.0, e)))
-    ∙ ap (λ t. cond t (unsigned_integer text) (unsigned_integer (b ∷ text))) (eq_false b 43 (λ e. omega (arith, r.0, e)))
+    ap signed_integer (no_blanks b text (false_by (is_blank b) (λ e. let q = blank_range b e in
+    omega (arith, r.0, q.1))))
+    ∙ ap (λ t. cond t (int_wrapping_neg w32 (unsigned_integer text))
+    (cond (b == 43) (unsigned_integer text) (unsigned_integer (b ∷ text))))
+    (eq_false b 45 (λ e. omega (arith, r.0, e)))
+    ∙ ap (λ t. cond t (unsigned_integer text) (unsigned_integer (b ∷ text)))
+    (eq_false b 43 (λ e. omega (arith, r.0, e)))
 
-hexadecimal_leads : (text : List ℕ) → begins_hexadecimal text ≡ true → unsigned_integer text ≡ wrapped (digits_value 16 (take (prefix_len is_hexadecimal (drop 2 text)) (drop 2 text)))
+hexadecimal_leads : (text : List ℕ) → begins_hexadecimal text ≡ true
+    → unsigned_integer text ≡ wrapped (digits_value 16
+    (take (prefix_len is_hexadecimal (drop 2 text)) (drop 2 text)))
 unfolding unsigned_integer
 hexadecimal_leads text e = ap (λ t. cond t (digits_integer 16 (drop 2 text)) (digits_integer 10 text)) e
 
-decimal_leads : (text : List ℕ) → begins_hexadecimal text ≡ false → unsigned_integer text ≡ wrapped (digits_value 10 (take (prefix_len is_decimal text) text))
+decimal_leads : (text : List ℕ) → begins_hexadecimal text ≡ false
+    → unsigned_integer text ≡ wrapped (digits_value 10 (take (prefix_len is_decimal text) text))
 unfolding unsigned_integer
 decimal_leads text e = ap (λ t. cond t (digits_integer 16 (drop 2 text)) (digits_integer 10 text)) e
 
@@ -232,18 +269,24 @@ digits_some (b ∷ text) d = go (is_decimal b) d
     go true e = omega arith
     go false e = absurd (cc)
 
-hexadecimal_no_float : (x d : ℕ) (more text : List ℕ) → text ≡ 48 ∷ x ∷ d ∷ more → (x ≡ 120) ⊎ (x ≡ 88) → IsFloat text → ⊥
-hexadecimal_no_float x d more text e o (inr (digit, rest, f, g)) = let same : 48 ≡ 46 = ap head (sym e ∙ f) in omega (arith, same)
-hexadecimal_no_float x d more text e o (inl ([], rest, f, g)) = let same : 48 ≡ 46 = ap head (sym e ∙ f) in omega (arith, same)
-hexadecimal_no_float x d more text e (inl o) (inl (a ∷ [], rest, f, g)) = let same : x ≡ 46 = ap (λ l. head (drop 1 l)) (sym e ∙ f) in omega (arith, same, o)
-hexadecimal_no_float x d more text e (inr o) (inl (a ∷ [], rest, f, g)) = let same : x ≡ 46 = ap (λ l. head (drop 1 l)) (sym e ∙ f) in omega (arith, same, o)
+hexadecimal_no_float : (x d : ℕ) (more text : List ℕ) → text ≡ 48 ∷ x ∷ d ∷ more → (x ≡ 120) ⊎ (x ≡ 88)
+    → IsFloat text → ⊥
+hexadecimal_no_float x d more text e o (inr (digit, rest, f, g)) = let same : 48 ≡ 46 = ap head (sym e ∙ f) in
+    omega (arith, same)
+hexadecimal_no_float x d more text e o (inl ([], rest, f, g)) = let same : 48 ≡ 46 = ap head (sym e ∙ f) in
+    omega (arith, same)
+hexadecimal_no_float x d more text e (inl o) (inl (a ∷ [], rest, f, g)) = let same : x ≡ 46 =
+    ap (λ l. head (drop 1 l)) (sym e ∙ f) in omega (arith, same, o)
+hexadecimal_no_float x d more text e (inr o) (inl (a ∷ [], rest, f, g)) = let same : x ≡ 46 =
+    ap (λ l. head (drop 1 l)) (sym e ∙ f) in omega (arith, same, o)
 hexadecimal_no_float x d more text e o (inl (a ∷ b ∷ digits, rest, f, g)) =
     let same : x ≡ b = ap (λ l. head (drop 1 l)) (sym e ∙ f) in
     let digit : is_decimal b ≡ true = g.each 1 0 (omega arith) in
     let r = decimal_range b digit in
     ⊎_elim (λ h. omega (arith, same, h, r.1)) (λ h. omega (arith, same, h, r.1)) o
 
-hexadecimal_right : (text : List ℕ) → is_decimal (lead text) ≡ true → begins_hexadecimal text ≡ true → Right text (Ok (Some (Int (leading_integer_of text)), prefix_len is_hexadecimal (drop 2 text) + 2))
+hexadecimal_right : (text : List ℕ) → is_decimal (lead text) ≡ true → begins_hexadecimal text ≡ true
+    → Right text (Ok (Some (Int (leading_integer_of text)), prefix_len is_hexadecimal (drop 2 text) + 2))
 hexadecimal_right text l hex =
     let (x, d, more, e, o, h) = hexadecimal_parts text hex in
     let r = d ∷ more in
@@ -255,15 +298,27 @@ hexadecimal_right text l hex =
     let long : length digits ≡ m = length-prefix_len is_hexadecimal r in
     let some : 0 < m = hexadecimal_some d more h in
     let value : Int (leading_integer_of text) ≡ Int (wrapped (digits_value 16 digits)) =
-    ap (λ z. Int z) (unsigned_leads text (some_lead text l) l ∙ hexadecimal_leads text hex ∙ ap (λ l. wrapped (digits_value 16 (take (prefix_len is_hexadecimal l) l))) rest_is) in
+    ap (λ z. Int z) (unsigned_leads text (some_lead text l) l ∙ hexadecimal_leads text hex
+    ∙ ap (λ l. wrapped (digits_value 16 (take (prefix_len is_hexadecimal l) l))) rest_is) in
     let spelled : Spells u (Int (leading_integer_of text)) =
-    hexadecimal x digits refl o (record { some = omega (arith, long, some); each = AllPass-from_list_all is_hexadecimal digits (list_all-prefix is_hexadecimal r) }) value in
-    let size : prefix_len is_hexadecimal (drop 2 text) + 2 ≡ length u = omega (arith, ap (prefix_len is_hexadecimal) rest_is, long) in
-    let reached : reach text ≡ number_reach text = choose_digit (lead text) (prefix_len is_name_byte text) (number_reach text) (string_reach text) (sign_reach text) l in
-    let far : reach text ≡ length u = reached ∙ ap (λ t. cond t (prefix_len is_hexadecimal (drop 2 text) + 2) (prefix_len is_decimal text)) hex ∙ size in
+    hexadecimal x digits refl o (record {
+      some = omega (arith, long, some);
+      each =
+          AllPass-from_list_all is_hexadecimal digits (list_all-prefix is_hexadecimal r);
+    }) value in
+    let size : prefix_len is_hexadecimal (drop 2 text) + 2 ≡ length u =
+    omega (arith, ap (prefix_len is_hexadecimal) rest_is, long) in
+    let reached : reach text ≡ number_reach text =
+    choose_digit (lead text) (prefix_len is_name_byte text) (number_reach text) (string_reach text)
+    (sign_reach text) l in
+    let far : reach text ≡ length u = reached
+    ∙ ap (λ t. cond t (prefix_len is_hexadecimal (drop 2 text) + 2) (prefix_len is_decimal text)) hex
+    ∙ size in
     let q = decimal_range (lead text) l in
-    token_right text u (drop m r) (Int (leading_integer_of text)) (prefix_len is_hexadecimal (drop 2 text) + 2) split size far spelled
-    (no_comment_by text (λ e. omega (arith, e, q.0))) (no_string_by text (λ e. omega (arith, e, q.0))) (hexadecimal_no_float x d more text e o)
+    token_right text u (drop m r) (Int (leading_integer_of text)) (prefix_len is_hexadecimal (drop 2 text) + 2)
+    split size far spelled
+    (no_comment_by text (λ e. omega (arith, e, q.0))) (no_string_by text (λ e. omega (arith, e, q.0)))
+    (hexadecimal_no_float x d more text e o)
   where
     hexadecimal_some : (d : ℕ) (more : List ℕ) → is_hexadecimal d ≡ true → 0 < prefix_len is_hexadecimal (d ∷ more)
     hexadecimal_some d more h = go (is_hexadecimal d) h
@@ -279,44 +334,74 @@ at_seam : (u : List ℕ) (b : ℕ) (rest : List ℕ) → slice_index (u ++ b ∷
 at_seam [] b rest = refl
 at_seam (a ∷ u) b rest = at_seam u b rest
 
-decimal_no_float : (text : List ℕ) → is_decimal (lead text) ≡ true → (slice_index text (prefix_len is_decimal text) ≡ 46 → ⊥) → IsFloat text → ⊥
-decimal_no_float text l h (inr (digit, rest, e, f)) = let r = decimal_range (lead text) l in let same : lead text ≡ 46 = ap lead e in omega (arith, r.0, same)
+decimal_no_float : (text : List ℕ) → is_decimal (lead text) ≡ true
+    → (slice_index text (prefix_len is_decimal text) ≡ 46 → ⊥) → IsFloat text → ⊥
+decimal_no_float text l h (inr (digit, rest, e, f)) = let r = decimal_range (lead text) l in
+    let same : lead text ≡ 46 = ap lead e in omega (arith, r.0, same)
 decimal_no_float text l h (inl (digits, rest, e, f)) =
-    let n : prefix_len is_decimal text ≡ length digits = ap (prefix_len is_decimal) e ∙ prefix_len-exact is_decimal digits (46 ∷ rest) (list_all-from_AllPass is_decimal digits f.each) (point_stops rest) in
+    let n : prefix_len is_decimal text ≡ length digits =
+    ap (prefix_len is_decimal) e ∙ prefix_len-exact is_decimal digits (46 ∷ rest)
+    (list_all-from_AllPass is_decimal digits f.each) (point_stops rest) in
     h (ap (slice_index text) n ∙ ap (λ l. slice_index l (length digits)) e ∙ at_seam digits 46 rest)
 
-decimal_right : (text : List ℕ) → is_decimal (lead text) ≡ true → begins_hexadecimal text ≡ false → (slice_index text (prefix_len is_decimal text) ≡ 46 → ⊥) → Right text (Ok (Some (Int (leading_integer_of text)), prefix_len is_decimal text))
+decimal_right : (text : List ℕ) → is_decimal (lead text) ≡ true → begins_hexadecimal text ≡ false
+    → (slice_index text (prefix_len is_decimal text) ≡ 46 → ⊥)
+    → Right text (Ok (Some (Int (leading_integer_of text)), prefix_len is_decimal text))
 decimal_right text l dec point =
     let n = prefix_len is_decimal text in
     let u = take n text in
     let split : text ≡ u ++ drop n text = sym (take-append-drop n text) in
     let long : length u ≡ n = length-prefix_len is_decimal text in
-    let value : Int (leading_integer_of text) ≡ Int (wrapped (digits_value 10 u)) = ap (λ z. Int z) (unsigned_leads text (some_lead text l) l ∙ decimal_leads text dec) in
+    let value : Int (leading_integer_of text) ≡ Int (wrapped (digits_value 10 u)) =
+    ap (λ z. Int z) (unsigned_leads text (some_lead text l) l ∙ decimal_leads text dec) in
     let spelled : Spells u (Int (leading_integer_of text)) =
-    decimal (record { some = omega (arith, long, digits_some text l); each = AllPass-from_list_all is_decimal u (list_all-prefix is_decimal text) }) value in
-    let reached : reach text ≡ number_reach text = choose_digit (lead text) (prefix_len is_name_byte text) (number_reach text) (string_reach text) (sign_reach text) l in
-    let far : reach text ≡ length u = reached ∙ ap (λ t. cond t (prefix_len is_hexadecimal (drop 2 text) + 2) n) dec ∙ sym long in
+    decimal (record {
+      some = omega (arith, long, digits_some text l);
+      each =
+          AllPass-from_list_all is_decimal u (list_all-prefix is_decimal text);
+    }) value in
+    let reached : reach text ≡ number_reach text =
+    choose_digit (lead text) (prefix_len is_name_byte text) (number_reach text) (string_reach text)
+    (sign_reach text) l in
+    let far : reach text ≡ length u = reached
+    ∙ ap (λ t. cond t (prefix_len is_hexadecimal (drop 2 text) + 2) n) dec ∙ sym long in
     let q = decimal_range (lead text) l in
     token_right text u (drop n text) (Int (leading_integer_of text)) n split (sym long) far spelled
-    (no_comment_by text (λ e. omega (arith, e, q.0))) (no_string_by text (λ e. omega (arith, e, q.0))) (decimal_no_float text l point)
+    (no_comment_by text (λ e. omega (arith, e, q.0))) (no_string_by text (λ e. omega (arith, e, q.0)))
+    (decimal_no_float text l point)
 
-float_right : (text : List ℕ) → is_decimal (lead text) ≡ true → slice_index text (prefix_len is_decimal text) ≡ 46 → IsFloat text
+float_right : (text : List ℕ) → is_decimal (lead text) ≡ true
+    → slice_index text (prefix_len is_decimal text) ≡ 46 → IsFloat text
 float_right text l point =
     let n = prefix_len is_decimal text in
     let u = take n text in
     let long : length u ≡ n = length-prefix_len is_decimal text in
     let here : n < length text = inside (cases_lt n (length text)) in
-    let split : text ≡ u ++ 46 ∷ drop (n + 1) text = sym (take-append-drop n text) ∙ ap (λ l. u ++ l) (drop_more text n 0 here ∙ ap (λ z. z ∷ drop (n + 1) text) point) in
-    inl (u, drop (n + 1) text, split, record { some = omega (arith, long, digits_some text l); each = AllPass-from_list_all is_decimal u (list_all-prefix is_decimal text) })
+    let split : text ≡ u ++ 46 ∷ drop (n + 1) text =
+    sym (take-append-drop n text) ∙ ap (λ l. u ++ l)
+    (drop_more text n 0 here ∙ ap (λ z. z ∷ drop (n + 1) text) point) in
+    inl (
+      u,
+      drop (n + 1) text,
+      split,
+      record {
+        some = omega (arith, long, digits_some text l);
+        each =
+            AllPass-from_list_all is_decimal u (list_all-prefix is_decimal text);
+      },
+    )
   where
-    inside : (prefix_len is_decimal text < length text) ⊎ (length text ≤ prefix_len is_decimal text) → prefix_len is_decimal text < length text
+    inside : (prefix_len is_decimal text < length text) ⊎ (length text ≤ prefix_len is_decimal text)
+        → prefix_len is_decimal text < length text
     inside (inl h) = h
-    inside (inr h) = let past : slice_index text (prefix_len is_decimal text) ≡ 0 = get_or_past text (prefix_len is_decimal text) 0 h in absurd (omega (arith, past, point))
+    inside (inr h) = let past : slice_index text (prefix_len is_decimal text) ≡ 0 =
+        get_or_past text (prefix_len is_decimal text) 0 h in absurd (omega (arith, past, point))
 
 pub number_right : (text : List ℕ) → is_decimal (lead text) ≡ true → Right text (number text)
 unfolding number
 number_right text l =
-    by_cond (Right text) (begins_hexadecimal text) _ _ (λ hex. hexadecimal_right text l hex) (λ dec. by_cond (Right text) (slice_index text (prefix_len is_decimal text) == 46) _ _
+    by_cond (Right text) (begins_hexadecimal text) _ _ (λ hex. hexadecimal_right text l hex)
+    (λ dec. by_cond (Right text) (slice_index text (prefix_len is_decimal text) == 46) _ _
     (λ e. float_right text l (eq_true (slice_index text (prefix_len is_decimal text)) 46 e))
     (λ e. decimal_right text l dec (not_eq (slice_index text (prefix_len is_decimal text)) 46 e)))
 
@@ -345,20 +430,32 @@ string_right text more e = go (quote_of (drop 1 text)) refl
         two (inl g) = let r = decimal_range (lead text) g in omega (arith, r.0, quote)
         two (inr g) = omega (arith, g, quote)
 
-    found : (n : ℕ) → quote_of (drop 1 text) ≡ Some n → Right text (Ok (Some (Str (escapes_read (chars (take n (drop 1 text))))), n + 2))
+    found : (n : ℕ) → quote_of (drop 1 text) ≡ Some n
+        → Right text (Ok (Some (Str (escapes_read (chars (take n (drop 1 text))))), n + 2))
     found n f =
         let (body, rest, e1, e2, h) = quote_some more n (ap quote_of (sym rest_is) ∙ f) in
         let u = 34 ∷ (body ++ 34 ∷ []) in
         let split : text ≡ u ++ rest = e ∙ ap (λ l. 34 ∷ l) (e1 ∙ sym (append_assoc body (34 ∷ []) rest)) in
-        let inner : take n (drop 1 text) ≡ body = ap (take n) (rest_is ∙ e1) ∙ ap (λ k. take k (body ++ 34 ∷ rest)) e2 ∙ take-append_seam body (34 ∷ rest) in
+        let inner : take n (drop 1 text) ≡ body =
+        ap (take n) (rest_is ∙ e1) ∙ ap (λ k. take k (body ++ 34 ∷ rest)) e2
+        ∙ take-append_seam body (34 ∷ rest) in
         let size : n + 2 ≡ length u = omega (arith, e2, length-append body (34 ∷ [])) in
-        let reached : reach text ≡ string_reach text = choose_quote (lead text) (prefix_len is_name_byte text) (number_reach text) (string_reach text) (sign_reach text) (ap lead e) in
-        let far : reach text ≡ length u = reached ∙ ap (λ (o : Option ℕ). elim o as (λ _. ℕ) [ None ↦ 0 | Some n ↦ n + 2 ]) f ∙ size in
-        token_right text u rest (Str (escapes_read (chars (take n (drop 1 text))))) (n + 2) split size far (a_string body refl h (ap (λ l. Str (escapes_read (chars l))) inner))
+        let reached : reach text ≡ string_reach text =
+        choose_quote (lead text) (prefix_len is_name_byte text) (number_reach text) (string_reach text)
+        (sign_reach text) (ap lead e) in
+        let far : reach text ≡ length u =
+        reached ∙ ap (λ (o : Option ℕ). elim o as (λ _. ℕ) [ None ↦ 0 | Some n ↦ n + 2 ]) f ∙ size in
+        token_right text u rest (Str (escapes_read (chars (take n (drop 1 text))))) (n + 2) split size far
+        (a_string body refl h (ap (λ l. Str (escapes_read (chars l))) inner))
         (no_comment_by text (λ g. let q : lead text ≡ 34 = ap lead e in omega (arith, g, q)))
         (λ (more', e', none). none body rest (ap (drop 1) (sym e' ∙ e) ∙ e1) h)
         float
 
-    go : (o : Option ℕ) → quote_of (drop 1 text) ≡ o → Right text (elim o as (λ _. Found) [ None ↦ Err StringEnd | Some n ↦ Ok (Some (Str (escapes_read (chars (take n (drop 1 text))))), n + 2) ])
+    go : (o : Option ℕ) → quote_of (drop 1 text) ≡ o
+        → Right text (elim o as (λ _. Found) [
+          | None ↦ Err StringEnd
+          | Some n ↦ Ok
+              (Some (Str (escapes_read (chars (take n (drop 1 text))))), n + 2)
+        ])
     go None f = (more, e, open_string (ap quote_of (sym rest_is) ∙ f))
     go (Some n) f = found n f

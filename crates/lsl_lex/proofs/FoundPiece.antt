@@ -74,7 +74,8 @@ no_float_by text h point f = go (float_lead text f)
 no_string : (text : List ℕ) → Rest text → IsOpenString text → ⊥
 no_string text h o = not_eq (lead text) 34 h.quote (string_lead text o)
 
-sign_at : (text : List ℕ) (n : ℕ) (s : Sort) → Rest text → Spells (take n text) s → n ≡ length (take n text) → reach text ≡ n → ((lead (take n text) == 46) ≡ false) → Right text (Ok (Some s, n))
+sign_at : (text : List ℕ) (n : ℕ) (s : Sort) → Rest text → Spells (take n text) s → n ≡ length (take n text)
+    → reach text ≡ n → ((lead (take n text) == 46) ≡ false) → Right text (Ok (Some s, n))
 sign_at text n s h spelled size far point =
     let u = take n text in
     let split : text ≡ u ++ drop n text = sym (take-append-drop n text) in
@@ -82,17 +83,21 @@ sign_at text n s h spelled size far point =
     token_right text u (drop n text) s n split size (far ∙ size) spelled (no_comment text h) (no_string text h)
     (no_float_by text h (λ e. not_eq (lead u) 46 point (sym first ∙ e)))
 
-pair_right : (text : List ℕ) (s : Sort) → Rest text → row_of pair_signs (take 2 text) ≡ Some s → Right text (Ok (Some s, 2))
+pair_right : (text : List ℕ) (s : Sort) → Rest text → row_of pair_signs (take 2 text) ≡ Some s
+    → Right text (Ok (Some s, 2))
 pair_right text s h e =
-    let row : Contains pair_signs (take 2 text, s) = contains_from_row pair_signs (take 2 text) s (row_from_row_of pair_signs (take 2 text) s e) in
+    let row : Contains pair_signs (take 2 text, s) =
+    contains_from_row pair_signs (take 2 text) s (row_from_row_of pair_signs (take 2 text) s e) in
     let passes = pair_passes (take 2 text) s row in
     sign_at text 2 s h (a_pair_sign row) (sym passes.0)
     (sign_reached text h ∙ ap (λ (o : Option Sort). elim o as (λ _. ℕ) [ None ↦ 1 | Some pair ↦ 2 ]) e)
     (sign_parts (lead (take 2 text)) passes.1).point
 
-single_right : (text : List ℕ) (s : Sort) → Rest text → row_of pair_signs (take 2 text) ≡ None → row_of single_signs (take 1 text) ≡ Some s → Right text (Ok (Some s, 1))
+single_right : (text : List ℕ) (s : Sort) → Rest text → row_of pair_signs (take 2 text) ≡ None
+    → row_of single_signs (take 1 text) ≡ Some s → Right text (Ok (Some s, 1))
 single_right text s h none e =
-    let row : Contains single_signs (take 1 text, s) = contains_from_row single_signs (take 1 text) s (row_from_row_of single_signs (take 1 text) s e) in
+    let row : Contains single_signs (take 1 text, s) =
+    contains_from_row single_signs (take 1 text) s (row_from_row_of single_signs (take 1 text) s e) in
     let passes = single_passes (take 1 text) s row in
     sign_at text 1 s h (a_single_sign row) (sym passes.0)
     (sign_reached text h ∙ ap (λ (o : Option Sort). elim o as (λ _. ℕ) [ None ↦ 1 | Some pair ↦ 2 ]) none)
@@ -106,7 +111,9 @@ take_part text u rest n e f = ap (λ k. take k text) (sym f) ∙ ap (take (lengt
 clash : (t : Bool) → t ≡ true → t ≡ false → ⊥
 clash t e f = let both = sym e ∙ f in cc
 
-no_token : (text : List ℕ) → Rest text → row_of pair_signs (take 2 text) ≡ None → row_of single_signs (take 1 text) ≡ None → (u rest : List ℕ) (s : Sort) → text ≡ u ++ rest → Spells u s → ⊥
+no_token : (text : List ℕ) → Rest text → row_of pair_signs (take 2 text) ≡ None
+    → row_of single_signs (take 1 text) ≡ None → (u rest : List ℕ) (s : Sort) → text ≡ u ++ rest → Spells u s
+    → ⊥
 no_token text h pairs singles u rest s e spelled = go spelled
   where
     first : lead u ≡ lead text
@@ -116,14 +123,18 @@ no_token text h pairs singles u rest s e spelled = go spelled
     go (a_name id none f) = clash (is_letter (lead text)) (ap is_letter (sym first) ∙ id.first) h.letter
     go (a_word row) = clash (is_letter (lead text)) (ap is_letter (sym first) ∙ (word_passes u s row).0) h.letter
     go (decimal d f) = clash (is_decimal (lead text)) (ap is_decimal (sym first) ∙ digits_lead u d) h.digit
-    go (hexadecimal x digits f o d g) = clash (is_decimal (lead text)) (ap is_decimal (sym first) ∙ ap (λ l. is_decimal (lead l)) f) h.digit
+    go (hexadecimal x digits f o d g) = clash (is_decimal (lead text))
+        (ap is_decimal (sym first) ∙ ap (λ l. is_decimal (lead l)) f) h.digit
     go (a_string body f g i) = not_eq (lead text) 34 h.quote (sym first ∙ ap lead f)
     go (a_pair_sign row) =
-        let found : row_of pair_signs (take 2 text) ≡ Some s = ap (row_of pair_signs) (take_part text u rest 2 e (pair_passes u s row).0) ∙ pair_found u s row in
+        let found : row_of pair_signs (take 2 text) ≡ Some s =
+        ap (row_of pair_signs) (take_part text u rest 2 e (pair_passes u s row).0) ∙ pair_found u s row in
         let both = sym pairs ∙ found in
         cc
     go (a_single_sign row) =
-        let found : row_of single_signs (take 1 text) ≡ Some s = ap (row_of single_signs) (take_part text u rest 1 e (single_passes u s row).0) ∙ single_found u s row in
+        let found : row_of single_signs (take 1 text) ≡ Some s =
+        ap (row_of single_signs) (take_part text u rest 1 e (single_passes u s row).0)
+        ∙ single_found u s row in
         let both = sym singles ∙ found in
         cc
 
@@ -143,20 +154,25 @@ no_point text h none (inl f) = go (float_lead text (inl f))
     digits_no_point : (lead text ≡ 46) → ⊥
     digits_no_point g =
         let (digits, rest, e, d) = f in
-        let first : is_decimal (lead text) ≡ true = ap (λ l. is_decimal (lead l)) e ∙ ap is_decimal (lead-append digits (46 ∷ rest) d.some) ∙ digits_lead digits d in
+        let first : is_decimal (lead text) ≡ true =
+        ap (λ l. is_decimal (lead l)) e ∙ ap is_decimal (lead-append digits (46 ∷ rest) d.some)
+        ∙ digits_lead digits d in
         clash (is_decimal (lead text)) first h.digit
 
     go : (is_decimal (lead text) ≡ true) ⊎ (lead text ≡ 46) → ⊥
     go (inl g) = clash (is_decimal (lead text)) g h.digit
     go (inr g) = digits_no_point g
 no_point text h none (inr (digit, rest, e, f)) =
-    clash (lead text == 46 && is_decimal (second text)) (point_true (lead text) (is_decimal (second text)) (ap lead e) (ap (λ l. is_decimal (second l)) e ∙ f)) none
+    clash (lead text == 46 && is_decimal (second text))
+    (point_true (lead text) (is_decimal (second text)) (ap lead e) (ap (λ l. is_decimal (second l)) e ∙ f))
+    none
 
 first_byte : (text : List ℕ) → Rest text → (b : ℕ) × (rest : List ℕ) × (text ≡ b ∷ rest) × (is_blank b ≡ false)
 first_byte [] h = absurd (let some = h.some in omega arith)
 first_byte (b ∷ rest) h = (b, rest, refl, h.blank)
 
-stray_right : (text : List ℕ) → Rest text → row_of pair_signs (take 2 text) ≡ None → row_of single_signs (take 1 text) ≡ None → Right text (stray text)
+stray_right : (text : List ℕ) → Rest text → row_of pair_signs (take 2 text) ≡ None
+    → row_of single_signs (take 1 text) ≡ None → Right text (stray text)
 stray_right text h pairs singles =
     by_cond (Right text) (lead text == 46 && is_decimal (second text)) (Err FloatLiteral) (Err StrayCharacter)
     (point_float text)
@@ -172,17 +188,24 @@ sign_right : (text : List ℕ) → Rest text → Right text (sign text)
 unfolding sign
 sign_right text h = pairs (row_of pair_signs (take 2 text)) refl
   where
-    singles : row_of pair_signs (take 2 text) ≡ None → (o : Option Sort) → row_of single_signs (take 1 text) ≡ o → Right text (elim o as (λ _. Found) [ Some single ↦ Ok (Some single, 1) | None ↦ stray text ])
+    singles : row_of pair_signs (take 2 text) ≡ None → (o : Option Sort) → row_of single_signs (take 1 text) ≡ o
+        → Right text (elim o as (λ _. Found) [ Some single ↦ Ok (Some single, 1) | None ↦ stray text ])
     singles none (Some s) e = single_right text s h none e
     singles none None e = stray_right text h none e
 
-    pairs : (o : Option Sort) → row_of pair_signs (take 2 text) ≡ o → Right text (elim o as (λ _. Found) [ Some pair ↦ Ok (Some pair, 2) | None ↦ elim (row_of single_signs (take 1 text)) [ Some single ↦ Ok (Some single, 1) | None ↦ stray text ] ])
+    pairs : (o : Option Sort) → row_of pair_signs (take 2 text) ≡ o
+        → Right text (elim o as (λ _. Found) [
+          | Some pair ↦ Ok (Some pair, 2)
+          | None ↦ elim (row_of single_signs (take 1 text))
+              [ Some single ↦ Ok (Some single, 1) | None ↦ stray text ]
+        ])
     pairs (Some s) e = pair_right text s h e
     pairs None e = singles e (row_of single_signs (take 1 text)) refl
 
 -- ---- any piece
 
-opened : (text : List ℕ) (c : ℕ) → 0 < c → (lead text == 47 && second text == c) ≡ true → (more : List ℕ) × (text ≡ 47 ∷ c ∷ more)
+opened : (text : List ℕ) (c : ℕ) → 0 < c → (lead text == 47 && second text == c) ≡ true → (more : List ℕ)
+    × (text ≡ 47 ∷ c ∷ more)
 opened [] c some e = absurd (cc)
 opened (a ∷ []) c some e = absurd (let zero = eq_true 0 c (and_both (a == 47) (0 == c) e).1 in omega (arith, zero))
 opened (a ∷ b ∷ more) c some e =
@@ -211,4 +234,13 @@ piece_right text some =
     (λ line. by_cond (Right text) (is_letter (lead text)) _ _ (name_right text)
     (λ letter. by_cond (Right text) (is_decimal (lead text)) _ _ (number_right text)
     (λ digit. by_cond (Right text) (lead text == 34) _ _ (string_at text some)
-    (λ quote. sign_right text (record { some = some; blank = blank; block = block; line = line; letter = letter; digit = digit; quote = quote })))))))
+    (λ quote. sign_right text (record {
+      some = some;
+      blank = blank;
+      block = block;
+      line = line;
+      letter =
+          letter;
+      digit = digit;
+      quote = quote;
+    })))))))

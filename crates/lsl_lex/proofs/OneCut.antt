@@ -24,22 +24,27 @@ use Rattle.lsl_lex.proofs.Unique.{same_front, same_rest, string_lead, comment_op
 
 no_hexadecimal : (digits rest : List ℕ) → IsDigits is_decimal digits → begins_hexadecimal (digits ++ 46 ∷ rest) ≡ false
 no_hexadecimal [] rest d = absurd (let some = d.some in omega arith)
-no_hexadecimal (a ∷ []) rest d = false_by (begins_hexadecimal (a ∷ 46 ∷ rest)) (λ e. go (hexadecimal_parts (a ∷ 46 ∷ rest) e))
+no_hexadecimal (a ∷ []) rest d = false_by (begins_hexadecimal (a ∷ 46 ∷ rest))
+    (λ e. go (hexadecimal_parts (a ∷ 46 ∷ rest) e))
   where
     go : Hexadecimal (a ∷ 46 ∷ rest) → ⊥
     go (x, c, more, e, inl f, h) = let s : 46 ≡ x = ap (λ l. head (drop 1 l)) e in omega (arith, s, f)
     go (x, c, more, e, inr f, h) = let s : 46 ≡ x = ap (λ l. head (drop 1 l)) e in omega (arith, s, f)
 no_hexadecimal (a ∷ b ∷ digits) rest d =
-    let all = and_both (is_decimal a) (list_all is_decimal (b ∷ digits)) (list_all-from_AllPass is_decimal (a ∷ b ∷ digits) d.each) in
+    let all = and_both (is_decimal a) (list_all is_decimal (b ∷ digits))
+    (list_all-from_AllPass is_decimal (a ∷ b ∷ digits) d.each) in
     second_digit a b (digits ++ 46 ∷ rest) (and_both (is_decimal b) (list_all is_decimal digits) all.1).0
 
 decimal_reached : (digits rest : List ℕ) → IsDigits is_decimal digits → reach (digits ++ 46 ∷ rest) ≡ length digits
 decimal_reached digits rest d =
     let text = digits ++ 46 ∷ rest in
-    let first : is_decimal (lead text) ≡ true = ap is_decimal (lead-append digits (46 ∷ rest) d.some) ∙ digits_lead digits d in
+    let first : is_decimal (lead text) ≡ true =
+    ap is_decimal (lead-append digits (46 ∷ rest) d.some) ∙ digits_lead digits d in
     let stops : Stops is_decimal (46 ∷ rest) = inr (46, rest, refl, refl) in
-    choose_digit (lead text) (prefix_len is_name_byte text) (number_reach text) (string_reach text) (sign_reach text) first
-    ∙ ap (λ t. cond t (prefix_len is_hexadecimal (drop 2 text) + 2) (prefix_len is_decimal text)) (no_hexadecimal digits rest d)
+    choose_digit (lead text) (prefix_len is_name_byte text) (number_reach text) (string_reach text)
+    (sign_reach text) first
+    ∙ ap (λ t. cond t (prefix_len is_hexadecimal (drop 2 text) + 2) (prefix_len is_decimal text))
+    (no_hexadecimal digits rest d)
     ∙ prefix_len-exact is_decimal digits (46 ∷ rest) (list_all-from_AllPass is_decimal digits d.each) stops
 
 -- ---- where a piece stands
@@ -58,7 +63,8 @@ no_point text p a g h e = go g h.kind
     begun (with_sign s) f = let no : is_sign_byte (lead p) ≡ false = ap is_sign_byte f in let both = sym s ∙ no in cc
 
     go : (g : Option Sort) → Gives text g p a → ⊥
-    go None (inl (b, f, blank)) = let r = blank_range b blank in let q : b ≡ 46 = ap lead (sym f) ∙ first (omega (arith, ap length f)) in omega (arith, r.1, q)
+    go None (inl (b, f, blank)) = let r = blank_range b blank in let q : b ≡ 46 =
+        ap lead (sym f) ∙ first (omega (arith, ap length f)) in omega (arith, r.1, q)
     go None (inr (inl c)) = omega (arith, e, opens_lead text (block_opens text p a h.split c))
     go None (inr (inr c)) = omega (arith, e, opens_lead text (line_opens text p a h.split c))
     go (Some s) t = begun (begins p s t.spells) (first (not_empty p s t.spells))
@@ -68,7 +74,8 @@ no_open_string : (text p a : List ℕ) (g : Option Sort) → IsPiece text g p a 
 no_open_string text p a None h f = nothing h.kind
   where
     nothing : Gives text None p a → ⊥
-    nothing (inl b) = let r = blank_range (lead text) (blank_lead text p a h.split b) in omega (arith, r.1, string_lead text f)
+    nothing (inl b) = let r = blank_range (lead text) (blank_lead text p a h.split b) in
+        omega (arith, r.1, string_lead text f)
     nothing (inr (inl c)) = no_string_comment text f (block_opens text p a h.split c)
     nothing (inr (inr c)) = no_string_comment text f (line_opens text p a h.split c)
 no_open_string text p a (Some s) h (more, e, none) = go (begins p s h.kind.spells) h.kind.spells
@@ -101,7 +108,8 @@ no_open_comment text p a None h (more, e, none) = nothing h.kind
     nothing : Gives text None p a → ⊥
     nothing (inl b) = no_blank_comment text (blank_lead text p a h.split b) (42, more, e, inl refl)
     nothing (inr (inl (body, f, i))) = none body a (ap (drop 2) (sym e ∙ block_text text p a body h.split f))
-    nothing (inr (inr (body, f, i, s))) = let same = second_same text more (body ++ a) 42 47 e (line_text text p a body h.split f) in omega (arith, same)
+    nothing (inr (inr (body, f, i, s))) = let same =
+        second_same text more (body ++ a) 42 47 e (line_text text p a body h.split f) in omega (arith, same)
 
 no_stray : (text p a : List ℕ) (g : Option Sort) → IsPiece text g p a → IsStray text → ⊥
 no_stray text p a (Some s) h f = f.no_token p a s h.split h.kind.spells
@@ -117,14 +125,17 @@ no_stray text p a None h f = nothing h.kind
     nothing (inr (inr c)) = f.no_comment (line_opens text p a h.split c)
 
 -- the digits of a number with a point are the longest token there
-float_piece : (text p a digits rest : List ℕ) (g : Option Sort) → IsPiece text g p a → text ≡ digits ++ 46 ∷ rest → IsDigits is_decimal digits → a ≡ 46 ∷ rest
+float_piece : (text p a digits rest : List ℕ) (g : Option Sort) → IsPiece text g p a
+    → text ≡ digits ++ 46 ∷ rest → IsDigits is_decimal digits → a ≡ 46 ∷ rest
 float_piece text p a digits rest g h e d = go g h.kind
   where
     digit : is_decimal (lead text) ≡ true
-    digit = ap (λ l. is_decimal (lead l)) e ∙ ap is_decimal (lead-append digits (46 ∷ rest) d.some) ∙ digits_lead digits d
+    digit = ap (λ l. is_decimal (lead l)) e ∙ ap is_decimal (lead-append digits (46 ∷ rest) d.some)
+        ∙ digits_lead digits d
 
     blank : IsBlank p → ⊥
-    blank b = let r = decimal_range (lead text) digit in let q = blank_range (lead text) (blank_lead text p a h.split b) in omega (arith, r.0, q.1)
+    blank b = let r = decimal_range (lead text) digit in let q =
+        blank_range (lead text) (blank_lead text p a h.split b) in omega (arith, r.0, q.1)
 
     comment : OpensComment text → ⊥
     comment o = let r = decimal_range (lead text) digit in omega (arith, r.0, opens_lead text o)
@@ -134,7 +145,8 @@ float_piece text p a digits rest g h e d = go g h.kind
         let long = t.longest digits (46 ∷ rest) (Int (wrapped (digits_value 10 digits))) e (decimal d refl) in
         let short = within_reach p a s t.spells in
         let reached : reach (p ++ a) ≡ length digits = ap reach (sym h.split ∙ e) ∙ decimal_reached digits rest d in
-        let same : p ≡ digits = same_front text p a digits (46 ∷ rest) h.split e (omega (arith, long, short, reached)) in
+        let same : p ≡ digits = same_front text p a digits (46 ∷ rest) h.split e
+        (omega (arith, long, short, reached)) in
         same_rest text digits a (46 ∷ rest) (h.split ∙ ap (λ l. l ++ a) same) e
 
     go : (g : Option Sort) → Gives text g p a → a ≡ 46 ∷ rest
@@ -145,7 +157,8 @@ float_piece text p a digits rest g h e d = go g h.kind
 
 -- ---- the one cut
 
-pub same_cut : (n : ℕ) (front text : List ℕ) (ts us : List Token) (d x r s : List ℕ) → Cuts n front text ts d r → Cuts n front text us x s → (ts ≡ us) × (d ≡ x) × (r ≡ s)
+pub same_cut : (n : ℕ) (front text : List ℕ) (ts us : List Token) (d x r s : List ℕ) → Cuts n front text ts d r
+    → Cuts n front text us x s → (ts ≡ us) × (d ≡ x) × (r ≡ s)
 same_cut zero front text ts us d x r s (e1, e2, e3) (f1, f2, f3) = (e1 ∙ sym f1, e2 ∙ sym f2, e3 ∙ sym f3)
 same_cut (suc n) front text ts us d x r s (g, p, a, more, h, f, c) (g', p', a', more', h', f', c') =
     let (same_g, same_p, same_a) = same_piece text p a p' a' g g' h h' in
@@ -154,17 +167,22 @@ same_cut (suc n) front text ts us d x r s (g, p, a, more, h, f, c) (g', p', a', 
     let moved = subst Q (sym same_a) (subst P (sym same_p) c') in
     let (same_ts, same_d, same_r) = same_cut n (front ++ p) a more more' d x r s c moved in
     let tokens : token_of g (span_of front p) ++ more ≡ token_of g' (span_of front p') ++ more' =
-    ap (λ z. token_of z (span_of front p) ++ more) same_g ∙ ap (λ z. token_of g' (span_of front z) ++ more) same_p ∙ ap (λ z. token_of g' (span_of front p') ++ z) same_ts in
+    ap (λ z. token_of z (span_of front p) ++ more) same_g
+    ∙ ap (λ z. token_of g' (span_of front z) ++ more) same_p
+    ∙ ap (λ z. token_of g' (span_of front p') ++ z) same_ts in
     (f ∙ tokens ∙ sym f', same_d, same_r)
 
 nothing_left : (text p a : List ℕ) (g : Option Sort) → IsPiece text g p a → text ≡ [] → ⊥
 nothing_left text p a g h e = let some = piece_some text p a g h in omega (arith, some, ap length e)
 
 -- two cuts to the end have the same pieces
-pub same_count : (n m : ℕ) (front text : List ℕ) (ts us : List Token) (d x : List ℕ) → Cuts n front text ts d [] → Cuts m front text us x [] → n ≡ m
+pub same_count : (n m : ℕ) (front text : List ℕ) (ts us : List Token) (d x : List ℕ) → Cuts n front text ts d []
+    → Cuts m front text us x [] → n ≡ m
 same_count zero zero front text ts us d x c e = refl
-same_count zero (suc m) front text ts us d x (e1, e2, e3) (g, p, a, more, h, f, c) = absurd (nothing_left text p a g h (sym e3))
-same_count (suc n) zero front text ts us d x (g, p, a, more, h, f, c) (e1, e2, e3) = absurd (nothing_left text p a g h (sym e3))
+same_count zero (suc m) front text ts us d x (e1, e2, e3) (g, p, a, more, h, f, c) =
+    absurd (nothing_left text p a g h (sym e3))
+same_count (suc n) zero front text ts us d x (g, p, a, more, h, f, c) (e1, e2, e3) =
+    absurd (nothing_left text p a g h (sym e3))
 same_count (suc n) (suc m) front text ts us d x (g, p, a, more, h, f, c) (g', p', a', more', h', f', c') =
     let (same_g, same_p, same_a) = same_piece text p a p' a' g g' h h' in
     let P : List ℕ → Type 0 = λ l. Cuts m (front ++ l) a' more' x [] in
@@ -172,7 +190,8 @@ same_count (suc n) (suc m) front text ts us d x (g, p, a, more, h, f, c) (g', p'
     ap suc (same_count n m (front ++ p) a more more' d x c (subst Q (sym same_a) (subst P (sym same_p) c')))
 
 -- a text that is cut to its end has no fault at its front
-no_front_case : (n : ℕ) (front text : List ℕ) (ts : List Token) (d : List ℕ) (k : LexKind) → Cuts n front text ts d [] → Case text k → ⊥
+no_front_case : (n : ℕ) (front text : List ℕ) (ts : List Token) (d : List ℕ) (k : LexKind)
+    → Cuts n front text ts d [] → Case text k → ⊥
 no_front_case zero front text ts d k (e1, e2, e3) h = let some = case_some text k h in omega (arith, some, ap length e3)
 no_front_case (suc n) front text ts d k (g, p, a, more, h, f, c) case = go k case
   where
@@ -193,11 +212,13 @@ no_front_case (suc n) front text ts d k (g, p, a, more, h, f, c) case = go k cas
     go StrayCharacter x = no_stray text p a g h x
 
 -- nor anywhere else
-pub no_case_inside : (n m : ℕ) (front text : List ℕ) (ts us : List Token) (d x r : List ℕ) (k : LexKind) → Cuts n front text ts d [] → Cuts m front text us x r → Case r k → ⊥
+pub no_case_inside : (n m : ℕ) (front text : List ℕ) (ts us : List Token) (d x r : List ℕ) (k : LexKind)
+    → Cuts n front text ts d [] → Cuts m front text us x r → Case r k → ⊥
 no_case_inside n zero front text ts us d x r k c (e1, e2, e3) h =
     let P : List ℕ → Type 0 = λ l. Case l k in
     no_front_case n front text ts d k c (subst P e3 h)
-no_case_inside zero (suc m) front text ts us d x r k (e1, e2, e3) (g, p, a, more, h, f, c) case = nothing_left text p a g h (sym e3)
+no_case_inside zero (suc m) front text ts us d x r k (e1, e2, e3) (g, p, a, more, h, f, c) case =
+    nothing_left text p a g h (sym e3)
 no_case_inside (suc n) (suc m) front text ts us d x r k (g, p, a, more, h, f, c) (g', p', a', more', h', f', c') case =
     let (same_g, same_p, same_a) = same_piece text p a p' a' g g' h h' in
     let P : List ℕ → Type 0 = λ l. Cuts m (front ++ l) a' more' x r in

@@ -33,7 +33,8 @@ pub row_from_row_of : (rows : List Row) (u : List ℕ) (s : Sort) → row_of row
 row_from_row_of [] u s e = absurd (cc)
 row_from_row_of (row ∷ rows) u s e = go (bytes_eq u row.0) refl e (row_from_row_of rows u s)
   where
-    go : (t : Bool) → bytes_eq u row.0 ≡ t → cond t (Some row.1) (row_of rows u) ≡ Some s → (row_of rows u ≡ Some s → IsRow rows u s) → IsRow (row ∷ rows) u s
+    go : (t : Bool) → bytes_eq u row.0 ≡ t → cond t (Some row.1) (row_of rows u) ≡ Some s
+        → (row_of rows u ≡ Some s → IsRow rows u s) → IsRow (row ∷ rows) u s
     go true b e ih = inl (sym ((bytes_decides u row.0).0 b), some_same row.1 s e)
     go false b e ih = inr (ih e)
 
@@ -54,17 +55,21 @@ and_right : (a b : Bool) → (a && b) ≡ true → b ≡ true
 and_right true b e = e
 and_right false b e = absurd (cc)
 
-pub row_of-row : (rows : List Row) (u : List ℕ) (s : Sort) → distinct rows ≡ true → IsRow rows u s → row_of rows u ≡ Some s
+pub row_of-row : (rows : List Row) (u : List ℕ) (s : Sort) → distinct rows ≡ true → IsRow rows u s
+    → row_of rows u ≡ Some s
 row_of-row [] u s d h = absurd h
 row_of-row (row ∷ rows) u s d (inl (e, f)) =
     ap (λ t. cond t (Some row.1) (row_of rows u)) ((bytes_decides u row.0).1 (sym e)) ∙ ap (λ x. Some x) f
-row_of-row (row ∷ rows) u s d (inr h) = go (bytes_eq u row.0) refl (row_of-row rows u s (and_right (is_missing (row_of rows row.0)) (distinct rows) d) h)
+row_of-row (row ∷ rows) u s d (inr h) = go (bytes_eq u row.0) refl
+    (row_of-row rows u s (and_right (is_missing (row_of rows row.0)) (distinct rows) d) h)
   where
     go : (t : Bool) → bytes_eq u row.0 ≡ t → row_of rows u ≡ Some s → cond t (Some row.1) (row_of rows u) ≡ Some s
     go true b ih =
         let same : u ≡ row.0 = (bytes_decides u row.0).0 b in
-        let missing : is_missing (row_of rows row.0) ≡ true = and_left (is_missing (row_of rows row.0)) (distinct rows) d in
-        let found : is_missing (row_of rows row.0) ≡ false = ap (λ v. is_missing (row_of rows v)) (sym same) ∙ ap is_missing ih in
+        let missing : is_missing (row_of rows row.0) ≡ true =
+        and_left (is_missing (row_of rows row.0)) (distinct rows) d in
+        let found : is_missing (row_of rows row.0) ≡ false =
+        ap (λ v. is_missing (row_of rows v)) (sym same) ∙ ap is_missing ih in
         absurd (let both = sym missing ∙ found in cc)
     go false b ih = ih
 
@@ -73,7 +78,8 @@ abbrev pub all_keys : (List ℕ → Bool) → List Row → Bool
 all_keys p [] = true
 all_keys p (row ∷ rows) = p row.0 && all_keys p rows
 
-pub key_passes : (p : List ℕ → Bool) (rows : List Row) (u : List ℕ) (s : Sort) → all_keys p rows ≡ true → IsRow rows u s → p u ≡ true
+pub key_passes : (p : List ℕ → Bool) (rows : List Row) (u : List ℕ) (s : Sort) → all_keys p rows ≡ true
+    → IsRow rows u s → p u ≡ true
 key_passes p [] u s all h = absurd h
 key_passes p (row ∷ rows) u s all (inl (e, f)) = ap p (sym e) ∙ and_left (p row.0) (all_keys p rows) all
 key_passes p (row ∷ rows) u s all (inr h) = key_passes p rows u s (and_right (p row.0) (all_keys p rows) all) h

@@ -15,9 +15,11 @@ and_both false b e = absurd (cc)
 
 pub prefix_len-most : (p : ℕ → Bool) (v w : List ℕ) → list_all p v ≡ true → length v ≤ prefix_len p (v ++ w)
 prefix_len-most p [] w h = omega arith
-prefix_len-most p (b ∷ v) w h = go (p b) (and_both (p b) (list_all p v) h).0 (prefix_len-most p v w (and_both (p b) (list_all p v) h).1)
+prefix_len-most p (b ∷ v) w h = go (p b) (and_both (p b) (list_all p v) h).0
+    (prefix_len-most p v w (and_both (p b) (list_all p v) h).1)
   where
-    go : (t : Bool) → t ≡ true → length v ≤ prefix_len p (v ++ w) → suc (length v) ≤ cond t (1 + prefix_len p (v ++ w)) 0
+    go : (t : Bool) → t ≡ true → length v ≤ prefix_len p (v ++ w)
+        → suc (length v) ≤ cond t (1 + prefix_len p (v ++ w)) 0
     go true e ih = omega arith
     go false e ih = absurd (cc)
 
@@ -25,7 +27,8 @@ pub list_all-prefix : (p : ℕ → Bool) (l : List ℕ) → list_all p (take (pr
 list_all-prefix p [] = refl
 list_all-prefix p (b ∷ l) = go (p b) refl (list_all-prefix p l)
   where
-    go : (t : Bool) → p b ≡ t → list_all p (take (prefix_len p l) l) ≡ true → list_all p (take (cond t (1 + prefix_len p l) 0) (b ∷ l)) ≡ true
+    go : (t : Bool) → p b ≡ t → list_all p (take (prefix_len p l) l) ≡ true
+        → list_all p (take (cond t (1 + prefix_len p l) 0) (b ∷ l)) ≡ true
     go true e ih =
         let one : 1 + prefix_len p l ≡ suc (prefix_len p l) = omega arith in
         ap (λ n. list_all p (take n (b ∷ l))) one ∙ ap (λ t. t && list_all p (take (prefix_len p l) l)) e ∙ ih
@@ -39,11 +42,14 @@ pub prefix_len-stops : (p : ℕ → Bool) (l : List ℕ) → Stops p (drop (pref
 prefix_len-stops p [] = inl refl
 prefix_len-stops p (b ∷ l) = go (p b) refl (prefix_len-stops p l)
   where
-    go : (t : Bool) → p b ≡ t → Stops p (drop (prefix_len p l) l) → Stops p (drop (cond t (1 + prefix_len p l) 0) (b ∷ l))
-    go true e ih = let one : 1 + prefix_len p l ≡ suc (prefix_len p l) = omega arith in let Q : ℕ → Type 0 = λ n. Stops p (drop n (b ∷ l)) in rw one ih
+    go : (t : Bool) → p b ≡ t → Stops p (drop (prefix_len p l) l)
+        → Stops p (drop (cond t (1 + prefix_len p l) 0) (b ∷ l))
+    go true e ih = let one : 1 + prefix_len p l ≡ suc (prefix_len p l) = omega arith in let Q : ℕ → Type 0 =
+        λ n. Stops p (drop n (b ∷ l)) in rw one ih
     go false e ih = inr (b, l, refl, e)
 
-pub prefix_len-exact : (p : ℕ → Bool) (v w : List ℕ) → list_all p v ≡ true → Stops p w → prefix_len p (v ++ w) ≡ length v
+pub prefix_len-exact : (p : ℕ → Bool) (v w : List ℕ) → list_all p v ≡ true → Stops p w
+    → prefix_len p (v ++ w) ≡ length v
 prefix_len-exact p [] w h (inl e) = ap (prefix_len p) e
 prefix_len-exact p [] w h (inr (b, more, e, f)) = ap (prefix_len p) e ∙ ap (λ t. cond t (1 + prefix_len p more) 0) f
 prefix_len-exact p (b ∷ v) w h s =
@@ -76,12 +82,14 @@ first_same : (body rest bs q : List ℕ) (c : ℕ) → c ∷ bs ≡ body ++ 42 �
 first_same [] rest bs q c e f = let h : 42 ≡ 47 = ap head f in absurd (omega (arith, h))
 first_same (x ∷ body) rest bs q c e f = ap head e ∙ ap head f
 
-no_later : (b c : ℕ) (bs body rest : List ℕ) → ends b c ≡ false → c ∷ bs ≡ body ++ 42 ∷ 47 ∷ rest → NoClose (body ++ 42 ∷ []) → NoClose (b ∷ body ++ 42 ∷ [])
+no_later : (b c : ℕ) (bs body rest : List ℕ) → ends b c ≡ false → c ∷ bs ≡ body ++ 42 ∷ 47 ∷ rest
+    → NoClose (body ++ 42 ∷ []) → NoClose (b ∷ body ++ 42 ∷ [])
 no_later b c bs body rest t e none [] q f = not_ends b c t (ap head f) (first_same body rest bs q c e (ap (drop 1) f))
 no_later b c bs body rest t e none (x ∷ p) q f = none p q (ap (drop 1) f)
 
 abbrev pub Closed : List ℕ → ℕ → Type 0
-Closed l n = (body : List ℕ) × (rest : List ℕ) × (l ≡ body ++ 42 ∷ 47 ∷ rest) × (n ≡ length body + 2) × NoClose (body ++ 42 ∷ [])
+Closed l n = (body : List ℕ) × (rest : List ℕ) × (l ≡ body ++ 42 ∷ 47 ∷ rest) × (n ≡ length body + 2)
+    × NoClose (body ++ 42 ∷ [])
 
 -- where the end of a comment is found, it is the first
 pub close_some : (l : List ℕ) (n : ℕ) → close_of l ≡ Some n → Closed l n
@@ -89,7 +97,8 @@ close_some [] n e = absurd (cc)
 close_some (b ∷ []) n e = absurd (cc)
 close_some (b ∷ c ∷ bs) n e = go (ends b c) refl (close_some (c ∷ bs))
   where
-    on : ends b c ≡ false → (o : Option ℕ) → close_of (c ∷ bs) ≡ o → counted 1 o ≡ Some n → ((m : ℕ) → close_of (c ∷ bs) ≡ Some m → Closed (c ∷ bs) m) → Closed (b ∷ c ∷ bs) n
+    on : ends b c ≡ false → (o : Option ℕ) → close_of (c ∷ bs) ≡ o → counted 1 o ≡ Some n
+        → ((m : ℕ) → close_of (c ∷ bs) ≡ Some m → Closed (c ∷ bs) m) → Closed (b ∷ c ∷ bs) n
     on t None f g ih = absurd (cc)
     on t (Some m) f g ih =
         let (body, rest, e1, e2, none) = ih m f in
@@ -100,8 +109,14 @@ close_some (b ∷ c ∷ bs) n e = go (ends b c) refl (close_some (c ∷ bs))
     go true t ih =
         let two : ◌≡◌ {A = Option ℕ} (Some 2) (Some n) = sym (close_here b c bs t) ∙ e in
         let same : 2 ≡ n = cc in
-        let parts = and_both (b == 42) (c == 47) t in
-        ([], bs, ap (λ z. z ∷ c ∷ bs) (eqb-true b 42 parts.0) ∙ ap (λ z. 42 ∷ z ∷ bs) (eqb-true c 47 parts.1), omega (arith, same), alone)
+        let parts = and_both (b == 42) (c == 47) t in (
+          [],
+          bs,
+          ap (λ z. z ∷ c ∷ bs) (eqb-true b 42 parts.0)
+              ∙ ap (λ z. 42 ∷ z ∷ bs) (eqb-true c 47 parts.1),
+          omega (arith, same),
+          alone,
+        )
       where
         alone : NoClose (42 ∷ [])
         alone [] q f = cc
@@ -121,23 +136,30 @@ close_none (b ∷ c ∷ bs) e p q f = go (ends b c) refl p f (close_none (c ∷ 
     none_of None g = refl
     none_of (Some n) g = absurd (cc)
 
-    go : (t : Bool) → ends b c ≡ t → (p : List ℕ) → b ∷ c ∷ bs ≡ p ++ 42 ∷ 47 ∷ q → (close_of (c ∷ bs) ≡ None → NoClose (c ∷ bs)) → ⊥
+    go : (t : Bool) → ends b c ≡ t → (p : List ℕ) → b ∷ c ∷ bs ≡ p ++ 42 ∷ 47 ∷ q
+        → (close_of (c ∷ bs) ≡ None → NoClose (c ∷ bs)) → ⊥
     go true t p f ih = let two : ◌≡◌ {A = Option ℕ} (Some 2) None = sym (close_here b c bs t) ∙ e in cc
     go false t [] f ih = not_ends b c t (ap head f) (ap (λ l. head (drop 1 l)) f)
     go false t (x ∷ p) f ih = ih (none_of (close_of (c ∷ bs)) (sym (close_skip b c bs t) ∙ e)) p q (ap (drop 1) f)
 
-pub close_only : (body rest : List ℕ) → NoClose (body ++ 42 ∷ []) → close_of (body ++ 42 ∷ 47 ∷ rest) ≡ Some (length body + 2)
+pub close_only : (body rest : List ℕ) → NoClose (body ++ 42 ∷ [])
+    → close_of (body ++ 42 ∷ 47 ∷ rest) ≡ Some (length body + 2)
 close_only [] rest h = refl
 close_only (b ∷ []) rest h = close_skip b 42 (47 ∷ rest) (and_false (b == 42))
   where
     and_false : (x : Bool) → (x && false) ≡ false
     and_false true = refl
     and_false false = refl
-close_only (b ∷ c ∷ bs) rest h = go (ends b c) refl (close_only (c ∷ bs) rest (λ p q f. h (b ∷ p) q (ap (λ l. b ∷ l) f)))
+close_only (b ∷ c ∷ bs) rest h = go (ends b c) refl
+    (close_only (c ∷ bs) rest (λ p q f. h (b ∷ p) q (ap (λ l. b ∷ l) f)))
   where
-    go : (t : Bool) → ends b c ≡ t → close_of (c ∷ bs ++ 42 ∷ 47 ∷ rest) ≡ Some (length (c ∷ bs) + 2) → close_of (b ∷ c ∷ bs ++ 42 ∷ 47 ∷ rest) ≡ Some (length (b ∷ c ∷ bs) + 2)
-    go true t ih = let parts = and_both (b == 42) (c == 47) t in absurd (h [] (bs ++ 42 ∷ []) (ap (λ z. z ∷ c ∷ bs ++ 42 ∷ []) (eqb-true b 42 parts.0) ∙ ap (λ z. 42 ∷ z ∷ bs ++ 42 ∷ []) (eqb-true c 47 parts.1)))
-    go false t ih = let n : 1 + (length (c ∷ bs) + 2) ≡ length (b ∷ c ∷ bs) + 2 = omega arith in close_skip b c (bs ++ 42 ∷ 47 ∷ rest) t ∙ ap (counted 1) ih ∙ ap (λ m. Some m) n
+    go : (t : Bool) → ends b c ≡ t → close_of (c ∷ bs ++ 42 ∷ 47 ∷ rest) ≡ Some (length (c ∷ bs) + 2)
+        → close_of (b ∷ c ∷ bs ++ 42 ∷ 47 ∷ rest) ≡ Some (length (b ∷ c ∷ bs) + 2)
+    go true t ih = let parts = and_both (b == 42) (c == 47) t in
+        absurd (h [] (bs ++ 42 ∷ []) (ap (λ z. z ∷ c ∷ bs ++ 42 ∷ []) (eqb-true b 42 parts.0)
+        ∙ ap (λ z. 42 ∷ z ∷ bs ++ 42 ∷ []) (eqb-true c 47 parts.1)))
+    go false t ih = let n : 1 + (length (c ∷ bs) + 2) ≡ length (b ∷ c ∷ bs) + 2 = omega arith in
+        close_skip b c (bs ++ 42 ∷ 47 ∷ rest) t ∙ ap (counted 1) ih ∙ ap (λ m. Some m) n
 
 -- ---- the end of a string
 
@@ -179,24 +201,39 @@ quote_some (b ∷ []) n e = go (b == 34) refl e
     go false t e = absurd (cc)
 quote_some (b ∷ c ∷ bs) n e = go (b == 34) refl e (quote_some bs) (quote_some (c ∷ bs))
   where
-    plain : (b == 34) ≡ false → (b == 92) ≡ false → (o : Option ℕ) → quote_of (c ∷ bs) ≡ o → counted 1 o ≡ Some n → ((m : ℕ) → quote_of (c ∷ bs) ≡ Some m → Quoted (c ∷ bs) m) → Quoted (b ∷ c ∷ bs) n
+    plain : (b == 34) ≡ false → (b == 92) ≡ false → (o : Option ℕ) → quote_of (c ∷ bs) ≡ o
+        → counted 1 o ≡ Some n → ((m : ℕ) → quote_of (c ∷ bs) ≡ Some m → Quoted (c ∷ bs) m)
+        → Quoted (b ∷ c ∷ bs) n
     plain s t None f g ih = absurd (cc)
     plain s t (Some m) f g ih =
         let (body, rest, e1, e2, h) = ih m f in
-        let same : 1 + m ≡ n = cc in
-        (b ∷ body, rest, ap (λ l. b ∷ l) e1, omega (arith, e2, same), plain_cons b body (not_eq b 34 s, not_eq b 92 t) h)
+        let same : 1 + m ≡ n = cc in (
+          b ∷ body,
+          rest,
+          ap (λ l. b ∷ l) e1,
+          omega (arith, e2, same),
+          plain_cons b body
+              (not_eq b 34 s, not_eq b 92 t) h,
+        )
 
-    escaped : b ≡ 92 → (o : Option ℕ) → quote_of bs ≡ o → counted 2 o ≡ Some n → ((m : ℕ) → quote_of bs ≡ Some m → Quoted bs m) → Quoted (b ∷ c ∷ bs) n
+    escaped : b ≡ 92 → (o : Option ℕ) → quote_of bs ≡ o → counted 2 o ≡ Some n
+        → ((m : ℕ) → quote_of bs ≡ Some m → Quoted bs m) → Quoted (b ∷ c ∷ bs) n
     escaped s None f g ih = absurd (cc)
     escaped s (Some m) f g ih =
         let (body, rest, e1, e2, h) = ih m f in
         let same : 2 + m ≡ n = cc in
         (b ∷ c ∷ body, rest, ap (λ l. b ∷ c ∷ l) e1, omega (arith, e2, same), inr (s, h))
 
-    second : (t : Bool) → (b == 34) ≡ false → (b == 92) ≡ t → cond t (counted 2 (quote_of bs)) (counted 1 (quote_of (c ∷ bs))) ≡ Some n → ((m : ℕ) → quote_of bs ≡ Some m → Quoted bs m) → ((m : ℕ) → quote_of (c ∷ bs) ≡ Some m → Quoted (c ∷ bs) m) → Quoted (b ∷ c ∷ bs) n
+    second : (t : Bool) → (b == 34) ≡ false → (b == 92) ≡ t
+        → cond t (counted 2 (quote_of bs)) (counted 1 (quote_of (c ∷ bs))) ≡ Some n
+        → ((m : ℕ) → quote_of bs ≡ Some m → Quoted bs m)
+        → ((m : ℕ) → quote_of (c ∷ bs) ≡ Some m → Quoted (c ∷ bs) m) → Quoted (b ∷ c ∷ bs) n
     second true s t g ih2 ih1 = escaped (eq_true b 92 t) (quote_of bs) refl g ih2
     second false s t g ih2 ih1 = plain s t (quote_of (c ∷ bs)) refl g ih1
 
-    go : (t : Bool) → (b == 34) ≡ t → cond t (Some 0) (cond (b == 92) (counted 2 (quote_of bs)) (counted 1 (quote_of (c ∷ bs)))) ≡ Some n → ((m : ℕ) → quote_of bs ≡ Some m → Quoted bs m) → ((m : ℕ) → quote_of (c ∷ bs) ≡ Some m → Quoted (c ∷ bs) m) → Quoted (b ∷ c ∷ bs) n
+    go : (t : Bool) → (b == 34) ≡ t → cond t (Some 0)
+        (cond (b == 92) (counted 2 (quote_of bs)) (counted 1 (quote_of (c ∷ bs)))) ≡ Some n
+        → ((m : ℕ) → quote_of bs ≡ Some m → Quoted bs m)
+        → ((m : ℕ) → quote_of (c ∷ bs) ≡ Some m → Quoted (c ∷ bs) m) → Quoted (b ∷ c ∷ bs) n
     go true t g ih2 ih1 = let zero : 0 ≡ n = cc in ([], c ∷ bs, ap (λ z. z ∷ c ∷ bs) (eq_true b 34 t), sym zero, tt)
     go false t g ih2 ih1 = second (b == 92) t refl g ih2 ih1

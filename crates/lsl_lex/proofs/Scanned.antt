@@ -28,20 +28,26 @@ close_short (b ∷ []) h = refl
 close_short (b ∷ c ∷ bs) h = absurd (omega arith)
 
 -- a body's length, part by part
-quote_part : (rest : List ℕ) → (slice_index rest 0 ≡ 34 → ⊥) → counted (part_of rest) (quote_of (drop (part_of rest) rest)) ≡ quote_of rest
+quote_part : (rest : List ℕ) → (slice_index rest 0 ≡ 34 → ⊥)
+    → counted (part_of rest) (quote_of (drop (part_of rest) rest)) ≡ quote_of rest
 quote_part [] h = refl
 quote_part (b ∷ []) h = sym (ap (λ t. cond t (Some 0) None) (eq_false b 34 h))
 quote_part (b ∷ c ∷ rest) h = go (b == 92) refl
   where
-    go : (t : Bool) → (b == 92) ≡ t → counted (cond t 2 1) (quote_of (drop (cond t 2 1) (b ∷ c ∷ rest))) ≡ cond (b == 34) (Some 0) (cond (b == 92) (counted 2 (quote_of rest)) (counted 1 (quote_of (c ∷ rest))))
+    go : (t : Bool) → (b == 92) ≡ t → counted (cond t 2 1) (quote_of (drop (cond t 2 1) (b ∷ c ∷ rest)))
+        ≡ cond (b == 34) (Some 0) (cond (b == 92) (counted 2 (quote_of rest)) (counted 1 (quote_of (c ∷ rest))))
     go true e =
-        sym (ap (λ t. cond t (Some 0) (cond (b == 92) (counted 2 (quote_of rest)) (counted 1 (quote_of (c ∷ rest))))) (eq_false b 34 h)
+        sym (ap (λ t. cond t (Some 0) (cond (b == 92) (counted 2 (quote_of rest))
+        (counted 1 (quote_of (c ∷ rest))))) (eq_false b 34 h)
         ∙ ap (λ t. cond t (counted 2 (quote_of rest)) (counted 1 (quote_of (c ∷ rest)))) e)
     go false e =
-        sym (ap (λ t. cond t (Some 0) (cond (b == 92) (counted 2 (quote_of rest)) (counted 1 (quote_of (c ∷ rest))))) (eq_false b 34 h)
+        sym (ap (λ t. cond t (Some 0) (cond (b == 92) (counted 2 (quote_of rest))
+        (counted 1 (quote_of (c ∷ rest))))) (eq_false b 34 h)
         ∙ ap (λ t. cond t (counted 2 (quote_of rest)) (counted 1 (quote_of (c ∷ rest)))) e)
 
-pub one_part : (rest more : List ℕ) (n part : ℕ) (whole : Option ℕ) → (slice_index rest 0 ≡ 34 → ⊥) → part ≡ part_of rest → more ≡ drop part rest → counted n (quote_of rest) ≡ whole → counted (n + part) (quote_of more) ≡ whole
+pub one_part : (rest more : List ℕ) (n part : ℕ) (whole : Option ℕ) → (slice_index rest 0 ≡ 34 → ⊥)
+    → part ≡ part_of rest → more ≡ drop part rest → counted n (quote_of rest) ≡ whole
+    → counted (n + part) (quote_of more) ≡ whole
 one_part rest more n part whole h p e w =
     ap (λ l. counted (n + part) (quote_of l)) e
     ∙ counted_more n part (quote_of (drop part rest))
@@ -59,13 +65,18 @@ name_byte_low b h = go (is_letter b) refl h
     go false e f = let r = decimal_range b f in omega (arith, r.1)
 
 pub name_ascii : (bytes : List ℕ) → AllPass is_name_byte bytes → IsAscii bytes
-name_ascii bytes h = IsAscii-from_all bytes (All-weaker (λ b. is_name_byte b ≡ true) (λ b. b < 128) name_byte_low bytes h)
+name_ascii bytes h = IsAscii-from_all bytes
+    (All-weaker (λ b. is_name_byte b ≡ true) (λ b. b < 128) name_byte_low bytes h)
 
 pub name_bytes : (text : List ℕ) (n : ℕ) → n ≡ prefix_len is_name_byte text → AllPass is_name_byte (take n text)
-name_bytes text n e = rw e (AllPass-from_list_all is_name_byte (take (prefix_len is_name_byte text) text) (list_all-prefix is_name_byte text))
+name_bytes text n e = rw e (AllPass-from_list_all is_name_byte (take (prefix_len is_name_byte text) text)
+    (list_all-prefix is_name_byte text))
 
-pub name_kept : (bytes text characters : List ℕ) → AllPass is_name_byte bytes → text ≡ bytes → None ≡ row_of words text → characters ≡ chars bytes → Name characters ≡ unwrap_or (row_of words bytes) (Name bytes)
+pub name_kept : (bytes text characters : List ℕ) → AllPass is_name_byte bytes → text ≡ bytes
+    → None ≡ row_of words text → characters ≡ chars bytes
+    → Name characters ≡ unwrap_or (row_of words bytes) (Name bytes)
 name_kept bytes text characters h e none f =
     let ascii = name_ascii bytes h in
-    let same : bytes ≡ chars bytes = chars_from_encodes bytes bytes (IsUtf8-from_ascii bytes ascii) (encodes-IsAscii bytes ascii) in
+    let same : bytes ≡ chars bytes = chars_from_encodes bytes bytes (IsUtf8-from_ascii bytes ascii)
+    (encodes-IsAscii bytes ascii) in
     ap (λ l. Name l) (f ∙ sym same) ∙ ap (λ o. unwrap_or o (Name bytes)) (none ∙ ap (row_of words) e)

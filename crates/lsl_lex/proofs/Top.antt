@@ -31,7 +31,8 @@ same_tokens text a b h k =
 -- what the three kinds of first faults say
 data First (text : List ℕ) (kind : LexKind) (front : List ℕ) : Type 0 where
   long : kind ≡ TextTooLong → source_bytes < length text → front ≡ [] → First text kind front
-  broken : (n : ℕ) → kind ≡ NotText → length text ≤ source_bytes → IsValidUpTo text n → front ≡ take n text → First text kind front
+  broken : (n : ℕ) → kind ≡ NotText → length text ≤ source_bytes → IsValidUpTo text n → front ≡ take n text
+      → First text kind front
   stopped : StopsAt text kind front → First text kind front
 
 first_of : (text : List ℕ) (kind : LexKind) (front : List ℕ) → IsFirstFault text kind front → First text kind front
@@ -42,10 +43,13 @@ first_of text CommentEnd front h = stopped h
 first_of text FloatLiteral front h = stopped h
 first_of text StrayCharacter front h = stopped h
 
-same_stop : (text : List ℕ) (k l : LexKind) (front back : List ℕ) → StopsAt text k front → StopsAt text l back → (k ≡ l) × (front ≡ back)
+same_stop : (text : List ℕ) (k l : LexKind) (front back : List ℕ) → StopsAt text k front → StopsAt text l back
+    → (k ≡ l) × (front ≡ back)
 same_stop text k l front back h i = go h.cut i.cut
   where
-    go : (n : ℕ) × (ts : List Token) × (rest : List ℕ) × Cuts n [] text ts front rest × Case rest k × NoneBefore n text → (m : ℕ) × (us : List Token) × (left : List ℕ) × Cuts m [] text us back left × Case left l × NoneBefore m text → (k ≡ l) × (front ≡ back)
+    go : (n : ℕ) × (ts : List Token) × (rest : List ℕ) × Cuts n [] text ts front rest × Case rest k
+        × NoneBefore n text → (m : ℕ) × (us : List Token) × (left : List ℕ) × Cuts m [] text us back left
+        × Case left l × NoneBefore m text → (k ≡ l) × (front ≡ back)
     go (n, ts, rest, c, case, none) (m, us, left, d, other, none') = at (cases_lt n m) (cases_lt m n)
       where
         at : (n < m) ⊎ (m ≤ n) → (m < n) ⊎ (n ≤ m) → (k ≡ l) × (front ≡ back)
@@ -59,7 +63,8 @@ same_stop text k l front back h i = go h.cut i.cut
             (same_case rest k l case (subst C (sym same.2) other), same.1)
 
 not_valid : (text : List ℕ) (n : ℕ) → IsValidUpTo text n → IsUtf8 text → ⊥
-not_valid text n h valid = h.longest (length text) h.short (subst IsUtf8 (sym (take_all (length text) text (omega arith))) valid)
+not_valid text n h valid = h.longest (length text) h.short
+    (subst IsUtf8 (sym (take_all (length text) text (omega arith))) valid)
 
 same_valid : (text : List ℕ) (n m : ℕ) → IsValidUpTo text n → IsValidUpTo text m → n ≡ m
 same_valid text n m h k = go (cases_lt n m) (cases_lt m n)
@@ -69,12 +74,14 @@ same_valid text n m h k = go (cases_lt n m) (cases_lt m n)
     go (inr e) (inl f) = absurd (k.longest n f h.front)
     go (inr e) (inr f) = omega arith
 
-same_first : (text : List ℕ) (k l : LexKind) (front back : List ℕ) → First text k front → First text l back → (k ≡ l) × (front ≡ back)
+same_first : (text : List ℕ) (k l : LexKind) (front back : List ℕ) → First text k front → First text l back
+    → (k ≡ l) × (front ≡ back)
 same_first text k l front back (long e s f) (long e' s' f') = (e ∙ sym e', f ∙ sym f')
 same_first text k l front back (long e s f) (broken m e' s' v' f') = absurd (omega arith)
 same_first text k l front back (long e s f) (stopped h) = absurd (let short = h.source.short in omega arith)
 same_first text k l front back (broken n e s v f) (long e' s' f') = absurd (omega arith)
-same_first text k l front back (broken n e s v f) (broken m e' s' v' f') = (e ∙ sym e', f ∙ ap (λ i. take i text) (same_valid text n m v v') ∙ sym f')
+same_first text k l front back (broken n e s v f) (broken m e' s' v' f') =
+    (e ∙ sym e', f ∙ ap (λ i. take i text) (same_valid text n m v v') ∙ sym f')
 same_first text k l front back (broken n e s v f) (stopped h) = absurd (not_valid text n v h.source.valid)
 same_first text k l front back (stopped h) (long e' s' f') = absurd (let short = h.source.short in omega arith)
 same_first text k l front back (stopped h) (broken m e' s' v' f') = absurd (not_valid text m v' h.source.valid)
@@ -83,14 +90,17 @@ same_first text k l front back (stopped h) (stopped i) = same_stop text k l fron
 pub same_fault : (text : List ℕ) (a b : LexFault) → LexFirst text a → LexFirst text b → a ≡ b
 same_fault text a b (front, h, e) (back, k, f) =
     let same = same_first text a.kind b.kind front back (first_of text a.kind front h) (first_of text b.kind back k) in
-    ap (λ z. record { kind = z; span = a.span }) same.0 ∙ ap (λ z. record { kind = b.kind; span = z }) (e ∙ ap (λ l. span_of l []) same.1 ∙ sym f)
+    ap (λ z. record { kind = z; span = a.span }) same.0
+    ∙ ap (λ z. record { kind = b.kind; span = z }) (e ∙ ap (λ l. span_of l []) same.1 ∙ sym f)
 
 -- a text that is cut to its end has no fault
 pub no_fault : (text : List ℕ) (tokens : Tokens) (fault : LexFault) → Lexes text tokens → LexFirst text fault → ⊥
 no_fault text tokens fault h (front, k, f) = go (first_of text fault.kind front k)
   where
-    stop : (n : ℕ) × (done : List ℕ) × Cuts n [] text tokens.list done [] → (m : ℕ) × (us : List Token) × (rest : List ℕ) × Cuts m [] text us front rest × Case rest fault.kind × NoneBefore m text → ⊥
-    stop (n, d, whole) (m, us, rest, c, case, none) = no_case_inside n m [] text tokens.list us d front rest fault.kind whole c case
+    stop : (n : ℕ) × (done : List ℕ) × Cuts n [] text tokens.list done [] → (m : ℕ) × (us : List Token)
+        × (rest : List ℕ) × Cuts m [] text us front rest × Case rest fault.kind × NoneBefore m text → ⊥
+    stop (n, d, whole) (m, us, rest, c, case, none) =
+        no_case_inside n m [] text tokens.list us d front rest fault.kind whole c case
 
     go : First text fault.kind front → ⊥
     go (long e s g) = let short = h.source.short in omega arith
@@ -98,17 +108,22 @@ no_fault text tokens fault h (front, k, f) = go (first_of text fault.kind front 
     go (stopped i) = stop h.cut i.cut
 
 -- so whatever is found is all there is
-pub every_found : (text : List ℕ) (r : Result Tokens (Refusal LexFault)) → IfOk r (Lexes text) → IfErr r (IsRefused text) → (tokens : Tokens) → Lexes text tokens → MatchResult r (λ found. found ≡ tokens) (λ refusal. refusal ≡ NoMemory)
+pub every_found : (text : List ℕ) (r : Result Tokens (Refusal LexFault)) → IfOk r (Lexes text)
+    → IfErr r (IsRefused text) → (tokens : Tokens) → Lexes text tokens
+    → MatchResult r (λ found. found ≡ tokens) (λ refusal. refusal ≡ NoMemory)
 every_found text (Ok found) ok err tokens h = same_tokens text found tokens ok h
 every_found text (Err (Fault fault)) ok err tokens h = absurd (no_fault text tokens fault h err)
 every_found text (Err NoMemory) ok err tokens h = refl
 
-pub only_first : (text : List ℕ) (r : Result Tokens (Refusal LexFault)) → IfOk r (Lexes text) → IfErr r (IsRefused text) → (fault : LexFault) → LexFirst text fault → MatchResult r (λ _. ⊥) (λ refusal. (refusal ≡ Fault fault) ⊎ (refusal ≡ NoMemory))
+pub only_first : (text : List ℕ) (r : Result Tokens (Refusal LexFault)) → IfOk r (Lexes text)
+    → IfErr r (IsRefused text) → (fault : LexFault) → LexFirst text fault
+    → MatchResult r (λ _. ⊥) (λ refusal. (refusal ≡ Fault fault) ⊎ (refusal ≡ NoMemory))
 only_first text (Ok found) ok err fault h = no_fault text found fault ok h
 only_first text (Err (Fault first)) ok err fault h = inl (ap (λ z. Fault z) (same_fault text first fault err h))
 only_first text (Err NoMemory) ok err fault h = inr refl
 
-pub not_text_first : (text : List ℕ) (n : ℕ) (fault : LexFault) → length text ≤ source_bytes → IsValidUpTo text n → fault.kind ≡ NotText → fault.span ≡ span_of (take n text) [] → LexFirst text fault
+pub not_text_first : (text : List ℕ) (n : ℕ) (fault : LexFault) → length text ≤ source_bytes
+    → IsValidUpTo text n → fault.kind ≡ NotText → fault.span ≡ span_of (take n text) [] → LexFirst text fault
 not_text_first text n fault short valid kind span =
     let P : LexKind → Type 0 = λ k. IsFirstFault text k (take n text) in
     let first : IsFirstFault text NotText (take n text) = (short, n, valid, refl) in

@@ -17,7 +17,8 @@ abbrev pub OpensComment : List ℕ → Type 0
 OpensComment text = (b : ℕ) × (rest : List ℕ) × (text ≡ 47 ∷ b ∷ rest) × ((b ≡ 42) ⊎ (b ≡ 47))
 
 abbrev pub IsOpenString : List ℕ → Type 0
-IsOpenString text = (more : List ℕ) × (text ≡ 34 ∷ more) × ((body rest : List ℕ) → more ≡ body ++ 34 ∷ rest → IsStringBody body → ⊥)
+IsOpenString text = (more : List ℕ) × (text ≡ 34 ∷ more)
+    × ((body rest : List ℕ) → more ≡ body ++ 34 ∷ rest → IsStringBody body → ⊥)
 
 abbrev pub IsOpenComment : List ℕ → Type 0
 IsOpenComment text = (more : List ℕ) × (text ≡ 47 ∷ 42 ∷ more) × NoClose more

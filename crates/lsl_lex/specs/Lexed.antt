@@ -30,12 +30,14 @@ pub record Lexes (text : List ℕ) (tokens : Tokens) : Type 0 where
 
 -- no cut of fewer pieces ends at a fault
 abbrev pub NoneBefore : ℕ → List ℕ → Type 0
-NoneBefore n text = (m : ℕ) (tokens : List Token) (front rest : List ℕ) (kind : LexKind) → m < n → Cuts m [] text tokens front rest → Case rest kind → ⊥
+NoneBefore n text = (m : ℕ) (tokens : List Token) (front rest : List ℕ) (kind : LexKind) → m < n
+    → Cuts m [] text tokens front rest → Case rest kind → ⊥
 
 -- the front of the text is cut, the fault stands behind it, and none stands before
 pub record StopsAt (text : List ℕ) (kind : LexKind) (front : List ℕ) : Type 0 where
   pub source : IsSource text
-  pub cut : (n : ℕ) × (tokens : List Token) × (rest : List ℕ) × Cuts n [] text tokens front rest × Case rest kind × NoneBefore n text
+  pub cut : (n : ℕ) × (tokens : List Token) × (rest : List ℕ) × Cuts n [] text tokens front rest
+      × Case rest kind × NoneBefore n text
 
 -- behind this front of the text stands its first fault, of this kind
 abbrev pub IsFirstFault : List ℕ → LexKind → List ℕ → Type 0

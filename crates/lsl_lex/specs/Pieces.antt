@@ -19,12 +19,14 @@ IsBlockComment part = (body : List ℕ) × (part ≡ 47 ∷ 42 ∷ (body ++ 42 �
 
 -- from `//` up to the next line feed or the end
 abbrev pub IsLineComment : List ℕ → List ℕ → Type 0
-IsLineComment part rest = (body : List ℕ) × (part ≡ 47 ∷ 47 ∷ body) × AllPass is_in_line body × ((rest ≡ []) ⊎ ((more : List ℕ) × (rest ≡ 10 ∷ more)))
+IsLineComment part rest = (body : List ℕ) × (part ≡ 47 ∷ 47 ∷ body) × AllPass is_in_line body
+    × ((rest ≡ []) ⊎ ((more : List ℕ) × (rest ≡ 10 ∷ more)))
 
 -- the longest token at the front of the text, where no comment begins
 pub record IsToken (text part : List ℕ) (sort : Sort) : Type 0 where
   pub spells : Spells part sort
-  pub longest : (other rest : List ℕ) (any : Sort) → text ≡ other ++ rest → Spells other any → length other ≤ length part
+  pub longest : (other rest : List ℕ) (any : Sort) → text ≡ other ++ rest → Spells other any
+      → length other ≤ length part
   pub no_comment : OpensComment text → ⊥
 
 -- what the part at the front of the text gives: a blank or a comment nothing, a token its sort
@@ -44,4 +46,6 @@ token_of (Some sort) span = record { sort = sort; span = span } ∷ []
 -- behind the front, n pieces of the text are cut: they have these tokens, end behind `done`, and leave this rest
 abbrev pub Cuts : ℕ → List ℕ → List ℕ → List Token → List ℕ → List ℕ → Type 0
 Cuts zero front text tokens done rest = (tokens ≡ []) × (done ≡ front) × (rest ≡ text)
-Cuts (suc n) front text tokens done rest = (gives : Option Sort) × (part after : List ℕ) × (more : List Token) × IsPiece text gives part after × (tokens ≡ token_of gives (span_of front part) ++ more) × Cuts n (front ++ part) after more done rest
+Cuts (suc n) front text tokens done rest =
+    (gives : Option Sort) × (part after : List ℕ) × (more : List Token) × IsPiece text gives part after
+    × (tokens ≡ token_of gives (span_of front part) ++ more) × Cuts n (front ++ part) after more done rest

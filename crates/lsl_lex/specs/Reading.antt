@@ -44,7 +44,8 @@ part_of _ = 1
 abbrev pub quote_of : List ℕ → Option ℕ
 quote_of [] = None
 quote_of (b ∷ []) = cond (b == 34) (Some 0) None
-quote_of (b ∷ c ∷ bytes) = cond (b == 34) (Some 0) (cond (b == 92) (counted 2 (quote_of bytes)) (counted 1 (quote_of (c ∷ bytes))))
+quote_of (b ∷ c ∷ bytes) = cond (b == 34) (Some 0)
+    (cond (b == 92) (counted 2 (quote_of bytes)) (counted 1 (quote_of (c ∷ bytes))))
 
 unfoldable pub name : List ℕ → Found
 name text =
@@ -55,7 +56,11 @@ name text =
 unfoldable pub number : List ℕ → Found
 number text =
     let n = prefix_len is_decimal text in
-    cond (begins_hexadecimal text) (Ok (Some (Int (leading_integer_of text)), prefix_len is_hexadecimal (drop 2 text) + 2))
+    cond (begins_hexadecimal text) (Ok (
+      Some (Int (leading_integer_of text)),
+      prefix_len is_hexadecimal
+          (drop 2 text) + 2,
+    ))
     (cond (slice_index text n == 46) (Err FloatLiteral) (Ok (Some (Int (leading_integer_of text)), n)))
 
 unfoldable pub string : List ℕ → Found

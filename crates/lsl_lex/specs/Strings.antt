@@ -19,4 +19,5 @@ escape_of c = if c == 110 then 10 ∷ [] else (if c == 116 then 32 ∷ 32 ∷ 32
 abbrev pub escapes_read : List ℕ → List ℕ
 escapes_read [] = []
 escapes_read (c ∷ []) = c ∷ []
-escapes_read (c ∷ d ∷ characters) = if c == 92 then escape_of d ++ escapes_read characters else c ∷ escapes_read (d ∷ characters)
+escapes_read (c ∷ d ∷ characters) = if c == 92 then escape_of d ++ escapes_read characters else c ∷ escapes_read
+    (d ∷ characters)

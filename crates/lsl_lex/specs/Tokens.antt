@@ -13,7 +13,11 @@ use Rattle.lsl_lex.specs.declared.token_types.Sort.TheVariants.{Name, Int, Str, 
 abbrev pub words : List (List ℕ × Sort)
 words =
     (codes "integer", IntegerWord) ∷ (codes "string", StringWord) ∷ (codes "key", KeyWord) ∷ (codes "list", ListWord) ∷
-    (codes "float", FloatWord) ∷ (codes "vector", VectorWord) ∷ (codes "rotation", RotationWord) ∷ (codes "quaternion", QuaternionWord) ∷
+    (codes "float", FloatWord) ∷ (codes "vector", VectorWord) ∷ (codes "rotation", RotationWord) ∷ (
+      codes
+          "quaternion",
+      QuaternionWord,
+    ) ∷
     (codes "default", DefaultWord) ∷ (codes "state", StateWord) ∷ (codes "if", IfWord) ∷ (codes "else", ElseWord) ∷
     (codes "for", ForWord) ∷ (codes "do", DoWord) ∷ (codes "while", WhileWord) ∷ (codes "jump", JumpWord) ∷
     (codes "return", ReturnWord) ∷ []
@@ -48,10 +52,13 @@ pub record IsDigits (is_one : ℕ → Bool) (digits : List ℕ) : Type 0 where
 
 -- the bytes are a token of this sort
 pub data Spells (bytes : List ℕ) (sort : Sort) : Type 0 where
-  a_name : IsIdentifier bytes → ((word : Sort) → Contains words (bytes, word) → ⊥) → sort ≡ Name bytes → Spells bytes sort
+  a_name : IsIdentifier bytes → ((word : Sort) → Contains words (bytes, word) → ⊥) → sort ≡ Name bytes
+      → Spells bytes sort
   a_word : Contains words (bytes, sort) → Spells bytes sort
   decimal : IsDigits is_decimal bytes → sort ≡ Int (wrapped (digits_value 10 bytes)) → Spells bytes sort
-  hexadecimal : (x : ℕ) (digits : List ℕ) → bytes ≡ 48 ∷ x ∷ digits → (x ≡ 120) ⊎ (x ≡ 88) → IsDigits is_hexadecimal digits → sort ≡ Int (wrapped (digits_value 16 digits)) → Spells bytes sort
-  a_string : (body : List ℕ) → bytes ≡ 34 ∷ (body ++ 34 ∷ []) → IsStringBody body → sort ≡ Str (escapes_read (chars body)) → Spells bytes sort
+  hexadecimal : (x : ℕ) (digits : List ℕ) → bytes ≡ 48 ∷ x ∷ digits → (x ≡ 120) ⊎ (x ≡ 88)
+      → IsDigits is_hexadecimal digits → sort ≡ Int (wrapped (digits_value 16 digits)) → Spells bytes sort
+  a_string : (body : List ℕ) → bytes ≡ 34 ∷ (body ++ 34 ∷ []) → IsStringBody body
+      → sort ≡ Str (escapes_read (chars body)) → Spells bytes sort
   a_pair_sign : Contains pair_signs (bytes, sort) → Spells bytes sort
   a_single_sign : Contains single_signs (bytes, sort) → Spells bytes sort

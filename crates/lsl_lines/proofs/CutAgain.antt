@@ -12,7 +12,8 @@ passes : (line : List ℕ) → ((front rest : List ℕ) → line ≡ front ++ 10
 passes [] h = refl
 passes (b ∷ line) h = go (b == 10) refl (passes line (λ front rest e. h (b ∷ front) rest (ap (λ l. b ∷ l) e)))
   where
-    go : (feed : Bool) → (b == 10) ≡ feed → list_all is_in_line line ≡ true → (not feed && list_all is_in_line line) ≡ true
+    go : (feed : Bool) → (b == 10) ≡ feed → list_all is_in_line line ≡ true
+        → (not feed && list_all is_in_line line) ≡ true
     go true f ih = absurd (h [] line (ap (λ c. c ∷ line) (eqb-true b 10 f)))
     go false f ih = ih
 
@@ -20,7 +21,9 @@ passes_return : (line : List ℕ) → list_all is_in_line line ≡ true → list
 passes_return [] h = refl
 passes_return (b ∷ line) h = go (not (b == 10)) h (passes_return line)
   where
-    go : (t : Bool) → (t && list_all is_in_line line) ≡ true → (list_all is_in_line line ≡ true → list_all is_in_line (line ++ 13 ∷ []) ≡ true) → (t && list_all is_in_line (line ++ 13 ∷ [])) ≡ true
+    go : (t : Bool) → (t && list_all is_in_line line) ≡ true
+        → (list_all is_in_line line ≡ true → list_all is_in_line (line ++ 13 ∷ []) ≡ true)
+        → (t && list_all is_in_line (line ++ 13 ∷ [])) ≡ true
     go true e ih = ih e
     go false e ih = absurd (cc)
 

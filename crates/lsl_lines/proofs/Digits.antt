@@ -23,7 +23,8 @@ digits_value_after-ge n [] = omega arith
 digits_value_after-ge n (d ∷ ds) = let more = digits_value_after-ge (n * 10 + digit_value d) ds in omega arith
 
 -- capping the number so far changes nothing of the capped number
-digits_value_after-min : (n : ℕ) (ds : List ℕ) → min (digits_value_after 10 (min n cap) ds) cap ≡ min (digits_value_after 10 n ds) cap
+digits_value_after-min : (n : ℕ) (ds : List ℕ)
+    → min (digits_value_after 10 (min n cap) ds) cap ≡ min (digits_value_after 10 n ds) cap
 digits_value_after-min n ds = ⊎_elim below above (cases_lt n cap)
   where
     below : n < cap → min (digits_value_after 10 (min n cap) ds) cap ≡ min (digits_value_after 10 n ds) cap
@@ -37,33 +38,42 @@ digits_value_after-min n ds = ⊎_elim below above (cases_lt n cap)
         ap (λ m. min (digits_value_after 10 m ds) cap) same ∙ omega arith
 
 -- one turn of the loop: a digit is read, and the number is capped
-pub one_more_digit : (n d r : ℕ) (whole : Result ℕ FileKind) (rest more : List ℕ) → 1 ≤ length rest → more ≡ drop 1 rest → digit_value (get_or rest 0 0) < 10 → digit_value (get_or rest 0 0) ≡ d → r ≡ min (n * 10 + d) cap → digits_behind n rest ≡ whole → (r ≤ cap) × (digits_behind r more ≡ whole)
+pub one_more_digit : (n d r : ℕ) (whole : Result ℕ FileKind) (rest more : List ℕ) → 1 ≤ length rest
+    → more ≡ drop 1 rest → digit_value (get_or rest 0 0) < 10 → digit_value (get_or rest 0 0) ≡ d
+    → r ≡ min (n * 10 + d) cap → digits_behind n rest ≡ whole → (r ≤ cap) × (digits_behind r more ≡ whole)
 one_more_digit n d r whole [] more some e small is s h = absurd (omega arith)
 one_more_digit n d r whole (c ∷ rest) more some e small is s h =
     let test : is_decimal c ≡ true = lt-ltb (digit_value c) 10 small in
     let value : min (digits_value_after 10 r rest) cap ≡ min (digits_value_after 10 (n * 10 + digit_value c) rest) cap =
-    ap (λ m. min (digits_value_after 10 m rest) cap) s ∙ digits_value_after-min (n * 10 + d) rest ∙ ap (λ m. min (digits_value_after 10 (n * 10 + m) rest) cap) (sym is) in
+    ap (λ m. min (digits_value_after 10 m rest) cap) s ∙ digits_value_after-min (n * 10 + d) rest
+    ∙ ap (λ m. min (digits_value_after 10 (n * 10 + m) rest) cap) (sym is) in
     let this : digits_behind n (c ∷ rest) ≡ digits_behind (n * 10 + digit_value c) rest =
-    ap (λ b. must (b && list_all is_decimal rest) BadLine (Ok (min (digits_value_after 10 (n * 10 + digit_value c) rest) cap))) test in (
+    ap (λ b. must (b && list_all is_decimal rest) BadLine
+    (Ok (min (digits_value_after 10 (n * 10 + digit_value c) rest) cap))) test in (
       omega arith,
       ap (digits_behind r) e ∙ ap (λ v. must (list_all is_decimal rest) BadLine (Ok v)) value ∙ sym this ∙ h,
     )
 
 -- no digit
-pub no_digit : (n : ℕ) (rest : List ℕ) → 1 ≤ length rest → is_decimal (get_or rest 0 0) ≡ false → digits_behind n rest ≡ Err BadLine
+pub no_digit : (n : ℕ) (rest : List ℕ) → 1 ≤ length rest → is_decimal (get_or rest 0 0) ≡ false
+    → digits_behind n rest ≡ Err BadLine
 no_digit n [] some h = absurd (omega arith)
-no_digit n (c ∷ rest) some h = ap (λ b. must (b && list_all is_decimal rest) BadLine (Ok (min (digits_value_after 10 n (c ∷ rest)) cap))) h
+no_digit n (c ∷ rest) some h = ap (λ b. must (b && list_all is_decimal rest) BadLine
+    (Ok (min (digits_value_after 10 n (c ∷ rest)) cap))) h
 
 pub digits_read : (digits : List ℕ) → 1 ≤ length digits → capped (digits_of digits) ≡ digits_behind 0 digits
 digits_read digits some = go (nat_lt 0 (length digits)) (list_all is_decimal digits) (lt-ltb 0 (length digits) some)
   where
-    go : (a b : Bool) → a ≡ true → capped (must (a && b) BadLine (Ok (digits_value 10 digits))) ≡ must b BadLine (Ok (min (digits_value_after 10 0 digits) cap))
+    go : (a b : Bool) → a ≡ true → capped (must (a && b) BadLine (Ok (digits_value 10 digits)))
+        ≡ must b BadLine (Ok (min (digits_value_after 10 0 digits) cap))
     go true true h = refl
     go true false h = refl
     go false b h = absurd (cc)
 
 -- a limit below the cap is tested on the capped number
-pub capped_within : {A : Type 0} (x : Result ℕ FileKind) (n limit : ℕ) (f : ℕ → A) → capped x ≡ Ok n → limit < cap → (x >>= λ m. must (nat_le m limit) BadLine (Ok (f m))) ≡ must (nat_le n limit) BadLine (Ok (f n))
+pub capped_within : {A : Type 0} (x : Result ℕ FileKind) (n limit : ℕ) (f : ℕ → A) → capped x ≡ Ok n
+    → limit < cap → (x >>= λ m. must (nat_le m limit) BadLine (Ok (f m)))
+    ≡ must (nat_le n limit) BadLine (Ok (f n))
 capped_within {A} (Err kind) n limit f h lt = absurd (cc)
 capped_within {A} (Ok m) n limit f h lt = ⊎_elim small big (cases_lt m cap)
   where

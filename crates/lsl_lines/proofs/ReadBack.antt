@@ -20,13 +20,15 @@ one_back : (b : ℕ) (front rest : List ℕ) → quoted_words front (escaped b +
 one_back b front rest = go (b == 34) (b == 92) (b == 10) refl refl refl
   where
     go : (quote slash feed : Bool) → (b == 34) ≡ quote → (b == 92) ≡ slash → (b == 10) ≡ feed
-        → quoted_words front ((if quote || slash then 92 ∷ b ∷ [] else (if feed then 92 ∷ 110 ∷ [] else b ∷ [])) ++ rest) ≡ quoted_words (front ++ b ∷ []) rest
+        → quoted_words front ((if quote || slash then 92 ∷ b ∷ []
+        else (if feed then 92 ∷ 110 ∷ [] else b ∷ [])) ++ rest) ≡ quoted_words (front ++ b ∷ []) rest
     go true slash feed q s f = rw q refl
     go false true feed q s f = rw (q, s) refl
     go false false true q s f = ap (λ (c : ℕ). quoted_words (front ++ c ∷ []) rest) (sym (eqb-true b 10 f))
     go false false false q s f = rw (q, s) refl
 
-all_back : (bytes front rest : List ℕ) → quoted_words front (flat_map escaped bytes ++ rest) ≡ quoted_words (front ++ bytes) rest
+all_back : (bytes front rest : List ℕ) → quoted_words front (flat_map escaped bytes ++ rest)
+    ≡ quoted_words (front ++ bytes) rest
 all_back [] front rest = ap (λ (l : List ℕ). quoted_words l rest) (sym (append-nil front))
 all_back (b ∷ bytes) front rest =
     ap (quoted_words front) (append_assoc (escaped b) (flat_map escaped bytes) rest)
@@ -37,4 +39,5 @@ all_back (b ∷ bytes) front rest =
 pub read_back : (text : List ℕ) → IsText text → words_of (quoted (encode_utf8_all text)) ≡ Ok (Quoted text ∷ [])
 read_back text h =
     all_back (encode_utf8_all text) [] (34 ∷ [])
-    ∙ ap (λ (r : Result (List ℕ) FileKind). r >>= λ t. behind_quote t []) (text_of-text (encode_utf8_all text) text (record { spelled = refl; text = h }))
+    ∙ ap (λ (r : Result (List ℕ) FileKind). r >>= λ t. behind_quote t [])
+    (text_of-text (encode_utf8_all text) text (record { spelled = refl; text = h }))

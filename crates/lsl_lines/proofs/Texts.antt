@@ -13,7 +13,8 @@ use Rattle.lsl_lines.specs.declared.faults.FileKind.TheVariants.{BadLine}
 pub text_of-text : (bytes text : List ℕ) → IsTextOf bytes text → text_of bytes ≡ Ok text
 text_of-text bytes text h =
     let u : IsUtf8 bytes = (text, (h.text.scalars, h.spelled)) in
-    let within : length bytes ≤ most_text_bytes = subst (λ (l : List ℕ). length l ≤ most_text_bytes) h.spelled h.text.within in
+    let within : length bytes ≤ most_text_bytes =
+    subst (λ (l : List ℕ). length l ≤ most_text_bytes) h.spelled h.text.within in
     let e : is_utf8 bytes ≡ true = is_utf8-from_IsUtf8 bytes u in
     let f : nat_le (length bytes) most_text_bytes ≡ true = le-leb (length bytes) most_text_bytes within in
     let g : chars bytes ≡ text = sym (chars_from_encodes text bytes u h.spelled) in

@@ -1,4 +1,5 @@
--- What comes of a machine that stands somewhere, for further ticks and answers; and what a run up to a halt makes of it.
+-- What comes of a machine that stands somewhere, for further ticks and answers; and what a run up to a halt
+-- makes of it.
 use Rattle.std.specs.Prelude.{◌≡◌, ◌≢◌, ℕ, ◌+◌, true, cond, List, [], ◌∷◌}
 use Rattle.lsl_value.specs.declared.names.BuiltinId.{BuiltinId}
 use Rattle.lsl_table.specs.Calls.{row_of}

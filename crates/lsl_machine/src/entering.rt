@@ -95,7 +95,8 @@ impl Running {
         ensures laid { IsLaid self.new result }
         ensures room { KeepsRoom self.old self.new }
         ensures went { (more : List Reply) →
-            replied_to (reply.Value value) (machine_of self.old).kept more (machine_of self.old).calls ≡ went result more (machine_of self.new) }
+            replied_to (reply.Value value) (machine_of self.old).kept more (machine_of self.old).calls
+            ≡ went result more (machine_of self.new) }
     {
         match value {
             Some(value) => match self.push(value) {

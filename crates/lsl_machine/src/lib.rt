@@ -70,7 +70,8 @@ impl Machine {
         requires limit { limit ≤ default_limit }
         requires args { AreArguments (slice_get (bodies_of unit.now) handler) args }
         ensures whole { IfOk result (λ begun. (ticks : ℕ) (answers : List Reply) →
-            whole_of_unit unit.now.functions handler (kept_with globals limit) args ticks answers ≡ whole_from (bodies_of unit.now) begun ticks answers) }
+            whole_of_unit unit.now.functions handler (kept_with globals limit) args ticks answers
+            ≡ whole_from (bodies_of unit.now) begun ticks answers) }
         ensures ready { IfOk result (λ begun. CanRun begun.standing) }
         ensures behind { IfOk result (λ begun. ticks_passed begun.standing ≡ 0) }
         ensures of { IfOk result (IsOf unit.now) }
@@ -100,7 +101,8 @@ impl Machine {
         halt
     }
 
-    /// Gives the answer to what was asked for: a value of the call's result, or none where it has none. Takes no memory.
+    /// Gives the answer to what was asked for: a value of the call's result, or none where it has none. Takes
+    /// no memory.
     pub fn answer(&mut self, value: Option<Value>)
         requires { Wants self.old.standing value }
         ensures whole { (bodies : List Body) (ticks : ℕ) (more : List Reply) →

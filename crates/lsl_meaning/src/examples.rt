@@ -36,5 +36,6 @@ pub fn jump_back()
 /// A recursion that is cut at its third entry stands there in the function's own line, and its callers in the lines of
 /// their calls, each with the slots that it has.
 pub fn calls_of_a_recursion()
-    ensures { whole recursing 1 (initial_kept recursing) (Int (pos 1) ∷ []) 3 [] ≡ Cut (call_on 0 (pos 1) 1 ∷ call_on 0 (pos 2) 3 ∷ call_on 0 (pos 3) 3 ∷ call_on 1 (pos 1) 6 ∷ []) }
+    ensures { whole recursing 1 (initial_kept recursing) (Int (pos 1) ∷ []) 3 []
+        ≡ Cut (call_on 0 (pos 1) 1 ∷ call_on 0 (pos 2) 3 ∷ call_on 0 (pos 3) 3 ∷ call_on 1 (pos 1) 6 ∷ []) }
 {}

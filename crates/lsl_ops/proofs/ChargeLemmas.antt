@@ -28,6 +28,13 @@ length-atoms_of (Key text) small = omega arith
 length-atoms_of (ListValue atoms) small = omega (arith, sum_by-ge atoms)
 
 -- a text that gained another
-pub length-encodes_joined : (new old piece : List ℕ) (most : ℕ) → length (encode_utf8_all piece) ≤ most → new ≡ old ++ piece → length (encode_utf8_all new) ≤ length (encode_utf8_all old) + most
+pub length-encodes_joined : (new old piece : List ℕ) (most : ℕ) → length (encode_utf8_all piece) ≤ most
+    → new ≡ old ++ piece → length (encode_utf8_all new) ≤ length (encode_utf8_all old) + most
 length-encodes_joined new old piece most small same =
-    omega (arith, ap (λ text. length (encode_utf8_all text)) same, ap length (encodes-append old piece), length-append (encode_utf8_all old) (encode_utf8_all piece))
+    omega (
+      arith,
+      ap (λ text. length (encode_utf8_all text)) same,
+      ap length
+          (encodes-append old piece),
+      length-append (encode_utf8_all old) (encode_utf8_all piece),
+    )

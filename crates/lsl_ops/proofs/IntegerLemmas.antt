@@ -56,15 +56,24 @@ abs-fits (pos n) fits = omega (arith, fits.sfits)
 abs-fits (negsuc n) fits = omega (arith, fits.sfits)
 
 -- the two calls on the bits that a number has
-pub quotient-wrapped : (a b c : ℤ) → FitsSigned w32 a → FitsSigned w32 b → c ≡ cast_signed w32 (cast_unsigned w32 (int_div (cast_signed w32 (cast_unsigned w32 a)) (cast_signed w32 (cast_unsigned w32 b)))) → c ≡ wrapped (int_div a b)
+pub quotient-wrapped : (a b c : ℤ) → FitsSigned w32 a → FitsSigned w32 b
+    → c ≡ cast_signed w32 (cast_unsigned w32
+    (int_div (cast_signed w32 (cast_unsigned w32 a)) (cast_signed w32 (cast_unsigned w32 b))))
+    → c ≡ wrapped (int_div a b)
 quotient-wrapped a b c fits fits' same =
     let small = unsigned_abs-div a b in
     let bound = abs-fits a fits in
-    same ∙ ap (λ m. cast_signed w32 (cast_unsigned w32 (int_div m (cast_signed w32 (cast_unsigned w32 b))))) (to_z-of_z w32 a fits)
+    same ∙ ap (λ m. cast_signed w32 (cast_unsigned w32 (int_div m (cast_signed w32 (cast_unsigned w32 b)))))
+    (to_z-of_z w32 a fits)
     ∙ ap (λ m. cast_signed w32 (cast_unsigned w32 (int_div a m))) (to_z-of_z w32 b fits')
     ∙ cast-wrapped (int_div a b) (omega arith)
 
-pub shift-wrapped : (n by c : ℤ) (bits : ℕ) → FitsSigned w32 n → FitsSigned w32 by → bits ≡ cast_unsigned w32 (cast_signed w32 (cast_unsigned w32 by)) → c ≡ int_shl w32 (cast_signed w32 (cast_unsigned w32 n)) (bits % 32) → c ≡ wrapped (n *ℤ pos (2 ^ shift_of by))
+pub shift-wrapped : (n by c : ℤ) (bits : ℕ) → FitsSigned w32 n → FitsSigned w32 by
+    → bits ≡ cast_unsigned w32 (cast_signed w32 (cast_unsigned w32 by))
+    → c ≡ int_shl w32 (cast_signed w32 (cast_unsigned w32 n)) (bits % 32)
+    → c ≡ wrapped (n *ℤ pos (2 ^ shift_of by))
 shift-wrapped n by c bits fits fits' same shifted =
-    let low : bits % 32 ≡ shift_of by = ap (λ m. m % 32) (same ∙ ap (cast_unsigned w32) (to_z-of_z w32 by fits')) ∙ shift-low by fits' in
-    shifted ∙ ap (λ m. int_shl w32 m (bits % 32)) (to_z-of_z w32 n fits) ∙ ap (int_shl w32 n) low ∙ shl-wrapped n (shift_of by) fits (shift-small by)
+    let low : bits % 32 ≡ shift_of by = ap (λ m. m % 32)
+    (same ∙ ap (cast_unsigned w32) (to_z-of_z w32 by fits')) ∙ shift-low by fits' in
+    shifted ∙ ap (λ m. int_shl w32 m (bits % 32)) (to_z-of_z w32 n fits) ∙ ap (int_shl w32 n) low
+    ∙ shl-wrapped n (shift_of by) fits (shift-small by)

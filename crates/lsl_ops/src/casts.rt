@@ -89,7 +89,8 @@ fn joined_text(alloc: Global, items: &Items) -> Result<Text, NoMemory>
 fn push_atom(alloc: Global, text: &mut Text, atom: &Atom) -> Result<(), NoMemory>
     requires { length (encode_utf8_all text.old) + item_charge_of atom.now ≤ most_text_bytes }
     ensures ok { OnOk result (text.new ≡ text.old ++ text_of_atom atom.now) }
-    ensures short { OnOk result (length (encode_utf8_all text.new) ≤ length (encode_utf8_all text.old) + item_charge_of atom.now) }
+    ensures short { OnOk result (length (encode_utf8_all text.new)
+        ≤ length (encode_utf8_all text.old) + item_charge_of atom.now) }
 {
     text.push_text(&atom.text(alloc)?)
 }

@@ -17,10 +17,12 @@ use Rattle.lsl_parse.specs.ExpressionGrammar.{Language, level, expr}
 use Rattle.lsl_parse.specs.ExpressionReading.{TokenReader, while_r, next_operand_r, unary_rule_r, level_rule_r, Room_r, room_r, expr_r}
 use Rattle.lsl_parse.proofs.ExpressionRules.{heads, U}
 
-pub no_test : (all ks : List Sort) (t : Token) → subset (codes ks) (codes all) ≡ true → among (token_code t) (codes all) ≡ false → among (token_code t) (codes ks) ≡ false
+pub no_test : (all ks : List Sort) (t : Token) → subset (codes ks) (codes all) ≡ true
+    → among (token_code t) (codes all) ≡ false → among (token_code t) (codes ks) ≡ false
 no_test all ks t s e = stops_sub token_code (codes ks) (codes all) (t ∷ []) (sub_by (codes ks) (codes all) s) e
 
-unary_misses : (room : Room_r) (t : Token) (ts : List Token) → among (token_code t) (codes heads) ≡ false → unary_rule_r room (t ∷ ts) ≡ Err (OperandDue, t ∷ ts)
+unary_misses : (room : Room_r) (t : Token) (ts : List Token) → among (token_code t) (codes heads) ≡ false
+    → unary_rule_r room (t ∷ ts) ≡ Err (OperandDue, t ∷ ts)
 unary_misses room t ts e =
     cond_false (among (token_code t) (codes prefix_signs)) _ _ (no_test heads prefix_signs t refl e)
     ∙ cond_false (among (token_code t) (codes step_signs)) _ _ (no_test heads step_signs t refl e)
@@ -28,38 +30,50 @@ unary_misses room t ts e =
     ∙ cond_false (among (token_code t) (codes (BracketOpen ∷ []))) _ _ (no_test heads (BracketOpen ∷ []) t refl e)
     ∙ cond_false (among (token_code t) (codes (Str ∷ []))) _ _ (no_test heads (Str ∷ []) t refl e)
     ∙ cond_false (among (token_code t) (codes (Name ∷ []))) _ _ (no_test heads (Name ∷ []) t refl e)
-    ∙ ap (λ o. o >>= λ x. ret_r (tree.Int (integer_of x.0.sort) x.0.span) x.1) (cond_false (among (token_code t) (codes (Int ∷ []))) _ _ (no_test heads (Int ∷ []) t refl e))
+    ∙ ap (λ o. o >>= λ x. ret_r (tree.Int (integer_of x.0.sort) x.0.span) x.1)
+    (cond_false (among (token_code t) (codes (Int ∷ []))) _ _ (no_test heads (Int ∷ []) t refl e))
 
-level_misses : (limit : Option ℕ) (u : TokenReader Expr) (ts : List Token) (x : Why × List Token) → u ts ≡ Err x → (n : ℕ) → level_rule_r limit u n ts ≡ Err x
+level_misses : (limit : Option ℕ) (u : TokenReader Expr) (ts : List Token) (x : Why × List Token) → u ts ≡ Err x
+    → (n : ℕ) → level_rule_r limit u n ts ≡ Err x
 level_misses limit u ts x e zero = e
-level_misses limit u ts x e (suc n) = ap (λ o. o >>= λ y. while_r (signs n) (next_operand_r limit (level_rule_r limit u n) (signs n)) y.0 y.1) (level_misses limit u ts x e n)
+level_misses limit u ts x e (suc n) = ap (λ o. o >>= λ y.
+    while_r (signs n) (next_operand_r limit (level_rule_r limit u n) (signs n)) y.0 y.1)
+    (level_misses limit u ts x e n)
 
-pub expr_misses : (limit : Option ℕ) (d : ℕ) (ts : List Token) → begins token_code (codes heads) ts ≡ false → expr_r limit d ts ≡ Err (OperandDue, ts)
+pub expr_misses : (limit : Option ℕ) (d : ℕ) (ts : List Token) → begins token_code (codes heads) ts ≡ false
+    → expr_r limit d ts ≡ Err (OperandDue, ts)
 unfolding expr_r
 expr_misses limit d [] e = level_misses limit (unary_rule_r (room_r limit d)) [] (OperandDue, []) refl levels
 expr_misses limit d (t ∷ ts) e =
-    cond_false (pair_next token_code (codes (Name ∷ [])) (codes assign_signs) (t ∷ ts)) _ _ (cond_false (among (token_code t) (codes (Name ∷ []))) _ _ (no_test heads (Name ∷ []) t refl e))
-    ∙ level_misses limit (unary_rule_r (room_r limit d)) (t ∷ ts) (OperandDue, t ∷ ts) (unary_misses (room_r limit d) t ts e) levels
+    cond_false (pair_next token_code (codes (Name ∷ [])) (codes assign_signs) (t ∷ ts)) _ _
+    (cond_false (among (token_code t) (codes (Name ∷ []))) _ _ (no_test heads (Name ∷ []) t refl e))
+    ∙ level_misses limit (unary_rule_r (room_r limit d)) (t ∷ ts) (OperandDue, t ∷ ts)
+    (unary_misses (room_r limit d) t ts e) levels
 
-level_opens : (limit : Option ℕ) (u : Language Expr) (ts : List Token) → u.opens ts → (n : ℕ) → (level limit u n).opens ts
+level_opens : (limit : Option ℕ) (u : Language Expr) (ts : List Token) → u.opens ts → (n : ℕ)
+    → (level limit u n).opens ts
 level_opens limit u ts o zero = o
 level_opens limit u ts o (suc n) = inl (level_opens limit u ts o n)
 
-unary_covers : (limit : Option ℕ) (d : ℕ) (t : Token) → among (token_code t) (codes heads) ≡ true → (U limit (suc d)).opens (t ∷ [])
+unary_covers : (limit : Option ℕ) (d : ℕ) (t : Token) → among (token_code t) (codes heads) ≡ true
+    → (U limit (suc d)).opens (t ∷ [])
 unary_covers limit d t m =
     ⊎_elim (λ e. inl (inl (inr (t, refl, e)))) (λ m.
     ⊎_elim (λ e. inr (inl (inl (inr (t, refl, e))))) (λ m.
     ⊎_elim (λ e. inr (inr (inl (inl (inr (t, refl, e)))))) (λ m.
     ⊎_elim (λ e. inr (inr (inr (inl (inl (inr (t, refl, e))))))) (λ m.
     ⊎_elim (λ e. inr (inr (inr (inr (inl (inl (inr (t, refl, e)))))))) (λ m.
-    ⊎_elim (λ e. inr (inr (inr (inr (inr (inl (inl (inr (t, refl, e))))))))) (λ e. inr (inr (inr (inr (inr (inr (inl (inr (t, refl, e)))))))))
+    ⊎_elim (λ e. inr (inr (inr (inr (inr (inl (inl (inr (t, refl, e)))))))))
+    (λ e. inr (inr (inr (inr (inr (inr (inl (inr (t, refl, e)))))))))
     (append_cases (token_code t) (codes (Name ∷ [])) (codes (Int ∷ [])) m))
     (append_cases (token_code t) (codes (Str ∷ [])) (codes (Name ∷ Int ∷ [])) m))
     (append_cases (token_code t) (codes (BracketOpen ∷ [])) (codes (Str ∷ Name ∷ Int ∷ [])) m))
     (append_cases (token_code t) (codes (ParenOpen ∷ [])) (codes (BracketOpen ∷ Str ∷ Name ∷ Int ∷ [])) m))
     (append_cases (token_code t) (codes step_signs) (codes (ParenOpen ∷ BracketOpen ∷ Str ∷ Name ∷ Int ∷ [])) m))
-    (append_cases (token_code t) (codes prefix_signs) (codes step_signs ++ codes (ParenOpen ∷ BracketOpen ∷ Str ∷ Name ∷ Int ∷ [])) m)
+    (append_cases (token_code t) (codes prefix_signs)
+    (codes step_signs ++ codes (ParenOpen ∷ BracketOpen ∷ Str ∷ Name ∷ Int ∷ [])) m)
 
-pub expr_covers : (limit : Option ℕ) (d : ℕ) (t : Token) → among (token_code t) (codes heads) ≡ true → (expr limit (suc d)).opens (t ∷ [])
+pub expr_covers : (limit : Option ℕ) (d : ℕ) (t : Token) → among (token_code t) (codes heads) ≡ true
+    → (expr limit (suc d)).opens (t ∷ [])
 unfolding expr
 expr_covers limit d t m = inr (level_opens limit (U limit (suc d)) (t ∷ []) (unary_covers limit d t m) levels)

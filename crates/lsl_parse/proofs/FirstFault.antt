@@ -23,26 +23,31 @@ use Rattle.lsl_parse.proofs.Top.{Narrow, Reading, wide_rule, wide_same, not_open
 narrow : (u : List Token) (x : Tree) → (script Narrow most_constructs).whole u x → Shallow u
 narrow u x w = (wide_rule Narrow most_constructs (most_constructs + 2) (omega arith)).reads.within u x w
 
-pub found : (ts rest : List Token) (x : Tree) → all_r Narrow most_constructs ts ≡ Ok (x, rest) → (script Narrow most_constructs).whole ts x
+pub found : (ts rest : List Token) (x : Tree) → all_r Narrow most_constructs ts ≡ Ok (x, rest)
+    → (script Narrow most_constructs).whole ts x
 unfolding all_r
 found ts rest x e = go (script_r Narrow most_constructs ts) refl e
   where
-    go : (o : Reading) → script_r Narrow most_constructs ts ≡ o → (o >>= λ y. end_r y.0 y.1) ≡ Ok (x, rest) → (script Narrow most_constructs).whole ts x
+    go : (o : Reading) → script_r Narrow most_constructs ts ≡ o → (o >>= λ y. end_r y.0 y.1) ≡ Ok (x, rest)
+        → (script Narrow most_constructs).whole ts x
     go (Ok (y, [])) f e =
         let (u, s, w) = (wide_rule Narrow most_constructs (most_constructs + 2) (omega arith)).reads.sound ts [] y f in
         let same : y ≡ x = ap (λ (z : Tree × List Token). z.0) (ok_parts (y, []) (x, rest) e) in
-        subst (λ z. (script Narrow most_constructs).whole ts z) same (subst (λ l. (script Narrow most_constructs).whole l y) (sym (s ∙ append-nil u)) w)
+        subst (λ z. (script Narrow most_constructs).whole ts z) same
+        (subst (λ l. (script Narrow most_constructs).whole l y) (sym (s ∙ append-nil u)) w)
     go (Ok (y, t ∷ m)) f e = absurd (cc)
     go (Err y) f e = absurd (cc)
 
 -- where the reader of whole texts ends, nothing is left
-pub nothing_behind : (ts : List Token) (x : Tree) (t : Token) (m : List Token) → all_r Narrow most_constructs ts ≡ Ok (x, t ∷ m) → ⊥
+pub nothing_behind : (ts : List Token) (x : Tree) (t : Token) (m : List Token)
+    → all_r Narrow most_constructs ts ≡ Ok (x, t ∷ m) → ⊥
 unfolding all_r
 nothing_behind ts x t m e = go (script_r Narrow most_constructs ts) e
   where
     go : (o : Reading) → (o >>= λ y. end_r y.0 y.1) ≡ Ok (x, t ∷ m) → ⊥
     go (Ok (y, [])) e =
-        let rest : ◌≡◌ {A = List Token} [] (t ∷ m) = ap (λ (z : Tree × List Token). z.1) (ok_parts (y, []) (x, t ∷ m) e) in
+        let rest : ◌≡◌ {A = List Token} [] (t ∷ m) =
+        ap (λ (z : Tree × List Token). z.1) (ok_parts (y, []) (x, t ∷ m) e) in
         cc
     go (Ok (y, s ∷ l)) e = cc
     go (Err y) e = cc
@@ -50,27 +55,35 @@ nothing_behind ts x t m e = go (script_r Narrow most_constructs ts) e
 pub every : (ts : List Token) (x : Tree) → Derives ts x → all_r Narrow most_constructs ts ≡ Ok (x, [])
 unfolding all_r
 every ts x d =
-    let read : script_r Narrow most_constructs ts ≡ Ok (x, []) = ap (script_r Narrow most_constructs) (sym (append-nil ts)) ∙ (wide_rule Narrow most_constructs (most_constructs + 2) (omega arith)).reads.complete ts [] x d.derived refl in
+    let read : script_r Narrow most_constructs ts ≡ Ok (x, []) =
+    ap (script_r Narrow most_constructs) (sym (append-nil ts))
+    ∙ (wide_rule Narrow most_constructs (most_constructs + 2) (omega arith)).reads.complete ts [] x
+    d.derived refl in
     ap (λ o. o >>= λ y. end_r y.0 y.1) read
 
 -- tokens behind a whole script
-behind : (ts : List Token) (y : Tree) (t : Token) (m : List Token) → script_r Narrow most_constructs ts ≡ Ok (y, t ∷ m) → Stopped ts (why.Unexpected, t ∷ m)
+behind : (ts : List Token) (y : Tree) (t : Token) (m : List Token)
+    → script_r Narrow most_constructs ts ≡ Ok (y, t ∷ m) → Stopped ts (why.Unexpected, t ∷ m)
 behind ts y t m f =
     let (u, s, w) = (wide_rule Narrow most_constructs (most_constructs + 2) (omega arith)).reads.sound ts (t ∷ m) y f in
     record {
       front = u;
       there = s;
       opens = narrow u y w;
-      breaks = foreign_breaks ts u m t s (not_open ts u m t (Ok (y, t ∷ m)) s (wide_same ts (Ok (y, t ∷ m)) f (λ z. z)) (no_ends token_code probe t m)) (foreign_behind ts u m t y s w);
+      breaks = foreign_breaks ts u m t s (not_open ts u m t (Ok (y, t ∷ m)) s
+          (wide_same ts (Ok (y, t ∷ m)) f (λ z. z)) (no_ends token_code probe t m))
+          (foreign_behind ts u m t y s w);
     }
 
 pub stopped : (ts rest : List Token) (w : Why) → all_r Narrow most_constructs ts ≡ Err (w, rest) → Stopped ts (w, rest)
 unfolding all_r
 stopped ts rest w e = go (script_r Narrow most_constructs ts) refl e
   where
-    go : (o : Reading) → script_r Narrow most_constructs ts ≡ o → (o >>= λ y. end_r y.0 y.1) ≡ Err (w, rest) → Stopped ts (w, rest)
+    go : (o : Reading) → script_r Narrow most_constructs ts ≡ o → (o >>= λ y. end_r y.0 y.1) ≡ Err (w, rest)
+        → Stopped ts (w, rest)
     go (Ok (y, [])) f e = absurd (cc)
-    go (Ok (y, t ∷ m)) f e = subst (Stopped ts) (err_parts {T = Tree} (why.Unexpected, t ∷ m) (w, rest) e) (behind ts y t m f)
+    go (Ok (y, t ∷ m)) f e = subst (Stopped ts) (err_parts {T = Tree} (why.Unexpected, t ∷ m) (w, rest) e)
+        (behind ts y t m f)
     go (Err x) f e =
         let same : x ≡ (w, rest) = err_parts {T = Tree} x (w, rest) e in
         stop_of ts w rest (f ∙ ap (λ z. Err z) same)
@@ -123,7 +136,8 @@ same_kind p ts TooLarge FloatType b c = absurd (c.1 (shallow_open (take (p + 1) 
 same_kind p ts TooLarge TooDeep b c = absurd (c.2 b.1)
 same_kind p ts TooLarge TooLarge b c = refl
 
-pub one_first : (p q : ℕ) (ts : List Token) (k l : ParseKind) → ParseFirst ts p k → ParseFirst ts q l → (p ≡ q) × (k ≡ l)
+pub one_first : (p q : ℕ) (ts : List Token) (k l : ParseKind) → ParseFirst ts p k → ParseFirst ts q l → (p ≡ q)
+    × (k ≡ l)
 one_first p q ts k l f g =
     ⊎_elim
     (λ lt. absurd (not_before p q ts k l f g lt))
@@ -148,28 +162,39 @@ no_first p ts k x d f = go k f.here
     go TooLarge b = omega (arith, b.0, b.2, d.counted)
 
 pub unambiguous : (ts : List Token) (x y : Tree) → Derives ts x → Derives ts y → x ≡ y
-unambiguous ts x y d e = ap (λ (z : Tree × List Token). z.0) (ok_parts (x, []) (y, []) (sym (every ts x d) ∙ every ts y e))
+unambiguous ts x y d e = ap (λ (z : Tree × List Token). z.0)
+    (ok_parts (x, []) (y, []) (sym (every ts x d) ∙ every ts y e))
 
 -- As the clauses of the parser say it
 
 pub every_same : (ts : List Token) (x y : Tree) → all_r Narrow most_constructs ts ≡ Ok (x, []) → Derives ts y → x ≡ y
 every_same ts x y e d = ap (λ (z : Tree × List Token). z.0) (ok_parts (x, []) (y, []) (sym e ∙ every ts y d))
 
-pub every_none : (ts rest : List Token) (y : Tree) (w : Why) → all_r Narrow most_constructs ts ≡ Err (w, rest) → Derives ts y → ⊥
+pub every_none : (ts rest : List Token) (y : Tree) (w : Why) → all_r Narrow most_constructs ts ≡ Err (w, rest)
+    → Derives ts y → ⊥
 every_none ts rest y w f d = let both = sym f ∙ every ts y d in cc
 
 -- a stop at a token that may stand there
-pub first_stop : (ts rest : List Token) (w : Why) (end s : Span) → all_r Narrow most_constructs ts ≡ Err (w, rest) → length ts ≤ most_tokens + length rest → s ≡ span_at rest end 0 → (place : ℕ) × ParseFirst ts place (fault_kind w rest) × (s ≡ span_at ts end place)
+pub first_stop : (ts rest : List Token) (w : Why) (end s : Span)
+    → all_r Narrow most_constructs ts ≡ Err (w, rest) → length ts ≤ most_tokens + length rest
+    → s ≡ span_at rest end 0 → (place : ℕ) × ParseFirst ts place (fault_kind w rest)
+    × (s ≡ span_at ts end place)
 first_stop ts rest w end s e le f =
     let h = stopped ts rest w e in
-    let few : length h.front ≤ most_tokens = omega (arith, ap length h.there, length-append h.front rest, le) in
-    (length h.front, first_at ts h.front rest (fault_kind w rest) h.there h.opens few h.breaks, f ∙ sym (ap (λ l. span_at l end (length h.front)) h.there ∙ span-at h.front rest end))
+    let few : length h.front ≤ most_tokens = omega (arith, ap length h.there, length-append h.front rest, le) in (
+      length h.front,
+      first_at ts h.front rest (fault_kind w rest) h.there h.opens few h.breaks,
+      f
+          ∙ sym (ap (λ l. span_at l end (length h.front)) h.there ∙ span-at h.front rest end),
+    )
 
 -- a stop behind more tokens than there may be
-pub large_stop : (ts rest : List Token) (w : Why) → all_r Narrow most_constructs ts ≡ Err (w, rest) → most_tokens + length rest < length ts → ParseFirst ts most_tokens TooLarge
+pub large_stop : (ts rest : List Token) (w : Why) → all_r Narrow most_constructs ts ≡ Err (w, rest)
+    → most_tokens + length rest < length ts → ParseFirst ts most_tokens TooLarge
 large_stop ts rest w e lt =
     let h = stopped ts rest w e in
     too_many ts h.front rest h.there h.opens (omega (arith, ap length h.there, length-append h.front rest, lt))
 
-pub large_script : (ts : List Token) (x : Tree) → all_r Narrow most_constructs ts ≡ Ok (x, []) → most_tokens < length ts → ParseFirst ts most_tokens TooLarge
+pub large_script : (ts : List Token) (x : Tree) → all_r Narrow most_constructs ts ≡ Ok (x, [])
+    → most_tokens < length ts → ParseFirst ts most_tokens TooLarge
 large_script ts x e lt = too_many ts ts [] (sym (append-nil ts)) (narrow ts x (found ts [] x e)) lt

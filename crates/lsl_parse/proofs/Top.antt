@@ -37,7 +37,8 @@ take_all (t ∷ u) rest = ap (λ l. t ∷ l) (take_all u rest)
 take_one : (u rest : List Token) (t : Token) → take (length u + 1) (u ++ t ∷ rest) ≡ u ++ t ∷ []
 take_one u rest t =
     let n : length u + 1 ≡ length (u ++ t ∷ []) = omega (arith, length-append u (t ∷ [])) in
-    ap (λ m. take m (u ++ t ∷ rest)) n ∙ ap (take (length (u ++ t ∷ []))) (sym (append_assoc u (t ∷ []) rest)) ∙ take_all (u ++ t ∷ []) rest
+    ap (λ m. take m (u ++ t ∷ rest)) n ∙ ap (take (length (u ++ t ∷ []))) (sym (append_assoc u (t ∷ []) rest))
+    ∙ take_all (u ++ t ∷ []) rest
 
 length_take : (n : ℕ) (ts : List Token) → length (take n ts) ≤ n
 length_take zero ts = omega arith
@@ -75,68 +76,95 @@ Narrow = Some height_limit
 abbrev pub Reading : Type 0
 Reading = Read Token Tree
 
-pub wide_rule : (limit : Option ℕ) (d D : ℕ) → suc d < D → Rule token_code probe (script limit d) (script None D) (script_r limit d) (script_r None D) (codes header_heads ++ codes (sort.DefaultWord ∷ [])) (λ _. codes (sort.StateWord ∷ []))
+pub wide_rule : (limit : Option ℕ) (d D : ℕ) → suc d < D
+    → Rule token_code probe (script limit d) (script None D) (script_r limit d) (script_r None D)
+    (codes header_heads ++ codes (sort.DefaultWord ∷ [])) (λ _. codes (sort.StateWord ∷ []))
 wide_rule limit d D lt = script_is_read limit d D lt
 
 -- each front of what begins a script begins one
 pub front : (n : ℕ) (u : List Token) → Shallow u → Shallow (take n u)
-front n u o = (wide_rule Narrow most_constructs (most_constructs + 2) (omega arith)).fronts.closed (take n u) (drop n u) (subst Shallow (sym (take-append-drop n u)) o)
+front n u o = (wide_rule Narrow most_constructs (most_constructs + 2) (omega arith)).fronts.closed (take n u)
+    (drop n u) (subst Shallow (sym (take-append-drop n u)) o)
 
 front_of : (n : ℕ) (u rest : List Token) → n ≤ length u → Shallow u → Shallow (take n (u ++ rest))
 front_of n u rest le o = subst Shallow (sym (take-append-le n u rest le)) (front n u o)
 
 pub shallow_open : (u : List Token) → Shallow u → Open u
-shallow_open u o = (most_constructs + 2, (wide_rule Narrow most_constructs (most_constructs + 2) (omega arith)).mono.opens u o)
+shallow_open u o = (
+  most_constructs + 2,
+  (wide_rule Narrow most_constructs (most_constructs + 2)
+      (omega arith)).mono.opens u o,
+)
 
 wider_opens : (e D : ℕ) (u : List Token) → suc e < D → (script None e).opens u → (script None D).opens u
 wider_opens e D u lt o = (wide_rule None e D lt).mono.opens u o
 
 -- what didn't stop for a limit is read so within wider ones
-pub wide_same : (ts : List Token) (o : Reading) → script_r Narrow most_constructs ts ≡ o → (Sinks o → ⊥) → (D : ℕ) → suc most_constructs < D → script_r None D ts ≡ o
-wide_same ts o e h D lt = ⊎_elim (λ s. s ∙ e) (λ s. absurd (h (subst Sinks e s))) ((wide_rule Narrow most_constructs D lt).refines.agrees ts)
+pub wide_same : (ts : List Token) (o : Reading) → script_r Narrow most_constructs ts ≡ o → (Sinks o → ⊥)
+    → (D : ℕ) → suc most_constructs < D → script_r None D ts ≡ o
+wide_same ts o e h D lt = ⊎_elim (λ s. s ∙ e) (λ s. absurd (h (subst Sinks e s)))
+    ((wide_rule Narrow most_constructs D lt).refines.agrees ts)
 
 -- where reading stopped before a token, the tokens with it begin no script, however deep
-pub not_open : (ts u rest : List Token) (t : Token) (o : Reading) → ts ≡ u ++ t ∷ rest → ((D : ℕ) → suc most_constructs < D → script_r None D ts ≡ o) → (Past rest o → ⊥) → Open (u ++ t ∷ []) → ⊥
+pub not_open : (ts u rest : List Token) (t : Token) (o : Reading) → ts ≡ u ++ t ∷ rest
+    → ((D : ℕ) → suc most_constructs < D → script_r None D ts ≡ o) → (Past rest o → ⊥) → Open (u ++ t ∷ []) → ⊥
 not_open ts u rest t o s more h (e, w) =
     let D = e + most_constructs + 2 in
     let all : (u ++ t ∷ []) ++ rest ≡ ts = append_assoc u (t ∷ []) rest ∙ sym s in
-    let past : Past rest (script_r None D ((u ++ t ∷ []) ++ rest)) = (wide_rule None D (D + 2) (omega arith)).reads.past (u ++ t ∷ []) rest (wider_opens e D (u ++ t ∷ []) (omega arith) w) in
+    let past : Past rest (script_r None D ((u ++ t ∷ []) ++ rest)) =
+    (wide_rule None D (D + 2) (omega arith)).reads.past (u ++ t ∷ []) rest
+    (wider_opens e D (u ++ t ∷ []) (omega arith) w) in
     h (subst (Past rest) (ap (script_r None D) all ∙ more D (omega arith)) past)
 
 -- nor within the limits, where it stopped for one
-not_shallow : (ts u rest : List Token) (t : Token) (o : Reading) → ts ≡ u ++ t ∷ rest → script_r Narrow most_constructs ts ≡ o → (Past rest o → ⊥) → Shallow (u ++ t ∷ []) → ⊥
+not_shallow : (ts u rest : List Token) (t : Token) (o : Reading) → ts ≡ u ++ t ∷ rest
+    → script_r Narrow most_constructs ts ≡ o → (Past rest o → ⊥) → Shallow (u ++ t ∷ []) → ⊥
 not_shallow ts u rest t o s e h w =
     let all : (u ++ t ∷ []) ++ rest ≡ ts = append_assoc u (t ∷ []) rest ∙ sym s in
-    h (subst (Past rest) (ap (script_r Narrow most_constructs) all ∙ e) ((wide_rule Narrow most_constructs (most_constructs + 2) (omega arith)).reads.past (u ++ t ∷ []) rest w))
+    h (subst (Past rest) (ap (script_r Narrow most_constructs) all ∙ e)
+    ((wide_rule Narrow most_constructs (most_constructs + 2) (omega arith)).reads.past (u ++ t ∷ []) rest
+    w))
 
 -- what an operand's token would do in place of the one at which reading stopped
-no_operand : (u : List Token) → ((D : ℕ) → suc most_constructs < D → (i : Token) → token_code i ≡ probe → Past [] (script_r None D (u ++ i ∷ [])) → ⊥) → WantsOperand u → ⊥
+no_operand : (u : List Token) → ((D : ℕ) → suc most_constructs < D → (i : Token) → token_code i ≡ probe
+    → Past [] (script_r None D (u ++ i ∷ [])) → ⊥) → WantsOperand u → ⊥
 no_operand u h w =
     let e = w.goes_on.0 in
     let D = e + most_constructs + 2 in
     let i = w.operand in
-    let past : Past [] (script_r None D ((u ++ i ∷ []) ++ [])) = (wide_rule None D (D + 2) (omega arith)).reads.past (u ++ i ∷ []) [] (wider_opens e D (u ++ i ∷ []) (omega arith) w.goes_on.1) in
-    h D (omega arith) i (ap kind_of w.integer) (subst (λ l. Past [] (script_r None D l)) (append-nil (u ++ i ∷ [])) past)
+    let past : Past [] (script_r None D ((u ++ i ∷ []) ++ [])) =
+    (wide_rule None D (D + 2) (omega arith)).reads.past (u ++ i ∷ []) []
+    (wider_opens e D (u ++ i ∷ []) (omega arith) w.goes_on.1) in
+    h D (omega arith) i (ap kind_of w.integer)
+    (subst (λ l. Past [] (script_r None D l)) (append-nil (u ++ i ∷ [])) past)
 
 -- a stop at a foreign token
-foreign : (ts u m : List Token) (t : Token) → ts ≡ u ++ t ∷ m → script_r Narrow most_constructs ts ≡ Err (why.Unexpected, t ∷ m) → WantsOperand u → ⊥
+foreign : (ts u m : List Token) (t : Token) → ts ≡ u ++ t ∷ m
+    → script_r Narrow most_constructs ts ≡ Err (why.Unexpected, t ∷ m) → WantsOperand u → ⊥
 foreign ts u m t s e = no_operand u (λ D lt i k past.
-    let f : script_r None D ts ≡ Err (why.Unexpected, t ∷ m) = wide_same ts (Err (why.Unexpected, t ∷ m)) e (λ z. let y : ◌≡◌ {A = Why} why.Unexpected why.TooDeep = z in cc) D lt in
+    let f : script_r None D ts ≡ Err (why.Unexpected, t ∷ m) =
+    wide_same ts (Err (why.Unexpected, t ∷ m)) e (λ z. let y : ◌≡◌ {A = Why} why.Unexpected why.TooDeep =
+    z in cc) D lt in
     let (v, s', h) = (wide_rule None D (D + 2) (omega arith)).tells.tell ts (t ∷ m) why.Unexpected f in
     let same : v ≡ u = append_cancel_right v u (t ∷ m) (sym s' ∙ s) in
-    no_ends token_code probe i [] (subst (Past []) (ap (λ l. script_r None D (l ++ i ∷ [])) (sym same) ∙ h i [] k) past))
+    no_ends token_code probe i [] (subst (Past [])
+    (ap (λ l. script_r None D (l ++ i ∷ [])) (sym same) ∙ h i [] k) past))
 
 -- a token behind a whole script
-pub foreign_behind : (ts u m : List Token) (t : Token) (x : Tree) → ts ≡ u ++ t ∷ m → (script Narrow most_constructs).whole u x → WantsOperand u → ⊥
+pub foreign_behind : (ts u m : List Token) (t : Token) (x : Tree) → ts ≡ u ++ t ∷ m
+    → (script Narrow most_constructs).whole u x → WantsOperand u → ⊥
 foreign_behind ts u m t x s w = no_operand u (λ D lt i k past.
     let whole : (script None D).whole u x = (wide_rule Narrow most_constructs D lt).mono.whole u x w in
-    let stop : among (token_code i) (codes (sort.StateWord ∷ [])) ≡ false = ap (λ n. among n (codes (sort.StateWord ∷ []))) k in
-    let read : script_r None D (u ++ i ∷ []) ≡ Ok (x, i ∷ []) = (wide_rule None D (D + 2) (omega arith)).reads.complete u (i ∷ []) x whole stop in
+    let stop : among (token_code i) (codes (sort.StateWord ∷ [])) ≡ false =
+    ap (λ n. among n (codes (sort.StateWord ∷ []))) k in
+    let read : script_r None D (u ++ i ∷ []) ≡ Ok (x, i ∷ []) =
+    (wide_rule None D (D + 2) (omega arith)).reads.complete u (i ∷ []) x whole stop in
     no_ends token_code probe i [] (subst (Past []) read past))
 
 -- The fault of a stop
 
-pub first_at : (ts u rest : List Token) (k : ParseKind) → ts ≡ u ++ rest → Shallow u → length u ≤ most_tokens → Breaks ts (length u) k → ParseFirst ts (length u) k
+pub first_at : (ts u rest : List Token) (k : ParseKind) → ts ≡ u ++ rest → Shallow u → length u ≤ most_tokens
+    → Breaks ts (length u) k → ParseFirst ts (length u) k
 first_at ts u rest k s o le b = record {
   before = λ n h. record {
     shallow = subst (λ l. Shallow (take n l)) (sym s) (front_of n u rest h o);
@@ -146,13 +174,19 @@ first_at ts u rest k s o le b = record {
 }
 
 -- more tokens than there may be
-pub too_many : (ts u rest : List Token) → ts ≡ u ++ rest → Shallow u → most_tokens < length u → ParseFirst ts most_tokens TooLarge
+pub too_many : (ts u rest : List Token) → ts ≡ u ++ rest → Shallow u → most_tokens < length u
+    → ParseFirst ts most_tokens TooLarge
 too_many ts u rest s o lt = record {
   before = λ n h. record {
     shallow = subst (λ l. Shallow (take n l)) (sym s) (front_of n u rest (omega arith) o);
     counted = let c = length_take n ts in omega arith;
   };
-  here = (omega (arith, ap length s, length-append u rest), subst (λ l. Shallow (take (most_tokens + 1) l)) (sym s) (front_of (most_tokens + 1) u rest (omega arith) o), omega arith);
+  here = (
+    omega (arith, ap length s, length-append u rest),
+    subst (λ l. Shallow (take (most_tokens + 1) l))
+        (sym s) (front_of (most_tokens + 1) u rest (omega arith) o),
+    omega arith,
+  );
 }
 
 among_more : (k x : ℕ) (xs : List ℕ) → among k (x ∷ xs) ≡ true → (among k xs ≡ true → ⊥) → k ≡ x
@@ -188,9 +222,15 @@ module _ (ts u m : List Token) (t : Token) (s : ts ≡ u ++ t ∷ m) (closed : O
   pub foreign_breaks : (WantsOperand u → ⊥) → Breaks ts (length u) (fault_kind why.Unexpected (t ∷ m))
   foreign_breaks never = go (among (token_code t) (codes refused_words)) refl
     where
-      go : (b : Bool) → among (token_code t) (codes refused_words) ≡ b → Breaks ts (length u) (cond b FloatType Unexpected)
+      go : (b : Bool) → among (token_code t) (codes refused_words) ≡ b
+          → Breaks ts (length u) (cond b FloatType Unexpected)
       go true e = (below, not_open_at, float_type (inl e))
-      go false e = (below, not_open_at, no_float_type (λ f. ⊎_elim (λ h. let both = sym h ∙ e in cc) (λ (k, w). never w) f))
+      go false e = (
+        below,
+        not_open_at,
+        no_float_type
+            (λ f. ⊎_elim (λ h. let both = sym h ∙ e in cc) (λ (k, w). never w) f),
+      )
 
   due_breaks : WantsOperand u → Breaks ts (length u) (fault_kind why.OperandDue (t ∷ m))
   due_breaks w = go (among (token_code t) (codes (sort.Less ∷ refused_words))) refl
@@ -200,17 +240,24 @@ module _ (ts u m : List Token) (t : Token) (s : ts ≡ u ++ t ∷ m) (closed : O
         where
           by : (b : Bool) → among (token_code t) (codes refused_words) ≡ b → IsFloatType u t
           by true e = inl e
-          by false e = inr (is_less t.sort (among_more (token_code t) (kind_of sort.Less) (codes refused_words) h (λ z. let both = sym z ∙ e in cc)), w)
+          by false e = inr (
+            is_less t.sort
+                (among_more (token_code t) (kind_of sort.Less) (codes refused_words) h (λ z. let both =
+                sym z ∙ e in cc)),
+            w,
+          )
 
       in_them : IsFloatType u t → among (token_code t) (codes (sort.Less ∷ refused_words)) ≡ true
       in_them (inl h) = either (token_code t == kind_of sort.Less) h
         where
-          either : (b : Bool) → among (token_code t) (codes refused_words) ≡ true → (b || among (token_code t) (codes refused_words)) ≡ true
+          either : (b : Bool) → among (token_code t) (codes refused_words) ≡ true
+              → (b || among (token_code t) (codes refused_words)) ≡ true
           either true h = refl
           either false h = h
       in_them (inr (k, _)) = ap (λ z. among (kind_of z) (codes (sort.Less ∷ refused_words))) k
 
-      go : (b : Bool) → among (token_code t) (codes (sort.Less ∷ refused_words)) ≡ b → Breaks ts (length u) (cond b FloatType Unexpected)
+      go : (b : Bool) → among (token_code t) (codes (sort.Less ∷ refused_words)) ≡ b
+          → Breaks ts (length u) (cond b FloatType Unexpected)
       go true e = (below, not_open_at, float_type (less_or e))
       go false e = (below, not_open_at, no_float_type (λ f. let both = sym (in_them f) ∙ e in cc))
 
@@ -222,7 +269,8 @@ pub record Stopped (ts : List Token) (e : Why × List Token) : Type 0 where
   pub breaks : Breaks ts (length front) (fault_kind e.0 e.1)
 
 module _ (ts : List Token) where
-  pub stop_of : (w : Why) (rest : List Token) → script_r Narrow most_constructs ts ≡ Err (w, rest) → Stopped ts (w, rest)
+  pub stop_of : (w : Why) (rest : List Token) → script_r Narrow most_constructs ts ≡ Err (w, rest)
+      → Stopped ts (w, rest)
   stop_of w rest e =
       let r = wide_rule Narrow most_constructs (most_constructs + 2) (omega arith) in
       let (u, s, h) = r.tells.tell ts rest w e in
@@ -230,20 +278,48 @@ module _ (ts : List Token) where
       let same : v ≡ u = append_cancel_right v u rest (sym s' ∙ s) in
       record { front = u; there = s; opens = subst Shallow same o; breaks = by w rest e u s h }
     where
-      no_tree : (u : List Token) (w : Why) → script_r Narrow most_constructs ts ≡ Err (w, []) → (tree : Tree) → Derives ts tree → ⊥
-      no_tree u w e tree d = let g : script_r Narrow most_constructs ts ≡ Ok (tree, []) = ap (script_r Narrow most_constructs) (sym (append-nil ts)) ∙ (wide_rule Narrow most_constructs (most_constructs + 2) (omega arith)).reads.complete ts [] tree d.derived refl in let both = sym e ∙ g in cc
+      no_tree : (u : List Token) (w : Why) → script_r Narrow most_constructs ts ≡ Err (w, []) → (tree : Tree)
+          → Derives ts tree → ⊥
+      no_tree u w e tree d = let g : script_r Narrow most_constructs ts ≡ Ok (tree, []) =
+          ap (script_r Narrow most_constructs) (sym (append-nil ts))
+          ∙ (wide_rule Narrow most_constructs (most_constructs + 2) (omega arith)).reads.complete ts [] tree
+          d.derived refl in let both = sym e ∙ g in cc
 
       at_end : (u : List Token) → ts ≡ u ++ [] → length u ≡ length ts
       at_end u s = ap length (sym (append-nil u) ∙ sym s)
 
-      closed_at : (w : Why) (t : Token) (m u : List Token) → script_r Narrow most_constructs ts ≡ Err (w, t ∷ m) → ts ≡ u ++ t ∷ m → (w ≡ why.TooDeep → ⊥) → Open (u ++ t ∷ []) → ⊥
-      closed_at w t m u e s other = not_open ts u m t (Err (w, t ∷ m)) s (wide_same ts (Err (w, t ∷ m)) e other) (no_ends token_code probe t m)
+      closed_at : (w : Why) (t : Token) (m u : List Token) → script_r Narrow most_constructs ts ≡ Err (w, t ∷ m)
+          → ts ≡ u ++ t ∷ m → (w ≡ why.TooDeep → ⊥) → Open (u ++ t ∷ []) → ⊥
+      closed_at w t m u e s other = not_open ts u m t (Err (w, t ∷ m)) s (wide_same ts (Err (w, t ∷ m)) e other)
+          (no_ends token_code probe t m)
 
       the_int : Token → Token
       the_int t = record { sort = sort.Int (pos 0); span = t.span }
 
-      by : (w : Why) (rest : List Token) → script_r Narrow most_constructs ts ≡ Err (w, rest) → (u : List Token) → ts ≡ u ++ rest → Hint token_code probe (script None (most_constructs + 2)) (script_r Narrow most_constructs) w u rest → Breaks ts (length u) (fault_kind w rest)
+      by : (w : Why) (rest : List Token) → script_r Narrow most_constructs ts ≡ Err (w, rest) → (u : List Token)
+          → ts ≡ u ++ rest → Hint token_code probe (script None (most_constructs + 2))
+          (script_r Narrow most_constructs) w u rest → Breaks ts (length u) (fault_kind w rest)
       by w [] e u s h = (at_end u s, no_tree u w e)
-      by why.TooDeep (t ∷ m) e u s h = (omega (arith, ap length s, place_below u m t), (most_constructs + 2, subst ((script None (most_constructs + 2)).opens) (sym (ap (take (length u + 1)) s ∙ take_one u m t)) h), λ o. not_shallow ts u m t (Err (why.TooDeep, t ∷ m)) s e (no_ends token_code probe t m) (subst Shallow (ap (take (length u + 1)) s ∙ take_one u m t) o))
-      by why.Unexpected (t ∷ m) e u s h = foreign_breaks ts u m t s (closed_at why.Unexpected t m u e s (λ z. cc)) (foreign ts u m t s e)
-      by why.OperandDue (t ∷ m) e u s h = due_breaks ts u m t s (closed_at why.OperandDue t m u e s (λ z. cc)) (record { operand = the_int t; value = pos 0; integer = refl; goes_on = (most_constructs + 2, h (the_int t) refl) })
+      by why.TooDeep (t ∷ m) e u s h = (
+        omega
+            (arith, ap length s, place_below u m t),
+        (
+          most_constructs + 2,
+          subst
+              ((script None (most_constructs + 2)).opens) (sym (ap (take (length u + 1)) s ∙ take_one u m t))
+              h,
+        ),
+        λ o. not_shallow ts u m t (Err (why.TooDeep, t ∷ m)) s e (no_ends token_code probe t m)
+            (subst Shallow (ap (take (length u + 1)) s ∙ take_one u m t) o),
+      )
+      by why.Unexpected (t ∷ m) e u s h =
+          foreign_breaks ts u m t s (closed_at why.Unexpected t m u e s (λ z. cc)) (foreign ts u m t s e)
+      by why.OperandDue (t ∷ m) e u s h =
+          due_breaks ts u m t s (closed_at why.OperandDue t m u e s (λ z. cc))
+          (record {
+            operand = the_int t;
+            value = pos 0;
+            integer = refl;
+            goes_on =
+                (most_constructs + 2, h (the_int t) refl);
+          })

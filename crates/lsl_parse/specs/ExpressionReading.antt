@@ -72,7 +72,8 @@ pub data Room_r : Type 0 where
   Full_r : Room_r
   Inside_r : (expr unary : TokenReader Expr) → Room_r
 
-abbrev pub construct_r : {T : Type 0} → List Sort → Room_r → (TokenReader Expr → TokenReader Expr → TokenReader T) → TokenReader T
+abbrev pub construct_r : {T : Type 0} → List Sort → Room_r
+    → (TokenReader Expr → TokenReader Expr → TokenReader T) → TokenReader T
 construct_r ks Full_r rule = shut_r ks
 construct_r ks (Inside_r expr unary) rule = rule expr unary
 
@@ -187,7 +188,8 @@ assignment_r room = do
   value_r room name
 
 abbrev pub expr_rule_r : Option ℕ → Room_r → TokenReader Expr
-expr_rule_r limit room = pair_r token_code (codes (Name ∷ [])) (codes assign_signs) (assignment_r room) (level_rule_r limit (unary_rule_r room) levels)
+expr_rule_r limit room = pair_r token_code (codes (Name ∷ [])) (codes assign_signs) (assignment_r room)
+    (level_rule_r limit (unary_rule_r room) levels)
 
 abbrev pub room_r : Option ℕ → ℕ → Room_r
 room_r limit zero = Full_r

@@ -28,7 +28,8 @@ large_fault tokens end = record { kind = TooLarge; span = span_at tokens end mos
 
 -- the fault of a stop, or that of the first token too many, which comes before it
 abbrev pub stop_fault : List Token → Span → Why → List Token → ParseFault
-stop_fault tokens end w rest = cond (nat_lt (most_tokens + length rest) (length tokens)) (large_fault tokens end) (record { kind = fault_kind w rest; span = span_at rest end 0 })
+stop_fault tokens end w rest = cond (nat_lt (most_tokens + length rest) (length tokens))
+    (large_fault tokens end) (record { kind = fault_kind w rest; span = span_at rest end 0 })
 
 abbrev pub answer_to : List Token → Span → Read Token Tree → Result Tree ParseFault
 answer_to tokens end (Ok x) = cond (nat_lt most_tokens (length tokens)) (Err (large_fault tokens end)) (Ok x.0)

@@ -56,9 +56,12 @@ pub record IsFloatTypeAt (tokens : List Token) (place : ℕ) : Type 0 where
 -- what is wrong with the token at this place, or with the end
 abbrev pub Breaks : List Token → ℕ → ParseKind → Type 0
 Breaks tokens place EndOfText = (place ≡ length tokens) × ((tree : Tree) → Derives tokens tree → ⊥)
-Breaks tokens place Unexpected = (place < length tokens) × (Open (take (place + 1) tokens) → ⊥) × (IsFloatTypeAt tokens place → ⊥)
-Breaks tokens place FloatType = (place < length tokens) × (Open (take (place + 1) tokens) → ⊥) × IsFloatTypeAt tokens place
-Breaks tokens place TooDeep = (place < length tokens) × Open (take (place + 1) tokens) × (Shallow (take (place + 1) tokens) → ⊥)
+Breaks tokens place Unexpected = (place < length tokens) × (Open (take (place + 1) tokens) → ⊥)
+    × (IsFloatTypeAt tokens place → ⊥)
+Breaks tokens place FloatType = (place < length tokens) × (Open (take (place + 1) tokens) → ⊥)
+    × IsFloatTypeAt tokens place
+Breaks tokens place TooDeep = (place < length tokens) × Open (take (place + 1) tokens)
+    × (Shallow (take (place + 1) tokens) → ⊥)
 Breaks tokens place TooLarge = (place < length tokens) × Shallow (take (place + 1) tokens) × (most_tokens ≤ place)
 
 -- the earliest place with whose token the tokens begin no script within the limits, or the end, where they are none

@@ -91,7 +91,8 @@ abbrev pub typed_r : StmtRoom_r → TokenReader Header
 typed_r room = do
   kind ← any_r types
   name ← sign_r Name
-  where_r (ParenOpen ∷ []) (function_behind_r room (Some (type_of kind.sort)) (name_of name)) (global_behind_r (type_of kind.sort) (name_of name))
+  where_r (ParenOpen ∷ []) (function_behind_r room (Some (type_of kind.sort)) (name_of name))
+      (global_behind_r (type_of kind.sort) (name_of name))
 
 abbrev pub untyped_r : StmtRoom_r → TokenReader Header
 untyped_r room = do

@@ -146,7 +146,8 @@ simple expr =
       ret (tree.Expression value))
 
 abbrev pub statement_rule : Language Expr → StmtRoom → Language Stmt
-statement_rule expr room = braces room ∣ if_rule expr room ∣ while_rule expr room ∣ do_rule expr room ∣ for_rule expr room ∣ jump_rule ∣ return_rule expr ∣ state_rule ∣ simple expr
+statement_rule expr room = braces room ∣ if_rule expr room ∣ while_rule expr room ∣ do_rule expr room ∣ for_rule
+    expr room ∣ jump_rule ∣ return_rule expr ∣ state_rule ∣ simple expr
 
 -- TYPE NAME [ '=' expr ] ';'
 abbrev pub declaration : Language Expr → Language Item
@@ -181,4 +182,6 @@ item_rule expr statement = declaration expr ∣ label ∣ statement_item stateme
 -- what stands inside at most so many more constructs
 abbrev pub stmt_room_of : Option ℕ → ℕ → StmtRoom
 stmt_room_of limit zero = Shut
-stmt_room_of limit (suc d) = Holds (item_rule (expr limit d) (statement_rule (expr limit d) (stmt_room_of limit d))) (statement_rule (expr limit d) (stmt_room_of limit d))
+stmt_room_of limit (suc d) = Holds (item_rule (expr limit d)
+    (statement_rule (expr limit d) (stmt_room_of limit d)))
+    (statement_rule (expr limit d) (stmt_room_of limit d))

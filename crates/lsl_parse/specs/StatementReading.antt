@@ -16,13 +16,15 @@ use Rattle.lsl_parse.specs.ExpressionReading.{TokenReader, ◌>>=◌, any_r, sig
 
 -- the first tokens of a statement
 abbrev pub statement_heads : List Sort
-statement_heads = BraceOpen ∷ IfWord ∷ WhileWord ∷ DoWord ∷ ForWord ∷ JumpWord ∷ ReturnWord ∷ StateWord ∷ Semicolon ∷ Minus ∷ Bang ∷ Tilde ∷ PlusPlus ∷ MinusMinus ∷ ParenOpen ∷ BracketOpen ∷ Str ∷ Name ∷ Int ∷ []
+statement_heads = BraceOpen ∷ IfWord ∷ WhileWord ∷ DoWord ∷ ForWord ∷ JumpWord ∷ ReturnWord ∷ StateWord
+    ∷ Semicolon ∷ Minus ∷ Bang ∷ Tilde ∷ PlusPlus ∷ MinusMinus ∷ ParenOpen ∷ BracketOpen ∷ Str ∷ Name ∷ Int ∷ []
 
 pub data StmtRoom_r : Type 0 where
   Shut_r : StmtRoom_r
   Holds_r : (item : TokenReader Item) → (statement : TokenReader Stmt) → StmtRoom_r
 
-abbrev pub enclosed_r : {T : Type 0} → Why → List Sort → StmtRoom_r → (TokenReader Item → TokenReader Stmt → TokenReader T) → TokenReader T
+abbrev pub enclosed_r : {T : Type 0} → Why → List Sort → StmtRoom_r
+    → (TokenReader Item → TokenReader Stmt → TokenReader T) → TokenReader T
 enclosed_r why ks Shut_r rule = deep_r token_code why (codes ks)
 enclosed_r why ks (Holds_r item statement) rule = rule item statement
 
@@ -184,7 +186,9 @@ item_rule_r expr statement = where_r types (declaration_r expr) (where_r (At ∷
 
 abbrev pub stmt_room_r : Option ℕ → ℕ → StmtRoom_r
 stmt_room_r limit zero = Shut_r
-stmt_room_r limit (suc d) = Holds_r (item_rule_r (expr_r limit d) (statement_rule_r (expr_r limit d) (stmt_room_r limit d))) (statement_rule_r (expr_r limit d) (stmt_room_r limit d))
+stmt_room_r limit (suc d) = Holds_r (item_rule_r (expr_r limit d)
+    (statement_rule_r (expr_r limit d) (stmt_room_r limit d)))
+    (statement_rule_r (expr_r limit d) (stmt_room_r limit d))
 
 unfoldable pub statement_r : Option ℕ → ℕ → TokenReader Stmt
 statement_r limit d = statement_rule_r (expr_r limit d) (stmt_room_r limit d)

@@ -103,16 +103,20 @@ fn fault_of(tokens: &[Token], end: Span, stop: Stop) -> ParseFault
 
 /// The tree of a script's tokens, or their first fault.
 ///
-/// Takes memory for the tree: names and strings are copied. Time is linear in the tokens, and no more than 200 constructs deep.
+/// Takes memory for the tree: names and strings are copied. Time is linear in the tokens, and no more than 200
+/// constructs deep.
 pub fn parse(alloc: Global, tokens: &Tokens) -> Result<Tree, Refusal<ParseFault>>
     // What is found is the tree of the tokens.
     ensures found { IfOk result (λ tree. Derives tokens.now.list (tree_of tree)) }
     // Tokens that have a tree are accepted with it, unless memory runs out.
-    ensures every { (script : tree.Tree) → Derives tokens.now.list script → MatchResult result (λ tree. tree_of tree ≡ script) (λ refusal. refusal ≡ Refusal.NoMemory) }
+    ensures every { (script : tree.Tree) → Derives tokens.now.list script
+        → MatchResult result (λ tree. tree_of tree ≡ script) (λ refusal. refusal ≡ Refusal.NoMemory) }
     // A fault is the first one.
     ensures first { IfErr result (λ refusal. IfFault refusal (IsFirst tokens.now.list tokens.now.end)) }
     // Tokens that have a first fault are refused with it, unless memory runs out.
-    ensures only { (place : ℕ) (kind : ParseKind) → ParseFirst tokens.now.list place kind → MatchResult result (λ _. ⊥) (λ refusal. IfFault refusal (IsFaultAt tokens.now.list tokens.now.end place kind)) }
+    ensures only { (place : ℕ) (kind : ParseKind) → ParseFirst tokens.now.list place kind
+        → MatchResult result (λ _. ⊥) (λ refusal.
+        IfFault refusal (IsFaultAt tokens.now.list tokens.now.end place kind)) }
 {
     let list = tokens.list.as_slice();
     match whole(alloc, list) {

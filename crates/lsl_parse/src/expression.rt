@@ -1,6 +1,7 @@
 //! Expressions, one function for each rule of the grammar.
 //!
-//! `room` is how many constructs may still be opened here. The next token decides, and before an assignment the next two.
+//! `room` is how many constructs may still be opened here. The next token decides, and before an assignment the
+//! next two.
 
 ghost use Rattle.std.specs.Prelude.{◌≡◌, ◌<◌, ℕ, [], ◌∷◌, None, Some, Ok, true, false, IfSome};
 ghost use Rattle.lsl_grammar.specs.Reading.{pair_next, begins};
@@ -49,7 +50,8 @@ pub fn expr(alloc: Global, room: u32, tokens: &[Token]) -> Found<'_, Operand>
 
 #[cycle(expression)]
 fn assignment(alloc: Global, room: u32, tokens: &[Token]) -> Found<'_, Operand>
-    ensures { Parses (λ x. (expr_of x.0.expr, x.1.now)) result (assignment_r (room_r (Some height_limit) room) tokens.now) }
+    ensures { Parses (λ x. (expr_of x.0.expr, x.1.now)) result
+        (assignment_r (room_r (Some height_limit) room) tokens.now) }
 {
     let (name, rest) = take::name(tokens)?;
     if room == 0 {
@@ -94,7 +96,8 @@ fn prefix(alloc: Global, room: u32, tokens: &[Token]) -> Found<'_, Operand>
 }
 
 fn step_before(room: u32, tokens: &[Token]) -> Found<'_, Operand>
-    ensures { Parses (λ x. (expr_of x.0.expr, x.1.now)) result (step_before_r (room_r (Some height_limit) room) tokens.now) }
+    ensures { Parses (λ x. (expr_of x.0.expr, x.1.now)) result
+        (step_before_r (room_r (Some height_limit) room) tokens.now) }
 {
     if room == 0 {
         return Err(Refusal::Fault(shut(tokens, next::is_step(tokens), Why::Unexpected)));
@@ -181,7 +184,8 @@ fn named(alloc: Global, room: u32, tokens: &[Token]) -> Found<'_, Operand>
 
 #[cycle(expression)]
 fn arguments(alloc: Global, room: u32, tokens: &[Token]) -> Found<'_, Operands>
-    ensures { Parses (λ x. (exprs_of x.0.exprs.items, x.1.now)) result (arguments_r (room_r (Some height_limit) room) tokens.now) }
+    ensures { Parses (λ x. (exprs_of x.0.exprs.items, x.1.now)) result
+        (arguments_r (room_r (Some height_limit) room) tokens.now) }
 {
     if room == 0 {
         return Err(Refusal::Fault(shut(tokens, next::is_paren_open(tokens), Why::Unexpected)));
@@ -193,7 +197,8 @@ fn arguments(alloc: Global, room: u32, tokens: &[Token]) -> Found<'_, Operands>
 /// Expressions, if any, and the closing sign.
 #[cycle(expression)]
 pub fn expressions(alloc: Global, room: u32, close: Close, tokens: &[Token]) -> Found<'_, Operands>
-    ensures { Parses (λ x. (exprs_of x.0.exprs.items, x.1.now)) result (expressions_r (sign_of close) (expr_r (Some height_limit) room) tokens.now) }
+    ensures { Parses (λ x. (exprs_of x.0.exprs.items, x.1.now)) result
+        (expressions_r (sign_of close) (expr_r (Some height_limit) room) tokens.now) }
 {
     if close.is_next(tokens) {
         let (_, rest) = close.take(tokens)?;
@@ -208,7 +213,8 @@ pub fn expressions(alloc: Global, room: u32, close: Close, tokens: &[Token]) -> 
 /// Expressions between commas.
 #[cycle(expression)]
 fn series(alloc: Global, room: u32, tokens: &[Token]) -> Found<'_, Operands>
-    ensures { Parses (λ x. (exprs_of x.0.exprs.items, x.1.now)) result (series_r AndExpr NoExpr (expr_r (Some height_limit) room) tokens.now) }
+    ensures { Parses (λ x. (exprs_of x.0.exprs.items, x.1.now)) result
+        (series_r AndExpr NoExpr (expr_r (Some height_limit) room) tokens.now) }
 {
     let (first, mut rest) = expr(alloc, room, tokens)?;
     let mut all = Operands::new(alloc);
@@ -232,7 +238,9 @@ fn operation(
     tokens: &[Token],
 ) -> Found<'_, Operand>
     requires { begins token_code (codes (signs n)) tokens.now ≡ true }
-    ensures { Parses (λ x. (expr_of x.0.expr, x.1.now)) result (next_operand_r (Some height_limit) (level_r (Some height_limit) room n) (signs n) (expr_of left.expr) tokens.now) }
+    ensures { Parses (λ x. (expr_of x.0.expr, x.1.now)) result
+        (next_operand_r (Some height_limit) (level_r (Some height_limit) room n) (signs n) (expr_of left.expr)
+        tokens.now) }
 {
     let [op, rest @ ..] = tokens else {
         return Err(Refusal::Fault(shut(tokens, false, Why::Unexpected)));
@@ -283,7 +291,8 @@ pub fn value(alloc: Global, room: u32, tokens: &[Token]) -> Found<'_, Expr>
 
 /// Expressions, if any, and the closing sign, where their heights don't matter.
 pub fn values(alloc: Global, room: u32, close: Close, tokens: &[Token]) -> Found<'_, Vec<Expr>>
-    ensures { Parses (λ x. (exprs_of x.0.items, x.1.now)) result (expressions_r (sign_of close) (expr_r (Some height_limit) room) tokens.now) }
+    ensures { Parses (λ x. (exprs_of x.0.items, x.1.now)) result
+        (expressions_r (sign_of close) (expr_r (Some height_limit) room) tokens.now) }
 {
     let (operands, rest) = expressions(alloc, room, close, tokens)?;
     Ok((operands.exprs, rest))

@@ -1,7 +1,7 @@
 //! Token lists as syntax trees, or their first fault.
 //!
-//! [`parse`] is a recursive descent with one token ahead, before an assignment two: it goes back to no token, and copies no
-//! list of tokens. It never checks what names mean.
+//! [`parse`] is a recursive descent with one token ahead, before an assignment two: it goes back to no token,
+//! and copies no list of tokens. It never checks what names mean.
 #![tactic(auto)]
 
 mod answer;

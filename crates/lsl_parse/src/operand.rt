@@ -47,7 +47,8 @@ impl Operands {
 
     /// One more at the end.
     pub fn push(&mut self, next: Operand) -> Result<(), NoMemory>
-        ensures { OnOk result (exprs_of self.new.exprs.items ≡ AndExpr (exprs_of self.old.exprs.items) (expr_of next.expr)) }
+        ensures { OnOk result (exprs_of self.new.exprs.items
+            ≡ AndExpr (exprs_of self.old.exprs.items) (expr_of next.expr)) }
     {
         let Operand { expr, height } = next;
         self.exprs.push(expr)?;

@@ -170,7 +170,8 @@ fn function_behind<'a>(
     token: &'a Token,
     tokens: &'a [Token],
 ) -> Found<'a, Header>
-    ensures { Parses (λ x. (header_of x.0, x.1.now)) result (function_behind_r (stmt_room_r (Some height_limit) room) kind (name_of token.now) tokens.now) }
+    ensures { Parses (λ x. (header_of x.0, x.1.now)) result
+        (function_behind_r (stmt_room_r (Some height_limit) room) kind (name_of token.now) tokens.now) }
 {
     let (params, rest) = params(alloc, tokens)?;
     let (body, rest) = block(alloc, room, rest)?;
@@ -186,7 +187,8 @@ fn function_behind<'a>(
 
 /// A global or a function.
 fn header(alloc: Memory, room: u32, tokens: &[Token]) -> Found<'_, Header>
-    ensures { Parses (λ x. (header_of x.0, x.1.now)) result (header_r (stmt_room_r (Some height_limit) room) tokens.now) }
+    ensures { Parses (λ x. (header_of x.0, x.1.now)) result
+        (header_r (stmt_room_r (Some height_limit) room) tokens.now) }
 {
     if next::is_type(tokens) {
         let (kind, rest) = take::type_word(tokens)?;
@@ -205,7 +207,8 @@ fn header(alloc: Memory, room: u32, tokens: &[Token]) -> Found<'_, Header>
 
 /// Globals and functions, as many as stand here.
 fn headers(alloc: Memory, room: u32, tokens: &[Token]) -> Found<'_, Vec<Header>>
-    ensures { Parses (λ x. (map header_of x.0.items, x.1.now)) result (many_r header_heads (header_r (stmt_room_r (Some height_limit) room)) [] tokens.now) }
+    ensures { Parses (λ x. (map header_of x.0.items, x.1.now)) result
+        (many_r header_heads (header_r (stmt_room_r (Some height_limit) room)) [] tokens.now) }
 {
     let mut all = Vec::new(alloc);
     let mut rest = tokens;
@@ -218,7 +221,8 @@ fn headers(alloc: Memory, room: u32, tokens: &[Token]) -> Found<'_, Vec<Header>>
 }
 
 fn handler(alloc: Memory, room: u32, tokens: &[Token]) -> Found<'_, Handler>
-    ensures { Parses (λ x. (handler_of x.0, x.1.now)) result (handler_r (stmt_room_r (Some height_limit) room) tokens.now) }
+    ensures { Parses (λ x. (handler_of x.0, x.1.now)) result
+        (handler_r (stmt_room_r (Some height_limit) room) tokens.now) }
 {
     let (token, rest) = take::name(tokens)?;
     let (params, rest) = params(alloc, rest)?;
@@ -234,7 +238,9 @@ fn more_handlers(
     first: Handler,
     tokens: &[Token],
 ) -> Found<'_, Vec<Handler>>
-    ensures { Parses (λ x. (map handler_of x.0.items, x.1.now)) result (many_r (Name ∷ []) (handler_r (stmt_room_r (Some height_limit) room)) (handler_of first ∷ []) tokens.now) }
+    ensures { Parses (λ x. (map handler_of x.0.items, x.1.now)) result
+        (many_r (Name ∷ []) (handler_r (stmt_room_r (Some height_limit) room)) (handler_of first ∷ [])
+        tokens.now) }
 {
     let mut all = Vec::new(alloc);
     all.push(first)?;
@@ -249,7 +255,8 @@ fn more_handlers(
 
 /// The handlers of a state, in its braces.
 fn handlers(alloc: Memory, room: u32, tokens: &[Token]) -> Found<'_, Vec<Handler>>
-    ensures { Parses (λ x. (map handler_of x.0.items, x.1.now)) result (handlers_r (stmt_room_r (Some height_limit) room) tokens.now) }
+    ensures { Parses (λ x. (map handler_of x.0.items, x.1.now)) result
+        (handlers_r (stmt_room_r (Some height_limit) room) tokens.now) }
 {
     let (_, rest) = take::brace_open(tokens)?;
     let (first, rest) = handler(alloc, room, rest)?;
@@ -271,7 +278,8 @@ fn state(alloc: Memory, room: u32, tokens: &[Token]) -> Found<'_, State>
 
 /// States, as many as stand here.
 fn states(alloc: Memory, room: u32, tokens: &[Token]) -> Found<'_, Vec<State>>
-    ensures { Parses (λ x. (map state_of x.0.items, x.1.now)) result (many_r (StateWord ∷ []) (state_r (stmt_room_r (Some height_limit) room)) [] tokens.now) }
+    ensures { Parses (λ x. (map state_of x.0.items, x.1.now)) result
+        (many_r (StateWord ∷ []) (state_r (stmt_room_r (Some height_limit) room)) [] tokens.now) }
 {
     let mut all = Vec::new(alloc);
     let mut rest = tokens;

@@ -55,7 +55,8 @@ fn braces(alloc: Global, room: u32, tokens: &[Token]) -> Found<'_, Stmt>
 /// A block: what stands between its braces.
 #[cycle(statement)]
 pub fn block(alloc: Global, room: u32, tokens: &[Token]) -> Found<'_, Vec<Item>>
-    ensures { Parses (λ x. (items_of x.0.items, x.1.now)) result (block_r (stmt_room_r (Some height_limit) room) tokens.now) }
+    ensures { Parses (λ x. (items_of x.0.items, x.1.now)) result
+        (block_r (stmt_room_r (Some height_limit) room) tokens.now) }
 {
     if room == 0 {
         return Err(Refusal::Fault(shut(tokens, next::is_brace_open(tokens), Why::Unexpected)));
@@ -69,7 +70,8 @@ pub fn block(alloc: Global, room: u32, tokens: &[Token]) -> Found<'_, Vec<Item>>
 /// What stands in a block up to its end.
 #[cycle(statement)]
 fn items(alloc: Global, room: u32, tokens: &[Token]) -> Found<'_, Vec<Item>>
-    ensures { Parses (λ x. (items_of x.0.items, x.1.now)) result (items_r (item_r (Some height_limit) room) tokens.now) }
+    ensures { Parses (λ x. (items_of x.0.items, x.1.now)) result
+        (items_r (item_r (Some height_limit) room) tokens.now) }
 {
     let mut all = Vec::new(alloc);
     let mut rest = tokens;
@@ -140,7 +142,8 @@ fn body(alloc: Global, room: u32, tokens: &[Token]) -> Found<'_, Stmt>
 
 #[cycle(statement)]
 fn if_statement(alloc: Global, room: u32, tokens: &[Token]) -> Found<'_, Stmt>
-    ensures { Parses (λ x. (stmt_of x.0, x.1.now)) result (if_r (expr_r (Some height_limit) room) (stmt_room_r (Some height_limit) room) tokens.now) }
+    ensures { Parses (λ x. (stmt_of x.0, x.1.now)) result
+        (if_r (expr_r (Some height_limit) room) (stmt_room_r (Some height_limit) room) tokens.now) }
 {
     let (start, rest) = take::if_word(tokens)?;
     let (_, rest) = take::paren_open(rest)?;
@@ -169,7 +172,8 @@ fn if_statement(alloc: Global, room: u32, tokens: &[Token]) -> Found<'_, Stmt>
 
 #[cycle(statement)]
 fn while_statement(alloc: Global, room: u32, tokens: &[Token]) -> Found<'_, Stmt>
-    ensures { Parses (λ x. (stmt_of x.0, x.1.now)) result (while_rule_r (expr_r (Some height_limit) room) (stmt_room_r (Some height_limit) room) tokens.now) }
+    ensures { Parses (λ x. (stmt_of x.0, x.1.now)) result
+        (while_rule_r (expr_r (Some height_limit) room) (stmt_room_r (Some height_limit) room) tokens.now) }
 {
     let (start, rest) = take::while_word(tokens)?;
     let (_, rest) = take::paren_open(rest)?;
@@ -183,7 +187,8 @@ fn while_statement(alloc: Global, room: u32, tokens: &[Token]) -> Found<'_, Stmt
 
 #[cycle(statement)]
 fn do_statement(alloc: Global, room: u32, tokens: &[Token]) -> Found<'_, Stmt>
-    ensures { Parses (λ x. (stmt_of x.0, x.1.now)) result (do_r (expr_r (Some height_limit) room) (stmt_room_r (Some height_limit) room) tokens.now) }
+    ensures { Parses (λ x. (stmt_of x.0, x.1.now)) result
+        (do_r (expr_r (Some height_limit) room) (stmt_room_r (Some height_limit) room) tokens.now) }
 {
     let (start, rest) = take::do_word(tokens)?;
     let (inner, rest) = body(alloc, room, rest)?;
@@ -199,7 +204,8 @@ fn do_statement(alloc: Global, room: u32, tokens: &[Token]) -> Found<'_, Stmt>
 
 #[cycle(statement)]
 fn for_statement(alloc: Global, room: u32, tokens: &[Token]) -> Found<'_, Stmt>
-    ensures { Parses (λ x. (stmt_of x.0, x.1.now)) result (for_r (expr_r (Some height_limit) room) (stmt_room_r (Some height_limit) room) tokens.now) }
+    ensures { Parses (λ x. (stmt_of x.0, x.1.now)) result
+        (for_r (expr_r (Some height_limit) room) (stmt_room_r (Some height_limit) room) tokens.now) }
 {
     let (word, rest) = take::for_word(tokens)?;
     let (_, rest) = take::paren_open(rest)?;

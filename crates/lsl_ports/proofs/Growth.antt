@@ -27,5 +27,7 @@ prefix-grew (Some old) b xs rest all g e = record { added = xs; missing = rest; 
 pub one_more : (xs : List ℕ) (d n : ℕ) → take d xs ++ take n (take (length xs - d) (drop d xs)) ≡ take (d + n) xs
 one_more xs d n = ap (λ z. take d xs ++ take n z) (take_rest xs d) ∙ sym (take-add d n xs)
 
-pub still_within : (xs : List ℕ) (d n : ℕ) → d ≤ length xs → n ≤ length (take (length xs - d) (drop d xs)) → d + n ≤ length xs
-still_within xs d n h k = let e : n ≤ length (drop d xs) = subst (λ z. n ≤ length z) (take_rest xs d) k in omega (arith, e, length-drop d xs)
+pub still_within : (xs : List ℕ) (d n : ℕ) → d ≤ length xs → n ≤ length (take (length xs - d) (drop d xs))
+    → d + n ≤ length xs
+still_within xs d n h k = let e : n ≤ length (drop d xs) = subst (λ z. n ≤ length z) (take_rest xs d) k in
+    omega (arith, e, length-drop d xs)

@@ -33,7 +33,13 @@ fails_next failing calls = list_any (λ number. number == raised calls) failing
 
 -- a shelf at its start
 abbrev pub new_shelf : List NamedBytes → List ℕ → ShelfState
-new_shelf files failing = record { files = files; faults = replicate (length files + 1) 0; failing = failing; calls = 0 }
+new_shelf files failing = record {
+  files = files;
+  faults = replicate (length files + 1) 0;
+  failing =
+      failing;
+  calls = 0;
+}
 
 -- the place of the first file of that name, or the count of files where there is none
 abbrev pub place_of : List NamedBytes → List ℕ → ℕ
@@ -56,7 +62,8 @@ abbrev pub after_read : ShelfState → List ℕ → ShelfState
 after_read s name =
     record {
       files = s.files;
-      faults = if fails_at s name then slice_set s.faults (place_of s.files name) (raised (faults_of s name)) else s.faults;
+      faults = if fails_at s name then slice_set s.faults (place_of s.files name) (raised (faults_of s name))
+          else s.faults;
       failing = s.failing;
       calls = raised s.calls;
     }

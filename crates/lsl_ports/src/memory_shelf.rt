@@ -93,7 +93,13 @@ impl Model for MemoryShelf {
 
     ghost Value = { ShelfState };
 
-    ghost view = { λ s. record { files = s.files.items; faults = s.faults.items; failing = s.failing.items; calls = s.calls } };
+    ghost view = { λ s. record {
+      files = s.files.items;
+      faults = s.faults.items;
+      failing =
+          s.failing.items;
+      calls = s.calls;
+    } };
 
     ghost invariant = { λ s. length s.faults.items ≡ length s.files.items + 1 };
 }

@@ -26,7 +26,14 @@ impl Model for MemorySink {
 
     ghost Value = { SinkState };
 
-    ghost view = { λ s. record { taken = s.taken.items; room = s.room; failing = s.failing.items; calls = s.calls; faults = s.faults } };
+    ghost view = { λ s. record {
+      taken = s.taken.items;
+      room = s.room;
+      failing = s.failing.items;
+      calls =
+          s.calls;
+      faults = s.faults;
+    } };
 
     ghost invariant = { λ s. (vec_len s.taken ≤ s.room) × (s.room ≤ vec_capacity s.taken) };
 }

@@ -23,7 +23,8 @@ pub length-le-charge : (atoms : List Atom) → 16 * length atoms ≤ sum_by item
 length-le-charge [] = omega arith
 length-le-charge (a ∷ atoms) = omega (arith, length-le-charge atoms, least-item a, sum_by-cons item_charge_of a atoms)
 
-pub charge-inserted : (xs ys : List Atom) (k : ℕ) → sum_by item_charge_of (inserted xs k ys) ≡ sum_by item_charge_of xs + sum_by item_charge_of ys
+pub charge-inserted : (xs ys : List Atom) (k : ℕ)
+    → sum_by item_charge_of (inserted xs k ys) ≡ sum_by item_charge_of xs + sum_by item_charge_of ys
 charge-inserted xs ys k =
     omega (
       arith,
@@ -40,27 +41,44 @@ item-spelled (Int n) = refl
 item-spelled (Str text) = omega arith
 item-spelled (Key text) = omega arith
 
-pub charge-spelled : (atoms : List Atom) → sum_by item_charge_of atoms ≡ sum_by spelled_charge (map spelled_string atoms)
+pub charge-spelled : (atoms : List Atom) → sum_by item_charge_of atoms
+    ≡ sum_by spelled_charge (map spelled_string atoms)
 charge-spelled [] = refl
 charge-spelled (a ∷ atoms) =
-    omega (arith, charge-spelled atoms, item-spelled a, sum_by-cons item_charge_of a atoms, sum_by-cons spelled_charge (spelled_string a) (map spelled_string atoms))
+    omega (
+      arith,
+      charge-spelled atoms,
+      item-spelled a,
+      sum_by-cons item_charge_of a atoms,
+      sum_by-cons
+          spelled_charge (spelled_string a) (map spelled_string atoms),
+    )
 
 -- one element more is too much
-pub overfull_push : (atoms : List Atom) (a : Atom) (more : List Atom) → spelled_string a ∷ [] ≡ more → 65536 < list_charge_of (atoms ++ a ∷ []) → IsOverfull (map spelled_string atoms ++ more)
+pub overfull_push : (atoms : List Atom) (a : Atom) (more : List Atom) → spelled_string a ∷ [] ≡ more
+    → 65536 < list_charge_of (atoms ++ a ∷ []) → IsOverfull (map spelled_string atoms ++ more)
 overfull_push atoms a more same big =
-    omega (arith, charge-spelled (atoms ++ a ∷ []), ap (sum_by spelled_charge) (map-append spelled_string atoms (a ∷ []) ∙ ap (λ m. map spelled_string atoms ++ m) same))
+    omega (
+      arith,
+      charge-spelled (atoms ++ a ∷ []),
+      ap (sum_by spelled_charge)
+          (map-append spelled_string atoms (a ∷ []) ∙ ap (λ m. map spelled_string atoms ++ m) same),
+    )
 
 -- and so is any list that begins so
 pub overfull_more : (first more : List Atom) → IsOverfull first → IsOverfull (first ++ more)
 overfull_more first more big = omega (arith, sum_by-append spelled_charge first more)
 
-pub IfErr-weaker : {T : Type 0} (r : Result T PureFault) (P Q : Type 0) → (P → Q) → IfErr r (λ fault. fault ≡ TooBig → P) → IfErr r (λ fault. fault ≡ TooBig → Q)
+pub IfErr-weaker : {T : Type 0} (r : Result T PureFault) (P Q : Type 0) → (P → Q)
+    → IfErr r (λ fault. fault ≡ TooBig → P) → IfErr r (λ fault. fault ≡ TooBig → Q)
 IfErr-weaker (Ok x) P Q follows is = tt
 IfErr-weaker (Err e) P Q follows is = λ fault. follows (is fault)
 
-pub OnOk-map : {T : Type 0} (r : Result T PureFault) (new old : List Atom) (a : Atom) (more : List Atom) → spelled_string a ∷ [] ≡ more
+pub OnOk-map : {T : Type 0} (r : Result T PureFault) (new old : List Atom) (a : Atom) (more : List Atom)
+    → spelled_string a ∷ [] ≡ more
     → OnOk r (new ≡ old ++ a ∷ []) → OnOk r (map spelled_string new ≡ map spelled_string old ++ more)
-OnOk-map (Ok x) new old a more same is = ap (map spelled_string) is ∙ map-append spelled_string old (a ∷ []) ∙ ap (λ m. map spelled_string old ++ m) same
+OnOk-map (Ok x) new old a more same is = ap (map spelled_string) is ∙ map-append spelled_string old (a ∷ [])
+    ∙ ap (λ m. map spelled_string old ++ m) same
 OnOk-map (Err e) new old a more same is = tt
 
 -- elements are known by their texts spelled out
@@ -70,11 +88,13 @@ same-spelled (Int m) (Int n) same = cc
 same-spelled (Int m) (Str t) same = cc
 same-spelled (Int m) (Key t) same = cc
 same-spelled (Str s) (Int n) same = cc
-same-spelled (Str s) (Str t) same = let text : encode_utf8_all s ≡ encode_utf8_all t = cc in ap Str (encodes_same s t text)
+same-spelled (Str s) (Str t) same = let text : encode_utf8_all s ≡ encode_utf8_all t = cc in
+    ap Str (encodes_same s t text)
 same-spelled (Str s) (Key t) same = cc
 same-spelled (Key s) (Int n) same = cc
 same-spelled (Key s) (Str t) same = cc
-same-spelled (Key s) (Key t) same = let text : encode_utf8_all s ≡ encode_utf8_all t = cc in ap Key (encodes_same s t text)
+same-spelled (Key s) (Key t) same = let text : encode_utf8_all s ≡ encode_utf8_all t = cc in
+    ap Key (encodes_same s t text)
 
 same-strings : (xs ys : List Atom) → map spelled_string xs ≡ map spelled_string ys → xs ≡ ys
 same-strings [] [] same = refl
@@ -87,11 +107,16 @@ same-strings (x ∷ xs) (y ∷ ys) same =
     let others = same-strings xs ys tail in
     cc
 
-pub IfOk-strings : {E : Type 0} (r : Result (List Atom) E) (spelled elements : List Atom) → spelled ≡ map spelled_string elements → IfOk r (λ xs. map spelled_string xs ≡ spelled) → IfOk r (λ xs. xs ≡ elements)
+pub IfOk-strings : {E : Type 0} (r : Result (List Atom) E) (spelled elements : List Atom)
+    → spelled ≡ map spelled_string elements → IfOk r (λ xs. map spelled_string xs ≡ spelled)
+    → IfOk r (λ xs. xs ≡ elements)
 IfOk-strings (Ok xs) spelled elements same is = same-strings xs elements (is ∙ same)
 IfOk-strings (Err e) spelled elements same is = tt
 
-pub IfErr-strings : (r : Result (List Atom) PureFault) (spelled elements : List Atom) → spelled ≡ map spelled_string elements
-    → IfErr r (λ fault. fault ≡ TooBig → IsOverfull spelled) → IfErr r (λ fault. fault ≡ TooBig → 65536 < list_charge_of elements)
+pub IfErr-strings : (r : Result (List Atom) PureFault) (spelled elements : List Atom)
+    → spelled ≡ map spelled_string elements
+    → IfErr r (λ fault. fault ≡ TooBig → IsOverfull spelled)
+    → IfErr r (λ fault. fault ≡ TooBig → 65536 < list_charge_of elements)
 IfErr-strings (Ok xs) spelled elements same is = tt
-IfErr-strings (Err e) spelled elements same is = λ fault. let big = is fault in omega (arith, big, ap (sum_by spelled_charge) same, charge-spelled elements)
+IfErr-strings (Err e) spelled elements same is = λ fault. let big = is fault in
+    omega (arith, big, ap (sum_by spelled_charge) same, charge-spelled elements)

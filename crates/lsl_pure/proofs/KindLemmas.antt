@@ -86,11 +86,13 @@ is_arguments-is id args same =
 is_arguments-from : (id : BuiltinId) (args : List Value) → IsArguments id args → is_arguments id args ≡ true
 unfolding is_arguments is_pure
 is_arguments-from id args is =
-    and_from _ _ (ap is_pure is.pure) (ap (λ kinds. same_kinds kinds (row_of id).params) is.kinds ∙ same_kinds-itself (row_of id).params)
+    and_from _ _ (ap is_pure is.pure) (ap (λ kinds. same_kinds kinds (row_of id).params) is.kinds
+    ∙ same_kinds-itself (row_of id).params)
 
 -- the kind of a call's value, case by case
 
-value_of-kind : (id : BuiltinId) (args : List Value) → option_map kind_of (value_of id args) ≡ cond (is_arguments id args) (row_of id).result None
+value_of-kind : (id : BuiltinId) (args : List Value)
+    → option_map kind_of (value_of id args) ≡ cond (is_arguments id args) (row_of id).result None
 unfolding is_arguments is_pure same_kinds same_kind
 value_of-kind Abs (Int n ∷ []) = refl
 value_of-kind StringLength (Str text ∷ []) = refl
@@ -130,7 +132,8 @@ read_as-itself (Str text) = refl
 read_as-itself (Key text) = refl
 read_as-itself (ListValue atoms) = refl
 
-some-there : (args : List Value) (k : ℕ) (kind : Kind) (kinds : List Kind) → map kind_of (drop k args) ≡ kind ∷ kinds → length args ≤ k → ⊥
+some-there : (args : List Value) (k : ℕ) (kind : Kind) (kinds : List Kind)
+    → map kind_of (drop k args) ≡ kind ∷ kinds → length args ≤ k → ⊥
 some-there args k kind kinds same past =
     let none : [] ≡ kind ∷ kinds = sym (ap (map kind_of) (drop_all k args past)) ∙ same in absurd (false≢true (cc))
 
@@ -138,7 +141,8 @@ none-there : (args : List Value) → map kind_of args ≡ [] → args ≡ []
 none-there [] same = refl
 none-there (v ∷ vs) same = absurd (false≢true (cc))
 
-read_from-itself : (k : ℕ) (kinds : List Kind) (args : List Value) → map kind_of (drop k args) ≡ kinds → read_from k kinds args ≡ drop k args
+read_from-itself : (k : ℕ) (kinds : List Kind) (args : List Value) → map kind_of (drop k args) ≡ kinds
+    → read_from k kinds args ≡ drop k args
 read_from-itself k [] args same = sym (none-there (drop k args) same)
 read_from-itself k (kind ∷ kinds) args same =
     let v = value_at args k in
@@ -155,30 +159,41 @@ read_arguments-itself id args is = read_from-itself 0 (row_of id).params args is
 
 -- the laws
 
-pub value_of-row : (id : BuiltinId) (args : List Value) → MatchOption (value_of id args) (IsArguments id args → ⊥) (HasValueOfRow id args)
+pub value_of-row : (id : BuiltinId) (args : List Value)
+    → MatchOption (value_of id args) (IsArguments id args → ⊥) (HasValueOfRow id args)
 unfolding is_pure
 value_of-row id args = go (value_of id args) refl (is_arguments id args) refl
   where
-    go : (found : Option Value) → value_of id args ≡ found → (b : Bool) → is_arguments id args ≡ b → MatchOption found (IsArguments id args → ⊥) (HasValueOfRow id args)
+    go : (found : Option Value) → value_of id args ≡ found → (b : Bool) → is_arguments id args ≡ b
+        → MatchOption found (IsArguments id args → ⊥) (HasValueOfRow id args)
     go None found false test = λ is. false≢true (sym test ∙ is_arguments-from id args is)
     go None found true test = λ is.
-        let none : (row_of id).result ≡ None = sym (ap (λ b. cond b (row_of id).result None) test) ∙ sym (value_of-kind id args) ∙ ap (option_map kind_of) found in
+        let none : (row_of id).result ≡ None =
+        sym (ap (λ b. cond b (row_of id).result None) test) ∙ sym (value_of-kind id args)
+        ∙ ap (option_map kind_of) found in
         false≢true (sym (pure-gives id) ∙ and_from _ _ (ap is_pure is.pure) (ap is_none none))
     go (Some value) found false test =
-        let kind : Some (kind_of value) ≡ None = sym (ap (option_map kind_of) found) ∙ value_of-kind id args ∙ ap (λ b. cond b (row_of id).result None) test in
+        let kind : Some (kind_of value) ≡ None =
+        sym (ap (option_map kind_of) found) ∙ value_of-kind id args
+        ∙ ap (λ b. cond b (row_of id).result None) test in
         absurd (false≢true (cc))
     go (Some value) found true test =
-        let kind : Some (kind_of value) ≡ (row_of id).result = sym (ap (option_map kind_of) found) ∙ value_of-kind id args ∙ ap (λ b. cond b (row_of id).result None) test in
+        let kind : Some (kind_of value) ≡ (row_of id).result =
+        sym (ap (option_map kind_of) found) ∙ value_of-kind id args
+        ∙ ap (λ b. cond b (row_of id).result None) test in
         let is = is_arguments-is id args test in
         record {
           arguments = is;
-          same = ap (λ vs. unwrap_or (value_of id vs) (Int (pos 0))) (read_arguments-itself id args is) ∙ ap (λ v. unwrap_or v (Int (pos 0))) found;
+          same = ap (λ vs. unwrap_or (value_of id vs) (Int (pos 0))) (read_arguments-itself id args is)
+              ∙ ap (λ v. unwrap_or v (Int (pos 0))) found;
           kind = sym kind;
         }
 
-pub pure_of-kind : (id : BuiltinId) (args : List Value) → IsArguments id args → (row_of id).result ≡ Some (kind_of (pure_of id args))
+pub pure_of-kind : (id : BuiltinId) (args : List Value) → IsArguments id args
+    → (row_of id).result ≡ Some (kind_of (pure_of id args))
 pure_of-kind id args is = go (value_of id args) (value_of-row id args)
   where
-    go : (found : Option Value) → MatchOption found (IsArguments id args → ⊥) (HasValueOfRow id args) → (row_of id).result ≡ Some (kind_of (pure_of id args))
+    go : (found : Option Value) → MatchOption found (IsArguments id args → ⊥) (HasValueOfRow id args)
+        → (row_of id).result ≡ Some (kind_of (pure_of id args))
     go None never = absurd (never is)
     go (Some value) has = has.kind ∙ ap (λ v. Some (kind_of v)) (sym has.same)

@@ -40,15 +40,20 @@ slice-front xs n = let same : n - 0 ≡ n = omega arith in ap (λ m. take m xs) 
 slice-back : {X : Type 0} (xs : List X) (k : ℕ) → slice_range xs k (length xs) ≡ drop k xs
 slice-back xs k = take_all (length xs - k) (drop k xs) (omega (arith, length-drop k xs))
 
-pick-before : {X : Type 0} (xs : List X) (first : ℤ) → pick (place_before (length xs) first) xs ≡ take (clamped (length xs) (place_of (length xs) first)) xs
+pick-before : {X : Type 0} (xs : List X) (first : ℤ)
+    → pick (place_before (length xs) first) xs ≡ take (clamped (length xs) (place_of (length xs) first)) xs
 pick-before xs first =
-    pick-inside (place_before (length xs) first) xs 0 (clamped (length xs) (place_of (length xs) first)) (omega arith) (clamped-within (length xs) (place_of (length xs) first))
+    pick-inside (place_before (length xs) first) xs 0 (clamped (length xs) (place_of (length xs) first))
+    (omega arith) (clamped-within (length xs) (place_of (length xs) first))
     (λ k low. before_range (length xs) k (place_of (length xs) first) low)
     ∙ slice-front xs (clamped (length xs) (place_of (length xs) first))
 
-pick-behind : {X : Type 0} (xs : List X) (last : ℤ) → pick (place_behind (length xs) last) xs ≡ drop (clamped (length xs) (place_of (length xs) last +ℤ pos 1)) xs
+pick-behind : {X : Type 0} (xs : List X) (last : ℤ)
+    → pick (place_behind (length xs) last) xs
+    ≡ drop (clamped (length xs) (place_of (length xs) last +ℤ pos 1)) xs
 pick-behind xs last =
-    pick-inside (place_behind (length xs) last) xs (clamped (length xs) (place_of (length xs) last +ℤ pos 1)) (length xs) (clamped-within (length xs) (place_of (length xs) last +ℤ pos 1)) (omega arith)
+    pick-inside (place_behind (length xs) last) xs (clamped (length xs) (place_of (length xs) last +ℤ pos 1))
+    (length xs) (clamped-within (length xs) (place_of (length xs) last +ℤ pos 1)) (omega arith)
     (λ k low. behind_range (length xs) k (place_of (length xs) last) low)
     ∙ slice-back xs (clamped (length xs) (place_of (length xs) last +ℤ pos 1))
 
@@ -56,18 +61,26 @@ ordered-test : (a b : ℤ) → a ≤ℤ b → int_le a b ≡ true
 ordered-test a b ordered = grind (arith, ints)
 
 taken-cut : {X : Type 0} (xs : List X) (first last : ℤ) → place_of (length xs) first ≤ℤ place_of (length xs) last
-    → taken xs first last ≡ slice_range xs (clamped (length xs) (place_of (length xs) first)) (clamped (length xs) (place_of (length xs) last +ℤ pos 1))
+    → taken xs first last ≡ slice_range xs (clamped (length xs) (place_of (length xs) first))
+    (clamped (length xs) (place_of (length xs) last +ℤ pos 1))
 taken-cut xs first last ordered =
     let n = length xs in
-    pick-inside (in_range n first last) xs (clamped n (place_of n first)) (clamped n (place_of n last +ℤ pos 1)) (clamped-ordered n (place_of n first) (place_of n last) ordered) (clamped-within n (place_of n last +ℤ pos 1))
-    (λ k low. inside_range n k (place_of n first) (place_of n last) low (ordered-test (place_of n first) (place_of n last) ordered))
+    pick-inside (in_range n first last) xs (clamped n (place_of n first)) (clamped n (place_of n last +ℤ pos 1))
+    (clamped-ordered n (place_of n first) (place_of n last) ordered)
+    (clamped-within n (place_of n last +ℤ pos 1))
+    (λ k low. inside_range n k (place_of n first) (place_of n last) low
+    (ordered-test (place_of n first) (place_of n last) ordered))
 
 left-cut : {X : Type 0} (xs : List X) (first last : ℤ) → place_of (length xs) first ≤ℤ place_of (length xs) last
-    → left xs first last ≡ take (clamped (length xs) (place_of (length xs) first)) xs ++ drop (clamped (length xs) (place_of (length xs) last +ℤ pos 1)) xs
+    → left xs first last ≡ take (clamped (length xs) (place_of (length xs) first)) xs ++ drop
+    (clamped (length xs) (place_of (length xs) last +ℤ pos 1)) xs
 left-cut xs first last ordered =
     let n = length xs in
-    pick-outside (λ k. not (in_range n first last k)) xs (clamped n (place_of n first)) (clamped n (place_of n last +ℤ pos 1)) (clamped-ordered n (place_of n first) (place_of n last) ordered) (clamped-within n (place_of n last +ℤ pos 1))
-    (λ k low. ap not (inside_range n k (place_of n first) (place_of n last) low (ordered-test (place_of n first) (place_of n last) ordered)))
+    pick-outside (λ k. not (in_range n first last k)) xs (clamped n (place_of n first))
+    (clamped n (place_of n last +ℤ pos 1)) (clamped-ordered n (place_of n first) (place_of n last) ordered)
+    (clamped-within n (place_of n last +ℤ pos 1))
+    (λ k low. ap not (inside_range n k (place_of n first) (place_of n last) low
+    (ordered-test (place_of n first) (place_of n last) ordered)))
 
 pub parts-whole : {X : Type 0} (xs : List X) (first last : ℤ) → place_of (length xs) first ≤ℤ place_of (length xs) last
     → pick (place_before (length xs) first) xs ++ taken xs first last ++ pick (place_behind (length xs) last) xs ≡ xs
@@ -81,7 +94,8 @@ parts-whole xs first last ordered =
     ∙ append_assoc (take s xs) (slice_range xs s e) (drop e xs)
     ∙ sym (three_parts xs s e (clamped-ordered n (place_of n first) (place_of n last) ordered))
 
-pub parts-deleted : {X : Type 0} (xs : List X) (first last : ℤ) → place_of (length xs) first ≤ℤ place_of (length xs) last
+pub parts-deleted : {X : Type 0} (xs : List X) (first last : ℤ)
+    → place_of (length xs) first ≤ℤ place_of (length xs) last
     → left xs first last ≡ pick (place_before (length xs) first) xs ++ pick (place_behind (length xs) last) xs
 parts-deleted xs first last ordered =
     let n = length xs in
@@ -105,16 +119,20 @@ cut_from : (n p : ℕ) → p ≤ n → clamped n (place_of n (pos p)) ≡ p
 cut_from n p inside = let here : min p n ≡ p = omega arith in ap (clamped n) (place_from n p) ∙ here
 
 cut_to : (n p : ℕ) → p < n → clamped n (place_of n (pos p) +ℤ pos 1) ≡ p + 1
-cut_to n p inside = let here : min (p + 1) n ≡ p + 1 = omega arith in ap (λ z. clamped n (z +ℤ pos 1)) (place_from n p) ∙ here
+cut_to n p inside = let here : min (p + 1) n ≡ p + 1 = omega arith in
+    ap (λ z. clamped n (z +ℤ pos 1)) (place_from n p) ∙ here
 
-pub length-taken : {X : Type 0} (xs : List X) (a b : ℕ) → a ≤ b → b < length xs → length (taken xs (pos a) (pos b)) ≡ b + 1 - a
+pub length-taken : {X : Type 0} (xs : List X) (a b : ℕ) → a ≤ b → b < length xs
+    → length (taken xs (pos a) (pos b)) ≡ b + 1 - a
 length-taken xs a b ordered inside =
     ap length (taken-cut xs (pos a) (pos b) (places-ordered (length xs) a b ordered))
-    ∙ ap (λ k. length (slice_range xs k (clamped (length xs) (place_of (length xs) (pos b) +ℤ pos 1)))) (cut_from (length xs) a (omega arith))
+    ∙ ap (λ k. length (slice_range xs k (clamped (length xs) (place_of (length xs) (pos b) +ℤ pos 1))))
+    (cut_from (length xs) a (omega arith))
     ∙ ap (λ k. length (slice_range xs a k)) (cut_to (length xs) b inside)
     ∙ omega (arith, length-take (b + 1 - a) (drop a xs), length-drop a xs)
 
-slice-inserted : {X : Type 0} (xs ys : List X) (p : ℕ) → p ≤ length xs → slice_range (inserted xs p ys) p (p + length ys) ≡ ys
+slice-inserted : {X : Type 0} (xs ys : List X) (p : ℕ) → p ≤ length xs
+    → slice_range (inserted xs p ys) p (p + length ys) ≡ ys
 slice-inserted xs ys p inside =
     let front : length (take p xs) ≡ p = omega (arith, length-take p xs) in
     let size : p + length ys - p ≡ length ys = omega arith in
@@ -123,15 +141,25 @@ slice-inserted xs ys p inside =
     ∙ ap (take (length ys)) (drop_at (take p xs) (ys ++ drop p xs) p front)
     ∙ take_at ys (drop p xs) (length ys) refl
 
-pub taken-inserted : {X : Type 0} (xs ys : List X) (p : ℕ) → p ≤ length xs → 0 < length ys → taken (inserted_at xs (pos p) ys) (pos p) (pos (p + length ys - 1)) ≡ ys
+pub taken-inserted : {X : Type 0} (xs ys : List X) (p : ℕ) → p ≤ length xs → 0 < length ys
+    → taken (inserted_at xs (pos p) ys) (pos p) (pos (p + length ys - 1)) ≡ ys
 taken-inserted xs ys p inside some =
     let here : min p (length xs) ≡ p = omega arith in
     let whole = inserted xs p ys in
     let size : length whole ≡ length xs + length ys =
-    omega (arith, length-append (take p xs ++ ys) (drop p xs), length-append (take p xs) ys, length-take p xs, length-drop p xs) in
+    omega (
+      arith,
+      length-append (take p xs ++ ys) (drop p xs),
+      length-append (take p xs) ys,
+      length-take p
+          xs,
+      length-drop p xs,
+    ) in
     let behind : p + length ys - 1 + 1 ≡ p + length ys = omega arith in
     ap (λ k. taken (inserted xs k ys) (pos p) (pos (p + length ys - 1))) here
-    ∙ taken-cut whole (pos p) (pos (p + length ys - 1)) (places-ordered (length whole) p (p + length ys - 1) (omega arith))
-    ∙ ap (λ k. slice_range whole k (clamped (length whole) (place_of (length whole) (pos (p + length ys - 1)) +ℤ pos 1))) (cut_from (length whole) p (omega arith))
+    ∙ taken-cut whole (pos p) (pos (p + length ys - 1))
+    (places-ordered (length whole) p (p + length ys - 1) (omega arith))
+    ∙ ap (λ k. slice_range whole k (clamped (length whole)
+    (place_of (length whole) (pos (p + length ys - 1)) +ℤ pos 1))) (cut_from (length whole) p (omega arith))
     ∙ ap (slice_range whole p) (cut_to (length whole) (p + length ys - 1) (omega arith) ∙ behind)
     ∙ slice-inserted xs ys p inside

@@ -18,36 +18,53 @@ nonempty [] false empty = cc
 nonempty (c ∷ cs) true empty = grind (arith, nat_tests)
 nonempty (c ∷ cs) false empty = grind (arith, nat_tests)
 
-marks_among-append : (spacer : Bool) (xs ys : List Atom) → marks_among spacer (xs ++ ys) ≡ marks_among spacer xs ++ marks_among spacer ys
+marks_among-append : (spacer : Bool) (xs ys : List Atom)
+    → marks_among spacer (xs ++ ys) ≡ marks_among spacer xs ++ marks_among spacer ys
 marks_among-append spacer xs ys =
-    ap (filter (λ (m : Mark). nat_lt 0 (length m.text))) (map-append (λ (a : Atom). let m : Mark = record { text = text_of_atom a; spacer = spacer } in m) xs ys)
-    ∙ filter-append (λ (m : Mark). nat_lt 0 (length m.text)) (map (λ (a : Atom). let m : Mark = record { text = text_of_atom a; spacer = spacer } in m) xs) (map (λ (a : Atom). let m : Mark = record { text = text_of_atom a; spacer = spacer } in m) ys)
+    ap (filter (λ (m : Mark). nat_lt 0 (length m.text)))
+    (map-append (λ (a : Atom). let m : Mark = record { text = text_of_atom a; spacer = spacer } in m) xs ys)
+    ∙ filter-append (λ (m : Mark). nat_lt 0 (length m.text))
+    (map (λ (a : Atom). let m : Mark = record { text = text_of_atom a; spacer = spacer } in m) xs)
+    (map (λ (a : Atom). let m : Mark = record { text = text_of_atom a; spacer = spacer } in m) ys)
 
 -- an element with an empty text is none
-pub marks_among-empty : (spacer : Bool) (marks old : List Mark) (atoms : List Atom) (a : Atom) (text : List ℕ) → text ≡ text_of_atom a → (length (encode_utf8_all text) == 0) ≡ true
+pub marks_among-empty : (spacer : Bool) (marks old : List Mark) (atoms : List Atom) (a : Atom) (text : List ℕ)
+    → text ≡ text_of_atom a → (length (encode_utf8_all text) == 0) ≡ true
     → marks ≡ old ++ marks_among spacer atoms → marks ≡ old ++ marks_among spacer (atoms ++ a ∷ [])
 marks_among-empty spacer marks old atoms a text is empty same =
-    let none : nat_lt 0 (length (text_of_atom a)) ≡ false = nonempty (text_of_atom a) true (ap (λ t. length t == 0) (sym is) ∙ sym (empty-encodes text) ∙ empty) in
-    same ∙ ap (λ ms. old ++ ms) (sym (append-nil (marks_among spacer atoms)) ∙ ap (λ ms. marks_among spacer atoms ++ ms) (sym (cond-false _ _ _ none)) ∙ sym (marks_among-append spacer atoms (a ∷ [])))
+    let none : nat_lt 0 (length (text_of_atom a)) ≡ false =
+    nonempty (text_of_atom a) true (ap (λ t. length t == 0) (sym is) ∙ sym (empty-encodes text) ∙ empty) in
+    same ∙ ap (λ ms. old ++ ms) (sym (append-nil (marks_among spacer atoms))
+    ∙ ap (λ ms. marks_among spacer atoms ++ ms) (sym (cond-false _ _ _ none))
+    ∙ sym (marks_among-append spacer atoms (a ∷ [])))
 
 -- any other is the last one
-pub marks_among-push : (spacer : Bool) (new marks old : List Mark) (atoms : List Atom) (a : Atom) (text : List ℕ) → text ≡ text_of_atom a → (length (encode_utf8_all text) == 0) ≡ false
-    → marks ≡ old ++ marks_among spacer atoms → new ≡ marks ++ (record { text = text; spacer = spacer }) ∷ [] → new ≡ old ++ marks_among spacer (atoms ++ a ∷ [])
+pub marks_among-push : (spacer : Bool) (new marks old : List Mark) (atoms : List Atom) (a : Atom)
+    (text : List ℕ) → text ≡ text_of_atom a → (length (encode_utf8_all text) == 0) ≡ false
+    → marks ≡ old ++ marks_among spacer atoms → new ≡ marks ++ (record { text = text; spacer = spacer }) ∷ []
+    → new ≡ old ++ marks_among spacer (atoms ++ a ∷ [])
 marks_among-push spacer new marks old atoms a text is empty same pushed =
-    let some : nat_lt 0 (length (text_of_atom a)) ≡ true = nonempty (text_of_atom a) false (ap (λ t. length t == 0) (sym is) ∙ sym (empty-encodes text) ∙ empty) in
+    let some : nat_lt 0 (length (text_of_atom a)) ≡ true =
+    nonempty (text_of_atom a) false (ap (λ t. length t == 0) (sym is) ∙ sym (empty-encodes text) ∙ empty) in
     let mark : List ℕ → List Mark = λ t. record { text = t; spacer = spacer } ∷ [] in
     pushed ∙ ap (λ ms. ms ++ mark text) same ∙ ap (λ t. (old ++ marks_among spacer atoms) ++ mark t) is
     ∙ append_assoc old (marks_among spacer atoms) (mark (text_of_atom a))
-    ∙ ap (λ ms. old ++ ms) (ap (λ ms. marks_among spacer atoms ++ ms) (sym (cond-true _ _ _ some)) ∙ sym (marks_among-append spacer atoms (a ∷ [])))
+    ∙ ap (λ ms. old ++ ms) (ap (λ ms. marks_among spacer atoms ++ ms) (sym (cond-true _ _ _ some))
+    ∙ sym (marks_among-append spacer atoms (a ∷ [])))
 
 has-text : (m : Mark) → nat_lt 0 (length m.text) ≡ true → 0 < length m.text
 has-text m some = grind (arith, nat_tests)
 
-marks_among-have : (spacer : Bool) (atoms : List Atom) → All (λ (m : Mark). 0 < length m.text) (marks_among spacer atoms)
+marks_among-have : (spacer : Bool) (atoms : List Atom)
+    → All (λ (m : Mark). 0 < length m.text) (marks_among spacer atoms)
 marks_among-have spacer atoms =
-    All-weaker (λ (m : Mark). nat_lt 0 (length m.text) ≡ true) (λ (m : Mark). 0 < length m.text) has-text (marks_among spacer atoms) (filter_passes (λ (m : Mark). nat_lt 0 (length m.text)) (map (λ (a : Atom). let m : Mark = record { text = text_of_atom a; spacer = spacer } in m) atoms))
+    All-weaker (λ (m : Mark). nat_lt 0 (length m.text) ≡ true) (λ (m : Mark). 0 < length m.text) has-text
+    (marks_among spacer atoms) (filter_passes (λ (m : Mark). nat_lt 0 (length m.text))
+    (map (λ (a : Atom). let m : Mark = record { text = text_of_atom a; spacer = spacer } in m) atoms))
 
 -- each mark has a character
-pub marks_of-have : (separators spacers : List Atom) → All (λ (m : Mark). 0 < length m.text) (marks_of separators spacers)
+pub marks_of-have : (separators spacers : List Atom)
+    → All (λ (m : Mark). 0 < length m.text) (marks_of separators spacers)
 marks_of-have separators spacers =
-    All-append (λ (m : Mark). 0 < length m.text) (marks_from false separators) (marks_from true spacers) (marks_among-have false (take 8 separators)) (marks_among-have true (take 8 spacers))
+    All-append (λ (m : Mark). 0 < length m.text) (marks_from false separators) (marks_from true spacers)
+    (marks_among-have false (take 8 separators)) (marks_among-have true (take 8 spacers))

@@ -72,7 +72,8 @@ one_character c = elim (cases_Bool (nat_lt c 128)) [
 count_by-tail : (bs : List ℕ) → IsTail bs → count_by is_lead bs ≡ 0
 count_by-tail [] follows = refl
 count_by-tail (b ∷ bs) follows =
-    sum_by-cons (λ x. cond (is_lead x) 1 0) b bs ∙ ap (λ n. cond (is_lead b) 1 0 + n) (count_by-tail bs follows.1) ∙ ap (λ t. cond t 1 0 + 0) follows.0
+    sum_by-cons (λ x. cond (is_lead x) 1 0) b bs
+    ∙ ap (λ n. cond (is_lead b) 1 0 + n) (count_by-tail bs follows.1) ∙ ap (λ t. cond t 1 0 + 0) follows.0
 
 count_by-character : (bytes : List ℕ) → IsOneCharacter bytes → count_by is_lead bytes ≡ 1
 count_by-character bytes c =
@@ -99,7 +100,8 @@ front_len-tail (suc n) (b ∷ bs) rest follows =
 front_len-zero : (bytes rest : List ℕ) → IsOneCharacter bytes → front_len zero (bytes ++ rest) ≡ 0
 front_len-zero bytes rest c = ap (λ b. front_len zero (b ++ rest)) c.spelled ∙ cond-true _ _ _ c.leads
 
-front_len-one : (n : ℕ) (bytes rest : List ℕ) → IsOneCharacter bytes → front_len (suc n) (bytes ++ rest) ≡ length bytes + front_len n rest
+front_len-one : (n : ℕ) (bytes rest : List ℕ) → IsOneCharacter bytes
+    → front_len (suc n) (bytes ++ rest) ≡ length bytes + front_len n rest
 front_len-one n bytes rest c =
     ap (λ b. front_len (suc n) (b ++ rest)) c.spelled ∙ cond-true _ _ _ c.leads
     ∙ ap suc (front_len-tail n c.tail rest c.follows)
@@ -120,17 +122,21 @@ length-encodes-take n cs =
     omega (arith, ap length parts, length-append (encode_utf8_all (take n cs)) (encode_utf8_all (drop n cs)))
 
 -- in ASCII each character is a byte
-pub ascii_offset : (n : ℕ) (text bytes : List ℕ) → bytes ≡ encode_utf8_all text → all_scalars text ≡ true → IsAscii bytes → min n (length bytes) ≡ length (encode_utf8_all (take n text))
+pub ascii_offset : (n : ℕ) (text bytes : List ℕ) → bytes ≡ encode_utf8_all text → all_scalars text ≡ true
+    → IsAscii bytes → min n (length bytes) ≡ length (encode_utf8_all (take n text))
 ascii_offset n text bytes same scalars ascii =
     let plain : bytes ≡ text = sym (chars-IsAscii bytes ascii) ∙ ap chars same ∙ chars-encodes text scalars in
-    sym (length-take n bytes) ∙ sym (ap length (encodes-IsAscii (take n bytes) (IsAscii-take bytes n ascii))) ∙ ap (λ t. length (encode_utf8_all (take n t))) plain
+    sym (length-take n bytes) ∙ sym (ap length (encodes-IsAscii (take n bytes) (IsAscii-take bytes n ascii)))
+    ∙ ap (λ t. length (encode_utf8_all (take n t))) plain
 
 -- a text begins with another one where its bytes do
 
-pub front-encodes : (ys xs rest : List ℕ) → encode_utf8_all xs ≡ encode_utf8_all ys ++ rest → (more : List ℕ) × (xs ≡ ys ++ more) × (encode_utf8_all more ≡ rest)
+pub front-encodes : (ys xs rest : List ℕ) → encode_utf8_all xs ≡ encode_utf8_all ys ++ rest → (more : List ℕ)
+    × (xs ≡ ys ++ more) × (encode_utf8_all more ≡ rest)
 front-encodes [] xs rest same = (xs, refl, same)
 front-encodes (y ∷ ys) xs rest same =
-    let first = cons_from_encodes xs (encode_utf8_all ys ++ rest) y (same ∙ append_assoc (encode_utf8 y) (encode_utf8_all ys) rest) in
+    let first = cons_from_encodes xs (encode_utf8_all ys ++ rest) y
+    (same ∙ append_assoc (encode_utf8 y) (encode_utf8_all ys) rest) in
     let others = front-encodes ys first.0 rest first.2 in
     (others.0, first.1 ∙ ap (λ t. y ∷ t) others.1, others.2)
 
@@ -150,20 +156,24 @@ Begins-encodes xs ys begins =
 encodes-Begins : (xs ys : List ℕ) → Begins (encode_utf8_all xs) (encode_utf8_all ys) → Begins xs ys
 encodes-Begins xs ys begins = let front = front-encodes ys xs begins.0 begins.1 in (front.0, front.1)
 
-pub starts_with-encodes : (xs ys : List ℕ) → starts_with nat_eq (encode_utf8_all xs) (encode_utf8_all ys) ≡ starts_with nat_eq xs ys
+pub starts_with-encodes : (xs ys : List ℕ)
+    → starts_with nat_eq (encode_utf8_all xs) (encode_utf8_all ys) ≡ starts_with nat_eq xs ys
 starts_with-encodes xs ys =
     same_from_decides _ _
-    (Decides-like _ (encodes-Begins xs ys) (Begins-encodes xs ys) (starts_with-Decides (encode_utf8_all xs) (encode_utf8_all ys)))
+    (Decides-like _ (encodes-Begins xs ys) (Begins-encodes xs ys)
+    (starts_with-Decides (encode_utf8_all xs) (encode_utf8_all ys)))
     (starts_with-Decides xs ys)
 
 -- no text that has a character stands where none begins
-pub starts_with-inside : (b : ℕ) (bs m : List ℕ) (d : ℕ) → is_lead b ≡ false → starts_with nat_eq (b ∷ bs) (encode_utf8_all (d ∷ m)) ≡ false
+pub starts_with-inside : (b : ℕ) (bs m : List ℕ) (d : ℕ) → is_lead b ≡ false
+    → starts_with nat_eq (b ∷ bs) (encode_utf8_all (d ∷ m)) ≡ false
 starts_with-inside b bs m d inside = elim (cases_Bool (starts_with nat_eq (b ∷ bs) (encode_utf8_all (d ∷ m)))) [
   | inr fails ↦ fails
   | inl stands ↦
       let found = (starts_with-Decides (b ∷ bs) (encode_utf8_all (d ∷ m))).0 stands in
       let c = one_character d in
-      let same : b ∷ bs ≡ c.lead ∷ ((c.tail ++ encode_utf8_all m) ++ found.0) = found.1 ∙ ap (λ e. (e ++ encode_utf8_all m) ++ found.0) c.spelled in
+      let same : b ∷ bs ≡ c.lead ∷ ((c.tail ++ encode_utf8_all m) ++ found.0) =
+      found.1 ∙ ap (λ e. (e ++ encode_utf8_all m) ++ found.0) c.spelled in
       let head : b ≡ c.lead = cc in
       absurd (false≢true (sym inside ∙ ap is_lead head ∙ c.leads))
 ]

@@ -69,19 +69,25 @@ behind_front-yes p c cs passes =
 pub behind_front-no : (p : ℕ → Bool) (c : ℕ) (cs : List ℕ) → p c ≡ false → behind_front p (c ∷ cs) ≡ c ∷ cs
 behind_front-no p c cs fails = ap (λ b. drop (cond b (1 + prefix_len p cs) 0) (c ∷ cs)) fails
 
-pub behind_front-encodes : (p : ℕ → Bool) → IsPlain p → (text : List ℕ) → behind_front p (encode_utf8_all text) ≡ encode_utf8_all (behind_front p text)
+pub behind_front-encodes : (p : ℕ → Bool) → IsPlain p → (text : List ℕ)
+    → behind_front p (encode_utf8_all text) ≡ encode_utf8_all (behind_front p text)
 behind_front-encodes p plain [] = refl
 behind_front-encodes p plain (c ∷ cs) = elim (cases_lt c 128) [
   | inl low ↦
       let same = encode_ascii c low in
       ap (λ b. behind_front p (b ++ encode_utf8_all cs)) same ∙ (elim (cases_Bool (p c)) [
-        | inl passes ↦ behind_front-yes p c (encode_utf8_all cs) passes ∙ behind_front-encodes p plain cs ∙ ap encode_utf8_all (sym (behind_front-yes p c cs passes))
-        | inr fails ↦ behind_front-no p c (encode_utf8_all cs) fails ∙ ap (λ b. b ++ encode_utf8_all cs) (sym same) ∙ ap encode_utf8_all (sym (behind_front-no p c cs fails))
+        | inl passes ↦ behind_front-yes p c (encode_utf8_all cs) passes ∙ behind_front-encodes p plain cs
+            ∙ ap encode_utf8_all (sym (behind_front-yes p c cs passes))
+        | inr fails ↦ behind_front-no p c (encode_utf8_all cs) fails
+            ∙ ap (λ b. b ++ encode_utf8_all cs) (sym same)
+            ∙ ap encode_utf8_all (sym (behind_front-no p c cs fails))
       ])
   | inr high ↦
       let long = long_character c high in
-      ap (λ b. behind_front p (b ++ encode_utf8_all cs)) long.are ∙ behind_front-no p long.head (long.others ++ encode_utf8_all cs) (plain long.head long.high.0)
-      ∙ ap (λ b. b ++ encode_utf8_all cs) (sym long.are) ∙ ap encode_utf8_all (sym (behind_front-no p c cs (plain c high)))
+      ap (λ b. behind_front p (b ++ encode_utf8_all cs)) long.are
+      ∙ behind_front-no p long.head (long.others ++ encode_utf8_all cs) (plain long.head long.high.0)
+      ∙ ap (λ b. b ++ encode_utf8_all cs) (sym long.are)
+      ∙ ap encode_utf8_all (sym (behind_front-no p c cs (plain c high)))
 ]
 
 pub blank-plain : IsPlain is_blank
@@ -103,8 +109,10 @@ without_tail-high (b ∷ bs) rest high =
 pub empty-encodes : (text : List ℕ) → (length (encode_utf8_all text) == 0) ≡ (length text == 0)
 empty-encodes [] = refl
 empty-encodes (c ∷ cs) = elim (cases_lt c 128) [
-  | inl low ↦ let same = ap length (encode_ascii c low) in nonzero-tests (encode_utf8 c) (encode_utf8_all cs) cs (omega arith)
-  | inr high ↦ let same = ap length (long_character c high).are in nonzero-tests (encode_utf8 c) (encode_utf8_all cs) cs (omega arith)
+  | inl low ↦ let same = ap length (encode_ascii c low) in
+      nonzero-tests (encode_utf8 c) (encode_utf8_all cs) cs (omega arith)
+  | inr high ↦ let same = ap length (long_character c high).are in
+      nonzero-tests (encode_utf8 c) (encode_utf8_all cs) cs (omega arith)
 ]
   where
     nonzero-tests : (bytes rest cs : List ℕ) → 0 < length bytes → (length (bytes ++ rest) == 0) ≡ (suc (length cs) == 0)
@@ -121,12 +129,15 @@ without_tail-encodes (c ∷ cs) = elim (cases_lt c 128) [
       ∙ tail-cases (is_blank c && (length (without_tail cs) == 0)) c (without_tail cs) same
   | inr high ↦
       let long = long_character c high in
-      ap (λ b. without_tail (b ++ encode_utf8_all cs)) long.are ∙ without_tail-high (long.head ∷ long.others) (encode_utf8_all cs) long.high
-      ∙ ap (λ b. b ++ without_tail (encode_utf8_all cs)) (sym long.are) ∙ ap (λ t. encode_utf8 c ++ t) (without_tail-encodes cs)
+      ap (λ b. without_tail (b ++ encode_utf8_all cs)) long.are
+      ∙ without_tail-high (long.head ∷ long.others) (encode_utf8_all cs) long.high
+      ∙ ap (λ b. b ++ without_tail (encode_utf8_all cs)) (sym long.are)
+      ∙ ap (λ t. encode_utf8 c ++ t) (without_tail-encodes cs)
       ∙ ap encode_utf8_all (sym (without_tail-keeps c cs (blank-plain c high)))
 ]
   where
-    tail-cases : (b : Bool) (c : ℕ) (rest : List ℕ) → encode_utf8 c ≡ c ∷ [] → cond b [] (c ∷ encode_utf8_all rest) ≡ encode_utf8_all (cond b [] (c ∷ rest))
+    tail-cases : (b : Bool) (c : ℕ) (rest : List ℕ) → encode_utf8 c ≡ c ∷ []
+        → cond b [] (c ∷ encode_utf8_all rest) ≡ encode_utf8_all (cond b [] (c ∷ rest))
     tail-cases true c rest same = refl
     tail-cases false c rest same = ap (λ b. b ++ encode_utf8_all rest) (sym same)
 
@@ -134,14 +145,17 @@ without_tail-encodes (c ∷ cs) = elim (cases_lt c 128) [
 
 pub without_tail-blank : (more : List ℕ) (b : ℕ) → is_blank b ≡ true → without_tail (more ++ b ∷ []) ≡ without_tail more
 without_tail-blank [] b blank = ap (λ t. cond (t && true) [] (b ∷ [])) blank
-without_tail-blank (c ∷ cs) b blank = ap (λ t. cond (is_blank c && (length t == 0)) [] (c ∷ t)) (without_tail-blank cs b blank)
+without_tail-blank (c ∷ cs) b blank = ap (λ t. cond (is_blank c && (length t == 0)) [] (c ∷ t))
+    (without_tail-blank cs b blank)
 
 pub without_tail-kept : (more : List ℕ) (b : ℕ) → is_blank b ≡ false → without_tail (more ++ b ∷ []) ≡ more ++ b ∷ []
 without_tail-kept [] b kept = without_tail-keeps b [] kept
 without_tail-kept (c ∷ cs) b kept =
     let there = without_tail-kept cs b kept in
     let some : (length (cs ++ b ∷ []) == 0) ≡ false = let sum = length-append cs (b ∷ []) in grind (arith, nat_tests) in
-    ap (λ t. cond (is_blank c && (length t == 0)) [] (c ∷ t)) there ∙ ap (λ t. cond (is_blank c && t) [] (c ∷ (cs ++ b ∷ []))) some ∙ never (is_blank c) (c ∷ (cs ++ b ∷ []))
+    ap (λ t. cond (is_blank c && (length t == 0)) [] (c ∷ t)) there
+    ∙ ap (λ t. cond (is_blank c && t) [] (c ∷ (cs ++ b ∷ []))) some
+    ∙ never (is_blank c) (c ∷ (cs ++ b ∷ []))
   where
     never : (b : Bool) (xs : List ℕ) → cond (b && false) [] xs ≡ xs
     never true xs = refl
@@ -154,35 +168,49 @@ cond-encodes true x y = refl
 cond-encodes false x y = refl
 
 pub trimmed-spelled : (text bytes headless rest : List ℕ) (kind : ℤ) → bytes ≡ encode_utf8_all text
-    → headless ≡ cond (trims_head kind) (without_head bytes) bytes → rest ≡ cond (trims_tail kind) (without_tail headless) headless → rest ≡ encode_utf8_all (trimmed text kind)
+    → headless ≡ cond (trims_head kind) (without_head bytes) bytes
+    → rest ≡ cond (trims_tail kind) (without_tail headless) headless
+    → rest ≡ encode_utf8_all (trimmed text kind)
 trimmed-spelled text bytes headless rest kind same first second =
     let inner = cond (trims_head kind) (without_head text) text in
     let head : headless ≡ encode_utf8_all inner =
-    first ∙ ap (λ b. cond (trims_head kind) (without_head b) b) same ∙ ap (λ t. cond (trims_head kind) t (encode_utf8_all text)) (behind_front-encodes is_blank blank-plain text) ∙ cond-encodes (trims_head kind) (without_head text) text in
-    second ∙ ap (λ h. cond (trims_tail kind) (without_tail h) h) head ∙ ap (λ t. cond (trims_tail kind) t (encode_utf8_all inner)) (without_tail-encodes inner) ∙ cond-encodes (trims_tail kind) (without_tail inner) inner
+    first ∙ ap (λ b. cond (trims_head kind) (without_head b) b) same
+    ∙ ap (λ t. cond (trims_head kind) t (encode_utf8_all text))
+    (behind_front-encodes is_blank blank-plain text)
+    ∙ cond-encodes (trims_head kind) (without_head text) text in
+    second ∙ ap (λ h. cond (trims_tail kind) (without_tail h) h) head
+    ∙ ap (λ t. cond (trims_tail kind) t (encode_utf8_all inner)) (without_tail-encodes inner)
+    ∙ cond-encodes (trims_tail kind) (without_tail inner) inner
 
 scalars-tail : (text : List ℕ) → all_scalars text ≡ true → all_scalars (without_tail text) ≡ true
 scalars-tail [] whole = refl
 scalars-tail (c ∷ cs) whole =
     let both = and_parts _ (all_scalars cs) whole in
-    scalars-cond (is_blank c && (length (without_tail cs) == 0)) [] (c ∷ without_tail cs) refl (and_from _ _ both.0 (scalars-tail cs both.1))
+    scalars-cond (is_blank c && (length (without_tail cs) == 0)) [] (c ∷ without_tail cs) refl
+    (and_from _ _ both.0 (scalars-tail cs both.1))
   where
-    scalars-cond : (b : Bool) (x y : List ℕ) → all_scalars x ≡ true → all_scalars y ≡ true → all_scalars (cond b x y) ≡ true
+    scalars-cond : (b : Bool) (x y : List ℕ) → all_scalars x ≡ true → all_scalars y ≡ true
+        → all_scalars (cond b x y) ≡ true
     scalars-cond true x y first second = first
     scalars-cond false x y first second = second
 
-scalars-choice : (b : Bool) (x y : List ℕ) → all_scalars x ≡ true → all_scalars y ≡ true → all_scalars (cond b x y) ≡ true
+scalars-choice : (b : Bool) (x y : List ℕ) → all_scalars x ≡ true → all_scalars y ≡ true
+    → all_scalars (cond b x y) ≡ true
 scalars-choice true x y first second = first
 scalars-choice false x y first second = second
 
 pub scalars-trimmed : (text : List ℕ) (kind : ℤ) → all_scalars text ≡ true → all_scalars (trimmed text kind) ≡ true
 scalars-trimmed text kind whole =
-    let inner = scalars-choice (trims_head kind) (without_head text) text (scalars-drop (prefix_len is_blank text) text whole) whole in
-    scalars-choice (trims_tail kind) (without_tail (cond (trims_head kind) (without_head text) text)) (cond (trims_head kind) (without_head text) text) (scalars-tail (cond (trims_head kind) (without_head text) text) inner) inner
+    let inner = scalars-choice (trims_head kind) (without_head text) text
+    (scalars-drop (prefix_len is_blank text) text whole) whole in
+    scalars-choice (trims_tail kind) (without_tail (cond (trims_head kind) (without_head text) text))
+    (cond (trims_head kind) (without_head text) text)
+    (scalars-tail (cond (trims_head kind) (without_head text) text) inner) inner
 
 length-without_tail : (text : List ℕ) → length (without_tail text) ≤ length text
 length-without_tail [] = omega arith
-length-without_tail (c ∷ cs) = tail-size (is_blank c && (length (without_tail cs) == 0)) c (without_tail cs) (length cs) (length-without_tail cs)
+length-without_tail (c ∷ cs) = tail-size (is_blank c && (length (without_tail cs) == 0)) c (without_tail cs)
+    (length cs) (length-without_tail cs)
   where
     tail-size : (b : Bool) (c : ℕ) (rest : List ℕ) (n : ℕ) → length rest ≤ n → length (cond b [] (c ∷ rest)) ≤ suc n
     tail-size true c rest n short = omega arith
@@ -192,15 +220,25 @@ choice-size : (b : Bool) (x y : List ℕ) → length x ≤ length y → length (
 choice-size true x y short = short
 choice-size false x y short = omega arith
 
-pub trimmed-short : (bytes headless rest : List ℕ) (h t : Bool) → headless ≡ cond h (without_head bytes) bytes → rest ≡ cond t (without_tail headless) headless → length rest ≤ length bytes
+pub trimmed-short : (bytes headless rest : List ℕ) (h t : Bool) → headless ≡ cond h (without_head bytes) bytes
+    → rest ≡ cond t (without_tail headless) headless → length rest ≤ length bytes
 trimmed-short bytes headless rest h t first second =
-    omega (arith, ap length first, ap length second, choice-size h (without_head bytes) bytes (omega (arith, length-drop (prefix_len is_blank bytes) bytes)), choice-size t (without_tail headless) headless (length-without_tail headless))
+    omega (
+      arith,
+      ap length first,
+      ap length second,
+      choice-size h (without_head bytes) bytes
+          (omega (arith, length-drop (prefix_len is_blank bytes) bytes)),
+      choice-size t (without_tail headless)
+          headless (length-without_tail headless),
+    )
 
 -- the last element of a list
 pub last_split : (xs : List ℕ) → 1 ≤ length xs → xs ≡ take (length xs - 1) xs ++ get_or xs (length xs - 1) 0 ∷ []
 last_split xs some =
     let next : length xs - 1 + 1 ≡ length xs = omega arith in
-    sym (take_all (length xs) xs (omega arith)) ∙ sym (ap (λ n. take n xs) next) ∙ take_more xs (length xs - 1) 0 (omega arith)
+    sym (take_all (length xs) xs (omega arith)) ∙ sym (ap (λ n. take n xs) next)
+    ∙ take_more xs (length xs - 1) 0 (omega arith)
 
 pub spaces-valid : (piece rest : List ℕ) → IsUtf8 piece → rest ≡ behind_front (λ b. b == 32) piece → IsUtf8 rest
 spaces-valid piece rest valid same =

@@ -32,7 +32,8 @@ into_first c (piece ∷ pieces) = (c ∷ piece) ∷ pieces
 abbrev pub pieces_between : (ℕ → Bool) → List ℕ → List (List ℕ)
 pieces_between parts [] = [] ∷ []
 pieces_between parts (c ∷ cs) =
-    if parts zero then [] ∷ pieces_between (λ k. parts (suc k)) cs else into_first c (pieces_between (λ k. parts (suc k)) cs)
+    if parts zero then [] ∷ pieces_between (λ k. parts (suc k)) cs else into_first c
+    (pieces_between (λ k. parts (suc k)) cs)
 
 abbrev pub csv_pieces : List ℕ → List (List ℕ)
 csv_pieces text = pieces_between (parts_at text) text

@@ -17,7 +17,8 @@ IsWhole front piece = (k : ℕ) → k < length piece → slice_index piece k ≡
 abbrev pub IsPartedBehind : List ℕ → List ℕ → List ℕ → List (List ℕ) → Type 0
 IsPartedBehind front text piece [] = (text ≡ piece) × IsWhole front piece
 IsPartedBehind front text piece (next ∷ more) =
-    (rest : List ℕ) × (text ≡ piece ++ 44 ∷ rest) × IsWhole front piece × (IsOpenBehind (front ++ piece) → ⊥) × IsPartedBehind ((front ++ piece) ++ 44 ∷ []) rest next more
+    (rest : List ℕ) × (text ≡ piece ++ 44 ∷ rest) × IsWhole front piece × (IsOpenBehind (front ++ piece) → ⊥)
+    × IsPartedBehind ((front ++ piece) ++ 44 ∷ []) rest next more
 
 -- the text is these pieces, of which there is a first
 pub record IsCsvCut (text : List ℕ) (pieces : List (List ℕ)) : Type 0 where

@@ -28,7 +28,8 @@ inserted_before xs p ys = inserted_at xs (place_of (length xs) p) ys
 -- the second list in the place of the range; behind what is left where the range is turned
 abbrev pub replaced : {X : Type 0} → List X → List X → ℤ → ℤ → List X
 replaced xs ys first last =
-    if int_le (place_of (length xs) first) (place_of (length xs) last) then inserted (left xs first last) (clamped (length xs) (place_of (length xs) first)) ys else left xs first last ++ ys
+    if int_le (place_of (length xs) first) (place_of (length xs) last) then inserted (left xs first last)
+    (clamped (length xs) (place_of (length xs) first)) ys else left xs first last ++ ys
 
 abbrev pub without_head : List ℕ → List ℕ
 without_head text = drop (prefix_len is_blank text) text

@@ -62,7 +62,8 @@ IsFree marks piece rest = (k : ℕ) → k < length piece → first_mark marks (d
 abbrev pub IsCutFrom : List Mark → List ℕ → List ℕ → List (Mark × List ℕ) → Type 0
 IsCutFrom marks text piece [] = (text ≡ piece) × IsFree marks piece []
 IsCutFrom marks text piece (e ∷ es) =
-    (rest : List ℕ) × (text ≡ piece ++ rest) × IsFree marks piece rest × (first_mark marks rest ≡ Some e.0) × IsCutFrom marks (drop (length e.0.text) rest) e.1 es
+    (rest : List ℕ) × (text ≡ piece ++ rest) × IsFree marks piece rest × (first_mark marks rest ≡ Some e.0)
+    × IsCutFrom marks (drop (length e.0.text) rest) e.1 es
 
 abbrev pub IsCutAt : List Mark → List ℕ → Cut → Type 0
 IsCutAt marks text cut = IsCutFrom marks text cut.first cut.rest

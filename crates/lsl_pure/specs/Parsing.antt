@@ -42,7 +42,8 @@ abbrev pub cut_behind : List Mark → ℕ → List ℕ → Cut
 cut_behind marks n [] = record { first = []; rest = [] }
 cut_behind marks (suc n) (c ∷ cs) = cut_behind marks n cs
 cut_behind marks zero (c ∷ cs) =
-    option_map_or (λ (m : Mark). behind_mark m (cut_behind marks (length m.text - 1) cs)) (first_mark marks (c ∷ cs)) (behind_character c (cut_behind marks 0 cs))
+    option_map_or (λ (m : Mark). behind_mark m (cut_behind marks (length m.text - 1) cs))
+    (first_mark marks (c ∷ cs)) (behind_character c (cut_behind marks 0 cs))
 
 -- the cut of a text: the first mark that stands at a place ends the piece and is passed over
 abbrev pub cut_of : List Mark → List ℕ → Cut
@@ -58,7 +59,8 @@ mark_elements m = if m.spacer then Str m.text ∷ [] else []
 
 abbrev pub cut_elements : Bool → Cut → List Atom
 cut_elements keep cut =
-    piece_elements keep cut.first ++ flat_map (λ (e : Mark × List ℕ). mark_elements e.0 ++ piece_elements keep e.1) cut.rest
+    piece_elements keep cut.first ++ flat_map
+    (λ (e : Mark × List ℕ). mark_elements e.0 ++ piece_elements keep e.1) cut.rest
 
 -- the elements that a text is parsed into
 abbrev pub parsed : Bool → List ℕ → List Atom → List Atom → List Atom

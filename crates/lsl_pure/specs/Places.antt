@@ -14,7 +14,8 @@ clamped n (negsuc p) = 0
 -- is what stands up to the last and from the first one on
 abbrev pub in_range_between : ℤ → ℤ → ℕ → Bool
 in_range_between first last k =
-    if int_le first last then int_le first (pos k) && int_le (pos k) last else (int_le (pos k) last || int_le first (pos k))
+    if int_le first last then int_le first (pos k) && int_le (pos k) last
+    else (int_le (pos k) last || int_le first (pos k))
 
 -- the same for places that may count from the end of n places
 abbrev pub in_range : ℕ → ℤ → ℤ → ℕ → Bool

@@ -33,8 +33,10 @@ pub fn csv_to_list(alloc: Global, text: &Text) -> Result<Items, PureFault>
 fn csv_pieces(alloc: Global, text: &[u8]) -> Result<Items, PureFault>
     requires valid { IsUtf8 text.now }
     requires short { length text.now ≤ most_text_bytes }
-    ensures ok { IfOk result (λ items. map spelled_string items ≡ map (λ piece. Str (without_leading_spaces piece)) (pieces_from 0 text.now)) }
-    ensures too_big { TooBigOnlyWhere result (IsOverfull (map (λ piece. Str (without_leading_spaces piece)) (pieces_from 0 text.now))) }
+    ensures ok { IfOk result (λ items. map spelled_string items
+        ≡ map (λ piece. Str (without_leading_spaces piece)) (pieces_from 0 text.now)) }
+    ensures too_big { TooBigOnlyWhere result
+        (IsOverfull (map (λ piece. Str (without_leading_spaces piece)) (pieces_from 0 text.now))) }
 {
     let mut items = Items::new(alloc);
     let mut start = 0;
@@ -74,9 +76,11 @@ fn push_csv_piece(alloc: Global, items: &mut Items, piece: &[u8]) -> Result<(), 
     requires valid { IsUtf8 piece.now }
     requires short { length piece.now ≤ most_text_bytes }
     requires room { list_charge_of items.old ≤ most_charge }
-    ensures ok { OnOk result (map spelled_string items.new ≡ map spelled_string items.old ++ Str (without_leading_spaces piece.now) ∷ []) }
+    ensures ok { OnOk result (map spelled_string items.new
+        ≡ map spelled_string items.old ++ Str (without_leading_spaces piece.now) ∷ []) }
     ensures fits { OnOk result (list_charge_of items.new ≤ most_charge) }
-    ensures too_big { TooBigOnlyWhere result (IsOverfull (map spelled_string items.old ++ Str (without_leading_spaces piece.now) ∷ [])) }
+    ensures too_big { TooBigOnlyWhere result
+        (IsOverfull (map spelled_string items.old ++ Str (without_leading_spaces piece.now) ∷ [])) }
 {
     let text = copy_of(alloc, behind_spaces(piece))?;
     push_bounded(items, Atom::Str(text))

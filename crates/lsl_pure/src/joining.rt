@@ -37,7 +37,8 @@ fn join(alloc: Global, atoms: &[Atom], separator: &[u8]) -> Result<Text, PureFau
     requires short { length separator.now ≤ most_text_bytes }
     requires few { length atoms.now ≤ most_items }
     ensures ok { IfOk result (λ text. encode_utf8_all text ≡ joined separator.now (map spelled_atom atoms.now)) }
-    ensures too_big { TooBigOnlyWhere result (most_charge < 16 + length (joined separator.now (map spelled_atom atoms.now))) }
+    ensures too_big { TooBigOnlyWhere result
+        (most_charge < 16 + length (joined separator.now (map spelled_atom atoms.now))) }
 {
     match atoms {
         [] => Ok(Text::new()),

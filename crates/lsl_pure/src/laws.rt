@@ -29,7 +29,8 @@ pub fn parts_of_a_text(text: &Text, first: i32, last: i32)
 /// The same of a list.
 pub fn parts_of_a_list(items: &Items, first: i32, last: i32)
     requires { place_of (length items.now) first ≤ℤ place_of (length items.now) last }
-    ensures whole { part_before items.now first ++ taken items.now first last ++ part_behind items.now last ≡ items.now }
+    ensures whole { part_before items.now first ++ taken items.now first last ++ part_behind items.now last
+        ≡ items.now }
     ensures deleted { left items.now first last ≡ part_before items.now first ++ part_behind items.now last }
 {}
 
@@ -37,7 +38,8 @@ pub fn parts_of_a_list(items: &Items, first: i32, last: i32)
 pub fn inserted_is_taken(text: &Text, place: u32, other: &Text)
     requires inside { place ≤ length text.now }
     requires some { 0 < length other.now }
-    ensures { taken (inserted_at text.now (pos place) other.now) (pos place) (pos (place + length other.now - 1)) ≡ other.now }
+    ensures { taken (inserted_at text.now (pos place) other.now) (pos place)
+        (pos (place + length other.now - 1)) ≡ other.now }
 {}
 
 /// A part from one place of a text to another has as many characters as there are places.
@@ -59,20 +61,24 @@ pub fn csv_is_read_back(items: &Items)
 pub fn dump_is_parsed_back(items: &Items, separator: char)
     requires some { 0 < length items.now }
     requires apart { StandsInNone separator items.now }
-    ensures { parsed true (dumped items.now (separator ∷ [])) (Str (separator ∷ []) ∷ []) [] ≡ map string_element items.now }
+    ensures { parsed true (dumped items.now (separator ∷ [])) (Str (separator ∷ []) ∷ []) []
+        ≡ map string_element items.now }
 {}
 
 /// A text has one cut into pieces and marks in which each mark is the first listed text that stands at its place, and
 /// no listed text stands at a place of a piece: it is the one that parsing takes.
 pub fn text_has_one_cut(text: &Text, separators: &Items, spacers: &Items)
-    ensures is_cut { IsCutAt (marks_of separators.now spacers.now) text.now (cut_of (marks_of separators.now spacers.now) text.now) }
-    ensures one { (cut : Cut) → IsCutAt (marks_of separators.now spacers.now) text.now cut → cut ≡ cut_of (marks_of separators.now spacers.now) text.now }
+    ensures is_cut { IsCutAt (marks_of separators.now spacers.now) text.now
+        (cut_of (marks_of separators.now spacers.now) text.now) }
+    ensures one { (cut : Cut) → IsCutAt (marks_of separators.now spacers.now) text.now cut
+        → cut ≡ cut_of (marks_of separators.now spacers.now) text.now }
 {}
 
 /// A call has a value exactly where it is a pure one and has arguments of its row's kinds; and the value has the row's
 /// kind.
 pub fn value_of_its_row(id: BuiltinId)
-    ensures value { (args : List Value) → MatchOption (value_of id args) (IsArguments id args → ⊥) (HasValueOfRow id args) }
+    ensures value { (args : List Value) → MatchOption (value_of id args) (IsArguments id args → ⊥)
+        (HasValueOfRow id args) }
     ensures kind { (args : List Value) → IsArguments id args → (row_of id).result ≡ Some (kind_of (pure_of id args)) }
 {}
 

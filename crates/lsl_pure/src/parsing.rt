@@ -30,7 +30,8 @@ pub fn parse_string(
     keep_nulls: bool,
 ) -> Result<Items, PureFault>
     ensures ok { IfOk result (λ items. items ≡ parsed keep_nulls text.now separators.now spacers.now) }
-    ensures too_big { TooBigOnlyWhere result (most_charge < list_charge_of (parsed keep_nulls text.now separators.now spacers.now)) }
+    ensures too_big { TooBigOnlyWhere result
+        (most_charge < list_charge_of (parsed keep_nulls text.now separators.now spacers.now)) }
 {
     let marks = marks(alloc, separators, spacers)?;
     cut(alloc, text.bytes(), marks.as_slice(), keep_nulls)
@@ -40,8 +41,10 @@ fn cut(alloc: Global, text: &[u8], marks: &[Mark], keep_nulls: bool) -> Result<I
     requires valid { IsUtf8 text.now }
     requires short { length text.now ≤ most_text_bytes }
     requires nonempty { All (λ m. 0 < length m.text) marks.now }
-    ensures ok { IfOk result (λ items. map spelled_string items ≡ cut_elements keep_nulls (cut_of (map spelled_mark marks.now) text.now)) }
-    ensures too_big { TooBigOnlyWhere result (IsOverfull (cut_elements keep_nulls (cut_of (map spelled_mark marks.now) text.now))) }
+    ensures ok { IfOk result (λ items. map spelled_string items
+        ≡ cut_elements keep_nulls (cut_of (map spelled_mark marks.now) text.now)) }
+    ensures too_big { TooBigOnlyWhere result
+        (IsOverfull (cut_elements keep_nulls (cut_of (map spelled_mark marks.now) text.now))) }
 {
     let mut items = Items::new(alloc);
     let mut start = 0;
@@ -82,9 +85,11 @@ fn push_piece(
     requires valid { IsUtf8 piece.now }
     requires short { length piece.now ≤ most_text_bytes }
     requires room { list_charge_of items.old ≤ most_charge }
-    ensures ok { OnOk result (map spelled_string items.new ≡ map spelled_string items.old ++ piece_elements keep_nulls piece.now) }
+    ensures ok { OnOk result (map spelled_string items.new
+        ≡ map spelled_string items.old ++ piece_elements keep_nulls piece.now) }
     ensures fits { OnOk result (list_charge_of items.new ≤ most_charge) }
-    ensures too_big { TooBigOnlyWhere result (IsOverfull (map spelled_string items.old ++ piece_elements keep_nulls piece.now)) }
+    ensures too_big { TooBigOnlyWhere result
+        (IsOverfull (map spelled_string items.old ++ piece_elements keep_nulls piece.now)) }
 {
     if !is_kept(piece, keep_nulls) {
         return Ok(());
@@ -102,9 +107,11 @@ fn is_kept(piece: &[u8], keep_nulls: bool) -> bool
 
 fn push_mark(items: &mut Items, mark: &Mark) -> Result<(), PureFault>
     requires room { list_charge_of items.old ≤ most_charge }
-    ensures ok { OnOk result (map spelled_string items.new ≡ map spelled_string items.old ++ mark_elements (spelled_mark mark.now)) }
+    ensures ok { OnOk result (map spelled_string items.new
+        ≡ map spelled_string items.old ++ mark_elements (spelled_mark mark.now)) }
     ensures fits { OnOk result (list_charge_of items.new ≤ most_charge) }
-    ensures too_big { TooBigOnlyWhere result (IsOverfull (map spelled_string items.old ++ mark_elements (spelled_mark mark.now))) }
+    ensures too_big { TooBigOnlyWhere result
+        (IsOverfull (map spelled_string items.old ++ mark_elements (spelled_mark mark.now))) }
 {
     if !mark.spacer {
         return Ok(());

@@ -21,7 +21,9 @@ impl Range {
         ensures within { result.end ≤ n }
         ensures turned { result.turned ≡ not (int_le (place_of n first) (place_of n last)) }
         ensures start { result.turned ≡ false → result.start ≡ clamped n (place_of n first) }
-        ensures same { (k : ℕ) → k < n → in_range n first last k ≡ (if result.turned then not (within result.start result.end k) else within result.start result.end k) }
+        ensures same { (k : ℕ) → k < n → in_range n first last k
+            ≡ (if result.turned then not (within result.start result.end k) else within result.start result.end
+            k) }
     {
         let first = place(n, first);
         let last = place(n, last);

@@ -8,8 +8,8 @@ use crate::spelling::count_leads;
 use lsl_value::{Items, Text};
 use memchr::memmem;
 
-/// The first place at which the second text stands in the first, or -1: 0 for an empty one. Takes no memory, and time in
-/// proportion to both. See <https://wiki.secondlife.com/wiki/LlSubStringIndex>.
+/// The first place at which the second text stands in the first, or -1: 0 for an empty one. Takes no memory,
+/// and time in proportion to both. See <https://wiki.secondlife.com/wiki/LlSubStringIndex>.
 pub fn sub_string_index(text: &Text, sought: &Text) -> i32
     ensures { result ≡ place_or_none (first_place nat_eq text.now sought.now) }
 {

@@ -1,5 +1,5 @@
--- Link numbers: which prims a number names. The root of several prims has number 1 and the others follow; a lone prim has
--- number 0.
+-- Link numbers: which prims a number names. The root of several prims has number 1 and the others follow; a
+-- lone prim has number 0.
 use Rattle.std.specs.Prelude.{ℕ, ◌+◌, ◌-◌, ℤ, pos, negsuc, Bool, true, false, not, nat_eq, nat_le, nat_lt, if◌then◌else◌, Option, Some, None}
 use Rattle.std.proofs.Common.{zero, suc}
 
@@ -21,8 +21,8 @@ abbrev pub is_this : Option ℕ → ℕ → Bool
 is_this None place = false
 is_this (Some n) place = nat_eq n place
 
--- whether a message to this number is for the prim at this place: -1 names all prims, -2 all but the sender's, -3 all but the
--- root, -4 the sender's, and any other number one prim or none
+-- whether a message to this number is for the prim at this place: -1 names all prims, -2 all but the sender's,
+-- -3 all but the root, -4 the sender's, and any other number one prim or none
 abbrev pub is_for : ℕ → ℕ → ℤ → ℕ → Bool
 is_for count sender (negsuc zero) place = true
 is_for count sender (negsuc (suc zero)) place = not (nat_eq place sender)

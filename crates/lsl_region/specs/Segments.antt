@@ -1,5 +1,5 @@
--- A script runs from one tick to the next, or to its handler's end: what comes of the handler's text from its start, for one
--- tick more. While it asks, the host answers.
+-- A script runs from one tick to the next, or to its handler's end: what comes of the handler's text from its
+-- start, for one tick more. While it asks, the host answers.
 use Rattle.std.specs.Prelude.{ℕ, ◌+◌, Bool, false, not, Option, Some, None, slice_get}
 use Rattle.std.proofs.Common.{zero, suc}
 use Rattle.lsl_running.specs.Results.{Whole, Ends, Asks, Cut, Fails, Lost}

@@ -21,8 +21,8 @@ pub record Member : Type 0 where
   pub name : List ℕ
   pub script : Script
 
--- the reading of the clock in milliseconds, the objects, and the scripts. Both are told by numbers that are one more than
--- their places here
+-- the reading of the clock in milliseconds, the objects, and the scripts. Both are told by numbers that are one
+-- more than their places here
 pub record World : Type 0 where
   pub clock : ℕ
   pub objects : List Object

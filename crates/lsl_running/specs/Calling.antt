@@ -1,4 +1,5 @@
--- What a built-in call is to a running script: a value of its arguments, a reading of its own memory, or a question to the host.
+-- What a built-in call is to a running script: a value of its arguments, a reading of its own memory, or a
+-- question to the host.
 use Rattle.std.specs.Prelude.{Bool, true, false, length, ℕ, Option, Some, None}
 use Rattle.lsl_value.specs.declared.names.BuiltinId.{BuiltinId}
 use Rattle.lsl_value.specs.declared.names.BuiltinId.TheVariants as builtin

@@ -24,7 +24,8 @@ abbrev pub hold_all : ℕ → List Value → ℕ
 hold_all held [] = held
 hold_all held (v ∷ vs) = hold_all held vs + charge_of v
 
--- all that is charged where the outer calls and the waiting values hold this much: the call in hand with its slots, and the globals
+-- all that is charged where the outer calls and the waiting values hold this much: the call in hand with its
+-- slots, and the globals
 abbrev pub used : ℕ → List Value → Kept → ℕ
 used held slots kept = held + call_charge + charges_of slots + charges_of kept.globals
 

@@ -6,7 +6,8 @@ use Rattle.lsl_running.specs.declared.ends.Fault.{Fault}
 use Rattle.lsl_running.specs.declared.ends.Outcome.{Outcome}
 use Rattle.lsl_running.specs.declared.kept.Kept.{Kept}
 
--- an active call: the number of the function or handler, what its slots hold, and the line of the text at which it stands
+-- an active call: the number of the function or handler, what its slots hold, and the line of the text at which
+-- it stands
 pub record ActiveCall : Type 0 where
   pub function : ℕ
   pub slots : List Value

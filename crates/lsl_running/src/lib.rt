@@ -1,5 +1,6 @@
-//! What the meaning of a script and the machine that runs its code share: what is kept from one handler to the next, what is
-//! charged, what a host call asks and is answered, and how a handler ends. Nothing here runs a script.
+//! What the meaning of a script and the machine that runs its code share: what is kept from one handler to the
+//! next, what is charged, what a host call asks and is answered, and how a handler ends. Nothing here runs a
+//! script.
 #![tactic(auto)]
 
 mod ends;

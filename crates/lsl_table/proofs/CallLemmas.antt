@@ -14,7 +14,8 @@ pub Finds-builtin_named : (name : List ℕ) → Finds name_of name (builtin_name
 unfolding builtin_named
 Finds-builtin_named = Finds-first_named name_of builtins builtins-each
 
-pub builtin_named-same : (name : List ℕ) (found : Option BuiltinId) → Finds name_of name found → found ≡ builtin_named name
+pub builtin_named-same : (name : List ℕ) (found : Option BuiltinId) → Finds name_of name found
+    → found ≡ builtin_named name
 unfolding builtin_named
 builtin_named-same = Finds-same name_of builtins builtins-each
 

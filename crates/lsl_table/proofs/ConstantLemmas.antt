@@ -14,7 +14,8 @@ pub Finds-constant_named : (name : List ℕ) → Finds constant_name_of name (co
 unfolding constant_named
 Finds-constant_named = Finds-first_named constant_name_of constants constants-each
 
-pub constant_named-same : (name : List ℕ) (found : Option ConstantId) → Finds constant_name_of name found → found ≡ constant_named name
+pub constant_named-same : (name : List ℕ) (found : Option ConstantId) → Finds constant_name_of name found
+    → found ≡ constant_named name
 unfolding constant_named
 constant_named-same = Finds-same constant_name_of constants constants-each
 

@@ -14,7 +14,8 @@ pub Finds-event_named : (name : List ℕ) → Finds event_name_of name (event_na
 unfolding event_named
 Finds-event_named = Finds-first_named event_name_of events events-each
 
-pub event_named-same : (name : List ℕ) (found : Option EventId) → Finds event_name_of name found → found ≡ event_named name
+pub event_named-same : (name : List ℕ) (found : Option EventId) → Finds event_name_of name found
+    → found ≡ event_named name
 unfolding event_named
 event_named-same = Finds-same event_name_of events events-each
 

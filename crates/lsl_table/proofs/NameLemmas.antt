@@ -8,16 +8,20 @@ some-same : {Id : Type 0} (a b : Id) → Some a ≡ Some b → a ≡ b
 some-same a b same = cc
 
 -- what is found has the name
-named-by : {Id : Type 0} (name_of : Id → List ℕ) (name : List ℕ) (xs : List Id) (x : Id) → first_named name_of name xs ≡ Some x → name_of x ≡ name
+named-by : {Id : Type 0} (name_of : Id → List ℕ) (name : List ℕ) (xs : List Id) (x : Id)
+    → first_named name_of name xs ≡ Some x → name_of x ≡ name
 named-by name_of name [] x found = absurd (cc)
 named-by name_of name (y ∷ xs) x found = go (bytes_eq (name_of y) name) refl found (named-by name_of name xs x)
   where
-    go : (t : Bool) → t ≡ bytes_eq (name_of y) name → cond t (Some y) (first_named name_of name xs) ≡ Some x → (first_named name_of name xs ≡ Some x → name_of x ≡ name) → name_of x ≡ name
-    go true is found rest = let same : y ≡ x = cc in sym (ap name_of same) ∙ (bytes_eq-Decides (name_of y) name).0 (sym is)
+    go : (t : Bool) → t ≡ bytes_eq (name_of y) name → cond t (Some y) (first_named name_of name xs) ≡ Some x
+        → (first_named name_of name xs ≡ Some x → name_of x ≡ name) → name_of x ≡ name
+    go true is found rest = let same : y ≡ x = cc in
+        sym (ap name_of same) ∙ (bytes_eq-Decides (name_of y) name).0 (sym is)
     go false is found rest = rest found
 
 -- a list in which each is found by its name
-module _ {Id : Type 0} (name_of : Id → List ℕ) (xs : List Id) (each : (id : Id) → first_named name_of (name_of id) xs ≡ Some id) where
+module _ {Id : Type 0} (name_of : Id → List ℕ) (xs : List Id)
+    (each : (id : Id) → first_named name_of (name_of id) xs ≡ Some id) where
   found-by_name : (name : List ℕ) (id : Id) → name_of id ≡ name → first_named name_of name xs ≡ Some id
   found-by_name name id named = sym (ap (λ (n : List ℕ). first_named name_of n xs) named) ∙ each id
 

@@ -15,8 +15,8 @@ pub enum ConstantValue {
     Str(&'static str),
 }
 
-/// The table of constants, one row each (<https://wiki.secondlife.com/wiki/Category:LSL_Constants>): `$then!` of what is
-/// given in brackets, and of the rows.
+/// The table of constants, one row each (<https://wiki.secondlife.com/wiki/Category:LSL_Constants>): `$then!`
+/// of what is given in brackets, and of the rows.
 macro_rules! constants {
     ($then:ident $($given:tt)*) => {
         $then! {

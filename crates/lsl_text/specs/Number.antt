@@ -32,7 +32,8 @@ unsigned_integer text = if begins_hexadecimal text then digits_integer 16 (drop 
 
 -- the integer behind an optional sign; a minus sign negates it, and -2147483648 to itself
 abbrev pub signed_integer : List ℕ → ℤ
-signed_integer text = if slice_index text 0 == 45 then int_wrapping_neg w32 (unsigned_integer (drop 1 text)) else (if slice_index text 0 == 43 then unsigned_integer (drop 1 text) else unsigned_integer text)
+signed_integer text = if slice_index text 0 == 45 then int_wrapping_neg w32 (unsigned_integer (drop 1 text))
+    else (if slice_index text 0 == 43 then unsigned_integer (drop 1 text) else unsigned_integer text)
 
 -- the integer that a text begins with, behind blanks
 abbrev pub leading_integer_of : List ℕ → ℤ

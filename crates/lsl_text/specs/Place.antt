@@ -17,7 +17,13 @@ column_behind front = suffix_len (λ b. not (is_line_feed b)) front + 1
 
 -- the part of a text that stands behind the front
 abbrev pub span_of : List ℕ → List ℕ → Span
-span_of front part = record { start = length front; end = length (front ++ part); line = line_behind front; col = column_behind front }
+span_of front part = record {
+  start = length front;
+  end = length (front ++ part);
+  line =
+      line_behind front;
+  col = column_behind front;
+}
 
 -- the cursor stands behind these bytes
 pub record IsBehind (front : List ℕ) (cursor : Cursor) : Type 0 where

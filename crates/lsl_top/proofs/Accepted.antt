@@ -14,14 +14,18 @@ apart_tests : true ≡ false → ⊥
 apart_tests e = absurd cc
 
 -- a script isn't refused by its command
-pub script-no_fault : (command : Command) (file : List ℕ) (fault : BuildFault) → IsScript command file → IsFault command file fault → ⊥
-script-no_fault (Once name) file fault (program, accepted, built) (inl first) = accepted-no_fault file accepted.0 program fault accepted.1 first
+pub script-no_fault : (command : Command) (file : List ℕ) (fault : BuildFault) → IsScript command file
+    → IsFault command file fault → ⊥
+script-no_fault (Once name) file fault (program, accepted, built) (inl first) =
+    accepted-no_fault file accepted.0 program fault accepted.1 first
 script-no_fault (Once name) file fault (program, accepted, built) (inr outside) =
     let one = one_program file program outside.program accepted outside.accepted in
     apart_tests (sym built ∙ ap is_built one ∙ outside.outside)
-script-no_fault (Check name) file fault (program, accepted) first = accepted-no_fault file accepted.0 program fault accepted.1 first
+script-no_fault (Check name) file fault (program, accepted) first =
+    accepted-no_fault file accepted.0 program fault accepted.1 first
 
-apart : (file : Option (List ℕ)) (command : Command) (fault : BuildFault) → ScriptIn file command → FaultIn file command fault → ⊥
+apart : (file : Option (List ℕ)) (command : Command) (fault : BuildFault) → ScriptIn file command
+    → FaultIn file command fault → ⊥
 apart None command fault script refused = script
 apart (Some file) command fault script refused = script-no_fault command file fault script refused
 
@@ -30,22 +34,27 @@ report-script : (command : Command) (file lines : List ℕ) → IsReport command
 report-script (Once name) file lines (program, accepted, built, journal) = (program, accepted, built)
 report-script (Check name) file lines (program, accepted, same) = (program, accepted)
 
-unlike : (file : Option (List ℕ)) (command : Command) (lines : List ℕ) → NoScriptIn file command → ReportIn file command lines → ⊥
+unlike : (file : Option (List ℕ)) (command : Command) (lines : List ℕ) → NoScriptIn file command
+    → ReportIn file command lines → ⊥
 unlike None command lines none report = none
 unlike (Some file) command lines none report = none (report-script command file lines report)
 
 -- a told script isn't refused
-not_refused : (held : Option Files) (command : Command) (old new : Option (List ℕ)) → HasScript held (Some command) → Runs held command old BadScript new → ⊥
+not_refused : (held : Option Files) (command : Command) (old new : Option (List ℕ))
+    → HasScript held (Some command) → Runs held command old BadScript new → ⊥
 not_refused None command old new has runs = has
 not_refused (Some files) command old new has runs = apart (files (file_of command)) command runs.0 has runs.1
 
 -- a told file that is no script has no report
-not_reported : (held : Option Files) (command : Command) (old new : Option (List ℕ)) → HasNoScript held (Some command) → Runs held command old Ok new → ⊥
+not_reported : (held : Option Files) (command : Command) (old new : Option (List ℕ))
+    → HasNoScript held (Some command) → Runs held command old Ok new → ⊥
 not_reported None command old new has runs = has
 not_reported (Some files) command old new has runs = unlike (files (file_of command)) command runs.0 has runs.1
 
 -- a told script is run or accepted, but for faults of the outside and want of memory
-pub runs_complete : (held : Option Files) (command : Command) (old new : Option (List ℕ)) (status : Status) → HasScript held (Some command) → Runs held command old status new → (status ≡ ReadFault → ⊥) → (status ≡ WriteFault → ⊥) → (status ≡ Ok) ⊎ (status ≡ NoMemory)
+pub runs_complete : (held : Option Files) (command : Command) (old new : Option (List ℕ)) (status : Status)
+    → HasScript held (Some command) → Runs held command old status new → (status ≡ ReadFault → ⊥)
+    → (status ≡ WriteFault → ⊥) → (status ≡ Ok) ⊎ (status ≡ NoMemory)
 runs_complete held command old new Ok has runs read write = inl refl
 runs_complete held command old new NoMemory has runs read write = inr refl
 runs_complete held command old new BadScript has runs read write = absurd (not_refused held command old new has runs)
@@ -56,7 +65,9 @@ runs_complete held command old new BadWorld has runs read write = absurd runs
 runs_complete held command old new BadImage has runs read write = absurd runs
 
 -- a told file that is no script is refused, but for faults of the outside and want of memory
-pub runs_refused : (held : Option Files) (command : Command) (old new : Option (List ℕ)) (status : Status) → HasNoScript held (Some command) → Runs held command old status new → (status ≡ ReadFault → ⊥) → (status ≡ WriteFault → ⊥) → (status ≡ BadScript) ⊎ (status ≡ NoMemory)
+pub runs_refused : (held : Option Files) (command : Command) (old new : Option (List ℕ)) (status : Status)
+    → HasNoScript held (Some command) → Runs held command old status new → (status ≡ ReadFault → ⊥)
+    → (status ≡ WriteFault → ⊥) → (status ≡ BadScript) ⊎ (status ≡ NoMemory)
 runs_refused held command old new BadScript has runs read write = inl refl
 runs_refused held command old new NoMemory has runs read write = inr refl
 runs_refused held command old new Ok has runs read write = absurd (not_reported held command old new has runs)

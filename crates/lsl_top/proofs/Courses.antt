@@ -40,12 +40,14 @@ answers-more zero given = refl
 answers-more (suc n) given = ap (λ l. reply.Value None ∷ l) (answers-more n given)
 
 -- what doesn't end in a cut is the same with more ticks
-with_more : (p : Program) (ticks most : ℕ) (given : List Reply) (w : Whole) → ticks ≤ most → entry_whole p ticks given ≡ w
+with_more : (p : Program) (ticks most : ℕ) (given : List Reply) (w : Whole) → ticks ≤ most
+    → entry_whole p ticks given ≡ w
     → ((calls : List ActiveCall) → w ≢ whole.Cut calls) → entry_whole p most given ≡ w
 with_more p ticks most given w le e uncut =
     let all : most ≡ ticks + (most - ticks) = omega arith in
     ap (λ t. entry_whole p t given) all
-    ∙ more_ticks p (length p.functions) (initial_kept p) [] ticks (most - ticks) given (λ calls cut. uncut calls (sym e ∙ cut))
+    ∙ more_ticks p (length p.functions) (initial_kept p) [] ticks (most - ticks) given
+    (λ calls cut. uncut calls (sym e ∙ cut))
     ∙ e
 
 -- what is known of each place of a list, with one element more
@@ -65,7 +67,8 @@ one_text (Key k ∷ args) e = absurd cc
 one_text (ListValue l ∷ args) e = absurd cc
 one_text (Str text ∷ v ∷ args) e = absurd cc
 
-module _ (p : Program) (bodies : List Body) (ticks : ℕ) (old new : State) (before now : List ℕ) (course : Course p bodies ticks old before now) where
+module _ (p : Program) (bodies : List Body) (ticks : ℕ) (old new : State) (before now : List ℕ)
+    (course : Course p bodies ticks old before now) where
   -- what comes of the program behind the answers so far
   comes : (h : Halt) → GoesOn bodies old h new → h ≢ halt.NoMemory
       → entry_whole p ticks (answers (length course.texts)) ≡ whole_behind bodies h new 0 []
@@ -75,7 +78,8 @@ module _ (p : Program) (bodies : List Body) (ticks : ℕ) (old new : State) (bef
       ∙ course.goes 0 [] ∙ on lacks 0 []
 
   -- a tick was reached, and may be passed
-  pub Course-tick : GoesOn bodies old halt.AtTick new → new.standing ≡ standing.AtTick → Course p bodies (ticks + 1) new before now
+  pub Course-tick : GoesOn bodies old halt.AtTick new → new.standing ≡ standing.AtTick
+      → Course p bodies (ticks + 1) new before now
   Course-tick on stands = record {
     texts = course.texts;
     asked = course.asked;
@@ -94,44 +98,53 @@ module _ (p : Program) (bodies : List Body) (ticks : ℕ) (old new : State) (bef
     pub args : call.args ≡ Str text ∷ []
     pub whole : whole_after p (length course.texts) ≡ whole.Asks OwnerSay (Str text ∷ [])
 
-  module _ (built : is_built p ≡ true) (within : ticks ≤ most_ticks) (call : Call) (on : GoesOn bodies old (halt.Asks call) new) where
+  module _ (built : is_built p ≡ true) (within : ticks ≤ most_ticks) (call : Call)
+      (on : GoesOn bodies old (halt.Asks call) new) where
     pub asked_text : IsAsked (halt.Asks call) → Asked call
     asked_text asked =
-        let here : entry_whole p ticks (answers (length course.texts)) ≡ whole.Asks call.id call.args = comes (halt.Asks call) on (λ e. absurd cc) in
+        let here : entry_whole p ticks (answers (length course.texts)) ≡ whole.Asks call.id call.args =
+        comes (halt.Asks call) on (λ e. absurd cc) in
         let says : call.id ≡ OwnerSay =
-        asks_owner_say p built (length p.functions) (initial_kept p) [] ticks (answers (length course.texts)) call.id call.args here in
+        asks_owner_say p built (length p.functions) (initial_kept p) [] ticks (answers (length course.texts))
+        call.id call.args here in
         let one = one_text call.args (asked.1 ∙ ap (λ id. (row_of id).params) says) in
         record {
           text = one.0;
           id = says;
           args = one.1;
-          whole = with_more p ticks most_ticks (answers (length course.texts)) (whole.Asks OwnerSay (Str one.0 ∷ [])) within
+          whole = with_more p ticks most_ticks (answers (length course.texts))
+              (whole.Asks OwnerSay (Str one.0 ∷ [])) within
               (here ∙ ap₂ (λ i a. whole.Asks i a) says one.1) (λ calls e. absurd cc);
         }
 
     -- it was said, and answered with nothing
     pub Course-said : (a : Asked call) (answered : State) (after : List ℕ)
-        → ((t : ℕ) (more : List Reply) → whole_from bodies new t (reply.Value None ∷ more) ≡ whole_from bodies answered t more)
-        → ticks_passed answered.standing ≡ 0 → after ≡ now ++ owner_line a.text → Course p bodies ticks answered before after
+        → ((t : ℕ) (more : List Reply) → whole_from bodies new t (reply.Value None ∷ more)
+        ≡ whole_from bodies answered t more)
+        → ticks_passed answered.standing ≡ 0 → after ≡ now ++ owner_line a.text
+        → Course p bodies ticks answered before after
     Course-said a answered after received passes wrote =
         let one : length (course.texts ++ a.text ∷ []) ≡ suc (length course.texts) =
         length-append course.texts (a.text ∷ []) ∙ omega arith in
         record {
           texts = course.texts ++ a.text ∷ [];
-          asked = pushed (λ n t. whole_after p n ≡ whole.Asks OwnerSay (Str t ∷ [])) course.texts a.text course.asked a.whole;
+          asked = pushed (λ n t. whole_after p n ≡ whole.Asks OwnerSay (Str t ∷ [])) course.texts a.text
+              course.asked a.whole;
           goes = λ more given.
               ap (λ n. entry_whole p (ticks + more) (answers n ++ given)) one
               ∙ ap (λ l. entry_whole p (ticks + more) l) (sym (answers-more (length course.texts) given))
               ∙ course.goes more (reply.Value None ∷ given) ∙ on (λ e. absurd cc) more (reply.Value None ∷ given)
               ∙ received more given ∙ ap (λ t. whole_from bodies answered t given) (none passes more);
-          written = wrote ∙ ap (λ l. l ++ owner_line a.text) course.written ∙ flat_map_more owner_line before course.texts a.text;
+          written = wrote ∙ ap (λ l. l ++ owner_line a.text) course.written
+              ∙ flat_map_more owner_line before course.texts a.text;
         }
       where
         none : {n : ℕ} → n ≡ 0 → (more : ℕ) → more ≡ n + more
         none e more = omega (arith, e)
 
   -- the run comes to this, which has these lines
-  ended_with : (w : Whole) (end after : List ℕ) → entry_whole p most_ticks (answers (length course.texts)) ≡ w → ending w ≡ Some end
+  ended_with : (w : Whole) (end after : List ℕ) → entry_whole p most_ticks (answers (length course.texts)) ≡ w
+      → ending w ≡ Some end
       → after ≡ now ++ end → HasRun p before after
   ended_with w end after e lines wrote = record {
     texts = course.texts;
@@ -161,7 +174,8 @@ module _ (p : Program) (bodies : List Body) (ticks : ℕ) (old new : State) (bef
   pub HasRun-cut : ticks ≡ most_ticks → GoesOn bodies old halt.AtTick new → IsCut bodies new → HasRun p before now
   HasRun-cut all on cut =
       ended_with (whole.Cut (active_calls bodies new.machine.calls)) [] now
-      (ap (λ t. entry_whole p t (answers (length course.texts))) (sym all) ∙ comes halt.AtTick on (λ e. absurd cc) ∙ cut)
+      (ap (λ t. entry_whole p t (answers (length course.texts))) (sym all)
+      ∙ comes halt.AtTick on (λ e. absurd cc) ∙ cut)
       refl (sym (append-nil now))
 
 -- what is returned with a result that may lack memory
@@ -170,7 +184,8 @@ on_ok (Ok a) P Q h f = f h
 on_ok (Err e) P Q h f = tt
 
 -- a line more is written
-pub smaller_said : (ticks a b : ℕ) (old new text : List ℕ) → new ≡ old ++ owner_line text → a ≡ length old → b ≡ length new → b < 18446744073709551616
+pub smaller_said : (ticks a b : ℕ) (old new text : List ℕ) → new ≡ old ++ owner_line text → a ≡ length old
+    → b ≡ length new → b < 18446744073709551616
     → ticks * 18446744073709551616 + (18446744073709551615 - b) < ticks * 18446744073709551616 + (18446744073709551615 - a)
 smaller_said ticks a b old new text wrote la lb fits =
     let e = ap length wrote ∙ length-append old (owner_line text) in
@@ -178,7 +193,8 @@ smaller_said ticks a b old new text wrote la lb fits =
     omega (arith, e, f, la, lb)
 
 -- the lines of a run between its first line and its home
-pub IsJournal-from_run : (p : Program) (start first now out : List ℕ) → start ≡ [] → first ≡ start ++ line (codes "took 1 state_entry") → HasRun p first now
+pub IsJournal-from_run : (p : Program) (start first now out : List ℕ) → start ≡ []
+    → first ≡ start ++ line (codes "took 1 state_entry") → HasRun p first now
     → out ≡ now ++ line (codes "home 1 " ++ quoted (codes "here")) → IsJournal p out
 IsJournal-from_run p start first now out empty took run home =
     let said = flat_map owner_line run.texts in
@@ -190,6 +206,7 @@ IsJournal-from_run p start first now out empty took run home =
       end = run.end;
       says = run.says;
       ended = run.ended;
-      lines_are = home ∙ ap (λ l. l ++ tail) (run.written ∙ ap (λ l. l ++ (said ++ run.end)) (took ∙ ap (λ l. l ++ head) empty))
+      lines_are = home ∙ ap (λ l. l ++ tail)
+          (run.written ∙ ap (λ l. l ++ (said ++ run.end)) (took ∙ ap (λ l. l ++ head) empty))
           ∙ append_assoc head (said ++ run.end) tail ∙ ap (λ l. head ++ l) (append_assoc said run.end tail);
     }

@@ -34,7 +34,8 @@ record HasEntry (states : List ProgramState) : Type 0 where
   handlers_are : state.handlers ≡ handler ∷ []
   event : handler.event ≡ StateEntry
 
-entry_in : (s : ProgramState) (hs : List EventRoutine) → s.handlers ≡ hs → is_built_handler hs ≡ true → HasEntry (s ∷ [])
+entry_in : (s : ProgramState) (hs : List EventRoutine) → s.handlers ≡ hs → is_built_handler hs ≡ true
+    → HasEntry (s ∷ [])
 entry_in s [] e h = absurd cc
 entry_in s (x ∷ []) e h = record {
   state = s;
@@ -51,12 +52,15 @@ has_entry (s ∷ []) h = entry_in s s.handlers refl h
 has_entry (s ∷ t ∷ states) h = absurd cc
 
 -- its function stands behind the script's functions
-handler_stands : (n : ℕ) (s : ProgramState) (h : EventRoutine) (hs : List EventRoutine) (event : EventId) → hs ≡ h ∷ [] → event ≡ h.event → event ≡ StateEntry
+handler_stands : (n : ℕ) (s : ProgramState) (h : EventRoutine) (hs : List EventRoutine) (event : EventId)
+    → hs ≡ h ∷ [] → event ≡ h.event → event ≡ StateEntry
     → handler_of (numbered_states n (record { name = s.name; handlers = hs } ∷ [])) 0 StateEntry ≡ Some n
 handler_stands n s h hs event is same entry =
     let e : h.event ≡ StateEntry = sym same ∙ entry in
     ap (λ l. handler_of (numbered_states n (record { name = s.name; handlers = l } ∷ [])) 0 StateEntry) is
-    ∙ ap (λ v. handler_of (numbered_states n (record { name = s.name; handlers = record { event = v; routine = h.routine } ∷ [] } ∷ [])) 0 StateEntry) e
+    ∙ ap (λ v. handler_of (numbered_states n
+    (record { name = s.name; handlers = record { event = v; routine = h.routine } ∷ [] } ∷ [])) 0
+    StateEntry) e
 
 module _ (p : Program) (code : Code) (runs : Runs p code) (built : is_built p ≡ true) where
   entry : HasEntry p.states
@@ -66,7 +70,8 @@ module _ (p : Program) (code : Code) (runs : Runs p code) (built : is_built p �
   handler_is =
       ap (λ s. handler_of s 0 StateEntry) runs.states
       ∙ ap (λ s. handler_of (numbered_states (length p.functions) s) 0 StateEntry) entry.states_are
-      ∙ handler_stands (length p.functions) entry.state entry.handler entry.state.handlers entry.handler.event entry.handlers_are refl entry.event
+      ∙ handler_stands (length p.functions) entry.state entry.handler entry.state.handlers entry.handler.event
+      entry.handlers_are refl entry.event
 
   -- it takes no arguments
   pub no_arguments : AreArguments (slice_get (bodies_of code) (length p.functions)) []
@@ -75,15 +80,21 @@ module _ (p : Program) (code : Code) (runs : Runs p code) (built : is_built p �
       let n = length p.functions in
       let s = entry.state in
       let states : code.states ≡ numbered_states n (s ∷ []) = runs.states ∙ ap (numbered_states n) entry.states_are in
-      let state : IsWellFormedState (bodies_of code) (record { name = s.name; handlers = record { event = entry.handler.event; function = n } ∷ [] }) =
-      subst (λ hs. IsWellFormedState (bodies_of code) (record { name = s.name; handlers = numbered_handlers n hs })) entry.handlers_are
-      (subst (All (IsWellFormedState (bodies_of code))) states formed 0 (record { name = s.name; handlers = numbered_handlers n s.handlers }) (omega arith)) in
+      let state : IsWellFormedState (bodies_of code)
+      (record { name = s.name; handlers = record { event = entry.handler.event; function = n } ∷ [] }) =
+      subst (λ hs. IsWellFormedState (bodies_of code)
+      (record { name = s.name; handlers = numbered_handlers n hs })) entry.handlers_are
+      (subst (All (IsWellFormedState (bodies_of code))) states formed 0
+      (record { name = s.name; handlers = numbered_handlers n s.handlers }) (omega arith)) in
       let f = state.handlers 0 (record { event = entry.handler.event; function = n }) (omega arith) in
       subst (λ o. AreArguments o []) (sym f.1) (sym (f.2 ∙ ap signature_of entry.event))
 
   -- the machine that begins has said nothing
-  pub Course-begun : (f : ℕ) (globals args : List Value) (s : State) → f ≡ length p.functions → globals ≡ code.globals → args ≡ []
-      → ((ticks : ℕ) (answers : List Reply) → whole_of_unit code.functions f (kept_with globals 65536) args ticks answers ≡ whole_from (bodies_of code) s ticks answers)
+  pub Course-begun : (f : ℕ) (globals args : List Value) (s : State) → f ≡ length p.functions
+      → globals ≡ code.globals → args ≡ []
+      → ((ticks : ℕ) (answers : List Reply)
+      → whole_of_unit code.functions f (kept_with globals 65536) args ticks answers
+      ≡ whole_from (bodies_of code) s ticks answers)
       → ticks_passed s.standing ≡ 0 → (before : List ℕ) → Course p (bodies_of code) 0 s before before
   Course-begun f globals args s number same none begins passes before = record {
     texts = [];
@@ -91,7 +102,8 @@ module _ (p : Program) (code : Code) (runs : Runs p code) (built : is_built p �
     goes = λ more given.
         ap (λ t. entry_whole p t given) (zero_more more)
         ∙ sym (runs.meaning (length p.functions) (initial_kept p) [] more given)
-        ∙ sym (ap (λ g. whole_of_unit code.functions (length p.functions) (kept_with g 65536) [] more given) (same ∙ runs.globals))
+        ∙ sym (ap (λ g. whole_of_unit code.functions (length p.functions) (kept_with g 65536) [] more given)
+        (same ∙ runs.globals))
         ∙ sym (ap₂ (λ k a. whole_of_unit code.functions k (kept_with globals 65536) a more given) number none)
         ∙ begins more given
         ∙ ap (λ t. whole_from (bodies_of code) s t given) (none_passed passes more);
@@ -105,6 +117,7 @@ module _ (p : Program) (code : Code) (runs : Runs p code) (built : is_built p �
       none_passed e more = omega (arith, e)
 
 -- two facts of a result that may lack memory, put together
-pub if_ok : {A E : Type 0} (r : Result A E) (P Q R : A → Type 0) → IfOk r P → IfOk r Q → ((a : A) → P a → Q a → R a) → IfOk r R
+pub if_ok : {A E : Type 0} (r : Result A E) (P Q R : A → Type 0) → IfOk r P → IfOk r Q
+    → ((a : A) → P a → Q a → R a) → IfOk r R
 if_ok (Ok a) P Q R h k f = f a h k
 if_ok (Err e) P Q R h k f = tt

@@ -42,7 +42,8 @@ cond_only false r q h k = k
 
 pub give_only : (v : Value) (site : Site) (s : State) → Only (give v site s)
 give_only v site s =
-    cond_only (is_within s.kept (used (site.held + charge_of v) s.slots s.kept)) (Gives v s) (Stops (Fails StackHeap)) tt tt
+    cond_only (is_within s.kept (used (site.held + charge_of v) s.slots s.kept)) (Gives v s)
+    (Stops (Fails StackHeap)) tt tt
 
 pub give_result_only : (result : Option Value) (site : Site) (s : State) → Only (give_result result site s)
 give_result_only None site s = tt
@@ -103,7 +104,8 @@ operation_only (Some v) site s = give_only v site s
 assign_step_only : (place : Place) (op : StepOp) (site : Site) (s : State) → Only (assign_step place op site s)
 assign_step_only place op site s =
     bind_only (give (value.Int (pos 1)) site s) _ (give_only (value.Int (pos 1)) site s)
-    (λ one t. bind_only (give (value_at place t) (holding site one) t) _ (give_only (value_at place t) (holding site one) t)
+    (λ one t. bind_only (give (value_at place t) (holding site one) t) _
+    (give_only (value_at place t) (holding site one) t)
     (λ v u. bind_only (give_operation (binary_value (step_operator op) v one) site u) _
     (operation_only (binary_value (step_operator op) v one) site u)
     (λ stepped w. give_only stepped site (storing place stepped w))))

@@ -38,9 +38,11 @@ abbrev AreBuilt : List Routine → Type 0
 AreBuilt rs = (n : ℕ) (r : Routine) → slice_get rs n ≡ Some r → BodyIsBuilt r
 
 abbrev LowerOnly : Lower → Type 0
-LowerOnly low = (a : Action) (from : Option ℕ) (site : Site) (s : State) → is_built_action a ≡ true → Only (low a from site s)
+LowerOnly low = (a : Action) (from : Option ℕ) (site : Site) (s : State) → is_built_action a ≡ true
+    → Only (low a from site s)
 
-normal_only : (next : State → Evaluation Flow) → ((s : State) → Only (next s)) → (flow : Flow) (s : State) → Only (on_normal next flow s)
+normal_only : (next : State → Evaluation Flow) → ((s : State) → Only (next s)) → (flow : Flow) (s : State)
+    → Only (on_normal next flow s)
 normal_only next h Normal s = h s
 normal_only next h (Returned result) s = tt
 normal_only next h (Jumped label) s = tt
@@ -74,7 +76,8 @@ module _ (low : Lower) (lower : LowerOnly low) (routines : List Routine) (built 
   call_only (Builtin id) line args site s h = builtin_only id line args site s h
 
   mutual
-    value_only : (node : Node) (site : Site) (s : State) → is_built_value node ≡ true → Only (value_of routines low node site s)
+    value_only : (node : Node) (site : Site) (s : State) → is_built_value node ≡ true
+        → Only (value_of routines low node site s)
     value_only (Int n) site s h = give_only (value.Int n) site s
     value_only (Str text) site s h = give_only (value.Str text) site s
     value_only (Constant id kind) site s h = give_only (constant_value_of id) site s
@@ -88,9 +91,11 @@ module _ (low : Lower) (lower : LowerOnly low) (routines : List Routine) (built 
         bind_only (values_of routines low nodes site s) _ (values_only nodes site s h)
         (λ vs t. give_only (list_value (reverse vs)) site t)
     value_only (Cast kind node) site s h =
-        bind_only (value_of routines low node site s) _ (value_only node site s h) (λ v t. give_only (cast_of v kind) site t)
+        bind_only (value_of routines low node site s) _ (value_only node site s h)
+        (λ v t. give_only (cast_of v kind) site t)
     value_only (Unary op node) site s h =
-        bind_only (value_of routines low node site s) _ (value_only node site s h) (λ v t. give_only (unary_value op v) site t)
+        bind_only (value_of routines low node site s) _ (value_only node site s h)
+        (λ v t. give_only (unary_value op v) site t)
     value_only (Binary op kind left right) site s h =
         let both = and_parts (is_built_value left) (is_built_value right) h in
         bind_only (value_of routines low right site s) _ (value_only right site s both.1)
@@ -101,7 +106,8 @@ module _ (low : Lower) (lower : LowerOnly low) (routines : List Routine) (built 
         (λ v t. give_only v site (storing place v t))
     value_only (StepBehind place op) site s h = step_behind_only place op site s
 
-    values_only : (nodes : Nodes) (site : Site) (s : State) → are_built_values nodes ≡ true → Only (values_of routines low nodes site s)
+    values_only : (nodes : Nodes) (site : Site) (s : State) → are_built_values nodes ≡ true
+        → Only (values_of routines low nodes site s)
     values_only NoNode site s h = tt
     values_only (AndNode nodes node) site s h =
         let both = and_parts (are_built_values nodes) (is_built_value node) h in
@@ -109,7 +115,8 @@ module _ (low : Lower) (lower : LowerOnly low) (routines : List Routine) (built 
         (λ vs t. bind_only (value_of routines low node (holding_all site vs) t) _
         (value_only node (holding_all site vs) t both.1) (λ v u. tt))
 
-  perform_only : (e : effect.Effect) (site : Site) (s : State) → is_built_effect e ≡ true → Only (perform routines low e site s)
+  perform_only : (e : effect.Effect) (site : Site) (s : State) → is_built_effect e ≡ true
+      → Only (perform routines low e site s)
   perform_only (effect.Value node) site s h =
       bind_only (value_of routines low node site s) _ (value_only node site s h) (λ v t. tt)
   perform_only (effect.Call callee line args) site s h =
@@ -118,22 +125,27 @@ module _ (low : Lower) (lower : LowerOnly low) (routines : List Routine) (built 
       (λ vs t. bind_only (call routines low callee line (reverse vs) site t) no_result
       (call_only callee line (reverse vs) site t both.0) no_result_only)
 
-  perform_all_only : (es : List effect.Effect) (site : Site) (s : State) → are_built_effects es ≡ true → Only (perform_all routines low es site s)
+  perform_all_only : (es : List effect.Effect) (site : Site) (s : State) → are_built_effects es ≡ true
+      → Only (perform_all routines low es site s)
   perform_all_only [] site s h = tt
   perform_all_only (e ∷ es) site s h =
       let both = and_parts (is_built_effect e) (are_built_effects es) h in
-      bind_only (perform routines low e site s) _ (perform_only e site s both.0) (λ _ t. perform_all_only es site t both.1)
+      bind_only (perform routines low e site s) _ (perform_only e site s both.0)
+      (λ _ t. perform_all_only es site t both.1)
 
-  caught_only : (xs : Actions) (site : Site) → are_built_actions xs ≡ true → (flow : Flow) (s : State) → Only (caught routines low xs site flow s)
+  caught_only : (xs : Actions) (site : Site) → are_built_actions xs ≡ true → (flow : Flow) (s : State)
+      → Only (caught routines low xs site flow s)
   caught_only xs site h Normal s = tt
   caught_only xs site h (Returned result) s = tt
   caught_only xs site h (Jumped label) s =
       cond_only (has_label (labels_in xs) label) _ (Gives (Jumped label) s) (lower (Block xs) (Some label) site s h) tt
 
   mutual
-    pub execute_only : (a : Action) (from : Option ℕ) (site : Site) (s : State) → is_built_action a ≡ true → Only (execute routines low a from site s)
+    pub execute_only : (a : Action) (from : Option ℕ) (site : Site) (s : State) → is_built_action a ≡ true
+        → Only (execute routines low a from site s)
     execute_only (Block xs) from site s h =
-        bind_only (execute_all routines low xs from site s) _ (execute_all_only xs from site s h) (caught_only xs site h)
+        bind_only (execute_all routines low xs from site s) _ (execute_all_only xs from site s h)
+        (caught_only xs site h)
     execute_only (Effect e) from site s h =
         bind_only (perform routines low e site s) _ (perform_only e site s h) (λ _ t. tt)
     execute_only (Declare slot node) from site s h =
@@ -142,7 +154,8 @@ module _ (low : Lower) (lower : LowerOnly low) (routines : List Routine) (built 
     execute_only (If test a) from site s h =
         let both = and_parts (is_built_value test) (is_built_action a) h in
         bind_only (value_of routines low test site s) _ (value_only test site s both.0)
-        (λ v t. cond_only (truth_of v) (execute routines low a None site t) (Gives Normal t) (execute_only a None site t both.1) tt)
+        (λ v t. cond_only (truth_of v) (execute routines low a None site t) (Gives Normal t)
+        (execute_only a None site t both.1) tt)
     execute_only (IfElse test a b) from site s h =
         let first = and_parts (is_built_value test) (is_built_action a && is_built_action b) h in
         let both = and_parts (is_built_action a) (is_built_action b) first.1 in
@@ -172,7 +185,8 @@ module _ (low : Lower) (lower : LowerOnly low) (routines : List Routine) (built 
         bind_only (value_of routines low node site s) _ (value_only node site s h) (λ v t. tt)
     execute_only (GoToState n) from site s h = tt
 
-    execute_all_only : (xs : Actions) (from : Option ℕ) (site : Site) (s : State) → are_built_actions xs ≡ true → Only (execute_all routines low xs from site s)
+    execute_all_only : (xs : Actions) (from : Option ℕ) (site : Site) (s : State) → are_built_actions xs ≡ true
+        → Only (execute_all routines low xs from site s)
     execute_all_only NoAction from site s h = tt
     execute_all_only (AndAction xs a) None site s h =
         let both = and_parts (are_built_actions xs) (is_built_action a) h in
@@ -201,7 +215,8 @@ module _ (routines : List Routine) (built : AreBuilt routines) where
       let s : State = record { kept = kept; slots = first_slots r args; ticks = ticks; answers = answers } in
       ended_only _ (run_only (level routines ticks) (level_only ticks) routines built r (outermost number) s (h r refl))
 
-functions_found : (fs : List NamedRoutine) (rest : List Routine) → are_built_functions fs ≡ true → AreBuilt rest → AreBuilt (map (λ f. f.routine) fs ++ rest)
+functions_found : (fs : List NamedRoutine) (rest : List Routine) → are_built_functions fs ≡ true → AreBuilt rest
+    → AreBuilt (map (λ f. f.routine) fs ++ rest)
 functions_found [] rest h k n r e = k n r e
 functions_found (f ∷ fs) rest h k zero r e =
     let same : f.routine ≡ r = cc in
@@ -228,7 +243,10 @@ routines_found p h =
     functions_found p.functions (map (λ h. h.routine) (handlers_of p.states)) both.0 (states_found p.states both.1)
 
 -- what a program of the built part asks for
-pub asks_owner_say : (p : Program) → is_built p ≡ true → (number : ℕ) (kept : Kept) (args : List Value) (ticks : ℕ) (answers : List Reply) (id : BuiltinId) (asked : List Value)
+pub asks_owner_say : (p : Program) → is_built p ≡ true
+    → (number : ℕ) (kept : Kept) (args : List Value) (ticks : ℕ) (answers : List Reply) (id : BuiltinId)
+    (asked : List Value)
     → whole p number kept args ticks answers ≡ Asks id asked → id ≡ OwnerSay
 asks_owner_say p h number kept args ticks answers id asked e =
-    subst IsOnly e (whole_of_only (routines_of p) (routines_found p h) (slice_get (routines_of p) number) number kept args ticks answers (routines_found p h number))
+    subst IsOnly e (whole_of_only (routines_of p) (routines_found p h) (slice_get (routines_of p) number) number
+    kept args ticks answers (routines_found p h number))

@@ -44,7 +44,8 @@ Answers command file NoMemory lines = ⊥
 abbrev pub Wrote : Command → List ℕ → Option (List ℕ) → Status → Option (List ℕ) → Type 0
 Wrote command file old Ok new = (lines : List ℕ) × IsReport command file lines × Grew old new lines
 Wrote command file old BadScript new = (lines : List ℕ) × IsRefusal command file lines × Grew old new lines
-Wrote command file old WriteFault new = (lines : List ℕ) × (IsReport command file lines ⊎ IsRefusal command file lines) × GrewByPrefix old new lines
+Wrote command file old WriteFault new = (lines : List ℕ)
+    × (IsReport command file lines ⊎ IsRefusal command file lines) × GrewByPrefix old new lines
 Wrote command file old NoMemory new = new ≡ old
 Wrote command file old Usage new = ⊥
 Wrote command file old BadWorld new = ⊥

@@ -94,7 +94,8 @@ accepted_line file = line (codes "accepted " ++ quoted file)
 -- where a fault stands, and its number
 abbrev pub place_of : ℕ → ℕ → ℕ → List ℕ
 place_of line_number col number =
-    codes " " ++ (decimal line_number ++ (codes ":" ++ (decimal col ++ (codes " fault " ++ (decimal number ++ 10 ∷ [])))))
+    codes " " ++ (decimal line_number ++ (codes
+    ":" ++ (decimal col ++ (codes " fault " ++ (decimal number ++ 10 ∷ [])))))
 
 -- the refusal of a file for a fault at a place
 abbrev pub refusal_line : List ℕ → ℕ → ℕ → ℕ → List ℕ

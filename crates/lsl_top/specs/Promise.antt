@@ -40,7 +40,8 @@ Refuses (Some files) command fault = FaultIn (files (file_of command)) command f
 -- the whole output of a command over these files
 abbrev pub OutputOf : Option Files → Command → List ℕ → Type 0
 OutputOf held command output =
-    Reports held command output ⊎ ((fault : BuildFault) × Refuses held command fault × (output ≡ refusal_of (file_of command) fault))
+    Reports held command output ⊎ ((fault : BuildFault) × Refuses held command fault
+    × (output ≡ refusal_of (file_of command) fault))
 
 -- the sink grew by the command's report
 abbrev pub WritesReport : Option Files → Option Command → Option (List ℕ) → Option (List ℕ) → Type 0
@@ -50,12 +51,14 @@ WritesReport held (Some command) old new = (lines : List ℕ) × Reports held co
 -- the command's file isn't accepted, and the sink grew by its refusal for its first fault
 abbrev pub WritesRefusal : Option Files → Option Command → Option (List ℕ) → Option (List ℕ) → Type 0
 WritesRefusal held None old new = ⊥
-WritesRefusal held (Some command) old new = (fault : BuildFault) × Refuses held command fault × Grew old new (refusal_of (file_of command) fault)
+WritesRefusal held (Some command) old new =
+    (fault : BuildFault) × Refuses held command fault × Grew old new (refusal_of (file_of command) fault)
 
 -- the sink grew by a prefix of the command's whole output
 abbrev pub WritesPrefix : Option Files → Option Command → Option (List ℕ) → Option (List ℕ) → Type 0
 WritesPrefix held None old new = ⊥
-WritesPrefix held (Some command) old new = (output : List ℕ) × OutputOf held command output × GrewByPrefix old new output
+WritesPrefix held (Some command) old new =
+    (output : List ℕ) × OutputOf held command output × GrewByPrefix old new output
 
 -- the count of the very file that the words name rose
 abbrev pub NamedRose : Option Command → (List ℕ → ℕ) → (List ℕ → ℕ) → Type 0

@@ -20,7 +20,8 @@ names_file [] = false
 names_file (c ∷ word) = not (c == 45)
 
 abbrev pub command_in : List (List ℕ) → Option Command
-command_in (word ∷ file ∷ []) = if bytes_eq word (codes "once") && names_file file then Some (Once file) else if bytes_eq word (codes "check") && names_file file then Some (Check file) else None
+command_in (word ∷ file ∷ []) = if bytes_eq word (codes "once") && names_file file then Some (Once file)
+    else if bytes_eq word (codes "check") && names_file file then Some (Check file) else None
 command_in _ = None
 
 -- what the words ask for, or none where they are no command

@@ -112,7 +112,8 @@ pub fn refusal(alloc: Global, file: &str, fault: &BuildFault) -> Result<Vec<u8>,
 }
 
 fn push_place(out: &mut Vec<u8>, fault: &BuildFault) -> Result<(), NoMemory>
-    ensures { OnOk result (out.new.items ≡ out.old.items ++ place_of fault.now.span.line fault.now.span.col fault.now.number) }
+    ensures { OnOk result (out.new.items ≡ out.old.items ++ place_of fault.now.span.line fault.now.span.col
+        fault.now.number) }
 {
     out.push(b' ')?;
     push_decimal(out, i64::from(fault.span.line))?;

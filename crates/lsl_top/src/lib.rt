@@ -40,7 +40,8 @@ pub fn lsl<S: Shelf, K: Sink, L: Link>(
     // The file is a script, and the sink grew by exactly the report of its run or its check.
     ensures ok { result ≡ Status.Ok
         → WritesReport (S.held shelf.old) (command_of words.now) (K.sunk sink.old) (K.sunk sink.new) }
-    // The file isn't accepted, or is to be run and is outside the built part, and the sink grew by exactly its refusal for that fault.
+    // The file isn't accepted, or is to be run and is outside the built part, and the sink grew by exactly its
+    // refusal for that fault.
     ensures bad_script { result ≡ Status.BadScript
         → WritesRefusal (S.held shelf.old) (command_of words.now) (K.sunk sink.old) (K.sunk sink.new) }
     // The shelf failed at the very file that the words name.
@@ -85,13 +86,21 @@ fn run<S: Shelf, K: Sink>(
     sink: &mut K,
 ) -> Status
     ensures runs { Runs (S.held shelf.old) (asked_by command.entry) (K.sunk sink.old) result (K.sunk sink.new) }
-    ensures read_fault { result ≡ Status.ReadFault → Rose (S.faults shelf.old (file_of (asked_by command.entry))) (S.faults shelf.new (file_of (asked_by command.entry))) }
+    ensures read_fault { result ≡ Status.ReadFault
+        → Rose (S.faults shelf.old (file_of (asked_by command.entry)))
+        (S.faults shelf.new (file_of (asked_by command.entry))) }
     ensures write_fault { result ≡ Status.WriteFault → Rose (K.faults sink.old) (K.faults sink.new) }
     ensures unchanged { S.held shelf.new ≡ S.held shelf.old }
     ensures shelf_counted { NoneFell (S.faults shelf.old) (S.faults shelf.new) }
     ensures sink_counted { K.faults sink.old ≤ K.faults sink.new }
-    ensures complete { HasScript (S.held shelf.old) (Some (asked_by command.entry)) → ¬ Rose (S.faults shelf.old (file_of (asked_by command.entry))) (S.faults shelf.new (file_of (asked_by command.entry))) → ¬ Rose (K.faults sink.old) (K.faults sink.new) → (result ≡ Status.Ok) ⊎ (result ≡ Status.NoMemory) }
-    ensures refused { HasNoScript (S.held shelf.old) (Some (asked_by command.entry)) → ¬ Rose (S.faults shelf.old (file_of (asked_by command.entry))) (S.faults shelf.new (file_of (asked_by command.entry))) → ¬ Rose (K.faults sink.old) (K.faults sink.new) → (result ≡ Status.BadScript) ⊎ (result ≡ Status.NoMemory) }
+    ensures complete { HasScript (S.held shelf.old) (Some (asked_by command.entry))
+        → ¬ Rose (S.faults shelf.old (file_of (asked_by command.entry)))
+        (S.faults shelf.new (file_of (asked_by command.entry))) → ¬ Rose (K.faults sink.old) (K.faults sink.new)
+        → (result ≡ Status.Ok) ⊎ (result ≡ Status.NoMemory) }
+    ensures refused { HasNoScript (S.held shelf.old) (Some (asked_by command.entry))
+        → ¬ Rose (S.faults shelf.old (file_of (asked_by command.entry)))
+        (S.faults shelf.new (file_of (asked_by command.entry))) → ¬ Rose (K.faults sink.old) (K.faults sink.new)
+        → (result ≡ Status.BadScript) ⊎ (result ≡ Status.NoMemory) }
 {
     match read_all(alloc, shelf, command.file(), MAX_SCRIPT_BYTES) {
         Ok(file) => write_output(alloc, command, file.as_slice(), sink),

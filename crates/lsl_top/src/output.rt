@@ -61,7 +61,8 @@ fn report_of(
     file: &[u8],
 ) -> Result<Vec<u8>, Refusal<BuildFault>>
     ensures ok { IfOk result (λ lines. IsReport (asked_by command.entry) file.now lines.items) }
-    ensures fault { (fault : Fault) → IsErrOf result (refusals.Fault fault) → IsFault (asked_by command.entry) file.now fault }
+    ensures fault { (fault : Fault) → IsErrOf result (refusals.Fault fault)
+        → IsFault (asked_by command.entry) file.now fault }
 {
     match command {
         Command::Once(_) => {

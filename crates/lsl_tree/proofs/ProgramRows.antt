@@ -24,23 +24,27 @@ row_of _ = (_, declared.end_of-Node)
 pub node_of-List : (v : Vec declared.Node Global) → node_of (variant.List v) ≡ ListLiteral (nodes_of v.items)
 node_of-List v =
     let row = row_of (variant.List v) in
-    ap ListLiteral (row_nodes-row row.0 row.1 NoNode ∙ ap (λ l. nodes_behind l NoNode) (declared.items_hidden-the_row-Node-0 v))
+    ap ListLiteral (row_nodes-row row.0 row.1 NoNode
+    ∙ ap (λ l. nodes_behind l NoNode) (declared.items_hidden-the_row-Node-0 v))
 
 pub node_of-Call : (c : Callee) (k : Kind) (l : ℕ) (v : Vec declared.Node Global)
     → node_of (variant.Call c k l v) ≡ Call c k l (nodes_of v.items)
 node_of-Call c k l v =
     let row = row_of (variant.Call c k l v) in
-    ap (Call c k l) (row_nodes-row row.0 row.1 NoNode ∙ ap (λ t. nodes_behind t NoNode) (declared.items_hidden-the_row-Node-0 v))
+    ap (Call c k l) (row_nodes-row row.0 row.1 NoNode
+    ∙ ap (λ t. nodes_behind t NoNode) (declared.items_hidden-the_row-Node-0 v))
 
 nodes_behind-append : (xs : List declared.Node) (x : declared.Node) (ts : Nodes)
     → nodes_behind (xs ++ x ∷ []) ts ≡ AndNode (nodes_behind xs ts) (node_of x)
 nodes_behind-append [] x ts = refl
 nodes_behind-append (y ∷ xs) x ts = nodes_behind-append xs x (AndNode ts (node_of y))
 
-pub nodes_of-append : (xs : List declared.Node) (x : declared.Node) → nodes_of (xs ++ x ∷ []) ≡ AndNode (nodes_of xs) (node_of x)
+pub nodes_of-append : (xs : List declared.Node) (x : declared.Node)
+    → nodes_of (xs ++ x ∷ []) ≡ AndNode (nodes_of xs) (node_of x)
 nodes_of-append xs x = nodes_behind-append xs x NoNode
 
-nodes_behind-count : (xs : List declared.Node) (ts : Nodes) → argument_count (nodes_behind xs ts) ≡ length xs + argument_count ts
+nodes_behind-count : (xs : List declared.Node) (ts : Nodes)
+    → argument_count (nodes_behind xs ts) ≡ length xs + argument_count ts
 nodes_behind-count [] ts = omega arith
 nodes_behind-count (x ∷ xs) ts = omega (arith, nodes_behind-count xs (AndNode ts (node_of x)))
 
@@ -56,11 +60,13 @@ abbrev action_row_of : declared_action.Action → (n : Count) × declared_action
 action_row_of (declared_action.Block' _ row) = (_, row)
 action_row_of _ = (_, declared_action.end_of-Action)
 
-pub action_of-Block : (v : Vec declared_action.Action Global) → action_of (action_variant.Block v) ≡ Block (actions_of v.items)
+pub action_of-Block : (v : Vec declared_action.Action Global)
+    → action_of (action_variant.Block v) ≡ Block (actions_of v.items)
 action_of-Block v =
     let row = action_row_of (action_variant.Block v) in
     ap Block
-    (row_actions-row row.0 row.1 NoAction ∙ ap (λ l. actions_behind l NoAction) (declared_action.items_hidden-the_row-Action-0 v))
+    (row_actions-row row.0 row.1 NoAction
+    ∙ ap (λ l. actions_behind l NoAction) (declared_action.items_hidden-the_row-Action-0 v))
 
 actions_behind-append : (xs : List declared_action.Action) (x : declared_action.Action) (front : Actions)
     → actions_behind (xs ++ x ∷ []) front ≡ AndAction (actions_behind xs front) (action_of x)

@@ -21,15 +21,18 @@ row_of (declared.List' s _ row) = (_, row)
 row_of (declared.Call' n _ row) = (_, row)
 row_of _ = (_, declared.end_of-Expr)
 
-pub expr_of-List : (s : Span) (v : Vec declared.Expr Global) → expr_of (variant.List s v) ≡ ListLiteral s (exprs_of v.items)
+pub expr_of-List : (s : Span) (v : Vec declared.Expr Global)
+    → expr_of (variant.List s v) ≡ ListLiteral s (exprs_of v.items)
 expr_of-List s v =
     let row = row_of (variant.List s v) in
-    ap (ListLiteral s) (row_exprs-row row.0 row.1 NoExpr ∙ ap (λ l. exprs_behind l NoExpr) (declared.items_hidden-the_row-Expr-0 v))
+    ap (ListLiteral s) (row_exprs-row row.0 row.1 NoExpr
+    ∙ ap (λ l. exprs_behind l NoExpr) (declared.items_hidden-the_row-Expr-0 v))
 
 pub expr_of-Call : (n : Name) (v : Vec declared.Expr Global) → expr_of (variant.Call n v) ≡ Call n (exprs_of v.items)
 expr_of-Call n v =
     let row = row_of (variant.Call n v) in
-    ap (Call n) (row_exprs-row row.0 row.1 NoExpr ∙ ap (λ l. exprs_behind l NoExpr) (declared.items_hidden-the_row-Expr-0 v))
+    ap (Call n) (row_exprs-row row.0 row.1 NoExpr
+    ∙ ap (λ l. exprs_behind l NoExpr) (declared.items_hidden-the_row-Expr-0 v))
 
 exprs_behind-append : (xs : List declared.Expr) (x : declared.Expr) (es : Exprs)
     → exprs_behind (xs ++ x ∷ []) es ≡ AndExpr (exprs_behind xs es) (expr_of x)
@@ -52,7 +55,8 @@ item_row_of _ = (_, declared_stmt.end_of-Item)
 pub stmt_of-Block : (v : Vec declared_item.Item Global) → stmt_of (stmt_variant.Block v) ≡ Block (items_of v.items)
 stmt_of-Block v =
     let row = item_row_of (stmt_variant.Block v) in
-    ap Block (row_items-row row.0 row.1 NoItem ∙ ap (λ l. items_behind l NoItem) (declared_stmt.items_hidden-the_row-Item-0 v))
+    ap Block (row_items-row row.0 row.1 NoItem
+    ∙ ap (λ l. items_behind l NoItem) (declared_stmt.items_hidden-the_row-Item-0 v))
 
 items_behind-append : (xs : List declared_item.Item) (x : declared_item.Item) (es : Items)
     → items_behind (xs ++ x ∷ []) es ≡ AndItem (items_behind xs es) (item_of x)

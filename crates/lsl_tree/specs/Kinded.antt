@@ -40,7 +40,8 @@ module _ (s : Scope) where
   -- what is called has parameters of the arguments' kinds, and this result
   abbrev pub FitsCall : Callee → Nodes → Option Kind → Type 0
   FitsCall c ts result =
-      (g : Signature) × (callee_signature s.functions c ≡ Some g) × (reverse g.params ≡ stack_of ts) × (g.result ≡ result)
+      (g : Signature) × (callee_signature s.functions c ≡ Some g) × (reverse g.params ≡ stack_of ts)
+      × (g.result ≡ result)
 
   abbrev mutual
     pub IsKindedNode : Node → Type 0
@@ -52,7 +53,8 @@ module _ (s : Scope) where
     IsKindedNode (node.ListLiteral ts) = All IsElement (stack_of ts) × AreKindedNodes ts
     IsKindedNode (node.Cast k t) = (casts_of (node_kind_of t) k ≡ true) × IsKindedNode t
     IsKindedNode (node.Unary op t) = (node_kind_of t ≡ kind.Int) × IsKindedNode t
-    IsKindedNode (node.Binary op k a b) = (result_kind_of op (node_kind_of a) (node_kind_of b) ≡ Some k) × IsKindedNode a × IsKindedNode b
+    IsKindedNode (node.Binary op k a b) =
+        (result_kind_of op (node_kind_of a) (node_kind_of b) ≡ Some k) × IsKindedNode a × IsKindedNode b
     IsKindedNode (node.Assign p k t) = (place_kind s p ≡ Some k) × (node_kind_of t ≡ k) × IsKindedNode t
     IsKindedNode (node.StepBehind p op) = place_kind s p ≡ Some kind.Int
 
@@ -85,7 +87,14 @@ module _ (s : Scope) where
 
 -- what is in scope in a routine of the program
 abbrev pub scope_of : Program → Routine → Scope
-scope_of p r = record { globals = global_kinds p; functions = function_signatures p; states = length p.states; slots = r.slots; result = r.kind }
+scope_of p r = record {
+  globals = global_kinds p;
+  functions = function_signatures p;
+  states =
+      length p.states;
+  slots = r.slots;
+  result = r.kind;
+}
 
 abbrev pub IsKindedRoutine : Program → Routine → Type 0
 IsKindedRoutine p r = AreKindedActions (scope_of p r) r.body

@@ -44,7 +44,14 @@ pub record Program : Type 0 where
   pub states : List ProgramState
 
 abbrev pub routine_of : declared_routine.Routine → Routine
-routine_of r = record { line = r.line; kind = r.kind; params = r.params; slots = r.slots.items; body = actions_of r.body.items }
+routine_of r = record {
+  line = r.line;
+  kind = r.kind;
+  params = r.params;
+  slots = r.slots.items;
+  body =
+      actions_of r.body.items;
+}
 
 abbrev pub initial_of : declared_initial.Initial → Initial
 initial_of (initial.Part p) = Single p

@@ -1,4 +1,5 @@
--- What every checked program keeps beside the kinds: counts of arguments, results where they are needed, labels in scope.
+-- What every checked program keeps beside the kinds: counts of arguments, results where they are needed, labels
+-- in scope.
 use Rattle.std.specs.Prelude.{◌≡◌, ◌≢◌, ℕ, ◌+◌, ◌<◌, ◌≤◌, Bool, true, false, Some, None, is_some, List, [], ◌∷◌, ◌++◌, length, Contains, All}
 use Rattle.std.specs.List.{AllPairs}
 use Rattle.lsl_tree.specs.declared.program_node.Callee.{Callee}
@@ -38,7 +39,8 @@ module _ (o : Outline) where
   -- a function or built-in call with so many parameters, which gives a value or gives none
   abbrev pub FitsCallee : Callee → ℕ → Bool → Type 0
   FitsCallee c count gives =
-      (g : Signature) × (callee_signature o.functions c ≡ Some g) × (length g.params ≡ count) × (is_some g.result ≡ gives)
+      (g : Signature) × (callee_signature o.functions c ≡ Some g) × (length g.params ≡ count)
+      × (is_some g.result ≡ gives)
 
   abbrev mutual
     pub IsShapedNode : Node → Type 0
@@ -65,7 +67,8 @@ module _ (o : Outline) where
   -- a statement in blocks with these labels
   abbrev mutual
     pub IsShapedAction : List ℕ → Action → Type 0
-    IsShapedAction labels (action.Block xs) = Differ (labels_in xs ++ labels) × AreShapedActions (labels_in xs ++ labels) xs
+    IsShapedAction labels (action.Block xs) =
+        Differ (labels_in xs ++ labels) × AreShapedActions (labels_in xs ++ labels) xs
     IsShapedAction labels (action.Effect x) = IsShapedEffect x
     IsShapedAction labels (action.Declare s t) = IsShapedNode t
     IsShapedAction labels (action.Label n) = Unit {0}
@@ -89,7 +92,8 @@ ends_with_value xs = false
 
 -- a routine's body is one block, and where the routine gives a value, so does the body's end
 pub record IsShapedRoutine (functions : List Signature) (states : ℕ) (r : Routine) : Type 0 where
-  pub body : IsShapedAction (record { functions = functions; states = states; gives = is_some r.kind }) [] (action.Block r.body)
+  pub body : IsShapedAction (record { functions = functions; states = states; gives = is_some r.kind }) []
+      (action.Block r.body)
   pub ending : is_some r.kind ≡ true → ends_with_value r.body ≡ true
   pub params : r.params ≤ length r.slots
 

@@ -28,7 +28,8 @@ pub enum AssignOp {
     Rem,
 }
 
-/// An expression. A span is that of the first token, of an operator's sign between operands, or of an assignment's sign.
+/// An expression. A span is that of the first token, of an operator's sign between operands, or of an
+/// assignment's sign.
 #[derive(Drop)]
 pub enum Expr {
     /// INT

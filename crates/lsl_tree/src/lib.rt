@@ -1,5 +1,5 @@
-//! Syntax trees of scripts: one variant for each alternative of the grammar, with the places that later faults and line numbers
-//! need. They hold no meaning, and nothing here reads or checks them.
+//! Syntax trees of scripts: one variant for each alternative of the grammar, with the places that later faults
+//! and line numbers need. They hold no meaning, and nothing here reads or checks them.
 #![tactic(auto)]
 
 mod expression;

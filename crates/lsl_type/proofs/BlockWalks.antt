@@ -14,11 +14,13 @@ use Rattle.lsl_type.specs.ActionForms.{effects_after}
 use Rattle.lsl_type.proofs.Walks.{left, drop_all}
 
 -- one more parameter
-pub locals_next : (f : FrameView) (ps : List Param) (i : ℕ) (p : Param) (whole : FrameView) → i < length ps → p ≡ get_or ps i p
+pub locals_next : (f : FrameView) (ps : List Param) (i : ℕ) (p : Param) (whole : FrameView) → i < length ps
+    → p ≡ get_or ps i p
     → with_locals f (drop i ps) ≡ whole → with_locals (with_local f (spelled p.name) p.kind) (drop (i + 1) ps) ≡ whole
 locals_next f ps i p whole h e inv = sym (ap (with_locals f) (left ps i p h e)) ∙ inv
 
-pub locals_end : (f : FrameView) (ps : List Param) (i : ℕ) (whole : FrameView) → length ps ≤ i → with_locals f (drop i ps) ≡ whole → f ≡ whole
+pub locals_end : (f : FrameView) (ps : List Param) (i : ℕ) (whole : FrameView) → length ps ≤ i
+    → with_locals f (drop i ps) ≡ whole → f ≡ whole
 locals_end f ps i whole h inv = sym (ap (with_locals f) (drop_all ps i h)) ∙ inv
 
 -- the labels of some entries, behind other names
@@ -31,20 +33,26 @@ with-append (stmt.Declaration k x v) xs ys = refl
 with-append (stmt.Label x) xs ys = refl
 with-append (stmt.Statement s) xs ys = refl
 
-behind_walk : (xs : List Item) (es : Items) (names : List (List ℕ)) → labels_behind xs (labels_of es ++ names) ≡ labels_of (items_behind xs es) ++ names
+behind_walk : (xs : List Item) (es : Items) (names : List (List ℕ))
+    → labels_behind xs (labels_of es ++ names) ≡ labels_of (items_behind xs es) ++ names
 behind_walk [] es names = refl
-behind_walk (x ∷ xs) es names = ap (labels_behind xs) (with-append (item_of x) (labels_of es) names) ∙ behind_walk xs (AndItem es (item_of x)) names
+behind_walk (x ∷ xs) es names = ap (labels_behind xs) (with-append (item_of x) (labels_of es) names)
+    ∙ behind_walk xs (AndItem es (item_of x)) names
 
 pub labels_walk : (xs : List Item) (names : List (List ℕ)) → labels_behind xs names ≡ labels_of (items_of xs) ++ names
 labels_walk xs names = behind_walk xs NoItem names
 
-pub labels_next : (names : List (List ℕ)) (xs : List Item) (i : ℕ) (x : Item) (whole : List (List ℕ)) → i < length xs → x ≡ get_or xs i x
+pub labels_next : (names : List (List ℕ)) (xs : List Item) (i : ℕ) (x : Item) (whole : List (List ℕ))
+    → i < length xs → x ≡ get_or xs i x
     → labels_behind (drop i xs) names ≡ whole → labels_behind (drop (i + 1) xs) (labels_with (item_of x) names) ≡ whole
 labels_next names xs i x whole h e inv = sym (ap (λ l. labels_behind l names) (left xs i x h e)) ∙ inv
 
-pub labels_end : (names : List (List ℕ)) (xs : List Item) (i : ℕ) (whole : List (List ℕ)) → length xs ≤ i → labels_behind (drop i xs) names ≡ whole → names ≡ whole
+pub labels_end : (names : List (List ℕ)) (xs : List Item) (i : ℕ) (whole : List (List ℕ)) → length xs ≤ i
+    → labels_behind (drop i xs) names ≡ whole → names ≡ whole
 labels_end names xs i whole h inv = sym (ap (λ l. labels_behind l names) (drop_all xs i h)) ∙ inv
 
-pub effects_after-push : (acts : Actions) (xs : List Effect) (x : Effect) → effects_after acts (map effect_of (xs ++ x ∷ [])) ≡ AndAction (effects_after acts (map effect_of xs)) (action.Effect (effect_of x))
+pub effects_after-push : (acts : Actions) (xs : List Effect) (x : Effect)
+    → effects_after acts (map effect_of (xs ++ x ∷ []))
+    ≡ AndAction (effects_after acts (map effect_of xs)) (action.Effect (effect_of x))
 effects_after-push acts [] x = refl
 effects_after-push acts (y ∷ xs) x = effects_after-push (AndAction acts (action.Effect (effect_of y))) xs x

@@ -43,7 +43,18 @@ record Grows (f g : FrameView) : Type 0 where
   first_label : g.first_label ≡ f.first_label
 
 locals_grow : (f : FrameView) (ps : List Param) → Grows f (with_locals f ps)
-locals_grow f [] = record { more_names = []; more_variables = []; names = refl; variables = sym (append-nil f.scope.variables); labels = refl; passed = refl; first_variable = refl; first_label = refl }
+locals_grow f [] = record {
+  more_names = [];
+  more_variables = [];
+  names = refl;
+  variables =
+      sym (append-nil f.scope.variables);
+  labels = refl;
+  passed = refl;
+  first_variable = refl;
+  first_label =
+      refl;
+}
 locals_grow f (p ∷ ps) =
     let one = with_local f (spelled p.name) p.kind in
     let rest = locals_grow one ps in
@@ -65,10 +76,12 @@ take_front : {X : Type 0} (xs ys : List X) → take (length xs) (xs ++ ys) ≡ x
 take_front xs ys = grind (arith, common_steps)
 
 names_left : (n : ℕ) (all more xs : List (List ℕ)) → n ≡ length xs → all ≡ more ++ xs → drop (length all - n) all ≡ xs
-names_left n all more xs count split = ap (λ k. drop (length all - k) all) count ∙ (ap (λ l. drop (length l - length xs) l) split ∙ drop_front more xs)
+names_left n all more xs count split = ap (λ k. drop (length all - k) all) count
+    ∙ (ap (λ l. drop (length l - length xs) l) split ∙ drop_front more xs)
 
 variables_left : (n : ℕ) (all more xs : List Variable) → n ≡ length xs → all ≡ xs ++ more → take n all ≡ xs
-variables_left n all more xs count split = ap (λ k. take k all) count ∙ (ap (λ l. take (length xs) l) split ∙ take_front xs more)
+variables_left n all more xs count split =
+    ap (λ k. take k all) count ∙ (ap (λ l. take (length xs) l) split ∙ take_front xs more)
 
 abbrev framed : List (List ℕ) → List Variable → List Kind → List (List ℕ) → List (List ℕ) → ℕ → ℕ → FrameView
 framed names variables slots labels passed v l = record {
@@ -80,7 +93,8 @@ framed names variables slots labels passed v l = record {
   first_label = l;
 }
 
-same_frame : (names names' : List (List ℕ)) (variables variables' : List Variable) (slots slots' : List Kind) (labels labels' passed passed' : List (List ℕ)) (v v' l l' : ℕ)
+same_frame : (names names' : List (List ℕ)) (variables variables' : List Variable) (slots slots' : List Kind)
+    (labels labels' passed passed' : List (List ℕ)) (v v' l l' : ℕ)
     → names ≡ names' → variables ≡ variables' → slots ≡ slots' → labels ≡ labels' → passed ≡ passed' → v ≡ v' → l ≡ l'
     → framed names variables slots labels passed v l ≡ framed names' variables' slots' labels' passed' v' l'
 same_frame names names' variables variables' slots slots' labels labels' passed passed' v v' l l' a b c d e f g =
@@ -93,18 +107,27 @@ same_frame names names' variables variables' slots slots' labels labels' passed 
     ∙ ap (λ z. framed names' variables' slots' labels' passed' v' z) g)))))
 
 -- what is left of a frame's inner block and parameters is the frame
-pub body_leaves : (known : KnownView) (home : Home) (f begun inner g after : FrameView) (ps : List Param) (es : Items) (acts : Actions) (o : Outer)
+pub body_leaves : (known : KnownView) (home : Home) (f begun inner g after : FrameView) (ps : List Param)
+    (es : Items) (acts : Actions) (o : Outer)
     (names : List (List ℕ)) (variables : List Variable) (slots : List Kind) (n m : ℕ)
-    → IsResting f → begun ≡ with_locals f ps → inner ≡ opened begun es → IsOuter o begun → items_verdict known home inner es ≡ Ok (acts, g) → after ≡ closed g o
-    → n ≡ length f.scope.names → m ≡ length f.scope.variables → names ≡ drop (length after.scope.names - n) after.scope.names → variables ≡ take m after.scope.variables → slots ≡ []
+    → IsResting f → begun ≡ with_locals f ps → inner ≡ opened begun es → IsOuter o begun
+    → items_verdict known home inner es ≡ Ok (acts, g) → after ≡ closed g o
+    → n ≡ length f.scope.names → m ≡ length f.scope.variables
+    → names ≡ drop (length after.scope.names - n) after.scope.names
+    → variables ≡ take m after.scope.variables → slots ≡ []
     → framed names variables slots after.labels after.passed after.first_variable after.first_label ≡ f
-body_leaves known home f begun inner g after ps es acts o names variables slots n m resting begins opens was runs ends counted numbered left kept none =
-    let more = items_extend known home (opened begun es) es (acts, g) (subst (λ z. items_verdict known home z es ≡ Ok (acts, g)) opens runs) in
+body_leaves known home f begun inner g after ps es acts o names variables slots n m resting begins opens was
+    runs ends counted numbered left kept none =
+    let more = items_extend known home (opened begun es) es (acts, g)
+    (subst (λ z. items_verdict known home z es ≡ Ok (acts, g)) opens runs) in
     let back : after ≡ with_slots begun g.slots = ends ∙ closed-opened begun g es o was more in
     let grown : Grows f begun = subst (Grows f) (sym begins) (locals_grow f ps) in
-    same_frame names f.scope.names variables f.scope.variables slots f.slots after.labels f.labels after.passed f.passed after.first_variable f.first_variable after.first_label f.first_label
-    (left ∙ names_left n after.scope.names grown.more_names f.scope.names counted (ap (λ z. z.scope.names) back ∙ grown.names))
-    (kept ∙ variables_left m after.scope.variables grown.more_variables f.scope.variables numbered (ap (λ z. z.scope.variables) back ∙ grown.variables))
+    same_frame names f.scope.names variables f.scope.variables slots f.slots after.labels f.labels after.passed
+    f.passed after.first_variable f.first_variable after.first_label f.first_label
+    (left ∙ names_left n after.scope.names grown.more_names f.scope.names counted
+    (ap (λ z. z.scope.names) back ∙ grown.names))
+    (kept ∙ variables_left m after.scope.variables grown.more_variables f.scope.variables numbered
+    (ap (λ z. z.scope.variables) back ∙ grown.variables))
     (none ∙ sym (ap (λ z. z.slots) resting))
     (ap (λ z. z.labels) back ∙ grown.labels)
     (ap (λ z. z.passed) back ∙ grown.passed)

@@ -49,13 +49,21 @@ then_decides J K (Ok x) q dj dk = record {
   ok = λ u e. (x, dj.ok x refl, (dk x).ok u e);
   err = λ f e. inr (x, dj.ok x refl, (dk x).err f e);
   types = λ u h. ap q (ok_same x h.0 (dj.types h.0 h.1)) ∙ (dk h.0).types u h.2;
-  breaks = λ f s. elim s [ inl b ↦ absurd (ok_not_err x f (dj.breaks f b)) | inr h ↦ ap q (ok_same x h.0 (dj.types h.0 h.1)) ∙ (dk h.0).breaks f h.2 ];
+  breaks = λ f s. elim s [
+    | inl b ↦ absurd (ok_not_err x f (dj.breaks f b))
+    | inr h ↦ ap q
+        (ok_same x h.0 (dj.types h.0 h.1)) ∙ (dk h.0).breaks f h.2
+  ];
 }
 then_decides {A} {B} J K (Err g) q dj dk = record {
   ok = λ u e. absurd (ok_not_err u g (sym e));
   err = λ f e. inl (dj.err f (ap Err (err_same B g f e)));
   types = λ u h. absurd (ok_not_err h.0 g (sym (dj.types h.0 h.1)));
-  breaks = λ f s. elim s [ inl b ↦ ap Err (err_same A g f (dj.breaks f b)) | inr h ↦ absurd (ok_not_err h.0 g (sym (dj.types h.0 h.1))) ];
+  breaks = λ f s. elim s [
+    | inl b ↦ ap Err (err_same A g f (dj.breaks f b))
+    | inr h ↦ absurd
+        (ok_not_err h.0 g (sym (dj.types h.0 h.1)))
+  ];
 }
 
 pub the_one_decides : {T : Type 0} (P : T → Type 0) (fault : TypeFault) (o : Option T)
@@ -73,7 +81,8 @@ the_one_decides {T} P fault (Some x) some found = record {
   breaks = λ f h. absurd (h.0 x (some x refl));
 }
 
-pub must_decides : (P : Type 0) (fault : TypeFault) (b : Bool) → (b ≡ true → P) → (P → b ≡ true) → Decides (must P fault) (must_verdict b fault)
+pub must_decides : (P : Type 0) (fault : TypeFault) (b : Bool) → (b ≡ true → P) → (P → b ≡ true)
+    → Decides (must P fault) (must_verdict b fault)
 must_decides P fault true holds test = record {
   ok = λ t e. holds refl;
   err = λ f e. absurd (ok_not_err tt f e);
@@ -92,9 +101,12 @@ pub test_decides : (fault : TypeFault) (b : Bool) → Decides (must (b ≡ true)
 test_decides fault b = must_decides (b ≡ true) fault b (λ h. h) (λ h. h)
 
 -- a relation that a test excludes
-pub must_not_decides : (P : Type 0) (fault : TypeFault) (b : Bool) → (b ≡ true → P) → (P → b ≡ true) → Decides (must (P → ⊥) fault) (must_verdict (not b) fault)
-must_not_decides P fault true holds test = must_decides (P → ⊥) fault false (λ h. absurd (cc)) (λ n. absurd (n (holds refl)))
-must_not_decides P fault false holds test = must_decides (P → ⊥) fault true (λ h p. let e : false ≡ true = test p in cc) (λ n. refl)
+pub must_not_decides : (P : Type 0) (fault : TypeFault) (b : Bool) → (b ≡ true → P) → (P → b ≡ true)
+    → Decides (must (P → ⊥) fault) (must_verdict (not b) fault)
+must_not_decides P fault true holds test =
+    must_decides (P → ⊥) fault false (λ h. absurd (cc)) (λ n. absurd (n (holds refl)))
+must_not_decides P fault false holds test =
+    must_decides (P → ⊥) fault true (λ h p. let e : false ≡ true = test p in cc) (λ n. refl)
 
 pub entry_decides : {T : Type 0} (o : Option T) (fault : TypeFault) → Decides (entry o fault) (the_one_verdict o fault)
 entry_decides {T} None fault = record {
@@ -111,9 +123,11 @@ entry_decides (Some x) fault = record {
 }
 
 pub each_decides : {X S : Type 0} (rule : S → X → Judgement S) (q : S → X → Verdict S)
-    → ((s : S) (x : X) → Decides (rule s x) (q s x)) → (s : S) (xs : List X) → Decides (each rule s xs) (each_verdict q s xs)
+    → ((s : S) (x : X) → Decides (rule s x) (q s x)) → (s : S) (xs : List X)
+    → Decides (each rule s xs) (each_verdict q s xs)
 each_decides rule q d s [] = gives_decides s
-each_decides rule q d s (x ∷ xs) = then_decides (rule s x) (λ n. each rule n xs) (q s x) (λ n. each_verdict q n xs) (d s x) (λ n. each_decides rule q d n xs)
+each_decides rule q d s (x ∷ xs) = then_decides (rule s x) (λ n. each rule n xs) (q s x)
+    (λ n. each_verdict q n xs) (d s x) (λ n. each_decides rule q d n xs)
 
 -- a verdict that is the same
 pub decides_as : {T : Type 0} (J : Judgement T) (v w : Verdict T) → v ≡ w → Decides J w → Decides J v

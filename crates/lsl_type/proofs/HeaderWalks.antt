@@ -34,9 +34,11 @@ pub parts_next : (i : ℕ) (xs : List Atom) (x : Atom) (ps : List Part) (p : Par
     → flat_parts_verdict (drop i xs) (drop i ps) ≡ whole
     → (part_flat_r p x >>= λ u. flat_parts_verdict (drop (i + 1) xs) (drop (i + 1) ps)) ≡ whole
 parts_next i xs x ps p whole hx ex hp ep inv =
-    sym (ap (λ l. flat_parts_verdict l (p ∷ drop (i + 1) ps)) (left xs i x hx ex)) ∙ (sym (ap (λ l. flat_parts_verdict (drop i xs) l) (left ps i p hp ep)) ∙ inv)
+    sym (ap (λ l. flat_parts_verdict l (p ∷ drop (i + 1) ps)) (left xs i x hx ex))
+    ∙ (sym (ap (λ l. flat_parts_verdict (drop i xs) l) (left ps i p hp ep)) ∙ inv)
 
-pub parts_end : (i : ℕ) (xs : List Atom) (ps : List Part) (whole : Verdict (Unit {0})) → length xs ≤ i → flat_parts_verdict (drop i xs) (drop i ps) ≡ whole → whole ≡ Ok tt
+pub parts_end : (i : ℕ) (xs : List Atom) (ps : List Part) (whole : Verdict (Unit {0})) → length xs ≤ i
+    → flat_parts_verdict (drop i xs) (drop i ps) ≡ whole → whole ≡ Ok tt
 parts_end i xs ps whole h inv = sym inv ∙ ap (λ l. flat_parts_verdict l (drop i ps)) (drop_all xs i h)
 
 abbrev pub header_next : HeadersView → Header → Verdict HeadersView
@@ -54,17 +56,21 @@ list_any-same p q h [] = refl
 list_any-same p q h (x ∷ xs) = ap (λ b. b || list_any p xs) (h x) ∙ ap (λ b. q x || b) (list_any-same p q h xs)
 
 event_tested : (a b : EventId) → sameb the_type a b ≡ same_event a b
-event_tested a b = same_from_decides (sameb the_type a b) (same_event a b) (same_true the_type tt a b, true_same the_type a b) (event_same a b, same_event-same a b)
+event_tested a b = same_from_decides (sameb the_type a b) (same_event a b)
+    (same_true the_type tt a b, true_same the_type a b) (event_same a b, same_event-same a b)
 
-pub any_event : (events : List EventId) (event : EventId) → list_any (λ y. sameb the_type y event) events ≡ has_event events event
-any_event events event = list_any-same (λ y. sameb the_type y event) (λ y. same_event y event) (λ y. event_tested y event) events
+pub any_event : (events : List EventId) (event : EventId)
+    → list_any (λ y. sameb the_type y event) events ≡ has_event events event
+any_event events event = list_any-same (λ y. sameb the_type y event) (λ y. same_event y event)
+    (λ y. event_tested y event) events
 
 -- kinds that are of other numbers differ
 pub same_kinds-counts : (a b : List Kind) → (length a ≡ length b → ⊥) → same_kinds a b ≡ false
 same_kinds-counts [] [] h = absurd (h refl)
 same_kinds-counts [] (y ∷ b) h = refl
 same_kinds-counts (x ∷ a) [] h = refl
-same_kinds-counts (x ∷ a) (y ∷ b) h = ap (λ t. same_kind x y && t) (same_kinds-counts a b (λ e. h (omega (arith, e)))) ∙ and_false (same_kind x y)
+same_kinds-counts (x ∷ a) (y ∷ b) h = ap (λ t. same_kind x y && t)
+    (same_kinds-counts a b (λ e. h (omega (arith, e)))) ∙ and_false (same_kind x y)
   where
     and_false : (t : Bool) → (t && false) ≡ false
     and_false true = refl

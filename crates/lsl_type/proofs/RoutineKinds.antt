@@ -85,7 +85,8 @@ abbrev pub GlobalsHave : KnownView → List Kind → ScopeView → Type 0
 GlobalsHave known globals s =
     (slots : List Kind) (home : Home) → HaveKinds (setting known globals slots home) s.variables
 
-module _ (known : KnownView) (globals : List Kind) (s : ScopeView) (seen : GlobalsHave known globals s) (home : Home) where
+module _ (known : KnownView) (globals : List Kind) (s : ScopeView) (seen : GlobalsHave known globals s)
+    (home : Home) where
   -- the routine of a body that stands for this
   abbrev made : ℕ → List Param → Actions × FrameView → Routine
   made line params inner = record {

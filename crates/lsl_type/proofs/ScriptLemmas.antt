@@ -53,34 +53,46 @@ abbrev part_option : Option Variable → Option ConstantId → Option Part
 part_option (Some v) k = part_of v
 part_option None k = constant_part k
 
-part_same : (o : Option Variable) (x : Name) → part_by o x ≡ the_one_verdict (part_option o (constant_of (spelled x))) (at NotConstant x.span)
+part_same : (o : Option Variable) (x : Name)
+    → part_by o x ≡ the_one_verdict (part_option o (constant_of (spelled x))) (at NotConstant x.span)
 part_same (Some v) x = refl
 part_same None x = refl
 
 abbrev global_at : ℕ → Kind → Variable
 global_at n k = record { place = Global n; kind = k }
 
-variable_part : (s : ScopeView) (x : Name) (place : Place) (k : Kind) → IsVariable s (spelled x) (record { place = place; kind = k })
+variable_part : (s : ScopeView) (x : Name) (place : Place) (k : Kind)
+    → IsVariable s (spelled x) (record { place = place; kind = k })
     → (p : Part) → part_of (record { place = place; kind = k }) ≡ Some p → IsInitial s x p
 variable_part s x (Global n) k iv p h = let same : part.Global n k ≡ p = cc in subst (IsInitial s x) same iv
 variable_part s x (Slot n) k iv p h = absurd (cc)
 
-part_some : (s : ScopeView) (x : Name) (o : Option Variable) (k : Option ConstantId) → variable_of s (spelled x) ≡ o → constant_of (spelled x) ≡ k
+part_some : (s : ScopeView) (x : Name) (o : Option Variable) (k : Option ConstantId)
+    → variable_of s (spelled x) ≡ o → constant_of (spelled x) ≡ k
     → (p : Part) → part_option o k ≡ Some p → IsInitial s x p
 part_some s x (Some v) k ev ek p h = variable_part s x v.place v.kind (variable_of-some s (spelled x) v ev) p h
 part_some s x None None ev ek p h = absurd (cc)
 part_some s x None (Some id) ev ek p h =
     let same : part.Constant id (constant_kind_of id) ≡ p = cc in
-    subst (IsInitial s x) same ((λ v iv. let e : None ≡ Some v = sym ev ∙ is_variable-of s (spelled x) v iv in cc), constant_of-some (spelled x) id ek, refl)
+    subst (IsInitial s x) same (
+      (λ v iv. let e : None ≡ Some v = sym ev ∙ is_variable-of s (spelled x) v iv in
+          cc),
+      constant_of-some (spelled x) id ek,
+      refl,
+    )
 
-part_found : (s : ScopeView) (x : Name) (o : Option Variable) (k : Option ConstantId) → variable_of s (spelled x) ≡ o → constant_of (spelled x) ≡ k
+part_found : (s : ScopeView) (x : Name) (o : Option Variable) (k : Option ConstantId)
+    → variable_of s (spelled x) ≡ o → constant_of (spelled x) ≡ k
     → (p : Part) → IsInitial s x p → part_option o k ≡ Some p
 part_found s x o k ev ek (part.Int n) h = absurd h
 part_found s x o k ev ek (part.Negative n) h = absurd h
 part_found s x o k ev ek (part.Str t) h = absurd h
-part_found s x None k ev ek (part.Constant id kind) h = ap constant_part (sym ek ∙ constant_of-named (spelled x) id h.1) ∙ ap (λ z. Some (part.Constant id z)) (sym h.2)
+part_found s x None k ev ek (part.Constant id kind) h =
+    ap constant_part (sym ek ∙ constant_of-named (spelled x) id h.1)
+    ∙ ap (λ z. Some (part.Constant id z)) (sym h.2)
 part_found s x (Some v) k ev ek (part.Constant id kind) h = absurd (h.0 v (variable_of-some s (spelled x) v ev))
-part_found s x o k ev ek (part.Global n kind) h = ap (λ (z : Option Variable). part_option z k) (sym ev ∙ is_variable-of s (spelled x) (global_at n kind) h)
+part_found s x o k ev ek (part.Global n kind) h =
+    ap (λ (z : Option Variable). part_option z k) (sym ev ∙ is_variable-of s (spelled x) (global_at n kind) h)
 
 initial_part_decides : (s : ScopeView) (a : Atom) → Decides (initial_part s a) (initial_part_verdict s a)
 initial_part_decides s (atom.Int n span) = gives_decides (part.Int n)
@@ -90,44 +102,64 @@ initial_part_decides s (atom.Constant x) =
     let o = variable_of s (spelled x) in
     let k = constant_of (spelled x) in
     decides_as _ (part_by o x) (the_one_verdict (part_option o k) (at NotConstant x.span)) (part_same o x)
-    (the_one_decides (IsInitial s x) (at NotConstant x.span) (part_option o k) (part_some s x o k refl refl) (part_found s x o k refl refl))
+    (the_one_decides (IsInitial s x) (at NotConstant x.span) (part_option o k) (part_some s x o k refl refl)
+    (part_found s x o k refl refl))
 
-next_part_decides : (s : ScopeView) (before : List Part) (a : Atom) → Decides (next_part s before a) (next_part_verdict s before a)
-next_part_decides s before a = then_decides (initial_part s a) _ (initial_part_verdict s a) _ (initial_part_decides s a) (λ p. gives_decides (before ++ p ∷ []))
+next_part_decides : (s : ScopeView) (before : List Part) (a : Atom)
+    → Decides (next_part s before a) (next_part_verdict s before a)
+next_part_decides s before a = then_decides (initial_part s a) _ (initial_part_verdict s a) _
+    (initial_part_decides s a) (λ p. gives_decides (before ++ p ∷ []))
 
 flat_parts_decides : (atoms : List Atom) (ps : List Part) → Decides (flat_parts atoms ps) (flat_parts_verdict atoms ps)
 flat_parts_decides [] ps = gives_decides tt
 flat_parts_decides (a ∷ rest) [] = gives_decides tt
 flat_parts_decides (a ∷ rest) (p ∷ ps) =
-    then_decides _ _ (must_verdict (is_no_list (part_kind_of p)) (at (WrongKind None (Some ListKind)) (atom_span a))) _ (test_decides (at (WrongKind None (Some ListKind)) (atom_span a)) (is_no_list (part_kind_of p)))
+    then_decides _ _ (must_verdict (is_no_list (part_kind_of p))
+    (at (WrongKind None (Some ListKind)) (atom_span a))) _
+    (test_decides (at (WrongKind None (Some ListKind)) (atom_span a)) (is_no_list (part_kind_of p)))
     (λ u. flat_parts_decides rest ps)
 
 initial_decides : (s : ScopeView) (v : Simple) → Decides (initial s v) (initial_verdict s v)
-initial_decides s (source.Atom a) = then_decides (initial_part s a) _ (initial_part_verdict s a) _ (initial_part_decides s a) (λ p. gives_decides (program.Single p))
+initial_decides s (source.Atom a) = then_decides (initial_part s a) _ (initial_part_verdict s a) _
+    (initial_part_decides s a) (λ p. gives_decides (program.Single p))
 initial_decides s (source.Atoms span atoms) =
-    then_decides (each (next_part s) [] atoms) _ (each_verdict (next_part_verdict s) [] atoms) _ (each_decides (next_part s) (next_part_verdict s) (next_part_decides s) [] atoms) (λ ps.
-    then_decides (flat_parts atoms ps) _ (flat_parts_verdict atoms ps) _ (flat_parts_decides atoms ps) (λ u. gives_decides (program.ListLiteral ps)))
+    then_decides (each (next_part s) [] atoms) _ (each_verdict (next_part_verdict s) [] atoms) _
+    (each_decides (next_part s) (next_part_verdict s) (next_part_decides s) [] atoms) (λ ps.
+    then_decides (flat_parts atoms ps) _ (flat_parts_verdict atoms ps) _ (flat_parts_decides atoms ps)
+    (λ u. gives_decides (program.ListLiteral ps)))
 
 abbrev Either_has : List (List ℕ) → List (List ℕ) → List ℕ → Type 0
 Either_has xs ys name = Contains xs name ⊎ Contains ys name
 
-either_is : (xs ys : List (List ℕ)) (name : List ℕ) → (is_some (nearest name xs) || is_some (nearest name ys)) ≡ true → Either_has xs ys name
-either_is xs ys name h = elim (or_cases (is_some (nearest name xs)) (is_some (nearest name ys)) h) [ inl a ↦ inl (nearest_contains name xs a) | inr b ↦ inr (nearest_contains name ys b) ]
+either_is : (xs ys : List (List ℕ)) (name : List ℕ)
+    → (is_some (nearest name xs) || is_some (nearest name ys)) ≡ true → Either_has xs ys name
+either_is xs ys name h = elim (or_cases (is_some (nearest name xs)) (is_some (nearest name ys)) h)
+    [ inl a ↦ inl (nearest_contains name xs a) | inr b ↦ inr (nearest_contains name ys b) ]
 
-is_either : (xs ys : List (List ℕ)) (name : List ℕ) → Either_has xs ys name → (is_some (nearest name xs) || is_some (nearest name ys)) ≡ true
-is_either xs ys name (inl a) = or_left (is_some (nearest name xs)) (is_some (nearest name ys)) (contains_nearest name xs a)
-is_either xs ys name (inr b) = or_right (is_some (nearest name xs)) (is_some (nearest name ys)) (contains_nearest name ys b)
+is_either : (xs ys : List (List ℕ)) (name : List ℕ) → Either_has xs ys name
+    → (is_some (nearest name xs) || is_some (nearest name ys)) ≡ true
+is_either xs ys name (inl a) = or_left (is_some (nearest name xs)) (is_some (nearest name ys))
+    (contains_nearest name xs a)
+is_either xs ys name (inr b) = or_right (is_some (nearest name xs)) (is_some (nearest name ys))
+    (contains_nearest name ys b)
 
-unused_decides : (h : HeadersView) (x : Name) → Decides (must (IsUnused h x) (at DoubleName x.span)) (must_verdict (is_unused h x) (at DoubleName x.span))
+unused_decides : (h : HeadersView) (x : Name)
+    → Decides (must (IsUnused h x) (at DoubleName x.span)) (must_verdict (is_unused h x) (at DoubleName x.span))
 unused_decides h x =
-    let d = neither (IsReserved (spelled x)) (Either_has h.scope.names h.functions (spelled x)) (is_reserved (spelled x)) (is_some (nearest (spelled x) h.scope.names) || is_some (nearest (spelled x) h.functions))
-    (reserved_is (spelled x)) (is_reserved-of (spelled x)) (either_is h.scope.names h.functions (spelled x)) (is_either h.scope.names h.functions (spelled x)) (at DoubleName x.span) in
+    let d = neither (IsReserved (spelled x)) (Either_has h.scope.names h.functions (spelled x))
+    (is_reserved (spelled x)) (is_some (nearest (spelled x) h.scope.names) || is_some
+    (nearest (spelled x) h.functions))
+    (reserved_is (spelled x)) (is_reserved-of (spelled x)) (either_is h.scope.names h.functions (spelled x))
+    (is_either h.scope.names h.functions (spelled x)) (at DoubleName x.span) in
     must_by (is_unused h x) d
   where
-    must_by : (b : Bool) → Decides (must ((IsReserved (spelled x) → ⊥) × (Either_has h.scope.names h.functions (spelled x) → ⊥)) (at DoubleName x.span)) (must_verdict b (at DoubleName x.span))
+    must_by : (b : Bool) → Decides (must ((IsReserved (spelled x) → ⊥)
+        × (Either_has h.scope.names h.functions (spelled x) → ⊥)) (at DoubleName x.span))
+        (must_verdict b (at DoubleName x.span))
         → Decides (must (IsUnused h x) (at DoubleName x.span)) (must_verdict b (at DoubleName x.span))
     must_by b d = must_decides (IsUnused h x) (at DoubleName x.span) b
-        (λ e. let p = d.ok tt (ap (λ z. must_verdict z (at DoubleName x.span)) e) in (p.0, (λ c. p.1 (inl c)), (λ c. p.1 (inr c))))
+        (λ e. let p = d.ok tt (ap (λ z. must_verdict z (at DoubleName x.span)) e) in
+        (p.0, (λ c. p.1 (inl c)), (λ c. p.1 (inr c))))
         (λ u. yes_of b (d.types tt (u.0, (λ s. elim s [ inl c ↦ u.1 c | inr c ↦ u.2 c ]))))
       where
         yes_of : (b : Bool) → must_verdict b (at DoubleName x.span) ≡ Ok tt → b ≡ true
@@ -136,29 +168,45 @@ unused_decides h x =
 
 param_decides : (names : List (List ℕ)) (p : Param) → Decides (param names p) (param_verdict names p)
 param_decides names p =
-    then_decides _ _ (must_verdict (not (is_reserved (spelled p.name) || is_some (nearest (spelled p.name) names))) (at DoubleName p.name.span)) _
-    (neither (IsReserved (spelled p.name)) (Contains names (spelled p.name)) (is_reserved (spelled p.name)) (is_some (nearest (spelled p.name) names))
-    (reserved_is (spelled p.name)) (is_reserved-of (spelled p.name)) (nearest_contains (spelled p.name) names) (contains_nearest (spelled p.name) names) (at DoubleName p.name.span))
+    then_decides _ _ (must_verdict (not (is_reserved (spelled p.name) || is_some
+    (nearest (spelled p.name) names))) (at DoubleName p.name.span)) _
+    (neither (IsReserved (spelled p.name)) (Contains names (spelled p.name)) (is_reserved (spelled p.name))
+    (is_some (nearest (spelled p.name) names))
+    (reserved_is (spelled p.name)) (is_reserved-of (spelled p.name)) (nearest_contains (spelled p.name) names)
+    (contains_nearest (spelled p.name) names) (at DoubleName p.name.span))
     (λ u. gives_decides (spelled p.name ∷ names))
 
-first_become_decides : (k : Kind) (found : Initial) (span : Span) → Decides (initial_become k found span) (initial_become_verdict k found span)
-first_become_decides k found span = entry_decides (initial_as_kind k found) (at (WrongKind (Some k) (Some (initial_kind_of found))) span)
+first_become_decides : (k : Kind) (found : Initial) (span : Span)
+    → Decides (initial_become k found span) (initial_become_verdict k found span)
+first_become_decides k found span = entry_decides (initial_as_kind k found)
+    (at (WrongKind (Some k) (Some (initial_kind_of found))) span)
 
 header_decides : (h : HeadersView) (g : Header) → Decides (header h g) (header_verdict h g)
-header_decides h (source.Global k x None) = then_decides _ _ (must_verdict (is_unused h x) (at DoubleName x.span)) _ (unused_decides h x) (λ u. gives_decides (with_global h (spelled x) k (empty_initial k)))
+header_decides h (source.Global k x None) =
+    then_decides _ _ (must_verdict (is_unused h x) (at DoubleName x.span)) _ (unused_decides h x)
+    (λ u. gives_decides (with_global h (spelled x) k (empty_initial k)))
 header_decides h (source.Global k x (Some v)) =
     then_decides (initial h.scope v) _ (initial_verdict h.scope v) _ (initial_decides h.scope v) (λ found.
     then_decides _ _ (must_verdict (is_unused h x) (at DoubleName x.span)) _ (unused_decides h x) (λ u.
-    then_decides (initial_become k found (initial_span v)) _ (initial_become_verdict k found (initial_span v)) _ (first_become_decides k found (initial_span v)) (λ w. gives_decides (with_global h (spelled x) k w))))
+    then_decides (initial_become k found (initial_span v)) _ (initial_become_verdict k found (initial_span v)) _
+    (first_become_decides k found (initial_span v)) (λ w. gives_decides (with_global h (spelled x) k w))))
 header_decides h (source.Function k x params es) =
     then_decides _ _ (must_verdict (is_unused h x) (at DoubleName x.span)) _ (unused_decides h x) (λ u.
-    then_decides (each param [] params) _ (each_verdict param_verdict [] params) _ (each_decides param param_verdict param_decides [] params) (λ names. gives_decides (with_function h (spelled x) k params)))
+    then_decides (each param [] params) _ (each_verdict param_verdict [] params) _
+    (each_decides param param_verdict param_decides [] params)
+    (λ names. gives_decides (with_function h (spelled x) k params)))
 
-event_decides : (x : Name) → Decides (the_one (IsEvent (spelled x)) (at WrongHandler x.span)) (the_one_verdict (event_of (spelled x)) (at WrongHandler x.span))
-event_decides x = the_one_decides (IsEvent (spelled x)) (at WrongHandler x.span) (event_of (spelled x)) (event_of-some (spelled x)) (event_of-named (spelled x))
+event_decides : (x : Name) → Decides (the_one (IsEvent (spelled x)) (at WrongHandler x.span))
+    (the_one_verdict (event_of (spelled x)) (at WrongHandler x.span))
+event_decides x = the_one_decides (IsEvent (spelled x)) (at WrongHandler x.span) (event_of (spelled x))
+    (event_of-some (spelled x)) (event_of-named (spelled x))
 
 event_at : ℕ → EventId
-event_at n = if nat_eq n 1 then event.StateEntry else if nat_eq n 2 then event.StateExit else if nat_eq n 3 then event.TouchStart else if nat_eq n 4 then event.Touch else if nat_eq n 5 then event.TouchEnd else if nat_eq n 6 then event.Listen else if nat_eq n 7 then event.Timer else if nat_eq n 8 then event.LinkMessage else if nat_eq n 9 then event.Changed else if nat_eq n 10 then event.OnRez else if nat_eq n 11 then event.Dataserver else event.LinksetData
+event_at n = if nat_eq n 1 then event.StateEntry else if nat_eq n 2 then event.StateExit else if nat_eq n 3
+    then event.TouchStart else if nat_eq n 4 then event.Touch else if nat_eq n 5 then event.TouchEnd
+    else if nat_eq n 6 then event.Listen else if nat_eq n 7 then event.Timer else if nat_eq n 8
+    then event.LinkMessage else if nat_eq n 9 then event.Changed else if nat_eq n 10 then event.OnRez
+    else if nat_eq n 11 then event.Dataserver else event.LinksetData
 
 event_at-code : (e : EventId) → event_at (event_code e) ≡ e
 unfolding event_at
@@ -222,60 +270,107 @@ is_kinds a b h = subst (λ z. same_kinds a z ≡ true) h (kinds_same a)
 
 handler_decides : (events : List EventId) (h : source.Handler) → Decides (handler events h) (handler_verdict events h)
 handler_decides events h =
-    then_decides _ _ (the_one_verdict (event_of (spelled h.name)) (at WrongHandler h.name.span)) _ (event_decides h.name) (λ e.
+    then_decides _ _ (the_one_verdict (event_of (spelled h.name)) (at WrongHandler h.name.span)) _
+    (event_decides h.name) (λ e.
     then_decides _ _ (must_verdict (not (has_event events e)) (at DoubleName h.name.span)) _
-    (must_not_decides (Contains events e) (at DoubleName h.name.span) (has_event events e) (has_is events e) (is_has events e)) (λ u.
+    (must_not_decides (Contains events e) (at DoubleName h.name.span) (has_event events e) (has_is events e)
+    (is_has events e)) (λ u.
     then_decides _ _ (must_verdict (same_kinds (kinds_of h.params) (event_params_of e)) (at WrongHandler h.name.span)) _
-    (must_decides (kinds_of h.params ≡ event_params_of e) (at WrongHandler h.name.span) (same_kinds (kinds_of h.params) (event_params_of e)) (kinds_is (kinds_of h.params) (event_params_of e)) (is_kinds (kinds_of h.params) (event_params_of e))) (λ v.
-    then_decides (each param [] h.params) _ (each_verdict param_verdict [] h.params) _ (each_decides param param_verdict param_decides [] h.params) (λ names. gives_decides (events ++ e ∷ [])))))
+    (must_decides (kinds_of h.params ≡ event_params_of e) (at WrongHandler h.name.span)
+    (same_kinds (kinds_of h.params) (event_params_of e)) (kinds_is (kinds_of h.params) (event_params_of e))
+    (is_kinds (kinds_of h.params) (event_params_of e))) (λ v.
+    then_decides (each param [] h.params) _ (each_verdict param_verdict [] h.params) _
+    (each_decides param param_verdict param_decides [] h.params)
+    (λ names. gives_decides (events ++ e ∷ [])))))
 
 state_decides : (names : List (List ℕ)) (s : State) → Decides (state names s) (state_verdict names s)
 state_decides names s =
     then_decides _ _ (must_verdict (not (is_some (nearest (spelled s.name) names))) (at DoubleName s.name.span)) _
-    (must_not_decides (Contains names (spelled s.name)) (at DoubleName s.name.span) (is_some (nearest (spelled s.name) names)) (nearest_contains (spelled s.name) names) (contains_nearest (spelled s.name) names)) (λ u.
-    then_decides (each handler [] s.handlers) _ (each_verdict handler_verdict [] s.handlers) _ (each_decides handler handler_verdict handler_decides [] s.handlers) (λ events. gives_decides (spelled s.name ∷ names)))
+    (must_not_decides (Contains names (spelled s.name)) (at DoubleName s.name.span)
+    (is_some (nearest (spelled s.name) names)) (nearest_contains (spelled s.name) names)
+    (contains_nearest (spelled s.name) names)) (λ u.
+    then_decides (each handler [] s.handlers) _ (each_verdict handler_verdict [] s.handlers) _
+    (each_decides handler handler_verdict handler_decides [] s.handlers)
+    (λ events. gives_decides (spelled s.name ∷ names)))
 
-body_decides : (known : KnownView) (s : ScopeView) (home : Home) (x : Name) (kind : Option Kind) (params : List Param) (es : Items)
+body_decides : (known : KnownView) (s : ScopeView) (home : Home) (x : Name) (kind : Option Kind)
+    (params : List Param) (es : Items)
     → Decides (body known s home x kind params es) (body_verdict known s home x kind params es)
 body_decides known s home x kind params es =
-    then_decides (items known home (opened (entered s params) es) es) _ (items_verdict known home (opened (entered s params) es) es) _ (items_decides known home (opened (entered s params) es) es) (λ inner.
-    gives_decides (record { line = x.span.line; kind = kind; params = length params; slots = inner.1.slots; body = ended kind inner.0 }))
+    then_decides (items known home (opened (entered s params) es) es) _
+    (items_verdict known home (opened (entered s params) es) es) _
+    (items_decides known home (opened (entered s params) es) es) (λ inner.
+    gives_decides (record {
+      line = x.span.line;
+      kind = kind;
+      params = length params;
+      slots =
+          inner.1.slots;
+      body = ended kind inner.0;
+    }))
 
-function_body_decides : (known : KnownView) (s : ScopeView) (before : List NamedRoutine) (h : Header) → Decides (function_body known s before h) (function_body_verdict known s before h)
+function_body_decides : (known : KnownView) (s : ScopeView) (before : List NamedRoutine) (h : Header)
+    → Decides (function_body known s before h) (function_body_verdict known s before h)
 function_body_decides known s before (source.Global k x v) = gives_decides before
 function_body_decides known s before (source.Function k x params es) =
     then_decides (function_routine known s k x params es) _ (function_routine_verdict known s k x params es) _
-    (then_decides (body known s (Function k) x k params es) _ (body_verdict known s (Function k) x k params es) _ (body_decides known s (Function k) x k params es) (λ routine. gives_decides (record { name = x.text; routine = routine })))
+    (then_decides (body known s (Function k) x k params es) _ (body_verdict known s (Function k) x k params es)
+    _ (body_decides known s (Function k) x k params es)
+    (λ routine. gives_decides (record { name = x.text; routine = routine })))
     (λ routine. gives_decides (before ++ routine ∷ []))
 
-handler_routine_decides : (known : KnownView) (s : ScopeView) (h : source.Handler) → Decides (handler_routine known s h) (handler_routine_verdict known s h)
+handler_routine_decides : (known : KnownView) (s : ScopeView) (h : source.Handler)
+    → Decides (handler_routine known s h) (handler_routine_verdict known s h)
 handler_routine_decides known s h =
-    then_decides _ _ (the_one_verdict (event_of (spelled h.name)) (at WrongHandler h.name.span)) _ (event_decides h.name) (λ e.
-    then_decides (body known s Handler h.name None h.params h.body) _ (body_verdict known s Handler h.name None h.params h.body) _ (body_decides known s Handler h.name None h.params h.body) (λ routine.
+    then_decides _ _ (the_one_verdict (event_of (spelled h.name)) (at WrongHandler h.name.span)) _
+    (event_decides h.name) (λ e.
+    then_decides (body known s Handler h.name None h.params h.body) _
+    (body_verdict known s Handler h.name None h.params h.body) _
+    (body_decides known s Handler h.name None h.params h.body) (λ routine.
     gives_decides (record { event = e; routine = routine })))
 
-handler_body_decides : (known : KnownView) (s : ScopeView) (before : List EventRoutine) (h : source.Handler) → Decides (handler_body known s before h) (handler_body_verdict known s before h)
+handler_body_decides : (known : KnownView) (s : ScopeView) (before : List EventRoutine) (h : source.Handler)
+    → Decides (handler_body known s before h) (handler_body_verdict known s before h)
 handler_body_decides known s before h =
-    then_decides (handler_routine known s h) _ (handler_routine_verdict known s h) _ (handler_routine_decides known s h) (λ routine. gives_decides (before ++ routine ∷ []))
+    then_decides (handler_routine known s h) _ (handler_routine_verdict known s h) _
+    (handler_routine_decides known s h) (λ routine. gives_decides (before ++ routine ∷ []))
 
-program_state_decides : (known : KnownView) (s : ScopeView) (st : State) → Decides (program_state known s st) (program_state_verdict known s st)
+program_state_decides : (known : KnownView) (s : ScopeView) (st : State)
+    → Decides (program_state known s st) (program_state_verdict known s st)
 program_state_decides known s st =
-    then_decides (each (handler_body known s) [] st.handlers) _ (each_verdict (handler_body_verdict known s) [] st.handlers) _ (each_decides (handler_body known s) (handler_body_verdict known s) (handler_body_decides known s) [] st.handlers) (λ handlers.
+    then_decides (each (handler_body known s) [] st.handlers) _
+    (each_verdict (handler_body_verdict known s) [] st.handlers) _
+    (each_decides (handler_body known s) (handler_body_verdict known s) (handler_body_decides known s) []
+    st.handlers) (λ handlers.
     gives_decides (record { name = st.name.text; handlers = handlers }))
 
-state_body_decides : (known : KnownView) (s : ScopeView) (before : List ProgramState) (st : State) → Decides (state_body known s before st) (state_body_verdict known s before st)
+state_body_decides : (known : KnownView) (s : ScopeView) (before : List ProgramState) (st : State)
+    → Decides (state_body known s before st) (state_body_verdict known s before st)
 state_body_decides known s before st =
-    then_decides (program_state known s st) _ (program_state_verdict known s st) _ (program_state_decides known s st) (λ routine. gives_decides (before ++ routine ∷ []))
+    then_decides (program_state known s st) _ (program_state_verdict known s st) _
+    (program_state_decides known s st) (λ routine. gives_decides (before ++ routine ∷ []))
 
 pub script_decides : (tree : Tree) → Decides (script tree) (script_verdict tree)
 script_decides tree =
-    then_decides (each header no_headers tree.headers) _ (each_verdict header_verdict no_headers tree.headers) _ (each_decides header header_verdict header_decides no_headers tree.headers) (λ headers.
-    then_decides (each handler [] tree.default) _ (each_verdict handler_verdict [] tree.default) _ (each_decides handler handler_verdict handler_decides [] tree.default) (λ events.
-    then_decides (each state [] tree.states) _ (each_verdict state_verdict [] tree.states) _ (each_decides state state_verdict state_decides [] tree.states) (λ states.
+    then_decides (each header no_headers tree.headers) _ (each_verdict header_verdict no_headers tree.headers) _
+    (each_decides header header_verdict header_decides no_headers tree.headers) (λ headers.
+    then_decides (each handler [] tree.default) _ (each_verdict handler_verdict [] tree.default) _
+    (each_decides handler handler_verdict handler_decides [] tree.default) (λ events.
+    then_decides (each state [] tree.states) _ (each_verdict state_verdict [] tree.states) _
+    (each_decides state state_verdict state_decides [] tree.states) (λ states.
     let k = known_from headers states in
     let s = headers.scope in
-    then_decides (each (function_body k s) [] tree.headers) _ (each_verdict (function_body_verdict k s) [] tree.headers) _ (each_decides (function_body k s) (function_body_verdict k s) (function_body_decides k s) [] tree.headers) (λ functions.
-    then_decides (each (handler_body k s) [] tree.default) _ (each_verdict (handler_body_verdict k s) [] tree.default) _ (each_decides (handler_body k s) (handler_body_verdict k s) (handler_body_decides k s) [] tree.default) (λ start.
-    then_decides (each (state_body k s) (record { name = default_name; handlers = start } ∷ []) tree.states) _ (each_verdict (state_body_verdict k s) (record { name = default_name; handlers = start } ∷ []) tree.states) _
-    (each_decides (state_body k s) (state_body_verdict k s) (state_body_decides k s) (record { name = default_name; handlers = start } ∷ []) tree.states) (λ all.
+    then_decides (each (function_body k s) [] tree.headers) _
+    (each_verdict (function_body_verdict k s) [] tree.headers) _
+    (each_decides (function_body k s) (function_body_verdict k s) (function_body_decides k s) []
+    tree.headers) (λ functions.
+    then_decides (each (handler_body k s) [] tree.default) _
+    (each_verdict (handler_body_verdict k s) [] tree.default) _
+    (each_decides (handler_body k s) (handler_body_verdict k s) (handler_body_decides k s) [] tree.default)
+    (λ start.
+    then_decides (each (state_body k s) (record { name = default_name; handlers = start } ∷ []) tree.states) _
+    (each_verdict (state_body_verdict k s) (record { name = default_name; handlers = start } ∷ [])
+    tree.states) _
+    (each_decides (state_body k s) (state_body_verdict k s) (state_body_decides k s)
+    (record { name = default_name; handlers = start } ∷ []) tree.states) (λ all.
     gives_decides (record { globals = headers.globals; functions = functions; states = all })))))))

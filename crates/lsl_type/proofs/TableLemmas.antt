@@ -19,7 +19,8 @@ pub builtin_of-named : (name : List ℕ) (id : BuiltinId) → name_of id ≡ nam
 builtin_of-named name id named = sym (builtin_named-same name (Some id) named)
 
 pub constant_of-some : (name : List ℕ) (id : ConstantId) → constant_of name ≡ Some id → constant_name_of id ≡ name
-constant_of-some name id found = subst (λ (o : Option ConstantId). Finds constant_name_of name o) found (Finds-constant_named name)
+constant_of-some name id found = subst (λ (o : Option ConstantId). Finds constant_name_of name o) found
+    (Finds-constant_named name)
 
 pub constant_of-named : (name : List ℕ) (id : ConstantId) → constant_name_of id ≡ name → constant_of name ≡ Some id
 constant_of-named name id named = sym (constant_named-same name (Some id) named)

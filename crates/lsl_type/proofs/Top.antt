@@ -21,7 +21,8 @@ use Rattle.lsl_type.proofs.ScriptLemmas.{script_decides}
 abbrev Answer : Type 0
 Answer = prelude.Result Program (Refusal TypeFault)
 
-pub answer_found : (tree : Tree) (r : Answer) → Rules program_of r (script_verdict tree) → IfOk r (λ p. Typed tree (program_of p))
+pub answer_found : (tree : Tree) (r : Answer) → Rules program_of r (script_verdict tree)
+    → IfOk r (λ p. Typed tree (program_of p))
 answer_found tree (Ok p) h = (script_decides tree).ok (program_of p) h
 answer_found tree (Err e) h = tt
 
@@ -29,13 +30,16 @@ pub answer_every : (tree : Tree) (r : Answer) → Rules program_of r (script_ver
     → (program : program.Program) → Typed tree program → MatchResult r (λ p. program_of p ≡ program) (λ e. e ≡ NoMemory)
 answer_every tree (Ok p) h program t = ok_same (program_of p) program (sym h ∙ (script_decides tree).types program t)
 answer_every tree (Err NoMemory) h program t = refl
-answer_every tree (Err (Fault f)) h program t = absurd (ok_not_err program f (sym ((script_decides tree).types program t) ∙ h))
+answer_every tree (Err (Fault f)) h program t =
+    absurd (ok_not_err program f (sym ((script_decides tree).types program t) ∙ h))
 
-pub answer_shaped : (tree : Tree) (r : Answer) → Rules program_of r (script_verdict tree) → IfOk r (λ p. IsShaped (program_of p))
+pub answer_shaped : (tree : Tree) (r : Answer) → Rules program_of r (script_verdict tree)
+    → IfOk r (λ p. IsShaped (program_of p))
 answer_shaped tree (Ok p) h = ((script_sound tree).ok (program_of p) h).0
 answer_shaped tree (Err e) h = tt
 
-pub answer_kinded : (tree : Tree) (r : Answer) → Rules program_of r (script_verdict tree) → IfOk r (λ p. IsKinded (program_of p))
+pub answer_kinded : (tree : Tree) (r : Answer) → Rules program_of r (script_verdict tree)
+    → IfOk r (λ p. IsKinded (program_of p))
 answer_kinded tree (Ok p) h = ((script_sound tree).ok (program_of p) h).1
 answer_kinded tree (Err e) h = tt
 
@@ -48,8 +52,11 @@ pub answer_only : (tree : Tree) (r : Answer) → Rules program_of r (script_verd
     → (fault : TypeFault) → TypeFirst tree fault → MatchResult r (λ _. ⊥) (IsThat fault)
 answer_only tree (Ok p) h fault b = ok_not_err (program_of p) fault (sym h ∙ (script_decides tree).breaks fault b)
 answer_only tree (Err NoMemory) h fault b = tt
-answer_only tree (Err (Fault f)) h fault b = err_same program.Program f fault (sym h ∙ (script_decides tree).breaks fault b)
+answer_only tree (Err (Fault f)) h fault b =
+    err_same program.Program f fault (sym h ∙ (script_decides tree).breaks fault b)
 
 -- a script with a program has no fault
-pub no_breach : (tree : Tree) (program : program.Program) (fault : TypeFault) → Typed tree program → TypeFirst tree fault → ⊥
-no_breach tree program fault t b = ok_not_err program fault (sym ((script_decides tree).types program t) ∙ (script_decides tree).breaks fault b)
+pub no_breach : (tree : Tree) (program : program.Program) (fault : TypeFault) → Typed tree program
+    → TypeFirst tree fault → ⊥
+no_breach tree program fault t b = ok_not_err program fault
+    (sym ((script_decides tree).types program t) ∙ (script_decides tree).breaks fault b)

@@ -65,7 +65,11 @@ function_of k number =
 
 abbrev pub builtin_called_of : List ℕ → Option Calling
 builtin_called_of name =
-    option_map (λ id. record { callee = Builtin id; signature = record { params = params_of id; result = result_of id } })
+    option_map (λ id. record {
+      callee = Builtin id;
+      signature =
+          record { params = params_of id; result = result_of id };
+    })
     (builtin_of name)
 
 abbrev pub kinds_of : List Param → List Kind

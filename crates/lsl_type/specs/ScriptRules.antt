@@ -22,7 +22,14 @@ use Rattle.lsl_type.specs.HeaderRules.{header, handler, state}
 abbrev pub body : KnownView → ScopeView → Home → Name → Option Kind → List Param → Items → Judgement Routine
 body known s home x kind params es = do
   inner ← items known home (opened (entered s params) es) es
-  gives (record { line = x.span.line; kind = kind; params = length params; slots = inner.1.slots; body = ended kind inner.0 })
+  gives (record {
+    line = x.span.line;
+    kind = kind;
+    params = length params;
+    slots = inner.1.slots;
+    body =
+        ended kind inner.0;
+  })
 
 abbrev pub function_routine : KnownView → ScopeView → Option Kind → Name → List Param → Items → Judgement NamedRoutine
 function_routine known s k x params es = do

@@ -23,7 +23,14 @@ use Rattle.lsl_type.specs.HeaderVerdicts.{header_verdict, handler_verdict, state
 abbrev pub body_verdict : KnownView → ScopeView → Home → Name → Option Kind → List Param → Items → Verdict Routine
 body_verdict known s home x kind params es = do
   inner ← items_verdict known home (opened (entered s params) es) es
-  Ok (record { line = x.span.line; kind = kind; params = length params; slots = inner.1.slots; body = ended kind inner.0 })
+  Ok (record {
+    line = x.span.line;
+    kind = kind;
+    params = length params;
+    slots = inner.1.slots;
+    body =
+        ended kind inner.0;
+  })
 
 abbrev pub function_routine_verdict :
     KnownView → ScopeView → Option Kind → Name → List Param → Items → Verdict NamedRoutine

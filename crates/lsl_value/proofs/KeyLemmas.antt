@@ -15,17 +15,24 @@ use Rattle.uuid.proofs.TextLemmas.{by_index_at, by_index_length}
 use Rattle.lsl_value.specs.Key.{is_hex_digit, is_hyphen_place, fits_place, is_valid_key}
 
 -- a test of each number of a range
-pub passes-in_range : (p : ℕ → Bool) (a n : ℕ) → list_all p (range_with_len a n) ≡ true → (k : ℕ) → a ≤ k → k < a + n → p k ≡ true
+pub passes-in_range : (p : ℕ → Bool) (a n : ℕ) → list_all p (range_with_len a n) ≡ true → (k : ℕ) → a ≤ k
+    → k < a + n → p k ≡ true
 passes-in_range p a zero all k low high = absurd (omega arith)
 passes-in_range p a (suc n) all k low high =
     let parts = and_parts _ _ all in
     let P : ℕ → Type 0 = λ x. p x ≡ true in
-    elim (cases_eq a k) [ inl same ↦ subst P same parts.0 | inr other ↦ passes-in_range p (a + 1) n parts.1 k (omega arith) (omega arith) ]
+    elim (cases_eq a k) [
+      | inl same ↦ subst P same parts.0
+      | inr other ↦ passes-in_range p (a + 1) n parts.1 k
+          (omega arith) (omega arith)
+    ]
 
-pub list_all-range : (p : ℕ → Bool) (a n : ℕ) → ((k : ℕ) → a ≤ k → k < a + n → p k ≡ true) → list_all p (range_with_len a n) ≡ true
+pub list_all-range : (p : ℕ → Bool) (a n : ℕ) → ((k : ℕ) → a ≤ k → k < a + n → p k ≡ true)
+    → list_all p (range_with_len a n) ≡ true
 list_all-range p a zero each = refl
 list_all-range p a (suc n) each =
-    and_from _ _ (each a (omega arith) (omega arith)) (list_all-range p (a + 1) n (λ k low high. each k (omega arith) (omega arith)))
+    and_from _ _ (each a (omega arith) (omega arith))
+    (list_all-range p (a + 1) n (λ k low high. each k (omega arith) (omega arith)))
 
 -- 36 characters that fit their places
 record FitsPlaces (text : List ℕ) : Type 0 where
@@ -35,7 +42,8 @@ record FitsPlaces (text : List ℕ) : Type 0 where
 FitsPlaces-key : (text : List ℕ) → is_valid_key text ≡ true → FitsPlaces text
 unfolding is_valid_key
 FitsPlaces-key text valid =
-    let parts = and_parts (length text == 36) (list_all (λ k. fits_place k (get_or text k 0)) (range_with_len 0 36)) valid in
+    let parts = and_parts (length text == 36)
+    (list_all (λ k. fits_place k (get_or text k 0)) (range_with_len 0 36)) valid in
     record {
       size = eqb-true _ _ parts.0;
       each = λ k high. passes-in_range (λ k. fits_place k (get_or text k 0)) 0 36 parts.1 k (omega arith) (omega arith);
@@ -89,7 +97,8 @@ cond-some false x u same = absurd (cc)
 parsed-hyphenated : (text : List ℕ) → length text ≡ 36 → parsed text ≡ parsed_hyphenated text
 parsed-hyphenated text size = rw size
 
-hyphen-at : (text : List ℕ) → (get_or text 8 0 == 45) ≡ true → (get_or text 13 0 == 45) ≡ true → (get_or text 18 0 == 45) ≡ true → (get_or text 23 0 == 45) ≡ true
+hyphen-at : (text : List ℕ) → (get_or text 8 0 == 45) ≡ true → (get_or text 13 0 == 45) ≡ true
+    → (get_or text 18 0 == 45) ≡ true → (get_or text 23 0 == 45) ≡ true
     → (k : ℕ) → is_hyphen_place k ≡ true → (get_or text k 0 == 45) ≡ true
 hyphen-at text at8 at13 at18 at23 k hyphen =
     let P : ℕ → Type 0 = λ j. (get_or text j 0 == 45) ≡ true in
@@ -108,9 +117,12 @@ FitsPlaces-parsed : (text u : List ℕ) → length text ≡ 36 → parsed_hyphen
 FitsPlaces-parsed text u size read =
     let outer = cond-some ((length text == 36) && has_hyphens text) (parsed_simple (digits_of text)) u read in
     let hyphens = (and_parts (length text == 36) (has_hyphens text) outer.0).1 in
-    let inner = cond-some ((length (digits_of text) == 32) && list_all is_hex_digit (digits_of text)) (Some (by_index 16 (byte_of_digits (digits_of text)))) u outer.1 in
-    let digits = AllPass-from_list_all is_hex_digit (digits_of text) (and_parts (length (digits_of text) == 32) (list_all is_hex_digit (digits_of text)) inner.0).1 in
-    let three = and_parts ((get_or text 8 0 == 45) && (get_or text 13 0 == 45) && (get_or text 18 0 == 45)) (get_or text 23 0 == 45) hyphens in
+    let inner = cond-some ((length (digits_of text) == 32) && list_all is_hex_digit (digits_of text))
+    (Some (by_index 16 (byte_of_digits (digits_of text)))) u outer.1 in
+    let digits = AllPass-from_list_all is_hex_digit (digits_of text)
+    (and_parts (length (digits_of text) == 32) (list_all is_hex_digit (digits_of text)) inner.0).1 in
+    let three = and_parts ((get_or text 8 0 == 45) && (get_or text 13 0 == 45) && (get_or text 18 0 == 45))
+    (get_or text 23 0 == 45) hyphens in
     let two = and_parts ((get_or text 8 0 == 45) && (get_or text 13 0 == 45)) (get_or text 18 0 == 45) three.0 in
     let one = and_parts (get_or text 8 0 == 45) (get_or text 13 0 == 45) two.0 in
     record {
@@ -121,23 +133,32 @@ FitsPlaces-parsed text u size read =
             let place = digit-at k high other in
             let P : ℕ → Type 0 = λ c. is_hex_digit c ≡ true in
             let Q : ℕ → Type 0 = λ j. is_hex_digit (get_or text j 0) ≡ true in
-            let at : is_hex_digit (get_or (digits_of text) (digit_place k) 0) ≡ true = All-get_or P (digits_of text) (digit_place k) 0 (rw (by_index_length 32 (λ i. get_or text (hyphen_place i) 0)) place.0) digits in
-            fits-digit k (get_or text k 0) other ∙ subst Q place.1 (subst P (by_index_at 32 (λ i. get_or text (hyphen_place i) 0) (digit_place k) 0 place.0) at)
+            let at : is_hex_digit (get_or (digits_of text) (digit_place k) 0) ≡ true =
+            All-get_or P (digits_of text) (digit_place k) 0
+            (rw (by_index_length 32 (λ i. get_or text (hyphen_place i) 0)) place.0) digits in
+            fits-digit k (get_or text k 0) other
+            ∙ subst Q place.1 (subst P
+            (by_index_at 32 (λ i. get_or text (hyphen_place i) 0) (digit_place k) 0 place.0) at)
       ];
     }
 
-parsed-FitsPlaces : (text : List ℕ) → FitsPlaces text → parsed_hyphenated text ≡ Some (by_index 16 (byte_of_digits (digits_of text)))
+parsed-FitsPlaces : (text : List ℕ) → FitsPlaces text
+    → parsed_hyphenated text ≡ Some (by_index 16 (byte_of_digits (digits_of text)))
 parsed-FitsPlaces text fits =
     let hyphens : has_hyphens text ≡ true =
-    and_from _ _ (and_from _ _ (and_from _ _ (fits.each 8 (omega arith)) (fits.each 13 (omega arith))) (fits.each 18 (omega arith))) (fits.each 23 (omega arith)) in
+    and_from _ _ (and_from _ _ (and_from _ _ (fits.each 8 (omega arith)) (fits.each 13 (omega arith)))
+    (fits.each 18 (omega arith))) (fits.each 23 (omega arith)) in
     let P : ℕ → Type 0 = λ c. is_hex_digit c ≡ true in
     let size = by_index_length 32 (λ i. get_or text (hyphen_place i) 0) in
     let digits : All P (digits_of text) = All-from_get_or P (digits_of text) 0 (λ i high.
     let low : i < 32 = rw size at high in
     let place = place-of_digit i low in
-    subst P (sym (by_index_at 32 (λ i. get_or text (hyphen_place i) 0) i 0 low)) (sym (fits-digit (hyphen_place i) (get_or text (hyphen_place i) 0) place.1) ∙ fits.each (hyphen_place i) place.0)) in
+    subst P (sym (by_index_at 32 (λ i. get_or text (hyphen_place i) 0) i 0 low))
+    (sym (fits-digit (hyphen_place i) (get_or text (hyphen_place i) 0) place.1)
+    ∙ fits.each (hyphen_place i) place.0)) in
     cond-true ((length text == 36) && has_hyphens text) _ _ (and_from _ _ (eq-eqb _ _ fits.size) hyphens)
-    ∙ cond-true ((length (digits_of text) == 32) && list_all is_hex_digit (digits_of text)) _ _ (and_from _ _ (eq-eqb _ _ size) (list_all-from_AllPass is_hex_digit (digits_of text) digits))
+    ∙ cond-true ((length (digits_of text) == 32) && list_all is_hex_digit (digits_of text)) _ _
+    (and_from _ _ (eq-eqb _ _ size) (list_all-from_AllPass is_hex_digit (digits_of text) digits))
 
 ascii-digit : (c : ℕ) → is_hex_digit c ≡ true → c < 128
 ascii-digit c digit = grind (arith, nat_tests)
@@ -150,7 +171,8 @@ ascii-fits k c fits = elim (cases_Bool (is_hyphen_place k)) [
 
 -- a text that fits its places is ASCII
 ascii-places : (text : List ℕ) → FitsPlaces text → IsAscii text
-ascii-places text fits = IsAscii-from_reads text 36 (omega (arith, fits.size)) (λ k high. ascii-fits k (get_or text k 0) (fits.each k high))
+ascii-places text fits = IsAscii-from_reads text 36 (omega (arith, fits.size))
+    (λ k high. ascii-fits k (get_or text k 0) (fits.each k high))
 
 -- and is its own UTF-8
 key-there : (text : List ℕ) → is_valid_key text ≡ true → is_valid_key (encode_utf8_all text) ≡ true
@@ -158,14 +180,17 @@ key-there text valid =
     let P : List ℕ → Type 0 = λ t. is_valid_key t ≡ true in
     subst P (sym (encodes-IsAscii text (ascii-places text (FitsPlaces-key text valid)))) valid
 
-key-back : (text : List ℕ) → all_scalars text ≡ true → is_valid_key (encode_utf8_all text) ≡ true → is_valid_key text ≡ true
+key-back : (text : List ℕ) → all_scalars text ≡ true → is_valid_key (encode_utf8_all text) ≡ true
+    → is_valid_key text ≡ true
 key-back text scalars valid =
     let P : List ℕ → Type 0 = λ t. is_valid_key t ≡ true in
     let bytes = encode_utf8_all text in
-    subst P (sym (chars-IsAscii bytes (ascii-places bytes (FitsPlaces-key bytes valid))) ∙ chars-encodes text scalars) valid
+    subst P (sym (chars-IsAscii bytes (ascii-places bytes (FitsPlaces-key bytes valid)))
+    ∙ chars-encodes text scalars) valid
 
 -- what the two tests say
-pub valid-read : (text bytes : List ℕ) (read : Result (List ℕ) UuidError) → all_scalars text ≡ true → bytes ≡ encode_utf8_all text → length bytes ≡ 36
+pub valid-read : (text bytes : List ℕ) (read : Result (List ℕ) UuidError) → all_scalars text ≡ true
+    → bytes ≡ encode_utf8_all text → length bytes ≡ 36
     → IsOk read ↔ ((u : List ℕ) × (parsed bytes ≡ Some u)) → is_ok read ≡ is_valid_key text
 valid-read text bytes read scalars same size answers =
     let P : List ℕ → Type 0 = λ t. is_valid_key t ≡ true in
@@ -173,9 +198,13 @@ valid-read text bytes read scalars same size answers =
       λ valid.
           let fits = FitsPlaces-key bytes (subst P (sym same) (key-there text valid)) in
           (by_index 16 (byte_of_digits (digits_of bytes)), parsed-hyphenated bytes size ∙ parsed-FitsPlaces bytes fits),
-      λ found. key-back text scalars (subst P same (key-FitsPlaces bytes (FitsPlaces-parsed bytes found.0 size (sym (parsed-hyphenated bytes size) ∙ found.1)))),
+      λ found. key-back text scalars (subst P same
+          (key-FitsPlaces bytes (FitsPlaces-parsed bytes found.0 size
+          (sym (parsed-hyphenated bytes size) ∙ found.1)))),
     )
 
-pub valid-other : (text bytes : List ℕ) → bytes ≡ encode_utf8_all text → (length bytes ≡ 36 → ⊥) → (length bytes == 36) ≡ is_valid_key text
+pub valid-other : (text bytes : List ℕ) → bytes ≡ encode_utf8_all text → (length bytes ≡ 36 → ⊥)
+    → (length bytes == 36) ≡ is_valid_key text
 valid-other text bytes same other =
-    ne_eqb _ _ other ∙ sym (false_from_ne_true _ (λ valid. other (ap length same ∙ (FitsPlaces-key _ (key-there text valid)).size)))
+    ne_eqb _ _ other ∙ sym (false_from_ne_true _
+    (λ valid. other (ap length same ∙ (FitsPlaces-key _ (key-there text valid)).size)))

@@ -34,12 +34,15 @@ OnOk-from (Ok x) P holds = holds refl
 OnOk-from (Err e) P holds = tt
 
 -- one text's characters behind another's
-pub chars-join : (bytes self other : List ℕ) → IsUtf8 bytes → chars bytes ≡ self → all_scalars other ≡ true → chars (bytes ++ encode_utf8_all other) ≡ self ++ other
+pub chars-join : (bytes self other : List ℕ) → IsUtf8 bytes → chars bytes ≡ self → all_scalars other ≡ true
+    → chars (bytes ++ encode_utf8_all other) ≡ self ++ other
 chars-join bytes self other valid same scalars =
-    chars-append bytes (encode_utf8_all other) valid ∙ ap (λ c. c ++ chars (encode_utf8_all other)) same ∙ ap (λ c. self ++ c) (chars-encodes other scalars)
+    chars-append bytes (encode_utf8_all other) valid ∙ ap (λ c. c ++ chars (encode_utf8_all other)) same
+    ∙ ap (λ c. self ++ c) (chars-encodes other scalars)
 
 -- a list that gained a part or stayed, where both ways are short
-pub length-joined : (b : Bool) (new old more : List ℕ) (most : ℕ) → new ≡ cond b (old ++ more) old → length old ≤ most → length (old ++ more) ≤ most → length new ≤ most
+pub length-joined : (b : Bool) (new old more : List ℕ) (most : ℕ) → new ≡ cond b (old ++ more) old
+    → length old ≤ most → length (old ++ more) ≤ most → length new ≤ most
 length-joined true new old more most same short joined = rw same joined
 length-joined false new old more most same short joined = rw same short
 
@@ -55,11 +58,14 @@ decimal-ascii n text fits same = subst IsAscii (sym same) (IsAscii-signed n (ome
 pub decimal-short : (n : ℤ) (text : List ℕ) → FitsSigned w32 n → text ≡ decimal_of n → length text ≤ 11
 decimal-short n text fits same = rw same (length_signed_le 10 n (omega (arith, fits.sfits)) (omega (arith, fits.sfits)))
 
-pub decimal-encodes_short : (n : ℤ) (text : List ℕ) → FitsSigned w32 n → text ≡ decimal_of n → length (encode_utf8_all text) ≤ 11
-decimal-encodes_short n text fits same = rw (encodes-IsAscii text (decimal-ascii n text fits same)) (decimal-short n text fits same)
+pub decimal-encodes_short : (n : ℤ) (text : List ℕ) → FitsSigned w32 n → text ≡ decimal_of n
+    → length (encode_utf8_all text) ≤ 11
+decimal-encodes_short n text fits same = rw (encodes-IsAscii text (decimal-ascii n text fits same))
+    (decimal-short n text fits same)
 
 -- what is held is UTF-8 where each holder has UTF-8
-pub utf8-held : {R : Type 0} (held : Option R) (read : R → List ℕ) → ((h : R) → IsUtf8 (read h)) → IsUtf8 (held_items held read)
+pub utf8-held : {R : Type 0} (held : Option R) (read : R → List ℕ) → ((h : R) → IsUtf8 (read h))
+    → IsUtf8 (held_items held read)
 utf8-held None read valid = IsUtf8-nil
 utf8-held (Some h) read valid = valid h
 

@@ -1,4 +1,5 @@
-//! Tests of values, their bytes, operators, tables and pure calls: what no clause says of them, by tables whose values come from outside.
+//! Tests of values, their bytes, operators, tables and pure calls: what no clause says of them, by tables whose
+//! values come from outside.
 #![tactic(auto)]
 
 #[cfg(test)]

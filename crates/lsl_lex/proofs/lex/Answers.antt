@@ -15,5 +15,6 @@ pub returns-in-Err-clause-only : goal.returns-in-Err-clause-only
 returns-in-Err-clause-only c =
     let place = c.valid_up_to.ensures in
     let span = c.not_text.ensures.span ∙ ap (λ n. span_of (take n c.args.text.now) []) place in
-    let first = not_text_first c.args.text.now (valid_up_to c.in-Err.error) c.not_text.result (omega arith) c.in-Err.ensures.cases.1 c.not_text.ensures.kind span in
+    let first = not_text_first c.args.text.now (valid_up_to c.in-Err.error) c.not_text.result (omega arith)
+    c.in-Err.ensures.cases.1 c.not_text.ensures.kind span in
     λ fault h. inl (ap (λ z. Fault z) (same_fault c.args.text.now c.not_text.result fault first h))

@@ -3,8 +3,8 @@
 use lsl_table::BuiltinId;
 use lsl_table::BuiltinId::*;
 
-/// Name, call, and a word for the row: `P`, `O` or `H` for its home, a letter for the kind of each argument (`i` integer,
-/// `s` string, `k` key, `l` list), and behind `>` the kind of the result.
+/// Name, call, and a word for the row: `P`, `O` or `H` for its home, a letter for the kind of each argument
+/// (`i` integer, `s` string, `k` key, `l` list), and behind `>` the kind of the result.
 pub(crate) const CALLS: [(&str, BuiltinId, &str); 49] = [
     ("llAbs", Abs, "Pi>i"),
     ("llStringLength", StringLength, "Ps>i"),

@@ -11,4 +11,6 @@ at_err (Err e) P holds = holds
 pub returns-in_err-append_atom-clause-front : goal.returns-in_err-append_atom-clause-front
 returns-in_err-append_atom-clause-front c =
     at_err c.from_residual.result _
-    (front-kept c.args.out.now.items c.atoms.out.items c.append_atom.new.out.items (flat_map atom_bytes (take c.atoms.atom-index c.args.atoms.now)) _ _ (search rules) c.atoms.invariant c.in_err-append_atom.ensures.front)
+    (front-kept c.args.out.now.items c.atoms.out.items c.append_atom.new.out.items
+    (flat_map atom_bytes (take c.atoms.atom-index c.args.atoms.now)) _ _ (search rules) c.atoms.invariant
+    c.in_err-append_atom.ensures.front)

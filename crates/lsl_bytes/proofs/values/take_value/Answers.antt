@@ -8,7 +8,8 @@ returns-in_default c = value-no_tag c.args.bytes.now c.args.place c.in_default.e
 pub returns-in-Some-2 : goal.returns-in-Some-2
 returns-in-Some-2 c =
     let tagged = rw c.in-7.is at c.in-Some.ensures in
-    value-list_found c.args.bytes.now c.args.place c.in-Some.next c.in-Some-2.items c.in-Some-2.next tagged (rw c.in-Some-2.is at c.in_ok-items-in-7.ensures)
+    value-list_found c.args.bytes.now c.args.place c.in-Some.next c.in-Some-2.items c.in-Some-2.next tagged
+    (rw c.in-Some-2.is at c.in_ok-items-in-7.ensures)
 
 pub returns-in-None : goal.returns-in-None
 returns-in-None c =
@@ -17,9 +18,11 @@ returns-in-None c =
 
 pub returns-in-Some-3 : goal.returns-in-Some-3
 returns-in-Some-3 c =
-    rw c.value_of.ensures (value-atom_found c.args.bytes.now c.args.place c.in-Some-3.atom c.in-Some-3.next (rw c.in-Some-3.is at c.in_ok-atom-in_default-tag.ensures))
+    rw c.value_of.ensures (value-atom_found c.args.bytes.now c.args.place c.in-Some-3.atom c.in-Some-3.next
+    (rw c.in-Some-3.is at c.in_ok-atom-in_default-tag.ensures))
 
 pub returns-in-None-2 : goal.returns-in-None-2
 returns-in-None-2 c =
     let other : (c.in-Some.tag ≡ 7 → ⊥) = λ e. omega arith in
-    value-atom_none c.args.bytes.now c.args.place c.in-Some.tag c.in-Some.next c.in-Some.ensures other (rw c.in-None-2.is at c.in_ok-atom-in_default-tag.ensures)
+    value-atom_none c.args.bytes.now c.args.place c.in-Some.tag c.in-Some.next c.in-Some.ensures other
+    (rw c.in-None-2.is at c.in_ok-atom-in_default-tag.ensures)

@@ -17,7 +17,7 @@ returns-then-not-fits c =
     let front = one_off frames at frame c.loop-i-test.true c.index-frames-i.is in
     unfit_here points c.args.handler c.loop-i.callee frames at frame outer front c.loop-i.invariant
     (refuted c.fits.result
-        (FitsFrame points c.args.handler c.loop-i.callee frame outer) test c.if-not-fits.true)
+    (FitsFrame points c.args.handler c.loop-i.callee frame outer) test c.if-not-fits.true)
 
 pub loop-i-preserved : goal.loop-i-preserved
 loop-i-preserved c =

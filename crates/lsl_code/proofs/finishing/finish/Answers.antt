@@ -17,4 +17,5 @@ returns-clause-ok c =
     let code = c.deref.ensures.value ∙ c.into_parts-code.ensures.code in
     let found = c.in_ok-shapes.ensures in
     made_of c.args.name s c.args.params c.args.draft _ _ _ _ _ _ _ _ code c.into_parts-code.ensures.lines
-    c.in_ok-params.ensures found.points found.stacks found.most c.from_vec.ensures (c.from_vec-2.ensures ∙ sym c.deref.ensures.value)
+    c.in_ok-params.ensures found.points found.stacks found.most c.from_vec.ensures
+    (c.from_vec-2.ensures ∙ sym c.deref.ensures.value)

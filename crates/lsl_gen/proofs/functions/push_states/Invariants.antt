@@ -8,6 +8,10 @@ use Rattle.lsl_gen.proofs.functions.push_states.Given as goal
 
 abbrev pub invariant-loop-state : goal.invariant-loop-state
 invariant-loop-state l =
-    (l.functions ++ map (λ h. made_by l.names (event_name_of h.event) h.routine) (handlers_of (map state_of (drop l.state-index l.states))) ≡ l.fn.functions ++ map (λ h. made_by l.names (event_name_of h.event) h.routine) (handlers_of (map state_of l.states)))
-    × (l.found ++ numbered_states (length l.functions) (map state_of (drop l.state-index l.states)) ≡ numbered_states (length l.fn.functions) (map state_of l.states))
+    (l.functions ++ map (λ h. made_by l.names (event_name_of h.event) h.routine)
+    (handlers_of (map state_of (drop l.state-index l.states)))
+    ≡ l.fn.functions ++ map (λ h. made_by l.names (event_name_of h.event) h.routine)
+    (handlers_of (map state_of l.states)))
+    × (l.found ++ numbered_states (length l.functions) (map state_of (drop l.state-index l.states))
+    ≡ numbered_states (length l.fn.functions) (map state_of l.states))
     × All (λ s. All (λ r. IsShort (routine_of r.routine)) s.handlers.items) (take l.state-index l.states)

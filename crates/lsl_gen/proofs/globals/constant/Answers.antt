@@ -4,4 +4,5 @@ use Rattle.lsl_gen.proofs.Ascii.{constant_ascii}
 use Rattle.lsl_gen.proofs.globals.constant.Goals as goal
 
 pub ascii_text-requires-clause-ascii : goal.ascii_text-requires-clause-ascii
-ascii_text-requires-clause-ascii c = constant_ascii c.args.id _ (sym c.constant_value.ensures ∙ ap value_of_constant c.in-Str.is)
+ascii_text-requires-clause-ascii c = constant_ascii c.args.id _
+    (sym c.constant_value.ensures ∙ ap value_of_constant c.in-Str.is)

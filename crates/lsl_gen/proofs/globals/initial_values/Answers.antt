@@ -8,4 +8,5 @@ pub loop-initial-preserved : goal.loop-initial-preserved
 loop-initial-preserved c =
     let lt : c.loop-initial.initial-index < length c.args.initials.now = omega arith in
     global_step _ _ _ _ _ _ _ lt c.initial-item.is c.loop-initial.invariant
-    (c.in_ok-value.ensures ∙ ap (λ before. initial_value_of before (initial_of c.initial-item.result)) c.as_slice.ensures) c.in_ok-push.ensures.ok
+    (c.in_ok-value.ensures ∙ ap (λ before. initial_value_of before (initial_of c.initial-item.result))
+    c.as_slice.ensures) c.in_ok-push.ensures.ok

@@ -6,4 +6,5 @@ use Rattle.lsl_gen.proofs.globals.items_of.Given as goal
 
 abbrev pub invariant-loop-part : goal.invariant-loop-part
 invariant-loop-part l =
-    l.items ++ flat_map atoms_of (map (part_value_of l.before) (drop l.part-index l.parts)) ≡ flat_map atoms_of (map (part_value_of l.before) l.parts)
+    l.items ++ flat_map atoms_of (map (part_value_of l.before) (drop l.part-index l.parts))
+    ≡ flat_map atoms_of (map (part_value_of l.before) l.parts)

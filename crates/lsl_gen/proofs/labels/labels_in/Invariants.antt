@@ -5,4 +5,5 @@ use Rattle.lsl_gen.proofs.labels.labels_in.Given as goal
 
 abbrev pub invariant-loop-action : goal.invariant-loop-action
 invariant-loop-action l =
-    (l.own.items ≡ places_in (actions_of (take l.action-index l.actions)) l.start) × (l.place ≡ l.start + sizes (actions_of (take l.action-index l.actions)))
+    (l.own.items ≡ places_in (actions_of (take l.action-index l.actions)) l.start)
+    × (l.place ≡ l.start + sizes (actions_of (take l.action-index l.actions)))

@@ -6,8 +6,12 @@ use Rattle.lsl_gen.proofs.programs.names_in.Given as goal
 
 abbrev pub invariant-loop-f : goal.invariant-loop-f
 invariant-loop-f l =
-    l.functions ++ map signature_of (map (λ f. f.routine) (map function_of (drop l.f-index l.program.functions.items))) ≡ map signature_of (map (λ f. f.routine) (map function_of l.program.functions.items))
+    l.functions ++ map signature_of (map (λ f. f.routine)
+    (map function_of (drop l.f-index l.program.functions.items)))
+    ≡ map signature_of (map (λ f. f.routine) (map function_of l.program.functions.items))
 
 abbrev pub invariant-loop-state : goal.invariant-loop-state
 invariant-loop-state l =
-    l.functions ++ map signature_of (map (λ h. h.routine) (handlers_of (map state_of (drop l.state-index l.program.states.items)))) ≡ map signature_of (routines_of (program_of l.program))
+    l.functions ++ map signature_of (map (λ h. h.routine)
+    (handlers_of (map state_of (drop l.state-index l.program.states.items))))
+    ≡ map signature_of (routines_of (program_of l.program))

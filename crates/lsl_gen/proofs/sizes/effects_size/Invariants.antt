@@ -4,4 +4,5 @@ use Rattle.lsl_gen.specs.Expressions.{effects_code}
 use Rattle.lsl_gen.proofs.sizes.effects_size.Given as goal
 
 abbrev pub invariant-loop-effect : goal.invariant-loop-effect
-invariant-loop-effect l = l.total + length (effects_code (map effect_of (drop l.effect-index l.effects))) ≡ length (effects_code (map effect_of l.effects))
+invariant-loop-effect l = l.total + length (effects_code (map effect_of (drop l.effect-index l.effects)))
+    ≡ length (effects_code (map effect_of l.effects))

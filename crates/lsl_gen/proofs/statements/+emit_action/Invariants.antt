@@ -5,4 +5,5 @@ use Rattle.lsl_gen.proofs.statements.+emit_action.Given as goal
 
 abbrev pub invariant-emit_actions-loop-action : goal.invariant-emit_actions-loop-action
 invariant-emit_actions-loop-action l =
-    (l.draft ≡ l.fn.draft ++ actions_code (actions_of (take l.action-index l.actions)) l.fn.labels (length l.fn.draft)) × (l.labels ≡ l.fn.labels)
+    (l.draft ≡ l.fn.draft ++ actions_code (actions_of (take l.action-index l.actions)) l.fn.labels
+    (length l.fn.draft)) × (l.labels ≡ l.fn.labels)

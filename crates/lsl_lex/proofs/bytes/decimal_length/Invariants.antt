@@ -4,7 +4,8 @@ use Rattle.lsl_lex.specs.Bytes.{is_decimal}
 use Rattle.lsl_lex.proofs.bytes.decimal_length.Given as goal
 
 abbrev pub invariant-bytes : goal.invariant-bytes
-invariant-bytes l = (l.n + prefix_len is_decimal l.rest ≡ prefix_len is_decimal l.text) × (l.n + length l.rest ≡ length l.text)
+invariant-bytes l = (l.n + prefix_len is_decimal l.rest ≡ prefix_len is_decimal l.text)
+    × (l.n + length l.rest ≡ length l.text)
 
 abbrev pub decreases-bytes : goal.decreases-bytes
 decreases-bytes l = length l.rest

@@ -12,5 +12,9 @@ parts-preserved c =
     let rest = c.parts.rest.now in
     let part = c.part_length-part.result in
     let more = take (length rest - part) (drop part rest) in
-    let same : more ≡ drop part rest = take_rest rest part in
-    (one_part rest more c.parts.n part (quote_of c.args.text.now) c.if-b-eq34.false c.part_length-part.ensures.part same c.parts.invariant.0, omega (arith, ap length same, length-drop part rest))
+    let same : more ≡ drop part rest = take_rest rest part in (
+      one_part rest more c.parts.n part (quote_of c.args.text.now) c.if-b-eq34.false
+          c.part_length-part.ensures.part same c.parts.invariant.0,
+      omega
+          (arith, ap length same, length-drop part rest),
+    )

@@ -5,4 +5,5 @@ use Rattle.lsl_lines.proofs.additions.add_file.Goals as goal
 
 pub returns-else-place-len-clause-files : goal.returns-else-place-len-clause-files
 returns-else-place-len-clause-files c =
-    file_added-known c.args.files.now c.args.file (λ (e : place_of c.args.files.now c.args.file ≡ length c.args.files.now). absurd (omega (arith, e)))
+    file_added-known c.args.files.now c.args.file
+    (λ (e : place_of c.args.files.now c.args.file ≡ length c.args.files.now). absurd (omega (arith, e)))

@@ -6,8 +6,11 @@ use Rattle.lsl_lines.proofs.lasts.add_last_script.Goals as goal
 
 pub returns-in_ok-push-in-Ok : goal.returns-in_ok-push-in-Ok
 returns-in_ok-push-in-Ok c =
-    at_last-ok (with_script_at_last c.args.script) c.args.objects.now c.pop.new.self c.in-Some.object c.add_script.new.self c.in-Some.ensures.items c.in-Ok.ensures
+    at_last-ok (with_script_at_last c.args.script) c.args.objects.now c.pop.new.self c.in-Some.object
+    c.add_script.new.self c.in-Some.ensures.items c.in-Ok.ensures
     ∙ ap (λ (l : List ObjectLine). Ok l) (sym c.in_ok-push-in-Ok.ensures.ok)
 
 pub returns-in-Err : goal.returns-in-Err
-returns-in-Err c = at_last-refused (Unit {0}) (with_script_at_last c.args.script) c.args.objects.now c.pop.new.self c.in-Some.object c.add_script.new.self c.pop.new.self c.in-Err.refusal c.in-Some.ensures.items c.in-Err.ensures
+returns-in-Err c = at_last-refused (Unit {0}) (with_script_at_last c.args.script) c.args.objects.now
+    c.pop.new.self c.in-Some.object c.add_script.new.self c.pop.new.self c.in-Err.refusal
+    c.in-Some.ensures.items c.in-Err.ensures

@@ -5,4 +5,5 @@ use Rattle.lsl_ops.proofs.casts.push_atom.Goals as goal
 
 pub returns-clause-short : goal.returns-clause-short
 returns-clause-short c =
-    on_ok_weaker c.push_text-2.result (length-encodes_joined _ c.args.text.now _ (item_charge_of c.args.atom.now) c.in_ok-text.ensures.short) c.push_text-2.ensures.ok
+    on_ok_weaker c.push_text-2.result (length-encodes_joined _ c.args.text.now _
+    (item_charge_of c.args.atom.now) c.in_ok-text.ensures.short) c.push_text-2.ensures.ok

@@ -7,4 +7,5 @@ use Rattle.lsl_ops.proofs.integers.quotient.Goals as goal
 pub returns : goal.returns
 returns c =
     to_z-of_z w32 c.wrapping_div.result (search rules)
-    ∙ quotient-wrapped c.args.left c.args.right c.wrapping_div.result c.ranges.left c.ranges.right c.wrapping_div.ensures
+    ∙ quotient-wrapped c.args.left c.args.right c.wrapping_div.result c.ranges.left c.ranges.right
+    c.wrapping_div.ensures

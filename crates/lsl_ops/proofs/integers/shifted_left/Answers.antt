@@ -7,4 +7,5 @@ use Rattle.lsl_ops.proofs.integers.shifted_left.Goals as goal
 pub returns : goal.returns
 returns c =
     to_z-of_z w32 c.wrapping_shl.result (search rules)
-    ∙ shift-wrapped c.args.n c.args.by c.wrapping_shl.result c.cast_unsigned.result c.ranges.n c.ranges.by c.cast_unsigned.ensures c.wrapping_shl.ensures
+    ∙ shift-wrapped c.args.n c.args.by c.wrapping_shl.result c.cast_unsigned.result c.ranges.n c.ranges.by
+    c.cast_unsigned.ensures c.wrapping_shl.ensures

@@ -44,13 +44,15 @@ decreases-assignment l = 64 * l.room + 1
 
 -- what is still to be read gives the whole
 abbrev pub invariant-series-more : goal.invariant-series-more
-invariant-series-more l = while_r (Comma ∷ []) (comma_r AndExpr (expr_r (Some height_limit) l.room)) (exprs_of l.all.exprs.items) l.rest ≡ series_r AndExpr NoExpr (expr_r (Some height_limit) l.room) l.tokens
+invariant-series-more l = while_r (Comma ∷ []) (comma_r AndExpr (expr_r (Some height_limit) l.room))
+    (exprs_of l.all.exprs.items) l.rest ≡ series_r AndExpr NoExpr (expr_r (Some height_limit) l.room) l.tokens
 
 abbrev pub decreases-series-more : goal.decreases-series-more
 decreases-series-more l = length l.rest
 
 abbrev pub invariant-level-operations : goal.invariant-level-operations
-invariant-level-operations l = operators_r (Some height_limit) l.room l.n (expr_of l.left.expr) l.rest ≡ level_r (Some height_limit) l.room l.n l.tokens
+invariant-level-operations l = operators_r (Some height_limit) l.room l.n (expr_of l.left.expr) l.rest
+    ≡ level_r (Some height_limit) l.room l.n l.tokens
 
 abbrev pub decreases-level-operations : goal.decreases-level-operations
 decreases-level-operations l = length l.rest

@@ -12,14 +12,19 @@ pub all-smaller : goal.all-smaller
 all-smaller c =
     let d = c.args.room in
     let before = map handler_of c.all.all.items in
-    let now : next_r (handler_r (stmt_room_r (Some height_limit) d)) before c.all.rest.now ≡ Ok (added before (handler_of c.in_ok-next.next), c.in_ok-next.after.now) = search rules in
-    handler_less (Some height_limit) d before (added before (handler_of c.in_ok-next.next)) c.all.rest.now c.in_ok-next.after.now now
+    let now : next_r (handler_r (stmt_room_r (Some height_limit) d)) before c.all.rest.now
+    ≡ Ok (added before (handler_of c.in_ok-next.next), c.in_ok-next.after.now) = search rules in
+    handler_less (Some height_limit) d before (added before (handler_of c.in_ok-next.next)) c.all.rest.now
+    c.in_ok-next.after.now now
 
 pub all-preserved : goal.all-preserved
 all-preserved c =
     let d = c.args.room in
     let before = map handler_of c.all.all.items in
-    let now : next_r (handler_r (stmt_room_r (Some height_limit) d)) before c.all.rest.now ≡ Ok (added before (handler_of c.in_ok-next.next), c.in_ok-next.after.now) = search rules in
-    ap (λ x. many_r (Name ∷ []) (handler_r (stmt_room_r (Some height_limit) d)) x c.in_ok-next.after.now) (map-push handler_of c.push-in-all.new.self.items c.all.all.items c.in_ok-next.next (search rules))
-    ∙ sym (handler_step (Some height_limit) d before (added before (handler_of c.in_ok-next.next)) c.all.rest.now c.in_ok-next.after.now (search rules) now)
+    let now : next_r (handler_r (stmt_room_r (Some height_limit) d)) before c.all.rest.now
+    ≡ Ok (added before (handler_of c.in_ok-next.next), c.in_ok-next.after.now) = search rules in
+    ap (λ x. many_r (Name ∷ []) (handler_r (stmt_room_r (Some height_limit) d)) x c.in_ok-next.after.now)
+    (map-push handler_of c.push-in-all.new.self.items c.all.all.items c.in_ok-next.next (search rules))
+    ∙ sym (handler_step (Some height_limit) d before (added before (handler_of c.in_ok-next.next))
+    c.all.rest.now c.in_ok-next.after.now (search rules) now)
     ∙ c.all.invariant

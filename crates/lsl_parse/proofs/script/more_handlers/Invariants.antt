@@ -8,7 +8,9 @@ use Rattle.lsl_parse.specs.Kinds.{Name}
 
 -- what is still to be read gives the whole
 abbrev pub invariant-all : goal.invariant-all
-invariant-all l = many_r (Name ∷ []) (handler_r (stmt_room_r (Some height_limit) l.room)) (map handler_of l.all.items) l.rest ≡ many_r (Name ∷ []) (handler_r (stmt_room_r (Some height_limit) l.room)) (handler_of l.fn.first ∷ []) l.tokens
+invariant-all l = many_r (Name ∷ []) (handler_r (stmt_room_r (Some height_limit) l.room))
+    (map handler_of l.all.items) l.rest ≡ many_r (Name ∷ [])
+    (handler_r (stmt_room_r (Some height_limit) l.room)) (handler_of l.fn.first ∷ []) l.tokens
 
 abbrev pub decreases-all : goal.decreases-all
 decreases-all l = length l.rest

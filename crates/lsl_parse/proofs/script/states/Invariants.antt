@@ -8,7 +8,9 @@ use Rattle.lsl_parse.proofs.script.states.Given as goal
 
 -- what is still to be read gives the whole
 abbrev pub invariant-all : goal.invariant-all
-invariant-all l = many_r (StateWord ∷ []) (state_r (stmt_room_r (Some height_limit) l.room)) (map state_of l.all.items) l.rest ≡ many_r (StateWord ∷ []) (state_r (stmt_room_r (Some height_limit) l.room)) [] l.tokens
+invariant-all l = many_r (StateWord ∷ []) (state_r (stmt_room_r (Some height_limit) l.room))
+    (map state_of l.all.items) l.rest ≡ many_r (StateWord ∷ [])
+    (state_r (stmt_room_r (Some height_limit) l.room)) [] l.tokens
 
 abbrev pub decreases-all : goal.decreases-all
 decreases-all l = length l.rest

@@ -14,31 +14,39 @@ use Rattle.lsl_parse.proofs.statement.+statement.Goals as goal
 pub items-all-smaller : goal.items-all-smaller
 items-all-smaller t c =
     let before = items_of c.all.all.items in
-    let now : next_item_r (item_r (Some height_limit) c.args.room) before c.all.rest.now ≡ Ok (AndItem before (item_of c.in_ok-next.next), c.in_ok-next.after.now) = search rules in
-    item_less (Some height_limit) c.args.room before (AndItem before (item_of c.in_ok-next.next)) c.all.rest.now c.in_ok-next.after.now now
+    let now : next_item_r (item_r (Some height_limit) c.args.room) before c.all.rest.now
+    ≡ Ok (AndItem before (item_of c.in_ok-next.next), c.in_ok-next.after.now) = search rules in
+    item_less (Some height_limit) c.args.room before (AndItem before (item_of c.in_ok-next.next)) c.all.rest.now
+    c.in_ok-next.after.now now
 
 pub items-all-preserved : goal.items-all-preserved
 items-all-preserved t c =
     let d = c.args.room in
     let before = items_of c.all.all.items in
-    let now : next_item_r (item_r (Some height_limit) d) before c.all.rest.now ≡ Ok (AndItem before (item_of c.in_ok-next.next), c.in_ok-next.after.now) = search rules in
-    ap (λ x. rounds_r token_code not_end (next_item_r (item_r (Some height_limit) d)) x c.in_ok-next.after.now) (items_of-push c.push.new.self.items c.all.all.items c.in_ok-next.next (search rules))
-    ∙ sym (item_step (Some height_limit) d before (AndItem before (item_of c.in_ok-next.next)) c.all.rest.now c.in_ok-next.after.now (search rules) now)
+    let now : next_item_r (item_r (Some height_limit) d) before c.all.rest.now
+    ≡ Ok (AndItem before (item_of c.in_ok-next.next), c.in_ok-next.after.now) = search rules in
+    ap (λ x. rounds_r token_code not_end (next_item_r (item_r (Some height_limit) d)) x c.in_ok-next.after.now)
+    (items_of-push c.push.new.self.items c.all.all.items c.in_ok-next.next (search rules))
+    ∙ sym (item_step (Some height_limit) d before (AndItem before (item_of c.in_ok-next.next)) c.all.rest.now
+    c.in_ok-next.after.now (search rules) now)
     ∙ c.all.invariant
 
 pub braces-returns : goal.braces-returns
 braces-returns t c =
-    let mid : braces_r (stmt_room_r (Some height_limit) c.args.room) c.args.tokens.now ≡ Ok (tree.Block (items_of c.in_ok-items.items.items), c.in_ok-items.rest.now) = search rules in
+    let mid : braces_r (stmt_room_r (Some height_limit) c.args.room) c.args.tokens.now
+    ≡ Ok (tree.Block (items_of c.in_ok-items.items.items), c.in_ok-items.rest.now) = search rules in
     mid ∙ ap (λ x. Ok (x, c.in_ok-items.rest.now)) (sym (stmt_of-Block c.in_ok-items.items))
 
 pub block-returns : goal.block-returns
 block-returns t c = let e = stmt_room_inside (Some height_limit) c.args.room (omega arith) in rw e (search rules)
 
 pub block-returns-in_err-all : goal.block-returns-in_err-all
-block-returns-in_err-all t c = let e = stmt_room_inside (Some height_limit) c.args.room (omega arith) in rw e (search rules)
+block-returns-in_err-all t c = let e = stmt_room_inside (Some height_limit) c.args.room (omega arith) in
+    rw e (search rules)
 
 pub block-returns-in_err-rest-2 : goal.block-returns-in_err-rest-2
-block-returns-in_err-rest-2 t c = let e = stmt_room_inside (Some height_limit) c.args.room (omega arith) in rw e (search rules)
+block-returns-in_err-rest-2 t c = let e = stmt_room_inside (Some height_limit) c.args.room (omega arith) in
+    rw e (search rules)
 
 pub body-returns : goal.body-returns
 body-returns t c = let e = stmt_room_inside (Some height_limit) c.args.room (omega arith) in rw e (search rules)

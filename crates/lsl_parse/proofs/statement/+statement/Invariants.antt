@@ -39,7 +39,8 @@ decreases-body l = 8 * l.room + 2
 
 -- what is still to be read gives the whole
 abbrev pub invariant-items-all : goal.invariant-items-all
-invariant-items-all l = rounds_r token_code not_end (next_item_r (item_r (Some height_limit) l.room)) (items_of l.all.items) l.rest ≡ items_r (item_r (Some height_limit) l.room) l.tokens
+invariant-items-all l = rounds_r token_code not_end (next_item_r (item_r (Some height_limit) l.room))
+    (items_of l.all.items) l.rest ≡ items_r (item_r (Some height_limit) l.room) l.tokens
 
 abbrev pub decreases-items-all : goal.decreases-items-all
 decreases-items-all l = length l.rest

@@ -9,7 +9,16 @@ loop-bytes-preserved g c =
     let gain = now.ok in
     record {
       begins = begins-gains (g.S.Shelf.held c.args.shelf.now) _ c.args.name.now _ _ _ past.held past.begins gain;
-      within = omega (arith, c.read_piece.new.bytes.ok.0, c.loop-bytes.bytes.ok.0, ap length gain.grew, length-append c.loop-bytes.bytes.items gain.next, gain.many, now.within);
+      within = omega (
+        arith,
+        c.read_piece.new.bytes.ok.0,
+        c.loop-bytes.bytes.ok.0,
+        ap length
+            gain.grew,
+        length-append c.loop-bytes.bytes.items gain.next,
+        gain.many,
+        now.within,
+      );
       held = now.unchanged ∙ past.held;
       counted = λ name. omega (arith, past.counted name, now.counted name);
     }

@@ -7,9 +7,12 @@ use Rattle.lsl_pure.proofs.joining.list_to_csv.Goals as goal
 
 pub returns-clause-ok : goal.returns-clause-ok
 returns-clause-ok c =
-    IfOk-spelled c.join.result _ (csv_text c.args.items.now) (dumped-spelled (codes ", ") (44 ∷ 32 ∷ []) c.args.items.now c.as_slice.result.now c.as_slice.ensures.value comma_space) c.join.ensures.ok
+    IfOk-spelled c.join.result _ (csv_text c.args.items.now)
+    (dumped-spelled (codes ", ") (44 ∷ 32 ∷ []) c.args.items.now c.as_slice.result.now
+    c.as_slice.ensures.value comma_space) c.join.ensures.ok
 
 pub returns-clause-too_big : goal.returns-clause-too_big
 returns-clause-too_big c =
     let P : List ℕ → Type 0 = λ bs. IfErr c.join.result (λ fault. fault ≡ TooBig → 65536 < 16 + length bs) in
-    subst P (dumped-spelled (codes ", ") (44 ∷ 32 ∷ []) c.args.items.now c.as_slice.result.now c.as_slice.ensures.value comma_space) c.join.ensures.too_big
+    subst P (dumped-spelled (codes ", ") (44 ∷ 32 ∷ []) c.args.items.now c.as_slice.result.now
+    c.as_slice.ensures.value comma_space) c.join.ensures.too_big

@@ -6,4 +6,5 @@ use Rattle.lsl_pure.proofs.joining.push_others.Given as goal
 
 abbrev pub invariant-atoms : goal.invariant-atoms
 invariant-atoms l =
-    (l.out.items ++ each_behind l.separator (map spelled_atom (drop l.atom-index l.atoms)) ≡ l.initial.out.items ++ each_behind l.separator (map spelled_atom l.atoms)) × IsUtf8 l.out.items
+    (l.out.items ++ each_behind l.separator (map spelled_atom (drop l.atom-index l.atoms))
+    ≡ l.initial.out.items ++ each_behind l.separator (map spelled_atom l.atoms)) × IsUtf8 l.out.items

@@ -6,13 +6,19 @@ use Rattle.lsl_pure.proofs.list_cuts.sub_list.Goals as goal
 pub returns-then-range : goal.returns-then-range
 returns-then-range c =
     IfOk-same c.outside.result _ _
-    (taken_outside c.args.items c.args.first c.args.last c.len.result c.new-range.result.start c.new-range.result.end c.new-range.result.turned c.len.ensures.value c.new-range.ensures.ordered c.new-range.ensures.within
-    (HasCuts-at c.len.result _ _ c.args.first c.args.last _ _ _ (to_z-of_z w32 c.args.first c.ranges.first) (to_z-of_z w32 c.args.last c.ranges.last) c.new-range.ensures.same) c.if-range.true)
+    (taken_outside c.args.items c.args.first c.args.last c.len.result c.new-range.result.start
+    c.new-range.result.end c.new-range.result.turned c.len.ensures.value c.new-range.ensures.ordered
+    c.new-range.ensures.within
+    (HasCuts-at c.len.result _ _ c.args.first c.args.last _ _ _ (to_z-of_z w32 c.args.first c.ranges.first)
+    (to_z-of_z w32 c.args.last c.ranges.last) c.new-range.ensures.same) c.if-range.true)
     c.outside.ensures
 
 pub returns-else-range : goal.returns-else-range
 returns-else-range c =
     IfOk-same c.inside.result _ _
-    (taken_inside c.args.items c.args.first c.args.last c.len.result c.new-range.result.start c.new-range.result.end c.new-range.result.turned c.len.ensures.value c.new-range.ensures.ordered c.new-range.ensures.within
-    (HasCuts-at c.len.result _ _ c.args.first c.args.last _ _ _ (to_z-of_z w32 c.args.first c.ranges.first) (to_z-of_z w32 c.args.last c.ranges.last) c.new-range.ensures.same) c.if-range.false)
+    (taken_inside c.args.items c.args.first c.args.last c.len.result c.new-range.result.start
+    c.new-range.result.end c.new-range.result.turned c.len.ensures.value c.new-range.ensures.ordered
+    c.new-range.ensures.within
+    (HasCuts-at c.len.result _ _ c.args.first c.args.last _ _ _ (to_z-of_z w32 c.args.first c.ranges.first)
+    (to_z-of_z w32 c.args.last c.ranges.last) c.new-range.ensures.same) c.if-range.false)
     c.inside.ensures

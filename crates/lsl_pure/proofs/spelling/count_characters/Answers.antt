@@ -5,4 +5,5 @@ use Rattle.lsl_pure.proofs.SpellingLemmas.{count_by-encodes}
 use Rattle.lsl_pure.proofs.spelling.count_characters.Goals as goal
 
 pub returns-clause-value : goal.returns-clause-value
-returns-clause-value c = c.count_leads.ensures ∙ ap (count_by is_lead) c.bytes.ensures.value ∙ count_by-encodes c.args.text.now
+returns-clause-value c = c.count_leads.ensures ∙ ap (count_by is_lead) c.bytes.ensures.value
+    ∙ count_by-encodes c.args.text.now

@@ -6,11 +6,13 @@ use Rattle.lsl_pure.proofs.spelling.offset.Goals as goal
 
 pub returns-then-is_ascii-clause-value : goal.returns-then-is_ascii-clause-value
 returns-then-is_ascii-clause-value c =
-    c.min.ensures ∙ ascii_offset c.args.characters c.args.text.now c.bytes-bytes.result.now c.bytes-bytes.ensures.value c.bytes-bytes.ensures.valid.scalars (c.if-is_ascii.ensures.cases)
+    c.min.ensures ∙ ascii_offset c.args.characters c.args.text.now c.bytes-bytes.result.now
+    c.bytes-bytes.ensures.value c.bytes-bytes.ensures.valid.scalars (c.if-is_ascii.ensures.cases)
 
 pub returns-else-is_ascii-clause-value : goal.returns-else-is_ascii-clause-value
 returns-else-is_ascii-clause-value c =
-    c.walk.ensures ∙ ap (front_len c.args.characters) c.bytes-bytes.ensures.value ∙ front_len-encodes c.args.characters c.args.text.now
+    c.walk.ensures ∙ ap (front_len c.args.characters) c.bytes-bytes.ensures.value
+    ∙ front_len-encodes c.args.characters c.args.text.now
 
 pub returns-else-is_ascii-clause-within : goal.returns-else-is_ascii-clause-within
 returns-else-is_ascii-clause-within c =

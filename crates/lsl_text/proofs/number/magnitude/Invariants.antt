@@ -6,7 +6,8 @@ use Rattle.lsl_text.proofs.number.magnitude.Given as goal
 
 abbrev pub invariant-digits : goal.invariant-digits
 invariant-digits l =
-    (l.n ≤ 4294967296) × (min (digits_value_after l.base l.n (take_while (λ c. is_digit c l.base) l.rest)) 4294967296 ≡ min (digits_value_after l.base 0 (take_while (λ c. is_digit c l.base) l.text)) 4294967296)
+    (l.n ≤ 4294967296) × (min (digits_value_after l.base l.n (take_while (λ c. is_digit c l.base) l.rest))
+    4294967296 ≡ min (digits_value_after l.base 0 (take_while (λ c. is_digit c l.base) l.text)) 4294967296)
 
 abbrev pub decreases-digits : goal.decreases-digits
 decreases-digits l = length l.rest

@@ -3,7 +3,8 @@ use Rattle.lsl_top.proofs.BuiltSteps.{actions_step, block_step}
 use Rattle.lsl_top.proofs.built.+action_is_built.Goals as goal
 
 pub action_is_built-returns-in-Block : goal.action_is_built-returns-in-Block
-action_is_built-returns-in-Block t c = block_step _ _ _ _ c.in-Block.is c.deref.ensures.value c.actions_are_built.ensures
+action_is_built-returns-in-Block t c = block_step _ _ _ _ c.in-Block.is c.deref.ensures.value
+    c.actions_are_built.ensures
 
 pub actions_are_built-loop-action-preserved : goal.actions_are_built-loop-action-preserved
 actions_are_built-loop-action-preserved t c =

@@ -4,7 +4,8 @@ use Rattle.lsl_top.proofs.built.+value_is_built.Goals as goal
 
 pub value_is_built-returns-in-Call : goal.value_is_built-returns-in-Call
 value_is_built-returns-in-Call t c =
-    call_step _ _ _ _ _ _ _ _ _ c.in-Call.is c.deref.ensures.value c.callee_is_built.ensures c.values_are_built.ensures refl
+    call_step _ _ _ _ _ _ _ _ _ c.in-Call.is c.deref.ensures.value c.callee_is_built.ensures
+    c.values_are_built.ensures refl
 
 pub value_is_built-returns-in-List : goal.value_is_built-returns-in-List
 value_is_built-returns-in-List t c =

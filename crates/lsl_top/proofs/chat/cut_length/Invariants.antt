@@ -7,5 +7,7 @@ abbrev pub invariant-loop-c : goal.invariant-loop-c
 invariant-loop-c l =
     record {
       within : l.length ≤ 1024;
-      whole : l.length + length (encode_utf8_all (cut_to (1024 - l.length) (drop (length l.yielded) (chars l.text)))) ≡ length (encode_utf8_all (cut_to 1024 (chars l.text)));
+      whole : l.length + length (encode_utf8_all
+          (cut_to (1024 - l.length) (drop (length l.yielded) (chars l.text))))
+          ≡ length (encode_utf8_all (cut_to 1024 (chars l.text)));
     }

@@ -11,7 +11,8 @@ use Rattle.lsl_top.proofs.running.push_run.Goals as goal
 
 pub returns-then-ticks-eq0 : goal.returns-then-ticks-eq0
 returns-then-ticks-eq0 c =
-    HasRun-cut (program_of c.args.built.now.program) (bodies_of c.args.built.now.code) (1000000 - c.halts.ticks) c.halts.machine c.run.new.self _ _ c.halts.invariant.course
+    HasRun-cut (program_of c.args.built.now.program) (bodies_of c.args.built.now.code) (1000000 - c.halts.ticks)
+    c.halts.machine c.run.new.self _ _ c.halts.invariant.course
     (omega arith) c.in-AtTick.ensures.whole (c.in-AtTick.ensures.cut refl)
 
 pub halts-preserved-in-AtTick : goal.halts-preserved-in-AtTick
@@ -24,27 +25,32 @@ halts-preserved-in-AtTick c =
       of = c.in-AtTick.ensures.of;
       ticks = omega arith;
       course = subst (λ t. Course p bodies t c.run.new.self c.args.out.now.items c.halts.out.items) one
-          (Course-tick p bodies (1000000 - c.halts.ticks) c.halts.machine c.run.new.self _ _ c.halts.invariant.course c.in-AtTick.ensures.whole c.in-AtTick.ensures.standing);
+          (Course-tick p bodies (1000000 - c.halts.ticks) c.halts.machine c.run.new.self _ _
+          c.halts.invariant.course c.in-AtTick.ensures.whole c.in-AtTick.ensures.standing);
     }
 
 pub push_said-requires : goal.push_said-requires
 push_said-requires c =
-    let a = asked_text (program_of c.args.built.now.program) (bodies_of c.args.built.now.code) (1000000 - c.halts.ticks) c.halts.machine c.run.new.self _ _ c.halts.invariant.course
+    let a = asked_text (program_of c.args.built.now.program) (bodies_of c.args.built.now.code)
+    (1000000 - c.halts.ticks) c.halts.machine c.run.new.self _ _ c.halts.invariant.course
     c.requires.built (omega arith) c.in-Asks.call c.in-Asks.ensures.whole c.in-Asks.ensures.asked in
     (a.text, a.args)
 
 pub answer-requires : goal.answer-requires
 answer-requires c =
-    let a = asked_text (program_of c.args.built.now.program) (bodies_of c.args.built.now.code) (1000000 - c.halts.ticks) c.halts.machine c.run.new.self _ _ c.halts.invariant.course
+    let a = asked_text (program_of c.args.built.now.program) (bodies_of c.args.built.now.code)
+    (1000000 - c.halts.ticks) c.halts.machine c.run.new.self _ _ c.halts.invariant.course
     c.requires.built (omega arith) c.in-Asks.call c.in-Asks.ensures.whole c.in-Asks.ensures.asked in
     let nothing : Option Value = None in
     subst (λ (s : Standing). Wants s nothing) (sym (c.in-Asks.ensures.standing ∙ ap Asking a.id)) refl
 
 pub halts-smaller : goal.halts-smaller
 halts-smaller c =
-    let a = asked_text (program_of c.args.built.now.program) (bodies_of c.args.built.now.code) (1000000 - c.halts.ticks) c.halts.machine c.run.new.self _ _ c.halts.invariant.course
+    let a = asked_text (program_of c.args.built.now.program) (bodies_of c.args.built.now.code)
+    (1000000 - c.halts.ticks) c.halts.machine c.run.new.self _ _ c.halts.invariant.course
     c.requires.built (omega arith) c.in-Asks.call c.in-Asks.ensures.whole c.in-Asks.ensures.asked in
-    smaller_said c.halts.ticks _ _ _ _ a.text (c.in_ok-push_said-in-Asks.ensures a.text a.args) c.halts.out.ok.0 c.push_said.new.out.ok.0
+    smaller_said c.halts.ticks _ _ _ _ a.text (c.in_ok-push_said-in-Asks.ensures a.text a.args) c.halts.out.ok.0
+    c.push_said.new.out.ok.0
     (omega (arith, c.push_said.new.out.small, c.push_said.new.out.ok.1))
 
 pub halts-preserved : goal.halts-preserved
@@ -57,7 +63,8 @@ halts-preserved c =
       able = c.answer.ensures.ready;
       of = c.answer.ensures.of c.args.built.now.code c.in-Asks.ensures.of;
       ticks = c.halts.invariant.ticks;
-      course = Course-said p bodies (1000000 - c.halts.ticks) c.halts.machine c.run.new.self _ _ c.halts.invariant.course
+      course = Course-said p bodies (1000000 - c.halts.ticks) c.halts.machine c.run.new.self _ _
+          c.halts.invariant.course
           c.requires.built (omega arith) c.in-Asks.call c.in-Asks.ensures.whole a c.answer.new.self _
           (c.answer.ensures.whole bodies) c.answer.ensures.behind (c.in_ok-push_said-in-Asks.ensures a.text a.args);
     }
@@ -65,11 +72,14 @@ halts-preserved c =
 pub returns-in-Ended : goal.returns-in-Ended
 returns-in-Ended c =
     on_ok c.push_done_line.result _ _ c.push_done_line.ensures
-    (λ wrote. HasRun-ended (program_of c.args.built.now.program) (bodies_of c.args.built.now.code) (1000000 - c.halts.ticks) c.halts.machine c.run.new.self _ _ c.halts.invariant.course
-    (omega arith) c.in-Ended.field-0 c.in-Ended.ensures.whole _ (wrote ∙ ap (λ kept. c.halts.out.items ++ done_line kept) c.finish-kept.ensures))
+    (λ wrote. HasRun-ended (program_of c.args.built.now.program) (bodies_of c.args.built.now.code)
+    (1000000 - c.halts.ticks) c.halts.machine c.run.new.self _ _ c.halts.invariant.course
+    (omega arith) c.in-Ended.field-0 c.in-Ended.ensures.whole _
+    (wrote ∙ ap (λ kept. c.halts.out.items ++ done_line kept) c.finish-kept.ensures))
 
 pub returns-in-Faulted : goal.returns-in-Faulted
 returns-in-Faulted c =
     on_ok c.push_fault_line.result _ _ c.push_fault_line.ensures
-    (λ wrote. HasRun-faulted (program_of c.args.built.now.program) (bodies_of c.args.built.now.code) (1000000 - c.halts.ticks) c.halts.machine c.run.new.self _ _ c.halts.invariant.course
+    (λ wrote. HasRun-faulted (program_of c.args.built.now.program) (bodies_of c.args.built.now.code)
+    (1000000 - c.halts.ticks) c.halts.machine c.run.new.self _ _ c.halts.invariant.course
     (omega arith) c.in-Faulted.fault c.in-Faulted.ensures.whole _ wrote)

@@ -11,7 +11,8 @@ invariant-halts l =
       able : CanRun l.machine.standing;
       of : IsOf l.built.code l.machine;
       ticks : l.ticks ≤ 1000000;
-      course : Course (program_of l.built.program) (bodies_of l.built.code) (1000000 - l.ticks) l.machine l.fn.out.items l.out.items;
+      course : Course (program_of l.built.program) (bodies_of l.built.code) (1000000 - l.ticks) l.machine
+          l.fn.out.items l.out.items;
     }
 
 -- a tick less is left, or a line more is written

@@ -7,7 +7,8 @@ loop-item-preserved c =
     let xs = c.args.items.now in
     let lt : c.loop-item.item-index < length xs = omega arith in
     ap (labels_behind (drop (c.loop-item.item-index + 1) xs)) c.in_ok-push_label.ensures
-    ∙ labels_next c.loop-item.labels xs c.loop-item.item-index c.item-item.result _ lt c.item-item.is c.loop-item.invariant
+    ∙ labels_next c.loop-item.labels xs c.loop-item.item-index c.item-item.result _ lt c.item-item.is
+    c.loop-item.invariant
 
 pub returns : goal.returns
 returns c =

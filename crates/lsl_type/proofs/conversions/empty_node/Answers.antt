@@ -7,4 +7,6 @@ use Rattle.lsl_tree.proofs.ProgramRows.{node_of-List}
 use Rattle.lsl_type.proofs.conversions.empty_node.Goals as goal
 
 pub returns-in-List : goal.returns-in-List
-returns-in-List c = node_of-List c.new-in-List.result ∙ ap (λ (l : List Node). node.ListLiteral (nodes_of l)) c.new-in-List.ensures.items ∙ sym (ap empty_node c.in-List.is)
+returns-in-List c = node_of-List c.new-in-List.result
+    ∙ ap (λ (l : List Node). node.ListLiteral (nodes_of l)) c.new-in-List.ensures.items
+    ∙ sym (ap empty_node c.in-List.is)

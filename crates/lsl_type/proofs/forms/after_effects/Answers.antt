@@ -8,6 +8,10 @@ use Rattle.lsl_type.proofs.forms.after_effects.Goals as goal
 
 pub returns : goal.returns
 returns c =
-    let begun : actions_of c.push_effects.new.actions.items ≡ effects_after NoAction (map effect_of c.args.effects.items) = search rules in
-    let items : c.push.new.self.items ≡ c.push_effects.new.actions.items ++ c.args.action ∷ [] = c.in_ok-push.ensures.items in
-    action_of-Block c.push.new.self ∙ ap action.Block (ap actions_of items ∙ (actions_of-append c.push_effects.new.actions.items c.args.action ∙ ap (λ (a : Actions). AndAction a (action_of c.args.action)) begun))
+    let begun : actions_of c.push_effects.new.actions.items
+    ≡ effects_after NoAction (map effect_of c.args.effects.items) = search rules in
+    let items : c.push.new.self.items ≡ c.push_effects.new.actions.items ++ c.args.action ∷ [] =
+    c.in_ok-push.ensures.items in
+    action_of-Block c.push.new.self ∙ ap action.Block
+    (ap actions_of items ∙ (actions_of-append c.push_effects.new.actions.items c.args.action
+    ∙ ap (λ (a : Actions). AndAction a (action_of c.args.action)) begun))

@@ -9,4 +9,6 @@ pub loop-effect-preserved : goal.loop-effect-preserved
 loop-effect-preserved c =
     ap actions_of c.in_ok-push.ensures.items
     ∙ (actions_of-append c.loop-effect.actions.items _
-    ∙ (ap (λ (a : Actions). AndAction a (action_of (action.Effect c.in-Some.effect))) c.loop-effect.invariant ∙ sym (effects_after-push (actions_of c.args.actions.now.items) c.loop-effect.yielded c.in-Some.effect)))
+    ∙ (ap (λ (a : Actions). AndAction a (action_of (action.Effect c.in-Some.effect))) c.loop-effect.invariant
+    ∙ sym (effects_after-push (actions_of c.args.actions.now.items) c.loop-effect.yielded
+    c.in-Some.effect)))

@@ -6,4 +6,5 @@ use Rattle.lsl_type.specs.ActionForms.{effects_after}
 use Rattle.lsl_type.proofs.forms.push_effects.Given as goal
 
 abbrev pub invariant-loop-effect : goal.invariant-loop-effect
-invariant-loop-effect l = actions_of l.actions.items ≡ effects_after (actions_of l.initial.actions.items) (map effect_of l.yielded)
+invariant-loop-effect l = actions_of l.actions.items
+    ≡ effects_after (actions_of l.initial.actions.items) (map effect_of l.yielded)

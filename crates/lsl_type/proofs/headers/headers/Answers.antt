@@ -15,18 +15,24 @@ returns-in_err-add c =
     let h = headers_of c.loop-header.headers in
     let lt : c.loop-header.header-index < length xs = omega arith in
     let p = err_from_is_err_and c.from_residual.result c.from_residual.ensures.1 in
-    rw (p.1, p.2) (fails_as c.in_err-add.field-0.0 (header_next h c.header-item.result) (each_verdict header_verdict no_headers (map header_of xs)) c.in_err-add.ensures (λ f v.
+    rw (p.1, p.2) (fails_as c.in_err-add.field-0.0 (header_next h c.header-item.result)
+    (each_verdict header_verdict no_headers (map header_of xs)) c.in_err-add.ensures (λ f v.
     each_map header_verdict header_of no_headers xs
-    ∙ each_stop header_next h f xs c.loop-header.header-index c.header-item.result _ lt c.header-item.is v c.loop-header.invariant))
+    ∙ each_stop header_next h f xs c.loop-header.header-index c.header-item.result _ lt c.header-item.is v
+    c.loop-header.invariant))
 
 pub loop-header-preserved : goal.loop-header-preserved
 loop-header-preserved c =
     let xs = c.args.list.now in
     let lt : c.loop-header.header-index < length xs = omega arith in
-    each_next header_next (headers_of c.loop-header.headers) (headers_of c.add.new.self) xs c.loop-header.header-index c.header-item.result _ lt c.header-item.is c.in_ok-add.ensures c.loop-header.invariant
+    each_next header_next (headers_of c.loop-header.headers) (headers_of c.add.new.self) xs
+    c.loop-header.header-index c.header-item.result _ lt c.header-item.is c.in_ok-add.ensures
+    c.loop-header.invariant
 
 pub returns : goal.returns
 returns c =
     let xs = c.args.list.now in
     let over : length xs ≤ c.loop-header.header-index = omega arith in
-    each_map header_verdict header_of no_headers xs ∙ each_end header_next (headers_of c.loop-header.headers) xs c.loop-header.header-index _ over c.loop-header.invariant
+    each_map header_verdict header_of no_headers xs
+    ∙ each_end header_next (headers_of c.loop-header.headers) xs c.loop-header.header-index _ over
+    c.loop-header.invariant

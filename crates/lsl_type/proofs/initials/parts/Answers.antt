@@ -13,8 +13,10 @@ returns-in_err-part-clause-found c =
     let xs = c.args.atoms.now in
     let lt : c.loop-atom.atom-index < length xs = omega arith in
     let p = err_from_is_err_and c.from_residual-in_err-part.result c.from_residual-in_err-part.ensures.1 in
-    rw (p.1, p.2) (fails_as c.in_err-part.field-0.0 (initial_part_verdict s c.atom-item.result) (each_verdict (next_part_verdict s) [] xs) c.in_err-part.ensures (λ f v.
-    each_stop (next_part_verdict s) c.loop-atom.parts.items f xs c.loop-atom.atom-index c.atom-item.result _ lt c.atom-item.is
+    rw (p.1, p.2) (fails_as c.in_err-part.field-0.0 (initial_part_verdict s c.atom-item.result)
+    (each_verdict (next_part_verdict s) [] xs) c.in_err-part.ensures (λ f v.
+    each_stop (next_part_verdict s) c.loop-atom.parts.items f xs c.loop-atom.atom-index c.atom-item.result _ lt
+    c.atom-item.is
     (ap (λ (w : Verdict Part). w >>= λ u. Ok (c.loop-atom.parts.items ++ u ∷ [])) v) c.loop-atom.invariant.same))
 
 pub loop-atom-preserved : goal.loop-atom-preserved
@@ -22,18 +24,22 @@ loop-atom-preserved c =
     let s = scope_of c.args.scope.now in
     let xs = c.args.atoms.now in
     let lt : c.loop-atom.atom-index < length xs = omega arith in
-    let items : c.push.new.self.items ≡ c.loop-atom.parts.items ++ c.in_ok-part.field-0 ∷ [] = c.in_ok-push.ensures.items in
+    let items : c.push.new.self.items ≡ c.loop-atom.parts.items ++ c.in_ok-part.field-0 ∷ [] =
+    c.in_ok-push.ensures.items in
     let step : next_part_verdict s c.loop-atom.parts.items c.atom-item.result ≡ Ok c.push.new.self.items =
-    ap (λ (v : Verdict Part). v >>= λ u. Ok (c.loop-atom.parts.items ++ u ∷ [])) c.in_ok-part.ensures ∙ ap Ok (sym items) in
+    ap (λ (v : Verdict Part). v >>= λ u. Ok (c.loop-atom.parts.items ++ u ∷ [])) c.in_ok-part.ensures
+    ∙ ap Ok (sym items) in
     record {
       counted = ap length items ∙ simp length-append (omega (arith, c.loop-atom.invariant.counted));
-      same = each_next (next_part_verdict s) c.loop-atom.parts.items c.push.new.self.items xs c.loop-atom.atom-index c.atom-item.result _ lt c.atom-item.is step c.loop-atom.invariant.same;
+      same = each_next (next_part_verdict s) c.loop-atom.parts.items c.push.new.self.items xs
+          c.loop-atom.atom-index c.atom-item.result _ lt c.atom-item.is step c.loop-atom.invariant.same;
     }
 
 pub returns-clause-found : goal.returns-clause-found
 returns-clause-found c =
     let over : length c.args.atoms.now ≤ c.loop-atom.atom-index = omega arith in
-    each_end (next_part_verdict (scope_of c.args.scope.now)) c.loop-atom.parts.items c.args.atoms.now c.loop-atom.atom-index _ over c.loop-atom.invariant.same
+    each_end (next_part_verdict (scope_of c.args.scope.now)) c.loop-atom.parts.items c.args.atoms.now
+    c.loop-atom.atom-index _ over c.loop-atom.invariant.same
 
 pub returns-clause-counted : goal.returns-clause-counted
 returns-clause-counted c = omega (arith, c.loop-atom.invariant.counted)

@@ -14,9 +14,11 @@ returns-in_err-element c =
     let hx : c.loop-i.i < length xs = omega arith in
     let hm : c.loop-i.i < length ms = omega arith in
     let p = err_from_is_err_and c.from_residual.result c.from_residual.ensures.1 in
-    rw (p.1, p.2) (fails_as c.in_err-element.field-0.0 (element_r c.index-nodes-i.result c.index-exprs-i.result) (flat_verdict (exprs_of xs) (nodes_of ms)) c.in_err-element.ensures (λ f v.
+    rw (p.1, p.2) (fails_as c.in_err-element.field-0.0 (element_r c.index-nodes-i.result c.index-exprs-i.result)
+    (flat_verdict (exprs_of xs) (nodes_of ms)) c.in_err-element.ensures (λ f v.
     flat_of xs ms c.requires
-    ∙ (sym (flat_next c.loop-i.i xs c.index-exprs-i.result ms c.index-nodes-i.result _ hx c.index-exprs-i.is hm c.index-nodes-i.is c.loop-i.invariant)
+    ∙ (sym (flat_next c.loop-i.i xs c.index-exprs-i.result ms c.index-nodes-i.result _ hx c.index-exprs-i.is hm
+    c.index-nodes-i.is c.loop-i.invariant)
     ∙ ap (λ (w : Verdict (Unit {0})). w >>= λ u. flat_from (drop (c.loop-i.i + 1) xs) (drop (c.loop-i.i + 1) ms)) v)))
 
 pub loop-i-preserved : goal.loop-i-preserved
@@ -25,10 +27,13 @@ loop-i-preserved c =
     let ms = c.args.nodes.now in
     let hx : c.loop-i.i < length xs = omega arith in
     let hm : c.loop-i.i < length ms = omega arith in
-    sym (ap (λ (w : Verdict (Unit {0})). w >>= λ u. flat_from (drop (c.loop-i.i + 1) xs) (drop (c.loop-i.i + 1) ms)) c.in_ok-element.ensures)
-    ∙ flat_next c.loop-i.i xs c.index-exprs-i.result ms c.index-nodes-i.result _ hx c.index-exprs-i.is hm c.index-nodes-i.is c.loop-i.invariant
+    sym (ap (λ (w : Verdict (Unit {0})). w >>= λ u.
+    flat_from (drop (c.loop-i.i + 1) xs) (drop (c.loop-i.i + 1) ms)) c.in_ok-element.ensures)
+    ∙ flat_next c.loop-i.i xs c.index-exprs-i.result ms c.index-nodes-i.result _ hx c.index-exprs-i.is hm
+    c.index-nodes-i.is c.loop-i.invariant
 
 pub returns : goal.returns
 returns c =
     let over : length c.args.exprs.now ≤ c.loop-i.i = omega arith in
-    flat_of c.args.exprs.now c.args.nodes.now c.requires ∙ flat_end c.loop-i.i c.args.exprs.now c.args.nodes.now _ over c.loop-i.invariant
+    flat_of c.args.exprs.now c.args.nodes.now c.requires
+    ∙ flat_end c.loop-i.i c.args.exprs.now c.args.nodes.now _ over c.loop-i.invariant

@@ -10,14 +10,17 @@ returns-in_err-add_param c =
     let ps = c.args.params.now in
     let lt : c.loop-param.param-index < length ps = omega arith in
     let p = err_from_is_err_and c.from_residual.result c.from_residual.ensures.1 in
-    rw (p.1, p.2) (fails_as c.in_err-add_param.field-0.0 (param_verdict c.loop-param.names c.param-item.result) (each_verdict param_verdict [] ps) c.in_err-add_param.ensures (λ f v.
-    each_stop param_verdict c.loop-param.names f ps c.loop-param.param-index c.param-item.result _ lt c.param-item.is v c.loop-param.invariant))
+    rw (p.1, p.2) (fails_as c.in_err-add_param.field-0.0 (param_verdict c.loop-param.names c.param-item.result)
+    (each_verdict param_verdict [] ps) c.in_err-add_param.ensures (λ f v.
+    each_stop param_verdict c.loop-param.names f ps c.loop-param.param-index c.param-item.result _ lt
+    c.param-item.is v c.loop-param.invariant))
 
 pub loop-param-preserved : goal.loop-param-preserved
 loop-param-preserved c =
     let ps = c.args.params.now in
     let lt : c.loop-param.param-index < length ps = omega arith in
-    each_next param_verdict c.loop-param.names c.add_param.new.names ps c.loop-param.param-index c.param-item.result _ lt c.param-item.is c.in_ok-add_param.ensures c.loop-param.invariant
+    each_next param_verdict c.loop-param.names c.add_param.new.names ps c.loop-param.param-index
+    c.param-item.result _ lt c.param-item.is c.in_ok-add_param.ensures c.loop-param.invariant
 
 pub returns : goal.returns
 returns c =

@@ -4,4 +4,5 @@ use Rattle.lsl_type.specs.HeaderVerdicts.{param_verdict}
 use Rattle.lsl_type.proofs.params.params.Given as goal
 
 abbrev pub invariant-loop-param : goal.invariant-loop-param
-invariant-loop-param l = each_verdict param_verdict l.names (drop l.param-index l.params) ≡ each_verdict param_verdict [] l.params
+invariant-loop-param l = each_verdict param_verdict l.names (drop l.param-index l.params)
+    ≡ each_verdict param_verdict [] l.params

@@ -12,4 +12,5 @@ returns-in_ok-push c =
     let before = actions_of c.args.body.now.items in
     ap actions_of c.in_ok-push.ensures.items
     ∙ (actions_of-append c.args.body.now.items _
-    ∙ (ap (λ (n : Node). AndAction before (action.ReturnValue n)) c.in_ok-empty_node.ensures ∙ sym (ap (λ (o : Option Kind). ended o before) c.in-Some.is)))
+    ∙ (ap (λ (n : Node). AndAction before (action.ReturnValue n)) c.in_ok-empty_node.ensures
+    ∙ sym (ap (λ (o : Option Kind). ended o before) c.in-Some.is)))

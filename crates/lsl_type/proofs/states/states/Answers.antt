@@ -13,18 +13,22 @@ returns-in_err-add_state c =
     let xs = c.args.list.now in
     let lt : c.loop-state.state-index < length xs = omega arith in
     let p = err_from_is_err_and c.from_residual.result c.from_residual.ensures.1 in
-    rw (p.1, p.2) (fails_as c.in_err-add_state.field-0.0 (state_next c.loop-state.names c.state-item.result) (each_verdict state_verdict [] (map state_of xs)) c.in_err-add_state.ensures (λ f v.
+    rw (p.1, p.2) (fails_as c.in_err-add_state.field-0.0 (state_next c.loop-state.names c.state-item.result)
+    (each_verdict state_verdict [] (map state_of xs)) c.in_err-add_state.ensures (λ f v.
     each_map state_verdict state_of [] xs
-    ∙ each_stop state_next c.loop-state.names f xs c.loop-state.state-index c.state-item.result _ lt c.state-item.is v c.loop-state.invariant))
+    ∙ each_stop state_next c.loop-state.names f xs c.loop-state.state-index c.state-item.result _ lt
+    c.state-item.is v c.loop-state.invariant))
 
 pub loop-state-preserved : goal.loop-state-preserved
 loop-state-preserved c =
     let xs = c.args.list.now in
     let lt : c.loop-state.state-index < length xs = omega arith in
-    each_next state_next c.loop-state.names c.add_state.new.names xs c.loop-state.state-index c.state-item.result _ lt c.state-item.is c.in_ok-add_state.ensures c.loop-state.invariant
+    each_next state_next c.loop-state.names c.add_state.new.names xs c.loop-state.state-index
+    c.state-item.result _ lt c.state-item.is c.in_ok-add_state.ensures c.loop-state.invariant
 
 pub returns : goal.returns
 returns c =
     let xs = c.args.list.now in
     let over : length xs ≤ c.loop-state.state-index = omega arith in
-    each_map state_verdict state_of [] xs ∙ each_end state_next c.loop-state.names xs c.loop-state.state-index _ over c.loop-state.invariant
+    each_map state_verdict state_of [] xs
+    ∙ each_end state_next c.loop-state.names xs c.loop-state.state-index _ over c.loop-state.invariant

@@ -7,4 +7,5 @@ use Rattle.lsl_value.proofs.keys.is_null_key.Goals as goal
 
 pub returns : goal.returns
 unfolding encode_utf8
-returns c = c.eq.ensures ∙ ap (λ bytes. pointwise nat_eq bytes null_key) c.as_str.ensures.value ∙ pointwise-encodes c.args.text.now null_key
+returns c = c.eq.ensures ∙ ap (λ bytes. pointwise nat_eq bytes null_key) c.as_str.ensures.value
+    ∙ pointwise-encodes c.args.text.now null_key

@@ -4,7 +4,8 @@ use Rattle.lsl_post.specs.Filters.{filter}
 use Rattle.lsl_post.specs.Listens.{listen_of, standing, IsStanding}
 use Rattle.lsl_world_tests.proofs.listens.late.Goals as goal
 
-two : IsStanding (standing (pos 2147483646) (listen_of (pos 2147483647) (filter (pos 5) [] [] []) ∷ listen_of (pos 1) (filter (pos 6) [] [] []) ∷ []))
+two : IsStanding (standing (pos 2147483646)
+    (listen_of (pos 2147483647) (filter (pos 5) [] [] []) ∷ listen_of (pos 1) (filter (pos 6) [] [] []) ∷ []))
 unfolding IsDistinct
 two = record {
   next = refl;

@@ -9,4 +9,5 @@ drop_one (suc k) (x ∷ xs) = drop_one k xs
 pub loop-preserved : goal.loop-preserved
 loop-preserved c =
     let next : suc c.loop.counter ≡ c.loop.counter + 1 = omega arith in
-    c.pop.ensures ∙ ap (drop 1) c.loop.invariant ∙ drop_one c.loop.counter c.args.self.now ∙ ap (λ n. drop n c.args.self.now) next
+    c.pop.ensures ∙ ap (drop 1) c.loop.invariant ∙ drop_one c.loop.counter c.args.self.now
+    ∙ ap (λ n. drop n c.args.self.now) next

@@ -9,5 +9,6 @@ pub returns-then-eq : goal.returns-then-eq
 returns-then-eq c =
     let name = c.args.name.now in
     let same : c.as_str.result.now ≡ name = (bytes_decides c.as_str.result.now name).0 (sym c.if-eq.ensures) in
-    let held : c.in-Some.held.now ≡ chars name = chars_from_encodes c.in-Some.held.now name c.utf8.name (sym c.as_str.ensures.value ∙ same) in
+    let held : c.in-Some.held.now ≡ chars name =
+    chars_from_encodes c.in-Some.held.now name c.utf8.name (sym c.as_str.ensures.value ∙ same) in
     subst (λ (l : List ℕ). IfOk c.copy.result (λ text. text ≡ l)) held c.copy.ensures

@@ -7,7 +7,10 @@ use Rattle.lsl_parse.proofs.operand.Operand.call.Goals as goal
 pub invariant_of-result : goal.invariant_of-result
 invariant_of-result c =
     let P : Expr → Type 0 = λ x. c.raised.result ≡ min (height x) height_limit in
-    record { capped = subst P (sym (expr_of-Call c.args.name c.args.arguments.exprs)) (omega (arith, c.raised.ensures, c.args.arguments.capped)) }
+    record {
+      capped = subst P (sym (expr_of-Call c.args.name c.args.arguments.exprs))
+          (omega (arith, c.raised.ensures, c.args.arguments.capped));
+    }
 
 pub returns : goal.returns
 returns c = expr_of-Call c.args.name c.args.arguments.exprs

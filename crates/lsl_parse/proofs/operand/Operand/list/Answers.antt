@@ -7,7 +7,10 @@ use Rattle.lsl_parse.proofs.operand.Operand.list.Goals as goal
 pub invariant_of-result : goal.invariant_of-result
 invariant_of-result c =
     let P : Expr → Type 0 = λ x. c.raised.result ≡ min (height x) height_limit in
-    record { capped = subst P (sym (expr_of-List c.args.span c.args.elements.exprs)) (omega (arith, c.raised.ensures, c.args.elements.capped)) }
+    record {
+      capped = subst P (sym (expr_of-List c.args.span c.args.elements.exprs))
+          (omega (arith, c.raised.ensures, c.args.elements.capped));
+    }
 
 pub returns : goal.returns
 returns c = expr_of-List c.args.span c.args.elements.exprs

@@ -10,8 +10,10 @@ returns-then-first-last-clause-same c = λ k low.
     let first-place : FitsSigned w64 c.place-first.result = search rules in
     let last-place : FitsSigned w64 c.place-last.result = search rules in
     let behind : FitsSigned w64 (c.place-last.result +ℤ pos 1) = search (rules, ints) in
-    range_inside c.args.n k c.args.first c.args.last c.place-first.result c.place-last.result c.clamp-before.result c.clamp-behind.result
-    (simp to_z-of_z at c.place-first.ensures) (simp to_z-of_z at c.place-last.ensures) (simp to_z-of_z at c.if-first-last.true)
+    range_inside c.args.n k c.args.first c.args.last c.place-first.result c.place-last.result
+    c.clamp-before.result c.clamp-behind.result
+    (simp to_z-of_z at c.place-first.ensures) (simp to_z-of_z at c.place-last.ensures)
+    (simp to_z-of_z at c.if-first-last.true)
     (simp to_z-of_z at c.clamp-before.ensures.value) (simp to_z-of_z at c.clamp-behind.ensures.value) low
 
 pub returns-else-first-last-clause-same : goal.returns-else-first-last-clause-same
@@ -21,6 +23,8 @@ returns-else-first-last-clause-same c = λ k low.
     let first-place : FitsSigned w64 c.place-first.result = search rules in
     let last-place : FitsSigned w64 c.place-last.result = search rules in
     let behind : FitsSigned w64 (c.place-last.result +ℤ pos 1) = search (rules, ints) in
-    range_outside c.args.n k c.args.first c.args.last c.place-first.result c.place-last.result c.clamp-before.result c.clamp-behind.result
-    (simp to_z-of_z at c.place-first.ensures) (simp to_z-of_z at c.place-last.ensures) (simp to_z-of_z at c.if-first-last.false)
+    range_outside c.args.n k c.args.first c.args.last c.place-first.result c.place-last.result
+    c.clamp-before.result c.clamp-behind.result
+    (simp to_z-of_z at c.place-first.ensures) (simp to_z-of_z at c.place-last.ensures)
+    (simp to_z-of_z at c.if-first-last.false)
     (simp to_z-of_z at c.clamp-before.ensures.value) (simp to_z-of_z at c.clamp-behind.ensures.value) low

@@ -21,10 +21,13 @@ returns-in_err-add_function-clause-found c =
     let e = c.in_err-add_function.field-0.0 in
     let lt : c.loop-header.header-index < length xs = omega arith in
     let p = err_from_is_err_and c.from_residual.result c.from_residual.ensures.1 in
-    let found = subst (λ scope. Refuses e (function_body_verdict known scope before (header_of x))) (ap (λ f. f.scope) c.loop-header.invariant.unchanged) c.in_err-add_function.ensures.found in
-    rw (p.1, p.2) (fails_as e (function_next known s before x) (each_verdict (function_body_verdict known s) [] (map header_of xs)) found (λ f v.
+    let found = subst (λ scope. Refuses e (function_body_verdict known scope before (header_of x)))
+    (ap (λ f. f.scope) c.loop-header.invariant.unchanged) c.in_err-add_function.ensures.found in
+    rw (p.1, p.2) (fails_as e (function_next known s before x)
+    (each_verdict (function_body_verdict known s) [] (map header_of xs)) found (λ f v.
     each_map (function_body_verdict known s) header_of [] xs
-    ∙ each_stop (function_next known s) before f xs c.loop-header.header-index x _ lt c.header-item.is v c.loop-header.invariant.same))
+    ∙ each_stop (function_next known s) before f xs c.loop-header.header-index x _ lt c.header-item.is v
+    c.loop-header.invariant.same))
 
 pub returns-clause-found : goal.returns-clause-found
 returns-clause-found c =
@@ -33,4 +36,5 @@ returns-clause-found c =
     let xs = c.args.list.now in
     let over : length xs ≤ c.loop-header.header-index = omega arith in
     each_map (function_body_verdict known s) header_of [] xs
-    ∙ each_end (function_next known s) (map function_of c.loop-header.functions.items) xs c.loop-header.header-index _ over c.loop-header.invariant.same
+    ∙ each_end (function_next known s) (map function_of c.loop-header.functions.items) xs
+    c.loop-header.header-index _ over c.loop-header.invariant.same

@@ -22,8 +22,10 @@ returns-in_err-handler-clause-found c =
     let e = c.in_err-handler.field-0.0 in
     let lt : c.loop-handler.handler-index < length xs = omega arith in
     let p = err_from_is_err_and c.from_residual-in_err-handler.result c.from_residual-in_err-handler.ensures.1 in
-    let found = subst (λ scope. Refuses e (handler_routine_verdict known scope (handler_of x))) (ap (λ f. f.scope) c.loop-handler.invariant.unchanged) c.in_err-handler.ensures.found in
-    rw (p.1, p.2) (fails_as e (handler_routine_verdict known s (handler_of x)) (each_verdict (handler_body_verdict known s) [] (map handler_of xs)) found (λ f v.
+    let found = subst (λ scope. Refuses e (handler_routine_verdict known scope (handler_of x)))
+    (ap (λ f. f.scope) c.loop-handler.invariant.unchanged) c.in_err-handler.ensures.found in
+    rw (p.1, p.2) (fails_as e (handler_routine_verdict known s (handler_of x))
+    (each_verdict (handler_body_verdict known s) [] (map handler_of xs)) found (λ f v.
     each_map (handler_body_verdict known s) handler_of [] xs
     ∙ each_stop (handler_next known s) before f xs c.loop-handler.handler-index x _ lt c.handler-item.is
     (ap (λ (w : Verdict EventRoutine). w >>= λ u. Ok (before ++ u ∷ [])) v) c.loop-handler.invariant.same))
@@ -35,4 +37,5 @@ returns-clause-found c =
     let xs = c.args.list.now in
     let over : length xs ≤ c.loop-handler.handler-index = omega arith in
     each_map (handler_body_verdict known s) handler_of [] xs
-    ∙ each_end (handler_next known s) (map program.handler_of c.loop-handler.routines.items) xs c.loop-handler.handler-index _ over c.loop-handler.invariant.same
+    ∙ each_end (handler_next known s) (map program.handler_of c.loop-handler.routines.items) xs
+    c.loop-handler.handler-index _ over c.loop-handler.invariant.same

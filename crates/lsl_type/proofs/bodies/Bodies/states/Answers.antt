@@ -24,8 +24,10 @@ returns-in_err-state c =
     let e = c.in_err-state.field-0.0 in
     let lt : c.loop-state.state-index < length xs = omega arith in
     let p = err_from_is_err_and c.from_residual-in_err-state.result c.from_residual-in_err-state.ensures.1 in
-    let found = subst (λ scope. Refuses e (program_state_verdict known scope (state_of x))) (ap (λ f. f.scope) c.loop-state.invariant.unchanged) c.in_err-state.ensures.found in
-    rw (p.1, p.2) (fails_as e (program_state_verdict known s (state_of x)) (each_verdict (state_body_verdict known s) first (map state_of xs)) found (λ f v.
+    let found = subst (λ scope. Refuses e (program_state_verdict known scope (state_of x)))
+    (ap (λ f. f.scope) c.loop-state.invariant.unchanged) c.in_err-state.ensures.found in
+    rw (p.1, p.2) (fails_as e (program_state_verdict known s (state_of x))
+    (each_verdict (state_body_verdict known s) first (map state_of xs)) found (λ f v.
     each_map (state_body_verdict known s) state_of first xs
     ∙ each_stop (state_next known s) before f xs c.loop-state.state-index x _ lt c.state-item.is
     (ap (λ (w : Verdict ProgramState). w >>= λ u. Ok (before ++ u ∷ [])) v) c.loop-state.invariant.same))
@@ -38,4 +40,5 @@ returns c =
     let first : List ProgramState = record { name = default_name; handlers = map handler_of c.args.start.items } ∷ [] in
     let over : length xs ≤ c.loop-state.state-index = omega arith in
     each_map (state_body_verdict known s) state_of first xs
-    ∙ each_end (state_next known s) (map program.state_of c.loop-state.states.items) xs c.loop-state.state-index _ over c.loop-state.invariant.same
+    ∙ each_end (state_next known s) (map program.state_of c.loop-state.states.items) xs c.loop-state.state-index
+    _ over c.loop-state.invariant.same

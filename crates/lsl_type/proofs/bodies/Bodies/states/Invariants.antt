@@ -11,6 +11,8 @@ use Rattle.lsl_type.proofs.bodies.Bodies.states.Given as goal
 abbrev pub invariant-loop-state : goal.invariant-loop-state
 invariant-loop-state l = record {
   unchanged : frame_of l.frame ≡ frame_of l.initial.frame;
-  same : each_verdict (state_next (known_of l.self.known.now) (scope_of l.initial.frame.scope)) (map state_of l.states.items) (drop l.state-index l.list)
-      ≡ each_verdict (state_next (known_of l.self.known.now) (scope_of l.initial.frame.scope)) (record { name = default_name; handlers = map handler_of l.fn.start.items } ∷ []) l.list;
+  same : each_verdict (state_next (known_of l.self.known.now) (scope_of l.initial.frame.scope))
+      (map state_of l.states.items) (drop l.state-index l.list)
+      ≡ each_verdict (state_next (known_of l.self.known.now) (scope_of l.initial.frame.scope))
+      (record { name = default_name; handlers = map handler_of l.fn.start.items } ∷ []) l.list;
 }

@@ -15,5 +15,6 @@ returns-then-nodes-kinds c =
 pub returns-else-nodes-kinds : goal.returns-else-nodes-kinds
 returns-else-nodes-kinds c =
     let other : nat_eq (argument_count (nodes_of c.args.nodes.now)) (length (kinds_in c.args.self.now.params)) ≡ false =
-    eqb_false _ _ (λ h. c.if-nodes-kinds.false (sym (argument_count-nodes_of c.args.nodes.now) ∙ (h ∙ sym (ap length c.kinds.ensures)))) in
+    eqb_false _ _ (λ h. c.if-nodes-kinds.false
+    (sym (argument_count-nodes_of c.args.nodes.now) ∙ (h ∙ sym (ap length c.kinds.ensures)))) in
     rw (c.fault.ensures, other) refl

@@ -17,13 +17,16 @@ use Rattle.lsl_type.proofs.checker.Checker.+statement.Goals as goal
 
 pub block-returns-clause-found : goal.block-returns-clause-found
 block-returns-clause-found t c =
-    block_ok (known_of c.args.self.now.known.now) c.args.self.now.home (frame_of c.args.frame.now) (frame_of c.open.new.self) (frame_of c.actions.new.frame)
+    block_ok (known_of c.args.self.now.known.now) c.args.self.now.home (frame_of c.args.frame.now)
+    (frame_of c.open.new.self) (frame_of c.actions.new.frame)
     (items_of c.args.items.now) (actions_of c.in_ok-actions.actions.items) _ c.close.new.self.slots.items
-    c.in_ok-outer.ensures.opened c.in_ok-actions.ensures (action_of-Block c.in_ok-actions.actions) (ap (λ (f : FrameView). f.slots) c.close.ensures)
+    c.in_ok-outer.ensures.opened c.in_ok-actions.ensures (action_of-Block c.in_ok-actions.actions)
+    (ap (λ (f : FrameView). f.slots) c.close.ensures)
 
 pub block-returns-clause-unchanged : goal.block-returns-clause-unchanged
 block-returns-clause-unchanged t c =
-    block_leaves (known_of c.args.self.now.known.now) c.args.self.now.home (frame_of c.args.frame.now) (frame_of c.open.new.self) (frame_of c.actions.new.frame) (frame_of c.close.new.self)
+    block_leaves (known_of c.args.self.now.known.now) c.args.self.now.home (frame_of c.args.frame.now)
+    (frame_of c.open.new.self) (frame_of c.actions.new.frame) (frame_of c.close.new.self)
     (items_of c.args.items.now) (actions_of c.in_ok-actions.actions.items) c.in_ok-outer.outer
     c.in_ok-outer.ensures.opened c.in_ok-outer.ensures.outer c.in_ok-actions.ensures c.close.ensures
 
@@ -35,10 +38,14 @@ actions-returns-in_err-item t c =
     let acts = actions_of c.loop-entry.actions.items in
     let lt : c.loop-entry.entry-index < length xs = omega arith in
     let p = err_from_is_err_and c.from_residual-in_err-item.result c.from_residual-in_err-item.ensures.1 in
-    rw (p.1, p.2) (fails_as c.in_err-item.field-0.0 (item_verdict known c.args.self.now.home (frame_of c.loop-entry.frame) (item_of c.entry-item.result)) (items_verdict known c.args.self.now.home f (items_of xs)) c.in_err-item.ensures (λ g v.
+    rw (p.1, p.2) (fails_as c.in_err-item.field-0.0
+    (item_verdict known c.args.self.now.home (frame_of c.loop-entry.frame) (item_of c.entry-item.result))
+    (items_verdict known c.args.self.now.home f (items_of xs)) c.in_err-item.ensures (λ g v.
     items_walk known c.args.self.now.home f xs
-    ∙ each_stop (item_next known c.args.self.now.home) (acts, frame_of c.loop-entry.frame) g xs c.loop-entry.entry-index c.entry-item.result _ lt c.entry-item.is
-    (ap (λ (w : Verdict (Action × FrameView)). w >>= λ last. Ok (AndAction acts last.0, last.1)) v) c.loop-entry.invariant))
+    ∙ each_stop (item_next known c.args.self.now.home) (acts, frame_of c.loop-entry.frame) g xs
+    c.loop-entry.entry-index c.entry-item.result _ lt c.entry-item.is
+    (ap (λ (w : Verdict (Action × FrameView)). w >>= λ last. Ok (AndAction acts last.0, last.1)) v)
+    c.loop-entry.invariant))
 
 pub actions-loop-entry-preserved : goal.actions-loop-entry-preserved
 actions-loop-entry-preserved t c =
@@ -46,12 +53,16 @@ actions-loop-entry-preserved t c =
     let xs = c.args.items.now in
     let acts = actions_of c.loop-entry.actions.items in
     let lt : c.loop-entry.entry-index < length xs = omega arith in
-    let items : c.push.new.self.items ≡ c.loop-entry.actions.items ++ c.in_ok-item.field-0 ∷ [] = c.in_ok-push.ensures.items in
+    let items : c.push.new.self.items ≡ c.loop-entry.actions.items ++ c.in_ok-item.field-0 ∷ [] =
+    c.in_ok-push.ensures.items in
     let more = ap actions_of items ∙ actions_of-append c.loop-entry.actions.items c.in_ok-item.field-0 in
-    let step : item_next known c.args.self.now.home (acts, frame_of c.loop-entry.frame) c.entry-item.result ≡ Ok (actions_of c.push.new.self.items, frame_of c.item.new.frame) =
+    let step : item_next known c.args.self.now.home (acts, frame_of c.loop-entry.frame) c.entry-item.result
+    ≡ Ok (actions_of c.push.new.self.items, frame_of c.item.new.frame) =
     ap (λ (w : Verdict (Action × FrameView)). w >>= λ last. Ok (AndAction acts last.0, last.1)) c.in_ok-item.ensures
     ∙ ap (λ (a : Actions). walked a (frame_of c.item.new.frame)) (sym more) in
-    each_next (item_next known c.args.self.now.home) (acts, frame_of c.loop-entry.frame) (actions_of c.push.new.self.items, frame_of c.item.new.frame) xs c.loop-entry.entry-index c.entry-item.result _ lt c.entry-item.is step c.loop-entry.invariant
+    each_next (item_next known c.args.self.now.home) (acts, frame_of c.loop-entry.frame)
+    (actions_of c.push.new.self.items, frame_of c.item.new.frame) xs c.loop-entry.entry-index
+    c.entry-item.result _ lt c.entry-item.is step c.loop-entry.invariant
 
 pub actions-returns : goal.actions-returns
 actions-returns t c =
@@ -60,7 +71,9 @@ actions-returns t c =
     let xs = c.args.items.now in
     let over : length xs ≤ c.loop-entry.entry-index = omega arith in
     items_walk known c.args.self.now.home f xs
-    ∙ each_end (item_next known c.args.self.now.home) (actions_of c.loop-entry.actions.items, frame_of c.loop-entry.frame) xs c.loop-entry.entry-index _ over c.loop-entry.invariant
+    ∙ each_end (item_next known c.args.self.now.home)
+    (actions_of c.loop-entry.actions.items, frame_of c.loop-entry.frame) xs c.loop-entry.entry-index _ over
+    c.loop-entry.invariant
 
 pub statement-returns-in-Block-clause-found : goal.statement-returns-in-Block-clause-found
 statement-returns-in-Block-clause-found t c =
@@ -73,11 +86,17 @@ statement-returns-in-Empty-clause-found t c = rw action_of-Block (search rules)
 pub statement-returns-in_err-otherwise-in-IfElse-clause-found : goal.statement-returns-in_err-otherwise-in-IfElse-clause-found
 statement-returns-in_err-otherwise-in-IfElse-clause-found t c =
     let known = known_of c.args.self.now.known.now in
-    let p = err_from_is_err_and c.from_residual-in_err-otherwise-in-IfElse.result c.from_residual-in_err-otherwise-in-IfElse.ensures.1 in
+    let p = err_from_is_err_and c.from_residual-in_err-otherwise-in-IfElse.result
+    c.from_residual-in_err-otherwise-in-IfElse.ensures.1 in
     let g = c.statement-in-IfElse.new.frame in
     let first : c.deref-in-IfElse.result.now ≡ c.in-IfElse.then.value = search rules in
     let second : c.deref-in-IfElse-2.result.now ≡ c.in-IfElse.otherwise.value = search rules in
-    rw (p.1, p.2, ap stmt_of c.in-IfElse.is) (otherwise_fails stmt_of known c.args.self.now.home (frame_of c.args.frame.now) (frame_of g) c.in-IfElse.span
-    (expr_of c.in-IfElse.test) c.in-IfElse.then.value c.in-IfElse.otherwise.value c.deref-in-IfElse.result.now c.deref-in-IfElse-2.result.now
-    (node_of c.in_ok-test-in-IfElse.test) (action_of c.in_ok-then-in-IfElse.then) g.slots.items c.in_err-otherwise-in-IfElse.field-0.0 first second
-    c.in_ok-test-in-IfElse.ensures c.in_ok-then-in-IfElse.ensures.found c.in_ok-then-in-IfElse.ensures.unchanged c.in_err-otherwise-in-IfElse.ensures.found)
+    rw (p.1, p.2, ap stmt_of c.in-IfElse.is)
+    (otherwise_fails stmt_of known c.args.self.now.home (frame_of c.args.frame.now) (frame_of g)
+    c.in-IfElse.span
+    (expr_of c.in-IfElse.test) c.in-IfElse.then.value c.in-IfElse.otherwise.value c.deref-in-IfElse.result.now
+    c.deref-in-IfElse-2.result.now
+    (node_of c.in_ok-test-in-IfElse.test) (action_of c.in_ok-then-in-IfElse.then) g.slots.items
+    c.in_err-otherwise-in-IfElse.field-0.0 first second
+    c.in_ok-test-in-IfElse.ensures c.in_ok-then-in-IfElse.ensures.found c.in_ok-then-in-IfElse.ensures.unchanged
+    c.in_err-otherwise-in-IfElse.ensures.found)

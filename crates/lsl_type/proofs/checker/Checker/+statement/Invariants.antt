@@ -8,5 +8,6 @@ use Rattle.lsl_type.proofs.checker.Checker.+statement.Given as goal
 
 abbrev pub invariant-actions-loop-entry : goal.invariant-actions-loop-entry
 invariant-actions-loop-entry l =
-    each_verdict (item_next (known_of l.self.known.now) l.self.home) (actions_of l.actions.items, frame_of l.frame) (drop l.entry-index l.items)
+    each_verdict (item_next (known_of l.self.known.now) l.self.home)
+    (actions_of l.actions.items, frame_of l.frame) (drop l.entry-index l.items)
     ≡ each_verdict (item_next (known_of l.self.known.now) l.self.home) (NoAction, frame_of l.initial.frame) l.items

@@ -43,23 +43,30 @@ values-returns-in_err-value-clause-found t c =
     let lt : c.loop-expr.expr-index < length c.args.exprs.now = omega arith in
     let fails = c.in_err-value.ensures in
     let p = err_from_is_err_and c.from_residual-in_err-value.result c.from_residual-in_err-value.ensures.1 in
-    rw (p.1, p.2) (fails_as c.in_err-value.field-0.0 (value_verdict known s (expr_of c.expr-item.result)) (values_verdict known s (exprs_of c.args.exprs.now)) fails (λ f v.
+    rw (p.1, p.2) (fails_as c.in_err-value.field-0.0 (value_verdict known s (expr_of c.expr-item.result))
+    (values_verdict known s (exprs_of c.args.exprs.now)) fails (λ f v.
     values_of known s c.args.exprs.now
-    ∙ each_stop (value_next known s) (nodes_of c.loop-expr.nodes.items) f c.args.exprs.now c.loop-expr.expr-index c.expr-item.result _ lt c.expr-item.is
-    (ap (λ (w : Verdict Node). w >>= λ u. Ok (AndNode (nodes_of c.loop-expr.nodes.items) u)) v) c.loop-expr.invariant.same))
+    ∙ each_stop (value_next known s) (nodes_of c.loop-expr.nodes.items) f c.args.exprs.now
+    c.loop-expr.expr-index c.expr-item.result _ lt c.expr-item.is
+    (ap (λ (w : Verdict Node). w >>= λ u. Ok (AndNode (nodes_of c.loop-expr.nodes.items) u)) v)
+    c.loop-expr.invariant.same))
 
 pub values-loop-expr-preserved : goal.values-loop-expr-preserved
 values-loop-expr-preserved t c =
     let known = known_of c.args.self.now.known.now in
     let s = scope_of c.args.scope.now in
     let lt : c.loop-expr.expr-index < length c.args.exprs.now = omega arith in
-    let items : c.push.new.self.items ≡ c.loop-expr.nodes.items ++ c.in_ok-value.field-0 ∷ [] = c.in_ok-push.ensures.items in
-    let step : value_next known s (nodes_of c.loop-expr.nodes.items) c.expr-item.result ≡ Ok (nodes_of c.push.new.self.items) =
+    let items : c.push.new.self.items ≡ c.loop-expr.nodes.items ++ c.in_ok-value.field-0 ∷ [] =
+    c.in_ok-push.ensures.items in
+    let step : value_next known s (nodes_of c.loop-expr.nodes.items) c.expr-item.result
+    ≡ Ok (nodes_of c.push.new.self.items) =
     ap (λ (v : Verdict Node). v >>= λ u. Ok (AndNode (nodes_of c.loop-expr.nodes.items) u)) c.in_ok-value.ensures
     ∙ ap Ok (sym (ap nodes_of items ∙ nodes_of-append c.loop-expr.nodes.items c.in_ok-value.field-0)) in
     record {
       counted = ap length items ∙ simp length-append (omega (arith, c.loop-expr.invariant.counted));
-      same = each_next (value_next known s) (nodes_of c.loop-expr.nodes.items) (nodes_of c.push.new.self.items) c.args.exprs.now c.loop-expr.expr-index c.expr-item.result _ lt c.expr-item.is step c.loop-expr.invariant.same;
+      same = each_next (value_next known s) (nodes_of c.loop-expr.nodes.items) (nodes_of c.push.new.self.items)
+          c.args.exprs.now c.loop-expr.expr-index c.expr-item.result _ lt c.expr-item.is step
+          c.loop-expr.invariant.same;
     }
 
 pub values-returns-clause-found : goal.values-returns-clause-found
@@ -67,7 +74,8 @@ values-returns-clause-found t c =
     let known = known_of c.args.self.now.known.now in
     let s = scope_of c.args.scope.now in
     let over : length c.args.exprs.now ≤ c.loop-expr.expr-index = omega arith in
-    values_of known s c.args.exprs.now ∙ each_end (value_next known s) (nodes_of c.loop-expr.nodes.items) c.args.exprs.now c.loop-expr.expr-index _ over c.loop-expr.invariant.same
+    values_of known s c.args.exprs.now ∙ each_end (value_next known s) (nodes_of c.loop-expr.nodes.items)
+    c.args.exprs.now c.loop-expr.expr-index _ over c.loop-expr.invariant.same
 
 pub values-returns-clause-counted : goal.values-returns-clause-counted
 values-returns-clause-counted t c = omega (arith, c.loop-expr.invariant.counted)

@@ -9,6 +9,7 @@ use Rattle.lsl_type.proofs.checker.Checker.+value.Given as goal
 abbrev pub invariant-values-loop-expr : goal.invariant-values-loop-expr
 invariant-values-loop-expr l = record {
   counted : length l.nodes.items ≡ l.expr-index;
-  same : each_verdict (value_next (known_of l.self.known.now) (scope_of l.scope)) (nodes_of l.nodes.items) (drop l.expr-index l.exprs)
+  same : each_verdict (value_next (known_of l.self.known.now) (scope_of l.scope)) (nodes_of l.nodes.items)
+      (drop l.expr-index l.exprs)
       ≡ each_verdict (value_next (known_of l.self.known.now) (scope_of l.scope)) NoNode l.exprs;
 }

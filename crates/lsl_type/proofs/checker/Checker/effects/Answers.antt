@@ -16,25 +16,35 @@ returns-in_err-effect c =
     let s = scope_of c.args.scope.now in
     let lt : c.loop-expr.expr-index < length c.args.exprs.now = omega arith in
     let p = err_from_is_err_and c.from_residual-in_err-effect.result c.from_residual-in_err-effect.ensures.1 in
-    rw (p.1, p.2) (fails_as c.in_err-effect.field-0.0 (effect_verdict known s (expr_of c.expr-item.result)) (effects_verdict known s (exprs_of c.args.exprs.now)) c.in_err-effect.ensures (λ f v.
+    rw (p.1, p.2) (fails_as c.in_err-effect.field-0.0 (effect_verdict known s (expr_of c.expr-item.result))
+    (effects_verdict known s (exprs_of c.args.exprs.now)) c.in_err-effect.ensures (λ f v.
     effects_of known s c.args.exprs.now
-    ∙ each_stop (effect_next known s) (map effect_of c.loop-expr.effects.items) f c.args.exprs.now c.loop-expr.expr-index c.expr-item.result _ lt c.expr-item.is
-    (ap (λ (w : Verdict Effect). w >>= λ u. Ok (map effect_of c.loop-expr.effects.items ++ u ∷ [])) v) c.loop-expr.invariant))
+    ∙ each_stop (effect_next known s) (map effect_of c.loop-expr.effects.items) f c.args.exprs.now
+    c.loop-expr.expr-index c.expr-item.result _ lt c.expr-item.is
+    (ap (λ (w : Verdict Effect). w >>= λ u. Ok (map effect_of c.loop-expr.effects.items ++ u ∷ [])) v)
+    c.loop-expr.invariant))
 
 pub loop-expr-preserved : goal.loop-expr-preserved
 loop-expr-preserved c =
     let known = known_of c.args.self.now.known.now in
     let s = scope_of c.args.scope.now in
     let lt : c.loop-expr.expr-index < length c.args.exprs.now = omega arith in
-    let items : c.push.new.self.items ≡ c.loop-expr.effects.items ++ c.in_ok-effect.field-0 ∷ [] = c.in_ok-push.ensures.items in
-    let step : effect_next known s (map effect_of c.loop-expr.effects.items) c.expr-item.result ≡ Ok (map effect_of c.push.new.self.items) =
-    ap (λ (v : Verdict Effect). v >>= λ u. Ok (map effect_of c.loop-expr.effects.items ++ u ∷ [])) c.in_ok-effect.ensures
+    let items : c.push.new.self.items ≡ c.loop-expr.effects.items ++ c.in_ok-effect.field-0 ∷ [] =
+    c.in_ok-push.ensures.items in
+    let step : effect_next known s (map effect_of c.loop-expr.effects.items) c.expr-item.result
+    ≡ Ok (map effect_of c.push.new.self.items) =
+    ap (λ (v : Verdict Effect). v >>= λ u. Ok (map effect_of c.loop-expr.effects.items ++ u ∷ []))
+    c.in_ok-effect.ensures
     ∙ ap Ok (sym (ap (map effect_of) items ∙ map_push effect_of c.loop-expr.effects.items c.in_ok-effect.field-0)) in
-    each_next (effect_next known s) (map effect_of c.loop-expr.effects.items) (map effect_of c.push.new.self.items) c.args.exprs.now c.loop-expr.expr-index c.expr-item.result _ lt c.expr-item.is step c.loop-expr.invariant
+    each_next (effect_next known s) (map effect_of c.loop-expr.effects.items)
+    (map effect_of c.push.new.self.items) c.args.exprs.now c.loop-expr.expr-index c.expr-item.result _ lt
+    c.expr-item.is step c.loop-expr.invariant
 
 pub returns : goal.returns
 returns c =
     let known = known_of c.args.self.now.known.now in
     let s = scope_of c.args.scope.now in
     let over : length c.args.exprs.now ≤ c.loop-expr.expr-index = omega arith in
-    effects_of known s c.args.exprs.now ∙ each_end (effect_next known s) (map effect_of c.loop-expr.effects.items) c.args.exprs.now c.loop-expr.expr-index _ over c.loop-expr.invariant
+    effects_of known s c.args.exprs.now ∙ each_end (effect_next known s)
+    (map effect_of c.loop-expr.effects.items) c.args.exprs.now c.loop-expr.expr-index _ over
+    c.loop-expr.invariant

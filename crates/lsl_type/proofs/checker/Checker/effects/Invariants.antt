@@ -9,5 +9,6 @@ use Rattle.lsl_type.proofs.checker.Checker.effects.Given as goal
 
 abbrev pub invariant-loop-expr : goal.invariant-loop-expr
 invariant-loop-expr l =
-    each_verdict (effect_next (known_of l.self.known.now) (scope_of l.scope)) (map effect_of l.effects.items) (drop l.expr-index l.exprs)
+    each_verdict (effect_next (known_of l.self.known.now) (scope_of l.scope)) (map effect_of l.effects.items)
+    (drop l.expr-index l.exprs)
     ≡ each_verdict (effect_next (known_of l.self.known.now) (scope_of l.scope)) [] l.exprs

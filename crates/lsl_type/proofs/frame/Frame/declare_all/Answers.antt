@@ -8,7 +8,8 @@ loop-param-preserved c =
     let ps = c.args.params.now in
     let lt : c.loop-param.param-index < length ps = omega arith in
     ap (λ (f : FrameView). with_locals f (drop (c.loop-param.param-index + 1) ps)) c.in_ok-declare.ensures
-    ∙ locals_next (frame_of c.loop-param.self) ps c.loop-param.param-index c.param-item.result _ lt c.param-item.is c.loop-param.invariant
+    ∙ locals_next (frame_of c.loop-param.self) ps c.loop-param.param-index c.param-item.result _ lt
+    c.param-item.is c.loop-param.invariant
 
 pub returns : goal.returns
 returns c =

@@ -3,4 +3,5 @@ use Rattle.lsl_type.proofs.NameTable.{length-names_of}
 use Rattle.lsl_type.proofs.names.Names.len.Goals as goal
 
 pub returns : goal.returns
-returns c = c.len.ensures ∙ (c.self.inside.entries.ok.0 ∙ (sym (length-names_of c.self.inside.entries.items) ∙ ap length c.self.view_is))
+returns c = c.len.ensures ∙ (c.self.inside.entries.ok.0
+    ∙ (sym (length-names_of c.self.inside.entries.items) ∙ ap length c.self.view_is))

@@ -8,4 +8,5 @@ use Rattle.lsl_value.proofs.characters.Text.copy.Goals as goal
 
 pub returns-in-None : goal.returns-in-None
 returns-in-None c =
-    c.new.ensures ∙ sym chars-nil ∙ sym (ap (λ held. chars (held_items held (λ h. string_bytes (rc_value h)))) c.in-None.is) ∙ c.self.view_is
+    c.new.ensures ∙ sym chars-nil ∙ sym (ap (λ held. chars (held_items held (λ h. string_bytes (rc_value h))))
+    c.in-None.is) ∙ c.self.view_is

@@ -12,4 +12,5 @@ from_ascii-requires-clause-short c =
 
 pub returns-clause-short : goal.returns-clause-short
 returns-clause-short c =
-    IfOk-weaker c.from_ascii.result _ _ (λ text same. decimal-encodes_short c.args.n text c.ranges.n (same ∙ search rules)) c.from_ascii.ensures
+    IfOk-weaker c.from_ascii.result _ _ (λ text same.
+    decimal-encodes_short c.args.n text c.ranges.n (same ∙ search rules)) c.from_ascii.ensures
