@@ -10,7 +10,8 @@ in_body : (o : Option FunctionCode) (p : ℕ) → point_in o p ≡ body_point (o
 in_body None p = refl
 in_body (Some f) p = refl
 
-same_point : (functions : List FunctionCode) (f p : ℕ) → point_of functions f p ≡ points_of (map plain_body functions) f p
+same_point : (functions : List FunctionCode) (f p : ℕ)
+    → point_of functions f p ≡ points_of (map plain_body functions) f p
 same_point functions f p =
     in_body (slice_get functions f) p
     ∙ ap (λ o. body_point o p) (sym (slice_get-map plain_body functions f))

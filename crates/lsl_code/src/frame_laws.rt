@@ -10,8 +10,8 @@ pub fn ticks_have_frames()
     ensures fit { FramesFit }
 {}
 
-/// Frames that fit, as those that `Sack::check` accepts do, are those of a machine of the unit at a tick, in which all kinds
-/// are right.
+/// Frames that fit, as those that `Sack::check` accepts do, are those of a machine of the unit at a tick, in
+/// which all kinds are right.
 pub fn frames_have_calls()
     ensures checked { CheckedFramesFit }
     ensures calls { FramesHaveCalls }
