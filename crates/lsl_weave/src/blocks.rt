@@ -125,12 +125,12 @@ fn push_back_block(
     code: &mut Sequence<Instr>,
     function: &FunctionCode,
     tables: &Tables,
-    number_of: usize,
+    index: usize,
     point: &Point,
 ) -> Result<(), NoMemory>
     requires tables { TablesOf function.now tables.now }
-    requires point { number_of < length function.now.points }
-    ensures { OnOk result (code.new ≡ code.old ++ back_block (plain_body function.now) number_of point.now) }
+    requires point { index < length function.now.points }
+    ensures { OnOk result (code.new ≡ code.old ++ back_block (plain_body function.now) index point.now) }
 {
     let slots = function.slots.len();
     let waits = waiting_of(slots, point);
@@ -140,7 +140,7 @@ fn push_back_block(
     for j in 0..waits {
         code.push(Instr::BackTop)?;
     }
-    push_end(code, function, tables, number_of, point.calls)
+    push_end(code, function, tables, index, point.calls)
 }
 
 fn push_end(

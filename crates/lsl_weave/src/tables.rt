@@ -26,7 +26,6 @@ impl Tables {
         requires { TablesOf function.now self.now }
         ensures { result ≡ shift (plain_body function.now) place }
     {
-        let _ = function;
         look(&self.shifts, place)
     }
 
@@ -35,7 +34,6 @@ impl Tables {
         requires { TablesOf function.now self.now }
         ensures { result ≡ save_place (plain_body function.now) point }
     {
-        let _ = function;
         look(&self.saves, point)
     }
 
@@ -52,7 +50,6 @@ impl Tables {
         requires { TablesOf function.now self.now }
         ensures { result ≡ back_place (plain_body function.now) point }
     {
-        let _ = function;
         look(&self.backs, point)
     }
 
@@ -62,7 +59,6 @@ impl Tables {
         requires point { point < length function.now.points }
         ensures { result ≡ place_of point function.now.code }
     {
-        let _ = function;
         self.places[point] as usize
     }
 }
