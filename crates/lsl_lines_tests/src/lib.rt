@@ -1,4 +1,4 @@
-//! Tests of world files: what good ones say, and the first fault of the others.
+//! Tests of world files, what good ones say and the first fault of the others, and of journals.
 #![tactic(auto)]
 
 #[cfg(test)]
@@ -7,6 +7,8 @@ mod bad_forms;
 mod bad_worlds;
 #[cfg(test)]
 mod good_worlds;
+#[cfg(test)]
+mod journal;
 #[cfg(test)]
 mod limits;
 #[cfg(test)]
