@@ -1,5 +1,6 @@
 pub mod CutAgain
 pub mod Digits
+pub mod FrozenLemmas
 pub mod JournalLemmas
 pub mod KeyTable
 pub mod LastLemmas

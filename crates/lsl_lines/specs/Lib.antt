@@ -2,6 +2,7 @@ pub mod Checks
 pub mod Faults
 pub mod Fields
 pub mod Forms
+pub mod Frozen
 pub mod Journal
 pub mod Keys
 pub mod Laws

@@ -20,6 +20,7 @@ mod faults;
 mod fields;
 mod file;
 mod forms;
+mod frozen;
 mod journal;
 mod journal_words;
 mod keys;
@@ -36,6 +37,7 @@ mod world;
 
 pub use crate::faults::{FileFault, FileKind};
 pub use crate::file::{Gaps, ObjectLine, PrimLine, ScriptLine, Step, WorldFile};
+pub use crate::frozen::{NotFrozen, push_frozen, take_frozen};
 pub use crate::journal::{push_line, push_lines};
 pub use crate::sequence::Sequence;
 

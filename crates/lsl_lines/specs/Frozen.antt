@@ -1,0 +1,28 @@
+-- A frozen world as a line of text.
+use Rattle.std.specs.Prelude.{◌≡◌, ℕ, ◌≤◌, List, [], ◌∷◌, ◌++◌, length, codes}
+use Rattle.std.specs.Io.BufRead.{strip_last}
+use Rattle.std.specs.List.{after_last}
+use Rattle.lsl_text.specs.Place.{is_line_feed}
+use Rattle.hex.specs.Hex.{IsBytes, encode_lower}
+
+-- how many bytes a text with a frozen world has at most
+abbrev pub most_frozen_text : ℕ
+most_frozen_text = 2147483647
+
+-- the bytes of a frozen world as digits, behind a word
+abbrev pub frozen_text : List ℕ → List ℕ
+frozen_text bytes = codes "frozen " ++ encode_lower bytes
+
+-- the line of a frozen world
+abbrev pub frozen_line : List ℕ → List ℕ
+frozen_line bytes = frozen_text bytes ++ 10 ∷ []
+
+-- the last line of a text, which may lack its line feed
+abbrev pub last_line : List ℕ → List ℕ
+last_line text = after_last is_line_feed (strip_last 10 text)
+
+-- the text ends with the line of these bytes
+pub record IsFrozen (text bytes : List ℕ) : Type 0 where
+  pub short : length text ≤ most_frozen_text
+  pub line : last_line text ≡ frozen_text bytes
+  pub fits : IsBytes bytes

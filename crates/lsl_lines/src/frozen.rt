@@ -1,0 +1,133 @@
+//! A frozen world as a line of text: `frozen`, a space, and its bytes as lower-case hexadecimal digits.
+
+ghost use Rattle.std.specs.Prelude.{◌≡◌, ◌≢◌, ◌⊎◌, ℕ, List, ◌++◌, codes, take, vec_len, OnOk, OnErr, IfOk, IfErr, MatchOption, MatchResult};
+ghost use Rattle.std.specs.Char.{is_ascii_uppercase};
+ghost use Rattle.std.specs.Io.BufRead.{strip_last};
+ghost use Rattle.std.specs.List.{after_last, list_any};
+ghost use Rattle.hex.specs.Hex.{IsBytes, encode_lower};
+ghost use Rattle.hex.specs.declared.error.FromHexError.TheVariants.{OutOfMemory};
+ghost use Rattle.lsl_text.specs.Place.{is_line_feed};
+ghost use Rattle.lsl_text.specs.declared.Refusal.TheVariants.{NoMemory as WantsMemory};
+ghost use Rattle.lsl_lines.specs.Frozen.{IsFrozen, frozen_line, last_line};
+
+use hex::{FromHexError, encode};
+use lsl_text::{NoMemory, Refusal};
+use memchr::memrchr;
+use std::alloc::Global;
+
+/// How many bytes a text with a frozen world has at most.
+const MAX_FROZEN_TEXT: usize = 2_147_483_647;
+
+/// The last line of a text is not that of a frozen world.
+#[derive(Clone, Copy, Debug, PartialEq, Eq)]
+pub struct NotFrozen;
+
+/// Appends the line of a frozen world of these bytes.
+///
+/// Takes memory for the digits, and where the vector grows; after an `Err` the vector is unchanged.
+pub fn push_frozen(out: &mut Vec<u8>, bytes: &[u8]) -> Result<(), NoMemory>
+    ensures ok { OnOk result (out.new.items ≡ out.old.items ++ frozen_line bytes.now) }
+    ensures unchanged { OnErr result (out.new.items ≡ out.old.items) }
+{
+    let start = out.len();
+    let pushed = push_parts(out, bytes);
+    if pushed.is_err() {
+        out.truncate(start);
+    }
+    pushed
+}
+
+// After an `Err` a front of the line may stand behind the old bytes.
+fn push_parts(out: &mut Vec<u8>, bytes: &[u8]) -> Result<(), NoMemory>
+    ensures ok { OnOk result (out.new.items ≡ out.old.items ++ frozen_line bytes.now) }
+    ensures front { OnErr result (take (vec_len out.old) out.new.items ≡ out.old.items) }
+{
+    let digits = encode(*out.allocator(), bytes)?;
+    out.extend_from_slice(b"frozen ")?;
+    out.extend_from_slice(digits.as_bytes())?;
+    out.push(b'\n')?;
+    Ok(())
+}
+
+/// The bytes of the frozen world whose line is the text's last one; that line may lack its line feed.
+///
+/// Refused are a text of more than 2,147,483,647 bytes, and one whose last line isn't `frozen`, a space and an
+/// even number of hexadecimal digits with lower-case letters. Takes memory for the bytes.
+pub fn take_frozen(alloc: Global, text: &[u8]) -> Result<Vec<u8>, Refusal<NotFrozen>>
+    ensures found { IfOk result (λ bytes. IsFrozen text.now bytes.items) }
+    ensures every { (bytes : List ℕ) → IsFrozen text.now bytes
+        → MatchResult result (λ found. found.items ≡ bytes) (λ refusal. refusal ≡ WantsMemory) }
+    ensures refused { IfErr result (λ refusal.
+        (refusal ≡ WantsMemory) ⊎ ((bytes : List ℕ) → ¬ IsFrozen text.now bytes)) }
+{
+    if text.len() > MAX_FROZEN_TEXT {
+        return Err(Refusal::Fault(NotFrozen));
+    }
+    match digits_of(last_line(text)) {
+        Some(digits) => bytes_of(alloc, digits),
+        None => Err(Refusal::Fault(NotFrozen)),
+    }
+}
+
+fn last_line(text: &[u8]) -> &[u8]
+    ensures { result.now ≡ last_line text.now }
+{
+    behind_feeds(without_feed(text))
+}
+
+fn without_feed(text: &[u8]) -> &[u8]
+    ensures { result.now ≡ strip_last 10 text.now }
+{
+    match text {
+        [front @ .., b'\n'] => front,
+        _ => text,
+    }
+}
+
+// What stands behind the last line feed.
+fn behind_feeds(text: &[u8]) -> &[u8]
+    ensures { result.now ≡ after_last is_line_feed text.now }
+{
+    match memrchr(b'\n', text) {
+        Some(place) => &text[place + 1..],
+        None => text,
+    }
+}
+
+// What stands behind the word.
+fn digits_of(line: &[u8]) -> Option<&[u8]>
+    ensures { MatchOption result ((digits : List ℕ) → line.now ≢ codes "frozen " ++ digits)
+        (λ digits. line.now ≡ codes "frozen " ++ digits.now) }
+{
+    line.strip_prefix(b"frozen ")
+}
+
+// The bytes of these digits, whose letters are in lower case.
+fn bytes_of(alloc: Global, digits: &[u8]) -> Result<Vec<u8>, Refusal<NotFrozen>>
+    ensures found { IfOk result (λ bytes. (encode_lower bytes.items ≡ digits.now) × IsBytes bytes.items) }
+    ensures every { (bytes : List ℕ) → IsBytes bytes → encode_lower bytes ≡ digits.now
+        → MatchResult result (λ found. found.items ≡ bytes) (λ refusal. refusal ≡ WantsMemory) }
+{
+    if has_upper_case(digits) {
+        return Err(Refusal::Fault(NotFrozen));
+    }
+    match hex::decode(alloc, digits) {
+        Ok(bytes) => Ok(bytes),
+        Err(fault) => Err(refusal(fault)),
+    }
+}
+
+fn refusal(fault: FromHexError) -> Refusal<NotFrozen>
+    ensures { fault ≡ OutOfMemory → result ≡ WantsMemory }
+{
+    match fault {
+        FromHexError::OutOfMemory => Refusal::NoMemory,
+        _ => Refusal::Fault(NotFrozen),
+    }
+}
+
+fn has_upper_case(digits: &[u8]) -> bool
+    ensures { result ≡ list_any is_ascii_uppercase digits.now }
+{
+    digits.iter().any(|b| b.is_ascii_uppercase())
+}
