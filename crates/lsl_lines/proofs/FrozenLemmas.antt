@@ -1,18 +1,20 @@
 -- Digits in lower case, and the last line of a text.
 use Rattle.std.proofs.Common.{◌≡◌, ℕ, zero, suc, ◌+◌, ◌-◌, ◌*◌, ◌/◌, ◌%◌, ◌<◌, ◌==◌, Bool, true, false, not, ◌&&◌, ◌||◌, ◌⊎◌, inl, inr, List, [], ◌∷◌, length, drop, slice_index, Option, Some, None, Result, Ok, Err, refl, sym, ap, ◌∙◌, arith}
-use Rattle.std.specs.Prelude.{IfErr, MatchResult}
+use Rattle.std.specs.Prelude.{◌++◌, codes, IfErr, MatchResult}
 use Rattle.std.proofs.lemmas.Bool.{and_parts, cases_lt, eqb-true}
+use Rattle.std.proofs.lemmas.List.Elements.{All-cons, All-nil}
 use Rattle.std.proofs.lemmas.List.Sums.{suffix_len_is}
 use Rattle.std.specs.Char.{is_ascii_uppercase}
-use Rattle.std.specs.List.{after_last, list_any, suffix_len}
+use Rattle.std.specs.List.{AllPass, after_last, list_all, list_any, suffix_len}
 use Rattle.std.specs.Result.{result_unwrap_or}
 use Rattle.memchr.specs.Find.{IsLastByte, is_byte}
-use Rattle.hex.proofs.HexLemmas.{decode_of-even, decode_of-ok}
-use Rattle.hex.specs.Hex.{decode_of, decode_pairs, digit_or_error, encode_lower, encode_with, hex_digit_value, lower_digits, pair_value, value_at, ◌>>=◌}
+use Rattle.hex.proofs.HexLemmas.{decode_of-digits, decode_of-even, decode_of-ok}
+use Rattle.hex.specs.Hex.{is_hex_digit, decode_of, decode_pairs, digit_or_error, encode_lower, encode_with, hex_digit_value, lower_digits, pair_value, value_at, ◌>>=◌}
 use Rattle.hex.specs.declared.error.FromHexError.{FromHexError}
 use Rattle.hex.specs.declared.error.FromHexError.TheVariants.{OutOfMemory}
 use Rattle.lsl_text.specs.declared.Refusal.{Refusal}
 use Rattle.lsl_text.specs.declared.Refusal.TheVariants.{Fault, NoMemory}
+use Rattle.lsl_lines.specs.Frozen.{HasFrozenLine, IsFrozen, is_lower_digit}
 use Rattle.lsl_text.specs.Place.{is_line_feed}
 
 abbrev pub upper : List ℕ → Bool
@@ -116,11 +118,33 @@ pub wants_memory : (s bytes : List ℕ) (fault : FromHexError) → (fault ≡ Ou
 wants_memory s bytes fault (inl e) h = e
 wants_memory s bytes fault (inr e) h = absurd (cc (e, h))
 
+-- digits that are no letters in upper case are bytes in hexadecimal
+lower_is_digit : (c : ℕ) → is_lower_digit c ≡ true → (is_hex_digit c ≡ true) × (is_ascii_uppercase c ≡ false)
+lower_is_digit c h = (grind arith, grind arith)
+
+lower_digits_are : (s : List ℕ) → list_all is_lower_digit s ≡ true → AllPass is_hex_digit s × (upper s ≡ false)
+lower_digits_are [] h = (All-nil (λ c. is_hex_digit c ≡ true), refl)
+lower_digits_are (c ∷ s) h =
+    let parts = and_parts (is_lower_digit c) (list_all is_lower_digit s) h in
+    let first = lower_is_digit c parts.0 in
+    let rest = lower_digits_are s parts.1 in
+    (All-cons (λ c. is_hex_digit c ≡ true) c s first.0 rest.0, ap (λ u. u || upper s) first.1 ∙ rest.1)
+
+pub frozen_line_is : (text : List ℕ) → HasFrozenLine text → (bytes : List ℕ) × IsFrozen text bytes
+frozen_line_is text h =
+    let tests = lower_digits_are h.digits h.lower in
+    let read = decode_of-digits h.digits h.even tests.0 in
+    let same = decoded h.digits read.0 read.1 tests.1 in
+    let fits = (decode_of-ok h.digits read.0 read.1).3 in
+    (read.0, record { short = h.short; line = h.line ∙ ap (λ d. codes "frozen " ++ d) (sym same); fits = fits })
+
 -- what would give a value if it had any is refused for want of memory, or has none
-pub refused_of : {V F : Type 0} (P : List ℕ → V → Type 0) (r : Result V (Refusal F)) (E : List ℕ → Type 0) → ((bytes : List ℕ) → E bytes → MatchResult r (P bytes) (λ refusal. refusal ≡ NoMemory)) → IfErr r (λ refusal. (refusal ≡ NoMemory) ⊎ ((bytes : List ℕ) → ¬ (E bytes)))
-refused_of P (Ok v) E h = tt
-refused_of P (Err NoMemory) E h = inl refl
-refused_of P (Err (Fault fault)) E h = inr (λ bytes e. absurd (cc (h bytes e)))
+pub refused_of : {V F H : Type 0} (P : List ℕ → V → Type 0) (r : Result V (Refusal F)) (E : List ℕ → Type 0)
+    → ((bytes : List ℕ) → E bytes → MatchResult r (P bytes) (λ refusal. refusal ≡ NoMemory))
+    → (H → (bytes : List ℕ) × E bytes) → IfErr r (λ refusal. (refusal ≡ NoMemory) ⊎ (¬ H))
+refused_of P (Ok v) E h has = tt
+refused_of P (Err NoMemory) E h has = inl refl
+refused_of P (Err (Fault fault)) E h has = inr (λ holds. let found = has holds in absurd (cc (h found.0 found.1)))
 
 -- ---- what stands behind the last line feed
 

@@ -8,7 +8,7 @@ ghost use Rattle.hex.specs.Hex.{IsBytes, encode_lower};
 ghost use Rattle.hex.specs.declared.error.FromHexError.TheVariants.{OutOfMemory};
 ghost use Rattle.lsl_text.specs.Place.{is_line_feed};
 ghost use Rattle.lsl_text.specs.declared.Refusal.TheVariants.{NoMemory as WantsMemory};
-ghost use Rattle.lsl_lines.specs.Frozen.{IsFrozen, frozen_line, last_line};
+ghost use Rattle.lsl_lines.specs.Frozen.{HasFrozenLine, IsFrozen, frozen_line, last_line};
 
 use hex::{FromHexError, encode};
 use lsl_text::{NoMemory, Refusal};
@@ -57,8 +57,7 @@ pub fn take_frozen(alloc: Global, text: &[u8]) -> Result<Vec<u8>, Refusal<NotFro
     ensures found { IfOk result (λ bytes. IsFrozen text.now bytes.items) }
     ensures every { (bytes : List ℕ) → IsFrozen text.now bytes
         → MatchResult result (λ found. found.items ≡ bytes) (λ refusal. refusal ≡ WantsMemory) }
-    ensures refused { IfErr result (λ refusal.
-        (refusal ≡ WantsMemory) ⊎ ((bytes : List ℕ) → ¬ IsFrozen text.now bytes)) }
+    ensures refused { IfErr result (λ refusal. (refusal ≡ WantsMemory) ⊎ (¬ HasFrozenLine text.now)) }
 {
     if text.len() > MAX_FROZEN_TEXT {
         return Err(Refusal::Fault(NotFrozen));
