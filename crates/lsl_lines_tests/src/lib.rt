@@ -6,6 +6,8 @@ mod bad_forms;
 #[cfg(test)]
 mod bad_worlds;
 #[cfg(test)]
+mod frozen;
+#[cfg(test)]
 mod good_worlds;
 #[cfg(test)]
 mod journal;
