@@ -1,5 +1,5 @@
-//! World files and journals: every text is the file of a world, or is refused at its first fault; and every
-//! entry of a journal has its line.
+//! World files and journals: every text is the file of a world, or is refused at its first fault; every entry
+//! of a journal has its line, and so has a frozen world.
 //!
 //! A file has lines, a line has words, and the first word says what the others are. Objects with their prims
 //! and scripts come first, then `begin`, the steps, and `end`.
