@@ -83,8 +83,10 @@ encoded i (a ∷ b ∷ rest) bytes h low =
     let byte : p1.0 * 16 + p2.0 ≡ p0.0 = ap (λ r. result_unwrap_or r 0) p2.2 in
     let high : p0.0 / 16 ≡ p1.0 = omega (arith, byte, small_digit b p2.0 vb) in
     let down : p0.0 % 16 ≡ p2.0 = omega (arith, byte, small_digit b p2.0 vb) in
-    let first : slice_index lower_digits (p0.0 / 16) ≡ a = ap (slice_index lower_digits) high ∙ lower_digit a p1.0 va l0.0 in
-    let second : slice_index lower_digits (p0.0 % 16) ≡ b = ap (slice_index lower_digits) down ∙ lower_digit b p2.0 vb l1.0 in
+    let first : slice_index lower_digits (p0.0 / 16) ≡ a =
+    ap (slice_index lower_digits) high ∙ lower_digit a p1.0 va l0.0 in
+    let second : slice_index lower_digits (p0.0 % 16) ≡ b =
+    ap (slice_index lower_digits) down ∙ lower_digit b p2.0 vb l1.0 in
     ap encode_lower (sym e)
     ∙ ap (λ c. c ∷ slice_index lower_digits (p0.0 % 16) ∷ encode_lower p3.0) first
     ∙ ap (λ c. a ∷ c ∷ encode_lower p3.0) second
@@ -107,14 +109,16 @@ pub encode_lower-lower : (bytes : List ℕ) → upper (encode_lower bytes) ≡ f
 unfolding encode_with
 encode_lower-lower [] = refl
 encode_lower-lower (b ∷ bytes) =
-    ap (λ u. u || (is_ascii_uppercase (slice_index lower_digits (b % 16)) || upper (encode_lower bytes))) (lower_table (b / 16))
+    ap (λ u. u || (is_ascii_uppercase (slice_index lower_digits (b % 16)) || upper (encode_lower bytes)))
+    (lower_table (b / 16))
     ∙ ap (λ u. u || upper (encode_lower bytes)) (lower_table (b % 16))
     ∙ encode_lower-lower bytes
 
 -- ---- refusals
 
 -- digits of bytes are refused for want of memory alone
-pub wants_memory : (s bytes : List ℕ) (fault : FromHexError) → (fault ≡ OutOfMemory) ⊎ (decode_of s ≡ Err fault) → decode_of s ≡ Ok bytes → fault ≡ OutOfMemory
+pub wants_memory : (s bytes : List ℕ) (fault : FromHexError) → (fault ≡ OutOfMemory) ⊎ (decode_of s ≡ Err fault)
+    → decode_of s ≡ Ok bytes → fault ≡ OutOfMemory
 wants_memory s bytes fault (inl e) h = e
 wants_memory s bytes fault (inr e) h = absurd (cc (e, h))
 
@@ -157,15 +161,22 @@ no_feed b h = go (b == 10) refl
 
 pub behind_none : (text : List ℕ) → IsLastByte (is_byte 10) text None → after_last is_line_feed text ≡ text
 behind_none text h =
-    let size : suffix_len (λ b. not (is_line_feed b)) text ≡ length text - 0 = suffix_len_is (λ b. not (is_line_feed b)) text 0 0 (omega arith) (λ k low within. no_feed (slice_index text k) (h k low within)) (λ some. absurd (omega (arith, some))) in
+    let size : suffix_len (λ b. not (is_line_feed b)) text ≡ length text - 0 =
+    suffix_len_is (λ b. not (is_line_feed b)) text 0 0 (omega arith)
+    (λ k low within. no_feed (slice_index text k) (h k low within)) (λ some. absurd (omega (arith, some)))
+    in
     let whole : length text - suffix_len (λ b. not (is_line_feed b)) text ≡ 0 = omega (arith, size) in
     ap (λ n. drop n text) whole
 
-pub behind_some : (text : List ℕ) (k : ℕ) → IsLastByte (is_byte 10) text (Some k) → after_last is_line_feed text ≡ drop (k + 1) text
+pub behind_some : (text : List ℕ) (k : ℕ) → IsLastByte (is_byte 10) text (Some k)
+    → after_last is_line_feed text ≡ drop (k + 1) text
 behind_some text k h =
-    let size : suffix_len (λ b. not (is_line_feed b)) text ≡ length text - (k + 1) = suffix_len_is (λ b. not (is_line_feed b)) text (k + 1) 0 (omega (arith, h.0.high)) (λ j low within. no_feed (slice_index text j) (h.0.after j low within)) (λ some. stops) in
+    let size : suffix_len (λ b. not (is_line_feed b)) text ≡ length text - (k + 1) =
+    suffix_len_is (λ b. not (is_line_feed b)) text (k + 1) 0 (omega (arith, h.0.high))
+    (λ j low within. no_feed (slice_index text j) (h.0.after j low within)) (λ some. stops) in
     let next : length text - suffix_len (λ b. not (is_line_feed b)) text ≡ k + 1 = omega (arith, size, h.0.high) in
     ap (λ n. drop n text) next
   where
     stops : not (is_line_feed (slice_index text (k + 1 - 1))) ≡ false
-    stops = let same : k + 1 - 1 ≡ k = omega arith in ap (λ j. not (is_line_feed (slice_index text j))) same ∙ ap not h.1
+    stops = let same : k + 1 - 1 ≡ k = omega arith in
+        ap (λ j. not (is_line_feed (slice_index text j))) same ∙ ap not h.1
