@@ -57,7 +57,7 @@ impl Listens {
         Ok(listens)
     }
 
-    /// The number of the next listen, or one before it. Takes no memory.
+    /// The number from which on the next listen's is looked for. Takes no memory.
     pub fn next(&self) -> i32
         ensures { result ≡ self.now.next }
     {
