@@ -1,4 +1,4 @@
-//! Tests of what waits for a script and of scripts at rest, by tables whose values come from outside.
+//! Tests of what waits for a script, by tables whose values come from outside.
 #![tactic(auto)]
 
 #[cfg(test)]
@@ -7,8 +7,6 @@ mod events;
 mod hearing;
 #[cfg(test)]
 mod listens;
-#[cfg(test)]
-mod posting;
 #[cfg(test)]
 mod queues;
 #[cfg(test)]

@@ -1,6 +1,6 @@
 //! Queues about their greatest length.
 
-use crate::events::{number, timer, touch};
+use crate::events::{number, touch};
 use lsl_post::Queue;
 use std::alloc::Global;
 use std::test::Fail;
@@ -32,43 +32,5 @@ fn sixty_four_wait(rt: HostRuntime) -> Result<(), Fail> {
         let first = queue.take().ok_or("an event")?;
         assert_eq!(rt; number(&first), if count == 0 { 99 } else { 1 }, "{count}");
     }
-    Ok(())
-}
-
-#[test]
-fn events_leave_in_order(rt: HostRuntime) -> Result<(), Fail> {
-    let mut queue = filled(rt.alloc(), 64)?;
-    for turn in 0..100 {
-        let first = queue.take().ok_or("an event")?;
-        assert_eq!(rt; number(&first), turn + 1);
-        assert!(rt; queue.put(touch(rt.alloc(), turn + 65)?).is_none());
-    }
-    let mut copied = queue.copy(rt.alloc())?;
-    assert_eq!(rt; copied.clear(), 64);
-    assert_eq!(rt; copied.count(), 0);
-    assert!(rt; copied.take().is_none());
-    assert_eq!(rt; queue.count(), 64);
-    if queue.count() > 63 {
-        assert_eq!(rt; number(queue.event(63)), 164);
-    }
-    Ok(())
-}
-
-#[test]
-fn timer_events_are_seen(rt: HostRuntime) -> Result<(), Fail> {
-    let mut queue = filled(rt.alloc(), 2)?;
-    assert!(rt; !queue.has_timer());
-    assert!(rt; queue.put(timer(rt.alloc())).is_none());
-    assert!(rt;
-        queue.put(timer(rt.alloc())).is_none(),
-        "a queue may have two"
-    );
-    for _ in 0..3 {
-        assert!(rt; queue.has_timer());
-        assert!(rt; queue.take().is_some());
-    }
-    assert!(rt; queue.has_timer());
-    assert!(rt; queue.take().is_some());
-    assert!(rt; !queue.has_timer());
     Ok(())
 }
