@@ -1,0 +1,28 @@
+-- What an image stands for is one thing, and an image has no fault.
+use Rattle.std.specs.Prelude.{◌≡◌, List, ℕ}
+use Rattle.lsl_code.specs.declared.units.Unit.{Unit as Code}
+use Rattle.lsl_image.specs.declared.faults.ImageFault.{ImageFault}
+use Rattle.lsl_image.specs.declared.parts.ObjectParts.{ObjectParts}
+use Rattle.lsl_image.specs.declared.parts.Shape.{Shape}
+use Rattle.lsl_image.specs.declared.parts.WorldParts.{WorldParts}
+use Rattle.lsl_image.specs.Images.{ObjectFirst, ObjectImage, WorldFirst, WorldImage}
+
+abbrev pub ObjectsAreOne : Type 0
+ObjectsAreOne =
+    (region : List ℕ) (shape : Shape) (library : List Code) (bytes : List ℕ) (a b : ObjectParts) →
+    ObjectImage region shape library a bytes → ObjectImage region shape library b bytes → a ≡ b
+
+abbrev pub ObjectsHaveNoFault : Type 0
+ObjectsHaveNoFault =
+    (region : List ℕ) (shape : Shape) (library : List Code) (bytes : List ℕ) (a : ObjectParts) (fault : ImageFault) →
+    ObjectImage region shape library a bytes → ObjectFirst region shape library bytes fault → ⊥
+
+abbrev pub WorldsAreOne : Type 0
+WorldsAreOne =
+    (shapes : List Shape) (library : List Code) (bytes : List ℕ) (a b : WorldParts) →
+    WorldImage shapes library a bytes → WorldImage shapes library b bytes → a ≡ b
+
+abbrev pub WorldsHaveNoFault : Type 0
+WorldsHaveNoFault =
+    (shapes : List Shape) (library : List Code) (bytes : List ℕ) (a : WorldParts) (fault : ImageFault) →
+    WorldImage shapes library a bytes → WorldFirst shapes library bytes fault → ⊥

@@ -1,0 +1,90 @@
+-- The layout of an object's image.
+use Rattle.std.specs.Prelude.{ℕ, zero, suc, ◌+◌, ◌*◌, ◌==◌, Bool, true, not, ◌&&◌, nat_le, nat_lt, if◌then◌else◌, List, [], ◌∷◌, ◌++◌, length, map, Option, Some, None, slice_get, codes, sum_by}
+use Rattle.std.specs.Char.{digit_value}
+use Rattle.std.specs.Cmp.Lexicographic.{slice_cmp}
+use Rattle.std.specs.List.{filter as kept}
+use Rattle.std.specs.Ordering.{is_lt, nat_cmp}
+use Rattle.std.specs.Str.{bytes_eq, encode_utf8_all}
+use Rattle.lsl_code.specs.declared.units.Unit.{Unit as Code}
+use Rattle.lsl_post.specs.declared.parts.Pair.{Pair}
+use Rattle.lsl_post.specs.declared.parts.ScriptParts.{ScriptParts}
+use Rattle.lsl_image.specs.declared.faults.ImageFault.TheVariants.{Body, Version}
+use Rattle.lsl_image.specs.declared.parts.ObjectParts.{ObjectParts}
+use Rattle.lsl_image.specs.declared.parts.Shape.{Shape}
+use Rattle.lsl_image.specs.Layout.{Layout, Bytes, Ends, Refused, U8, U16, U64, TextForm, ◌>>=◌, each, field, field_that, grown, here, repeated, tested}
+use Rattle.lsl_image.specs.Rest.{script}
+
+-- two digits of sixteen a byte
+abbrev pub paired : List ℕ → List ℕ
+paired [] = []
+paired (a ∷ []) = []
+paired (a ∷ b ∷ digits) = (a * 16 + b) ∷ paired digits
+
+-- the 16 bytes of a key
+abbrev pub key_bytes : List ℕ → List ℕ
+key_bytes key = paired (map digit_value (kept (λ c. not (c == 45)) key))
+
+abbrev pub is_above : List ℕ → List Pair → Bool
+is_above name [] = true
+is_above name (last ∷ []) = is_lt (slice_cmp nat_cmp (encode_utf8_all last.name) (encode_utf8_all name))
+is_above name (pair ∷ next ∷ pairs) = is_above name (next ∷ pairs)
+
+abbrev pub pair_bytes : Pair → ℕ
+pair_bytes pair = length (encode_utf8_all pair.name) + length (encode_utf8_all pair.value)
+
+-- how many bytes the texts of a store have at most
+abbrev pub most_store_bytes : ℕ
+most_store_bytes = 65536
+
+-- a pair behind these: both texts are there, the name is above the last one, and all the texts find room
+abbrev pub pair_behind : List Pair → Layout Pair
+pair_behind before = do
+  place ← here
+  name ← field TextForm
+  named ← tested (nat_lt 0 (length name) && is_above name before) place name
+  value ← field TextForm
+  tested (nat_lt 0 (length value) && nat_le (sum_by pair_bytes (before ++ record { name = name; value = value } ∷ [])) most_store_bytes) place
+      (record { name = name; value = value })
+
+-- version 1 has no store
+abbrev pub store : ℕ → Layout (List Pair)
+store version = if version == 1 then Ends [] else (field U16 >>= λ count. grown count pair_behind [])
+
+abbrev pub script_of : ℕ → ℕ → Option Code → Layout ScriptParts
+script_of version number None = here >>= λ place. Refused (Body place)
+script_of version number (Some unit) = script version number unit
+
+-- an object's own part of an image
+abbrev pub body : ℕ → Shape → List Code → Layout ObjectParts
+body version shape library = do
+  key ← field_that (Bytes 16) (λ key. bytes_eq key (key_bytes shape.key))
+  prims ← field_that U8 (λ n. n == shape.prims)
+  names ← repeated shape.prims (field TextForm)
+  count ← field_that U16 (λ n. n == length shape.units)
+  scripts ← each (λ number. script_of version number (slice_get library number)) shape.units
+  pairs ← store version
+  Ends (record { key = shape.key; names = names; scripts = scripts; store = pairs })
+
+-- what an image begins with: its letters, a version that is known, and its size
+abbrev pub head : List ℕ → Layout ℕ
+head letters = do
+  magic ← field_that (Bytes 4) (λ found. bytes_eq found letters)
+  version ← field U16
+  known ← (if nat_le 1 version && nat_le version 2 then Ends version else Refused (Version version))
+  size ← field U64
+  Ends known
+
+-- version 2 names the region that sends the object
+abbrev pub sender : ℕ → List ℕ → Layout (List ℕ)
+sender version region = if version == 1 then Ends region else field_that TextForm (bytes_eq region)
+
+-- the layout ends where the digest begins
+abbrev pub up_to : {A : Type 0} → ℕ → A → Layout A
+up_to end a = here >>= λ place. tested (place == end) place a
+
+abbrev pub object : List ℕ → Shape → List Code → ℕ → Layout ObjectParts
+object region shape library end = do
+  version ← head (codes "LSLO")
+  from ← sender version region
+  parts ← body version shape library
+  up_to end parts

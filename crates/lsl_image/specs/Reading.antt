@@ -1,0 +1,30 @@
+-- What bytes of a layout stand for, and what is wrong with other bytes.
+use Rattle.std.specs.Prelude.{◌≡◌, ℕ, List, ◌⊎◌}
+use Rattle.lsl_bytes.specs.Places.{StandsAt}
+use Rattle.lsl_image.specs.declared.faults.ImageFault.{ImageFault}
+use Rattle.lsl_image.specs.declared.faults.ImageFault.TheVariants.{Body}
+use Rattle.lsl_image.specs.Layout.{Content, Fits, Form, Layout, Ends, Refused, Here, Field, bytes_of}
+
+-- this stands in a field of the form at the place, which ends before the next one
+abbrev pub Stands : List ℕ → ℕ → (form : Form) → Content form → ℕ → Type 0
+Stands bytes place form content next = Fits form content × StandsAt bytes place (bytes_of form content) next
+
+-- the bytes from the place up to the end are of the layout, and stand for this
+abbrev pub Gives : {A : Type 0} → List ℕ → Layout A → ℕ → A → ℕ → Type 0
+Gives bytes (Ends b) place a end = (a ≡ b) × (end ≡ place)
+Gives bytes (Refused fault) place a end = ⊥
+Gives bytes (Here next) place a end = Gives bytes (next place) place a end
+Gives bytes (Field form next) place a end =
+    (content : Content form) × (behind : ℕ) × Stands bytes place form content behind
+    × Gives bytes (next content) behind a end
+
+-- the bytes from the place on are of no such layout, and this is the first thing that is wrong: the fault of a test, or a
+-- place where no field of the form stands
+abbrev pub Faults : {A : Type 0} → List ℕ → Layout A → ℕ → ImageFault → Type 0
+Faults bytes (Ends b) place fault = ⊥
+Faults bytes (Refused wrong) place fault = fault ≡ wrong
+Faults bytes (Here next) place fault = Faults bytes (next place) place fault
+Faults bytes (Field form next) place fault =
+    (((content : Content form) (behind : ℕ) → Stands bytes place form content behind → ⊥) × (fault ≡ Body place))
+    ⊎ ((content : Content form) × (behind : ℕ) × Stands bytes place form content behind
+    × Faults bytes (next content) behind fault)

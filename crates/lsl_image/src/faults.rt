@@ -1,0 +1,18 @@
+//! What is wrong with bytes that are no image.
+
+/// Why bytes are no image, the first fault in the order of the tests.
+#[derive(Clone, Copy, Debug, PartialEq, Eq)]
+pub enum ImageFault {
+    /// There are this many bytes, and that many are wanted.
+    Size { found: u64, wanted: u64 },
+    /// The bytes have this digest, and that one stands behind them.
+    Digest { found: [u8; 32], wanted: [u8; 32] },
+    /// The image has a version that isn't known.
+    Version(u16),
+    /// A script has this digest, and its unit that one.
+    WrongCode { found: [u8; 32], wanted: [u8; 32] },
+    /// The field that begins at this place can't be.
+    Body(u64),
+    /// The text of a frozen world has no image.
+    NotFrozen,
+}

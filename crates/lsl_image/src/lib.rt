@@ -1,0 +1,10 @@
+//! Objects and worlds as images: byte lists that hold all that a script in flight needs to go on elsewhere.
+#![tactic(auto)]
+
+mod faults;
+mod laws;
+mod parts;
+
+pub use crate::faults::ImageFault;
+pub use crate::laws::{images_are_of_one, images_have_no_fault};
+pub use crate::parts::{ObjectParts, Pairs, Placed, Shape, Shapes, WorldParts};
