@@ -1,4 +1,4 @@
--- What an image stands for is one thing, and an image has no fault.
+-- What an image stands for is one thing, an image has no fault, and other bytes have one first fault.
 use Rattle.std.specs.Prelude.{◌≡◌, List, ℕ}
 use Rattle.lsl_code.specs.declared.units.Unit.{Unit as Code}
 use Rattle.lsl_image.specs.declared.faults.ImageFault.{ImageFault}
@@ -26,3 +26,13 @@ abbrev pub WorldsHaveNoFault : Type 0
 WorldsHaveNoFault =
     (shapes : List Shape) (library : List Code) (bytes : List ℕ) (a : WorldParts) (fault : ImageFault) →
     WorldImage shapes library a bytes → WorldFirst shapes library bytes fault → ⊥
+
+abbrev pub ObjectFaultsAreOne : Type 0
+ObjectFaultsAreOne =
+    (region : List ℕ) (shape : Shape) (library : List Code) (bytes : List ℕ) (a b : ImageFault) →
+    ObjectFirst region shape library bytes a → ObjectFirst region shape library bytes b → a ≡ b
+
+abbrev pub WorldFaultsAreOne : Type 0
+WorldFaultsAreOne =
+    (shapes : List Shape) (library : List Code) (bytes : List ℕ) (a b : ImageFault) →
+    WorldFirst shapes library bytes a → WorldFirst shapes library bytes b → a ≡ b

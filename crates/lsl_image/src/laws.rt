@@ -1,6 +1,6 @@
 //! Laws of images. Each law is a function whose clause is the law; it does nothing.
 
-ghost use Rattle.lsl_image.specs.Laws.{ObjectsAreOne, ObjectsHaveNoFault, WorldsAreOne, WorldsHaveNoFault};
+ghost use Rattle.lsl_image.specs.Laws.{ObjectFaultsAreOne, ObjectsAreOne, ObjectsHaveNoFault, WorldFaultsAreOne, WorldsAreOne, WorldsHaveNoFault};
 
 /// The bytes of an image stand for one thing.
 pub fn images_are_of_one()
@@ -12,4 +12,10 @@ pub fn images_are_of_one()
 pub fn images_have_no_fault()
     ensures objects { ObjectsHaveNoFault }
     ensures worlds { WorldsHaveNoFault }
+{}
+
+/// Bytes have one first fault at most.
+pub fn first_faults_are_one()
+    ensures objects { ObjectFaultsAreOne }
+    ensures worlds { WorldFaultsAreOne }
 {}
