@@ -1,2 +1,3 @@
-pub mod LayoutLemmas
 pub mod ImageLemmas
+pub mod LayoutLemmas
+pub mod SpellingLemmas

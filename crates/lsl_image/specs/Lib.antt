@@ -1,8 +1,10 @@
 pub mod Images
-pub mod Layout
 pub mod Laws
+pub mod Layout
 pub mod Object
 pub mod Reading
 pub mod Rest
 pub mod Script
+pub mod Spelling
+pub mod SpellingLaws
 pub mod World

@@ -1,5 +1,9 @@
 //! Laws of images. Each law is a function whose clause is the law; it does nothing.
 
+ghost use Rattle.lsl_image.specs.declared.parts.ObjectParts.{ObjectParts};
+ghost use Rattle.lsl_image.specs.declared.parts.WorldParts.{WorldParts};
+ghost use Rattle.lsl_image.specs.Layout.{Layout};
+ghost use Rattle.lsl_image.specs.SpellingLaws.{IsReadAsSpelled, IsSpelledAsRead};
 ghost use Rattle.lsl_image.specs.Laws.{ObjectFaultsAreOne, ObjectsAreOne, ObjectsHaveNoFault, WorldFaultsAreOne, WorldsAreOne, WorldsHaveNoFault};
 
 /// The bytes of an image stand for one thing.
@@ -18,4 +22,10 @@ pub fn images_have_no_fault()
 pub fn first_faults_are_one()
     ensures objects { ObjectFaultsAreOne }
     ensures worlds { WorldFaultsAreOne }
+{}
+
+/// What is spelled is read, and what is read is spelled.
+pub fn spelled_and_read()
+    ensures objects { (layout : Layout ObjectParts) → IsReadAsSpelled layout × IsSpelledAsRead layout }
+    ensures worlds { (layout : Layout WorldParts) → IsReadAsSpelled layout × IsSpelledAsRead layout }
 {}

@@ -6,5 +6,7 @@ mod laws;
 mod parts;
 
 pub use crate::faults::ImageFault;
-pub use crate::laws::{first_faults_are_one, images_are_of_one, images_have_no_fault};
+pub use crate::laws::{
+    first_faults_are_one, images_are_of_one, images_have_no_fault, spelled_and_read,
+};
 pub use crate::parts::{ObjectParts, Pairs, Placed, Shape, Shapes, WorldParts};
