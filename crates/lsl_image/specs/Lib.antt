@@ -1,3 +1,4 @@
+pub mod Examples
 pub mod Images
 pub mod Laws
 pub mod Layout

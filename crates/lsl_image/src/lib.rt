@@ -1,10 +1,12 @@
 //! Objects and worlds as images: byte lists that hold all that a script in flight needs to go on elsewhere.
 #![tactic(auto)]
 
+mod examples;
 mod faults;
 mod laws;
 mod parts;
 
+pub use crate::examples::world_without_objects;
 pub use crate::faults::ImageFault;
 pub use crate::laws::{
     first_faults_are_one, images_are_of_one, images_have_no_fault, spelled_and_read,
