@@ -6,7 +6,7 @@ mod faults;
 mod laws;
 mod parts;
 
-pub use crate::examples::world_without_objects;
+pub use crate::examples::{object_without_scripts, world_without_objects};
 pub use crate::faults::ImageFault;
 pub use crate::laws::{
     first_faults_are_one, images_are_of_one, images_have_no_fault, spelled_and_read,
