@@ -1,3 +1,4 @@
 pub mod ImageLemmas
 pub mod LayoutLemmas
+pub mod ReadingLemmas
 pub mod SpellingLemmas

@@ -1,5 +1,7 @@
 -- What bytes of a layout stand for, and what is wrong with other bytes.
-use Rattle.std.specs.Prelude.{◌≡◌, ℕ, List, ◌⊎◌}
+use Rattle.std.specs.Prelude.{◌≡◌, ℕ, List, ◌⊎◌, Result, Ok, Err}
+use Rattle.lsl_text.specs.declared.Refusal.{Refusal}
+use Rattle.lsl_text.specs.declared.Refusal.TheVariants.{Fault, NoMemory}
 use Rattle.lsl_bytes.specs.Places.{StandsAt}
 use Rattle.lsl_image.specs.declared.faults.ImageFault.{ImageFault}
 use Rattle.lsl_image.specs.declared.faults.ImageFault.TheVariants.{Body}
@@ -28,3 +30,10 @@ Faults bytes (Field form next) place fault =
     (((content : Content form) (behind : ℕ) → Stands bytes place form content behind → ⊥) × (fault ≡ Body place))
     ⊎ ((content : Content form) × (behind : ℕ) × Stands bytes place form content behind
     × Faults bytes (next content) behind fault)
+
+-- what a call answers that reads a layout at a place: what the bytes stand for and the place behind them, or the first
+-- fault, or want of memory
+abbrev pub Reads : {A : Type 0} → List ℕ → Layout A → ℕ → Result (A × ℕ) (Refusal ImageFault) → Type 0
+Reads bytes layout place (Ok (a, next)) = Gives bytes layout place a next
+Reads bytes layout place (Err (Fault fault)) = Faults bytes layout place fault
+Reads bytes layout place (Err NoMemory) = Unit {0}

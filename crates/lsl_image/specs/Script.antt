@@ -26,22 +26,28 @@ flag = field_that U8 (λ n. nat_le n 1)
 abbrev pub handles : Code → ℕ → EventId → Bool
 handles unit state id = is_some (handler_of unit.states state id)
 
--- the toucher, where the flag tells of one
-abbrev pub flagged_toucher : ℕ → Layout (Option Toucher)
-flagged_toucher zero = Ends None
-flagged_toucher (suc n) = do
+-- a toucher's key, name and prim
+abbrev pub told_toucher : Layout (Option Toucher)
+told_toucher = do
   key ← field TextForm
   name ← field TextForm
   link ← field I32
   Ends (Some (record { key = key; name = name; link = link }))
 
+-- the toucher, where the flag tells of one
+abbrev pub flagged_toucher : ℕ → Layout (Option Toucher)
+flagged_toucher zero = Ends None
+flagged_toucher (suc n) = told_toucher
+
+unfoldable pub toucher : Layout (Option Toucher)
+toucher = flag >>= flagged_toucher
+
 -- an event's arguments, a value for each parameter, and its toucher
 abbrev pub event_of : EventId → Layout Event
 event_of id = do
   args ← values_of (signature_of id)
-  flagged ← flag
-  toucher ← flagged_toucher flagged
-  Ends (record { id = id; args = args.values; toucher = toucher; fits = args.fits })
+  who ← toucher
+  Ends (record { id = id; args = args.values; toucher = who; fits = args.fits })
 
 -- the events are numbered from 1
 abbrev pub event_numbered : ℕ → Option EventId

@@ -3,8 +3,10 @@
 
 mod examples;
 mod faults;
+mod fields;
 mod laws;
 mod parts;
+mod toucher;
 
 pub use crate::examples::{object_without_scripts, world_without_objects};
 pub use crate::faults::ImageFault;
