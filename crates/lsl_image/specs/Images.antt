@@ -34,7 +34,8 @@ HasSize bytes = (46 ≤ length bytes) × NamesSize bytes (length bytes)
 -- there are too few bytes for any image, or another size is named
 abbrev pub WantsSize : List ℕ → ℕ → Type 0
 WantsSize bytes wanted =
-    ((length bytes < 46) × (wanted ≡ 46)) ⊎ ((46 ≤ length bytes) × NamesSize bytes wanted × (wanted ≢ length bytes))
+    ((length bytes < 46) × (wanted ≡ 46))
+    ⊎ ((46 ≤ length bytes) × NamesSize bytes wanted × (wanted ≢ length bytes))
 
 -- the bytes arrived as they were sent
 abbrev pub IsIntact : List ℕ → Type 0
@@ -44,16 +45,19 @@ IsIntact bytes = HasSize bytes × (digest_in bytes ≡ sha256 (covered bytes))
 abbrev pub IsImage : {A : Type 0} → (ℕ → Layout A) → List ℕ → A → Type 0
 IsImage layout bytes a = IsIntact bytes × Gives (covered bytes) (layout (digested bytes)) 0 a (digested bytes)
 
+-- the bytes arrived as they were sent, and this is the first fault of their fields
+abbrev pub IsFieldFault : {A : Type 0} → (ℕ → Layout A) → List ℕ → ImageFault → Type 0
+IsFieldFault layout bytes fault = IsIntact bytes × Faults (covered bytes) (layout (digested bytes)) 0 fault
+
 -- this is the first fault of bytes that are no image of this layout
 abbrev pub IsFirstFault : {A : Type 0} → (ℕ → Layout A) → List ℕ → ImageFault → Type 0
 IsFirstFault layout bytes (Size found wanted) = (found ≡ length bytes) × WantsSize bytes wanted
 IsFirstFault layout bytes (Digest found wanted) =
     HasSize bytes × (found ≡ sha256 (covered bytes)) × (wanted ≡ digest_in bytes) × (found ≢ wanted)
 IsFirstFault layout bytes NotFrozen = ⊥
-IsFirstFault layout bytes (Version n) = IsIntact bytes × Faults (covered bytes) (layout (digested bytes)) 0 (Version n)
-IsFirstFault layout bytes (WrongCode found wanted) =
-    IsIntact bytes × Faults (covered bytes) (layout (digested bytes)) 0 (WrongCode found wanted)
-IsFirstFault layout bytes (Body place) = IsIntact bytes × Faults (covered bytes) (layout (digested bytes)) 0 (Body place)
+IsFirstFault layout bytes (Version n) = IsFieldFault layout bytes (Version n)
+IsFirstFault layout bytes (WrongCode found wanted) = IsFieldFault layout bytes (WrongCode found wanted)
+IsFirstFault layout bytes (Body place) = IsFieldFault layout bytes (Body place)
 
 -- images of objects, read where the object is in this region, and of worlds
 abbrev pub ObjectImage : List ℕ → Shape → List Code → ObjectParts → List ℕ → Type 0

@@ -14,7 +14,8 @@ ObjectsAreOne =
 
 abbrev pub ObjectsHaveNoFault : Type 0
 ObjectsHaveNoFault =
-    (region : List ℕ) (shape : Shape) (library : List Code) (bytes : List ℕ) (a : ObjectParts) (fault : ImageFault) →
+    (region : List ℕ) (shape : Shape) (library : List Code) (bytes : List ℕ) (a : ObjectParts)
+    (fault : ImageFault) →
     ObjectImage region shape library a bytes → ObjectFirst region shape library bytes fault → ⊥
 
 abbrev pub WorldsAreOne : Type 0

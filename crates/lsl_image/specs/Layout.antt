@@ -1,5 +1,5 @@
--- Layouts: fields one behind another, where what stands in one may decide what comes next. One layout of an image tells
--- which bytes it is, what they stand for, and what the first fault of other bytes is.
+-- Layouts: fields one behind another, where what stands in one may decide what comes next. One layout of an image
+-- tells which bytes it is, what they stand for, and what the first fault of other bytes is.
 use Rattle.std.specs.Prelude.{◌≡◌, refl, ℕ, suc, zero, ℤ, Bool, true, false, ◌&&◌, if◌then◌else◌, List, [], ◌∷◌, ◌++◌, length}
 use Rattle.lsl_value.specs.Text.{IsText}
 use Rattle.lsl_value.specs.Values.{kind_of}
@@ -123,15 +123,18 @@ both false b first second = first
 abbrev pub no_values : Kinded []
 no_values = record { values = []; fits = refl }
 
-abbrev pub one_more : (kind : Kind) (kinds : List Kind) (value : Value) → same_kind (kind_of value) kind ≡ true → Kinded kinds → Kinded (kind ∷ kinds)
+abbrev pub one_more : (kind : Kind) (kinds : List Kind) (value : Value) → same_kind (kind_of value) kind ≡ true
+    → Kinded kinds → Kinded (kind ∷ kinds)
 one_more kind kinds value fits others = record {
   values = value ∷ others.values;
   fits = both (same_kind (kind_of value) kind) (same_kinds (kinds_of others.values) kinds) fits others.fits;
 }
 
 -- the value at this place, where its kind is the one that is due, before values of the other kinds
-abbrev pub kinded : (kind : Kind) (kinds : List Kind) (place : ℕ) (value : Value) (same : Bool) → same_kind (kind_of value) kind ≡ same → Layout (Kinded kinds) → Layout (Kinded (kind ∷ kinds))
-kinded kind kinds place value true fits others = others >>= λ values. Ends (one_more kind kinds value fits values)
+abbrev pub kinded : (kind : Kind) (kinds : List Kind) (place : ℕ) (value : Value) (same : Bool)
+    → same_kind (kind_of value) kind ≡ same → Layout (Kinded kinds) → Layout (Kinded (kind ∷ kinds))
+kinded kind kinds place value true fits others =
+    others >>= λ values. Ends (one_more kind kinds value fits values)
 kinded kind kinds place value false differs others = Refused (Body place)
 
 abbrev pub values_of : (kinds : List Kind) → Layout (Kinded kinds)

@@ -27,14 +27,20 @@ key_bytes key = paired (map digit_value (kept (λ c. not (c == 45)) key))
 abbrev pub is_above : List ℕ → List Pair → Bool
 is_above name [] = true
 is_above name (last ∷ []) = is_lt (slice_cmp nat_cmp (encode_utf8_all last.name) (encode_utf8_all name))
-is_above name (pair ∷ next ∷ pairs) = is_above name (next ∷ pairs)
+is_above name (first ∷ next ∷ pairs) = is_above name (next ∷ pairs)
 
 abbrev pub pair_bytes : Pair → ℕ
-pair_bytes pair = length (encode_utf8_all pair.name) + length (encode_utf8_all pair.value)
+pair_bytes p = length (encode_utf8_all p.name) + length (encode_utf8_all p.value)
 
 -- how many bytes the texts of a store have at most
 abbrev pub most_store_bytes : ℕ
 most_store_bytes = 65536
+
+abbrev pub finds_room : List Pair → Bool
+finds_room pairs = nat_le (sum_by pair_bytes pairs) most_store_bytes
+
+abbrev pub pair : List ℕ → List ℕ → Pair
+pair name value = record { name = name; value = value }
 
 -- a pair behind these: both texts are there, the name is above the last one, and all the texts find room
 abbrev pub pair_behind : List Pair → Layout Pair
@@ -43,8 +49,7 @@ pair_behind before = do
   name ← field TextForm
   named ← tested (nat_lt 0 (length name) && is_above name before) place name
   value ← field TextForm
-  tested (nat_lt 0 (length value) && nat_le (sum_by pair_bytes (before ++ record { name = name; value = value } ∷ [])) most_store_bytes) place
-      (record { name = name; value = value })
+  tested (nat_lt 0 (length value) && finds_room (before ++ pair name value ∷ [])) place (pair name value)
 
 -- version 1 has no store
 abbrev pub store : ℕ → Layout (List Pair)

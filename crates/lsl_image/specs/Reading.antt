@@ -11,6 +11,9 @@ use Rattle.lsl_image.specs.Layout.{Content, Fits, Form, Layout, Ends, Refused, H
 abbrev pub Stands : List ℕ → ℕ → (form : Form) → Content form → ℕ → Type 0
 Stands bytes place form content next = Fits form content × StandsAt bytes place (bytes_of form content) next
 
+abbrev pub StandsNone : List ℕ → ℕ → Form → Type 0
+StandsNone bytes place form = (content : Content form) (behind : ℕ) → Stands bytes place form content behind → ⊥
+
 -- the bytes from the place up to the end are of the layout, and stand for this
 abbrev pub Gives : {A : Type 0} → List ℕ → Layout A → ℕ → A → ℕ → Type 0
 Gives bytes (Ends b) place a end = (a ≡ b) × (end ≡ place)
@@ -20,19 +23,19 @@ Gives bytes (Field form next) place a end =
     (content : Content form) × (behind : ℕ) × Stands bytes place form content behind
     × Gives bytes (next content) behind a end
 
--- the bytes from the place on are of no such layout, and this is the first thing that is wrong: the fault of a test, or a
--- place where no field of the form stands
+-- the bytes from the place on are of no such layout, and this is the first thing that is wrong: the fault of a
+-- test, or a place where no field of the form stands
 abbrev pub Faults : {A : Type 0} → List ℕ → Layout A → ℕ → ImageFault → Type 0
 Faults bytes (Ends b) place fault = ⊥
 Faults bytes (Refused wrong) place fault = fault ≡ wrong
 Faults bytes (Here next) place fault = Faults bytes (next place) place fault
 Faults bytes (Field form next) place fault =
-    (((content : Content form) (behind : ℕ) → Stands bytes place form content behind → ⊥) × (fault ≡ Body place))
+    (StandsNone bytes place form × (fault ≡ Body place))
     ⊎ ((content : Content form) × (behind : ℕ) × Stands bytes place form content behind
     × Faults bytes (next content) behind fault)
 
--- what a call answers that reads a layout at a place: what the bytes stand for and the place behind them, or the first
--- fault, or want of memory
+-- what a call answers that reads a layout at a place: what the bytes stand for and the place behind them, or the
+-- first fault, or want of memory
 abbrev pub Reads : {A : Type 0} → List ℕ → Layout A → ℕ → Result (A × ℕ) (Refusal ImageFault) → Type 0
 Reads bytes layout place (Ok (a, next)) = Gives bytes layout place a next
 Reads bytes layout place (Err (Fault fault)) = Faults bytes layout place fault

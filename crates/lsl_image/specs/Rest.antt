@@ -25,8 +25,8 @@ use Rattle.lsl_image.specs.Script.{event_that, handles, leaving, limit, listens,
 -- the function that a frame behind these is a call of: that of the one before it, and none at the innermost
 abbrev pub callee_of : List Frame → Option ℕ
 callee_of [] = None
-callee_of (frame ∷ []) = Some frame.function
-callee_of (frame ∷ next ∷ frames) = callee_of (next ∷ frames)
+callee_of (last ∷ []) = Some last.function
+callee_of (first ∷ next ∷ frames) = callee_of (next ∷ frames)
 
 abbrev pub same_callee : Option ℕ → Option ℕ → Bool
 same_callee None None = true
@@ -38,18 +38,25 @@ abbrev pub is_number_of : Option ℕ → ℕ → Bool
 is_number_of None f = false
 is_number_of (Some g) f = nat_eq f g
 
+abbrev pub frame : ℕ → ℕ → List Value → Frame
+frame function number slots = record { function = function; point = number; slots = slots }
+
 -- the values of a point's map, where the point is there and is a tick or a call of this function
 abbrev pub frame_at : ℕ → ℕ → ℕ → Option ℕ → Option Point → Layout Frame
 frame_at place function number callee None = Refused (Body place)
 frame_at place function number callee (Some point) =
     if same_callee point.calls callee
-    then (values_of point.kinds >>= λ slots. Ends (record { function = function; point = number; slots = slots.values }))
+    then (values_of point.kinds >>= λ slots. Ends (frame function number slots.values))
     else Refused (Body place)
+
+-- more frames follow, or this is the handler's function
+abbrev pub ends_in : Option ℕ → Bool → ℕ → Bool
+ends_in handler more f = more || is_number_of handler f
 
 -- a frame behind these: the last of all is the handler's
 abbrev pub frame_behind : Code → Option ℕ → ℕ → List Frame → Layout Frame
 frame_behind unit handler count before = do
-  function ← field_that U16 (λ f. nat_lt f (length unit.functions) && (nat_lt (length before + 1) count || is_number_of handler f))
+  function ← field_that U16 (λ f. nat_lt f (length unit.functions) && ends_in handler (nat_lt (length before + 1) count) f)
   place ← here
   number ← field U16
   frame_at place function number (callee_of before) (point_of unit.functions function number)

@@ -65,7 +65,8 @@ event_that allowed = do
   number ← field U8
   allowed_event allowed place (event_numbered number)
 
--- the state that the script is leaving for, where the flag tells of one: the state has an exit, and leads to another
+-- the state that the script is leaving for, where the flag tells of one: the state has an exit, and the new one is
+-- another
 abbrev pub flagged_leaving : Code → ℕ → ℕ → ℕ → Layout (Option ℕ)
 flagged_leaving unit state place zero = Ends None
 flagged_leaving unit state place (suc n) =

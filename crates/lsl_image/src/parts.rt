@@ -7,8 +7,8 @@ use lsl_value::Text;
 /// The pairs of an object's store.
 pub type Pairs = Sequence<Pair>;
 
-/// What is known of an object before its image is read: its key, how many prims it has, and the numbers of its scripts'
-/// units.
+/// What is known of an object before its image is read: its key, how many prims it has, and the numbers of its
+/// scripts' units.
 #[derive(Debug, Drop)]
 pub struct Shape {
     pub key: Text,
