@@ -1,4 +1,7 @@
+pub mod EventLemmas
 pub mod ImageLemmas
+pub mod KindedLemmas
 pub mod LayoutLemmas
+pub mod LeadingLemmas
 pub mod ReadingLemmas
 pub mod SpellingLemmas

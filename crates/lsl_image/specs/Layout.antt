@@ -65,16 +65,16 @@ pub data Layout (A : Type 0) : Type 0 where
 
 -- one layout behind another
 infixl 10 ◌>>=◌
-abbrev pub ◌>>=◌ : {A B : Type 0} → Layout A → (A → Layout B) → Layout B
+unfoldable pub ◌>>=◌ : {A B : Type 0} → Layout A → (A → Layout B) → Layout B
 (Ends a) >>= more = more a
 (Refused fault) >>= more = Refused fault
 (Here next) >>= more = Here (λ place. next place >>= more)
 (Field form next) >>= more = Field form (λ content. next content >>= more)
 
-abbrev pub here : Layout ℕ
+unfoldable pub here : Layout ℕ
 here = Here (λ place. Ends place)
 
-abbrev pub field : (form : Form) → Layout (Content form)
+unfoldable pub field : (form : Form) → Layout (Content form)
 field form = Field form (λ content. Ends content)
 
 -- the field at this place can't be, where the test fails
@@ -82,34 +82,26 @@ abbrev pub tested : {A : Type 0} → Bool → ℕ → A → Layout A
 tested good place a = if good then Ends a else Refused (Body place)
 
 -- a field that passes the test
-abbrev pub field_that : (form : Form) → (Content form → Bool) → Layout (Content form)
-field_that form test = do
-  place ← here
-  content ← field form
-  tested (test content) place content
+unfoldable pub field_that : (form : Form) → (Content form → Bool) → Layout (Content form)
+field_that form test = Here (λ place. Field form (λ content. tested (test content) place content))
+
+-- so many behind these, each of which may depend on those before it
+unfoldable pub grown : {A : Type 0} → ℕ → (List A → Layout A) → List A → Layout (List A)
+grown zero layout before = Ends before
+grown (suc n) layout before = layout before >>= λ next. grown n layout (before ++ next ∷ [])
 
 -- so many of these, one behind another
 abbrev pub repeated : {A : Type 0} → ℕ → Layout A → Layout (List A)
-repeated zero layout = Ends []
-repeated (suc n) layout = do
-  first ← layout
-  others ← repeated n layout
-  Ends (first ∷ others)
+repeated n layout = grown n (λ before. layout) []
 
--- so many, each of which may depend on those before it
-abbrev pub grown : {A : Type 0} → ℕ → (List A → Layout A) → List A → Layout (List A)
-grown zero layout before = Ends before
-grown (suc n) layout before = do
-  next ← layout before
-  grown n layout (before ++ next ∷ [])
+-- one for each of these, behind others
+unfoldable pub each_behind : {X A : Type 0} → (X → Layout A) → List X → List A → Layout (List A)
+each_behind layout [] before = Ends before
+each_behind layout (x ∷ xs) before = layout x >>= λ next. each_behind layout xs (before ++ next ∷ [])
 
 -- one for each of these
 abbrev pub each : {X A : Type 0} → (X → Layout A) → List X → Layout (List A)
-each layout [] = Ends []
-each layout (x ∷ xs) = do
-  first ← layout x
-  others ← each layout xs
-  Ends (first ∷ others)
+each layout xs = each_behind layout xs []
 
 -- values of these kinds
 pub record Kinded (kinds : List Kind) : Type 0 where
@@ -137,9 +129,21 @@ kinded kind kinds place value true fits others =
     others >>= λ values. Ends (one_more kind kinds value fits values)
 kinded kind kinds place value false differs others = Refused (Body place)
 
-abbrev pub values_of : (kinds : List Kind) → Layout (Kinded kinds)
-values_of [] = Ends no_values
-values_of (kind ∷ kinds) = do
+-- a value of each of these kinds, with the proof that they have them
+unfoldable pub kinded_values : (kinds : List Kind) → Layout (Kinded kinds)
+kinded_values [] = Ends no_values
+kinded_values (kind ∷ kinds) = do
   place ← here
   value ← field ValueForm
-  kinded kind kinds place value (same_kind (kind_of value) kind) refl (values_of kinds)
+  kinded kind kinds place value (same_kind (kind_of value) kind) refl (kinded_values kinds)
+
+abbrev pub values_in : (kinds : List Kind) → Kinded kinds → Layout (List Value)
+values_in kinds those = Ends those.values
+
+-- a value of each of these kinds
+unfoldable pub values_of : List Kind → Layout (List Value)
+values_of kinds = kinded_values kinds >>= values_in kinds
+
+-- a value of this kind
+abbrev pub value_of : Kind → Layout Value
+value_of kind = field_that ValueForm (λ value. same_kind (kind_of value) kind)

@@ -43,7 +43,7 @@ abbrev pub pair : List ℕ → List ℕ → Pair
 pair name value = record { name = name; value = value }
 
 -- a pair behind these: both texts are there, the name is above the last one, and all the texts find room
-abbrev pub pair_behind : List Pair → Layout Pair
+unfoldable pub pair_behind : List Pair → Layout Pair
 pair_behind before = do
   place ← here
   name ← field TextForm
@@ -52,7 +52,7 @@ pair_behind before = do
   tested (nat_lt 0 (length value) && finds_room (before ++ pair name value ∷ [])) place (pair name value)
 
 -- version 1 has no store
-abbrev pub store : ℕ → Layout (List Pair)
+unfoldable pub store : ℕ → Layout (List Pair)
 store version = if version == 1 then Ends [] else (field U16 >>= λ count. grown count pair_behind [])
 
 abbrev pub script_of : ℕ → ℕ → Option Code → Layout ScriptParts
@@ -60,7 +60,7 @@ script_of version number None = here >>= λ place. Refused (Body place)
 script_of version number (Some unit) = script version number unit
 
 -- an object's own part of an image
-abbrev pub body : ℕ → Shape → List Code → Layout ObjectParts
+unfoldable pub body : ℕ → Shape → List Code → Layout ObjectParts
 body version shape library = do
   key ← field_that (Bytes 16) (λ key. bytes_eq key (key_bytes shape.key))
   prims ← field_that U8 (λ n. n == shape.prims)
@@ -71,7 +71,7 @@ body version shape library = do
   Ends (record { key = shape.key; names = names; scripts = scripts; store = pairs })
 
 -- what an image begins with: its letters, a version that is known, and its size
-abbrev pub head : List ℕ → Layout ℕ
+unfoldable pub head : List ℕ → Layout ℕ
 head letters = do
   magic ← field_that (Bytes 4) (λ found. bytes_eq found letters)
   version ← field U16
@@ -80,14 +80,14 @@ head letters = do
   Ends known
 
 -- version 2 names the region that sends the object
-abbrev pub sender : ℕ → List ℕ → Layout (List ℕ)
+unfoldable pub sender : ℕ → List ℕ → Layout (List ℕ)
 sender version region = if version == 1 then Ends region else field_that TextForm (bytes_eq region)
 
 -- the layout ends where the digest begins
 abbrev pub up_to : {A : Type 0} → ℕ → A → Layout A
 up_to end a = here >>= λ place. tested (place == end) place a
 
-abbrev pub object : List ℕ → Shape → List Code → ℕ → Layout ObjectParts
+unfoldable pub object : List ℕ → Shape → List Code → ℕ → Layout ObjectParts
 object region shape library end = do
   version ← head (codes "LSLO")
   from ← sender version region

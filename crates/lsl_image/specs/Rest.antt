@@ -1,8 +1,6 @@
 -- The layout of what a script rests in, and of all its parts.
 use Rattle.std.specs.Prelude.{ℕ, zero, suc, ◌+◌, ◌==◌, Bool, true, false, not, ◌&&◌, ◌||◌, nat_eq, nat_le, nat_lt, if◌then◌else◌, List, [], ◌∷◌, length, Option, Some, None, is_some}
 use Rattle.std.specs.Str.{bytes_eq}
-use Rattle.lsl_value.specs.declared.names.EventId.{EventId}
-use Rattle.lsl_value.specs.declared.names.EventId.TheVariants.{StateExit}
 use Rattle.lsl_value.specs.declared.tagged.Value.{Value}
 use Rattle.lsl_running.specs.declared.ends.Fault.{Fault}
 use Rattle.lsl_running.specs.declared.ends.Fault.TheVariants.{MathError, StackHeap, TooManyListens}
@@ -12,7 +10,7 @@ use Rattle.lsl_code.specs.declared.units.Unit.{Unit as Code}
 use Rattle.lsl_code.specs.Bodies.{point_of}
 use Rattle.lsl_code.specs.Frames.{parked_charge}
 use Rattle.lsl_code.specs.Kinds.{kinds_of}
-use Rattle.lsl_code.specs.Units.{handler_of, same_event}
+use Rattle.lsl_code.specs.Units.{handler_of}
 use Rattle.lsl_post.specs.declared.events.Event.{Event}
 use Rattle.lsl_post.specs.declared.parts.Rest.{Rest}
 use Rattle.lsl_post.specs.declared.parts.Rest.TheVariants.{Idle, Saved, Dead}
@@ -20,7 +18,7 @@ use Rattle.lsl_post.specs.declared.parts.ScriptParts.{ScriptParts}
 use Rattle.lsl_image.specs.declared.faults.ImageFault.{ImageFault}
 use Rattle.lsl_image.specs.declared.faults.ImageFault.TheVariants.{Body, WrongCode}
 use Rattle.lsl_image.specs.Layout.{Layout, Bytes, Ends, Refused, U8, U16, U64, ◌>>=◌, field, field_that, grown, here, tested, values_of}
-use Rattle.lsl_image.specs.Script.{event_that, handles, leaving, limit, listens, queue, timer}
+use Rattle.lsl_image.specs.Script.{event_in, leaving, limit, listens, queue, timer}
 
 -- the function that a frame behind these is a call of: that of the one before it, and none at the innermost
 abbrev pub callee_of : List Frame → Option ℕ
@@ -46,33 +44,33 @@ abbrev pub frame_at : ℕ → ℕ → ℕ → Option ℕ → Option Point → La
 frame_at place function number callee None = Refused (Body place)
 frame_at place function number callee (Some point) =
     if same_callee point.calls callee
-    then (values_of point.kinds >>= λ slots. Ends (frame function number slots.values))
+    then (values_of point.kinds >>= λ slots. Ends (frame function number slots))
     else Refused (Body place)
 
 -- more frames follow, or this is the handler's function
 abbrev pub ends_in : Option ℕ → Bool → ℕ → Bool
 ends_in handler more f = more || is_number_of handler f
 
--- a frame behind these: the last of all is the handler's
-abbrev pub frame_behind : Code → Option ℕ → ℕ → List Frame → Layout Frame
-frame_behind unit handler count before = do
-  function ← field_that U16 (λ f. nat_lt f (length unit.functions) && ends_in handler (nat_lt (length before + 1) count) f)
+-- a frame that calls this function, or none, where more follow or the handler's is the last
+unfoldable pub frame_in : Code → Option ℕ → Bool → Option ℕ → Layout Frame
+frame_in unit handler more callee = do
+  function ← field_that U16 (λ f. nat_lt f (length unit.functions) && ends_in handler more f)
   place ← here
   number ← field U16
-  frame_at place function number (callee_of before) (point_of unit.functions function number)
+  frame_at place function number callee (point_of unit.functions function number)
+
+-- a frame behind these
+abbrev pub frame_behind : Code → Option ℕ → ℕ → List Frame → Layout Frame
+frame_behind unit handler count before =
+    frame_in unit handler (nat_lt (length before + 1) count) (callee_of before)
 
 -- the frames of a handler, with a charge within the limit
-abbrev pub saved_calls : Code → List Value → ℕ → Option ℕ → Layout (List Frame)
+unfoldable pub saved_calls : Code → List Value → ℕ → Option ℕ → Layout (List Frame)
 saved_calls unit globals most handler = do
   place ← here
   count ← field_that U16 (λ n. nat_le 1 n)
   frames ← grown count (frame_behind unit handler count) []
   tested (nat_le (parked_charge globals frames) most) place frames
-
--- the event in hand: the state handles it, and it is an exit exactly where the script is leaving
-abbrev pub in_hand : Code → ℕ → Option ℕ → EventId → Bool
-in_hand unit state left id =
-    handles unit state id && (if is_some left then same_event id StateExit else not (same_event id StateExit))
 
 abbrev pub fault_numbered : ℕ → Fault
 fault_numbered zero = MathError
@@ -83,7 +81,7 @@ fault_numbered (suc (suc (suc n))) = TooManyListens
 abbrev pub rest_of : Code → ℕ → Option ℕ → List Value → ℕ → ℕ → Layout Rest
 rest_of unit state left globals most zero = Ends Idle
 rest_of unit state left globals most (suc zero) = do
-  event ← event_that (in_hand unit state left)
+  event ← event_in unit state (is_some left)
   frames ← saved_calls unit globals most (handler_of unit.states state event.id)
   Ends (Saved event frames)
 rest_of unit state left globals most (suc (suc n)) = do
@@ -91,19 +89,19 @@ rest_of unit state left globals most (suc (suc n)) = do
   Ends (Dead (fault_numbered number))
 
 -- idle, saved calls, or a fault
-abbrev pub rest : Code → ℕ → Option ℕ → List Value → ℕ → Layout Rest
+unfoldable pub rest : Code → ℕ → Option ℕ → List Value → ℕ → Layout Rest
 rest unit state left globals most = do
   kind ← field_that U8 (λ n. nat_le n 2)
   rest_of unit state left globals most kind
 
 -- the digest of the unit's text
-abbrev pub code_digest : Code → Layout (List ℕ)
+unfoldable pub code_digest : Code → Layout (List ℕ)
 code_digest unit = do
   digest ← field (Bytes 32)
   if bytes_eq digest unit.digest then Ends digest else Refused (WrongCode digest unit.digest)
 
 -- the parts of a script of this unit, which has this number
-abbrev pub script : ℕ → ℕ → Code → Layout ScriptParts
+unfoldable pub script : ℕ → ℕ → Code → Layout ScriptParts
 script version number unit = do
   digest ← code_digest unit
   state ← field_that U16 (λ n. nat_lt n (length unit.states))
@@ -114,10 +112,10 @@ script version number unit = do
   ticking ← timer
   wake ← field U64
   most ← limit version
-  resting ← rest unit state left globals.values most
+  resting ← rest unit state left globals most
   Ends (record {
     unit = number;
-    globals = globals.values;
+    globals = globals;
     limit = most;
     state = state;
     leaving = left;

@@ -1,5 +1,5 @@
 -- The layout of a script's parts.
-use Rattle.std.specs.Prelude.{◌≡◌, refl, ℕ, zero, suc, ◌==◌, Bool, true, false, not, ◌&&◌, ◌||◌, nat_le, nat_lt, if◌then◌else◌, List, [], length, map, Option, Some, None, is_some, slice_get}
+use Rattle.std.specs.Prelude.{◌≡◌, refl, ℕ, ℤ, zero, suc, ◌==◌, Bool, true, false, not, ◌&&◌, ◌||◌, nat_le, nat_lt, if◌then◌else◌, List, [], length, map, Option, Some, None, is_some, slice_get}
 use Rattle.std.specs.List.{list_any}
 use Rattle.std.specs.Str.{bytes_eq}
 use Rattle.lsl_value.specs.declared.names.EventId.{EventId}
@@ -10,6 +10,7 @@ use Rattle.lsl_code.specs.Kinds.{kinds_of}
 use Rattle.lsl_code.specs.Units.{handler_of, same_event}
 use Rattle.lsl_post.specs.declared.events.Event.{Event}
 use Rattle.lsl_post.specs.declared.events.Toucher.{Toucher}
+use Rattle.lsl_post.specs.declared.filters.Filter.{Filter}
 use Rattle.lsl_post.specs.declared.listen.Listen.{Listen}
 use Rattle.lsl_post.specs.declared.timer.Timer.{Timer}
 use Rattle.lsl_post.specs.Filters.{filter, same_filter}
@@ -17,17 +18,17 @@ use Rattle.lsl_post.specs.Listens.{Standing, filter_of, has_number, is_number, l
 use Rattle.lsl_post.specs.Queue.{most_events}
 use Rattle.lsl_post.specs.Timing.{fits_timer}
 use Rattle.lsl_image.specs.declared.faults.ImageFault.TheVariants.{Body}
-use Rattle.lsl_image.specs.Layout.{Layout, Ends, Refused, U8, U16, U32, U64, I32, TextForm, ◌>>=◌, each, field, field_that, grown, here, repeated, tested, values_of}
+use Rattle.lsl_image.specs.Layout.{Kinded, Layout, Ends, Refused, U8, U16, U32, U64, I32, TextForm, ◌>>=◌, field, field_that, grown, here, kinded_values, repeated, tested}
 
 -- a flag is 0 or 1
-abbrev pub flag : Layout ℕ
+unfoldable pub flag : Layout ℕ
 flag = field_that U8 (λ n. nat_le n 1)
 
 abbrev pub handles : Code → ℕ → EventId → Bool
 handles unit state id = is_some (handler_of unit.states state id)
 
 -- a toucher's key, name and prim
-abbrev pub told_toucher : Layout (Option Toucher)
+unfoldable pub told_toucher : Layout (Option Toucher)
 told_toucher = do
   key ← field TextForm
   name ← field TextForm
@@ -42,64 +43,85 @@ flagged_toucher (suc n) = told_toucher
 unfoldable pub toucher : Layout (Option Toucher)
 toucher = flag >>= flagged_toucher
 
+abbrev pub event_with : (id : EventId) → Kinded (signature_of id) → Option Toucher → Event
+event_with id args who = record { id = id; args = args.values; toucher = who; fits = args.fits }
+
 -- an event's arguments, a value for each parameter, and its toucher
-abbrev pub event_of : EventId → Layout Event
+unfoldable pub event_of : EventId → Layout Event
 event_of id = do
-  args ← values_of (signature_of id)
+  args ← kinded_values (signature_of id)
   who ← toucher
-  Ends (record { id = id; args = args.values; toucher = who; fits = args.fits })
+  Ends (event_with id args who)
 
 -- the events are numbered from 1
 abbrev pub event_numbered : ℕ → Option EventId
 event_numbered zero = None
 event_numbered (suc n) = slice_get events n
 
-abbrev pub allowed_event : (EventId → Bool) → ℕ → Option EventId → Layout Event
-allowed_event allowed place None = Refused (Body place)
-allowed_event allowed place (Some id) = if allowed id then event_of id else Refused (Body place)
+-- the state handles the event, and it is an exit exactly where one is due
+abbrev pub may_stand : Code → ℕ → Bool → EventId → Bool
+may_stand unit state exits id =
+    handles unit state id && (if exits then same_event id StateExit else not (same_event id StateExit))
 
--- an event that is allowed
-abbrev pub event_that : (EventId → Bool) → Layout Event
-event_that allowed = do
+abbrev pub event_that_may : Code → ℕ → Bool → ℕ → Option EventId → Layout Event
+event_that_may unit state exits place None = Refused (Body place)
+event_that_may unit state exits place (Some id) =
+    if may_stand unit state exits id then event_of id else Refused (Body place)
+
+-- an event of a state, an exit or another
+unfoldable pub event_in : Code → ℕ → Bool → Layout Event
+event_in unit state exits = do
   place ← here
   number ← field U8
-  allowed_event allowed place (event_numbered number)
+  event_that_may unit state exits place (event_numbered number)
 
--- the state that the script is leaving for, where the flag tells of one: the state has an exit, and the new one is
--- another
+-- the number of a new state, which is another
+abbrev pub other_state : Code → ℕ → Layout ℕ
+other_state unit state = field_that U16 (λ to. nat_lt to (length unit.states) && not (to == state))
+
+-- the state that the script is leaving for, where the flag tells of one: the state has an exit
 abbrev pub flagged_leaving : Code → ℕ → ℕ → ℕ → Layout (Option ℕ)
 flagged_leaving unit state place zero = Ends None
 flagged_leaving unit state place (suc n) =
     if handles unit state StateExit
-    then (field_that U16 (λ to. nat_lt to (length unit.states) && not (to == state)) >>= λ to. Ends (Some to))
+    then (other_state unit state >>= λ to. Ends (Some to))
     else Refused (Body place)
 
-abbrev pub leaving : Code → ℕ → Layout (Option ℕ)
+unfoldable pub leaving : Code → ℕ → Layout (Option ℕ)
 leaving unit state = do
   place ← here
   flagged ← flag
   flagged_leaving unit state place flagged
 
 -- the events that wait: none is an exit, and the state has a handler for each
-abbrev pub queue : Code → ℕ → Layout (List Event)
+unfoldable pub queue : Code → ℕ → Layout (List Event)
 queue unit state = do
   count ← field_that U8 (λ n. nat_le n most_events)
-  repeated count (event_that (λ id. handles unit state id && not (same_event id StateExit)))
+  repeated count (event_in unit state false)
 
--- a listen behind these: its number and its four values are its own
-abbrev pub listen_behind : List Listen → Layout Listen
-listen_behind before = do
-  number ← field_that I32 (λ n. is_number n && not (has_number before n))
-  active ← flag
+-- what a listen asks that stands behind these: its four values are its own
+unfoldable pub filter_behind : List Listen → Layout Filter
+filter_behind before = do
   channel ← field I32
   name ← field TextForm
   id ← field TextForm
   place ← here
   message ← field TextForm
   tested (not (list_any (same_filter (filter channel name id message)) (map filter_of before))) place
-      (record (listen_of number (filter channel name id message)) { active = active == 1 })
+      (filter channel name id message)
 
-abbrev pub listens : Layout Standing
+abbrev pub listen_with : ℤ → ℕ → Filter → Listen
+listen_with number flagged asked = record (listen_of number asked) { active = flagged == 1 }
+
+-- a listen behind these, whose number and values are its own
+unfoldable pub listen_behind : List Listen → Layout Listen
+listen_behind before = do
+  number ← field_that I32 (λ n. is_number n && not (has_number before n))
+  flagged ← flag
+  asked ← filter_behind before
+  Ends (listen_with number flagged asked)
+
+unfoldable pub listens : Layout Standing
 listens = do
   next ← field_that I32 is_number
   count ← field_that U8 (λ n. nat_le n most_listens)
@@ -111,7 +133,7 @@ abbrev pub due_timer : (place period due : ℕ) (fits : Bool) → fits_timer per
 due_timer place period due true fits = Ends (record { period = period; due = due; fits = fits })
 due_timer place period due false differs = Refused (Body place)
 
-abbrev pub timer : Layout Timer
+unfoldable pub timer : Layout Timer
 timer = do
   period ← field_that U32 (λ n. nat_le n 2147483647)
   place ← here
@@ -119,5 +141,5 @@ timer = do
   due_timer place period due (fits_timer period due) refl
 
 -- version 1 has no limit: it is the greatest
-abbrev pub limit : ℕ → Layout ℕ
+unfoldable pub limit : ℕ → Layout ℕ
 limit version = if version == 1 then Ends 65536 else field_that U32 (λ n. nat_le 1064 n && nat_le n 65536)

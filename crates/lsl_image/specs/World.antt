@@ -12,13 +12,13 @@ abbrev pub most_clock : ℕ
 most_clock = 2147483647999
 
 -- an object with its region
-abbrev pub placed : ℕ → List Code → Shape → Layout Placed
+unfoldable pub placed : ℕ → List Code → Shape → Layout Placed
 placed version library shape = do
   region ← field TextForm
   object ← body version shape library
   Ends (record { region = region; object = object })
 
-abbrev pub world : List Shape → List Code → ℕ → Layout WorldParts
+unfoldable pub world : List Shape → List Code → ℕ → Layout WorldParts
 world shapes library end = do
   version ← head (codes "LSLW")
   clock ← field_that U64 (λ n. nat_le n most_clock)

@@ -1,5 +1,11 @@
 //! What is wrong with bytes that are no image.
 
+ghost use Rattle.std.specs.Prelude.{◌≡◌};
+ghost use Rattle.lsl_text.specs.declared.Refusal.TheVariants.{Fault};
+ghost use Rattle.lsl_image.specs.declared.faults.ImageFault.TheVariants.{Body};
+
+use lsl_text::Refusal;
+
 /// Why bytes are no image, the first fault in the order of the tests.
 #[derive(Clone, Copy, Debug, PartialEq, Eq)]
 pub enum ImageFault {
@@ -15,4 +21,11 @@ pub enum ImageFault {
     Body(u64),
     /// The text of a frozen world has no image.
     NotFrozen,
+}
+
+/// The field at this place can't be.
+pub(crate) fn wrong(place: usize) -> Refusal<ImageFault>
+    ensures { result ≡ Fault (Body place) }
+{
+    Refusal::Fault(ImageFault::Body(place as u64))
 }

@@ -1,10 +1,12 @@
 //! Fields of an image, read at a place of its bytes.
+#![tactic(auto, unfolding(crate::specs::Layout::field, crate::specs::Layout::field_that))]
 
-ghost use Rattle.lsl_image.specs.Layout.{Bytes, I32, TextForm, U16, U32, U64, U8, ValueForm, field};
+ghost use Rattle.std.specs.Prelude.{◌≤◌, nat_le, IfOk};
+ghost use Rattle.lsl_image.specs.Layout.{Bytes, I32, TextForm, U16, U32, U64, U8, ValueForm, field, field_that};
 ghost use Rattle.lsl_image.specs.Reading.{Reads};
 ghost use Rattle.lsl_image.specs.Script.{flag};
 
-use crate::faults::ImageFault;
+use crate::faults::{ImageFault, wrong};
 use lsl_bytes::{
     take_array, take_i32, take_text, take_u8, take_u16, take_u32, take_u64, take_value,
 };
@@ -21,7 +23,7 @@ pub fn read_u8(bytes: &[u8], place: usize) -> Read<u8>
 {
     match take_u8(bytes, place) {
         Some(read) => Ok(read),
-        None => Err(Refusal::Fault(ImageFault::Body(place as u64))),
+        None => Err(wrong(place)),
     }
 }
 
@@ -31,7 +33,7 @@ pub fn read_u16(bytes: &[u8], place: usize) -> Read<u16>
 {
     match take_u16(bytes, place) {
         Some(read) => Ok(read),
-        None => Err(Refusal::Fault(ImageFault::Body(place as u64))),
+        None => Err(wrong(place)),
     }
 }
 
@@ -41,7 +43,7 @@ pub fn read_u32(bytes: &[u8], place: usize) -> Read<u32>
 {
     match take_u32(bytes, place) {
         Some(read) => Ok(read),
-        None => Err(Refusal::Fault(ImageFault::Body(place as u64))),
+        None => Err(wrong(place)),
     }
 }
 
@@ -51,7 +53,7 @@ pub fn read_u64(bytes: &[u8], place: usize) -> Read<u64>
 {
     match take_u64(bytes, place) {
         Some(read) => Ok(read),
-        None => Err(Refusal::Fault(ImageFault::Body(place as u64))),
+        None => Err(wrong(place)),
     }
 }
 
@@ -61,7 +63,7 @@ pub fn read_i32(bytes: &[u8], place: usize) -> Read<i32>
 {
     match take_i32(bytes, place) {
         Some(read) => Ok(read),
-        None => Err(Refusal::Fault(ImageFault::Body(place as u64))),
+        None => Err(wrong(place)),
     }
 }
 
@@ -71,7 +73,7 @@ pub fn read_array<const N: usize>(bytes: &[u8], place: usize) -> Read<[u8; N]>
 {
     match take_array(bytes, place) {
         Some(read) => Ok(read),
-        None => Err(Refusal::Fault(ImageFault::Body(place as u64))),
+        None => Err(wrong(place)),
     }
 }
 
@@ -81,7 +83,7 @@ pub fn read_text(alloc: Global, bytes: &[u8], place: usize) -> Read<Text>
 {
     match take_text(alloc, bytes, place)? {
         Some(read) => Ok(read),
-        None => Err(Refusal::Fault(ImageFault::Body(place as u64))),
+        None => Err(wrong(place)),
     }
 }
 
@@ -91,17 +93,26 @@ pub fn read_value(alloc: Global, bytes: &[u8], place: usize) -> Read<Value>
 {
     match take_value(alloc, bytes, place)? {
         Some(read) => Ok(read),
-        None => Err(Refusal::Fault(ImageFault::Body(place as u64))),
+        None => Err(wrong(place)),
     }
 }
 
+/// A byte of at most this number.
+pub fn read_u8_within(bytes: &[u8], place: usize, most: u8) -> Read<u8>
+    ensures read { Reads bytes.now (field_that U8 (λ n. nat_le n most)) place result }
+    ensures within { IfOk result (λ read. read.0 ≤ most) }
+{
+    let (n, next) = read_u8(bytes, place)?;
+    if n > most {
+        return Err(wrong(place));
+    }
+    Ok((n, next))
+}
+
 /// A flag: 0 or 1.
+#[tactic(auto, unfolding(crate::specs::Script::flag))]
 pub fn read_flag(bytes: &[u8], place: usize) -> Read<u8>
     ensures { Reads bytes.now flag place result }
 {
-    let (n, next) = read_u8(bytes, place)?;
-    if n > 1 {
-        return Err(Refusal::Fault(ImageFault::Body(place as u64)));
-    }
-    Ok((n, next))
+    read_u8_within(bytes, place, 1)
 }

@@ -1,12 +1,15 @@
 //! Objects and worlds as images: byte lists that hold all that a script in flight needs to go on elsewhere.
 #![tactic(auto)]
 
+mod events;
 mod examples;
 mod faults;
 mod fields;
 mod laws;
 mod parts;
+mod queue;
 mod toucher;
+mod values;
 
 pub use crate::examples::{object_without_scripts, world_without_objects};
 pub use crate::faults::ImageFault;

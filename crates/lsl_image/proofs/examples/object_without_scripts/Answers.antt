@@ -4,7 +4,8 @@ use Rattle.std.specs.Prelude.{codes}
 use Rattle.lsl_value.specs.Text.{IsText}
 use Rattle.lsl_bytes.specs.Fields.{counted_bytes, text_bytes, u8_bytes, u16_bytes, u32_bytes, u64_bytes}
 use Rattle.lsl_image.specs.Examples.{bare_bytes, bare_object, bare_shape}
-use Rattle.lsl_image.specs.Object.{key_bytes, object}
+use Rattle.lsl_image.specs.Layout.{◌>>=◌, each_behind, field, field_that, grown, here}
+use Rattle.lsl_image.specs.Object.{body, head, key_bytes, object, sender, store}
 use Rattle.lsl_image.specs.Spelling.{Spells}
 use Rattle.lsl_image.proofs.examples.object_without_scripts.Goals as goal
 
@@ -17,7 +18,7 @@ unfolding encode_utf8
 name-text = record { scalars = refl; within = lit≤ tt }
 
 pub returns : goal.returns
-unfolding encode_utf8 counted_bytes text_bytes u8_bytes u16_bytes u32_bytes u64_bytes
+unfolding encode_utf8 counted_bytes text_bytes u8_bytes u16_bytes u32_bytes u64_bytes object head sender body store field field_that here ◌>>=◌ grown each_behind
 returns c = (
   76 ∷ 83 ∷ 76 ∷ 79 ∷ [],
   _,

@@ -1,0 +1,34 @@
+//! Values of the kinds that are due.
+
+ghost use Rattle.lsl_image.specs.Layout.{value_of, values_of};
+ghost use Rattle.lsl_image.specs.Reading.{Reads};
+
+use crate::faults::wrong;
+use crate::fields::{Read, read_value};
+use lsl_value::{Kind, Value, Values};
+use std::alloc::Global;
+
+/// A value of each of these kinds.
+pub fn read_values(alloc: Global, bytes: &[u8], place: usize, kinds: &[Kind]) -> Read<Values>
+    ensures { Reads bytes.now (values_of kinds.now) place result }
+{
+    let mut values = Values::new(alloc);
+    let mut next = place;
+    for kind in kinds {
+        let (value, behind) = read_value_of(alloc, bytes, next, *kind)?;
+        values.push(value)?;
+        next = behind;
+    }
+    Ok((values, next))
+}
+
+#[tactic(auto, unfolding(crate::specs::Layout::field, crate::specs::Layout::field_that))]
+fn read_value_of(alloc: Global, bytes: &[u8], place: usize, kind: Kind) -> Read<Value>
+    ensures { Reads bytes.now (value_of kind) place result }
+{
+    let (value, next) = read_value(alloc, bytes, place)?;
+    if value.kind() != kind {
+        return Err(wrong(place));
+    }
+    Ok((value, next))
+}
