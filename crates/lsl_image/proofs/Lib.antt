@@ -5,3 +5,4 @@ pub mod LayoutLemmas
 pub mod LeadingLemmas
 pub mod ReadingLemmas
 pub mod SpellingLemmas
+pub mod WaitingLemmas

@@ -109,6 +109,18 @@ pub fn read_u8_within(bytes: &[u8], place: usize, most: u8) -> Read<u8>
     Ok((n, next))
 }
 
+/// Four bytes, a number of at most this.
+pub fn read_u32_within(bytes: &[u8], place: usize, most: u32) -> Read<u32>
+    ensures read { Reads bytes.now (field_that U32 (λ n. nat_le n most)) place result }
+    ensures within { IfOk result (λ read. read.0 ≤ most) }
+{
+    let (n, next) = read_u32(bytes, place)?;
+    if n > most {
+        return Err(wrong(place));
+    }
+    Ok((n, next))
+}
+
 /// A flag: 0 or 1.
 #[tactic(auto, unfolding(crate::specs::Script::flag))]
 pub fn read_flag(bytes: &[u8], place: usize) -> Read<u8>

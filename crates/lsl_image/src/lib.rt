@@ -10,6 +10,7 @@ mod parts;
 mod queue;
 mod toucher;
 mod values;
+mod waiting;
 
 pub use crate::examples::{object_without_scripts, world_without_objects};
 pub use crate::faults::ImageFault;
