@@ -37,8 +37,7 @@ value-given : (bytes : List ℕ) (due : Kind) (p : ℕ) (v : Value) (q : ℕ) �
 unfolding field_that
 value-given bytes due p v q g =
     let t = tested-gives bytes (same_kind (kind_of g.0) due) p g.0 v g.1 q g.3 in
-    let at : Stands bytes p ValueForm g.0 q = subst (λ (n : ℕ). Stands bytes p ValueForm g.0 n) (sym t.place) g.2 in
-    (
+    let at : Stands bytes p ValueForm g.0 q = subst (λ (n : ℕ). Stands bytes p ValueForm g.0 n) (sym t.place) g.2 in (
       subst (λ (w : Value). Stands bytes p ValueForm w q) (sym t.same) at,
       subst (λ (w : Value). same_kind (kind_of w) due ≡ true) (sym t.same) t.holds,
     )

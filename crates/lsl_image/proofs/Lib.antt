@@ -1,8 +1,10 @@
 pub mod EventLemmas
+pub mod FrameLemmas
 pub mod ImageLemmas
 pub mod KindedLemmas
 pub mod LayoutLemmas
 pub mod LeadingLemmas
 pub mod ReadingLemmas
+pub mod RestLemmas
 pub mod SpellingLemmas
 pub mod WaitingLemmas

@@ -78,21 +78,29 @@ fault_numbered (suc zero) = MathError
 fault_numbered (suc (suc zero)) = StackHeap
 fault_numbered (suc (suc (suc n))) = TooManyListens
 
-abbrev pub rest_of : Code → ℕ → Option ℕ → List Value → ℕ → ℕ → Layout Rest
-rest_of unit state left globals most zero = Ends Idle
-rest_of unit state left globals most (suc zero) = do
-  event ← event_in unit state (is_some left)
+-- the event in hand, and the saved calls of its handler
+unfoldable pub saved_rest : Code → ℕ → Bool → List Value → ℕ → Layout Rest
+saved_rest unit state exits globals most = do
+  event ← event_in unit state exits
   frames ← saved_calls unit globals most (handler_of unit.states state event.id)
   Ends (Saved event frames)
-rest_of unit state left globals most (suc (suc n)) = do
+
+-- the fault that stopped the script
+unfoldable pub dead_rest : Layout Rest
+dead_rest = do
   number ← field_that U8 (λ f. nat_le 1 f && nat_le f 3)
   Ends (Dead (fault_numbered number))
 
--- idle, saved calls, or a fault
-unfoldable pub rest : Code → ℕ → Option ℕ → List Value → ℕ → Layout Rest
-rest unit state left globals most = do
+abbrev pub rest_of : Code → ℕ → Bool → List Value → ℕ → ℕ → Layout Rest
+rest_of unit state exits globals most zero = Ends Idle
+rest_of unit state exits globals most (suc zero) = saved_rest unit state exits globals most
+rest_of unit state exits globals most (suc (suc n)) = dead_rest
+
+-- idle, saved calls, or a fault: the event in hand is an exit exactly where one is due
+unfoldable pub rest : Code → ℕ → Bool → List Value → ℕ → Layout Rest
+rest unit state exits globals most = do
   kind ← field_that U8 (λ n. nat_le n 2)
-  rest_of unit state left globals most kind
+  rest_of unit state exits globals most kind
 
 -- the digest of the unit's text
 unfoldable pub code_digest : Code → Layout (List ℕ)
@@ -112,7 +120,7 @@ script version number unit = do
   ticking ← timer
   wake ← field U64
   most ← limit version
-  resting ← rest unit state left globals most
+  resting ← rest unit state (is_some left) globals most
   Ends (record {
     unit = number;
     globals = globals;

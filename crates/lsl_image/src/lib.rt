@@ -1,10 +1,13 @@
 //! Objects and worlds as images: byte lists that hold all that a script in flight needs to go on elsewhere.
 #![tactic(auto)]
 
+mod calls;
+mod charges;
 mod events;
 mod examples;
 mod faults;
 mod fields;
+mod frames;
 mod laws;
 mod parts;
 mod queue;

@@ -15,7 +15,13 @@ use std::alloc::Global;
 const MOST_EVENTS: u8 = 64;
 
 /// The events that wait: none is an exit, and the state has a handler for each.
-pub fn read_queue(alloc: Global, bytes: &[u8], place: usize, unit: &Woven, state: u16) -> Read<Queue>
+pub fn read_queue(
+    alloc: Global,
+    bytes: &[u8],
+    place: usize,
+    unit: &Woven,
+    state: u16,
+) -> Read<Queue>
     ensures { Reads bytes.now (queue unit.now state) place result }
 {
     let (count, next) = read_u8_within(bytes, place, MOST_EVENTS)?;

@@ -1,0 +1,66 @@
+-- What a script rests in, behind its number.
+use Rattle.std.proofs.Common.{◌≡◌, ◌≢◌, ◌∙◌, refl, subst, sym, arith, ℕ, zero, suc, ◌<◌, ◌≤◌, nat_le, List, Bool, true, false}
+use Rattle.std.proofs.lemmas.Bool.{false≢true}
+use Rattle.lsl_value.specs.declared.tagged.Value.{Value}
+use Rattle.lsl_running.specs.declared.ends.Fault.TheVariants.{MathError, StackHeap, TooManyListens}
+use Rattle.lsl_code.specs.declared.frames.Frame.{Frame}
+use Rattle.lsl_code.specs.declared.units.Unit.{Unit as Code}
+use Rattle.lsl_code.specs.Frames.{parked_charge}
+use Rattle.lsl_post.specs.declared.parts.Rest.{Rest}
+use Rattle.lsl_post.specs.declared.parts.Rest.TheVariants.{Idle}
+use Rattle.lsl_image.specs.declared.faults.ImageFault.TheVariants.{Body}
+use Rattle.lsl_image.specs.Layout.{Layout, tested}
+use Rattle.lsl_image.specs.Reading.{Faults, Gives}
+use Rattle.lsl_image.specs.Rest.{dead_rest, fault_numbered, rest_of, saved_rest}
+use Rattle.lsl_image.proofs.LeadingLemmas.{Leads, leads-ends}
+
+pub fault_first : (n : ℕ) → n < 2 → fault_numbered n ≡ MathError
+fault_first zero few = refl
+fault_first (suc zero) few = refl
+fault_first (suc (suc n)) few = absurd (omega (arith, few))
+
+pub fault_second : (n : ℕ) → 2 ≤ n → n < 3 → fault_numbered n ≡ StackHeap
+fault_second zero least few = absurd (omega (arith, least))
+fault_second (suc zero) least few = absurd (omega (arith, least))
+fault_second (suc (suc zero)) least few = refl
+fault_second (suc (suc (suc n))) least few = absurd (omega (arith, few))
+
+pub fault_last : (n : ℕ) → 3 ≤ n → fault_numbered n ≡ TooManyListens
+fault_last zero least = absurd (omega (arith, least))
+fault_last (suc zero) least = absurd (omega (arith, least))
+fault_last (suc (suc zero)) least = absurd (omega (arith, least))
+fault_last (suc (suc (suc n))) least = refl
+
+module _ {A : Type 0} (bytes : List ℕ) (place : ℕ) (a : A) (q : ℕ) where
+  test-fails : (good : Bool) → good ≡ false → Faults bytes (tested good place a) q (Body place)
+  test-fails true bad = absurd (false≢true (sym bad))
+  test-fails false bad = refl
+
+  test-passes : (good : Bool) → good ≡ true → Gives bytes (tested good place a) q a q
+  test-passes true holds = (refl, refl)
+  test-passes false holds = absurd (false≢true holds)
+
+module _ (bytes : List ℕ) (globals : List Value) (most place : ℕ) (frames shown : List Frame) (same : shown ≡ frames) (within : Bool) (own : within ≡ nat_le (parked_charge globals shown) most) (q : ℕ) (whole : Layout (List Frame)) (start : ℕ) (leads : Leads bytes (tested (nat_le (parked_charge globals frames) most) place frames) q (λ fs. fs) whole start) where
+  tells : within ≡ nat_le (parked_charge globals frames) most
+  tells = subst (λ (fs : List Frame). within ≡ nat_le (parked_charge globals fs) most) same own
+
+  pub calls-refused : within ≡ false → Faults bytes whole start (Body place)
+  calls-refused bad = leads.faults (Body place) (test-fails bytes place frames q (nat_le (parked_charge globals frames) most) (sym tells ∙ bad))
+
+  pub calls-given : within ≡ true → Gives bytes whole start frames q
+  calls-given holds = leads.gives frames q (test-passes bytes place frames q (nat_le (parked_charge globals frames) most) (sym tells ∙ holds))
+
+module _ (bytes : List ℕ) (unit : Code) (state : ℕ) (exits : Bool) (globals : List Value) (most kind q : ℕ) (whole : Layout Rest) (start : ℕ) (leads : Leads bytes (rest_of unit state exits globals most kind) q (λ r. r) whole start) where
+  pub rest-idle : kind ≡ 0 → Gives bytes whole start Idle q
+  rest-idle none = leads-ends (subst (λ (n : ℕ). Leads bytes (rest_of unit state exits globals most n) q (λ r. r) whole start) none leads)
+
+  pub rest-saved : kind ≡ 1 → Leads bytes (saved_rest unit state exits globals most) q (λ r. r) whole start
+  rest-saved one = subst (λ (n : ℕ). Leads bytes (rest_of unit state exits globals most n) q (λ r. r) whole start) one leads
+
+dead-by : (bytes : List ℕ) (unit : Code) (state : ℕ) (exits : Bool) (globals : List Value) (most kind q : ℕ) (whole : Layout Rest) (start : ℕ) → kind ≢ 0 → kind ≢ 1 → Leads bytes (rest_of unit state exits globals most kind) q (λ r. r) whole start → Leads bytes dead_rest q (λ r. r) whole start
+dead-by bytes unit state exits globals most zero q whole start some more leads = absurd (some refl)
+dead-by bytes unit state exits globals most (suc zero) q whole start some more leads = absurd (more refl)
+dead-by bytes unit state exits globals most (suc (suc n)) q whole start some more leads = leads
+
+pub rest-dead : (bytes : List ℕ) (unit : Code) (state : ℕ) (exits : Bool) (globals : List Value) (most kind q : ℕ) (whole : Layout Rest) (start : ℕ) → Leads bytes (rest_of unit state exits globals most kind) q (λ r. r) whole start → kind ≢ 0 → kind ≢ 1 → Leads bytes dead_rest q (λ r. r) whole start
+rest-dead bytes unit state exits globals most kind q whole start leads some more = dead-by bytes unit state exits globals most kind q whole start some more leads

@@ -1,0 +1,14 @@
+use Rattle.std.proofs.Common.{◌≡◌, ◌-◌, [], length}
+use Rattle.lsl_image.specs.Layout.{grown}
+use Rattle.lsl_image.specs.Rest.{callee_of, frame_behind}
+use Rattle.lsl_image.proofs.LeadingLemmas.{Leads}
+use Rattle.lsl_image.proofs.frames.read_frames.Given as goal
+
+-- so many frames are read
+abbrev pub invariant-loop-i : goal.invariant-loop-i
+invariant-loop-i l = record {
+  many : length l.frames ≡ l.i;
+  callee : l.callee ≡ callee_of l.frames;
+  leads : Leads l.bytes (grown (l.count - l.i) (frame_behind l.unit l.handler l.count) l.frames) l.next (λ list. list)
+      (grown l.count (frame_behind l.unit l.handler l.count) []) l.place;
+}
