@@ -11,6 +11,7 @@ mod frames;
 mod laws;
 mod parts;
 mod queue;
+mod rest;
 mod toucher;
 mod values;
 mod waiting;
