@@ -20,7 +20,7 @@ same_some o x y p q = cc
 
 module _ (globals : List Value) (states : List StateCode) (bodies : List Body)
     (fits : fits_unit globals states bodies ≡ true) where
-  stands : (f : ℕ) (b : Body) → slice_get bodies f ≡ Some b → (p : ℕ) (pt : Point)
+  pub stands : (f : ℕ) (b : Body) → slice_get bodies f ≡ Some b → (p : ℕ) (pt : Point)
       → slice_get b.points p ≡ Some pt
       → slice_get b.code (place_of p b.code) ≡ Some (point_instr pt.calls p)
   stands f b found p pt mapped =
@@ -32,7 +32,7 @@ module _ (globals : List Value) (states : List StateCode) (bodies : List Body)
       ap (slice_get b.code) (one_place b.code p place.0 place.1 once place.2)
       ∙ place.2 ∙ ap (λ o. Some (point_instr o p)) calls
 
-  weavable : (f : ℕ) (b : Body) → slice_get bodies f ≡ Some b → Weavable b
+  pub weavable : (f : ℕ) (b : Body) → slice_get bodies f ≡ Some b → Weavable b
   weavable f b found = (
     (λ k i here. (fits_tells globals states bodies fits).plain f k b i found here),
     stands f b found,

@@ -1,6 +1,6 @@
 -- What the test of code tells.
 use Rattle.std.proofs.Common.{◌≡◌, ℕ, zero, suc, ◌+◌, List, [], ◌∷◌, Bool, true, false, cond, Option, None, Some, refl, sym, ap, ◌∙◌, arith}
-use Rattle.std.specs.Prelude.{slice_get, ◌&&◌}
+use Rattle.std.specs.Prelude.{slice_get}
 use Rattle.lsl_code.specs.declared.instructions.Instr.{Instr}
 use Rattle.lsl_code.specs.declared.instructions.Instr.TheVariants.{Jump, JumpIf, JumpIfNot}
 use Rattle.lsl_code.proofs.Tested.{both, all_if}
@@ -9,30 +9,9 @@ use Rattle.lsl_code.specs.declared.functions.Point.{Point}
 use Rattle.lsl_weave.specs.Layout.{place_of}
 use Rattle.lsl_code.specs.Standing.{point_instr}
 use Rattle.lsl_code.specs.Bodies.{Body, instruction_in, instruction_at}
-use Rattle.lsl_code.specs.Fits.{all_places, is_plain}
+use Rattle.lsl_code.specs.Fits.{is_plain}
 use Rattle.lsl_code.specs.Forward.{leads_back, Forward, frees, goes_back, begins, Lands}
-
--- tests of code that goes back only behind ticks
-abbrev pub high_in : List Instr → ℕ → Bool
-high_in code place = leads_back place (slice_get code place) (slice_get code (place + 1))
-
-abbrev pub lands_ok : List Instr → Instr → Bool
-lands_ok code (Jump to) = cond (high_in code to) false true
-lands_ok code (JumpIf to) = cond (high_in code to) false true
-lands_ok code (JumpIfNot to) = cond (high_in code to) false true
-lands_ok code i = true
-
-abbrev pub place_ok : List Instr → ℕ → Instr → Bool
-place_ok code place i =
-    lands_ok code i && cond (frees i place (slice_get code (place + 1))) true
-    (cond (high_in code (place + 1)) false true)
-
-abbrev pub body_ok : Body → Bool
-body_ok b = begins (slice_get b.code 0) (slice_get b.code 1) && all_places (place_ok b.code) 0 b.code
-
-abbrev pub is_forward : List Body → Bool
-is_forward [] = true
-is_forward (b ∷ bs) = body_ok b && is_forward bs
+use Rattle.lsl_weave.specs.ForwardTests.{high_in, lands_ok, place_ok, body_ok, is_forward}
 
 -- plain code whose points stand at their instructions
 abbrev pub Weavable : Body → Type 0
@@ -41,7 +20,7 @@ Weavable b =
     × ((p : ℕ) (pt : Point) → slice_get b.points p ≡ Some pt
     → slice_get b.code (place_of p b.code) ≡ Some (point_instr pt.calls p))
 
-body_of : (bs : List Body) (f : ℕ) (b : Body) → is_forward bs ≡ true → slice_get bs f ≡ Some b
+pub body_of : (bs : List Body) (f : ℕ) (b : Body) → is_forward bs ≡ true → slice_get bs f ≡ Some b
     → body_ok b ≡ true
 body_of [] f b h e = absurd cc
 body_of (c ∷ bs) zero b h e = let same : c ≡ b = cc in ap body_ok (sym same) ∙ (both_true (body_ok c) _ h).0

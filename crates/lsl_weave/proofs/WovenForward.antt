@@ -12,16 +12,17 @@ use Rattle.lsl_code.specs.Standing.{point_instr}
 use Rattle.lsl_weave.proofs.Placing.{HasAt, main_length, save_length, back_length, table_length, laid}
 use Rattle.lsl_weave.proofs.Lift.{offset_none, shift_next, first, first_at}
 use Rattle.lsl_weave.proofs.Running.{past_still}
-use Rattle.lsl_weave.proofs.Tested.{high_in, place_ok, body_ok, is_forward, Weavable}
+use Rattle.lsl_weave.proofs.Tested.{Weavable}
+use Rattle.lsl_weave.specs.ForwardTests.{high_in, place_ok, body_ok, is_forward}
 use Rattle.lsl_code.specs.Fits.{all_places, is_plain}
 use Rattle.lsl_code.proofs.Sames.{both_true, all_from}
 
-both : (a b : Bool) → a ≡ true → b ≡ true → (a && b) ≡ true
+pub both : (a b : Bool) → a ≡ true → b ≡ true → (a && b) ≡ true
 both true b h k = k
 both false b h k = absurd cc
 
 -- the test over parts of a list
-all_append : {A : Type 0} (test : ℕ → A → Bool) (s : ℕ) (a b : List A) → all_places test s a ≡ true
+pub all_append : {A : Type 0} (test : ℕ → A → Bool) (s : ℕ) (a b : List A) → all_places test s a ≡ true
     → all_places test (s + length a) b ≡ true → all_places test s (a ++ b) ≡ true
 all_append test s [] b h k = let z : s + 0 ≡ s = omega arith in subst (λ n. all_places test n b ≡ true) z k
 all_append test s (x ∷ a) b h k =
@@ -29,7 +30,7 @@ all_append test s (x ∷ a) b h k =
     let e = both_true (test s x) _ h in
     both (test s x) _ e.0 (all_append test (suc s) a b e.1 (subst (λ n. all_places test n b ≡ true) z k))
 
-all_flat : {A B : Type 0} (test : ℕ → B → Bool) (g : ℕ → A → List B) (w : A → ℕ)
+pub all_flat : {A B : Type 0} (test : ℕ → B → Bool) (g : ℕ → A → List B) (w : A → ℕ)
     → ((i : ℕ) (x : A) → length (g i x) ≡ w x) → (s i : ℕ) (xs : List A)
     → ((k : ℕ) (x : A) → slice_get xs k ≡ Some x → all_places test (s + offset w xs k) (g (i + k) x) ≡ true)
     → all_places test s (flat g i xs) ≡ true
@@ -48,7 +49,7 @@ all_flat test g w len s i (x ∷ xs) h =
     (all_flat test g w len (s + length (g i x)) (suc i) xs rest)
 
 -- shift goes up
-offset_up : {A : Type 0} (w : A → ℕ) (xs : List A) (u v : ℕ) → u ≤ v → offset w xs u ≤ offset w xs v
+pub offset_up : {A : Type 0} (w : A → ℕ) (xs : List A) (u v : ℕ) → u ≤ v → offset w xs u ≤ offset w xs v
 offset_up w [] u v le = omega arith
 offset_up w (x ∷ xs) zero zero le = omega arith
 offset_up w (x ∷ xs) zero (suc v) le = omega arith
@@ -60,7 +61,7 @@ width_one (Tick p) = omega arith
 width_one (Call f p) = omega arith
 width_one _ = omega arith
 
-shift_up : (b : Body) (u v : ℕ) (i : Instr) → slice_get b.code u ≡ Some i → u < v → shift b u < shift b v
+pub shift_up : (b : Body) (u v : ℕ) (i : Instr) → slice_get b.code u ≡ Some i → u < v → shift b u < shift b v
 shift_up b u v i e lt =
     omega (arith, shift_next b u i e, width_one i, offset_up width b.code (u + 1) v (omega arith))
 
@@ -317,7 +318,7 @@ module _ (b : Body) (plain : (k : ℕ) (i : Instr) → slice_get b.code k ≡ So
   starts_ok None next e h = absurd cc
   starts_ok (Some i) next e h = absurd cc
 
-body_woven : (b : Body) → Weavable b → body_ok b ≡ true → body_ok (woven_of b) ≡ true
+pub body_woven : (b : Body) → Weavable b → body_ok b ≡ true → body_ok (woven_of b) ≡ true
 body_woven b w h =
     let t = both_true (begins (slice_get b.code 0) (slice_get b.code 1))
     (all_places (place_ok b.code) 0 b.code) h in

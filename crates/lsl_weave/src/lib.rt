@@ -9,5 +9,6 @@ mod stacks;
 mod tables;
 pub mod unit_laws;
 mod weaving;
+pub mod woven_laws;
 
 pub use crate::weaving::{weave_function, weave_functions};
