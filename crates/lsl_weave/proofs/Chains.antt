@@ -9,7 +9,8 @@ use Rattle.lsl_code.specs.Frames.{body_point, points_of, IsAtPoint, EndsIn, FitF
 -- each frame is at a call of the function of the frame before it, and the last is the handler's
 abbrev pub WaitFrames : List Body → ℕ → List Frame → ℕ → Type 0
 WaitFrames bodies h [] g = g ≡ h
-WaitFrames bodies h (fr ∷ frs) g = IsAtPoint (points_of bodies) (Some g) fr × WaitFrames bodies h frs fr.function
+WaitFrames bodies h (fr ∷ frs) g = IsAtPoint (points_of bodies) (Some g) fr
+    × WaitFrames bodies h frs fr.function
 
 module _ (bodies : List Body) (h : ℕ) where
   fit_frames : (fr : Frame) (frs : List Frame) → WaitFrames bodies h frs fr.function → EndsIn h fr frs

@@ -1,10 +1,13 @@
+pub mod BackKept
 pub mod BackOn
+pub mod BackPuts
 pub mod Besides
 pub mod Chains
 pub mod Charges
 pub mod Emitting
 pub mod Examples
 pub mod Forwards
+pub mod FramesBack
 pub mod Lift
 pub mod Made
 pub mod MadeBacks
@@ -14,8 +17,9 @@ pub mod MadeSaves
 pub mod Moved
 pub mod OnePlaced
 pub mod Places
-pub mod PlainPoints
 pub mod Placing
+pub mod PlainPoints
+pub mod Quiet
 pub mod Reentered
 pub mod Resting
 pub mod Restored
@@ -27,5 +31,6 @@ pub mod StacksLaid
 pub mod Sums
 pub mod Tested
 pub mod Units
+pub mod Waiting
 pub mod WovenExamples
 pub mod WovenForward

@@ -24,7 +24,8 @@ use Rattle.lsl_weave.proofs.Forwards.{weavable}
 use Rattle.lsl_weave.proofs.MadeBacks.{all_restored}
 use Rattle.lsl_weave.proofs.MadeCounts.{count_woven, most_woven}
 use Rattle.lsl_weave.proofs.MadeKinds.{woven_fits}
-use Rattle.lsl_weave.proofs.MadeSaves.{all_saves, all_others}
+use Rattle.lsl_weave.proofs.MadeSaves.{all_saves}
+use Rattle.lsl_weave.proofs.Quiet.{all_others}
 use Rattle.lsl_weave.proofs.PlainPoints.{has_points}
 use Rattle.lsl_weave.proofs.StacksLaid.{stacks_long}
 use Rattle.lsl_weave.proofs.Tested.{body_of, forward_tested}
@@ -37,11 +38,17 @@ signatures_same (b ∷ bodies) = ap (λ l. signature_in b ∷ l) (signatures_sam
 names_same : (globals : List Value) (states : List StateCode) (bodies : List Body)
     → names_in globals states (all_woven bodies) ≡ names_in globals states bodies
 names_same globals states bodies =
-    ap (λ (l : List Signature). record { globals = map kind_of globals; functions = l; states = length states })
+    ap (λ (l : List Signature). record {
+      globals = map kind_of globals;
+      functions = l;
+      states =
+          length states;
+    })
     (signatures_same bodies)
 
 -- a woven function is one of these
-pub woven_from : (bodies : List Body) (f : ℕ) (w : Body) → slice_get (all_woven bodies) f ≡ Some w → (b : Body)
+pub woven_from : (bodies : List Body) (f : ℕ) (w : Body) → slice_get (all_woven bodies) f ≡ Some w
+    → (b : Body)
     × (slice_get bodies f ≡ Some b) × (woven_of b ≡ w)
 woven_from bodies f w e = by_body (slice_get bodies f) refl (sym (slice_get-map woven_of bodies f) ∙ e)
   where
@@ -78,7 +85,8 @@ handles_same h (Some b) = refl
 handler_same : (bodies : List Body) (n : ℕ) (h : Handler) → handler_fits bodies n h ≡ true
     → handler_fits (all_woven bodies) n h ≡ true
 handler_same bodies n h e =
-    ap (handles h) (slice_get-map woven_of bodies h.function) ∙ handles_same h (slice_get bodies h.function) ∙ e
+    ap (handles h) (slice_get-map woven_of bodies h.function) ∙ handles_same h (slice_get bodies h.function)
+    ∙ e
 
 state_same : (bodies : List Body) (n : ℕ) (s : StateCode) → state_fits bodies n s ≡ true
     → state_fits (all_woven bodies) n s ≡ true
@@ -91,7 +99,8 @@ states_made : (bodies : List Body) (states : List StateCode) → fits_states bod
     → fits_states (all_woven bodies) states ≡ true
 states_made bodies states e =
     let p = both_true _ _ e in
-    both _ _ p.0 (all_others (state_fits bodies) (state_fits (all_woven bodies)) (state_same bodies) 0 states p.1)
+    both _ _ p.0 (all_others (state_fits bodies) (state_fits (all_woven bodies)) (state_same bodies) 0 states
+    p.1)
 
 module _ (globals : List Value) (states : List StateCode) (bodies : List Body)
     (fits : fits_unit globals states bodies ≡ true)
@@ -109,7 +118,8 @@ module _ (globals : List Value) (states : List StateCode) (bodies : List Body)
       let has = has_points globals states bodies fits f b found in
       both _ _ (all_saves b has) (all_restored b has)
 
-  function_made : (f : ℕ) (w : Body) → slice_get (all_woven bodies) f ≡ Some w → is_woven_function names f w ≡ true
+  function_made : (f : ℕ) (w : Body) → slice_get (all_woven bodies) f ≡ Some w
+      → is_woven_function names f w ≡ true
   function_made f w found =
       let x = woven_from bodies f w found in
       let b = x.0 in

@@ -68,7 +68,8 @@ block_way b code i (suc n) m p q k more callee h =
     ∙ ap (λ f. option_map (putting (ToSlot i)) (backs code f q true (k + 1))) z
     ∙ ap (option_map (putting (ToSlot i))) (block_way b code (suc i) n m p q (k + 1) more callee h.1)
 
-tops_put : (vs slots ops : List Kind) → put_back (tops_puts (length vs)) vs slots ops ≡ Some (slots, reverse_aux vs ops)
+tops_put : (vs slots ops : List Kind) → put_back (tops_puts (length vs)) vs slots ops
+    ≡ Some (slots, reverse_aux vs ops)
 tops_put [] slots ops = refl
 tops_put (v ∷ vs) slots ops = tops_put vs slots (v ∷ ops)
 
@@ -80,7 +81,8 @@ block_put [] (d ∷ ds) done more i m e l = absurd (omega arith)
 block_put (v ∷ vs) [] done more i m e l = absurd (omega arith)
 block_put (v ∷ vs) (d ∷ ds) done more i m e l =
     let next : suc i ≡ length (done ++ v ∷ []) = omega (arith, length-append done (v ∷ [])) in
-    let has : slice_get (done ++ d ∷ ds) i ≡ Some d = ap (λ n. slice_get (done ++ d ∷ ds) n) e ∙ get_seam done d ds in
+    let has : slice_get (done ++ d ∷ ds) i ≡ Some d =
+    ap (λ n. slice_get (done ++ d ∷ ds) n) e ∙ get_seam done d ds in
     let put : slice_set (done ++ d ∷ ds) i v ≡ (done ++ v ∷ []) ++ ds =
     ap (λ n. slice_set (done ++ d ∷ ds) n v) e ∙ set_seam done d v ds
     ∙ sym (append_assoc done (v ∷ []) ds) in
@@ -104,7 +106,8 @@ put_one j i (suc n) m le lt =
     ⊎_elim
     (λ less. no_more (nat_eq j i) _ (differs' i j (omega arith)) ∙ put_one j (suc i) n m less (omega arith))
     (λ most. let e : j ≡ i = omega arith in
-    one_more (nat_eq j i) _ (ap (nat_eq j) (sym e) ∙ eq_self j) ∙ ap suc (put_none j (suc i) n m (omega arith)))
+    one_more (nat_eq j i) _ (ap (nat_eq j) (sym e) ∙ eq_self j)
+    ∙ ap suc (put_none j (suc i) n m (omega arith)))
     (cases_lt i j)
 
 ends_long : (b : Body) (code : List Instr) (s p : ℕ) (callee : Option ℕ) → HasAt code s (back_end b p callee)

@@ -9,7 +9,7 @@ use Rattle.lsl_code.specs.Bodies.{Body}
 use Rattle.lsl_code.specs.Fits.{all_places, may_be_bare, most_operands, counted, count_of}
 use Rattle.lsl_code.proofs.Sames.{both_true}
 use Rattle.lsl_weave.specs.Layout.{flat, shift, saves_from, main, woven_code, kinds_or_none, stack_before, main_stacks, nones, woven_stacks}
-use Rattle.lsl_weave.proofs.MadeSaves.{no_point, blocks, blocks_quiet}
+use Rattle.lsl_weave.proofs.Quiet.{no_point, blocks, blocks_quiet}
 use Rattle.lsl_weave.proofs.Saved.{has_value}
 use Rattle.lsl_weave.proofs.StacksLaid.{stacks_laid, first_stack}
 
@@ -123,7 +123,8 @@ module _ (b : Body) where
   mains_most : (k : ℕ) (is : List Instr) → most_operands (flat (main_stacks b) k is) ≤ most
   mains_most k [] = omega arith
   mains_most k (i ∷ is) =
-      most_join (main_stacks b k i) (flat (main_stacks b) (suc k) is) most (main_most k i) (mains_most (suc k) is)
+      most_join (main_stacks b k i) (flat (main_stacks b) (suc k) is) most (main_most k i)
+      (mains_most (suc k) is)
 
   pub most_woven : length b.stacks ≡ length b.code → most_operands (woven_stacks b) ≡ most_operands b.stacks
   most_woven long =
@@ -131,7 +132,8 @@ module _ (b : Body) where
       let rest : most_operands (flat (main_stacks b) 0 b.code ++ nones n) ≤ most =
       most_join (flat (main_stacks b) 0 b.code) (nones n) most (mains_most 0 b.code) (nones_most n most) in
       let up : most_operands (woven_stacks b) ≤ most = omega (arith, rest) in
-      let down : most ≤ most_operands (woven_stacks b) = most_le b.stacks (most_operands (woven_stacks b)) there in
+      let down : most ≤ most_operands (woven_stacks b) =
+      most_le b.stacks (most_operands (woven_stacks b)) there in
       omega (arith, up, down)
     where
       there : (k : ℕ) (ks : List Kind) → slice_get b.stacks k ≡ Some (Some ks)

@@ -16,7 +16,8 @@ use Rattle.lsl_code.proofs.Tested.{both, sames, sames_self}
 use Rattle.lsl_code.proofs.Told.{all_at}
 use Rattle.lsl_weave.specs.Layout.{flat, width, shift, saves_from, backs_from, save_place, main, woven_code, woven_of, kinds_or_none, stack_before, woven_stacks}
 use Rattle.lsl_weave.proofs.Lift.{first, shift_next, offset_none}
-use Rattle.lsl_weave.proofs.MadeSaves.{no_point, blocks, blocks_quiet, point_width}
+use Rattle.lsl_weave.proofs.MadeSaves.{point_width}
+use Rattle.lsl_weave.proofs.Quiet.{no_point, blocks, blocks_quiet}
 use Rattle.lsl_weave.proofs.Placing.{flat_length, main_length}
 use Rattle.lsl_weave.proofs.Saved.{has_value}
 use Rattle.lsl_weave.proofs.StacksLaid.{stacks_laid, nones_laid, first_stack, second_stack}
@@ -106,7 +107,8 @@ module _ (s : Scope) (b : Body) (long : length b.stacks ≡ length b.code)
   with_on k i None here e = absurd cc
   with_on k i (Some js) here e = goes_on_on k i js here e
 
-  before_on : (k : ℕ) (i : Instr) (ks : List Kind) → slice_get b.code k ≡ Some i → fits_before s b k i ks ≡ true
+  before_on : (k : ℕ) (i : Instr) (ks : List Kind) → slice_get b.code k ≡ Some i
+      → fits_before s b k i ks ≡ true
       → fits_before s (woven_of b) (shift b k) (first b i) ks ≡ true
   before_on k i ks here e =
       let p = both_true (goes_on_with b k i (behind s i ks)) (has_point s b.points i ks) e in
@@ -115,7 +117,8 @@ module _ (s : Scope) (b : Body) (long : length b.stacks ≡ length b.code)
       (point_first s b i ks ∙ p.1)
 
   -- the first instruction that stands for a plain one
-  first_fits : (k : ℕ) (i : Instr) → slice_get b.code k ≡ Some i → fits_at s (woven_of b) (shift b k) (first b i) ≡ true
+  first_fits : (k : ℕ) (i : Instr) → slice_get b.code k ≡ Some i
+      → fits_at s (woven_of b) (shift b k) (first b i) ≡ true
   first_fits k i here =
       ap (fits_where s (woven_of b) (shift b k) (first b i)) (stack_here k i here)
       ∙ by_stack (slice_get b.stacks k) (all_at (fits_at s b) b.code k i fits here)
@@ -157,7 +160,8 @@ module _ (s : Scope) (b : Body) (long : length b.stacks ≡ length b.code)
   main_fits k i j here =
       ⊎_elim
       (λ x. let here' : slice_get b.code k ≡ Some (point_instr x.0 x.1) = here ∙ ap Some x.2 in
-      subst (λ y. all_places (fits_at s (woven_of b)) (shift b k) (main b j y) ≡ true) (sym x.2) (points x.0 x.1 here'))
+      subst (λ y. all_places (fits_at s (woven_of b)) (shift b k) (main b j y) ≡ true) (sym x.2)
+      (points x.0 x.1 here'))
       (λ one. ap (all_places (fits_at s (woven_of b)) (shift b k)) one ∙ both _ _ (first_fits k i here) refl)
       (is_main b j i)
     where
@@ -173,7 +177,8 @@ module _ (s : Scope) (b : Body) (long : length b.stacks ≡ length b.code)
   blocks_fit from at [] n le lt quiet = refl
   blocks_fit from at (i ∷ is) n le lt quiet =
       let p = both_true (no_point n i) (all_places no_point (suc n) is) quiet in
-      both _ _ (ap (fits_where s (woven_of b) n i) (nones_laid b n (omega (arith, at, le)) (omega (arith, lt))) ∙ p.0)
+      both _ _ (ap (fits_where s (woven_of b) n i)
+      (nones_laid b n (omega (arith, at, le)) (omega (arith, lt))) ∙ p.0)
       (blocks_fit from at is (suc n) (omega (arith, le)) (omega (arith, lt)) p.1)
 
   head_fits : finds b 0 [] ≡ true → fits_at s (woven_of b) 0 (TestBack (backs_from b)) ≡ true

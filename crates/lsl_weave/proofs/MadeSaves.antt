@@ -1,6 +1,6 @@
 -- In woven code saving has a good way from each point.
 use Rattle.std.proofs.Common.{◌≡◌, ℕ, zero, suc, ◌+◌, ◌-◌, ◌<◌, ◌≤◌, List, [], ◌∷◌, ◌++◌, length, take, drop, Option, Some, None, Bool, true, false, cond, refl, sym, ap, ◌∙◌, arith, length-drop, ⊎_elim}
-use Rattle.std.specs.Prelude.{◌&&◌, slice_get, option_map, nat_eq}
+use Rattle.std.specs.Prelude.{slice_get, option_map, nat_eq}
 use mathlib.Core.List.{reverse_aux, reverse-reverse}
 use Rattle.std.proofs.lemmas.Bool.{cases_lt}
 use Rattle.std.proofs.lemmas.List.{length-reverse}
@@ -8,19 +8,19 @@ use Rattle.std.proofs.lemmas.Option.{slice_get_within}
 use Rattle.lsl_value.specs.declared.tagged.Kind.{Kind}
 use Rattle.lsl_code.specs.declared.functions.Point.{Point}
 use Rattle.lsl_code.specs.declared.instructions.Instr.{Instr}
-use Rattle.lsl_code.specs.declared.instructions.Instr.TheVariants.{Tick, Call, TestSave, Seal, Unpack, Branch}
+use Rattle.lsl_code.specs.declared.instructions.Instr.TheVariants.{Tick, Call, TestSave, Seal}
 use Rattle.lsl_code.specs.Bodies.{Body}
 use Rattle.lsl_code.specs.Fits.{all_places, may_be_bare}
 use Rattle.lsl_code.specs.Standing.{point_instr}
-use Rattle.lsl_code.proofs.Sames.{both_true}
 use Rattle.lsl_code.proofs.Tested.{both, eq_self, sames, less, differs, differs', all_if}
-use Rattle.lsl_weave.specs.Layout.{flat, width, shift, waiting, saves_from, save_place, main, keep_tops, keep_slots, save_block, back_slots, back_tops, back_end, back_block, table, woven_code, woven_of}
+use Rattle.lsl_weave.specs.Layout.{flat, width, shift, waiting, saves_from, save_place, main, keep_tops, keep_slots, woven_code, woven_of}
 use Rattle.lsl_weave.specs.SaveWays.{Keep, OfSlot, OfTop, keeping, onward, keeps_at, keeps, with_one, kept, are_kinds, keep_count, is_kept_once, waiting_kinds, is_save_way, is_test, saves_point, saves_at}
 use Rattle.lsl_weave.proofs.Lift.{shift_next}
 use Rattle.lsl_weave.proofs.PlainPoints.{HasPoints}
 use Rattle.lsl_weave.proofs.Placing.{HasAt, laid, main_length}
 use Rattle.lsl_weave.proofs.Saved.{has_value, take_one_more, take_all}
 use Rattle.lsl_weave.proofs.WovenForward.{all_append, all_flat, offset_up}
+use Rattle.lsl_weave.proofs.Quiet.{all_others, no_point, blocks, blocks_quiet}
 
 pub onward_on : {A : Type 0} (place to : ℕ) (way : Option A) → place < to → onward place to way ≡ way
 onward_on place to way lt = ap (λ b. cond b way None) (less place to lt)
@@ -101,7 +101,8 @@ drop_take n ks slots e = ap (λ l. l ++ drop n ks) (sym e) ∙ take_drop n ks
 kinds_true : (o : Option (List Kind)) (ks : List Kind) → o ≡ Some ks → are_kinds o ks ≡ true
 kinds_true o ks e = ap (λ x. are_kinds x ks) e ∙ sames ks ks refl
 
-slots_long : (code : List Instr) (s n p : ℕ) → HasAt code s (keep_slots n (Seal p ∷ [])) → s + n + 1 ≤ length code
+slots_long : (code : List Instr) (s n p : ℕ) → HasAt code s (keep_slots n (Seal p ∷ []))
+    → s + n + 1 ≤ length code
 slots_long code s zero p h = omega (arith, slice_get_within code s (Seal p) h.0)
 slots_long code s (suc n) p h = omega (arith, slots_long code (s + 1) n p h.1)
 
@@ -176,74 +177,10 @@ module _ (b : Body) (has : HasPoints b) where
   main_saves k (Call g p) e j = both _ _ (point_saves k p (Some g) e ((laid b).mains k (Call g p) e).1.0) refl
   main_saves k i e j = refl
 
--- code without points
-abbrev pub no_point : ℕ → Instr → Bool
-no_point k i = may_be_bare i
-
-abbrev pub IsQuiet : List Instr → Type 0
-IsQuiet is = (s : ℕ) → all_places no_point s is ≡ true
-
-quiet_tops : (m : ℕ) (tail : List Instr) → IsQuiet tail → IsQuiet (keep_tops m tail)
-quiet_tops zero tail h s = h s
-quiet_tops (suc m) tail h s = quiet_tops m tail h (suc s)
-
-quiet_slots : (n : ℕ) (tail : List Instr) → IsQuiet tail → IsQuiet (keep_slots n tail)
-quiet_slots zero tail h s = h s
-quiet_slots (suc n) tail h s = quiet_slots n tail h (suc s)
-
-quiet_back_slots : (i n : ℕ) (tail : List Instr) → IsQuiet tail → IsQuiet (back_slots i n tail)
-quiet_back_slots i zero tail h s = h s
-quiet_back_slots i (suc n) tail h s = quiet_back_slots (suc i) n tail h (suc s)
-
-quiet_back_tops : (m : ℕ) (tail : List Instr) → IsQuiet tail → IsQuiet (back_tops m tail)
-quiet_back_tops zero tail h s = h s
-quiet_back_tops (suc m) tail h s = quiet_back_tops m tail h (suc s)
-
-quiet_end : (b : Body) (p : ℕ) (callee : Option ℕ) → IsQuiet (back_end b p callee)
-quiet_end b p None s = refl
-quiet_end b p (Some g) s = refl
-
-quiet_flat : {A : Type 0} (g : ℕ → A → List Instr) → ((i : ℕ) (x : A) → IsQuiet (g i x)) → (i : ℕ) (xs : List A)
-    → IsQuiet (flat g i xs)
-quiet_flat g h i [] s = refl
-quiet_flat g h i (x ∷ xs) s = all_append no_point s (g i x) (flat g (suc i) xs) (h i x s)
-    (quiet_flat g h (suc i) xs (s + length (g i x)))
-
--- all that stands behind the running part
-abbrev pub blocks : Body → List Instr
-blocks b =
-    flat (save_block b) 0 b.points ++ (Unpack ∷ Branch ∷ (flat (table b) 0 b.points ++ flat (back_block b) 0 b.points))
-
-pub blocks_quiet : (b : Body) (s : ℕ) → all_places no_point s (blocks b) ≡ true
-blocks_quiet b s =
-    let n = length b.slots in
-    let saves = quiet_flat (save_block b)
-    (λ p pt. quiet_tops (waiting b pt) (keep_slots n (Seal p ∷ []))
-    (quiet_slots n (Seal p ∷ []) (λ s. refl))) 0 b.points in
-    let tables = quiet_flat (table b) (λ p pt s. refl) 0 b.points in
-    let backs_ = quiet_flat (back_block b)
-    (λ p pt. quiet_back_slots 0 n (back_tops (waiting b pt) (back_end b p pt.calls))
-    (quiet_back_tops (waiting b pt) (back_end b p pt.calls) (quiet_end b p pt.calls))) 0 b.points in
-    let last = λ (s : ℕ). all_append no_point s (flat (table b) 0 b.points) (flat (back_block b) 0 b.points)
-    (tables s) (backs_ (s + length (flat (table b) 0 b.points))) in
-    all_append no_point s (flat (save_block b) 0 b.points)
-    (Unpack ∷ Branch ∷ (flat (table b) 0 b.points ++ flat (back_block b) 0 b.points)) (saves s)
-    (last (suc (suc (s + length (flat (save_block b) 0 b.points)))))
-
 saves_nothing : (w : Body) (k : ℕ) (i : Instr) → may_be_bare i ≡ true → saves_at w k i ≡ true
 saves_nothing w k (Tick p) e = absurd cc
 saves_nothing w k (Call g p) e = absurd cc
 saves_nothing w k _ e = refl
-
-pub all_others : {A : Type 0} (test other : ℕ → A → Bool) → ((k : ℕ) (x : A) → test k x ≡ true → other k x ≡ true)
-    → (s : ℕ) (xs : List A) → all_places test s xs ≡ true → all_places other s xs ≡ true
-all_others test other h s [] e = refl
-all_others test other h s (x ∷ xs) e =
-    let p = both_are e in
-    both (other s x) (all_places other (suc s) xs) (h s x p.0) (all_others test other h (suc s) xs p.1)
-  where
-    both_are : (test s x && all_places test (suc s) xs) ≡ true → (test s x ≡ true) × (all_places test (suc s) xs ≡ true)
-    both_are e = both_true (test s x) (all_places test (suc s) xs) e
 
 pub all_saves : (b : Body) → HasPoints b → all_places (saves_at (woven_of b)) 0 (woven_code b) ≡ true
 all_saves b has =

@@ -21,7 +21,8 @@ pub record HasPoints (b : Body) : Type 0 where
       × (slice_get b.points p ≡ Some pt)
   pub stands : (p : ℕ) (pt : Point) → slice_get b.points p ≡ Some pt
       → slice_get b.code (place_of p b.code) ≡ Some (point_instr pt.calls p)
-  pub slots_first : (p : ℕ) (pt : Point) → slice_get b.points p ≡ Some pt → take (length b.slots) pt.kinds ≡ b.slots
+  pub slots_first : (p : ℕ) (pt : Point) → slice_get b.points p ≡ Some pt
+      → take (length b.slots) pt.kinds ≡ b.slots
 
 take_front : {A : Type 0} (a b : List A) → take (length a) (a ++ b) ≡ a
 take_front [] b = refl
@@ -56,7 +57,8 @@ module _ (globals : List Value) (states : List StateCode) (bodies : List Body)
   pub has_points : HasPoints b
   has_points =
       record {
-        placed = λ k p callee here. let m = (some_map globals states bodies fits f b found k p callee here).1 in
+        placed = λ k p callee here. let m =
+            (some_map globals states bodies fits f b found k p callee here).1 in
             (m.point, m.mapped);
         stands = stands globals states bodies fits f b found;
         slots_first = λ p pt mapped. begins_at (place_of p b.code) p pt.calls pt

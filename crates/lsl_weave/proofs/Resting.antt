@@ -1,7 +1,6 @@
--- Machines of a woven unit at a tick, in which all kinds are right, rest at points, and calls that do are such.
-use Rattle.std.proofs.Common.{◌≡◌, ℕ, ◌+◌, List, [], ◌∷◌, ◌++◌, length, drop, reverse, Option, Some, None, true, false, option_map, refl, sym, ap, ◌∙◌, subst, slice_get}
-use Rattle.std.proofs.Math.Seq.{drop-append_seam}
-use Rattle.std.proofs.lemmas.List.{reverse-reverse}
+-- Machines of a woven unit at a tick, in which all kinds are right, rest at points, and calls that do are
+-- such.
+use Rattle.std.proofs.Common.{◌≡◌, ℕ, ◌+◌, List, [], ◌∷◌, length, drop, Option, Some, None, true, option_map, refl, sym, ap, ◌∙◌, subst, slice_get}
 use Rattle.std.proofs.lemmas.Option.{slice_get-map}
 use Rattle.lsl_value.specs.declared.tagged.Kind.{Kind}
 use Rattle.lsl_value.specs.declared.tagged.Value.{Value}
@@ -11,15 +10,15 @@ use Rattle.lsl_code.specs.declared.instructions.Instr.{Instr}
 use Rattle.lsl_code.specs.declared.instructions.Instr.TheVariants.{Tick, Call}
 use Rattle.lsl_code.specs.declared.signatures.Names.{Names}
 use Rattle.lsl_code.specs.Bodies.{Body, instruction_in}
-use Rattle.lsl_code.specs.Effects.{pushed, called, waiting, behind}
-use Rattle.lsl_code.specs.Fits.{same_callee, is_point, goes_on, goes_on_with, fits_before, may_be_bare, fits_where, fits_at}
+use Rattle.lsl_code.specs.Effects.{pushed, called, waiting}
+use Rattle.lsl_code.specs.Fits.{fits_at}
 use Rattle.lsl_code.specs.Kinded.{AreWaiting, AreKindedCalls}
 use Rattle.lsl_code.specs.Kinds.{Scope, scope, kinds_of, names_in, signature_in}
 use Rattle.lsl_code.specs.Machine.{MachineCall}
 use Rattle.lsl_code.specs.Standing.{AreChained, IsChain, IsAtTick}
-use Rattle.lsl_code.specs.WellFormed.{StandsWith, FindsItsOperands}
+use Rattle.lsl_code.specs.WellFormed.{StandsWith}
 use Rattle.lsl_code.proofs.AtPoints.{pushed_one, one_stack}
-use Rattle.lsl_code.proofs.Sames.{both_true, eq_is, sames_are}
+use Rattle.lsl_code.proofs.Sames.{both_true}
 use Rattle.lsl_code.proofs.Taking.{taken}
 use Rattle.lsl_code.proofs.Told.{all_at, finds_told}
 use Rattle.lsl_weave.specs.SaveWays.{waiting_kinds}
@@ -27,55 +26,7 @@ use Rattle.lsl_weave.specs.Woven.{fits_running, is_woven}
 use Rattle.lsl_weave.specs.WovenCalls.{IsAt, WaitAtCalls, RestAtTick}
 use Rattle.lsl_weave.specs.WovenLaws.{KindedMachinesRest, RestingCallsAreKinded}
 use Rattle.lsl_weave.proofs.SavingOn.{function_ok}
-
-callee_is : (a b : Option ℕ) → same_callee a b ≡ true → a ≡ b
-callee_is None None e = refl
-callee_is (Some f) (Some g) e = ap Some (eq_is f g e)
-callee_is None (Some g) e = absurd cc
-callee_is (Some f) None e = absurd cc
-
--- the point of this number has this callee, and these kinds wait at it
-record HasWaiting (w : Body) (p : ℕ) (callee : Option ℕ) (ks : List Kind) : Type 0 where
-  point : Point
-  mapped : slice_get w.points p ≡ Some point
-  calls : point.calls ≡ callee
-  waits : waiting_kinds w.slots point ≡ ks
-
-waits_told : (w : Body) (p : ℕ) (o : Option Point) (callee : Option ℕ) (ks : List Kind)
-    → slice_get w.points p ≡ o → is_point o callee (w.slots ++ reverse ks) ≡ true → HasWaiting w p callee ks
-waits_told w p None callee ks e t = absurd cc
-waits_told w p (Some point) callee ks e t =
-    let b = both_true _ _ t in
-    let kinds : point.kinds ≡ w.slots ++ reverse ks = sames_are _ _ b.1 in
-    record {
-      point = point;
-      mapped = e;
-      calls = callee_is _ _ b.0;
-      waits =
-          ap (λ l. reverse (drop (length w.slots) l)) kinds
-          ∙ ap reverse (drop-append_seam w.slots (reverse ks)) ∙ reverse-reverse ks;
-    }
-
-kinds_there : (s : Scope) (w : Body) (k : ℕ) (i : Instr) (o : Option (Option (List Kind)))
-    → slice_get w.stacks k ≡ o → may_be_bare i ≡ false → fits_where s w k i o ≡ true → (ks : List Kind)
-    × StandsWith w k ks
-kinds_there s w k i None e bare fits = absurd cc
-kinds_there s w k i (Some None) e bare fits = absurd cc
-kinds_there s w k i (Some (Some js)) e bare fits = (reverse js, e ∙ ap (λ l. Some (Some l)) (sym (reverse-reverse js)))
-
-goes_told : (w : Body) (k : ℕ) (i : Instr) (o : Option (List Kind)) → goes_on_with w k i o ≡ true
-    → (js : List Kind) × (o ≡ Some js) × (goes_on w k i js ≡ true)
-goes_told w k i None e = absurd cc
-goes_told w k i (Some js) e = (js, refl, e)
-
-place_told : (s : Scope) (w : Body) (k : ℕ) (i : Instr) (ks : List Kind) → fits_at s w k i ≡ true
-    → StandsWith w k ks → FindsItsOperands s w k i ks
-place_told s w k i ks fits stands =
-    let here : fits_before s w k i ks ≡ true =
-    sym (ap (fits_before s w k i) (reverse-reverse ks)) ∙ sym (ap (fits_where s w k i) stands) ∙ fits in
-    let t = both_true (goes_on_with w k i (behind s i ks)) _ here in
-    let goes = goes_told w k i (behind s i ks) t.0 in
-    (goes.0, goes.1, goes.2, t.1)
+use Rattle.lsl_weave.proofs.Waiting.{HasWaiting, waits_told, kinds_there, place_told}
 
 module _ (globals : List Value) (states : List StateCode) (bodies : List Body)
     (ok : is_woven globals states bodies ≡ true) where
@@ -116,7 +67,8 @@ module _ (globals : List Value) (states : List StateCode) (bodies : List Body)
         → slice_get bodies g ≡ Some callee → (ks : List Kind) × HasWaiting w p (Some g) ks
         × StandsWith w (k + 1) (pushed callee.result ks)
     call_told k p g callee here there =
-        let stack = kinds_there own w k (Call g p) (slice_get w.stacks k) refl refl (fit_at k (Call g p) here) in
+        let stack = kinds_there own w k (Call g p) (slice_get w.stacks k) refl refl (fit_at k (Call g p) here)
+        in
         let ks = stack.0 in
         let told = place_told own w k (Call g p) ks (fit_at k (Call g p) here) stack.1 in
         let named : slice_get own.functions g ≡ Some (signature_in callee) =
@@ -147,7 +99,8 @@ module _ (globals : List Value) (states : List StateCode) (bodies : List Body)
       let here : slice_get w.code k ≡ Some (Call g p) =
       subst (λ (b : Body). slice_get b.code k ≡ Some (Call g p)) same link.5 in
       let told = call_told c.function w found k p g callee here there in
-      let stands = subst (λ n. StandsWith w n (pushed callee.result (kinds_of c.operands))) link.4 kinded.2.1 in
+      let stands = subst (λ n. StandsWith w n (pushed callee.result (kinds_of c.operands))) link.4 kinded.2.1
+      in
       let operands = pushed_one callee.result _ _ (one_stack w (k + 1) _ _ stands told.2) in
       let m = told.1 in
       let fit : IsAt bodies c k (Some g) p =
@@ -171,7 +124,8 @@ module _ (globals : List Value) (states : List StateCode) (bodies : List Body)
       let w = kinded.0 in
       let found = kinded.1 in
       let p = tick.0 in
-      let here : slice_get w.code c.place ≡ Some (Tick p) = sym (ap (λ o. instruction_in o c.place) found) ∙ tick.1 in
+      let here : slice_get w.code c.place ≡ Some (Tick p) =
+      sym (ap (λ o. instruction_in o c.place) found) ∙ tick.1 in
       let m = tick_waits c.function w found c.place p (kinds_of c.operands) here kinded.2.1 in
       let fit : IsAt bodies c c.place None p =
       record {
@@ -237,4 +191,5 @@ kinded_machines_rest globals states bodies ok h m kinded chain tick =
     calls_rest globals states bodies ok h m.calls kinded.calls chain tick
 
 pub resting_calls_are_kinded : RestingCallsAreKinded
-resting_calls_are_kinded globals states bodies ok h calls rest = calls_kinded globals states bodies ok h calls rest
+resting_calls_are_kinded globals states bodies ok h calls rest =
+    calls_kinded globals states bodies ok h calls rest

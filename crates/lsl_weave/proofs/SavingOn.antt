@@ -22,7 +22,8 @@ use Rattle.lsl_weave.specs.Woven.{is_kept, is_woven_function, is_woven}
 use Rattle.lsl_weave.specs.WovenCalls.{IsAt}
 
 -- at most n instructions are left to the end of the frame of a point with these kinds
-pub record OnSaveWay (w : Body) (p : ℕ) (kinds : List Kind) (n : ℕ) (c : MachineCall) (hand : List Value) : Type 0 where
+pub record OnSaveWay (w : Body) (p : ℕ) (kinds : List Kind) (n : ℕ) (c : MachineCall)
+    (hand : List Value) : Type 0 where
   pub way : SaveWay
   pub is_way : keeps w.code n c.place ≡ Some way
   pub point_is : way.point ≡ p
@@ -32,7 +33,8 @@ pub record OnSaveWay (w : Body) (p : ℕ) (kinds : List Kind) (n : ℕ) (c : Mac
 -- the act goes on along the way, or closes the frame at its end
 abbrev pub SaveGoesOn : Body → ℕ → List Kind → ℕ → ℕ → SaveAct → Type 0
 SaveGoesOn w p kinds n f (Keeps c hand) = (c.function ≡ f) × OnSaveWay w p kinds n c hand
-SaveGoesOn w p kinds n f (Seals frame) = (frame.function ≡ f) × (frame.point ≡ p) × (kinds_of frame.slots ≡ kinds)
+SaveGoesOn w p kinds n f (Seals frame) = (frame.function ≡ f) × (frame.point ≡ p)
+    × (kinds_of frame.slots ≡ kinds)
 SaveGoesOn w p kinds n f NoSave = ⊥
 
 -- the function's part of the unit's test
@@ -72,13 +74,20 @@ way_of w k p point None e h = absurd cc
 way_of w k p point (Some way) e h =
     let a = both_true _ _ h in
     let b = both_true _ _ a.0 in
-    record { way = way; is_way = e; point_is = eq_is way.point p b.0; kinds_are = kinds_told _ point.kinds a.1 }
+    record {
+      way = way;
+      is_way = e;
+      point_is = eq_is way.point p b.0;
+      kinds_are =
+          kinds_told _ point.kinds a.1;
+    }
 
 pub save_way : (w : Body) (k p : ℕ) (callee : Option ℕ) (point : Point) → is_kept w ≡ true
     → slice_get w.code k ≡ Some (point_instr callee p) → slice_get w.points p ≡ Some point
     → SaveWayOf w k p point
 save_way w k p callee point ok here mapped =
-    let at_k = save_part w k p callee (all_at (saves_at w) w.code k (point_instr callee p) (both_true _ _ ok).0 here) in
+    let at_k = save_part w k p callee (all_at (saves_at w) w.code k (point_instr callee p)
+    (both_true _ _ ok).0 here) in
     let at_point = subst (λ o. saves_point w k p o ≡ true) mapped at_k in
     way_of w k p point (keeps w.code (length w.code) (k + 1)) refl (both_true _ _ at_point).1
 
@@ -106,7 +115,8 @@ way_behind k (Some rest) way e =
     (rest, refl, ap (λ w. w.order) (sym is), ap (λ w. w.point) (sym is))
 
 -- behind a jump forward the way is what it is from there
-pub onward_is : {A : Type 0} (place to : ℕ) (way : Option A) (a : A) → onward place to way ≡ Some a → way ≡ Some a
+pub onward_is : {A : Type 0} (place to : ℕ) (way : Option A) (a : A) → onward place to way ≡ Some a
+    → way ≡ Some a
 onward_is place to way a e = by_test (nat_lt place to) e
   where
     by_test : (b : Bool) → cond b way None ≡ Some a → way ≡ Some a
@@ -129,7 +139,8 @@ module _ (w : Body) (p : ℕ) (kinds : List Kind) (n : ℕ) where
       ap (λ l. slice_get l i) (sym st.slots) ∙ slice_get-map kind_of c.slots i
       ∙ ap (option_map kind_of) is in
       let kept' = ap (λ r. kept w.slots r (kinds_of c.operands) (kinds_of hand)) (sym b.2) ∙ st.kinds_are in
-      let kept'' = ap (λ q. with_one q (λ v. kept w.slots b.0.order (kinds_of c.operands) (v ∷ kinds_of hand)))
+      let kept'' = ap (λ q. with_one q (λ v.
+      kept w.slots b.0.order (kinds_of c.operands) (v ∷ kinds_of hand)))
       (sym slot) ∙ kept' in
       cases o b kept''
     where
@@ -140,8 +151,17 @@ module _ (w : Body) (p : ℕ) (kinds : List Kind) (n : ℕ) where
           → SaveGoesOn w p kinds n c.function
           (keeps_slot o (λ v. Keeps (at_place c (c.place + 1) c.operands) (v ∷ hand)))
       cases None b e = absurd (none-some kinds e)
-      cases (Some v) b e =
-          (refl, record { way = b.0; is_way = b.1; point_is = sym b.3 ∙ st.point_is; slots = st.slots; kinds_are = e })
+      cases (Some v) b e = (
+        refl,
+        record {
+          way = b.0;
+          is_way = b.1;
+          point_is = sym b.3 ∙ st.point_is;
+          slots =
+              st.slots;
+          kinds_are = e;
+        },
+      )
 
   top_kept : (c : MachineCall) (hand : List Value) (st : OnSaveWay w p kinds (suc n) c hand)
       → option_map (keeping OfTop) (keeps w.code n (c.place + 1)) ≡ Some st.way → (ops : List Value)
@@ -159,8 +179,17 @@ module _ (w : Body) (p : ℕ) (kinds : List Kind) (n : ℕ) where
           → SaveGoesOn w p kinds n c.function
           (keeps_top ops (λ v vs. Keeps (at_place c (c.place + 1) vs) (v ∷ hand)))
       cases [] b e = absurd (none-some kinds e)
-      cases (v ∷ vs) b e =
-          (refl, record { way = b.0; is_way = b.1; point_is = sym b.3 ∙ st.point_is; slots = st.slots; kinds_are = e })
+      cases (v ∷ vs) b e = (
+        refl,
+        record {
+          way = b.0;
+          is_way = b.1;
+          point_is = sym b.3 ∙ st.point_is;
+          slots =
+              st.slots;
+          kinds_are = e;
+        },
+      )
 
   -- all is kept where the frame is closed
   seals : (c : MachineCall) (hand : List Value) (q : ℕ) (st : OnSaveWay w p kinds (suc n) c hand)
@@ -175,7 +204,8 @@ module _ (w : Body) (p : ℕ) (kinds : List Kind) (n : ℕ) where
       all_kept [] e = cc
       all_kept (o ∷ ops) e = absurd cc
 
-  on_instr : (c : MachineCall) (hand : List Value) (st : OnSaveWay w p kinds (suc n) c hand) (o : Option Instr)
+  on_instr : (c : MachineCall) (hand : List Value) (st : OnSaveWay w p kinds (suc n) c hand)
+      (o : Option Instr)
       → keeps_at (keeps w.code n) c.place o ≡ Some st.way
       → SaveGoesOn w p kinds n c.function (save_act o c hand)
   on_instr c hand st (Some (TestSave t)) e = (refl, goes_to c hand t st (onward_is c.place t _ _ e))

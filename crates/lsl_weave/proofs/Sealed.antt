@@ -19,7 +19,8 @@ use Rattle.lsl_weave.proofs.Chains.{WaitFrames, are_frames}
 use Rattle.lsl_weave.proofs.SavingOn.{OnSaveWay, SaveGoesOn, AreKept, kept_ok, save_begins, save_goes_on, save_not_over}
 
 -- the call ends as a frame of this point, with values of these kinds
-record IsSealed (bodies : List Body) (c : MachineCall) (hand : List Value) (p : ℕ) (kinds : List Kind) : Type 0 where
+record IsSealed (bodies : List Body) (c : MachineCall) (hand : List Value) (p : ℕ) (kinds : List Kind) : Type
+    0 where
   steps : ℕ
   frame : Frame
   function_is : frame.function ≡ c.function
@@ -34,7 +35,8 @@ module _ (bodies : List Body) (w : Body) (p : ℕ) (kinds : List Kind) where
       → (rest : List MachineCall) (sack : List Frame)
       → save_step bodies (saving (c ∷ rest) hand sack)
       ≡ save_after (save_act (slice_get w.code c.place) c hand) rest sack
-  step_is c hand found rest sack = ap (λ o. save_after (save_act (instruction_in o c.place) c hand) rest sack) found
+  step_is c hand found rest sack = ap (λ o. save_after (save_act (instruction_in o c.place) c hand) rest sack)
+      found
 
   by_act : (n : ℕ) (c : MachineCall) (hand : List Value) (a : SaveAct) → SaveGoesOn w p kinds n c.function a
       → ((rest : List MachineCall) (sack : List Frame)

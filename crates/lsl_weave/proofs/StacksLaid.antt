@@ -7,7 +7,7 @@ use Rattle.lsl_code.specs.declared.instructions.Instr.TheVariants.{Tick, Call}
 use Rattle.lsl_code.specs.Bodies.{Body}
 use Rattle.lsl_code.specs.Standing.{point_instr}
 use Rattle.lsl_weave.specs.Layout.{flat, width, shift, saves_from, main, woven_code, stack_before, main_stacks, nones, woven_stacks}
-use Rattle.lsl_weave.proofs.MadeSaves.{blocks}
+use Rattle.lsl_weave.proofs.Quiet.{blocks}
 use Rattle.lsl_weave.proofs.Placing.{HasAt, has_front, has_all, flat_at, flat_length, main_length}
 
 pub stacks_length : (b : Body) (k : ℕ) (i : Instr) → length (main_stacks b k i) ≡ width i
@@ -68,7 +68,8 @@ module _ (b : Body) where
       (has_front (woven_stacks b) 1 (flat (main_stacks b) 0 b.code) _ behind) e)
 
   -- and none in the blocks
-  pub nones_laid : (j : ℕ) → saves_from b ≤ j → suc j ≤ length (woven_code b) → slice_get (woven_stacks b) j ≡ Some None
+  pub nones_laid : (j : ℕ) → saves_from b ≤ j → suc j ≤ length (woven_code b)
+      → slice_get (woven_stacks b) j ≡ Some None
   nones_laid j le lt =
       let front : List (Option (List Kind)) = Some [] ∷ flat (main_stacks b) 0 b.code in
       let long : length front ≡ saves_from b =

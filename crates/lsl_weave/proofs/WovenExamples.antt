@@ -1,8 +1,7 @@
--- A unit whose added code keeps two slots the other way round is woven. Units whose added code forgets, doubles or
--- loses one are not.
-use Rattle.std.proofs.Common.{◌≡◌, ℕ, List, [], ◌∷◌, ◌++◌, Option, Some, None, Bool, true, false, refl}
+-- A unit whose added code keeps two slots the other way round is woven. Units whose added code forgets,
+-- doubles or loses one are not.
+use Rattle.std.proofs.Common.{◌≡◌, ℕ, List, [], ◌∷◌, ◌++◌, Some, None, Bool, true, false, refl}
 use Rattle.lsl_value.specs.declared.names.EventId.TheVariants.{StateEntry}
-use Rattle.lsl_value.specs.declared.tagged.Kind.{Kind}
 use Rattle.lsl_value.specs.declared.tagged.Kind.TheVariants as kind
 use Rattle.lsl_code.specs.declared.functions.StateCode.{StateCode}
 use Rattle.lsl_code.specs.declared.instructions.Instr.{Instr}
@@ -37,7 +36,8 @@ saving_so keeps =
 
 abbrev restoring_so : ℕ → List Instr → List Instr
 restoring_so home puts =
-    TestBack 8 ∷ Tick 0 ∷ TestSave 4 ∷ Return ∷ KeepSlot 2 ∷ KeepSlot 1 ∷ KeepSlot 0 ∷ Seal 0 ∷ Unpack ∷ Branch ∷ Jump 11
+    TestBack 8 ∷ Tick 0 ∷ TestSave 4 ∷ Return ∷ KeepSlot 2 ∷ KeepSlot 1 ∷ KeepSlot 0 ∷ Seal
+    0 ∷ Unpack ∷ Branch ∷ Jump 11
     ∷ (puts ++ (Awake ∷ Jump home ∷ []))
 
 in_order : passes (saving_so (KeepSlot 2 ∷ KeepSlot 1 ∷ KeepSlot 0 ∷ [])) ≡ true
@@ -67,7 +67,8 @@ past_the_tick = refl
 -- without the test behind the tick, with the saving code where it leads
 abbrev tested_by : Instr → List Instr
 tested_by test =
-    TestBack 8 ∷ Tick 0 ∷ test ∷ Return ∷ KeepSlot 2 ∷ KeepSlot 1 ∷ KeepSlot 0 ∷ Seal 0 ∷ Unpack ∷ Branch ∷ Jump 11
+    TestBack 8 ∷ Tick 0 ∷ test ∷ Return ∷ KeepSlot 2 ∷ KeepSlot 1 ∷ KeepSlot 0 ∷ Seal
+    0 ∷ Unpack ∷ Branch ∷ Jump 11
     ∷ BackSlot 0 ∷ BackSlot 1 ∷ BackSlot 2 ∷ Awake ∷ Jump 1 ∷ []
 
 tested : passes (tested_by (TestSave 4)) ≡ true

@@ -15,8 +15,8 @@ pub data Put : Type 0 where
   ToSlot : ℕ → Put
   ToTop : Put
 
--- where the values are put, one after another, the function that is called at the end, or none, and the place where
--- the call then stands
+-- where the values are put, one after another, the function that is called at the end, or none, and the place
+-- where the call then stands
 pub record BackWay : Type 0 where
   pub puts : List Put
   pub callee : Option ℕ
@@ -83,8 +83,8 @@ lands_well code p None None place = is_tick_of p (slice_get code place)
 lands_well code p (Some g) (Some f) (suc place) = nat_eq g f && is_call_of g p (slice_get code place)
 lands_well code p calls callee place = false
 
--- a value is put to each slot and to each waiting operand once, each to one of its kind, and the way ends with the
--- function that the point calls, or with none at a tick
+-- a value is put to each slot and to each waiting operand once, each to one of its kind, and the way ends
+-- with the function that the point calls, or with none at a tick
 abbrev pub is_back_way : Body → ℕ → Point → Option BackWay → Bool
 is_back_way w p point None = false
 is_back_way w p point (Some way) =

@@ -68,8 +68,8 @@ is_kept_once order n k = nat_eq (keep_count n order) 1
 abbrev pub waiting_kinds : List Kind → Point → List Kind
 waiting_kinds slots point = reverse (drop (length slots) point.kinds)
 
--- the way ends at this point, and each slot and each waiting operand is kept once, in an order that has the kinds of
--- the point's map
+-- the way ends at this point, and each slot and each waiting operand is kept once, in an order that has the
+-- kinds of the point's map
 abbrev pub is_save_way : List Kind → ℕ → Point → Option SaveWay → Bool
 is_save_way slots p point None = false
 is_save_way slots p point (Some way) =
@@ -86,8 +86,8 @@ saves_point w place p (Some point) =
     is_test (slice_get w.code (place + 1))
     && is_save_way w.slots p point (keeps w.code (length w.code) (place + 1))
 
--- directly behind each tick and each call stands a test, from which saving goes forward to the end of that point's
--- frame
+-- directly behind each tick and each call stands a test, from which saving goes forward to the end of that
+-- point's frame
 abbrev pub saves_at : Body → ℕ → Instr → Bool
 saves_at w place (Tick p) = saves_point w place p (slice_get w.points p)
 saves_at w place (Call f p) = saves_point w place p (slice_get w.points p)

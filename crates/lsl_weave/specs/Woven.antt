@@ -1,4 +1,5 @@
--- Which units are woven: their code runs as a unit's does, and has code that saves and restores each of its calls.
+-- Which units are woven: their code runs as a unit's does, and has code that saves and restores each of its
+-- calls.
 use Rattle.std.specs.Prelude.{ℕ, ◌&&◌, Bool, List, [], nat_eq, nat_lt, length, take}
 use Rattle.lsl_value.specs.declared.tagged.Value.{Value}
 use Rattle.lsl_code.specs.declared.functions.StateCode.{StateCode}
@@ -11,7 +12,8 @@ use Rattle.lsl_weave.specs.BackWays.{restores_point}
 use Rattle.lsl_weave.specs.ForwardTests.{body_ok}
 use Rattle.lsl_weave.specs.SaveWays.{saves_at}
 
--- while the function runs, its instructions find what they need, and its points stand once each and have a line each
+-- while the function runs, its instructions find what they need, and its points stand once each and have a
+-- line each
 abbrev pub fits_running : Names → Body → Bool
 fits_running names w =
     finds w 0 []

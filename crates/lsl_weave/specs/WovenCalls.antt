@@ -22,7 +22,8 @@ pub record IsAt (bodies : List Body) (c : MachineCall) (k : ℕ) (callee : Optio
 abbrev pub WaitAtCalls : List Body → ℕ → List MachineCall → ℕ → Type 0
 WaitAtCalls bodies handler [] g = g ≡ handler
 WaitAtCalls bodies handler (c ∷ outer) g =
-    (k : ℕ) × (p : ℕ) × (c.place ≡ k + 1) × IsAt bodies c k (Some g) p × WaitAtCalls bodies handler outer c.function
+    (k : ℕ) × (p : ℕ) × (c.place ≡ k + 1) × IsAt bodies c k (Some g) p
+    × WaitAtCalls bodies handler outer c.function
 
 -- and the first stands at a tick
 abbrev pub RestAtTick : List Body → ℕ → List MachineCall → Type 0

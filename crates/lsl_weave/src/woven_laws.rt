@@ -2,15 +2,15 @@
 
 ghost use Rattle.lsl_weave.specs.WovenLaws.{KindedMachinesRest, RestingCallsAreKinded, RestoredRest, SavedFramesFit, WeavingMakesWoven, WovenRestores, WovenSaves};
 
-/// Saving a machine of a woven unit at a tick never gets stuck: it ends, with frames that fit, also where the code
-/// keeps the values in an order of its own.
+/// Saving a machine of a woven unit at a tick never gets stuck: it ends, with frames that fit, also where the
+/// code keeps the values in an order of its own.
 pub fn woven_units_save()
     ensures ends { WovenSaves }
     ensures valid { SavedFramesFit }
 {}
 
-/// Restoring frames that fit never gets stuck: it ends with a machine at a tick whose calls have the kinds of their
-/// points.
+/// Restoring frames that fit never gets stuck: it ends with a machine at a tick whose calls have the kinds of
+/// their points.
 pub fn woven_units_restore()
     ensures ends { WovenRestores }
     ensures valid { RestoredRest }

@@ -1,4 +1,4 @@
-use Rattle.lsl_weave.proofs.Reentered.{woven_restores, restored_rest}
+use Rattle.lsl_weave.proofs.FramesBack.{woven_restores, restored_rest}
 use Rattle.lsl_weave.proofs.woven_laws.woven_units_restore.Goals as goal
 
 pub returns-clause-ends : goal.returns-clause-ends
