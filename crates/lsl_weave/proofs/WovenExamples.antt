@@ -1,7 +1,8 @@
--- A unit whose added code keeps two slots the other way round is woven. Units whose added code forgets,
--- doubles or loses one are not.
-use Rattle.std.proofs.Common.{◌≡◌, ℕ, List, [], ◌∷◌, ◌++◌, Some, None, Bool, true, false, refl}
+-- A unit whose added code keeps two slots the other way round is woven. Units whose added code forgets one, doubles
+-- one or goes astray are not.
+use Rattle.std.proofs.Common.{◌≡◌, ℕ, zero, suc, ◌-◌, List, [], ◌∷◌, ◌++◌, length, Option, Some, None, Bool, true, false, refl}
 use Rattle.lsl_value.specs.declared.names.EventId.TheVariants.{StateEntry}
+use Rattle.lsl_value.specs.declared.tagged.Kind.{Kind}
 use Rattle.lsl_value.specs.declared.tagged.Kind.TheVariants as kind
 use Rattle.lsl_code.specs.declared.functions.StateCode.{StateCode}
 use Rattle.lsl_code.specs.declared.instructions.Instr.{Instr}
@@ -13,9 +14,13 @@ use Rattle.lsl_weave.specs.Woven.{is_woven}
 abbrev states : List StateCode
 states = record { name = []; handlers = record { event = StateEntry; function = 0 } ∷ [] } ∷ []
 
--- a function with two slots and a tick, with these kinds before its added code
-abbrev function_of : List Instr → Body
-function_of code = record {
+abbrev empties : ℕ → List (Option (List Kind))
+empties zero = []
+empties (suc n) = Some [] ∷ empties n
+
+-- a function with three slots and a tick, whose first n instructions run, with no operands
+abbrev function_of : ℕ → List Instr → Body
+function_of n code = record {
   params = [];
   slots = kind.Int ∷ kind.Str ∷ kind.Int ∷ [];
   result = None;
@@ -23,62 +28,68 @@ function_of code = record {
   points = record { kinds = kind.Int ∷ kind.Str ∷ kind.Int ∷ []; calls = None } ∷ [];
   lines = 1 ∷ [];
   code = code;
-  stacks = Some [] ∷ Some [] ∷ Some [] ∷ Some [] ∷ nones 12;
+  stacks = empties n ++ nones (length code - n);
 }
 
-abbrev passes : List Instr → Bool
-passes code = is_woven [] states (function_of code ∷ [])
+abbrev passes : ℕ → List Instr → Bool
+passes n code = is_woven [] states (function_of n code ∷ [])
 
+-- kept so, and put back in order
 abbrev saving_so : List Instr → List Instr
 saving_so keeps =
     TestBack 8 ∷ Tick 0 ∷ TestSave 4 ∷ Return ∷ (keeps ++ (Seal 0 ∷ Unpack ∷ Branch ∷ Jump 11
     ∷ BackSlot 0 ∷ BackSlot 1 ∷ BackSlot 2 ∷ Awake ∷ Jump 1 ∷ []))
 
+-- put back so, with a call that then stands at this place
 abbrev restoring_so : ℕ → List Instr → List Instr
 restoring_so home puts =
-    TestBack 8 ∷ Tick 0 ∷ TestSave 4 ∷ Return ∷ KeepSlot 2 ∷ KeepSlot 1 ∷ KeepSlot 0 ∷ Seal
-    0 ∷ Unpack ∷ Branch ∷ Jump 11
-    ∷ (puts ++ (Awake ∷ Jump home ∷ []))
+    TestBack 8 ∷ Tick 0 ∷ TestSave 4 ∷ Return ∷ KeepSlot 2 ∷ KeepSlot 1 ∷ KeepSlot 0 ∷ Seal 0 ∷ Unpack ∷ Branch
+    ∷ Jump 11 ∷ (puts ++ (Awake ∷ Jump home ∷ []))
 
-in_order : passes (saving_so (KeepSlot 2 ∷ KeepSlot 1 ∷ KeepSlot 0 ∷ [])) ≡ true
+in_order : passes 4 (saving_so (KeepSlot 2 ∷ KeepSlot 1 ∷ KeepSlot 0 ∷ [])) ≡ true
 in_order = refl
 
-exchanged : passes (saving_so (KeepSlot 0 ∷ KeepSlot 1 ∷ KeepSlot 2 ∷ [])) ≡ true
+exchanged : passes 4 (saving_so (KeepSlot 0 ∷ KeepSlot 1 ∷ KeepSlot 2 ∷ [])) ≡ true
 exchanged = refl
 
-kept_twice : passes (saving_so (KeepSlot 0 ∷ KeepSlot 1 ∷ KeepSlot 0 ∷ [])) ≡ false
+kept_twice : passes 4 (saving_so (KeepSlot 0 ∷ KeepSlot 1 ∷ KeepSlot 0 ∷ [])) ≡ false
 kept_twice = refl
 
-another_kind : passes (saving_so (KeepSlot 1 ∷ KeepSlot 2 ∷ KeepSlot 0 ∷ [])) ≡ false
-another_kind = refl
+kept_as_another_kind : passes 4 (saving_so (KeepSlot 1 ∷ KeepSlot 2 ∷ KeepSlot 0 ∷ [])) ≡ false
+kept_as_another_kind = refl
 
-no_operand_waits : passes (saving_so (KeepSlot 2 ∷ KeepTop ∷ KeepSlot 0 ∷ [])) ≡ false
+no_operand_waits : passes 4 (saving_so (KeepSlot 2 ∷ KeepTop ∷ KeepSlot 0 ∷ [])) ≡ false
 no_operand_waits = refl
 
-put_exchanged : passes (restoring_so 1 (BackSlot 2 ∷ BackSlot 1 ∷ BackSlot 0 ∷ [])) ≡ true
+put_exchanged : passes 4 (restoring_so 1 (BackSlot 2 ∷ BackSlot 1 ∷ BackSlot 0 ∷ [])) ≡ true
 put_exchanged = refl
 
-put_twice : passes (restoring_so 1 (BackSlot 0 ∷ BackSlot 1 ∷ BackSlot 0 ∷ [])) ≡ false
+put_twice : passes 4 (restoring_so 1 (BackSlot 0 ∷ BackSlot 1 ∷ BackSlot 0 ∷ [])) ≡ false
 put_twice = refl
 
-past_the_tick : passes (restoring_so 2 (BackSlot 0 ∷ BackSlot 1 ∷ BackSlot 2 ∷ [])) ≡ false
+put_to_another_kind : passes 4 (restoring_so 1 (BackSlot 1 ∷ BackSlot 0 ∷ BackSlot 2 ∷ [])) ≡ false
+put_to_another_kind = refl
+
+past_the_tick : passes 4 (restoring_so 2 (BackSlot 0 ∷ BackSlot 1 ∷ BackSlot 2 ∷ [])) ≡ false
 past_the_tick = refl
 
--- without the test behind the tick, with the saving code where it leads
-abbrev tested_by : Instr → List Instr
-tested_by test =
-    TestBack 8 ∷ Tick 0 ∷ test ∷ Return ∷ KeepSlot 2 ∷ KeepSlot 1 ∷ KeepSlot 0 ∷ Seal
-    0 ∷ Unpack ∷ Branch ∷ Jump 11
-    ∷ BackSlot 0 ∷ BackSlot 1 ∷ BackSlot 2 ∷ Awake ∷ Jump 1 ∷ []
+abbrev put_in_order : List Instr
+put_in_order = Unpack ∷ Branch ∷ Jump 12 ∷ BackSlot 0 ∷ BackSlot 1 ∷ BackSlot 2 ∷ Awake ∷ Jump 1 ∷ []
 
-tested : passes (tested_by (TestSave 4)) ≡ true
-tested = refl
+-- the test stands directly behind the tick
+behind_a_jump : passes 5 (TestBack 9 ∷ Tick 0 ∷ Jump 3 ∷ TestSave 5 ∷ Return
+    ∷ KeepSlot 2 ∷ KeepSlot 1 ∷ KeepSlot 0 ∷ Seal 0 ∷ put_in_order) ≡ false
+behind_a_jump = refl
 
-untested : passes (tested_by (Jump 3)) ≡ false
-untested = refl
+behind_the_tick : passes 5 (TestBack 9 ∷ Tick 0 ∷ TestSave 5 ∷ Jump 4 ∷ Return
+    ∷ KeepSlot 2 ∷ KeepSlot 1 ∷ KeepSlot 0 ∷ Seal 0 ∷ put_in_order) ≡ true
+behind_the_tick = refl
 
-led_to_the_second : passes (tested_by (TestSave 5)) ≡ false
-led_to_the_second = refl
+-- the way goes only forward
+goes_forward : passes 4 (TestBack 9 ∷ Tick 0 ∷ TestSave 4 ∷ Return
+    ∷ KeepSlot 2 ∷ Jump 6 ∷ KeepSlot 1 ∷ KeepSlot 0 ∷ Seal 0 ∷ put_in_order) ≡ true
+goes_forward = refl
 
-led_back : passes (tested_by (TestSave 1)) ≡ false
-led_back = refl
+goes_back : passes 4 (TestBack 9 ∷ Tick 0 ∷ TestSave 6 ∷ Return
+    ∷ KeepSlot 0 ∷ Seal 0 ∷ KeepSlot 2 ∷ KeepSlot 1 ∷ Jump 4 ∷ put_in_order) ≡ false
+goes_back = refl
