@@ -23,12 +23,15 @@ form-prefix_free TextForm = text-prefix_free
 form-prefix_free ValueForm = value-prefix_free
 
 -- what stands in a field is one thing, and ends at one place
-pub stands-one : (bytes : List ℕ) (place : ℕ) (form : Form) (v w : Content form) (p q : ℕ) → Stands bytes place form v p → Stands bytes place form w q → (v ≡ w) × (p ≡ q)
+pub stands-one : (bytes : List ℕ) (place : ℕ) (form : Form) (v w : Content form) (p q : ℕ)
+    → Stands bytes place form v p → Stands bytes place form w q → (v ≡ w) × (p ≡ q)
 stands-one bytes place form v w p q g h =
-    let same : v ≡ w = (form-prefix_free form v w (drop p bytes) (drop q bytes) g.0 h.0 (sym g.1.parts ∙ h.1.parts)).0 in
+    let same : v ≡ w = (form-prefix_free form v w (drop p bytes) (drop q bytes) g.0 h.0
+    (sym g.1.parts ∙ h.1.parts)).0 in
     (same, omega (arith, g.1.behind, h.1.behind, ap (λ (x : Content form). length (bytes_of form x)) same))
 
-pub gives-one : {A : Type 0} (bytes : List ℕ) (layout : Layout A) (place : ℕ) (a b : A) (p q : ℕ) → Gives bytes layout place a p → Gives bytes layout place b q → (a ≡ b) × (p ≡ q)
+pub gives-one : {A : Type 0} (bytes : List ℕ) (layout : Layout A) (place : ℕ) (a b : A) (p q : ℕ)
+    → Gives bytes layout place a p → Gives bytes layout place b q → (a ≡ b) × (p ≡ q)
 gives-one bytes (Ends c) place a b p q g h = (g.0 ∙ sym h.0, g.1 ∙ sym h.1)
 gives-one bytes (Refused fault) place a b p q g h = absurd g
 gives-one bytes (Here next) place a b p q g h = gives-one bytes (next place) place a b p q g h
@@ -37,7 +40,8 @@ gives-one {A} bytes (Field form next) place a b p q g h =
     let here : Gives bytes (next h.0) g.1 b q = subst (λ (n : ℕ). Gives bytes (next h.0) n b q) same.1 h.3 in
     gives-one bytes (next g.0) g.1 a b p q g.3 (subst (λ (v : Content form). Gives bytes (next v) g.1 b q) same.0 here)
 
-pub gives-no_fault : {A : Type 0} (bytes : List ℕ) (layout : Layout A) (place : ℕ) (a : A) (p : ℕ) (fault : ImageFault) → Gives bytes layout place a p → Faults bytes layout place fault → ⊥
+pub gives-no_fault : {A : Type 0} (bytes : List ℕ) (layout : Layout A) (place : ℕ) (a : A) (p : ℕ)
+    (fault : ImageFault) → Gives bytes layout place a p → Faults bytes layout place fault → ⊥
 gives-no_fault bytes (Ends c) place a p fault g f = f
 gives-no_fault bytes (Refused wrong) place a p fault g f = g
 gives-no_fault bytes (Here next) place a p fault g f = gives-no_fault bytes (next place) place a p fault g f
@@ -45,9 +49,11 @@ gives-no_fault bytes (Field form next) place a p fault g (inl none) = none.0 g.0
 gives-no_fault {A} bytes (Field form next) place a p fault g (inr f) =
     let same = stands-one bytes place form f.0 g.0 f.1 g.1 f.2 g.2 in
     let here : Faults bytes (next f.0) g.1 fault = subst (λ (n : ℕ). Faults bytes (next f.0) n fault) same.1 f.3 in
-    gives-no_fault bytes (next g.0) g.1 a p fault g.3 (subst (λ (v : Content form). Faults bytes (next v) g.1 fault) same.0 here)
+    gives-no_fault bytes (next g.0) g.1 a p fault g.3
+    (subst (λ (v : Content form). Faults bytes (next v) g.1 fault) same.0 here)
 
-pub faults-one : {A : Type 0} (bytes : List ℕ) (layout : Layout A) (place : ℕ) (a b : ImageFault) → Faults bytes layout place a → Faults bytes layout place b → a ≡ b
+pub faults-one : {A : Type 0} (bytes : List ℕ) (layout : Layout A) (place : ℕ) (a b : ImageFault)
+    → Faults bytes layout place a → Faults bytes layout place b → a ≡ b
 faults-one bytes (Ends c) place a b f g = absurd f
 faults-one bytes (Refused wrong) place a b f g = f ∙ sym g
 faults-one bytes (Here next) place a b f g = faults-one bytes (next place) place a b f g

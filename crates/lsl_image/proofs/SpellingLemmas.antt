@@ -8,16 +8,21 @@ use Rattle.lsl_image.specs.Reading.{Gives}
 use Rattle.lsl_image.specs.Spelling.{Spells}
 
 -- bytes that spell something at the place where they stand give it there
-pub spelled-gives : {A : Type 0} (bytes : List ℕ) (layout : Layout A) (place : ℕ) (a : A) (part : List ℕ) (next : ℕ) → StandsAt bytes place part next → Spells layout place a part → Gives bytes layout place a next
-spelled-gives bytes (Ends b) place a part next stands spells = (spells.0, omega (arith, stands.behind, ap length spells.1))
+pub spelled-gives : {A : Type 0} (bytes : List ℕ) (layout : Layout A) (place : ℕ) (a : A) (part : List ℕ)
+    (next : ℕ) → StandsAt bytes place part next → Spells layout place a part → Gives bytes layout place a next
+spelled-gives bytes (Ends b) place a part next stands spells =
+    (spells.0, omega (arith, stands.behind, ap length spells.1))
 spelled-gives bytes (Refused fault) place a part next stands spells = spells
-spelled-gives bytes (Here more) place a part next stands spells = spelled-gives bytes (more place) place a part next stands spells
+spelled-gives bytes (Here more) place a part next stands spells =
+    spelled-gives bytes (more place) place a part next stands spells
 spelled-gives bytes (Field form more) place a part next stands spells =
-    let whole : StandsAt bytes place (bytes_of form spells.0 ++ spells.1) next = subst (λ (t : List ℕ). StandsAt bytes place t next) spells.3 stands in (
+    let whole : StandsAt bytes place (bytes_of form spells.0 ++ spells.1) next =
+    subst (λ (t : List ℕ). StandsAt bytes place t next) spells.3 stands in (
       spells.0,
       place + length (bytes_of form spells.0),
       (spells.2, stands-front bytes (bytes_of form spells.0) spells.1 place next whole),
-      spelled-gives bytes (more spells.0) (place + length (bytes_of form spells.0)) a spells.1 next (stands-rest bytes (bytes_of form spells.0) spells.1 place next whole) spells.4,
+      spelled-gives bytes (more spells.0) (place + length (bytes_of form spells.0)) a spells.1 next
+          (stands-rest bytes (bytes_of form spells.0) spells.1 place next whole) spells.4,
     )
 
 -- what is given is spelled by the bytes that stand there
@@ -26,10 +31,16 @@ pub record IsSpelled {A : Type 0} (bytes : List ℕ) (layout : Layout A) (place 
   pub stands : StandsAt bytes place part next
   pub spells : Spells layout place a part
 
-pub given-spelled : {A : Type 0} (bytes : List ℕ) (layout : Layout A) (place : ℕ) (a : A) (next : ℕ) → place ≤ length bytes → Gives bytes layout place a next → IsSpelled bytes layout place a next
+pub given-spelled : {A : Type 0} (bytes : List ℕ) (layout : Layout A) (place : ℕ) (a : A) (next : ℕ)
+    → place ≤ length bytes → Gives bytes layout place a next → IsSpelled bytes layout place a next
 given-spelled bytes (Ends b) place a next inside gives = record {
   part = [];
-  stands = record { parts = ap (λ (n : ℕ). drop n bytes) (sym gives.1); behind = omega (arith, gives.1); within = omega (arith, gives.1) };
+  stands = record {
+    parts = ap (λ (n : ℕ). drop n bytes) (sym gives.1);
+    behind =
+        omega (arith, gives.1);
+    within = omega (arith, gives.1);
+  };
   spells = (gives.0, refl);
 }
 given-spelled bytes (Refused fault) place a next inside gives = absurd gives
@@ -42,7 +53,8 @@ given-spelled {A} bytes (Field form more) place a next inside gives =
     record {
       part = bytes_of form gives.0 ++ others.part;
       stands = record {
-        parts = stands.parts ∙ ap (λ (t : List ℕ). bytes_of form gives.0 ++ t) others.stands.parts ∙ sym (append_assoc (bytes_of form gives.0) others.part (drop next bytes));
+        parts = stands.parts ∙ ap (λ (t : List ℕ). bytes_of form gives.0 ++ t) others.stands.parts
+            ∙ sym (append_assoc (bytes_of form gives.0) others.part (drop next bytes));
         behind = omega (arith, stands.behind, others.stands.behind, length-append (bytes_of form gives.0) others.part);
         within = others.stands.within;
       };

@@ -7,21 +7,34 @@ use Rattle.lsl_image.proofs.calls.read_calls.Goals as goal
 pub returns-in_err-count : goal.returns-in_err-count
 unfolding saved_calls
 returns-in_err-count c =
-    leads-exits _ _ _ _ (leads-here _ (leads-all c.args.bytes.now (saved_calls c.args.unit.now c.args.globals.now c.args.limit c.args.handler) c.args.place)) c.in_err-count.ensures c.from_residual.ensures.1
+    leads-exits _ _ _ _ (leads-here _ (leads-all c.args.bytes.now
+    (saved_calls c.args.unit.now c.args.globals.now c.args.limit c.args.handler) c.args.place))
+    c.in_err-count.ensures c.from_residual.ensures.1
 
 pub returns-in_err-frames : goal.returns-in_err-frames
 unfolding saved_calls
 returns-in_err-frames c =
-    leads-exits _ _ _ _ (leads-then _ _ (leads-here _ (leads-all c.args.bytes.now (saved_calls c.args.unit.now c.args.globals.now c.args.limit c.args.handler) c.args.place)) c.in_ok-count.ensures) c.in_err-frames.ensures c.from_residual-in_err-frames.ensures.1
+    leads-exits _ _ _ _ (leads-then _ _ (leads-here _
+    (leads-all c.args.bytes.now (saved_calls c.args.unit.now c.args.globals.now c.args.limit c.args.handler)
+    c.args.place)) c.in_ok-count.ensures) c.in_err-frames.ensures c.from_residual-in_err-frames.ensures.1
 
 pub returns-then-not-is_within : goal.returns-then-not-is_within
 unfolding saved_calls
 returns-then-not-is_within c =
-    let leads = leads-then _ _ (leads-then _ _ (leads-here _ (leads-all c.args.bytes.now (saved_calls c.args.unit.now c.args.globals.now c.args.limit c.args.handler) c.args.place)) c.in_ok-count.ensures) c.in_ok-frames.ensures in
-    rw c.wrong.ensures (calls-refused c.args.bytes.now c.args.globals.now c.args.limit c.args.place c.in_ok-frames.frames _ c.as_slice.ensures _ c.is_within.ensures _ _ _ leads c.if-not-is_within.true)
+    let leads = leads-then _ _ (leads-then _ _
+    (leads-here _ (leads-all c.args.bytes.now
+    (saved_calls c.args.unit.now c.args.globals.now c.args.limit c.args.handler) c.args.place))
+    c.in_ok-count.ensures) c.in_ok-frames.ensures in
+    rw c.wrong.ensures (calls-refused c.args.bytes.now c.args.globals.now c.args.limit c.args.place
+    c.in_ok-frames.frames _ c.as_slice.ensures _ c.is_within.ensures _ _ _ leads c.if-not-is_within.true)
 
 pub returns : goal.returns
 unfolding saved_calls
 returns c =
-    let leads = leads-then _ _ (leads-then _ _ (leads-here _ (leads-all c.args.bytes.now (saved_calls c.args.unit.now c.args.globals.now c.args.limit c.args.handler) c.args.place)) c.in_ok-count.ensures) c.in_ok-frames.ensures in
-    rw (c.from_vec.ensures ∙ c.into_vec.ensures) (calls-given c.args.bytes.now c.args.globals.now c.args.limit c.args.place c.in_ok-frames.frames _ c.as_slice.ensures _ c.is_within.ensures _ _ _ leads c.if-not-is_within.false)
+    let leads = leads-then _ _ (leads-then _ _
+    (leads-here _ (leads-all c.args.bytes.now
+    (saved_calls c.args.unit.now c.args.globals.now c.args.limit c.args.handler) c.args.place))
+    c.in_ok-count.ensures) c.in_ok-frames.ensures in
+    rw (c.from_vec.ensures ∙ c.into_vec.ensures)
+    (calls-given c.args.bytes.now c.args.globals.now c.args.limit c.args.place c.in_ok-frames.frames _
+    c.as_slice.ensures _ c.is_within.ensures _ _ _ leads c.if-not-is_within.false)

@@ -18,7 +18,8 @@ unfolding encode_utf8
 name-text = record { scalars = refl; within = lit≤ tt }
 
 pub returns : goal.returns
-unfolding encode_utf8 counted_bytes text_bytes u8_bytes u16_bytes u32_bytes u64_bytes object head sender body store field field_that here ◌>>=◌ grown each_behind
+unfolding encode_utf8 counted_bytes text_bytes u8_bytes u16_bytes u32_bytes u64_bytes object head sender body
+    store field field_that here ◌>>=◌ grown each_behind
 returns c = (
   76 ∷ 83 ∷ 76 ∷ 79 ∷ [],
   _,

@@ -14,7 +14,20 @@ first = (
   _,
   refl,
   refl,
-  (1, _, omega arith, refl, (55, _, omega arith, refl, (1, _, omega arith, refl, (0, _, omega arith, refl, (refl, refl))))),
+  (
+    1,
+    _,
+    omega arith,
+    refl,
+    (
+      55,
+      _,
+      omega
+          arith,
+      refl,
+      (1, _, omega arith, refl, (0, _, omega arith, refl, (refl, refl))),
+    ),
+  ),
 )
 
 second : Spells (world [] [] 23) 0 empty_world (world_bytes 2)
@@ -24,7 +37,20 @@ second = (
   _,
   refl,
   refl,
-  (2, _, omega arith, refl, (55, _, omega arith, refl, (1, _, omega arith, refl, (0, _, omega arith, refl, (refl, refl))))),
+  (
+    2,
+    _,
+    omega arith,
+    refl,
+    (
+      55,
+      _,
+      omega
+          arith,
+      refl,
+      (1, _, omega arith, refl, (0, _, omega arith, refl, (refl, refl))),
+    ),
+  ),
 )
 
 pub returns : goal.returns

@@ -10,35 +10,63 @@ use Rattle.lsl_image.proofs.frames.read_frame.Goals as goal
 pub returns-in_err-function : goal.returns-in_err-function
 unfolding frame_in
 returns-in_err-function c =
-    leads-exits _ _ _ _ (leads-all c.args.bytes.now (frame_in c.args.unit.now c.args.handler c.args.more c.args.callee) c.args.place) c.in_err-function.ensures c.from_residual.ensures.1
+    leads-exits _ _ _ _ (leads-all c.args.bytes.now
+    (frame_in c.args.unit.now c.args.handler c.args.more c.args.callee) c.args.place)
+    c.in_err-function.ensures c.from_residual.ensures.1
 
 pub returns-in_err-number : goal.returns-in_err-number
 unfolding frame_in
 returns-in_err-number c =
-    leads-exits _ _ _ _ (leads-here _ (leads-then _ _ (leads-all c.args.bytes.now (frame_in c.args.unit.now c.args.handler c.args.more c.args.callee) c.args.place) c.in_ok-function.ensures)) c.in_err-number.ensures c.from_residual-in_err-number.ensures.1
+    leads-exits _ _ _ _ (leads-here _ (leads-then _ _
+    (leads-all c.args.bytes.now (frame_in c.args.unit.now c.args.handler c.args.more c.args.callee)
+    c.args.place) c.in_ok-function.ensures)) c.in_err-number.ensures c.from_residual-in_err-number.ensures.1
 
 pub returns-in_default : goal.returns-in_default
 unfolding frame_in
 returns-in_default c =
-    let leads = leads-then _ _ (leads-here _ (leads-then _ _ (leads-all c.args.bytes.now (frame_in c.args.unit.now c.args.handler c.args.more c.args.callee) c.args.place) c.in_ok-function.ensures)) c.in_ok-number.ensures in
-    rw c.wrong.ensures (frame-no_point c.args.bytes.now c.in_ok-function.middle c.in_ok-function.function c.in_ok-number.number c.args.callee _ _ _ _ leads c.in_default.ensures)
+    let leads = leads-then _ _ (leads-here _
+    (leads-then _ _ (leads-all c.args.bytes.now
+    (frame_in c.args.unit.now c.args.handler c.args.more c.args.callee) c.args.place)
+    c.in_ok-function.ensures)) c.in_ok-number.ensures in
+    rw c.wrong.ensures (frame-no_point c.args.bytes.now c.in_ok-function.middle c.in_ok-function.function
+    c.in_ok-number.number c.args.callee _ _ _ _ leads c.in_default.ensures)
 
 pub returns-then-not-same_callee : goal.returns-then-not-same_callee
 unfolding frame_in
 returns-then-not-same_callee c =
-    let leads = leads-then _ _ (leads-here _ (leads-then _ _ (leads-all c.args.bytes.now (frame_in c.args.unit.now c.args.handler c.args.more c.args.callee) c.args.place) c.in_ok-function.ensures)) c.in_ok-number.ensures in
-    rw c.wrong-then-not-same_callee.ensures (frame-refused c.args.bytes.now c.in_ok-function.middle c.in_ok-function.function c.in_ok-number.number c.args.callee _ _ _ _ leads c.in-Some.point.now c.in-Some.ensures (sym c.same_callee.ensures ∙ c.if-not-same_callee.true))
+    let leads = leads-then _ _ (leads-here _
+    (leads-then _ _ (leads-all c.args.bytes.now
+    (frame_in c.args.unit.now c.args.handler c.args.more c.args.callee) c.args.place)
+    c.in_ok-function.ensures)) c.in_ok-number.ensures in
+    rw c.wrong-then-not-same_callee.ensures
+    (frame-refused c.args.bytes.now c.in_ok-function.middle c.in_ok-function.function c.in_ok-number.number
+    c.args.callee _ _ _ _ leads c.in-Some.point.now c.in-Some.ensures
+    (sym c.same_callee.ensures ∙ c.if-not-same_callee.true))
 
 pub returns-in_err-slots : goal.returns-in_err-slots
 unfolding frame_in
 returns-in_err-slots c =
-    let leads = leads-then _ _ (leads-here _ (leads-then _ _ (leads-all c.args.bytes.now (frame_in c.args.unit.now c.args.handler c.args.more c.args.callee) c.args.place) c.in_ok-function.ensures)) c.in_ok-number.ensures in
-    let slots = frame-slots c.args.bytes.now c.in_ok-function.middle c.in_ok-function.function c.in_ok-number.number c.args.callee _ _ _ _ leads c.in-Some.point.now c.in-Some.ensures (sym c.same_callee.ensures ∙ c.if-not-same_callee.false) in
-    leads-exits _ _ _ _ slots (subst (λ (ks : List Kind). Reads c.args.bytes.now (values_of ks) c.in_ok-number.behind (Err c.in_err-slots.field-0.0)) c.as_slice.ensures c.in_err-slots.ensures) c.from_residual-in_err-slots.ensures.1
+    let leads = leads-then _ _ (leads-here _
+    (leads-then _ _ (leads-all c.args.bytes.now
+    (frame_in c.args.unit.now c.args.handler c.args.more c.args.callee) c.args.place)
+    c.in_ok-function.ensures)) c.in_ok-number.ensures in
+    let slots = frame-slots c.args.bytes.now c.in_ok-function.middle c.in_ok-function.function
+    c.in_ok-number.number c.args.callee _ _ _ _ leads c.in-Some.point.now c.in-Some.ensures
+    (sym c.same_callee.ensures ∙ c.if-not-same_callee.false) in
+    leads-exits _ _ _ _ slots (subst (λ (ks : List Kind).
+    Reads c.args.bytes.now (values_of ks) c.in_ok-number.behind (Err c.in_err-slots.field-0.0))
+    c.as_slice.ensures c.in_err-slots.ensures) c.from_residual-in_err-slots.ensures.1
 
 pub returns : goal.returns
 unfolding frame_in
 returns c =
-    let leads = leads-then _ _ (leads-here _ (leads-then _ _ (leads-all c.args.bytes.now (frame_in c.args.unit.now c.args.handler c.args.more c.args.callee) c.args.place) c.in_ok-function.ensures)) c.in_ok-number.ensures in
-    let slots = frame-slots c.args.bytes.now c.in_ok-function.middle c.in_ok-function.function c.in_ok-number.number c.args.callee _ _ _ _ leads c.in-Some.point.now c.in-Some.ensures (sym c.same_callee.ensures ∙ c.if-not-same_callee.false) in
-    leads-ends (leads-then _ _ slots (subst (λ (ks : List Kind). Gives c.args.bytes.now (values_of ks) c.in_ok-number.behind c.in_ok-slots.slots c.in_ok-slots.next) c.as_slice.ensures c.in_ok-slots.ensures))
+    let leads = leads-then _ _ (leads-here _
+    (leads-then _ _ (leads-all c.args.bytes.now
+    (frame_in c.args.unit.now c.args.handler c.args.more c.args.callee) c.args.place)
+    c.in_ok-function.ensures)) c.in_ok-number.ensures in
+    let slots = frame-slots c.args.bytes.now c.in_ok-function.middle c.in_ok-function.function
+    c.in_ok-number.number c.args.callee _ _ _ _ leads c.in-Some.point.now c.in-Some.ensures
+    (sym c.same_callee.ensures ∙ c.if-not-same_callee.false) in
+    leads-ends (leads-then _ _ slots (subst
+    (λ (ks : List Kind). Gives c.args.bytes.now (values_of ks) c.in_ok-number.behind c.in_ok-slots.slots
+    c.in_ok-slots.next) c.as_slice.ensures c.in_ok-slots.ensures))

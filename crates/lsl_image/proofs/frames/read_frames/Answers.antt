@@ -8,7 +8,8 @@ pub loop-i-init : goal.loop-i-init
 loop-i-init c = record {
   many = ap length c.new-frames.ensures;
   callee = sym (ap callee_of c.new-frames.ensures);
-  leads = leads-start c.args.bytes.now (frame_behind c.args.unit.now c.args.handler c.args.count) c.args.count c.args.place _ c.new-frames.ensures;
+  leads = leads-start c.args.bytes.now (frame_behind c.args.unit.now c.args.handler c.args.count) c.args.count
+      c.args.place _ c.new-frames.ensures;
 }
 
 pub loop-i-preserved : goal.loop-i-preserved
@@ -16,16 +17,29 @@ loop-i-preserved c =
     let within : c.loop-i.i < c.args.count = c.loop-i-test.true in
     let pushed : c.push.new.self ≡ c.loop-i.frames ++ c.in_ok-frame.frame ∷ [] = c.in_ok-push.ensures.ok in
     record {
-      many = omega (arith, ap length pushed, length-append c.loop-i.frames (c.in_ok-frame.frame ∷ []), c.loop-i.invariant.many);
+      many = omega (
+        arith,
+        ap length pushed,
+        length-append c.loop-i.frames
+            (c.in_ok-frame.frame ∷ []),
+        c.loop-i.invariant.many,
+      );
       callee = callee-after c.loop-i.frames c.push.new.self c.in_ok-frame.frame pushed;
-      leads = leads-more (frame_behind c.args.unit.now c.args.handler c.args.count) c.loop-i.frames c.push.new.self c.args.count c.loop-i.i c.in_ok-frame.frame within pushed c.loop-i.invariant.leads
-          (frame-behind c.args.bytes.now c.args.unit.now c.args.handler c.args.count c.loop-i.i c.loop-i.callee c.loop-i.frames c.loop-i.next (Ok (c.in_ok-frame.frame, c.in_ok-frame.behind)) c.loop-i.invariant.many c.loop-i.invariant.callee c.in_ok-frame.ensures);
+      leads = leads-more (frame_behind c.args.unit.now c.args.handler c.args.count) c.loop-i.frames
+          c.push.new.self c.args.count c.loop-i.i c.in_ok-frame.frame within pushed c.loop-i.invariant.leads
+          (frame-behind c.args.bytes.now c.args.unit.now c.args.handler c.args.count c.loop-i.i c.loop-i.callee
+          c.loop-i.frames c.loop-i.next (Ok (c.in_ok-frame.frame, c.in_ok-frame.behind))
+          c.loop-i.invariant.many c.loop-i.invariant.callee c.in_ok-frame.ensures);
     }
 
 pub returns-in_err-frame : goal.returns-in_err-frame
 returns-in_err-frame c =
-    leads-stops (frame_behind c.args.unit.now c.args.handler c.args.count) c.loop-i.frames c.args.count c.loop-i.i _ _ c.loop-i-test.true c.loop-i.invariant.leads
-    (frame-behind c.args.bytes.now c.args.unit.now c.args.handler c.args.count c.loop-i.i c.loop-i.callee c.loop-i.frames c.loop-i.next (Err c.in_err-frame.field-0.0) c.loop-i.invariant.many c.loop-i.invariant.callee c.in_err-frame.ensures) c.from_residual.ensures.1
+    leads-stops (frame_behind c.args.unit.now c.args.handler c.args.count) c.loop-i.frames c.args.count
+    c.loop-i.i _ _ c.loop-i-test.true c.loop-i.invariant.leads
+    (frame-behind c.args.bytes.now c.args.unit.now c.args.handler c.args.count c.loop-i.i c.loop-i.callee
+    c.loop-i.frames c.loop-i.next (Err c.in_err-frame.field-0.0) c.loop-i.invariant.many
+    c.loop-i.invariant.callee c.in_err-frame.ensures) c.from_residual.ensures.1
 
 pub returns : goal.returns
-returns c = leads-full (frame_behind c.args.unit.now c.args.handler c.args.count) c.loop-i.frames c.args.count c.loop-i.i c.loop-i-test.false c.loop-i.invariant.leads
+returns c = leads-full (frame_behind c.args.unit.now c.args.handler c.args.count) c.loop-i.frames c.args.count
+    c.loop-i.i c.loop-i-test.false c.loop-i.invariant.leads

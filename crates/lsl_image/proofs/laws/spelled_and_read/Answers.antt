@@ -7,7 +7,8 @@ use Rattle.lsl_image.proofs.laws.spelled_and_read.Goals as goal
 both_ways : {A : Type 0} (layout : Layout A) → IsReadAsSpelled layout × IsSpelledAsRead layout
 both_ways layout = (
   λ bytes place a part next stands spells. spelled-gives bytes layout place a part next stands spells,
-  λ bytes place a next inside gives. let spelled = given-spelled bytes layout place a next inside gives in (spelled.part, spelled.stands, spelled.spells),
+  λ bytes place a next inside gives. let spelled = given-spelled bytes layout place a next inside gives in
+      (spelled.part, spelled.stands, spelled.spells),
 )
 
 pub returns : goal.returns

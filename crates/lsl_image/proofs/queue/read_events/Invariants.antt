@@ -8,5 +8,6 @@ use Rattle.lsl_image.proofs.queue.read_events.Given as goal
 abbrev pub invariant-loop-i : goal.invariant-loop-i
 invariant-loop-i l = record {
   many : length l.queue ≡ l.i;
-  leads : Leads l.bytes (grown (l.count - l.i) (λ before. event_in l.unit l.state false) l.queue) l.next (λ list. list) (repeated l.count (event_in l.unit l.state false)) l.place;
+  leads : Leads l.bytes (grown (l.count - l.i) (λ before. event_in l.unit l.state false) l.queue) l.next
+      (λ list. list) (repeated l.count (event_in l.unit l.state false)) l.place;
 }
