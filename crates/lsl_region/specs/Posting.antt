@@ -5,7 +5,7 @@ use Rattle.lsl_value.specs.declared.names.EventId.TheVariants as event
 use Rattle.lsl_value.specs.declared.tagged.Value.TheVariants as value
 use Rattle.lsl_post.specs.declared.events.Event.{Event}
 use Rattle.lsl_post.specs.declared.filters.Filter.{Filter}
-use Rattle.lsl_post.specs.Mailbox.{is_heard}
+use Rattle.lsl_post.specs.Mailbox.{mailbox_hears}
 use Rattle.lsl_post.specs.Told.{Told, each, quiet}
 use Rattle.lsl_script.specs.Rules.{Rules}
 use Rattle.lsl_script.specs.Scripts.{post_to, ring_to}
@@ -30,7 +30,7 @@ listen_event said = record {
 
 -- a script hears what is said on a channel by who has this name and this key, unless its own prim says it
 abbrev pub hears_said : Filter → World → Member → Bool
-hears_said said w m = not (bytes_eq (prim_of w m).key said.id) && is_heard said m.script.mailbox
+hears_said said w m = not (bytes_eq (prim_of w m).key said.id) && mailbox_hears said m.script.mailbox
 
 abbrev pub said_to_all : Rules → Filter → World → Told World
 said_to_all r said w = post_all r (hears_said said) (listen_event said) w
