@@ -79,13 +79,11 @@ module _ (globals : List Value) (states : List StateCode) (bodies : List Body)
 
     all_fit : (k : ℕ) (i : Instr) → slice_get w.code k ≡ Some i → fits_at own w k i ≡ true
     all_fit k i here =
-        let p8 = both_true _ _ fits_one in
-        let p7 = both_true _ _ p8.0 in
-        let p6 = both_true _ _ p7.0 in
-        let p5 = both_true _ _ p6.0 in
+        let running = (both_true _ _ (both_true _ _ fits_one).0).1 in
+        let p5 = both_true _ _ (both_true _ _ running).0 in
         let p4 = both_true _ _ p5.0 in
         let p3 = both_true _ _ p4.0 in
-        all_at (fits_at own w) w.code k i p3.1 here
+        all_at (fits_at own w) w.code k i (both_true _ _ p3.0).1 here
 
     -- a running machine stands before each point's instruction
     pub stack_there : (k p : ℕ) (callee : Option ℕ) → slice_get w.code k ≡ Some (point_instr callee p)

@@ -18,7 +18,6 @@ pub mod Numbering
 pub mod Passes
 pub mod Placed
 pub mod Points
-pub mod PointsSeen
 pub mod Ranks
 pub mod Reading
 pub mod Repeating

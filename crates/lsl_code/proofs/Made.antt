@@ -13,7 +13,7 @@ use Rattle.lsl_code.specs.Effects.{behind, runs, waiting}
 use Rattle.lsl_code.specs.Fits.{all_places, has_kinds, finds, goes_on, is_quiet, jumps_on, is_point, has_point, goes_on_with, fits_before, fits_where, fits_at, begins_with_tick, count_of, is_once, is_plain, plain_at}
 use Rattle.lsl_code.specs.Forward.{is_back}
 use Rattle.lsl_code.specs.Kinds.{Scope, scope}
-use Rattle.lsl_code.specs.Units.{fits_function, is_plain_function}
+use Rattle.lsl_code.specs.Units.{fits_running, fits_function, is_plain_function}
 use Rattle.lsl_code.proofs.Numbering.{free_point, numbered_at, numbered_length, behind_pointed, goes_on_pointed, jumps_pointed, back_pointed, begins_pointed, plain_pointed}
 use Rattle.lsl_code.proofs.Points.{PointAt, maps_at, once, points_lined}
 use Rattle.lsl_code.proofs.Scans.{kinds_before, kinds_before_zero, scan_at, scan_length, runs_at, most_same}
@@ -141,16 +141,16 @@ module _ (names : Names) (slots : List Kind) (result : Option Kind) (name : List
           let len : length w.stacks ≡ length w.code = scan_length s d [] ∙ sym (numbered_length d 0) in
           let lines : length w.lines ≡ length w.points = points_lined s d [] in
           let size : length w.code < 4294967296 = omega (arith, numbered_length d 0) in
-          both _ _ (both _ _ (both _ _ (both _ _ (both _ _ (both _ _ (both _ _ (both _ _
-          (begins_pointed d 0 ∙ begins)
-          (subst (λ ks. finds w 0 ks ≡ true) (kinds_before_zero s d []) (finds_ok 0 (some_code d begins))))
+          let running : fits_running names w ≡ true =
+          both _ _ (both _ _ (both _ _ (both _ _ (both _ _ (both _ _
+          (subst (λ ks. finds w 0 ks ≡ true) (kinds_before_zero s d []) (finds_ok 0 (some_code d begins)))
           (eqs _ _ len))
           (by_draft (fits_at s w) fits_here))
           (all_if (is_once w.code) w.points once_each))
           (eqs _ _ lines))
           (eqs _ _ (most_same (scan s d []))))
-          (sames _ _ (take_length params slots)))
-          (less _ _ size)
+          (sames _ _ (take_length params slots)) in
+          both _ _ (both _ _ (begins_pointed d 0 ∙ begins) running) (less _ _ size)
 
       -- and it is plain
       pub made_plain : (f : ℕ) → is_plain_function f w ≡ true

@@ -44,24 +44,24 @@ place_told s w k i ks fits stands =
 pub function_told : (names : Names) (f : ℕ) (w : Body) → fits_function names f w ≡ true → IsWellFormedFunction names w
 function_told names f w ok =
     let s = scope names w.slots w.result in
-    let p8 = both_true _ _ ok in
-    let p7 = both_true _ _ p8.0 in
-    let p6 = both_true _ _ p7.0 in
+    let whole = both_true _ _ ok in
+    let begun = both_true _ _ whole.0 in
+    let p6 = both_true _ _ begun.1 in
     let p5 = both_true _ _ p6.0 in
     let p4 = both_true _ _ p5.0 in
     let p3 = both_true _ _ p4.0 in
     let p2 = both_true _ _ p3.0 in
     let p1 = both_true _ _ p2.0 in
     record {
-      begins = p1.0;
-      first = finds_told w 0 [] p1.1;
-      stacks = eq_is _ _ p2.1;
+      begins = begun.0;
+      first = finds_told w 0 [] p1.0;
+      stacks = eq_is _ _ p1.1;
       finds =
-          λ place i ks here stands. place_told s w place i ks (all_at (fits_at s w) w.code place i p3.1 here)
+          λ place i ks here stands. place_told s w place i ks (all_at (fits_at s w) w.code place i p2.1 here)
           stands;
-      once = λ p point here. eq_is _ _ (all_at (is_once w.code) w.points p point p4.1 here);
-      lines = eq_is _ _ p5.1;
-      most = eq_is _ _ p6.1;
-      params = sames_are _ _ p7.1;
-      short = less_is _ _ p8.1;
+      once = λ p point here. eq_is _ _ (all_at (is_once w.code) w.points p point p3.1 here);
+      lines = eq_is _ _ p4.1;
+      most = eq_is _ _ p5.1;
+      params = sames_are _ _ p6.1;
+      short = less_is _ _ whole.1;
     }

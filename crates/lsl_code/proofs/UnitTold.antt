@@ -5,7 +5,6 @@ use Rattle.std.proofs.lemmas.Bool.Decides.{nat_tests}
 use Rattle.lsl_value.specs.declared.tagged.Kind.{Kind}
 use Rattle.lsl_code.specs.declared.instructions.Instr.{Instr}
 use Rattle.lsl_code.specs.declared.instructions.Instr.TheVariants.{Jump, JumpIf, JumpIfNot, Tick, TestSave, TestBack}
-use Rattle.lsl_code.specs.declared.signatures.Names.{Names}
 use Rattle.lsl_code.specs.Bodies.{Body}
 use Rattle.lsl_code.specs.Drafts.{next}
 use Rattle.lsl_code.specs.Fits.{all_places, is_quiet, jumps_on, begins_with_tick, is_plain, plain_at}

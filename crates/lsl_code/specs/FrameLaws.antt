@@ -1,10 +1,9 @@
 -- Machines of a unit at a tick have valid frames, and valid frames are those of such a machine.
-use Rattle.std.specs.Prelude.{ℕ, ◌≡◌, List, map, true}
+use Rattle.std.specs.Prelude.{ℕ, ◌≡◌, List, true}
 use Rattle.lsl_value.specs.declared.tagged.Value.{Value}
 use Rattle.lsl_code.specs.declared.frames.Frame.{Frame}
-use Rattle.lsl_code.specs.declared.functions.FunctionCode.{FunctionCode}
 use Rattle.lsl_code.specs.declared.functions.StateCode.{StateCode}
-use Rattle.lsl_code.specs.Bodies.{Body, plain_body, point_of}
+use Rattle.lsl_code.specs.Bodies.{Body}
 use Rattle.lsl_code.specs.Frames.{AreFrames, frames_of, points_of}
 use Rattle.lsl_code.specs.Kinded.{AreKindedCalls, IsKindedMachine}
 use Rattle.lsl_code.specs.Kinds.{kinds_of}
@@ -41,10 +40,3 @@ FramesHaveCalls =
     → (handler : ℕ) (frames : List Frame) → AreFrames (points_of bodies) handler frames
     → (calls : List MachineCall) × HasFrames bodies handler calls frames × AreKindedCalls bodies calls
     × IsChain bodies handler calls × IsAtTick bodies calls
-
--- frames that fit a unit's functions fit these as the machine runs them
-abbrev pub CheckedFramesFit : Type 0
-CheckedFramesFit =
-    (functions : List FunctionCode) (handler : ℕ) (frames : List Frame)
-    → AreFrames (point_of functions) handler frames
-    → AreFrames (points_of (map plain_body functions)) handler frames

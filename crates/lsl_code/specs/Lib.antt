@@ -1,9 +1,11 @@
 pub mod Acts
+pub mod BackWays
 pub mod Bodies
 pub mod Drafts
 pub mod Effects
 pub mod Fits
 pub mod Forward
+pub mod ForwardTests
 pub mod FrameFaults
 pub mod FrameLaws
 pub mod Frames
@@ -17,9 +19,12 @@ pub mod Modes
 pub mod Pieces
 pub mod Restoring
 pub mod Runs
+pub mod SaveWays
 pub mod Saving
 pub mod Standing
 pub mod Units
+pub mod Weaves
 pub mod WellFormed
 pub mod Wholes
+pub mod Woven
 pub mod WovenBodies

@@ -11,19 +11,25 @@ use Rattle.lsl_code.specs.Bodies.{Body}
 use Rattle.lsl_code.specs.Fits.{all_places, finds, fits_at, jumps_on, begins_with_tick, is_once, most_operands, plain_at}
 use Rattle.lsl_code.specs.Kinds.{same_kinds, scope, names_in}
 
--- a function whose instructions find what they need, whose points stand once each and have a line each, and which
--- has the parameters and the greatest count of operands that it names
-abbrev pub fits_function : Names → ℕ → Body → Bool
-fits_function names f w =
-    begins_with_tick w.code
-    && finds w 0 []
+-- while the function runs, its instructions find what they need, its points stand once each and have a line each,
+-- and it has the parameters and the greatest count of operands that it names
+abbrev pub fits_running : Names → Body → Bool
+fits_running names w =
+    finds w 0 []
     && nat_eq (length w.stacks) (length w.code)
     && all_places (fits_at (scope names w.slots w.result) w) 0 w.code
     && all_places (is_once w.code) 0 w.points
     && nat_eq (length w.lines) (length w.points)
     && nat_eq (most_operands w.stacks) w.most
     && same_kinds (take (length w.params) w.slots) w.params
-    && nat_lt (length w.code) 4294967296
+
+-- its places can be numbered
+abbrev pub is_short : Body → Bool
+is_short w = nat_lt (length w.code) 4294967296
+
+-- a plain function, which begins with a tick
+abbrev pub fits_function : Names → ℕ → Body → Bool
+fits_function names f w = begins_with_tick w.code && fits_running names w && is_short w
 
 -- code that only runs, and goes back only behind ticks
 abbrev pub is_plain_function : ℕ → Body → Bool

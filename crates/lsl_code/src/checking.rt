@@ -1,14 +1,14 @@
 //! Frames that come from outside, tested before they are taken for a handler's saved calls.
 
-ghost use Rattle.std.specs.Prelude.{◌≡◌, ◌+◌, ◌<◌, ◌↔◌, length, IfOk, IfErr, IsTrue, MatchOption, None};
+ghost use Rattle.std.specs.Prelude.{◌≡◌, ◌+◌, ◌<◌, ◌↔◌, length, map, IfOk, IfErr, IsTrue, MatchOption, None};
 ghost use Rattle.lsl_running.specs.Charging.{charges_of};
-ghost use Rattle.lsl_code.specs.Bodies.{point_of};
-ghost use Rattle.lsl_code.specs.Frames.{AreValid, FirstUnfit, FitFrames, FitsFrame, IsAtPoint, frame_charge, parked_charge};
+ghost use Rattle.lsl_code.specs.Frames.{AreValid, FirstUnfit, FitFrames, FitsFrame, IsAtPoint, frame_charge, parked_charge, points_of};
 ghost use Rattle.lsl_code.specs.FrameFaults.{IsFrameFault};
 ghost use Rattle.lsl_code.specs.Kinds.{kinds_of};
+ghost use Rattle.lsl_code.specs.WovenBodies.{woven_body};
 
 use crate::frames::{Frame, Sack};
-use crate::units::Unit;
+use crate::woven_units::Woven;
 use lsl_value::{Kind, Value, Values, charge};
 
 // What a script is charged beside its globals and calls, and what a call is beside its slots.
@@ -32,14 +32,14 @@ impl Sack {
         frames: Vec<Frame>,
         globals: &Values,
         limit: u32,
-        unit: &Unit,
+        unit: &Woven,
         handler: u16,
     ) -> Result<Sack, FrameFault>
         requires { length frames.items < 4294967296 }
         ensures same { IfOk result (λ sack. sack ≡ frames.items) }
-        ensures valid { IfOk result (λ sack. AreValid (point_of unit.now.functions) handler globals.now limit sack) }
+        ensures valid { IfOk result (λ sack. AreValid (points_of (map woven_body unit.now.functions)) handler globals.now limit sack) }
         ensures first { IfErr result (λ fault.
-            IsFrameFault (point_of unit.now.functions) handler globals.now limit frames.items fault) }
+            IsFrameFault (points_of (map woven_body unit.now.functions)) handler globals.now limit frames.items fault) }
     {
         if frames.is_empty() {
             return Err(FrameFault::Frame(0));
@@ -55,10 +55,10 @@ impl Sack {
 }
 
 // The first frame that does not fit, if there is one.
-fn first_unfit(unit: &Unit, handler: u16, frames: &[Frame]) -> Option<u32>
+fn first_unfit(unit: &Woven, handler: u16, frames: &[Frame]) -> Option<u32>
     requires { length frames.now < 4294967296 }
-    ensures { MatchOption result (FitFrames (point_of unit.now.functions) handler None frames.now)
-        (λ n. FirstUnfit (point_of unit.now.functions) handler None frames.now n) }
+    ensures { MatchOption result (FitFrames (points_of (map woven_body unit.now.functions)) handler None frames.now)
+        (λ n. FirstUnfit (points_of (map woven_body unit.now.functions)) handler None frames.now n) }
 {
     let mut callee = None;
     for i in 0..frames.len() {
@@ -72,15 +72,15 @@ fn first_unfit(unit: &Unit, handler: u16, frames: &[Frame]) -> Option<u32>
 }
 
 // Whether the frame that calls this function, or none, fits before these outer ones.
-fn fits(unit: &Unit, handler: u16, callee: Option<u16>, frame: &Frame, outer: &[Frame]) -> bool
-    ensures { IsTrue result ↔ FitsFrame (point_of unit.now.functions) handler callee frame.now outer.now }
+fn fits(unit: &Woven, handler: u16, callee: Option<u16>, frame: &Frame, outer: &[Frame]) -> bool
+    ensures { IsTrue result ↔ FitsFrame (points_of (map woven_body unit.now.functions)) handler callee frame.now outer.now }
 {
     is_at_point(unit, callee, frame) && (!outer.is_empty() || frame.function == handler)
 }
 
 // Whether the frame is at a point of its function that calls this one, or none, with values of the point's kinds.
-fn is_at_point(unit: &Unit, callee: Option<u16>, frame: &Frame) -> bool
-    ensures { IsTrue result ↔ IsAtPoint (point_of unit.now.functions) callee frame.now }
+fn is_at_point(unit: &Woven, callee: Option<u16>, frame: &Frame) -> bool
+    ensures { IsTrue result ↔ IsAtPoint (points_of (map woven_body unit.now.functions)) callee frame.now }
 {
     match unit.point(frame.function, frame.point) {
         Some(point) => point.calls == callee

@@ -18,6 +18,7 @@ mod sequence;
 mod signatures;
 mod units;
 mod woven_functions;
+mod woven_units;
 
 pub use crate::checking::FrameFault;
 pub use crate::drafts::Draft;
@@ -28,5 +29,6 @@ pub use crate::instructions::Instr;
 pub use crate::library::Library;
 pub use crate::sequence::Sequence;
 pub use crate::signatures::{Names, Signature};
-pub use crate::units::{Unit, Woven};
+pub use crate::units::Unit;
 pub use crate::woven_functions::WovenCode;
+pub use crate::woven_units::Woven;

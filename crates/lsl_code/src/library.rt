@@ -1,25 +1,29 @@
 //! The units of all scripts.
 
 ghost use Rattle.std.specs.Prelude.{◌≡◌, ◌<◌, [], ◌∷◌, ◌++◌, length, slice_get, Some, OnOk, OnErr};
+ghost use Rattle.lsl_code.specs.Weaves.{Weaves};
 
-use crate::units::Woven;
+use crate::woven_units::Woven;
 use lsl_text::NoMemory;
 use std::alloc::Global;
 use std::marker::Model;
 
-/// A list of units, numbered from 0.
+/// A list of units that weave, numbered from 0.
 #[derive(Debug, Drop)]
 pub struct Library {
     units: Vec<Woven>,
 }
 
 impl Model for Library {
-    ghost use Rattle.std.specs.Prelude.{List};
-    ghost use Rattle.lsl_code.specs.declared.units.Unit.{Unit as Code};
+    ghost use Rattle.std.specs.Prelude.{List, All};
+    ghost use Rattle.lsl_code.specs.declared.woven_units.Woven.{Woven as Code};
+    ghost use Rattle.lsl_code.specs.Weaves.{Weaves};
 
     ghost Value = { List Code };
 
     ghost view = { λ l. l.units.items };
+
+    ghost invariant = { λ l. All Weaves l.units.items };
 }
 
 impl Library {
@@ -34,6 +38,7 @@ impl Library {
 
     /// Adds a unit, whose number is the count of those before it.
     pub fn add(&mut self, unit: Woven) -> Result<(), NoMemory>
+        requires { Weaves unit }
         ensures ok { OnOk result (self.new ≡ self.old ++ unit ∷ []) }
         ensures unchanged { OnErr result (self.new ≡ self.old) }
     {
@@ -48,10 +53,11 @@ impl Library {
         self.units.len()
     }
 
-    /// The unit of this number. Takes no memory.
+    /// The unit of this number, which weaves. Takes no memory.
     pub fn unit(&self, number: u32) -> &Woven
         requires { number < length self.now }
-        ensures { Some result.now ≡ slice_get self.now number }
+        ensures unit { Some result.now ≡ slice_get self.now number }
+        ensures weaves { Weaves result.now }
     {
         &self.units[number as usize]
     }

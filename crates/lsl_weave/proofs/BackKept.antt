@@ -14,9 +14,9 @@ use Rattle.lsl_code.specs.Machine.{MachineCall}
 use Rattle.lsl_code.specs.Restoring.{BackAct, Moves, Reenters, Wakes, NoBack, blank}
 use Rattle.lsl_code.proofs.Sames.{both_true, sames_are}
 use Rattle.lsl_code.proofs.Told.{all_at}
-use Rattle.lsl_weave.specs.BackWays.{BackWay, backs, put_back, are_put, lands_well, is_back_way, restores_point}
-use Rattle.lsl_weave.specs.SaveWays.{waiting_kinds}
-use Rattle.lsl_weave.specs.Woven.{is_kept}
+use Rattle.lsl_code.specs.BackWays.{BackWay, backs, put_back, are_put, lands_well, is_back_way, restores_point}
+use Rattle.lsl_code.specs.SaveWays.{waiting_kinds}
+use Rattle.lsl_code.specs.Woven.{is_kept}
 use Rattle.lsl_weave.specs.WovenCalls.{IsAt}
 
 -- at most n instructions are left to the end of a point's block, and these values are to be put back

@@ -14,8 +14,8 @@ use Rattle.lsl_code.specs.Machine.{MachineCall}
 use Rattle.lsl_code.specs.Modes.{at_place, landing}
 use Rattle.lsl_code.specs.Restoring.{Moves, back_act}
 use Rattle.lsl_code.proofs.Sames.{both_true, eq_is}
-use Rattle.lsl_weave.specs.BackWays.{backs_at, backs, put_back, is_tick_of, is_call_of, lands_well}
-use Rattle.lsl_weave.specs.SaveWays.{waiting_kinds}
+use Rattle.lsl_code.specs.BackWays.{backs_at, backs, put_back, is_tick_of, is_call_of, lands_well}
+use Rattle.lsl_code.specs.SaveWays.{waiting_kinds}
 use Rattle.lsl_weave.proofs.Restored.{unpacked_end}
 use Rattle.lsl_weave.proofs.SavingOn.{onward_is}
 use Rattle.lsl_weave.proofs.BackKept.{OnBackWay, OnBack, BackEnds, BackGoesOn}

@@ -11,8 +11,8 @@ use Rattle.lsl_code.specs.Kinds.{kinds_of}
 use Rattle.lsl_code.specs.Machine.{MachineCall}
 use Rattle.lsl_code.specs.Modes.{at_place}
 use Rattle.lsl_code.specs.Restoring.{Moves, takes, with_slot, where_slot}
-use Rattle.lsl_weave.specs.BackWays.{Put, ToSlot, ToTop, BackWay, putting, backs, put_back, lands_well}
-use Rattle.lsl_weave.specs.SaveWays.{with_one, waiting_kinds}
+use Rattle.lsl_code.specs.BackWays.{Put, ToSlot, ToTop, BackWay, putting, backs, put_back, lands_well}
+use Rattle.lsl_code.specs.SaveWays.{with_one, waiting_kinds}
 use Rattle.lsl_weave.proofs.BackKept.{OnBackWay, BackGoesOn}
 
 puts_behind : (m : Put) (o : Option BackWay) (way : BackWay) → option_map (putting m) o ≡ Some way

@@ -9,7 +9,8 @@ use Rattle.lsl_code.specs.Restoring.{back_step, begins_restoring}
 use Rattle.lsl_code.specs.ModeRuns.{whole, beside_of, SaveRun, BackRun}
 use Rattle.lsl_weave.specs.Layout.{all_woven}
 use Rattle.lsl_code.specs.Standing.{HasFrames}
-use Rattle.lsl_weave.specs.Lifting.{lift_machine, most_steps, AreOnePlaced}
+use Rattle.lsl_weave.specs.Lifting.{lift_machine, AreOnePlaced}
+use Rattle.lsl_code.specs.Weaves.{most_steps}
 use Rattle.lsl_code.proofs.ModeRuns.{runs_beside}
 use Rattle.lsl_weave.proofs.Saved.{frames_saved}
 use Rattle.lsl_weave.proofs.Restored.{frames_restored}

@@ -13,7 +13,8 @@ use Rattle.lsl_code.specs.Modes.{repeat}
 use Rattle.lsl_code.specs.Restoring.{awake_with, back_step, begins_restoring}
 use Rattle.lsl_code.specs.Saving.{frame_of, saving, save_step, begins_saving}
 use Rattle.lsl_weave.specs.Layout.{woven_code, woven_of}
-use Rattle.lsl_weave.specs.Lifting.{lift, most_steps}
+use Rattle.lsl_weave.specs.Lifting.{lift}
+use Rattle.lsl_code.specs.Weaves.{most_steps}
 
 abbrev tick_point : Point
 tick_point = record { kinds = kind.Int ∷ []; calls = None }

@@ -14,7 +14,7 @@ use Rattle.lsl_code.specs.Restoring.{restoring, awake_with, blank, back_step, be
 use Rattle.lsl_code.proofs.ModeRuns.{runs_beside, one_restoring}
 use Rattle.lsl_code.proofs.Repeating.{both_then}
 use Rattle.lsl_code.proofs.Sames.{both_true}
-use Rattle.lsl_weave.specs.Woven.{is_woven}
+use Rattle.lsl_code.specs.Woven.{is_woven}
 use Rattle.lsl_weave.specs.WovenCalls.{WaitAtCalls, RestAtTick}
 use Rattle.lsl_weave.specs.WovenLaws.{WovenRestores, RestoredRest}
 use Rattle.lsl_weave.proofs.BackKept.{back_begins}

@@ -11,14 +11,14 @@ use Rattle.lsl_code.specs.declared.signatures.Signature.{Signature}
 use Rattle.lsl_code.specs.Bodies.{Body}
 use Rattle.lsl_code.specs.Fits.{all_places, is_once}
 use Rattle.lsl_code.specs.Kinds.{scope, signature_in, names_in}
-use Rattle.lsl_code.specs.Units.{fits_function, handles, handler_fits, state_fits, events_differ, fits_states, fits_unit}
+use Rattle.lsl_code.specs.Units.{fits_running, fits_function, is_short, handles, handler_fits, state_fits, events_differ, fits_states, fits_unit}
 use Rattle.lsl_code.proofs.Sames.{both_true, eq_is}
 use Rattle.lsl_code.proofs.Tested.{both, eqs, all_if}
 use Rattle.lsl_code.proofs.Told.{all_at}
 use Rattle.lsl_code.proofs.UnitTold.{fits_tells}
-use Rattle.lsl_weave.specs.ForwardTests.{body_ok}
+use Rattle.lsl_code.specs.ForwardTests.{body_ok}
 use Rattle.lsl_weave.specs.Layout.{woven_code, woven_of, all_woven}
-use Rattle.lsl_weave.specs.Woven.{fits_running, is_kept, is_short, is_woven_function}
+use Rattle.lsl_code.specs.Woven.{is_kept, is_woven_function}
 use Rattle.lsl_weave.specs.WovenLaws.{WeavingMakesWoven}
 use Rattle.lsl_weave.proofs.Forwards.{weavable}
 use Rattle.lsl_weave.proofs.MadeBacks.{all_restored}
@@ -58,24 +58,22 @@ woven_from bodies f w e = by_body (slice_get bodies f) refl (sym (slice_get-map 
     by_body (Some b) is e = let same : woven_of b ≡ w = cc in (b, is, same)
 
 -- the running code
-running_made : (names : Names) (f : ℕ) (b : Body) → fits_function names f b ≡ true
+running_made : (names : Names) (b : Body) → fits_running names b ≡ true
     → fits_running names (woven_of b) ≡ true
-running_made names f b ok =
-    let p8 = both_true _ _ ok in
-    let p7 = both_true _ _ p8.0 in
-    let p6 = both_true _ _ p7.0 in
+running_made names b ok =
+    let p6 = both_true _ _ ok in
     let p5 = both_true _ _ p6.0 in
     let p4 = both_true _ _ p5.0 in
     let p3 = both_true _ _ p4.0 in
     let p2 = both_true _ _ p3.0 in
     let p1 = both_true _ _ p2.0 in
-    let long = eq_is _ _ p2.1 in
+    let long = eq_is _ _ p1.1 in
     let stacks = eqs _ _ (stacks_long b) in
-    let fits = woven_fits (scope names b.slots b.result) b long p3.1 p1.1 in
+    let fits = woven_fits (scope names b.slots b.result) b long p2.1 p1.0 in
     let once = all_others (is_once b.code) (is_once (woven_code b))
-    (λ p pt h. ap (λ n. nat_eq n 1) (count_woven p b) ∙ h) 0 b.points p4.1 in
-    let most = ap (λ n. nat_eq n b.most) (most_woven b long) ∙ p6.1 in
-    both _ _ (both _ _ (both _ _ (both _ _ (both _ _ (both _ _ refl stacks) fits) once) p5.1) most) p7.1
+    (λ p pt h. ap (λ n. nat_eq n 1) (count_woven p b) ∙ h) 0 b.points p3.1 in
+    let most = ap (λ n. nat_eq n b.most) (most_woven b long) ∙ p5.1 in
+    both _ _ (both _ _ (both _ _ (both _ _ (both _ _ (both _ _ refl stacks) fits) once) p4.1) most) p6.1
 
 -- the states
 handles_same : (h : Handler) (o : Option Body) → handles h (option_map woven_of o) ≡ handles h o
@@ -124,7 +122,7 @@ module _ (globals : List Value) (states : List StateCode) (bodies : List Body)
       let x = woven_from bodies f w found in
       let b = x.0 in
       let plain = all_at (fits_function names) bodies f b (both_true _ _ (both_true _ _ fits).0).0 x.1 in
-      let running = subst (λ y. fits_running names y ≡ true) x.2 (running_made names f b plain) in
+      let running = subst (λ y. fits_running names y ≡ true) x.2 (running_made names b (both_true _ _ (both_true _ _ plain).0).1) in
       let kept = subst (λ y. is_kept y ≡ true) x.2 (kept_made f b x.1) in
       let brief = all_at (λ f w. is_short w) (all_woven bodies) f w short found in
       both _ _ (both _ _ (both _ _ (forward_made f w found) running) brief) kept

@@ -13,9 +13,9 @@ use Rattle.lsl_code.specs.Fits.{all_places}
 use Rattle.lsl_code.specs.Modes.{landing}
 use Rattle.lsl_code.specs.Standing.{point_instr}
 use Rattle.lsl_code.proofs.Tested.{both, eq_self, sames_self, differs, differs', all_if}
-use Rattle.lsl_weave.specs.BackWays.{Put, ToSlot, ToTop, putting, backs_at, backs, put_back, put_count, is_put_once, are_put, is_tick_of, is_call_of, lands_well, is_back_way, restores_point}
+use Rattle.lsl_code.specs.BackWays.{Put, ToSlot, ToTop, putting, backs_at, backs, put_back, put_count, is_put_once, are_put, is_tick_of, is_call_of, lands_well, is_back_way, restores_point}
 use Rattle.lsl_weave.specs.Layout.{shift, waiting, backs_from, back_place, back_slots, back_tops, back_end, place_of, woven_code, woven_of}
-use Rattle.lsl_weave.specs.SaveWays.{with_one, waiting_kinds}
+use Rattle.lsl_code.specs.SaveWays.{with_one, waiting_kinds}
 use Rattle.lsl_weave.proofs.MadeSaves.{onward_on, one_more, no_more, drop_take}
 use Rattle.lsl_weave.proofs.PlainPoints.{HasPoints}
 use Rattle.lsl_weave.proofs.Placing.{HasAt, laid}

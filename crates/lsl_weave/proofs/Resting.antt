@@ -16,13 +16,14 @@ use Rattle.lsl_code.specs.Kinded.{AreWaiting, AreKindedCalls}
 use Rattle.lsl_code.specs.Kinds.{Scope, scope, kinds_of, names_in, signature_in}
 use Rattle.lsl_code.specs.Machine.{MachineCall}
 use Rattle.lsl_code.specs.Standing.{AreChained, IsChain, IsAtTick}
+use Rattle.lsl_code.specs.Units.{fits_running}
 use Rattle.lsl_code.specs.WellFormed.{StandsWith}
 use Rattle.lsl_code.proofs.AtPoints.{pushed_one, one_stack}
 use Rattle.lsl_code.proofs.Sames.{both_true}
 use Rattle.lsl_code.proofs.Taking.{taken}
 use Rattle.lsl_code.proofs.Told.{all_at, finds_told}
-use Rattle.lsl_weave.specs.SaveWays.{waiting_kinds}
-use Rattle.lsl_weave.specs.Woven.{fits_running, is_woven}
+use Rattle.lsl_code.specs.SaveWays.{waiting_kinds}
+use Rattle.lsl_code.specs.Woven.{is_woven}
 use Rattle.lsl_weave.specs.WovenCalls.{IsAt, WaitAtCalls, RestAtTick}
 use Rattle.lsl_weave.specs.WovenLaws.{KindedMachinesRest, RestingCallsAreKinded}
 use Rattle.lsl_weave.proofs.SavingOn.{function_ok}

@@ -15,11 +15,12 @@ use Rattle.lsl_code.specs.Modes.{repeat, at_place, landing}
 use Rattle.lsl_code.specs.Restoring.{restoring, awake_with, blank, BackAct, Moves, unpacked, where_slot, back_act, back_after, back_step, begins_restoring}
 use Rattle.lsl_weave.specs.Layout.{shift, waiting, backs_from, back_place, back_slots, back_tops, back_end, woven_code, woven_of, all_woven}
 use Rattle.lsl_code.specs.Standing.{Stands, Wait, HasFrames}
-use Rattle.lsl_weave.specs.Lifting.{woven_place, lift_waiting, lift, most_steps, AreOnePlaced}
+use Rattle.lsl_weave.specs.Lifting.{woven_place, lift_waiting, lift, AreOnePlaced}
+use Rattle.lsl_code.specs.Weaves.{most_steps}
 use Rattle.lsl_code.proofs.Repeating.{first_then, both_then, then_one}
 use Rattle.lsl_weave.proofs.Placing.{HasAt, laid}
 use Rattle.lsl_weave.proofs.Saved.{woven_found, length_map, waits_for, waiting_at}
-use Rattle.lsl_weave.specs.Lifting.{values_count}
+use Rattle.lsl_code.specs.Weaves.{values_count}
 
 abbrev pub Restores : List Body → ℕ → List Frame → List MachineCall → ℕ → Type 0
 Restores bs handler sack calls n =

@@ -17,8 +17,8 @@ use Rattle.lsl_code.specs.Saving.{SaveAct, Keeps, Seals, NoSave, keeps_slot, kee
 use Rattle.lsl_code.specs.Standing.{point_instr}
 use Rattle.lsl_code.proofs.Sames.{both_true, eq_is, sames_are}
 use Rattle.lsl_code.proofs.Told.{all_at}
-use Rattle.lsl_weave.specs.SaveWays.{Keep, OfSlot, OfTop, SaveWay, keeping, onward, keeps_at, keeps, with_one, kept, are_kinds, waiting_kinds, is_save_way, saves_point, saves_at}
-use Rattle.lsl_weave.specs.Woven.{is_kept, is_woven_function, is_woven}
+use Rattle.lsl_code.specs.SaveWays.{Keep, OfSlot, OfTop, SaveWay, keeping, onward, keeps_at, keeps, with_one, kept, are_kinds, waiting_kinds, is_save_way, saves_point, saves_at}
+use Rattle.lsl_code.specs.Woven.{is_kept, is_woven_function, is_woven}
 use Rattle.lsl_weave.specs.WovenCalls.{IsAt}
 
 -- at most n instructions are left to the end of the frame of a point with these kinds

@@ -11,7 +11,7 @@ use Rattle.lsl_code.specs.Standing.{point_instr}
 use Rattle.lsl_code.specs.Bodies.{Body, instruction_in, instruction_at}
 use Rattle.lsl_code.specs.Fits.{is_plain}
 use Rattle.lsl_code.specs.Forward.{leads_back, Forward, frees, goes_back, begins, Lands}
-use Rattle.lsl_weave.specs.ForwardTests.{high_in, lands_ok, place_ok, body_ok, is_forward}
+use Rattle.lsl_code.specs.ForwardTests.{high_in, lands_ok, place_ok, body_ok, is_forward}
 
 -- plain code whose points stand at their instructions
 abbrev pub Weavable : Body → Type 0

@@ -11,7 +11,7 @@ use Rattle.lsl_code.specs.Fits.{same_callee, is_point, goes_on, goes_on_with, fi
 use Rattle.lsl_code.specs.Kinds.{Scope}
 use Rattle.lsl_code.specs.WellFormed.{StandsWith, FindsItsOperands}
 use Rattle.lsl_code.proofs.Sames.{both_true, eq_is, sames_are}
-use Rattle.lsl_weave.specs.SaveWays.{waiting_kinds}
+use Rattle.lsl_code.specs.SaveWays.{waiting_kinds}
 
 callee_is : (a b : Option ℕ) → same_callee a b ≡ true → a ≡ b
 callee_is None None e = refl

@@ -9,7 +9,7 @@ use Rattle.lsl_code.specs.declared.instructions.Instr.{Instr}
 use Rattle.lsl_code.specs.declared.instructions.Instr.TheVariants.{Jump, Tick, Return, TestSave, KeepSlot, KeepTop, Seal, TestBack, Unpack, BackSlot, Branch, Awake}
 use Rattle.lsl_code.specs.Bodies.{Body}
 use Rattle.lsl_weave.specs.Layout.{nones}
-use Rattle.lsl_weave.specs.Woven.{is_woven}
+use Rattle.lsl_code.specs.Woven.{is_woven}
 
 abbrev states : List StateCode
 states = record { name = []; handlers = record { event = StateEntry; function = 0 } ∷ [] } ∷ []

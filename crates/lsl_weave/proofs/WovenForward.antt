@@ -13,7 +13,7 @@ use Rattle.lsl_weave.proofs.Placing.{HasAt, main_length, save_length, back_lengt
 use Rattle.lsl_weave.proofs.Lift.{offset_none, shift_next, first, first_at}
 use Rattle.lsl_weave.proofs.Running.{past_still}
 use Rattle.lsl_weave.proofs.Tested.{Weavable}
-use Rattle.lsl_weave.specs.ForwardTests.{high_in, place_ok, body_ok, is_forward}
+use Rattle.lsl_code.specs.ForwardTests.{high_in, place_ok, body_ok, is_forward}
 use Rattle.lsl_code.specs.Fits.{all_places, is_plain}
 use Rattle.lsl_code.proofs.Sames.{both_true, all_from}
 

@@ -9,7 +9,8 @@ use Rattle.lsl_code.specs.ModeRuns.{beside_of, SaveRun, BackRun}
 use Rattle.lsl_code.specs.Runs.{CutAt, run}
 use Rattle.lsl_weave.specs.Layout.{all_woven}
 use Rattle.lsl_code.specs.Standing.{HasFrames}
-use Rattle.lsl_weave.specs.Lifting.{lift_machine, lift_halt, OuterAreBehind, most_steps, AreOnePlaced}
+use Rattle.lsl_weave.specs.Lifting.{lift_machine, lift_halt, OuterAreBehind, AreOnePlaced}
+use Rattle.lsl_code.specs.Weaves.{most_steps}
 
 -- saving a machine at a tick ends with its frames, and with the same globals, limit and answers
 abbrev pub SavesItsFrames : Type 0

@@ -1,11 +1,7 @@
-pub mod BackWays
-pub mod ForwardTests
 pub mod Laws
 pub mod Layout
 pub mod Lifting
-pub mod SaveWays
 pub mod Tables
 pub mod UnitLaws
-pub mod Woven
 pub mod WovenCalls
 pub mod WovenLaws

@@ -1,6 +1,5 @@
 -- Where a machine of plain code stands in woven code.
-use Rattle.std.specs.Prelude.{ℕ, ◌+◌, ◌-◌, ◌*◌, ◌≡◌, List, [], ◌∷◌, Option, Some, None, length, map, slice_get, sum_by}
-use Rattle.lsl_code.specs.declared.frames.Frame.{Frame}
+use Rattle.std.specs.Prelude.{ℕ, ◌+◌, ◌-◌, ◌≡◌, List, [], ◌∷◌, Option, Some, None, map, slice_get}
 use Rattle.lsl_code.specs.declared.instructions.Instr.TheVariants.{Call}
 use Rattle.lsl_code.specs.Bodies.{Body}
 use Rattle.lsl_code.specs.Machine.{MachineCall, Machine}
@@ -49,14 +48,6 @@ AreBehindCalls bodies (c ∷ outer) = IsBehindCall bodies c × AreBehindCalls bo
 abbrev pub OuterAreBehind : List Body → List MachineCall → Type 0
 OuterAreBehind bodies [] = Unit {0}
 OuterAreBehind bodies (c ∷ outer) = AreBehindCalls bodies outer
-
--- how many values they have
-abbrev pub values_count : List Frame → ℕ
-values_count frames = sum_by (λ frame. length frame.slots) frames
-
--- the most instructions that restoring frames takes
-abbrev pub most_steps : List Frame → ℕ
-most_steps frames = 16 + 8 * length frames + 4 * values_count frames
 
 -- each point of the function stands at one place only
 abbrev pub IsOnePlaced : Body → Type 0

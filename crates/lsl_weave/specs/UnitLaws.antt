@@ -14,7 +14,8 @@ use Rattle.lsl_code.specs.Runs.{run}
 use Rattle.lsl_code.specs.Standing.{HasFrames, IsAtTick, IsChain}
 use Rattle.lsl_code.specs.Units.{fits_unit}
 use Rattle.lsl_weave.specs.Layout.{all_woven}
-use Rattle.lsl_weave.specs.Lifting.{lift_machine, lift_halt, most_steps}
+use Rattle.lsl_weave.specs.Lifting.{lift_machine, lift_halt}
+use Rattle.lsl_code.specs.Weaves.{most_steps}
 
 -- a machine at a tick, in which all kinds are right, is saved as its frames
 abbrev pub UnitsSave : Type 0

@@ -5,7 +5,7 @@ use Rattle.lsl_code.specs.Bodies.{Body}
 use Rattle.lsl_code.specs.Kinds.{kinds_of}
 use Rattle.lsl_code.specs.Machine.{MachineCall}
 use Rattle.lsl_code.specs.Standing.{point_instr}
-use Rattle.lsl_weave.specs.SaveWays.{waiting_kinds}
+use Rattle.lsl_code.specs.SaveWays.{waiting_kinds}
 
 -- the call has the kinds of this point, whose tick, or call of this function, stands at place k
 pub record IsAt (bodies : List Body) (c : MachineCall) (k : ℕ) (callee : Option ℕ) (p : ℕ) : Type 0 where

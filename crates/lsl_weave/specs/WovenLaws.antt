@@ -11,9 +11,9 @@ use Rattle.lsl_code.specs.Kinds.{kinds_of}
 use Rattle.lsl_code.specs.Machine.{MachineCall, Machine}
 use Rattle.lsl_code.specs.ModeRuns.{Beside, beside_of, SaveRun, BackRun}
 use Rattle.lsl_code.specs.Standing.{IsAtTick, IsChain}
-use Rattle.lsl_code.specs.Units.{fits_unit}
+use Rattle.lsl_code.specs.Units.{fits_unit, is_short}
 use Rattle.lsl_weave.specs.Layout.{all_woven}
-use Rattle.lsl_weave.specs.Woven.{is_short, is_woven}
+use Rattle.lsl_code.specs.Woven.{is_woven}
 use Rattle.lsl_weave.specs.WovenCalls.{RestAtTick}
 
 -- a machine that rests at a tick is saved, and keeps its globals, limit and answers

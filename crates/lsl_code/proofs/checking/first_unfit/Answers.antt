@@ -1,13 +1,13 @@
-use Rattle.std.proofs.Common.{◌+◌, ◌↔◌, drop, subst}
+use Rattle.std.proofs.Common.{◌+◌, ◌↔◌, drop, map, subst}
 use Rattle.std.specs.Prelude.{IsTrue}
-use Rattle.lsl_code.specs.Bodies.{point_of}
-use Rattle.lsl_code.specs.Frames.{FitsFrame}
+use Rattle.lsl_code.specs.Frames.{FitsFrame, points_of}
 use Rattle.lsl_code.proofs.Fitting.{one_off, range_to_end, unfit_here, fit_on, refuted}
+use Rattle.lsl_code.specs.WovenBodies.{woven_body}
 use Rattle.lsl_code.proofs.checking.first_unfit.Goals as goal
 
 pub returns-then-not-fits : goal.returns-then-not-fits
 returns-then-not-fits c =
-    let points = point_of c.args.unit.now.functions in
+    let points = points_of (map woven_body c.args.unit.now.functions) in
     let frames = c.args.frames.now in
     let at = c.loop-i.i in
     let frame = c.index-frames-i.result in
@@ -21,7 +21,7 @@ returns-then-not-fits c =
 
 pub loop-i-preserved : goal.loop-i-preserved
 loop-i-preserved c =
-    let points = point_of c.args.unit.now.functions in
+    let points = points_of (map woven_body c.args.unit.now.functions) in
     let frames = c.args.frames.now in
     let at = c.loop-i.i in
     let frame = c.index-frames-i.result in

@@ -1,6 +1,6 @@
 use Rattle.std.proofs.Common.{◌≡◌, drop}
 use Rattle.lsl_code.specs.Units.{handler_in}
-use Rattle.lsl_code.proofs.units.handler.Given as goal
+use Rattle.lsl_code.proofs.woven_units.handler.Given as goal
 
 -- the handlers before this one are of other events
 abbrev pub invariant-loop-handler : goal.invariant-loop-handler

@@ -8,7 +8,7 @@ use Rattle.lsl_code.specs.Bodies.{Body}
 use Rattle.lsl_code.specs.Fits.{all_places}
 use Rattle.lsl_code.specs.Kinds.{same_kinds}
 use Rattle.lsl_code.specs.Modes.{landing}
-use Rattle.lsl_weave.specs.SaveWays.{onward, with_one, waiting_kinds}
+use Rattle.lsl_code.specs.SaveWays.{onward, with_one, waiting_kinds}
 
 -- where a value is put: to a slot, or on the operands
 pub data Put : Type 0 where
