@@ -1,24 +1,22 @@
--- What a well-formed unit tells of a point's instruction.
-use Rattle.std.proofs.Common.{◌≡◌, ℕ, ◌+◌, List, ◌++◌, length, drop, reverse, Option, Some, None, option_map, true, false, refl, sym, ap, ◌∙◌, subst, slice_get}
+-- What a well-formed unit, plain or woven, tells of a point's instruction.
+use Rattle.std.proofs.Common.{◌≡◌, ℕ, ◌+◌, List, ◌++◌, length, drop, reverse, Option, Some, None, option_map, true, refl, sym, ap, ◌∙◌, subst, slice_get}
 use Rattle.std.proofs.lemmas.List.{reverse-reverse}
 use Rattle.std.proofs.lemmas.Option.{slice_get-map}
 use Rattle.lsl_value.specs.declared.tagged.Kind.{Kind}
 use Rattle.lsl_value.specs.declared.tagged.Value.{Value}
 use Rattle.lsl_code.specs.declared.functions.Point.{Point}
 use Rattle.lsl_code.specs.declared.functions.StateCode.{StateCode}
-use Rattle.lsl_code.specs.declared.instructions.Instr.{Instr}
 use Rattle.lsl_code.specs.declared.instructions.Instr.TheVariants.{Tick, Call}
 use Rattle.lsl_code.specs.declared.signatures.Names.{Names}
 use Rattle.lsl_code.specs.Bodies.{Body}
 use Rattle.lsl_code.specs.Effects.{pushed, called, waiting}
-use Rattle.lsl_code.specs.Fits.{same_callee, is_point, may_be_bare, fits_where, fits_at}
+use Rattle.lsl_code.specs.Fits.{same_callee, is_point}
 use Rattle.lsl_code.specs.Kinds.{Scope, scope, names_in, signature_in}
 use Rattle.lsl_code.specs.Standing.{point_instr}
-use Rattle.lsl_code.specs.Units.{fits_function, fits_unit}
-use Rattle.lsl_code.specs.WellFormed.{StandsWith, IsWellFormedFunction}
+use Rattle.lsl_code.specs.WellFormed.{StandsWith, IsWellFormedFunction, IsWellFormedUnit}
 use Rattle.lsl_code.proofs.Sames.{both_true, eq_is, sames_are}
 use Rattle.lsl_code.proofs.Taking.{taken}
-use Rattle.lsl_code.proofs.Told.{all_at, function_told, finds_told}
+use Rattle.lsl_code.proofs.Told.{finds_told}
 
 callee_is : (a b : Option ℕ) → same_callee a b ≡ true → a ≡ b
 callee_is None None e = refl
@@ -41,14 +39,6 @@ map_told points p (Some point) callee ks e t =
     let b = both_true _ _ t in
     record { point = point; mapped = e; calls = callee_is _ _ b.0; kinds = sames_are _ _ b.1 }
 
-kinds_there : (s : Scope) (w : Body) (k : ℕ) (i : Instr) (o : Option (Option (List Kind)))
-    → slice_get w.stacks k ≡ o
-    → may_be_bare i ≡ false → fits_where s w k i o ≡ true → (ks : List Kind) × StandsWith w k ks
-kinds_there s w k i None e bare fits = absurd cc
-kinds_there s w k i (Some None) e bare fits = absurd cc
-kinds_there s w k i (Some (Some js)) e bare fits =
-    (reverse js, e ∙ ap (λ l. Some (Some l)) (sym (reverse-reverse js)))
-
 some_one : {A : Type 0} (x y : A) → Some x ≡ Some y → x ≡ y
 some_one x y e = cc
 
@@ -63,7 +53,7 @@ one_stack w k js ks a b =
     sym (reverse-reverse js) ∙ ap reverse same ∙ reverse-reverse ks
 
 module _ (globals : List Value) (states : List StateCode) (bodies : List Body)
-    (fits : fits_unit globals states bodies ≡ true) where
+    (ok : IsWellFormedUnit globals states bodies) where
   abbrev names : Names
   names = names_in globals states bodies
 
@@ -71,27 +61,8 @@ module _ (globals : List Value) (states : List StateCode) (bodies : List Body)
     abbrev own : Scope
     own = scope names w.slots w.result
 
-    fits_one : fits_function names f w ≡ true
-    fits_one = all_at (fits_function names) bodies f w (both_true _ _ (both_true _ _ fits).0).0 found
-
     pub well_formed : IsWellFormedFunction names w
-    well_formed = function_told names f w fits_one
-
-    all_fit : (k : ℕ) (i : Instr) → slice_get w.code k ≡ Some i → fits_at own w k i ≡ true
-    all_fit k i here =
-        let running = (both_true _ _ (both_true _ _ fits_one).0).1 in
-        let p5 = both_true _ _ (both_true _ _ running).0 in
-        let p4 = both_true _ _ p5.0 in
-        let p3 = both_true _ _ p4.0 in
-        all_at (fits_at own w) w.code k i (both_true _ _ p3.0).1 here
-
-    -- a running machine stands before each point's instruction
-    pub stack_there : (k p : ℕ) (callee : Option ℕ) → slice_get w.code k ≡ Some (point_instr callee p)
-        → (ks : List Kind) × StandsWith w k ks
-    stack_there k p None here = kinds_there own w k (Tick p) (slice_get w.stacks k) refl refl
-        (all_fit k (Tick p) here)
-    stack_there k p (Some g) here =
-        kinds_there own w k (Call g p) (slice_get w.stacks k) refl refl (all_fit k (Call g p) here)
+    well_formed = ok.functions f w found
 
     pub tick_map : (k p : ℕ) (ks : List Kind) → slice_get w.code k ≡ Some (Tick p) → StandsWith w k ks
         → HasMap w.points p None (w.slots ++ reverse ks)
@@ -104,7 +75,7 @@ module _ (globals : List Value) (states : List StateCode) (bodies : List Body)
         → (ks : List Kind) × HasMap w.points p (Some g) (w.slots ++ reverse ks)
         × StandsWith w (k + 1) (pushed callee.result ks)
     call_map k p g callee here there =
-        let stack = stack_there k p (Some g) here in
+        let stack = well_formed.stands k p (Some g) here in
         let ks = stack.0 in
         let told = well_formed.finds k (Call g p) ks here stack.1 in
         let named : slice_get own.functions g ≡ Some (signature_in callee) =
@@ -122,10 +93,10 @@ module _ (globals : List Value) (states : List StateCode) (bodies : List Body)
     pub some_map : (k p : ℕ) (callee : Option ℕ) → slice_get w.code k ≡ Some (point_instr callee p)
         → (ks : List Kind) × HasMap w.points p callee ks
     some_map k p None here =
-        let stack = stack_there k p None here in
+        let stack = well_formed.stands k p None here in
         (w.slots ++ reverse stack.0, tick_map k p stack.0 here stack.1)
     some_map k p (Some g) here =
-        let stack = stack_there k p (Some g) here in
+        let stack = well_formed.stands k p (Some g) here in
         let told = well_formed.finds k (Call g p) stack.0 here stack.1 in (
           w.slots ++ reverse (waiting (slice_get own.functions g) stack.0),
           map_told w.points p (slice_get w.points p) (Some g) _ refl told.3,

@@ -20,9 +20,8 @@ use Rattle.lsl_code.specs.Kinded.{AreWaiting}
 use Rattle.lsl_code.specs.Kinds.{kinds_of}
 use Rattle.lsl_code.specs.Machine.{MachineCall, call_at}
 use Rattle.lsl_code.specs.Standing.{AreChained, point_instr, Stands, Wait}
-use Rattle.lsl_code.specs.Units.{fits_unit}
-use Rattle.lsl_code.specs.WellFormed.{StandsWith}
-use Rattle.lsl_code.proofs.AtPoints.{HasMap, well_formed, stack_there, some_map, tick_map, call_map}
+use Rattle.lsl_code.specs.WellFormed.{StandsWith, IsWellFormedUnit}
+use Rattle.lsl_code.proofs.AtPoints.{HasMap, well_formed, some_map, tick_map, call_map}
 use Rattle.lsl_code.proofs.Sames.{eq_is}
 use Rattle.lsl_code.proofs.Stood.{map_length}
 use Rattle.lsl_code.proofs.Taking.{kinds_reverse}
@@ -131,7 +130,7 @@ module _ (bodies : List Body) where
       (sym m.calls ∙ sym (ap (λ x. x.calls) same) ∙ at.calls, at.kinds ∙ ap (λ x. x.kinds) same ∙ m.kinds)
 
 module _ (globals : List Value) (states : List StateCode) (bodies : List Body)
-    (fits : fits_unit globals states bodies ≡ true) (h : ℕ) where
+    (ok : IsWellFormedUnit globals states bodies) (h : ℕ) where
   -- where a frame's tick or call stands
   placed : (frame : Frame) (callee : Option ℕ) (at : Homed bodies frame callee)
       → (k : ℕ) × (slice_get at.body.code k ≡ Some (point_instr callee frame.point))
@@ -139,9 +138,9 @@ module _ (globals : List Value) (states : List StateCode) (bodies : List Body)
       let f = frame.function in
       let w = at.body in
       let p = frame.point in
-      let once = (well_formed globals states bodies fits f w at.found).once p at.point at.mapped in
+      let once = (well_formed globals states bodies ok f w at.found).once p at.point at.mapped in
       let place = found_in w.code p 0 once in
-      let m = some_map globals states bodies fits f w at.found place.0 p place.1 place.2 in
+      let m = some_map globals states bodies ok f w at.found place.0 p place.1 place.2 in
       let same = map_is bodies frame callee place.1 m.0 at m.1 in
       (place.0, place.2 ∙ ap (λ o. Some (point_instr o p)) same.0)
 
@@ -169,7 +168,7 @@ module _ (globals : List Value) (states : List StateCode) (bodies : List Body)
       let w = at.body in
       let place = placed frame (Some g) at in
       let k = place.0 in
-      let m = call_map globals states bodies fits frame.function w at.found k frame.point g callee place.1
+      let m = call_map globals states bodies ok frame.function w at.found k frame.point g callee place.1
       there in
       let kinds = (map_is bodies frame (Some g) (Some g) (w.slots ++ reverse m.0) at m.1).1 in
       let c = call_of w (k + 1) frame in
@@ -184,21 +183,21 @@ module _ (globals : List Value) (states : List StateCode) (bodies : List Body)
       }
 
 pub frames_have_calls : FramesHaveCalls
-frames_have_calls globals states bodies fits h [] fit = absurd fit
-frames_have_calls globals states bodies fits h (frame ∷ frames) fit =
+frames_have_calls globals states bodies ok h [] fit = absurd fit
+frames_have_calls globals states bodies ok h (frame ∷ frames) fit =
     let at = homed bodies frame None fit.0.0 in
     let w = at.body in
     let f = frame.function in
-    let place = placed globals states bodies fits h frame None at in
+    let place = placed globals states bodies ok h frame None at in
     let k = place.0 in
-    let stack = stack_there globals states bodies fits f w at.found k frame.point None place.1 in
-    let m = tick_map globals states bodies fits f w at.found k frame.point stack.0 place.1 stack.1 in
+    let stack = (well_formed globals states bodies ok f w at.found).stands k frame.point None place.1 in
+    let m = tick_map globals states bodies ok f w at.found k frame.point stack.0 place.1 stack.1 in
     let kinds = (map_is bodies frame None None (w.slots ++ reverse stack.0) at m).1 in
     let c = call_of w k frame in
     let one = call_stands bodies frame None k k stack.0 at place.1 kinds in
     let stands = subst (StandsWith w k) (sym one.2) stack.1 in
-    let more = made globals states bodies fits h frames f w at.found
-    (ends globals states bodies fits h frame frames fit.0.1) fit.1 in (
+    let more = made globals states bodies ok h frames f w at.found
+    (ends globals states bodies ok h frame frames fit.0.1) fit.1 in (
       c ∷ more.calls,
       (one.0, more.wait),
       (w, at.found, (one.1, stands), more.kinded),

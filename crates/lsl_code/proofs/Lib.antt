@@ -8,6 +8,7 @@ pub mod Chaining
 pub mod Due
 pub mod FewCalls
 pub mod Fitting
+pub mod ForwardTold
 pub mod Following
 pub mod Further
 pub mod Keeping

@@ -31,7 +31,6 @@ use Rattle.lsl_code.specs.WellFormed.{StandsWith, IsWellFormedUnit}
 use Rattle.lsl_code.proofs.ActKinds.{DidFit, act_fits}
 use Rattle.lsl_code.proofs.Acts.{By, act_by}
 use Rattle.lsl_code.proofs.Told.{finds_told}
-use Rattle.lsl_code.proofs.UnitTold.{fits_tells}
 use Rattle.lsl_code.proofs.ValueKinds.{kinds_append, empties_kinds}
 use Rattle.lsl_code.proofs.Following.{straight_finds, jump_finds, answer_taken, some_within}
 
@@ -180,13 +179,13 @@ module _ (globals : List Value) (states : List StateCode) (bodies : List Body)
       by_instruction g a c outer kinded.0 kg kinded.1 kinded.2 kinded.3 fits (slice_get kinded.0.code c.place) refl
 
 pub nothing_is_stuck : NothingIsStuck
-nothing_is_stuck globals states bodies fits m kinded answered =
-    step_right globals states bodies (fits_tells globals states bodies fits) m.kept m.answers m.calls kinded.kept
+nothing_is_stuck globals states bodies ok m kinded answered =
+    step_right globals states bodies ok m.kept m.answers m.calls kinded.kept
     kinded.calls answered
 
 pub begins_kinded : BeginsKinded
-begins_kinded globals states bodies fits f w kept args answers there kg ka =
-    let told = (fits_tells globals states bodies fits).functions f w there in
+begins_kinded globals states bodies ok f w kept args answers there kg ka =
+    let told = ok.functions f w there in
     let slots : kinds_of (first_slots w args) ≡ w.slots =
     kinds_append args (map empty_of (drop (length w.params) w.slots))
     ∙ ap₂ (λ a b. a ++ b) (ka ∙ sym told.params) (empties_kinds (drop (length w.params) w.slots))

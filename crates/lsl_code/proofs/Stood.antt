@@ -1,5 +1,5 @@
 -- Machines of a unit at a tick have valid frames.
-use Rattle.std.proofs.Common.{◌≡◌, ℕ, suc, ◌+◌, ◌-◌, List, [], ◌∷◌, ◌++◌, length, map, reverse, Option, Some, None, true, refl, sym, ap, ap₂, ◌∙◌, subst, arith, slice_get}
+use Rattle.std.proofs.Common.{◌≡◌, ℕ, suc, ◌+◌, ◌-◌, List, [], ◌∷◌, ◌++◌, length, map, reverse, Option, Some, None, refl, sym, ap, ap₂, ◌∙◌, subst, arith, slice_get}
 use Rattle.lsl_value.specs.Values.{kind_of}
 use Rattle.lsl_value.specs.declared.tagged.Kind.{Kind}
 use Rattle.lsl_value.specs.declared.tagged.Value.{Value}
@@ -14,8 +14,7 @@ use Rattle.lsl_code.specs.Kinded.{IsKindedCall, AreWaiting, AreKindedCalls}
 use Rattle.lsl_code.specs.Kinds.{kinds_of}
 use Rattle.lsl_code.specs.Machine.{MachineCall}
 use Rattle.lsl_code.specs.Standing.{AreChained, IsChain, IsAtTick, point_instr, Stands, Wait, HasFrames}
-use Rattle.lsl_code.specs.Units.{fits_unit}
-use Rattle.lsl_code.specs.WellFormed.{StandsWith}
+use Rattle.lsl_code.specs.WellFormed.{StandsWith, IsWellFormedUnit}
 use Rattle.lsl_code.proofs.AtPoints.{HasMap, pushed_one, one_stack, tick_map, call_map}
 use Rattle.lsl_code.proofs.Taking.{kinds_reverse}
 use Rattle.lsl_code.proofs.ValueKinds.{kinds_append}
@@ -60,7 +59,7 @@ module _ (bodies : List Body) where
       }
 
 module _ (globals : List Value) (states : List StateCode) (bodies : List Body)
-    (fits : fits_unit globals states bodies ≡ true) (h : ℕ) where
+    (ok : IsWellFormedUnit globals states bodies) (h : ℕ) where
   waiting_stands : (c : MachineCall) (g k p : ℕ) (callee b w : Body) → slice_get bodies g ≡ Some callee
       → slice_get bodies c.function ≡ Some b → c.place ≡ k + 1 → slice_get b.code k ≡ Some (Call g p)
       → slice_get bodies c.function ≡ Some w → IsKindedCall w c (pushed callee.result (kinds_of c.operands))
@@ -68,7 +67,7 @@ module _ (globals : List Value) (states : List StateCode) (bodies : List Body)
   waiting_stands c g k p callee b w there found at here found' kinded =
       let same = same_body bodies c.function b w found found' in
       let here' : slice_get w.code k ≡ Some (Call g p) = ap (λ x. slice_get x.code k) (sym same) ∙ here in
-      let m = call_map globals states bodies fits c.function w found' k p g callee here' there in
+      let m = call_map globals states bodies ok c.function w found' k p g callee here' there in
       let behind = subst (λ n. StandsWith w n (pushed callee.result (kinds_of c.operands))) at kinded.1 in
       let left = pushed_one callee.result _ _ (one_stack w (k + 1) _ _ behind m.2) in
       let z : k ≡ c.place - 1 = omega (arith, at) in
@@ -90,7 +89,7 @@ module _ (globals : List Value) (states : List StateCode) (bodies : List Body)
       )
 
 pub ticks_have_frames : TicksHaveFrames
-ticks_have_frames globals states bodies fits h m kinded chain tick = by_calls m.calls kinded.calls chain tick
+ticks_have_frames globals states bodies ok h m kinded chain tick = by_calls m.calls kinded.calls chain tick
   where
     by_calls : (calls : List MachineCall) → AreKindedCalls bodies calls → IsChain bodies h calls
         → IsAtTick bodies calls → HasFrames bodies h calls (frames_of bodies calls)
@@ -99,10 +98,10 @@ ticks_have_frames globals states bodies fits h m kinded chain tick = by_calls m.
         let w = kinded.0 in
         let here : slice_get w.code c.place ≡ Some (Tick tick.0) =
         sym (ap (λ o. instruction_in o c.place) kinded.1) ∙ tick.1 in
-        let m = tick_map globals states bodies fits c.function w kinded.1 c.place tick.0
+        let m = tick_map globals states bodies ok c.function w kinded.1 c.place tick.0
         (kinds_of c.operands) here kinded.2.1 in (
           stands_with bodies c c.place tick.0 None w (kinds_of c.operands) kinded.1 here m kinded.2.0 refl,
-          waits_stand globals states bodies fits h outer c.function w kinded.1 chain kinded.3,
+          waits_stand globals states bodies ok h outer c.function w kinded.1 chain kinded.3,
         )
 
 module _ (bodies : List Body) (h : ℕ) where

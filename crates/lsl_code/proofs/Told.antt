@@ -1,16 +1,18 @@
 -- What the test of a function tells.
-use Rattle.std.proofs.Common.{◌≡◌, ℕ, ◌+◌, ◌<◌, List, [], Option, Some, None, Bool, true, refl, sym, ap, ◌∙◌, subst, arith, slice_get}
+use Rattle.std.proofs.Common.{◌≡◌, ℕ, ◌+◌, ◌<◌, List, [], Option, Some, None, Bool, true, false, reverse, refl, sym, ap, ◌∙◌, subst, arith, slice_get}
 use Rattle.std.specs.Prelude.{nat_lt}
 use Rattle.std.proofs.lemmas.Bool.Decides.{nat_tests}
 use Rattle.std.proofs.lemmas.List.{reverse-reverse}
 use Rattle.lsl_value.specs.declared.tagged.Kind.{Kind}
 use Rattle.lsl_code.specs.declared.instructions.Instr.{Instr}
+use Rattle.lsl_code.specs.declared.instructions.Instr.TheVariants.{Tick, Call}
 use Rattle.lsl_code.specs.declared.signatures.Names.{Names}
 use Rattle.lsl_code.specs.Bodies.{Body}
 use Rattle.lsl_code.specs.Effects.{behind}
-use Rattle.lsl_code.specs.Fits.{all_places, finds, goes_on, goes_on_with, fits_before, fits_where, fits_at, is_once}
+use Rattle.lsl_code.specs.Fits.{all_places, finds, goes_on, goes_on_with, fits_before, may_be_bare, fits_where, fits_at, is_once}
 use Rattle.lsl_code.specs.Kinds.{Scope, scope}
-use Rattle.lsl_code.specs.Units.{fits_function}
+use Rattle.lsl_code.specs.Standing.{point_instr}
+use Rattle.lsl_code.specs.Units.{fits_running, is_short}
 use Rattle.lsl_code.specs.WellFormed.{StandsWith, FindsItsOperands, IsWellFormedFunction}
 use Rattle.lsl_code.proofs.Sames.{both_true, all_from, sames_are, eq_is, shape_is}
 
@@ -41,27 +43,41 @@ place_told s w k i ks fits stands =
     let goes = goes_told w k i (behind s i ks) both.0 in
     (goes.0, goes.1, goes.2, both.1)
 
-pub function_told : (names : Names) (f : ℕ) (w : Body) → fits_function names f w ≡ true → IsWellFormedFunction names w
-function_told names f w ok =
+kinds_there : (s : Scope) (w : Body) (k : ℕ) (i : Instr) (o : Option (Option (List Kind)))
+    → slice_get w.stacks k ≡ o
+    → may_be_bare i ≡ false → fits_where s w k i o ≡ true → (ks : List Kind) × StandsWith w k ks
+kinds_there s w k i None e bare fits = absurd cc
+kinds_there s w k i (Some None) e bare fits = absurd cc
+kinds_there s w k i (Some (Some js)) e bare fits =
+    (reverse js, e ∙ ap (λ l. Some (Some l)) (sym (reverse-reverse js)))
+
+stands_told : (s : Scope) (w : Body) (k p : ℕ) (callee : Option ℕ) → fits_at s w k (point_instr callee p) ≡ true
+    → (ks : List Kind) × StandsWith w k ks
+stands_told s w k p None fits = kinds_there s w k (Tick p) (slice_get w.stacks k) refl refl fits
+stands_told s w k p (Some g) fits = kinds_there s w k (Call g p) (slice_get w.stacks k) refl refl fits
+
+pub function_told : (names : Names) (w : Body) → fits_running names w ≡ true → is_short w ≡ true
+    → IsWellFormedFunction names w
+function_told names w ok short =
     let s = scope names w.slots w.result in
-    let whole = both_true _ _ ok in
-    let begun = both_true _ _ whole.0 in
-    let p6 = both_true _ _ begun.1 in
+    let p6 = both_true _ _ ok in
     let p5 = both_true _ _ p6.0 in
     let p4 = both_true _ _ p5.0 in
     let p3 = both_true _ _ p4.0 in
     let p2 = both_true _ _ p3.0 in
     let p1 = both_true _ _ p2.0 in
     record {
-      begins = begun.0;
       first = finds_told w 0 [] p1.0;
       stacks = eq_is _ _ p1.1;
       finds =
           λ place i ks here stands. place_told s w place i ks (all_at (fits_at s w) w.code place i p2.1 here)
           stands;
+      stands =
+          λ place p callee here. stands_told s w place p callee
+          (all_at (fits_at s w) w.code place (point_instr callee p) p2.1 here);
       once = λ p point here. eq_is _ _ (all_at (is_once w.code) w.points p point p3.1 here);
       lines = eq_is _ _ p4.1;
       most = eq_is _ _ p5.1;
       params = sames_are _ _ p6.1;
-      short = less_is _ _ whole.1;
+      short = less_is _ _ short;
     }

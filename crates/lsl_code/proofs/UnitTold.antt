@@ -1,4 +1,4 @@
--- What the test of a unit tells.
+-- What the tests of units tell.
 use Rattle.std.proofs.Common.{◌≡◌, ℕ, suc, ◌+◌, ◌≤◌, List, [], ◌∷◌, Option, Some, None, Bool, true, false, cond, refl, sym, ap, ◌∙◌, arith, slice_get}
 use Rattle.std.specs.Prelude.{not, nat_le, is_none}
 use Rattle.std.proofs.lemmas.Bool.Decides.{nat_tests}
@@ -15,16 +15,19 @@ use Rattle.std.specs.List.{AllPairs}
 use Rattle.std.proofs.lemmas.List.Elements.{All-cons, All-nil}
 use Rattle.std.proofs.lemmas.List.Kept.{AllPairs-cons}
 use Rattle.lsl_value.specs.declared.names.EventId.{EventId}
+use Rattle.lsl_value.specs.declared.tagged.Value.{Value}
 use Rattle.lsl_table.specs.Events.{signature_of}
 use Rattle.lsl_code.specs.declared.functions.Handler.{Handler}
 use Rattle.lsl_code.specs.declared.functions.StateCode.{StateCode}
 use Rattle.lsl_code.specs.Bodies.{instruction_in, instruction_at}
 use Rattle.lsl_code.specs.Forward.{leads_back, goes_back, begins, frees, Lands, Forward}
 use Rattle.lsl_code.specs.Kinds.{names_in}
-use Rattle.lsl_code.specs.Units.{handles, handler_fits, event_number, same_event, has_event, events_differ, state_fits}
-use Rattle.lsl_code.specs.WellFormed.{HasFunction, IsWellFormedState, FitsTells}
+use Rattle.lsl_code.specs.Units.{handles, handler_fits, event_number, same_event, has_event, events_differ, state_fits, fits_states}
+use Rattle.lsl_code.specs.WellFormed.{HasFunction, IsWellFormedFunction, IsWellFormedState, IsWellFormedUnit, FitsTells, WovenTells}
+use Rattle.lsl_code.specs.Woven.{is_woven_function}
 use Rattle.lsl_code.proofs.Sames.{both_true, sames_are}
 use Rattle.lsl_code.proofs.Tested.{eq_self}
+use Rattle.lsl_code.proofs.ForwardTold.{forward_of}
 use Rattle.lsl_code.proofs.Told.{all_at, function_told}
 
 is_false : (b : Bool) → not b ≡ true → b ≡ false
@@ -162,22 +165,47 @@ state_told bodies n s e =
 at_most : (m n : ℕ) → nat_le m n ≡ true → m ≤ n
 at_most m n e = grind (arith, nat_tests)
 
+module _ (globals : List Value) (states : List StateCode) (bodies : List Body) where
+  -- what the tests of plain and of woven units have in common
+  unit_told : ((f : ℕ) (w : Body) → slice_get bodies f ≡ Some w
+      → IsWellFormedFunction (names_in globals states bodies) w)
+      → Forward bodies → fits_states bodies states ≡ true → IsWellFormedUnit globals states bodies
+  unit_told functions forward fits =
+      let each = both_true _ _ fits in
+      let counts = both_true _ _ each.0 in
+      record {
+        functions = functions;
+        forward = forward;
+        some_state = at_most _ _ counts.0;
+        few_states = at_most _ _ counts.1;
+        each_state =
+            all_told (state_fits bodies) (IsWellFormedState bodies) 0 states (λ j s t. state_told bodies j s t)
+            each.1;
+      }
+
 pub fits_tells : FitsTells
 fits_tells globals states bodies e =
     let both = both_true _ _ e in
-    let functions = both_true _ _ both.0 in
-    let counts = both_true _ _ both.1 in
+    let each = both_true _ _ both.0 in
     let names = names_in globals states bodies in
     let told = λ (f : ℕ) (w : Body) (there : slice_get bodies f ≡ Some w).
-    function_told names f w (all_at (fits_function names) bodies f w functions.0 there) in
-    record {
-      functions = told;
-      plain = λ f place w i there here. plain_told bodies (λ f w there. (told f w there).begins) functions.1 f w
-          there place i here;
-      forward = forward_told bodies (λ f w there. (told f w there).begins) functions.1;
-      some_state = at_most _ _ (both_true _ _ counts.0).0;
-      few_states = at_most _ _ (both_true _ _ counts.0).1;
-      each_state =
-          all_told (state_fits bodies) (IsWellFormedState bodies) 0 states (λ j s t. state_told bodies j s t)
-          counts.1;
-    }
+    both_true _ _ (all_at (fits_function names) bodies f w each.0 there) in
+    let begins = λ (f : ℕ) (w : Body) (there : slice_get bodies f ≡ Some w). (both_true _ _ (told f w there).0).0 in (
+      unit_told globals states bodies
+          (λ f w there. function_told names w (both_true _ _ (told f w there).0).1 (told f w there).1)
+          (forward_told bodies begins each.1) both.1,
+      record {
+        begins = begins;
+        plain = λ f place w i there here. plain_told bodies begins each.1 f w there place i here;
+      },
+    )
+
+pub woven_tells : WovenTells
+woven_tells globals states bodies e =
+    let both = both_true _ _ e in
+    let names = names_in globals states bodies in
+    let told = λ (f : ℕ) (w : Body) (there : slice_get bodies f ≡ Some w).
+    both_true _ _ (both_true _ _ (all_at (is_woven_function names) bodies f w both.0 there)).0 in
+    let runs = λ (f : ℕ) (w : Body) (there : slice_get bodies f ≡ Some w). both_true _ _ (told f w there).0 in
+    unit_told globals states bodies (λ f w there. function_told names w (runs f w there).1 (told f w there).1)
+    (forward_of bodies (λ f w there. (runs f w there).0)) both.1

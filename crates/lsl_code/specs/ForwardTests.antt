@@ -1,5 +1,5 @@
 -- Tests of code in which control goes back only behind ticks.
-use Rattle.std.specs.Prelude.{ℕ, ◌+◌, ◌&&◌, Bool, true, false, cond, List, [], ◌∷◌, slice_get}
+use Rattle.std.specs.Prelude.{ℕ, ◌+◌, ◌&&◌, Bool, true, false, cond, List, slice_get}
 use Rattle.lsl_code.specs.declared.instructions.Instr.{Instr}
 use Rattle.lsl_code.specs.declared.instructions.Instr.TheVariants.{Jump, JumpIf, JumpIfNot}
 use Rattle.lsl_code.specs.Bodies.{Body}
@@ -26,7 +26,3 @@ place_ok code place i =
 -- the function begins with a tick, or with a test before one
 abbrev pub body_ok : Body → Bool
 body_ok b = begins (slice_get b.code 0) (slice_get b.code 1) && all_places (place_ok b.code) 0 b.code
-
-abbrev pub is_forward : List Body → Bool
-is_forward [] = true
-is_forward (b ∷ bs) = body_ok b && is_forward bs

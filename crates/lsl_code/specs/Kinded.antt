@@ -18,8 +18,7 @@ use Rattle.lsl_code.specs.Bodies.{Body, instruction_at}
 use Rattle.lsl_code.specs.Effects.{pushed, is_asked}
 use Rattle.lsl_code.specs.Kinds.{kinds_of}
 use Rattle.lsl_code.specs.Machine.{MachineCall, Machine, End, Ended, Faulted, Lost, Next, On, Pauses, Halts, Passing, Waiting, step}
-use Rattle.lsl_code.specs.Units.{fits_unit}
-use Rattle.lsl_code.specs.WellFormed.{StandsWith}
+use Rattle.lsl_code.specs.WellFormed.{StandsWith, IsWellFormedUnit}
 use Rattle.lsl_code.specs.Wholes.{begun}
 
 -- with operands of these kinds, the call stands where its function wants them, and its slots have their kinds
@@ -77,14 +76,14 @@ IsKindedNext globals states bodies (Halts e) = IsKindedEnd globals states e
 -- kinds are right
 abbrev pub NothingIsStuck : Type 0
 NothingIsStuck =
-    (globals : List Value) (states : List StateCode) (bodies : List Body) → fits_unit globals states bodies ≡ true
+    (globals : List Value) (states : List StateCode) (bodies : List Body) → IsWellFormedUnit globals states bodies
     → (m : Machine) → IsKindedMachine (kinds_of globals) bodies m → IsAnsweredIn bodies m.calls m.answers
     → IsKindedNext (kinds_of globals) (length states) bodies (step bodies m)
 
 -- and the machine in which a handler begins is one
 abbrev pub BeginsKinded : Type 0
 BeginsKinded =
-    (globals : List Value) (states : List StateCode) (bodies : List Body) → fits_unit globals states bodies ≡ true
+    (globals : List Value) (states : List StateCode) (bodies : List Body) → IsWellFormedUnit globals states bodies
     → (f : ℕ) (w : Body) (kept : Kept) (args : List Value) (answers : List Reply)
     → slice_get bodies f ≡ Some w → kinds_of kept.globals ≡ kinds_of globals → kinds_of args ≡ w.params
     → IsKindedMachine (kinds_of globals) bodies (begun f kept (first_slots w args) answers)

@@ -2,7 +2,7 @@
 
 ghost use Rattle.lsl_code.specs.Laws.{AnswersChangeNothing, AsksSoOften, IsStepAndRun, MoreAnswers, MoreTicks, TicksChangeNothing};
 ghost use Rattle.lsl_code.specs.Kinded.{BeginsKinded, NothingIsStuck};
-ghost use Rattle.lsl_code.specs.WellFormed.{FitsTells};
+ghost use Rattle.lsl_code.specs.WellFormed.{FitsTells, WovenTells};
 
 /// Where control goes back only behind ticks, a run is one step, and the run from there.
 pub fn runs_are_steps()
@@ -28,14 +28,16 @@ pub fn a_segment_asks_so_often()
     ensures { AsksSoOften }
 {}
 
-/// What the type of a unit keeps: each instruction finds what it needs, control goes back only behind ticks, each point
-/// stands once, and each handler is a function with its event's parameters.
+/// What the types of units keep, plain and woven: each instruction finds what it needs, control goes back only behind
+/// ticks, each point stands once, and each handler is a function with its event's parameters.
 pub fn units_are_well_formed()
-    ensures { FitsTells }
+    ensures plain { FitsTells }
+    ensures woven { WovenTells }
 {}
 
-/// A machine of a unit never meets a missing or a wrong operand, where the answers are of their calls' kinds: each step
-/// leads to a machine whose kinds are right, and no run is lost. The machine in which a handler begins is such a one.
+/// A machine of a unit, plain or woven, never meets a missing or a wrong operand while it runs, where the answers are
+/// of their calls' kinds: each step leads to a machine whose kinds are right, and no run is lost. The machine in which
+/// a handler begins is such a one.
 pub fn nothing_is_stuck()
     ensures step { NothingIsStuck }
     ensures beginning { BeginsKinded }

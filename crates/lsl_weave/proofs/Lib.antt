@@ -29,8 +29,8 @@ pub mod SavingOn
 pub mod Sealed
 pub mod StacksLaid
 pub mod Sums
-pub mod Tested
 pub mod Units
 pub mod Waiting
+pub mod Weavable
 pub mod WovenExamples
 pub mod WovenForward

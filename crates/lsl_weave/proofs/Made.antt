@@ -16,11 +16,10 @@ use Rattle.lsl_code.proofs.Sames.{both_true, eq_is}
 use Rattle.lsl_code.proofs.Tested.{both, eqs, all_if}
 use Rattle.lsl_code.proofs.Told.{all_at}
 use Rattle.lsl_code.proofs.UnitTold.{fits_tells}
-use Rattle.lsl_code.specs.ForwardTests.{body_ok}
 use Rattle.lsl_weave.specs.Layout.{woven_code, woven_of, all_woven}
 use Rattle.lsl_code.specs.Woven.{is_kept, is_woven_function}
 use Rattle.lsl_weave.specs.WovenLaws.{WeavingMakesWoven}
-use Rattle.lsl_weave.proofs.Forwards.{weavable}
+use Rattle.lsl_weave.proofs.Forwards.{woven_from, woven_forward}
 use Rattle.lsl_weave.proofs.MadeBacks.{all_restored}
 use Rattle.lsl_weave.proofs.MadeCounts.{count_woven, most_woven}
 use Rattle.lsl_weave.proofs.MadeKinds.{woven_fits}
@@ -28,8 +27,6 @@ use Rattle.lsl_weave.proofs.MadeSaves.{all_saves}
 use Rattle.lsl_weave.proofs.Quiet.{all_others}
 use Rattle.lsl_weave.proofs.PlainPoints.{has_points}
 use Rattle.lsl_weave.proofs.StacksLaid.{stacks_long}
-use Rattle.lsl_weave.proofs.Tested.{body_of, forward_tested}
-use Rattle.lsl_weave.proofs.WovenForward.{forward_woven}
 
 signatures_same : (bodies : List Body) → map signature_in (all_woven bodies) ≡ map signature_in bodies
 signatures_same [] = refl
@@ -45,17 +42,6 @@ names_same globals states bodies =
           length states;
     })
     (signatures_same bodies)
-
--- a woven function is one of these
-pub woven_from : (bodies : List Body) (f : ℕ) (w : Body) → slice_get (all_woven bodies) f ≡ Some w
-    → (b : Body)
-    × (slice_get bodies f ≡ Some b) × (woven_of b ≡ w)
-woven_from bodies f w e = by_body (slice_get bodies f) refl (sym (slice_get-map woven_of bodies f) ∙ e)
-  where
-    by_body : (o : Option Body) → slice_get bodies f ≡ o → option_map woven_of o ≡ Some w → (b : Body)
-        × (slice_get bodies f ≡ Some b) × (woven_of b ≡ w)
-    by_body None is e = absurd cc
-    by_body (Some b) is e = let same : woven_of b ≡ w = cc in (b, is, same)
 
 -- the running code
 running_made : (names : Names) (b : Body) → fits_running names b ≡ true
@@ -106,14 +92,9 @@ module _ (globals : List Value) (states : List StateCode) (bodies : List Body)
   abbrev names : Names
   names = names_in globals states bodies
 
-  forward_made : (f : ℕ) (w : Body) → slice_get (all_woven bodies) f ≡ Some w → body_ok w ≡ true
-  forward_made f w found =
-      body_of (all_woven bodies) f w (forward_woven bodies (weavable globals states bodies fits)
-      (forward_tested bodies (fits_tells globals states bodies fits).forward)) found
-
   kept_made : (f : ℕ) (b : Body) → slice_get bodies f ≡ Some b → is_kept (woven_of b) ≡ true
   kept_made f b found =
-      let has = has_points globals states bodies fits f b found in
+      let has = has_points globals states bodies (fits_tells globals states bodies fits).0 f b found in
       both _ _ (all_saves b has) (all_restored b has)
 
   function_made : (f : ℕ) (w : Body) → slice_get (all_woven bodies) f ≡ Some w
@@ -125,7 +106,7 @@ module _ (globals : List Value) (states : List StateCode) (bodies : List Body)
       let running = subst (λ y. fits_running names y ≡ true) x.2 (running_made names b (both_true _ _ (both_true _ _ plain).0).1) in
       let kept = subst (λ y. is_kept y ≡ true) x.2 (kept_made f b x.1) in
       let brief = all_at (λ f w. is_short w) (all_woven bodies) f w short found in
-      both _ _ (both _ _ (both _ _ (forward_made f w found) running) brief) kept
+      both _ _ (both _ _ (both _ _ (woven_forward globals states bodies fits f w found) running) brief) kept
 
 pub weaving_makes_woven : WeavingMakesWoven
 weaving_makes_woven globals states bodies fits short =

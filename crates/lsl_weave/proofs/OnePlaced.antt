@@ -9,7 +9,7 @@ use Rattle.lsl_code.specs.Bodies.{Body}
 use Rattle.lsl_code.specs.Fits.{counted, count_of}
 use Rattle.lsl_code.specs.Machine.{MachineCall}
 use Rattle.lsl_code.specs.Standing.{point_instr, AreChained, IsChain}
-use Rattle.lsl_code.specs.Units.{fits_unit}
+use Rattle.lsl_code.specs.WellFormed.{IsWellFormedUnit}
 use Rattle.lsl_code.proofs.AtPoints.{well_formed, some_map}
 use Rattle.lsl_code.proofs.Tested.{eq_self}
 use Rattle.lsl_weave.specs.Layout.{has_point, place_of}
@@ -76,10 +76,10 @@ one_place (i ∷ code) p (suc k) callee once e =
         left h = sym (counted_not i h) ∙ once
 
 pub one_placed : (globals : List Value) (states : List StateCode) (bodies : List Body)
-    → fits_unit globals states bodies ≡ true → AreOnePlaced bodies
-one_placed globals states bodies fits f b found k p callee here =
-    let m = (some_map globals states bodies fits f b found k p callee here).1 in
-    let once = (well_formed globals states bodies fits f b found).once p m.point m.mapped in
+    → IsWellFormedUnit globals states bodies → AreOnePlaced bodies
+one_placed globals states bodies ok f b found k p callee here =
+    let m = (some_map globals states bodies ok f b found k p callee here).1 in
+    let once = (well_formed globals states bodies ok f b found).once p m.point m.mapped in
     one_place b.code p k callee once here
 
 -- calls that wait for one another stand behind calls

@@ -10,8 +10,8 @@ use Rattle.lsl_code.specs.Effects.{waiting}
 use Rattle.lsl_code.specs.Fits.{is_point}
 use Rattle.lsl_code.specs.Kinds.{Scope, scope, names_in}
 use Rattle.lsl_code.specs.Standing.{point_instr}
-use Rattle.lsl_code.specs.Units.{fits_unit}
-use Rattle.lsl_code.proofs.AtPoints.{well_formed, stack_there, some_map}
+use Rattle.lsl_code.specs.WellFormed.{IsWellFormedUnit}
+use Rattle.lsl_code.proofs.AtPoints.{well_formed, some_map}
 use Rattle.lsl_code.proofs.Sames.{both_true, sames_are}
 use Rattle.lsl_weave.specs.Layout.{place_of}
 use Rattle.lsl_weave.proofs.Forwards.{stands}
@@ -37,7 +37,7 @@ begins_so o pt callee slots rest e test =
     ap (take (length slots)) (sames_are pt.kinds (slots ++ rest) (both_true _ _ t).1) ∙ take_front slots rest
 
 module _ (globals : List Value) (states : List StateCode) (bodies : List Body)
-    (fits : fits_unit globals states bodies ≡ true) (f : ℕ) (b : Body)
+    (ok : IsWellFormedUnit globals states bodies) (f : ℕ) (b : Body)
     (found : slice_get bodies f ≡ Some b) where
   abbrev own : Scope
   own = scope (names_in globals states bodies) b.slots b.result
@@ -45,12 +45,12 @@ module _ (globals : List Value) (states : List StateCode) (bodies : List Body)
   begins_at : (k p : ℕ) (callee : Option ℕ) (pt : Point) → slice_get b.code k ≡ Some (point_instr callee p)
       → slice_get b.points p ≡ Some pt → take (length b.slots) pt.kinds ≡ b.slots
   begins_at k p None pt here mapped =
-      let stack = stack_there globals states bodies fits f b found k p None here in
-      let told = (well_formed globals states bodies fits f b found).finds k (Tick p) stack.0 here stack.1 in
+      let stack = (well_formed globals states bodies ok f b found).stands k p None here in
+      let told = (well_formed globals states bodies ok f b found).finds k (Tick p) stack.0 here stack.1 in
       begins_so (slice_get b.points p) pt None b.slots (reverse stack.0) mapped told.3
   begins_at k p (Some g) pt here mapped =
-      let stack = stack_there globals states bodies fits f b found k p (Some g) here in
-      let told = (well_formed globals states bodies fits f b found).finds k (Call g p) stack.0 here stack.1 in
+      let stack = (well_formed globals states bodies ok f b found).stands k p (Some g) here in
+      let told = (well_formed globals states bodies ok f b found).finds k (Call g p) stack.0 here stack.1 in
       begins_so (slice_get b.points p) pt (Some g) b.slots
       (reverse (waiting (slice_get own.functions g) stack.0)) mapped told.3
 
@@ -58,9 +58,9 @@ module _ (globals : List Value) (states : List StateCode) (bodies : List Body)
   has_points =
       record {
         placed = λ k p callee here. let m =
-            (some_map globals states bodies fits f b found k p callee here).1 in
+            (some_map globals states bodies ok f b found k p callee here).1 in
             (m.point, m.mapped);
-        stands = stands globals states bodies fits f b found;
+        stands = stands globals states bodies ok f b found;
         slots_first = λ p pt mapped. begins_at (place_of p b.code) p pt.calls pt
-            (stands globals states bodies fits f b found p pt mapped) mapped;
+            (stands globals states bodies ok f b found p pt mapped) mapped;
       }

@@ -14,19 +14,19 @@ use Rattle.lsl_weave.proofs.Running.{runs_alike}
 pub units_save : UnitsSave
 units_save globals states bodies fits h m kinded chain tick =
     machine_saved bodies h m (frames_of bodies m.calls)
-    (ticks_have_frames globals states bodies fits h m kinded chain tick)
+    (ticks_have_frames globals states bodies (fits_tells globals states bodies fits).0 h m kinded chain tick)
 
 pub units_move : UnitsMove
 units_move globals states bodies fits h m kinded chain tick =
-    machine_restored bodies h m (frames_of bodies m.calls) (one_placed globals states bodies fits)
-    (ticks_have_frames globals states bodies fits h m kinded chain tick)
+    machine_restored bodies h m (frames_of bodies m.calls) (one_placed globals states bodies (fits_tells globals states bodies fits).0)
+    (ticks_have_frames globals states bodies (fits_tells globals states bodies fits).0 h m kinded chain tick)
 
 abbrev machine_with : List MachineCall → Beside → Machine
 machine_with calls x = record { kept = x.kept; calls = calls; answers = x.answers }
 
 pub units_restore : UnitsRestore
 units_restore globals states bodies fits h frames x fit =
-    let c = frames_have_calls globals states bodies fits h frames fit in
+    let c = frames_have_calls globals states bodies (fits_tells globals states bodies fits).0 h frames fit in
     let m = machine_with c.0 x in (
       m,
       refl,
@@ -34,10 +34,10 @@ units_restore globals states bodies fits h frames x fit =
       c.2,
       c.3,
       c.4,
-      machine_restored bodies h m frames (one_placed globals states bodies fits) c.1,
+      machine_restored bodies h m frames (one_placed globals states bodies (fits_tells globals states bodies fits).0) c.1,
     )
 
 pub units_run_alike : UnitsRunAlike
 units_run_alike globals states bodies fits h ticks m chain =
-    runs_alike bodies (fits_tells globals states bodies fits).forward ticks m
+    runs_alike bodies (fits_tells globals states bodies fits).0.forward ticks m
     (chain_behind bodies h m.calls chain)

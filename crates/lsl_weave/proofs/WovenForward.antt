@@ -7,13 +7,13 @@ use Rattle.lsl_code.specs.declared.instructions.Instr.{Instr}
 use Rattle.lsl_code.specs.declared.instructions.Instr.TheVariants.{Jump, JumpIf, JumpIfNot, Tick, Call, TestSave, KeepSlot, KeepTop, Seal, TestBack, Unpack, BackSlot, BackTop, Branch, Again, Awake}
 use Rattle.lsl_code.specs.Bodies.{Body}
 use Rattle.lsl_code.specs.Forward.{leads_back, is_back, is_tick, begins}
-use Rattle.lsl_weave.specs.Layout.{flat, offset, width, shift, waiting, save_width, back_width, backs_from, back_place, main, keep_tops, keep_slots, save_block, back_slots, back_tops, place_of, back_end, back_block, table, woven_code, woven_of, all_woven}
+use Rattle.lsl_weave.specs.Layout.{flat, offset, width, shift, waiting, save_width, back_width, backs_from, back_place, main, keep_tops, keep_slots, save_block, back_slots, back_tops, place_of, back_end, back_block, table, woven_code, woven_of}
 use Rattle.lsl_code.specs.Standing.{point_instr}
 use Rattle.lsl_weave.proofs.Placing.{HasAt, main_length, save_length, back_length, table_length, laid}
 use Rattle.lsl_weave.proofs.Lift.{offset_none, shift_next, first, first_at}
 use Rattle.lsl_weave.proofs.Running.{past_still}
-use Rattle.lsl_weave.proofs.Tested.{Weavable}
-use Rattle.lsl_code.specs.ForwardTests.{high_in, place_ok, body_ok, is_forward}
+use Rattle.lsl_weave.proofs.Weavable.{Weavable}
+use Rattle.lsl_code.specs.ForwardTests.{high_in, place_ok, body_ok}
 use Rattle.lsl_code.specs.Fits.{all_places, is_plain}
 use Rattle.lsl_code.proofs.Sames.{both_true, all_from}
 
@@ -318,16 +318,9 @@ module _ (b : Body) (plain : (k : ℕ) (i : Instr) → slice_get b.code k ≡ So
   starts_ok None next e h = absurd cc
   starts_ok (Some i) next e h = absurd cc
 
+-- woven code passes the test
 pub body_woven : (b : Body) → Weavable b → body_ok b ≡ true → body_ok (woven_of b) ≡ true
 body_woven b w h =
     let t = both_true (begins (slice_get b.code 0) (slice_get b.code 1))
     (all_places (place_ok b.code) 0 b.code) h in
     both _ _ (starts_ok b w.0 (slice_get b.code 0) (slice_get b.code 1) refl t.0) (woven_ok b w.0 t.1 w.1)
-
--- woven code passes the test
-pub forward_woven : (bs : List Body) → ((f : ℕ) (b : Body) → slice_get bs f ≡ Some b → Weavable b)
-    → is_forward bs ≡ true → is_forward (all_woven bs) ≡ true
-forward_woven [] w h = refl
-forward_woven (b ∷ bs) w h =
-    let t = both_true (body_ok b) (is_forward bs) h in
-    both _ _ (body_woven b (w 0 b refl) t.0) (forward_woven bs (λ f c e. w (suc f) c e) t.1)

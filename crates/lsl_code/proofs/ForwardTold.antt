@@ -1,30 +1,13 @@
--- What the test of code tells.
-use Rattle.std.proofs.Common.{◌≡◌, ℕ, zero, suc, ◌+◌, List, [], ◌∷◌, Bool, true, false, cond, Option, None, Some, refl, sym, ap, ◌∙◌, arith}
+-- What the test that code goes back only behind ticks tells, and which code passes it.
+use Rattle.std.proofs.Common.{◌≡◌, ℕ, ◌+◌, List, Bool, true, false, cond, Option, None, Some, refl, sym, ap, ◌∙◌, arith}
 use Rattle.std.specs.Prelude.{slice_get}
 use Rattle.lsl_code.specs.declared.instructions.Instr.{Instr}
 use Rattle.lsl_code.specs.declared.instructions.Instr.TheVariants.{Jump, JumpIf, JumpIfNot}
-use Rattle.lsl_code.proofs.Tested.{both, all_if}
-use Rattle.lsl_code.proofs.Sames.{both_true, all_from}
-use Rattle.lsl_code.specs.declared.functions.Point.{Point}
-use Rattle.lsl_weave.specs.Layout.{place_of}
-use Rattle.lsl_code.specs.Standing.{point_instr}
 use Rattle.lsl_code.specs.Bodies.{Body, instruction_in, instruction_at}
-use Rattle.lsl_code.specs.Fits.{is_plain}
 use Rattle.lsl_code.specs.Forward.{leads_back, Forward, frees, goes_back, begins, Lands}
-use Rattle.lsl_code.specs.ForwardTests.{high_in, lands_ok, place_ok, body_ok, is_forward}
-
--- plain code whose points stand at their instructions
-abbrev pub Weavable : Body → Type 0
-Weavable b =
-    ((k : ℕ) (i : Instr) → slice_get b.code k ≡ Some i → is_plain i ≡ true)
-    × ((p : ℕ) (pt : Point) → slice_get b.points p ≡ Some pt
-    → slice_get b.code (place_of p b.code) ≡ Some (point_instr pt.calls p))
-
-pub body_of : (bs : List Body) (f : ℕ) (b : Body) → is_forward bs ≡ true → slice_get bs f ≡ Some b
-    → body_ok b ≡ true
-body_of [] f b h e = absurd cc
-body_of (c ∷ bs) zero b h e = let same : c ≡ b = cc in ap body_ok (sym same) ∙ (both_true (body_ok c) _ h).0
-body_of (c ∷ bs) (suc f) b h e = body_of bs f b (both_true (body_ok c) _ h).1 e
+use Rattle.lsl_code.specs.ForwardTests.{high_in, lands_ok, place_ok, body_ok}
+use Rattle.lsl_code.proofs.Sames.{both_true, all_from}
+use Rattle.lsl_code.proofs.Tested.{both, all_if}
 
 is_false : (b : Bool) → cond b false true ≡ true → b ≡ false
 is_false true h = absurd cc
@@ -34,7 +17,7 @@ or_false : (a b : Bool) → cond a true (cond b false true) ≡ true → a ≡ f
 or_false true b h e = absurd cc
 or_false false b h e = is_false b h
 
-module _ (bs : List Body) (fits : is_forward bs ≡ true) (f : ℕ) where
+module _ (bs : List Body) (fits : (f : ℕ) (b : Body) → slice_get bs f ≡ Some b → body_ok b ≡ true) (f : ℕ) where
   backs_is : (b : Body) (place : ℕ) → slice_get bs f ≡ Some b → goes_back bs f place ≡ high_in b.code place
   backs_is b place e = ap (λ o. leads_back place (instruction_in o place) (instruction_in o (place + 1))) e
 
@@ -44,7 +27,7 @@ module _ (bs : List Body) (fits : is_forward bs ≡ true) (f : ℕ) where
       let z : 0 + place ≡ place = omega arith in
       ap (λ n. place_ok b.code n i) (sym z)
       ∙ all_from (place_ok b.code) 0 b.code place i
-      (both_true (begins (slice_get b.code 0) (slice_get b.code 1)) _ (body_of bs f b fits e)).1 d
+      (both_true (begins (slice_get b.code 0) (slice_get b.code 1)) _ (fits f b e)).1 d
 
   lands_is : (b : Body) (i : Instr) → slice_get bs f ≡ Some b → lands_ok b.code i ≡ true → Lands bs f i
   lands_is b (Jump t) e h = backs_is b t e ∙ is_false (high_in b.code t) h
@@ -68,9 +51,9 @@ module _ (bs : List Body) (fits : is_forward bs ≡ true) (f : ℕ) where
       → begins (instruction_at bs f 0) (instruction_at bs f 1) ≡ true
   starts_of b e =
       ap (λ o. begins (instruction_in o 0) (instruction_in o 1)) e
-      ∙ (both_true (begins (slice_get b.code 0) (slice_get b.code 1)) _ (body_of bs f b fits e)).0
+      ∙ (both_true (begins (slice_get b.code 0) (slice_get b.code 1)) _ (fits f b e)).0
 
-pub forward_of : (bs : List Body) → is_forward bs ≡ true → Forward bs
+pub forward_of : (bs : List Body) → ((f : ℕ) (b : Body) → slice_get bs f ≡ Some b → body_ok b ≡ true) → Forward bs
 forward_of bs h =
     record {
       lands = λ f place i e. lands_of bs h f (slice_get bs f) place i refl e;
@@ -97,7 +80,7 @@ free_test : (c d : Bool) → (c ≡ false → d ≡ false) → cond c true (cond
 free_test true d h = refl
 free_test false d h = true_of d (h refl)
 
-body_test : (bs : List Body) → Forward bs → (f : ℕ) (b : Body) → slice_get bs f ≡ Some b → body_ok b ≡ true
+pub body_test : (bs : List Body) → Forward bs → (f : ℕ) (b : Body) → slice_get bs f ≡ Some b → body_ok b ≡ true
 body_test bs fw f b e = both _ _ starts (all_if (place_ok b.code) b.code places)
   where
     at : (place : ℕ) → instruction_at bs f place ≡ slice_get b.code place
@@ -114,11 +97,3 @@ body_test bs fw f b e = both _ _ starts (all_if (place_ok b.code) b.code places)
       where
         backs_at : (q : ℕ) → goes_back bs f q ≡ high_in b.code q
         backs_at q = ap (λ o. leads_back q (instruction_in o q) (instruction_in o (q + 1))) e
-
-tested_from : (bs : List Body) → ((f : ℕ) (b : Body) → slice_get bs f ≡ Some b → body_ok b ≡ true)
-    → is_forward bs ≡ true
-tested_from [] h = refl
-tested_from (b ∷ bs) h = both _ _ (h 0 b refl) (tested_from bs (λ f c e. h (suc f) c e))
-
-pub forward_tested : (bs : List Body) → Forward bs → is_forward bs ≡ true
-forward_tested bs fw = tested_from bs (body_test bs fw)
