@@ -1,3 +1,4 @@
+pub mod Alike
 pub mod BackKept
 pub mod BackOn
 pub mod BackPuts
@@ -15,6 +16,7 @@ pub mod MadeCounts
 pub mod MadeKinds
 pub mod MadeSaves
 pub mod Moved
+pub mod OneMachine
 pub mod OnePlaced
 pub mod Places
 pub mod Placing
@@ -32,5 +34,7 @@ pub mod Sums
 pub mod Units
 pub mod Waiting
 pub mod Weavable
+pub mod Weaves
 pub mod WovenExamples
 pub mod WovenForward
+pub mod WovenUnits

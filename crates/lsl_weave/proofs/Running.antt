@@ -22,6 +22,7 @@ use Rattle.lsl_weave.specs.Layout.{offset, width, shift, save_width, saves_from,
 use Rattle.lsl_weave.specs.Lifting.{woven_place, lift_waiting, lift, lift_machine, lift_halt, IsBehindCall, AreBehindCalls, OuterAreBehind}
 use Rattle.lsl_code.proofs.Acts.{is_straight, By, act_by}
 use Rattle.lsl_code.proofs.Ranks.{left_in, left}
+use Rattle.lsl_code.specs.Wholes.{line_in, with_line}
 use Rattle.lsl_code.proofs.Running.{Falls, step_falls, run_law}
 use Rattle.lsl_weave.proofs.Placing.{HasAt, laid}
 use Rattle.lsl_weave.proofs.Saved.{woven_found}
@@ -38,20 +39,21 @@ none_past [] k e = omega arith
 none_past (x ∷ xs) zero e = cc
 none_past (x ∷ xs) (suc k) e = omega (arith, none_past xs k e)
 
--- an instruction at which the running mode stops
+-- an instruction at which the running mode stops, and which has no line
 abbrev pub Still : Instr → Type 0
 Still i = ((bs : List Body) (g : Kept) (held : ℕ) (sl ops : List Value)
     → act bs (Some i) g held sl ops ≡ Stuck)
     × ((q : ℕ) (next : Option Instr) → leads_back q (Some i) next ≡ false)
+    × ((lines : List ℕ) → line_in (Some (with_line lines i)) ≡ 0)
 
 abbrev pub StillAt : List Instr → ℕ → Type 0
 StillAt code k = (i : Instr) × (slice_get code k ≡ Some i) × Still i
 
 block_still : (code : List Instr) (s m n p : ℕ) → HasAt code s (keep_tops m (keep_slots n (Seal p ∷ [])))
     → StillAt code s
-block_still code s (suc m) n p h = (KeepTop, h.0, ((λ bs g held sl ops. refl), (λ q next. refl)))
-block_still code s zero (suc n) p h = (KeepSlot n, h.0, ((λ bs g held sl ops. refl), (λ q next. refl)))
-block_still code s zero zero p h = (Seal p, h.0, ((λ bs g held sl ops. refl), (λ q next. refl)))
+block_still code s (suc m) n p h = (KeepTop, h.0, ((λ bs g held sl ops. refl), (λ q next. refl), (λ lines. refl)))
+block_still code s zero (suc n) p h = (KeepSlot n, h.0, ((λ bs g held sl ops. refl), (λ q next. refl), (λ lines. refl)))
+block_still code s zero zero p h = (Seal p, h.0, ((λ bs g held sl ops. refl), (λ q next. refl), (λ lines. refl)))
 
 -- behind the plain code's end stands nothing that runs
 end_still : (b : Body) → StillAt (woven_code b) (saves_from b)
@@ -63,7 +65,7 @@ end_still b = by_points b.points refl
         (arith, ap (λ ps. offset (save_width b) ps (length ps)) e) in (
           Unpack,
           subst (λ n. slice_get (woven_code b) n ≡ Some Unpack) z (laid b).unpack,
-          ((λ bs g held sl ops. refl), (λ q next. refl)),
+          ((λ bs g held sl ops. refl), (λ q next. refl), (λ lines. refl)),
         )
     by_points (p ∷ ps) e =
         let mapped : slice_get b.points 0 ≡ Some p = ap (λ l. slice_get l 0) e in

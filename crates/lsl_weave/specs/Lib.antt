@@ -3,5 +3,6 @@ pub mod Layout
 pub mod Lifting
 pub mod Tables
 pub mod UnitLaws
+pub mod Weaving
 pub mod WovenCalls
 pub mod WovenLaws

@@ -1,9 +1,12 @@
 -- The woven code of a well-formed unit saves and restores its machines, whatever they are at a tick.
 use Rattle.std.specs.Prelude.{ℕ, ◌≡◌, ◌≤◌, List, true}
 use Rattle.lsl_value.specs.declared.tagged.Value.{Value}
+use Rattle.lsl_running.specs.declared.host.Reply.{Reply}
+use Rattle.lsl_running.specs.declared.kept.Kept.{Kept}
 use Rattle.lsl_code.specs.declared.frames.Frame.{Frame}
 use Rattle.lsl_code.specs.declared.functions.StateCode.{StateCode}
 use Rattle.lsl_code.specs.Bodies.{Body}
+use Rattle.lsl_code.specs.Fits.{all_places}
 use Rattle.lsl_code.specs.Forward.{Forward}
 use Rattle.lsl_code.specs.Frames.{AreFrames, frames_of, points_of}
 use Rattle.lsl_code.specs.Kinded.{AreKindedCalls, IsKindedMachine}
@@ -12,10 +15,11 @@ use Rattle.lsl_code.specs.Machine.{Machine}
 use Rattle.lsl_code.specs.ModeRuns.{Beside, beside_of, SaveRun, BackRun}
 use Rattle.lsl_code.specs.Runs.{run}
 use Rattle.lsl_code.specs.Standing.{HasFrames, IsAtTick, IsChain}
-use Rattle.lsl_code.specs.Units.{fits_unit}
+use Rattle.lsl_code.specs.Units.{fits_unit, is_short}
 use Rattle.lsl_weave.specs.Layout.{all_woven}
 use Rattle.lsl_weave.specs.Lifting.{lift_machine, lift_halt}
-use Rattle.lsl_code.specs.Weaves.{most_steps}
+use Rattle.lsl_code.specs.Weaves.{most_steps, DoesWeave}
+use Rattle.lsl_code.specs.Wholes.{whole_of_bodies}
 
 -- a machine at a tick, in which all kinds are right, is saved as its frames
 abbrev pub UnitsSave : Type 0
@@ -65,3 +69,23 @@ UnitsGoForward =
     (globals : List Value) (states : List StateCode) (bodies : List Body)
     → fits_unit globals states bodies ≡ true
     → Forward (all_woven bodies)
+
+-- where its places can be numbered, it weaves
+abbrev pub UnitsWeave : Type 0
+UnitsWeave =
+    (globals : List Value) (states : List StateCode) (bodies : List Body)
+    → fits_unit globals states bodies ≡ true
+    → all_places (λ f w. is_short w) 0 (all_woven bodies) ≡ true
+    → DoesWeave (all_woven bodies)
+
+-- a handler of it, from its start, comes to what it comes to in the plain code, with the same active calls at the
+-- same lines where it is cut
+abbrev pub ComesToSame : List Body → List Body → Type 0
+ComesToSame woven plain =
+    (f : ℕ) (kept : Kept) (args : List Value) (ticks : ℕ) (answers : List Reply)
+    → whole_of_bodies woven f kept args ticks answers ≡ whole_of_bodies plain f kept args ticks answers
+
+abbrev pub UnitsComeToSame : Type 0
+UnitsComeToSame =
+    (globals : List Value) (states : List StateCode) (bodies : List Body)
+    → fits_unit globals states bodies ≡ true → ComesToSame (all_woven bodies) bodies

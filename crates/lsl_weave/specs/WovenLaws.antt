@@ -5,13 +5,14 @@ use Rattle.lsl_code.specs.declared.frames.Frame.{Frame}
 use Rattle.lsl_code.specs.declared.functions.StateCode.{StateCode}
 use Rattle.lsl_code.specs.Bodies.{Body}
 use Rattle.lsl_code.specs.Fits.{all_places}
-use Rattle.lsl_code.specs.Frames.{AreFrames, points_of}
+use Rattle.lsl_code.specs.Frames.{AreFrames, frames_of, points_of}
 use Rattle.lsl_code.specs.Kinded.{AreKindedCalls, IsKindedMachine}
 use Rattle.lsl_code.specs.Kinds.{kinds_of}
 use Rattle.lsl_code.specs.Machine.{MachineCall, Machine}
 use Rattle.lsl_code.specs.ModeRuns.{Beside, beside_of, SaveRun, BackRun}
-use Rattle.lsl_code.specs.Standing.{IsAtTick, IsChain}
+use Rattle.lsl_code.specs.Standing.{HasFrames, IsAtTick, IsChain}
 use Rattle.lsl_code.specs.Units.{fits_unit, is_short}
+use Rattle.lsl_code.specs.WellFormed.{IsWellFormedUnit}
 use Rattle.lsl_weave.specs.Layout.{all_woven}
 use Rattle.lsl_code.specs.Woven.{is_woven}
 use Rattle.lsl_weave.specs.WovenCalls.{RestAtTick}
@@ -73,3 +74,17 @@ WeavingMakesWoven =
     → fits_unit globals states bodies ≡ true
     → all_places (λ f w. is_short w) 0 (all_woven bodies) ≡ true
     → is_woven globals states (all_woven bodies) ≡ true
+
+-- at most one list of calls has these frames
+abbrev pub FramesHaveOneMachine : Type 0
+FramesHaveOneMachine =
+    (globals : List Value) (states : List StateCode) (bodies : List Body)
+    → IsWellFormedUnit globals states bodies
+    → (handler : ℕ) (calls others : List MachineCall) (frames : List Frame)
+    → HasFrames bodies handler calls frames → HasFrames bodies handler others frames → calls ≡ others
+
+-- and the frames of calls are these
+abbrev pub FramesAreTold : Type 0
+FramesAreTold =
+    (bodies : List Body) (handler : ℕ) (calls : List MachineCall) (frames : List Frame)
+    → HasFrames bodies handler calls frames → frames ≡ frames_of bodies calls

@@ -1,4 +1,4 @@
-//! Woven code: code that saves and restores its own calls.
+//! Woven code: a unit's code with code added that saves and restores its own calls.
 #![tactic(auto)]
 
 mod blocks;
@@ -11,4 +11,4 @@ pub mod unit_laws;
 mod weaving;
 pub mod woven_laws;
 
-pub use crate::weaving::{weave_function, weave_functions};
+pub use crate::weaving::{weave, weave_function, weave_functions};

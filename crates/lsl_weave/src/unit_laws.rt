@@ -1,6 +1,6 @@
 //! Laws of the woven code of a unit.
 
-ghost use Rattle.lsl_weave.specs.UnitLaws.{UnitsGoForward, UnitsMove, UnitsRestore, UnitsRunAlike, UnitsSave};
+ghost use Rattle.lsl_weave.specs.UnitLaws.{UnitsComeToSame, UnitsGoForward, UnitsMove, UnitsRestore, UnitsRunAlike, UnitsSave, UnitsWeave};
 
 /// The woven code of a unit weaves: saving any machine of it at a tick ends with its frames and the same globals and
 /// limit, and restoring any frames that fit ends with the machine that has them, within the bound.
@@ -8,10 +8,13 @@ pub fn units_weave()
     ensures save { UnitsSave }
     ensures restore { UnitsRestore }
     ensures back { UnitsMove }
+    ensures weaves { UnitsWeave }
 {}
 
-/// While it runs, it has the asks, ticks, ends and faults of the plain code, and goes back only behind ticks.
+/// While it runs, it has the asks, ticks, ends and faults of the plain code, and goes back only behind ticks. A handler
+/// of it comes to what it comes to in the plain code.
 pub fn units_run_alike()
     ensures run { UnitsRunAlike }
     ensures forward { UnitsGoForward }
+    ensures whole { UnitsComeToSame }
 {}

@@ -1,6 +1,6 @@
 //! Laws of woven units, whoever made them.
 
-ghost use Rattle.lsl_weave.specs.WovenLaws.{KindedMachinesRest, RestingCallsAreKinded, RestoredRest, SavedFramesFit, WeavingMakesWoven, WovenRestores, WovenSaves};
+ghost use Rattle.lsl_weave.specs.WovenLaws.{FramesAreTold, FramesHaveOneMachine, KindedMachinesRest, RestingCallsAreKinded, RestoredRest, SavedFramesFit, WeavingMakesWoven, WovenRestores, WovenSaves};
 
 /// Saving a machine of a woven unit at a tick never gets stuck: it ends, with frames that fit, also where the
 /// code keeps the values in an order of its own.
@@ -25,4 +25,10 @@ pub fn kinded_machines_rest()
 /// The woven code of a well-formed unit is a woven unit's.
 pub fn weaving_makes_woven()
     ensures { WeavingMakesWoven }
+{}
+
+/// A machine at a tick has one list of frames, and frames are those of one machine at most, in plain and in woven code.
+pub fn frames_have_one_machine()
+    ensures calls { FramesHaveOneMachine }
+    ensures frames { FramesAreTold }
 {}

@@ -2,13 +2,18 @@
 
 use crate::frames::frame;
 use crate::samples::sample;
-use lsl_code::{FrameFault, Sack, Sequence, StateCode, Unit};
+use lsl_code::{FrameFault, Sack, Sequence, StateCode, Unit, Woven};
 use lsl_text::NoMemory;
+use lsl_weave::weave;
 use lsl_value::{Text, Values};
 use std::alloc::Global;
 use std::test::Fail;
 
-/// A unit with that function and a state that handles nothing.
+/// The woven unit with that function and a state that handles nothing.
+fn woven(alloc: Global) -> Result<Woven, NoMemory> {
+    weave(alloc, unit(alloc)?)
+}
+
 fn unit(alloc: Global) -> Result<Unit, NoMemory> {
     let functions = vec![in alloc; sample(alloc)?]?;
     let state = StateCode {
@@ -29,7 +34,7 @@ fn unit(alloc: Global) -> Result<Unit, NoMemory> {
 #[test]
 fn wrong_frames_are_told(rt: HostRuntime) -> Result<(), Fail> {
     let alloc = rt.alloc();
-    let unit = unit(alloc)?;
+    let unit = woven(alloc)?;
     let globals = Values::new(alloc);
     let cases: [(&[(u16, u16, &[i32])], u32, Option<FrameFault>); 9] = [
         (&[], 1_184, Some(FrameFault::Frame(0))),
