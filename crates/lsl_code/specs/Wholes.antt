@@ -10,9 +10,8 @@ use Rattle.lsl_running.specs.Results as whole
 use Rattle.lsl_running.specs.Results.{ActiveCall, Whole}
 use Rattle.lsl_code.specs.declared.instructions.Instr.{Instr}
 use Rattle.lsl_code.specs.declared.instructions.Instr.TheVariants.{Tick, Call}
-use Rattle.lsl_code.specs.declared.functions.FunctionCode.{FunctionCode}
 use Rattle.lsl_code.specs.Acts.{first_slots}
-use Rattle.lsl_code.specs.Bodies.{Body, plain_body, instruction_at}
+use Rattle.lsl_code.specs.Bodies.{Body, instruction_at}
 use Rattle.lsl_code.specs.Machine.{MachineCall, Machine, End, Ended, Faulted, Lost, put}
 use Rattle.lsl_code.specs.Runs.{Halt, Over, AskAt, CutAt, run}
 
@@ -81,9 +80,6 @@ started (Some body) bodies f kept args ticks answers =
 abbrev pub run_of : List Body → ℕ → Kept → List Value → ℕ → List Reply → Halt
 run_of bodies f kept args ticks answers = started (slice_get bodies f) bodies f kept args ticks answers
 
+-- what comes of it
 abbrev pub whole_of_bodies : List Body → ℕ → Kept → List Value → ℕ → List Reply → Whole
 whole_of_bodies bodies f kept args ticks answers = told bodies (run_of bodies f kept args ticks answers)
-
--- what comes of a routine of a unit with these functions
-abbrev pub whole_of_unit : List FunctionCode → ℕ → Kept → List Value → ℕ → List Reply → Whole
-whole_of_unit functions = whole_of_bodies (map plain_body functions)

@@ -1,5 +1,5 @@
 -- A routine's code, run from its start, comes to what the routine means.
-use Rattle.std.proofs.Common.{◌≡◌, ℕ, zero, suc, List, [], Bool, true, false, cond, Option, Some, None, option_map, refl, ap, ◌∙◌, arith, slice_get}
+use Rattle.std.proofs.Common.{◌≡◌, ℕ, zero, suc, List, [], Bool, true, false, cond, map, Option, Some, None, option_map, refl, ap, ◌∙◌, arith, slice_get}
 use Rattle.std.specs.Prelude.{is_some}
 use Rattle.std.proofs.lemmas.Option.{slice_get-map}
 use Rattle.lsl_value.specs.declared.tagged.Value.{Value}
@@ -21,6 +21,7 @@ use Rattle.lsl_code.specs.Runs.{Over, on, passed, run}
 use Rattle.lsl_code.specs.Wholes.{told, begun, started_with, started, whole_of_bodies}
 use Rattle.lsl_gen.specs.Laws.{Agrees}
 use Rattle.lsl_gen.specs.Programs.{generated_functions}
+use Rattle.lsl_code.specs.Bodies.{plain_body}
 use Rattle.lsl_gen.proofs.Bodies.{routine_body, bodies_of, bodies_generated, shaped_at, slots_same}
 use Rattle.lsl_gen.proofs.Executions.{execute_sim}
 use Rattle.lsl_gen.proofs.Leaves.{Results, Flows, resume}
@@ -80,7 +81,7 @@ module _ (p : Program) (shaped : IsShaped p)
       (slice_get-map (routine_body p) (routines_of p) f)
       ∙ started_is (slice_get (routines_of p) f) f kept args ticks answers refl
 
-  pub agrees : Agrees (generated_functions p) p
+  pub agrees : Agrees (map plain_body (generated_functions p)) p
   agrees f kept args ticks answers =
       ap (λ bodies. whole_of_bodies bodies f kept args ticks answers) (bodies_generated p)
       ∙ runs_as_meant f kept args ticks answers

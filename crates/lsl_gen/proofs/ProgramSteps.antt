@@ -168,5 +168,6 @@ module _ (program : declared_program.Program) where
       ∙ unit_fits p kinded shaped short
 
   pub agrees_as : (functions : List FunctionCode) → functions ≡ generated_functions p → IsKinded p → IsShaped p
-      → Agrees functions p
-  agrees_as functions e kinded shaped = subst (λ l. Agrees l p) (sym e) (generated_agrees p kinded shaped)
+      → Agrees (map plain_body functions) p
+  agrees_as functions e kinded shaped =
+      subst (λ l. Agrees (map plain_body l) p) (sym e) (generated_agrees p kinded shaped)

@@ -12,21 +12,20 @@ use Rattle.lsl_running.specs.Charging.{default_limit}
 use Rattle.lsl_running.specs.Results.{ActiveCall, Asks, Cut}
 use Rattle.lsl_meaning.specs.Globals.{initial_globals}
 use Rattle.lsl_meaning.specs.Handlers.{whole}
-use Rattle.lsl_code.specs.declared.functions.FunctionCode.{FunctionCode}
-use Rattle.lsl_code.specs.Bodies.{plain_body}
+use Rattle.lsl_code.specs.Bodies.{Body, plain_body}
 use Rattle.lsl_code.specs.Units.{fits_unit}
-use Rattle.lsl_code.specs.Wholes.{whole_of_unit}
+use Rattle.lsl_code.specs.Wholes.{whole_of_bodies}
 use Rattle.lsl_gen.specs.Counts.{nodes_of}
 use Rattle.lsl_gen.specs.Programs.{IsShort, generated_functions, generated_states}
 
 -- each routine run from its start comes to what it means: for all globals and limits, arguments, ticks and answers
-abbrev pub Agrees : List FunctionCode → Program → Type 0
-Agrees functions p =
+abbrev pub Agrees : List Body → Program → Type 0
+Agrees bodies p =
     (number : ℕ) (kept : Kept) (arguments : List Value) (ticks : ℕ) (answers : List Reply)
-    → whole_of_unit functions number kept arguments ticks answers ≡ whole p number kept arguments ticks answers
+    → whole_of_bodies bodies number kept arguments ticks answers ≡ whole p number kept arguments ticks answers
 
 abbrev pub CodeRunsAsMeant : Type 0
-CodeRunsAsMeant = (p : Program) → IsKinded p → IsShaped p → Agrees (generated_functions p) p
+CodeRunsAsMeant = (p : Program) → IsKinded p → IsShaped p → Agrees (map plain_body (generated_functions p)) p
 
 -- places and states have numbers that instructions can hold
 pub record HasShortCode (p : Program) : Type 0 where

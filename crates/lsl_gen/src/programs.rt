@@ -6,6 +6,7 @@ ghost use Rattle.lsl_tree.specs.Kinded.{IsKinded};
 ghost use Rattle.lsl_tree.specs.Program.{routine_of, handler_of, program_of};
 ghost use Rattle.lsl_tree.specs.Shape.{IsShaped};
 ghost use Rattle.lsl_meaning.specs.Globals.{initial_globals};
+ghost use Rattle.lsl_code.specs.Bodies.{plain_body};
 ghost use Rattle.lsl_gen.specs.Laws.{Agrees};
 ghost use Rattle.lsl_gen.specs.Programs.{generated_functions, generated_states, handler_signatures, names_with, signature_of};
 
@@ -35,7 +36,7 @@ pub fn generate(alloc: Global, program: &Program, digest: [u8; 32]) -> Result<Un
     ensures globals { IfOk result (λ u. u.globals ≡ initial_globals (program_of program.now)) }
     ensures states { IfOk result (λ u. u.states ≡ generated_states (program_of program.now)) }
     ensures functions { IfOk result (λ u. u.functions ≡ generated_functions (program_of program.now)) }
-    ensures meaning { IfOk result (λ u. Agrees u.functions (program_of program.now)) }
+    ensures meaning { IfOk result (λ u. Agrees (map plain_body u.functions) (program_of program.now)) }
 {
     let unit = unit_of(alloc, program, digest)?;
     Ok(unit)
