@@ -8,6 +8,7 @@ ghost use Rattle.lsl_tree.specs.Kinded.{IsKinded};
 ghost use Rattle.lsl_tree.specs.Program as program;
 ghost use Rattle.lsl_tree.specs.Program.{program_of};
 ghost use Rattle.lsl_tree.specs.Shape.{IsShaped};
+ghost use Rattle.lsl_code.specs.Weaves.{Weaves, bodies_of};
 ghost use Rattle.lsl_gen.specs.Laws.{Agrees};
 ghost use Rattle.lsl_build.specs.Accepted.{Accepted};
 ghost use Rattle.lsl_build.specs.Codes.{IsCodeOf};
@@ -21,17 +22,18 @@ mod front;
 use crate::digest::digest_of;
 pub use crate::faults::BuildFault;
 use crate::front::checked;
-use lsl_code::Unit;
+use lsl_code::Woven;
 use lsl_gen::generate;
 use lsl_text::Refusal;
 use lsl_tree::Program;
+use lsl_weave::weave;
 use std::alloc::Global;
 
 /// A script that is accepted: its checked program, and the code that runs it.
 #[derive(Drop)]
 pub struct Built {
     pub program: Program,
-    pub code: Unit,
+    pub code: Woven,
 }
 
 /// The program of a text of UTF-8, or its first fault, which comes as that of [`build`] does. Takes memory for the
@@ -46,7 +48,7 @@ pub fn accept(alloc: Global, text: &[u8]) -> Result<Program, Refusal<BuildFault>
     checked(alloc, text)
 }
 
-/// The program and the code of a text of UTF-8, or its first fault.
+/// The program and the woven code of a text of UTF-8, or its first fault.
 ///
 /// A lexical fault comes before any fault of the grammar, and that before any of names and kinds. The span is
 /// that of the lexical fault, of the token, or of the part of the script. The code's digest is the SHA-256 of
@@ -64,7 +66,9 @@ pub fn build(alloc: Global, text: &[u8]) -> Result<Built, Refusal<BuildFault>>
     ensures only { (fault : Fault) → FirstFault text.now fault → MatchResult result (λ _. ⊥) (IsThat fault) }
     // The code is that of the text and its program, and runs as the program is meant.
     ensures code { IfOk result (λ b. IsCodeOf text.now (program_of b.program) b.code) }
-    ensures meaning { IfOk result (λ b. Agrees b.code.functions (program_of b.program)) }
+    ensures meaning { IfOk result (λ b. Agrees (bodies_of b.code) (program_of b.program)) }
+    // It saves any machine of it at a tick as its frames, and restores frames to the machine that has them.
+    ensures weaves { IfOk result (λ b. Weaves b.code) }
     // The program's names and kinds are in order.
     ensures shaped { IfOk result (λ b. IsShaped (program_of b.program)) }
     ensures kinded { IfOk result (λ b. IsKinded (program_of b.program)) }
@@ -77,11 +81,13 @@ fn compiled(alloc: Global, text: &[u8]) -> Result<Built, Refusal<BuildFault>>
     ensures found { IfOk result (λ b. Accepted text.now (program_of b.program)) }
     ensures first { (fault : Fault) → IsErrOf result (refusals.Fault fault) → FirstFault text.now fault }
     ensures code { IfOk result (λ b. IsCodeOf text.now (program_of b.program) b.code) }
-    ensures meaning { IfOk result (λ b. Agrees b.code.functions (program_of b.program)) }
+    ensures meaning { IfOk result (λ b. Agrees (bodies_of b.code) (program_of b.program)) }
+    ensures weaves { IfOk result (λ b. Weaves b.code) }
     ensures shaped { IfOk result (λ b. IsShaped (program_of b.program)) }
     ensures kinded { IfOk result (λ b. IsKinded (program_of b.program)) }
 {
     let program = checked(alloc, text)?;
-    let code = generate(alloc, &program, digest_of(text))?;
+    let unit = generate(alloc, &program, digest_of(text))?;
+    let code = weave(alloc, unit)?;
     Ok(Built { program, code })
 }
