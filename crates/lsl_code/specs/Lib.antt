@@ -15,6 +15,7 @@ pub mod Laws
 pub mod Machine
 pub mod ModeLaws
 pub mod ModeRuns
+pub mod ModeStacks
 pub mod Modes
 pub mod Pieces
 pub mod Restoring

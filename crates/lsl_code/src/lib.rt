@@ -26,6 +26,7 @@ pub use crate::finishing::finish;
 pub use crate::frames::{Frame, Sack};
 pub use crate::functions::{FunctionCode, Handler, Point, StateCode};
 pub use crate::instructions::Instr;
+pub use crate::kind_stack::KindStack;
 pub use crate::library::Library;
 pub use crate::sequence::Sequence;
 pub use crate::signatures::{Names, Signature};

@@ -5,9 +5,9 @@ use crate::instructions::Instr;
 use crate::sequence::Sequence;
 use lsl_value::{Kind, Text};
 
-/// A function's code with code that saves and restores its calls. `running` has, per instruction, the kinds of the
-/// operands that stand before it, from the first pushed, and none where a running machine never stands before it. The
-/// others are as in `FunctionCode`.
+/// A function's code with code that saves and restores its calls. `running`, `saving` and `restoring` have, per
+/// instruction, the kinds of the operands that stand before it, from the first pushed, while the machine runs, saves
+/// and restores, and none where it never stands before it then. The others are as in `FunctionCode`.
 #[derive(Debug, Drop)]
 pub struct WovenCode {
     pub name: Text,
@@ -19,4 +19,6 @@ pub struct WovenCode {
     pub lines: Sequence<u32>,
     pub code: Sequence<Instr>,
     pub running: Sequence<Option<Sequence<Kind>>>,
+    pub saving: Sequence<Option<Sequence<Kind>>>,
+    pub restoring: Sequence<Option<Sequence<Kind>>>,
 }

@@ -1,7 +1,9 @@
 //! Woven units: units whose code saves and restores its own calls.
 
 ghost use Rattle.std.specs.Prelude.{◌≡◌, map, length, IsTrue, option_copied};
+ghost use Rattle.lsl_code.specs.Fits.{all_places};
 ghost use Rattle.lsl_code.specs.Frames.{points_of};
+ghost use Rattle.lsl_code.specs.ModeStacks.{tells_modes};
 ghost use Rattle.lsl_code.specs.Units.{handler_in, handler_of};
 ghost use Rattle.lsl_code.specs.Woven.{is_woven};
 ghost use Rattle.lsl_code.specs.WovenBodies.{woven_body};
@@ -23,6 +25,7 @@ pub struct Woven {
     pub states: Sequence<StateCode>,
     pub functions: Sequence<WovenCode>,
     pub ghost woven: { IsTrue (is_woven globals states (map woven_body functions)) },
+    pub ghost modes: { IsTrue (all_places tells_modes 0 functions) },
 }
 
 impl Woven {

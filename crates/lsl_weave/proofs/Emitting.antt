@@ -9,7 +9,8 @@ use Rattle.lsl_code.specs.declared.functions.FunctionCode.{FunctionCode}
 use Rattle.lsl_code.specs.declared.woven_functions.WovenCode.{WovenCode}
 use Rattle.lsl_code.specs.Bodies.{Body, plain_body}
 use Rattle.lsl_code.specs.WovenBodies.{woven_body}
-use Rattle.lsl_weave.specs.Layout.{woven_of, all_woven, flat, keep_tops, keep_slots, back_slots, back_tops, nones}
+use Rattle.lsl_weave.specs.Layout.{woven_of, all_woven, keep_tops, keep_slots, back_slots, back_tops}
+use Rattle.lsl_code.specs.ModeStacks.{flat, nones}
 
 drop_here : {A : Type 0} (xs : List A) (k : ℕ) (x : A) → slice_get xs k ≡ Some x
     → drop k xs ≡ x ∷ drop (k + 1) xs

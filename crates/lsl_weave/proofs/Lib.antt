@@ -15,6 +15,8 @@ pub mod MadeBacks
 pub mod MadeCounts
 pub mod MadeKinds
 pub mod MadeSaves
+pub mod Marked
+pub mod Marking
 pub mod Moved
 pub mod OneMachine
 pub mod OnePlaced
@@ -25,8 +27,10 @@ pub mod Quiet
 pub mod Reentered
 pub mod Resting
 pub mod Restored
+pub mod RestoringLaid
 pub mod Running
 pub mod Saved
+pub mod SavingLaid
 pub mod SavingOn
 pub mod Sealed
 pub mod StacksLaid

@@ -13,7 +13,8 @@ use Rattle.lsl_code.specs.Bodies.{Body}
 use Rattle.lsl_code.specs.Acts.{Did, Goes, Jumps, Enters, Leaves, Passes, Asks, Ends, Fails, Stuck, entered, act}
 use Rattle.lsl_code.specs.Machine.{MachineCall, base, used_in, call_at, put}
 use Rattle.lsl_code.specs.Runs.{length_in, fuel_in, fuel}
-use Rattle.lsl_weave.specs.Layout.{flat, offset, width, shift, main, save_block, back_block, table, woven_code, woven_of, all_woven}
+use Rattle.lsl_weave.specs.Layout.{offset, width, shift, main, save_block, back_block, table, woven_code, woven_of, all_woven}
+use Rattle.lsl_code.specs.ModeStacks.{flat}
 use Rattle.lsl_weave.specs.Lifting.{lift_waiting, lift}
 use Rattle.lsl_code.proofs.Acts.{LeadsTo, By, act_by}
 use Rattle.lsl_code.proofs.Ranks.{left, left_in_most}

@@ -8,7 +8,8 @@ use Rattle.lsl_code.specs.declared.instructions.Instr.TheVariants.{Tick, Call, J
 use Rattle.lsl_code.specs.Bodies.{Body}
 use Rattle.lsl_code.specs.Fits.{all_places, may_be_bare, most_operands, counted, count_of}
 use Rattle.lsl_code.proofs.Sames.{both_true}
-use Rattle.lsl_weave.specs.Layout.{flat, shift, saves_from, main, woven_code, kinds_or_none, stack_before, main_stacks, nones, woven_stacks}
+use Rattle.lsl_weave.specs.Layout.{shift, saves_from, main, woven_code, kinds_or_none, stack_before, main_stacks, woven_stacks}
+use Rattle.lsl_code.specs.ModeStacks.{flat, nones}
 use Rattle.lsl_weave.proofs.Quiet.{no_point, blocks, blocks_quiet}
 use Rattle.lsl_weave.proofs.Saved.{has_value}
 use Rattle.lsl_weave.proofs.StacksLaid.{stacks_laid, first_stack}

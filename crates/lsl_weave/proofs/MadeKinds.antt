@@ -14,7 +14,8 @@ use Rattle.lsl_code.specs.Standing.{point_instr}
 use Rattle.lsl_code.proofs.Sames.{both_true, shape_is}
 use Rattle.lsl_code.proofs.Tested.{both, sames, sames_self}
 use Rattle.lsl_code.proofs.Told.{all_at}
-use Rattle.lsl_weave.specs.Layout.{flat, width, shift, saves_from, backs_from, save_place, main, woven_code, woven_of, kinds_or_none, stack_before, woven_stacks}
+use Rattle.lsl_weave.specs.Layout.{width, shift, saves_from, backs_from, save_place, main, woven_code, woven_of, kinds_or_none, stack_before, woven_stacks}
+use Rattle.lsl_code.specs.ModeStacks.{flat}
 use Rattle.lsl_weave.proofs.Lift.{first, shift_next, offset_none}
 use Rattle.lsl_weave.proofs.MadeSaves.{point_width}
 use Rattle.lsl_weave.proofs.Quiet.{no_point, blocks, blocks_quiet}

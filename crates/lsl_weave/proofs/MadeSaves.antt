@@ -13,7 +13,8 @@ use Rattle.lsl_code.specs.Bodies.{Body}
 use Rattle.lsl_code.specs.Fits.{all_places, may_be_bare}
 use Rattle.lsl_code.specs.Standing.{point_instr}
 use Rattle.lsl_code.proofs.Tested.{both, eq_self, sames, less, differs, differs', all_if}
-use Rattle.lsl_weave.specs.Layout.{flat, width, shift, waiting, saves_from, save_place, main, keep_tops, keep_slots, woven_code, woven_of}
+use Rattle.lsl_weave.specs.Layout.{width, shift, waiting, saves_from, save_place, main, keep_tops, keep_slots, woven_code, woven_of}
+use Rattle.lsl_code.specs.ModeStacks.{flat}
 use Rattle.lsl_code.specs.SaveWays.{Keep, OfSlot, OfTop, keeping, onward, keeps_at, keeps, with_one, kept, are_kinds, keep_count, is_kept_once, waiting_kinds, is_save_way, is_test, saves_point, saves_at}
 use Rattle.lsl_weave.proofs.Lift.{shift_next}
 use Rattle.lsl_weave.proofs.PlainPoints.{HasPoints}

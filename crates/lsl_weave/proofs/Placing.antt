@@ -6,7 +6,8 @@ use Rattle.lsl_code.specs.declared.functions.Point.{Point}
 use Rattle.lsl_code.specs.declared.instructions.Instr.{Instr}
 use Rattle.lsl_code.specs.declared.instructions.Instr.TheVariants.{Jump, JumpIf, JumpIfNot, Tick, Call, Seal, TestBack, Unpack, Branch}
 use Rattle.lsl_code.specs.Bodies.{Body}
-use Rattle.lsl_weave.specs.Layout.{flat, offset, width, shift, waiting, save_width, back_width, saves_from, backs_from, save_place, back_place, main, keep_tops, keep_slots, save_block, back_slots, back_tops, back_end, back_block, table, woven_code}
+use Rattle.lsl_weave.specs.Layout.{offset, width, shift, waiting, save_width, back_width, saves_from, backs_from, save_place, back_place, main, keep_tops, keep_slots, save_block, back_slots, back_tops, back_end, back_block, table, woven_code}
+use Rattle.lsl_code.specs.ModeStacks.{flat}
 
 -- these instructions stand at this place
 abbrev pub HasAt : {B : Type 0} → List B → ℕ → List B → Type 0
@@ -111,7 +112,7 @@ back_length b k p =
       end_length b k p.calls,
     )
 
-table_total : (ps : List Point) (k : ℕ) → k ≤ length ps → offset (λ p. 1) ps k ≡ k
+pub table_total : (ps : List Point) (k : ℕ) → k ≤ length ps → offset (λ p. 1) ps k ≡ k
 table_total [] k le = omega arith
 table_total (p ∷ ps) zero le = refl
 table_total (p ∷ ps) (suc k) le = omega (arith, table_total ps k (omega arith))

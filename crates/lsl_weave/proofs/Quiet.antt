@@ -7,7 +7,8 @@ use Rattle.lsl_code.specs.Bodies.{Body}
 use Rattle.lsl_code.specs.Fits.{all_places, may_be_bare}
 use Rattle.lsl_code.proofs.Sames.{both_true}
 use Rattle.lsl_code.proofs.Tested.{both}
-use Rattle.lsl_weave.specs.Layout.{flat, waiting, keep_tops, keep_slots, save_block, back_slots, back_tops, back_end, back_block, table}
+use Rattle.lsl_weave.specs.Layout.{waiting, keep_tops, keep_slots, save_block, back_slots, back_tops, back_end, back_block, table}
+use Rattle.lsl_code.specs.ModeStacks.{flat}
 use Rattle.lsl_weave.proofs.WovenForward.{all_append}
 
 pub all_others : {A : Type 0} (test other : ℕ → A → Bool)

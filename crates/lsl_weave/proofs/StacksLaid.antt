@@ -6,7 +6,8 @@ use Rattle.lsl_code.specs.declared.instructions.Instr.{Instr}
 use Rattle.lsl_code.specs.declared.instructions.Instr.TheVariants.{Tick, Call}
 use Rattle.lsl_code.specs.Bodies.{Body}
 use Rattle.lsl_code.specs.Standing.{point_instr}
-use Rattle.lsl_weave.specs.Layout.{flat, width, shift, saves_from, main, woven_code, stack_before, main_stacks, nones, woven_stacks}
+use Rattle.lsl_weave.specs.Layout.{width, shift, saves_from, main, woven_code, stack_before, main_stacks, woven_stacks}
+use Rattle.lsl_code.specs.ModeStacks.{flat, nones}
 use Rattle.lsl_weave.proofs.Quiet.{blocks}
 use Rattle.lsl_weave.proofs.Placing.{HasAt, has_front, has_all, flat_at, flat_length, main_length}
 
@@ -15,7 +16,7 @@ stacks_length b k (Tick p) = refl
 stacks_length b k (Call f p) = refl
 stacks_length b k _ = refl
 
-nones_length : (n : ℕ) → length (nones n) ≡ n
+pub nones_length : (n : ℕ) → length (nones n) ≡ n
 nones_length zero = refl
 nones_length (suc n) = ap suc (nones_length n)
 

@@ -8,7 +8,7 @@ use Rattle.lsl_code.specs.declared.functions.StateCode.{StateCode}
 use Rattle.lsl_code.specs.declared.instructions.Instr.{Instr}
 use Rattle.lsl_code.specs.declared.instructions.Instr.TheVariants.{Jump, Tick, Return, TestSave, KeepSlot, KeepTop, Seal, TestBack, Unpack, BackSlot, Branch, Awake}
 use Rattle.lsl_code.specs.Bodies.{Body}
-use Rattle.lsl_weave.specs.Layout.{nones}
+use Rattle.lsl_code.specs.ModeStacks.{nones}
 use Rattle.lsl_code.specs.Woven.{is_woven}
 
 abbrev states : List StateCode

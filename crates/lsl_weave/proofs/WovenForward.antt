@@ -7,7 +7,8 @@ use Rattle.lsl_code.specs.declared.instructions.Instr.{Instr}
 use Rattle.lsl_code.specs.declared.instructions.Instr.TheVariants.{Jump, JumpIf, JumpIfNot, Tick, Call, TestSave, KeepSlot, KeepTop, Seal, TestBack, Unpack, BackSlot, BackTop, Branch, Again, Awake}
 use Rattle.lsl_code.specs.Bodies.{Body}
 use Rattle.lsl_code.specs.Forward.{leads_back, is_back, is_tick, begins}
-use Rattle.lsl_weave.specs.Layout.{flat, offset, width, shift, waiting, save_width, back_width, backs_from, back_place, main, keep_tops, keep_slots, save_block, back_slots, back_tops, place_of, back_end, back_block, table, woven_code, woven_of}
+use Rattle.lsl_weave.specs.Layout.{offset, width, shift, waiting, save_width, back_width, backs_from, back_place, main, keep_tops, keep_slots, save_block, back_slots, back_tops, place_of, back_end, back_block, table, woven_code, woven_of}
+use Rattle.lsl_code.specs.ModeStacks.{flat}
 use Rattle.lsl_code.specs.Standing.{point_instr}
 use Rattle.lsl_weave.proofs.Placing.{HasAt, main_length, save_length, back_length, table_length, laid}
 use Rattle.lsl_weave.proofs.Lift.{offset_none, shift_next, first, first_at}

@@ -7,11 +7,7 @@ use Rattle.lsl_code.specs.declared.functions.Point.{Point}
 use Rattle.lsl_code.specs.declared.instructions.Instr.{Instr}
 use Rattle.lsl_code.specs.declared.instructions.Instr.TheVariants.{Jump, JumpIf, JumpIfNot, Tick, Call, TestSave, KeepSlot, KeepTop, Seal, TestBack, Unpack, BackSlot, BackTop, Branch, Again, Awake}
 use Rattle.lsl_code.specs.Bodies.{Body}
-
--- what g makes of each element and its number, one after another
-abbrev pub flat : {A B : Type 0} → (ℕ → A → List B) → ℕ → List A → List B
-flat g i [] = []
-flat g i (x ∷ xs) = g i x ++ flat g (suc i) xs
+use Rattle.lsl_code.specs.ModeStacks.{flat, nones}
 
 -- the sum of the widths of the first k
 abbrev pub offset : {A : Type 0} → (A → ℕ) → List A → ℕ → ℕ
@@ -125,10 +121,6 @@ abbrev pub main_stacks : Body → ℕ → Instr → List (Option (List Kind))
 main_stacks b k (Tick p) = stack_before b k ∷ stack_before b (k + 1) ∷ []
 main_stacks b k (Call f p) = stack_before b k ∷ stack_before b (k + 1) ∷ []
 main_stacks b k i = stack_before b k ∷ []
-
-abbrev pub nones : ℕ → List (Option (List Kind))
-nones zero = []
-nones (suc n) = None ∷ nones n
 
 -- a running machine never stands in the blocks
 abbrev pub woven_stacks : Body → List (Option (List Kind))

@@ -3,7 +3,8 @@
 ghost use Rattle.std.specs.Prelude.{◌≡◌, ◌<◌, ◌++◌, ◌∷◌, [], OnOk, length};
 ghost use Rattle.lsl_code.specs.Bodies.{plain_body};
 ghost use Rattle.lsl_code.specs.declared.instructions.Instr.TheVariants.{Seal};
-ghost use Rattle.lsl_weave.specs.Layout.{back_block, back_end, flat, keep_slots, keep_tops, main, save_block, table};
+ghost use Rattle.lsl_weave.specs.Layout.{back_block, back_end, keep_slots, keep_tops, main, save_block, table};
+ghost use Rattle.lsl_code.specs.ModeStacks.{flat};
 ghost use Rattle.lsl_weave.specs.Tables.{TablesOf};
 
 use crate::copies::copy_instr;

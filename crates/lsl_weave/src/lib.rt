@@ -4,6 +4,7 @@
 mod blocks;
 mod copies;
 pub mod laws;
+mod mode_stacks;
 mod numbers;
 mod stacks;
 mod tables;

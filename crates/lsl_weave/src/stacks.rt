@@ -2,7 +2,8 @@
 
 ghost use Rattle.std.specs.Prelude.{◌≡◌, ◌<◌, ◌+◌, ◌++◌, ◌∷◌, [], IfOk, OnOk, Some};
 ghost use Rattle.lsl_code.specs.Bodies.{plain_body};
-ghost use Rattle.lsl_weave.specs.Layout.{flat, main_stacks, nones};
+ghost use Rattle.lsl_weave.specs.Layout.{main_stacks};
+ghost use Rattle.lsl_code.specs.ModeStacks.{flat, nones};
 
 use crate::copies::copy_stack;
 use lsl_code::{FunctionCode, Instr, Sequence};

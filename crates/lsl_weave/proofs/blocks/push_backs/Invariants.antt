@@ -1,6 +1,7 @@
 use Rattle.std.proofs.Common.{◌≡◌, ◌++◌, drop}
 use Rattle.lsl_code.specs.Bodies.{plain_body}
-use Rattle.lsl_weave.specs.Layout.{flat, back_block}
+use Rattle.lsl_weave.specs.Layout.{back_block}
+use Rattle.lsl_code.specs.ModeStacks.{flat}
 use Rattle.lsl_weave.proofs.blocks.push_backs.Given as goal
 
 abbrev pub invariant-loop-i : goal.invariant-loop-i

@@ -1,6 +1,7 @@
 use Rattle.std.proofs.Common.{◌≡◌, ◌++◌, drop}
 use Rattle.lsl_code.specs.Bodies.{plain_body}
-use Rattle.lsl_weave.specs.Layout.{flat, main}
+use Rattle.lsl_weave.specs.Layout.{main}
+use Rattle.lsl_code.specs.ModeStacks.{flat}
 use Rattle.lsl_weave.proofs.blocks.push_mains.Given as goal
 
 abbrev pub invariant-loop-i : goal.invariant-loop-i

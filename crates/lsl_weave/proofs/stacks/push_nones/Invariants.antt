@@ -1,5 +1,5 @@
 use Rattle.std.proofs.Common.{◌≡◌, ◌-◌, ◌++◌}
-use Rattle.lsl_weave.specs.Layout.{nones}
+use Rattle.lsl_code.specs.ModeStacks.{nones}
 use Rattle.lsl_weave.proofs.stacks.push_nones.Given as goal
 
 abbrev pub invariant-loop-i : goal.invariant-loop-i
