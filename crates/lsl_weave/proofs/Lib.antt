@@ -9,6 +9,7 @@ pub mod Emitting
 pub mod Examples
 pub mod Forwards
 pub mod FramesBack
+pub mod Hosts
 pub mod Lift
 pub mod Made
 pub mod MadeBacks

@@ -11,6 +11,7 @@ use Rattle.lsl_code.specs.Forward.{Forward}
 use Rattle.lsl_code.specs.Frames.{AreFrames, frames_of, points_of}
 use Rattle.lsl_code.specs.Kinded.{AreKindedCalls, IsKindedMachine}
 use Rattle.lsl_code.specs.Kinds.{kinds_of}
+use Rattle.lsl_code.specs.Laws.{hosts_of}
 use Rattle.lsl_code.specs.Machine.{Machine}
 use Rattle.lsl_code.specs.ModeRuns.{Beside, beside_of, SaveRun, BackRun}
 use Rattle.lsl_code.specs.Runs.{run}
@@ -89,3 +90,7 @@ abbrev pub UnitsComeToSame : Type 0
 UnitsComeToSame =
     (globals : List Value) (states : List StateCode) (bodies : List Body)
     → fits_unit globals states bodies ≡ true → ComesToSame (all_woven bodies) bodies
+
+-- it has as many instructions that ask
+abbrev pub AsksAlike : Type 0
+AsksAlike = (bodies : List Body) → hosts_of (all_woven bodies) ≡ hosts_of bodies

@@ -1,6 +1,6 @@
 //! Laws of the woven code of a unit.
 
-ghost use Rattle.lsl_weave.specs.UnitLaws.{UnitsComeToSame, UnitsGoForward, UnitsMove, UnitsRestore, UnitsRunAlike, UnitsSave, UnitsWeave};
+ghost use Rattle.lsl_weave.specs.UnitLaws.{AsksAlike, UnitsComeToSame, UnitsGoForward, UnitsMove, UnitsRestore, UnitsRunAlike, UnitsSave, UnitsWeave};
 
 /// The woven code of a unit weaves: saving any machine of it at a tick ends with its frames and the same globals and
 /// limit, and restoring any frames that fit ends with the machine that has them, within the bound.
@@ -12,9 +12,10 @@ pub fn units_weave()
 {}
 
 /// While it runs, it has the asks, ticks, ends and faults of the plain code, and goes back only behind ticks. A handler
-/// of it comes to what it comes to in the plain code.
+/// of it comes to what it comes to in the plain code. It has as many instructions that ask.
 pub fn units_run_alike()
     ensures run { UnitsRunAlike }
     ensures forward { UnitsGoForward }
     ensures whole { UnitsComeToSame }
+    ensures asks { AsksAlike }
 {}
