@@ -1,4 +1,4 @@
--- A unit with the sample alone is well formed.
+-- A unit with the sample twice is well formed.
 use Rattle.std.proofs.Common.{◌≡◌, ℕ, List, [], ◌∷◌, true, refl, ap, ◌∙◌}
 use Rattle.lsl_value.specs.declared.tagged.Value.{Value}
 use Rattle.lsl_code.specs.declared.functions.Handler.{Handler}
@@ -14,8 +14,8 @@ abbrev pub empty_state : List ℕ → StateCode
 empty_state name = state_with name []
 
 pub fits_sample : (globals : List Value) (states : List StateCode) (bodies : List Body) (name : List ℕ) → globals ≡ []
-    → states ≡ empty_state name ∷ [] → bodies ≡ sample_body ∷ [] → fits_unit globals states bodies ≡ true
+    → states ≡ empty_state name ∷ [] → bodies ≡ sample_body ∷ sample_body ∷ [] → fits_unit globals states bodies ≡ true
 fits_sample globals states bodies name a b c =
-    let done : fits_unit [] (empty_state name ∷ []) (sample_body ∷ []) ≡ true = refl in
+    let done : fits_unit [] (empty_state name ∷ []) (sample_body ∷ sample_body ∷ []) ≡ true = refl in
     ap (λ g. fits_unit g states bodies) a ∙ ap (λ s. fits_unit [] s bodies) b
     ∙ ap (fits_unit [] (empty_state name ∷ [])) c ∙ done

@@ -1,4 +1,4 @@
-use Rattle.std.proofs.Common.{[], ◌∷◌, map, ap, ◌∙◌}
+use Rattle.std.proofs.Common.{[], ◌∷◌, map, ap, ap₂, ◌∙◌}
 use Rattle.lsl_code.specs.Bodies.{plain_body}
 use Rattle.lsl_weave_tests.proofs.SampleUnit.{state_with, fits_sample}
 use Rattle.lsl_weave_tests.proofs.refused.unit.Goals as goal
@@ -10,5 +10,5 @@ invariant_of-result c = record {
       (c.from_vec.ensures ∙ c.in_ok-states.ensures.items
       ∙ ap (λ hs. state_with c.new.result hs ∷ []) c.new-2.ensures)
       (ap (map plain_body) (c.from_vec-2.ensures ∙ c.in_ok-functions.ensures.items)
-      ∙ ap (λ b. b ∷ []) c.in_ok-sample.ensures);
+      ∙ ap₂ (λ a b. a ∷ b ∷ []) c.in_ok-sample.ensures c.in_ok-sample-2.ensures);
 }
