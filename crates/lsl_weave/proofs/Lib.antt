@@ -33,6 +33,7 @@ pub mod Running
 pub mod Saved
 pub mod SavingLaid
 pub mod SavingOn
+pub mod SavingTold
 pub mod Sealed
 pub mod StacksLaid
 pub mod Sums

@@ -2,6 +2,7 @@ pub mod Laws
 pub mod Layout
 pub mod Lifting
 pub mod Tables
+pub mod ToldLaws
 pub mod UnitLaws
 pub mod Weaving
 pub mod WovenCalls

@@ -1,5 +1,6 @@
 //! Laws of woven units, whoever made them.
 
+ghost use Rattle.lsl_weave.specs.ToldLaws.{SavingIsTold};
 ghost use Rattle.lsl_weave.specs.WovenLaws.{FramesAreTold, FramesHaveOneMachine, KindedMachinesRest, RestingCallsAreKinded, RestoredRest, SavedFramesFit, WeavingMakesWoven, WovenRestores, WovenSaves};
 
 /// Saving a machine of a woven unit at a tick never gets stuck: it ends, with frames that fit, also where the
@@ -31,4 +32,9 @@ pub fn weaving_makes_woven()
 pub fn frames_have_one_machine()
     ensures calls { FramesHaveOneMachine }
     ensures frames { FramesAreTold }
+{}
+
+/// While a woven unit's machine saves, the operands of the innermost call have the kinds that its function tells there.
+pub fn saving_is_told()
+    ensures { SavingIsTold }
 {}
