@@ -25,11 +25,10 @@ use Rattle.lsl_running.specs.Calling.{is_answered_by, is_answer_to}
 use Rattle.lsl_code.specs.declared.units.Unit.{Unit as Code}
 use Rattle.lsl_code.specs.Kinded.{Answers, IsKindedNext}
 use Rattle.lsl_code.specs.Kinds.{kinds_of}
-use Rattle.lsl_code.specs.Wholes.{told}
 use Rattle.lsl_machine.specs.declared.standing.Standing.{Standing}
 use Rattle.lsl_machine.specs.declared.standing.Standing.TheVariants as standing
 use Rattle.lsl_machine.specs.Entry.{IsReady, went}
-use Rattle.lsl_machine.specs.Futures.{whole_from, ticks_passed, run_on}
+use Rattle.lsl_machine.specs.Futures.{halt_from, ticks_passed, run_on}
 use Rattle.lsl_machine.specs.State.{CanRun, Wants, IsIn, bodies_of, replied_to}
 use Rattle.lsl_machine.proofs.Viewing.{machine_view}
 
@@ -105,21 +104,18 @@ answer_fits (Some k) (Some v) e = refl
 answer_fits None (Some v) e = absurd cc
 answer_fits (Some k) None e = absurd cc
 
--- what comes of the machine with its answer
-pub whole_answered : (bodies : List Body) (id : BuiltinId) (given : Option Value) (old new : Machine) (s : Standing)
-    (t : ℕ) (more : List Reply) (room more_room : ℕ)
+-- the run of the machine with its answer
+pub runs_answered : (bodies : List Body) (id : BuiltinId) (given : Option Value) (old new : Machine) (s : Standing)
+    (t : ℕ) (more : List Reply)
     → Answers id (reply.Value given) → IsReady s
     → replied_to (reply.Value given) old.kept more old.calls ≡ went s more new
-    → whole_from bodies (record { machine = old; standing = standing.Asking id; room = room }) t
-    (reply.Value given ∷ more) ≡ whole_from bodies (record { machine = new; standing = s; room = more_room }) t more
-whole_answered bodies id given old new s t more room more_room fits ready e =
+    → halt_from (standing.Asking id) bodies old t (reply.Value given ∷ more) ≡ halt_from s bodies new t more
+runs_answered bodies id given old new s t more fits ready e =
     let yes : is_answered_by id (reply.Value given) ≡ true = answer_fits (row_of id).result given fits in
-    ap (λ b. told bodies
-    (cond b (run_on bodies t (replied_to (reply.Value given) old.kept more old.calls)) (Over Lost))) yes
-    ∙ ap (λ x. told bodies (run_on bodies t x)) e ∙ on_ready s ready
+    ap (λ b. cond b (run_on bodies t (replied_to (reply.Value given) old.kept more old.calls)) (Over Lost)) yes
+    ∙ ap (run_on bodies t) e ∙ on_ready s ready
   where
-    on_ready : (s : Standing) → IsReady s → told bodies (run_on bodies t (went s more new)) ≡ whole_from bodies
-        (record { machine = new; standing = s; room = more_room }) t more
+    on_ready : (s : Standing) → IsReady s → run_on bodies t (went s more new) ≡ halt_from s bodies new t more
     on_ready standing.Ready r = refl
     on_ready standing.Full r = refl
     on_ready s r = absurd r

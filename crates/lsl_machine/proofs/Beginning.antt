@@ -19,12 +19,12 @@ use Rattle.lsl_machine.specs.Laid.{machine_of}
 use Rattle.std.proofs.Common.{min}
 use Rattle.lsl_code.specs.declared.units.Unit.{Unit as Code}
 use Rattle.lsl_code.specs.Kinds.{kinds_of}
-use Rattle.lsl_code.specs.Wholes.{told, started, begun, whole_of_unit}
+use Rattle.lsl_code.specs.Wholes.{started, begun, run_of}
 use Rattle.lsl_code.proofs.MachineKinds.{begins_kinded}
 use Rattle.lsl_machine.specs.declared.standing.Standing.{Standing}
 use Rattle.lsl_machine.specs.declared.standing.Standing.TheVariants as standing
 use Rattle.lsl_machine.specs.Entry.{Begins}
-use Rattle.lsl_machine.specs.Futures.{whole_from, ticks_passed}
+use Rattle.lsl_machine.specs.Futures.{halt_from, ticks_passed}
 use Rattle.lsl_machine.specs.Laid.{state_of, IsLaid}
 use Rattle.lsl_machine.proofs.Parting.{body_at}
 use Rattle.std.proofs.lemmas.Option.{slice_get_within}
@@ -74,8 +74,8 @@ body_of_arguments (Some body) args a = (body, refl, a)
 
 -- what a machine that begins comes to
 pub record HasBegun (unit : Code) (f : ℕ) (kept : Kept) (args : List Value) (s : State) : Type 0 where
-  pub whole : (t : ℕ) (a : List Reply) → whole_of_unit unit.functions f kept args t a ≡ whole_from (bodies_of unit)
-      s t a
+  pub runs : (t : ℕ) (a : List Reply) → run_of (bodies_of unit) f kept args t a ≡ halt_from s.standing (bodies_of unit)
+      s.machine t a
   pub ready : CanRun s.standing
   pub behind : ticks_passed s.standing ≡ 0
   pub of : IsOf unit s
@@ -94,9 +94,9 @@ has_begun unit f limit globals args body r standing.Ready there kg ka h entered 
     let yes : is_within kept (used script_charge slots kept) ≡ true =
     within_is (1024 + 32 + charges_of slots + charges_of globals) limit w in
     record {
-      whole = λ t a. ap (λ o. told bodies (started o bodies f kept args t a)) there
-          ∙ ap (λ b. told bodies (cond b (run bodies t (begun f kept slots a)) (Over (Faulted StackHeap)))) yes
-          ∙ ap (λ m. told bodies (run bodies t (with_answers a m))) (sym view);
+      runs = λ t a. ap (λ o. started o bodies f kept args t a) there
+          ∙ ap (λ b. cond b (run bodies t (begun f kept slots a)) (Over (Faulted StackHeap))) yes
+          ∙ ap (λ m. run bodies t (with_answers a m)) (sym view);
       ready = tt;
       behind = refl;
       of = (
@@ -116,8 +116,8 @@ has_begun unit f limit globals args body r standing.Full there kg ka h entered =
     let no_room : is_within kept (used script_charge slots kept) ≡ false =
     over_is (used script_charge slots kept) limit h in
     record {
-      whole = λ t a. ap (λ o. told bodies (started o bodies f kept args t a)) there
-          ∙ ap (λ b. told bodies (cond b (run bodies t (begun f kept slots a)) (Over (Faulted StackHeap)))) no_room;
+      runs = λ t a. ap (λ o. started o bodies f kept args t a) there
+          ∙ ap (λ b. cond b (run bodies t (begun f kept slots a)) (Over (Faulted StackHeap))) no_room;
       ready = tt;
       behind = refl;
       of = (tt, tt);

@@ -12,9 +12,9 @@ use Rattle.lsl_code.specs.Bodies.{Body}
 use Rattle.lsl_code.specs.Effects.{is_asked}
 use Rattle.lsl_code.specs.Kinds.{kinds_of}
 use Rattle.lsl_code.specs.Laws.{with_answers}
-use Rattle.lsl_code.specs.Machine.{Machine, Faulted, Lost, Next, On, Pauses, Halts}
+use Rattle.lsl_code.specs.Machine.{Machine, Ended, Faulted, Lost, Next, On, Pauses, Halts}
 use Rattle.lsl_code.specs.Runs as runs
-use Rattle.lsl_code.specs.Runs.{Over, run}
+use Rattle.lsl_code.specs.Runs.{Over, CutAt, run}
 use Rattle.lsl_code.specs.Wholes.{told, active_calls}
 use Rattle.lsl_machine.specs.declared.standing.Standing.{Standing}
 use Rattle.lsl_machine.specs.declared.standing.Standing.TheVariants as standing
@@ -65,6 +65,25 @@ abbrev pub GoesOn : List Body → State → Halt → State → Type 0
 GoesOn bodies old h new =
     h ≢ halt.NoMemory → (t : ℕ) (answers : List Reply)
     → whole_from bodies old (ticks_passed old.standing + t) answers ≡ whole_behind bodies h new t answers
+
+-- the same of the run itself: how it halts
+abbrev pub HaltsBehind : List Body → Halt → State → ℕ → List Reply → runs.Halt → Type 0
+HaltsBehind bodies (halt.Asks call) s t [] h = told bodies h ≡ whole.Asks call.id call.args
+HaltsBehind bodies (halt.Asks call) s t (r ∷ more) h = h ≡ halt_from s.standing bodies s.machine t (r ∷ more)
+HaltsBehind bodies halt.AtTick s t answers h = h ≡ halt_from s.standing bodies s.machine t answers
+HaltsBehind bodies (halt.Ended way) s t answers h = h ≡ Over (Ended way s.machine.kept)
+HaltsBehind bodies (halt.Faulted fault) s t answers h = h ≡ Over (Faulted fault)
+HaltsBehind bodies halt.NoMemory s t answers h = Unit {0}
+
+abbrev pub RunsOn : List Body → State → Halt → State → Type 0
+RunsOn bodies old h new =
+    (t : ℕ) (answers : List Reply)
+    → HaltsBehind bodies h new t answers
+    (halt_from old.standing bodies old.machine (ticks_passed old.standing + t) answers)
+
+-- with no tick more the run is cut there
+abbrev pub StandsCut : List Body → State → Type 0
+StandsCut bodies s = halt_from s.standing bodies s.machine 0 [] ≡ CutAt s.machine
 
 -- with no tick more nothing more comes of it
 abbrev pub IsCut : List Body → State → Type 0

@@ -9,9 +9,9 @@ ghost use Rattle.lsl_running.specs.declared.host.Reply.{Reply};
 ghost use Rattle.lsl_running.specs.declared.host.Reply.TheVariants as reply;
 ghost use Rattle.lsl_code.specs.Bodies.{Body};
 ghost use Rattle.lsl_code.specs.Kinds.{kinds_of};
-ghost use Rattle.lsl_code.specs.Wholes.{whole_of_unit};
+ghost use Rattle.lsl_code.specs.Wholes.{run_of, whole_of_unit};
 ghost use Rattle.lsl_code.specs.declared.units.Unit.{Unit as Code};
-ghost use Rattle.lsl_machine.specs.Futures.{whole_from, ticks_passed, GoesOn, IsCut, IsAsked};
+ghost use Rattle.lsl_machine.specs.Futures.{halt_from, whole_from, ticks_passed, GoesOn, IsCut, IsAsked, RunsOn, StandsCut};
 ghost use Rattle.lsl_machine.specs.Memory.{TakesNone};
 ghost use Rattle.lsl_machine.specs.State.{State, IsOf, CanRun, Wants, HasEnded, AreArguments, bodies_of, standing_of, kept_with};
 
@@ -69,6 +69,9 @@ impl Machine {
         requires globals { kinds_of globals ≡ kinds_of unit.now.globals }
         requires limit { limit ≤ default_limit }
         requires args { AreArguments (slice_get (bodies_of unit.now) handler) args }
+        ensures runs { IfOk result (λ begun. (ticks : ℕ) (answers : List Reply) →
+            run_of (bodies_of unit.now) handler (kept_with globals limit) args ticks answers
+            ≡ halt_from begun.standing (bodies_of unit.now) begun.machine ticks answers) }
         ensures whole { IfOk result (λ begun. (ticks : ℕ) (answers : List Reply) →
             whole_of_unit unit.now.functions handler (kept_with globals limit) args ticks answers
             ≡ whole_from (bodies_of unit.now) begun ticks answers) }
@@ -87,7 +90,9 @@ impl Machine {
     pub fn run(&mut self, unit: &Unit) -> Halt
         requires able { CanRun self.old.standing }
         requires of { IsOf unit.now self.old }
+        ensures runs { RunsOn (bodies_of unit.now) self.old result self.new }
         ensures whole { GoesOn (bodies_of unit.now) self.old result self.new }
+        ensures stands { result ≡ Halt.AtTick → StandsCut (bodies_of unit.now) self.new }
         ensures cut { result ≡ Halt.AtTick → IsCut (bodies_of unit.now) self.new }
         ensures asked { IsAsked result }
         ensures listens { result ≢ Halt.Faulted Fault.TooManyListens }
@@ -105,6 +110,9 @@ impl Machine {
     /// no memory.
     pub fn answer(&mut self, value: Option<Value>)
         requires { Wants self.old.standing value }
+        ensures runs { (bodies : List Body) (ticks : ℕ) (more : List Reply) →
+            halt_from self.old.standing bodies self.old.machine ticks (reply.Value value ∷ more)
+            ≡ halt_from self.new.standing bodies self.new.machine ticks more }
         ensures whole { (bodies : List Body) (ticks : ℕ) (more : List Reply) →
             whole_from bodies self.old ticks (reply.Value value ∷ more) ≡ whole_from bodies self.new ticks more }
         ensures ready { CanRun self.new.standing }

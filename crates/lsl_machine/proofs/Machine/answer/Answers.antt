@@ -1,14 +1,15 @@
-use Rattle.std.proofs.Common.{◌≡◌, sym, subst, [], ◌∷◌}
+use Rattle.std.proofs.Common.{◌≡◌, sym, ap, subst, [], ◌∷◌}
+use Rattle.lsl_code.specs.Wholes.{told}
 use Rattle.lsl_machine.specs.Laid.{machine_of}
 use Rattle.lsl_running.specs.declared.host.Reply.TheVariants as reply
 use Rattle.lsl_machine.specs.State.{State, HasReserved, Wants, IsIn, bodies_of}
 use Rattle.lsl_machine.specs.Rooms.{IsReserved}
 use Rattle.std.specs.Prelude.{vec_capacity}
 use Rattle.lsl_machine.proofs.Reserving.{answered_reserved}
-use Rattle.lsl_machine.specs.Futures.{whole_from}
+use Rattle.lsl_machine.specs.Futures.{halt_from}
 use Rattle.lsl_machine.specs.Laid.{state_of, IsLaid}
 use Rattle.lsl_machine.specs.declared.standing.Standing.TheVariants as standing
-use Rattle.lsl_machine.proofs.Answering.{whole_answered, of_answered, has_asked, ready_runs, ready_passes_none}
+use Rattle.lsl_machine.proofs.Answering.{runs_answered, of_answered, has_asked, ready_runs, ready_passes_none}
 use Rattle.lsl_machine.proofs.Machine.answer.Goals as goal
 
 pub receive-self-inside-requires : goal.receive-self-inside-requires
@@ -20,20 +21,22 @@ receive-self-inside-requires c =
     subst (IsLaid c.self.inside.running) x.1 c.self.invariant in
     record { held = laid.0; room = laid.1 }
 
-pub returns-clause-whole : goal.returns-clause-whole
-returns-clause-whole c bodies t more =
+pub returns-clause-runs : goal.returns-clause-runs
+returns-clause-runs c bodies t more =
     let wants : Wants c.self.inside.standing c.args.value =
     subst (λ (s : State). Wants s.standing c.args.value) (sym c.self.view_is) c.requires in
     let x = has_asked c.self.inside.standing c.args.value wants in
-    let e = whole_answered bodies x.0 c.args.value (machine_of c.self.inside.running)
-    (machine_of c.receive-self-inside.new.self) c.receive-self-inside.result t more
-    (vec_capacity c.self.inside.running.stack) (vec_capacity c.receive-self-inside.new.self.stack) x.2
+    let e = runs_answered bodies x.0 c.args.value (machine_of c.self.inside.running)
+    (machine_of c.receive-self-inside.new.self) c.receive-self-inside.result t more x.2
     c.receive-self-inside.ensures.ready (c.receive-self-inside.ensures.went more) in
-    subst (λ (s : State). whole_from bodies s t (reply.Value c.args.value ∷ more) ≡ whole_from bodies
-    (state_of c.receive-self-inside.new.self c.receive-self-inside.result) t more) c.self.view_is
-    (subst (λ z. whole_from bodies (state_of c.self.inside.running z) t
-    (reply.Value c.args.value ∷ more) ≡ whole_from bodies
-    (state_of c.receive-self-inside.new.self c.receive-self-inside.result) t more) (sym x.1) e)
+    subst (λ (s : State). halt_from s.standing bodies s.machine t (reply.Value c.args.value ∷ more) ≡ halt_from
+    c.receive-self-inside.result bodies (machine_of c.receive-self-inside.new.self) t more) c.self.view_is
+    (subst (λ z. halt_from z bodies (machine_of c.self.inside.running) t
+    (reply.Value c.args.value ∷ more) ≡ halt_from
+    c.receive-self-inside.result bodies (machine_of c.receive-self-inside.new.self) t more) (sym x.1) e)
+
+pub returns-clause-whole : goal.returns-clause-whole
+returns-clause-whole c bodies t more = ap (told bodies) (returns-clause-runs c bodies t more)
 
 pub returns-clause-ready : goal.returns-clause-ready
 returns-clause-ready c = ready_runs c.receive-self-inside.result c.receive-self-inside.ensures.ready

@@ -1,4 +1,5 @@
-use Rattle.std.proofs.Common.{slice_get}
+use Rattle.std.proofs.Common.{slice_get, ap}
+use Rattle.lsl_code.specs.Wholes.{told}
 use Rattle.lsl_code.specs.Acts.{first_slots}
 use Rattle.lsl_machine.specs.State.{bodies_of}
 use Rattle.lsl_machine.proofs.Beginning.{body_of_arguments, has_begun, begun_laid}
@@ -16,4 +17,10 @@ returns c =
     let h = has_begun c.args.unit.now c.args.handler c.args.limit c.args.globals c.args.args b.0
     c.in_ok-running.running c.in_ok-running.standing b.1 c.requires.globals b.2
     (c.in_ok-running.ensures.begun b.0 b.1) c.in_ok-running.ensures.entered in
-    record { whole = h.whole; ready = h.ready; behind = h.behind; of = h.of }
+    record {
+      runs = h.runs;
+      whole = λ t a. ap (told (bodies_of c.args.unit.now)) (h.runs t a);
+      ready = h.ready;
+      behind = h.behind;
+      of = h.of;
+    }

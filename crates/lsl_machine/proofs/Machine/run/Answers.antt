@@ -1,9 +1,11 @@
-use Rattle.std.proofs.Common.{◌≡◌, sym, subst, ◌+◌}
+use Rattle.std.proofs.Common.{sym, ap, subst}
 use Rattle.lsl_machine.specs.Laid.{machine_of}
 use Rattle.lsl_machine.specs.State.{State, HasReserved, IsIn, CanRun, bodies_of}
 use Rattle.lsl_machine.specs.Memory.{TakesNone}
 use Rattle.std.specs.Prelude.{vec_capacity}
-use Rattle.lsl_machine.specs.Futures.{whole_from, whole_behind, ticks_passed, IsCut}
+use Rattle.lsl_machine.specs.Futures.{RunsOn, StandsCut}
+use Rattle.lsl_code.specs.Wholes.{told}
+use Rattle.lsl_machine.proofs.Halting.{goes_on}
 use Rattle.lsl_machine.specs.Laid.{state_of}
 use Rattle.lsl_machine.proofs.Machine.run.Goals as goal
 
@@ -16,19 +18,25 @@ halt-halt-requires c = record {
       (sym c.self.view_is) c.requires.of.1;
 }
 
-pub returns-clause-whole : goal.returns-clause-whole
-returns-clause-whole c lacks t a =
+pub returns-clause-runs : goal.returns-clause-runs
+returns-clause-runs c =
     let bodies = bodies_of c.args.unit.now in
-    subst (λ (s : State). whole_from bodies s (ticks_passed s.standing + t) a ≡ whole_behind bodies
-    c.halt-halt.result (state_of c.halt-halt.new.self c.standing_at-self-inside.result) t a) c.self.view_is
-    (subst (λ z. whole_from bodies (state_of c.self.inside.running c.self.inside.standing)
-    (ticks_passed c.self.inside.standing + t) a ≡ whole_behind bodies c.halt-halt.result
-    (state_of c.halt-halt.new.self z) t a) (sym c.standing_at-self-inside.ensures)
-    (c.halt-halt.ensures.whole lacks t a))
+    subst (λ (s : State). RunsOn bodies s c.halt-halt.result
+    (state_of c.halt-halt.new.self c.standing_at-self-inside.result)) c.self.view_is
+    (subst (λ z. RunsOn bodies (state_of c.self.inside.running c.self.inside.standing) c.halt-halt.result
+    (state_of c.halt-halt.new.self z)) (sym c.standing_at-self-inside.ensures) c.halt-halt.ensures.runs)
+
+pub returns-clause-whole : goal.returns-clause-whole
+returns-clause-whole c =
+    goes_on (bodies_of c.args.unit.now) c.args.self.now c.halt-halt.result
+    (state_of c.halt-halt.new.self c.standing_at-self-inside.result) (returns-clause-runs c)
+
+pub returns-clause-stands : goal.returns-clause-stands
+returns-clause-stands c e = subst (λ z. StandsCut (bodies_of c.args.unit.now) (state_of c.halt-halt.new.self z))
+    (sym c.standing_at-self-inside.ensures) (c.halt-halt.ensures.cut e)
 
 pub returns-clause-cut : goal.returns-clause-cut
-returns-clause-cut c e = subst (λ z. IsCut (bodies_of c.args.unit.now) (state_of c.halt-halt.new.self z))
-    (sym c.standing_at-self-inside.ensures) (c.halt-halt.ensures.cut e)
+returns-clause-cut c e = ap (told (bodies_of c.args.unit.now)) (returns-clause-stands c e)
 
 pub returns-clause-of : goal.returns-clause-of
 returns-clause-of c =
