@@ -22,7 +22,7 @@ use Rattle.lsl_table.specs.Calls.{row_of}
 use Rattle.lsl_running.specs.declared.host.Reply.TheVariants as reply
 use Rattle.lsl_running.specs.declared.ends.Fault.{Fault}
 use Rattle.lsl_running.specs.Calling.{is_answered_by, is_answer_to}
-use Rattle.lsl_code.specs.declared.units.Unit.{Unit as Code}
+use Rattle.lsl_code.specs.declared.woven_units.Woven.{Woven as Code}
 use Rattle.lsl_code.specs.Kinded.{Answers, IsKindedNext}
 use Rattle.lsl_code.specs.Kinds.{kinds_of}
 use Rattle.lsl_machine.specs.declared.standing.Standing.{Standing}

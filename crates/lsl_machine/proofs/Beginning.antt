@@ -7,17 +7,19 @@ use Rattle.lsl_running.specs.declared.ends.Fault.TheVariants.{StackHeap}
 use Rattle.lsl_running.specs.declared.host.Reply.{Reply}
 use Rattle.lsl_running.specs.declared.kept.Kept.{Kept}
 use Rattle.lsl_running.specs.Charging.{script_charge, charges_of, used, is_within}
-use Rattle.lsl_code.specs.declared.functions.FunctionCode.{FunctionCode}
+use Rattle.lsl_code.specs.declared.woven_functions.WovenCode.{WovenCode}
 use Rattle.lsl_code.specs.Acts.{first_slots}
-use Rattle.lsl_code.specs.Bodies.{Body, plain_body}
+use Rattle.lsl_code.specs.Bodies.{Body}
+use Rattle.lsl_code.specs.WovenBodies.{woven_body}
 use Rattle.lsl_code.specs.Laws.{with_answers}
 use Rattle.lsl_code.specs.Machine.{Faulted, call_at}
 use Rattle.lsl_code.specs.Runs.{Over, run}
+use Rattle.lsl_code.proofs.UnitTold.{woven_tells}
 use Rattle.lsl_machine.specs.declared.running.Activation.{Activation}
 use Rattle.lsl_machine.specs.declared.running.Running.{Running}
 use Rattle.lsl_machine.specs.Laid.{machine_of}
 use Rattle.std.proofs.Common.{min}
-use Rattle.lsl_code.specs.declared.units.Unit.{Unit as Code}
+use Rattle.lsl_code.specs.declared.woven_units.Woven.{Woven as Code}
 use Rattle.lsl_code.specs.Kinds.{kinds_of}
 use Rattle.lsl_code.specs.Wholes.{started, begun, run_of}
 use Rattle.lsl_code.proofs.MachineKinds.{begins_kinded}
@@ -101,7 +103,8 @@ has_begun unit f limit globals args body r standing.Ready there kg ka h entered 
       behind = refl;
       of = (
         subst (IsKinded unit) (sym view)
-            (begins_kinded unit.globals unit.states bodies unit.fits f body kept args [] there kg ka),
+            (begins_kinded unit.globals unit.states bodies
+            (woven_tells unit.globals unit.states bodies unit.woven) f body kept args [] there kg ka),
         subst (λ (m : Machine). IsReserved bodies (vec_capacity r.stack) m.calls) (sym view)
             (entered_reserved bodies r kept f slots [] h entered, tt),
       );
@@ -133,11 +136,11 @@ begun_laid f limit globals slots r standing.Ready h = (kept_with globals limit, 
 begun_laid f limit globals slots r standing.Full h = tt
 begun_laid f limit globals slots r s h = absurd h
 
-pub bodies_same : (fs gs : List FunctionCode) (k : ℕ) (fn : FunctionCode) (body : Body) → gs ≡ fs
-    → fn ≡ get_or gs k fn → slice_get (map plain_body fs) k ≡ Some body → plain_body fn ≡ body
+pub bodies_same : (fs gs : List WovenCode) (k : ℕ) (fn : WovenCode) (body : Body) → gs ≡ fs
+    → fn ≡ get_or gs k fn → slice_get (map woven_body fs) k ≡ Some body → woven_body fn ≡ body
 bodies_same fs gs k fn body e is there =
-    let within = slice_get_within (map plain_body fs) k body there in
-    let len = length-map fs plain_body in
+    let within = slice_get_within (map woven_body fs) k body there in
+    let len = length-map fs woven_body in
     let at = body_at fs k fn (omega arith) (is ∙ ap (λ l. get_or l k fn) e) in
-    let same : Some (plain_body fn) ≡ Some body = sym at ∙ there in
+    let same : Some (woven_body fn) ≡ Some body = sym at ∙ there in
     cc

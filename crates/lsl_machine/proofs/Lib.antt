@@ -14,3 +14,14 @@ pub mod Answering
 pub mod Beginning
 pub mod Sparing
 pub mod Reserving
+pub mod Counted
+pub mod Keeping
+pub mod BackCharged
+pub mod Waking
+pub mod Putting
+pub mod Totals
+pub mod Sealing
+pub mod Vacating
+pub mod PutCharges
+pub mod Reaching
+pub mod Carried

@@ -13,7 +13,7 @@ use Rattle.lsl_machine.specs.declared.running.Running.{Running}
 use Rattle.lsl_machine.specs.Laid.{Lays, Held, machine_of}
 use Rattle.std.proofs.lemmas.Option.{slice_get_within}
 use Rattle.std.proofs.Common.{◌^◌}
-use Rattle.lsl_code.specs.declared.units.Unit.{Unit as Code}
+use Rattle.lsl_code.specs.declared.woven_units.Woven.{Woven as Code}
 use Rattle.lsl_code.specs.Kinds.{kinds_of}
 use Rattle.lsl_machine.specs.State.{IsKinded, bodies_of}
 use Rattle.lsl_machine.proofs.Laying.{placed}

@@ -1,3 +1,5 @@
+pub mod CallsRestored
+pub mod CallsSaved
 pub mod Entry
 pub mod Futures
 pub mod Laid

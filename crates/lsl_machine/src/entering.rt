@@ -14,19 +14,19 @@ ghost use Rattle.lsl_running.specs.declared.host.Reply.{Reply};
 use crate::calls::{CALL_CHARGE, behind, push_empties};
 use crate::running::{Activation, Running, Step};
 use crate::standing::Standing;
-use lsl_code::Unit;
+use lsl_code::Woven;
 use lsl_running::Kept;
 use lsl_text::NoMemory;
 use lsl_value::{Value, Values, charge};
 use std::alloc::Global;
 
 /// What a script is charged with no globals and no call.
-const SCRIPT_CHARGE: u64 = 1_024;
+pub const SCRIPT_CHARGE: u64 = 1_024;
 
 /// A function before its first tick, where it stands: it may be charged more than the limit.
 pub fn enter(
     alloc: Global,
-    unit: &Unit,
+    unit: &Woven,
     handler: u16,
     globals: Values,
     limit: u32,
@@ -76,7 +76,7 @@ fn standing_within(charge: u64, global_charge: u64, limit: u32) -> Standing
 
 /// The values' charges beside this one, and the greatest number where they are more.
 #[tactic(auto, using(crate::proofs::Charges::charges_step))]
-fn charge_from(held: u64, values: &[Value]) -> u64
+pub fn charge_from(held: u64, values: &[Value]) -> u64
     ensures { result ≡ min (held + charges_of values.now) 18446744073709551615 }
 {
     let mut sum = held;

@@ -9,13 +9,13 @@ ghost use Rattle.lsl_running.specs.declared.host.Reply.{Reply};
 ghost use Rattle.lsl_running.specs.declared.host.Reply.TheVariants as reply;
 ghost use Rattle.lsl_code.specs.Bodies.{Body};
 ghost use Rattle.lsl_code.specs.Kinds.{kinds_of};
-ghost use Rattle.lsl_code.specs.Wholes.{run_of, whole_of_unit};
-ghost use Rattle.lsl_code.specs.declared.units.Unit.{Unit as Code};
+ghost use Rattle.lsl_code.specs.Wholes.{run_of, whole_of_bodies};
+ghost use Rattle.lsl_code.specs.declared.woven_units.Woven.{Woven as Code};
 ghost use Rattle.lsl_machine.specs.Futures.{halt_from, whole_from, ticks_passed, GoesOn, IsCut, IsAsked, RunsOn, StandsCut};
 ghost use Rattle.lsl_machine.specs.Memory.{TakesNone};
 ghost use Rattle.lsl_machine.specs.State.{State, IsOf, CanRun, Wants, HasEnded, AreArguments, bodies_of, standing_of, kept_with};
 
-use lsl_code::Unit;
+use lsl_code::Woven;
 use lsl_text::NoMemory;
 use lsl_value::{Value, Values};
 use std::alloc::Global;
@@ -27,7 +27,9 @@ mod jumps;
 mod operands;
 mod operating;
 mod performing;
+mod restoring;
 mod running;
+mod saving;
 mod slots;
 mod standing;
 
@@ -60,7 +62,7 @@ impl Machine {
     /// parameters' kinds. Takes the room for its slots and operands.
     pub fn begin(
         alloc: Global,
-        unit: &Unit,
+        unit: &Woven,
         handler: u16,
         globals: Values,
         limit: u32,
@@ -73,7 +75,7 @@ impl Machine {
             run_of (bodies_of unit.now) handler (kept_with globals limit) args ticks answers
             ≡ halt_from begun.standing (bodies_of unit.now) begun.machine ticks answers) }
         ensures whole { IfOk result (λ begun. (ticks : ℕ) (answers : List Reply) →
-            whole_of_unit unit.now.functions handler (kept_with globals limit) args ticks answers
+            whole_of_bodies (bodies_of unit.now) handler (kept_with globals limit) args ticks answers
             ≡ whole_from (bodies_of unit.now) begun ticks answers) }
         ensures ready { IfOk result (λ begun. CanRun begun.standing) }
         ensures behind { IfOk result (λ begun. ticks_passed begun.standing ≡ 0) }
@@ -87,7 +89,7 @@ impl Machine {
     /// none. After `NoMemory` or `Faulted` the machine is only to be dropped.
     ///
     /// Takes no memory on integers, but to enter a function and to ask.
-    pub fn run(&mut self, unit: &Unit) -> Halt
+    pub fn run(&mut self, unit: &Woven) -> Halt
         requires able { CanRun self.old.standing }
         requires of { IsOf unit.now self.old }
         ensures runs { RunsOn (bodies_of unit.now) self.old result self.new }

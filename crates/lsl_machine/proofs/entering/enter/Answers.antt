@@ -2,7 +2,7 @@ use Rattle.std.proofs.Common.{map, ◌≡◌, ◌∙◌, refl, sym, ap, subst, �
 use Rattle.lsl_running.specs.Charging.{charges_of}
 use Rattle.lsl_running.specs.Values.{empty_of}
 use Rattle.lsl_code.specs.Acts.{first_slots}
-use Rattle.lsl_code.specs.Bodies.{plain_body}
+use Rattle.lsl_code.specs.WovenBodies.{woven_body}
 use Rattle.lsl_machine.specs.declared.running.Activation.{Activation}
 use Rattle.lsl_machine.specs.declared.running.Running.{Running}
 use Rattle.lsl_machine.specs.Entry.{Begins}
@@ -12,7 +12,7 @@ use Rattle.lsl_machine.proofs.entering.enter.Goals as goal
 
 pub returns-clause-begun : goal.returns-clause-begun
 returns-clause-begun c body there =
-    let fn = plain_body c.index-as_slice-handler.result in
+    let fn = woven_body c.index-as_slice-handler.result in
     let args = c.args.args in
     let same : fn ≡ body = bodies_same c.args.unit.now.functions c.as_slice.result.now c.args.handler
     c.index-as_slice-handler.result body c.as_slice.ensures c.index-as_slice-handler.is there in

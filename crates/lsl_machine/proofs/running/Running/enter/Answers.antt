@@ -1,7 +1,7 @@
 use Rattle.std.proofs.Common.{map, ◌≡◌, ◌∙◌, refl, ap, arith, ℕ, ◌+◌, ◌-◌, ◌++◌, length, take, drop}
 use Rattle.lsl_running.specs.Charging.{charges_of}
 use Rattle.lsl_running.specs.Values.{empty_of}
-use Rattle.lsl_code.specs.Bodies.{plain_body}
+use Rattle.lsl_code.specs.WovenBodies.{woven_body}
 use Rattle.lsl_machine.specs.declared.running.Activation.{Activation}
 use Rattle.lsl_machine.proofs.Doing.{able_held}
 use Rattle.lsl_code.specs.declared.instructions.Instr.TheVariants as instrs
@@ -12,7 +12,7 @@ use Rattle.lsl_machine.proofs.running.Running.enter.Goals as goal
 pub charges_of-given-requires : goal.charges_of-given-requires
 charges_of-given-requires c =
     let h = c.requires 0 in
-    let fn = plain_body c.index-functions-callee.result in
+    let fn = woven_body c.index-functions-callee.result in
     let st = c.args.self.now.stack in
     let lenis : c.len.result ≡ length st.items = c.len.ensures ∙ st.ok.0 in
     let len2 : c.len-2.result ≡ length st.items = c.len-2.ensures ∙ st.ok.0 in
@@ -55,7 +55,7 @@ overflow_add-caller c = let r = (c.requires 0).9.place in omega arith
 pub overflow_sub-caller : goal.overflow_sub-caller
 overflow_sub-caller c =
     let h = c.requires 0 in
-    let fn = plain_body c.index-functions-callee.result in
+    let fn = woven_body c.index-functions-callee.result in
     let st = c.args.self.now.stack in
     let lenis : c.len.result ≡ length st.items = c.len.ensures ∙ st.ok.0 in
     let len2 : c.len-2.result ≡ length st.items = c.len-2.ensures ∙ st.ok.0 in
@@ -80,7 +80,7 @@ returns-then-callee-functions-clause-done c point g f place sl ops outer h =
 
 pub returns-then-kinds-free-clause-done : goal.returns-then-kinds-free-clause-done
 returns-then-kinds-free-clause-done c point g f place sl ops outer h =
-    let fn = plain_body c.index-functions-callee.result in
+    let fn = woven_body c.index-functions-callee.result in
     let kd : c.behind-kinds.result.now ≡ drop (length fn.params) fn.slots = c.behind-kinds.ensures
     ∙ ap {A = ℕ} (λ k. drop k c.as_slice-2.result.now) c.len-4.ensures
     ∙ ap (drop (length fn.params)) c.as_slice-2.ensures in
@@ -88,20 +88,20 @@ returns-then-kinds-free-clause-done c point g f place sl ops outer h =
     let len = ap length kd in
     let lt = c.if-kinds-free.true in
     let free = c.free-free.ensures in
-    entered_over c.args.self.now _ (map plain_body c.args.functions.now) fn c.args.callee
+    entered_over c.args.self.now _ (map woven_body c.args.functions.now) fn c.args.callee
     (32 + charges_of (map empty_of (drop (length fn.params) fn.slots))) g f place sl ops outer h
     (body_at c.args.functions.now c.args.callee c.index-functions-callee.result c.if-callee-functions.false
     c.index-functions-callee.is) refl (omega arith)
 
 pub returns-then-more-free-clause-done : goal.returns-then-more-free-clause-done
 returns-then-more-free-clause-done c point g f place sl ops outer h =
-    let fn = plain_body c.index-functions-callee.result in
+    let fn = woven_body c.index-functions-callee.result in
     let kd : c.behind-kinds.result.now ≡ drop (length fn.params) fn.slots = c.behind-kinds.ensures
     ∙ ap {A = ℕ} (λ k. drop k c.as_slice-2.result.now) c.len-4.ensures
     ∙ ap (drop (length fn.params)) c.as_slice-2.ensures in
     let lt = c.if-more-free.true in
     let free = c.free-free.ensures in
-    entered_over c.args.self.now _ (map plain_body c.args.functions.now) fn c.args.callee
+    entered_over c.args.self.now _ (map woven_body c.args.functions.now) fn c.args.callee
     (32 + c.empties_charge-more.result) g f place sl ops outer h
     (body_at c.args.functions.now c.args.callee c.index-functions-callee.result c.if-callee-functions.false
     c.index-functions-callee.is)
@@ -110,7 +110,7 @@ returns-then-more-free-clause-done c point g f place sl ops outer h =
 
 pub returns-in-Ok-push-clause-done : goal.returns-in-Ok-push-clause-done
 returns-in-Ok-push-clause-done c point g f place sl ops outer h =
-    let fn = plain_body c.index-functions-callee.result in
+    let fn = woven_body c.index-functions-callee.result in
     let st = c.args.self.now.stack in
     let lenis : c.len.result ≡ length st.items = c.len.ensures ∙ st.ok.0 in
     let len2 : c.len-2.result ≡ length st.items = c.len-2.ensures ∙ st.ok.0 in
@@ -126,7 +126,7 @@ returns-in-Ok-push-clause-done c point g f place sl ops outer h =
     ∙ ap (drop (length fn.params)) c.as_slice-2.ensures in
     let lt = c.if-more-free.false in
     let free = c.free-free.ensures in
-    entered_in c.args.self.now _ (map plain_body c.args.functions.now) fn c.args.callee
+    entered_in c.args.self.now _ (map woven_body c.args.functions.now) fn c.args.callee
     (32 + c.empties_charge-more.result) c.charges_of-given.result c.least.result _ g f place sl ops outer h
     (body_at c.args.functions.now c.args.callee c.index-functions-callee.result c.if-callee-functions.false
     c.index-functions-callee.is)

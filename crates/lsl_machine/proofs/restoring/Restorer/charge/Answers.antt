@@ -1,0 +1,12 @@
+use Rattle.std.proofs.Common.{◌∙◌, ap, ◌+◌, min, drop}
+use Rattle.lsl_running.specs.Charging.{charges_of}
+use Rattle.lsl_machine.proofs.Waking.{charge_is}
+use Rattle.lsl_machine.proofs.restoring.Restorer.charge.Goals as goal
+
+pub returns : goal.returns
+returns c bodies m outer p hand sack h =
+    let above = c.above.ensures ∙ ap (drop c.args.self.now.active.base) c.as_slice.ensures.value in
+    charge_is bodies c.args.self.now m outer p hand sack h c.saturating_add-held.result c.charge_from.result
+    c.saturating_add-held.ensures
+    (c.charge_from.ensures
+    ∙ ap (λ l. min (c.saturating_add-held.result + charges_of l) 18446744073709551615) above)

@@ -1,0 +1,62 @@
+-- How the calls that are restored lie on the stack, and what an instruction makes of them.
+use Rattle.std.specs.Prelude.{◌≡◌, ℕ, ◌+◌, ◌<◌, ◌^◌, Bool, List, [], ◌∷◌, ◌++◌, Option, Some, None, length, map, min, reverse, slice_get, vec_capacity}
+use Rattle.lsl_value.specs.declared.tagged.Value.{Value}
+use Rattle.lsl_code.specs.declared.frames.Frame.{Frame}
+use Rattle.lsl_code.specs.declared.instructions.Instr.{Instr}
+use Rattle.lsl_code.specs.Bodies.{Body}
+use Rattle.lsl_code.specs.Machine.{MachineCall, base}
+use Rattle.lsl_code.specs.Restoring.{Restoring, back_act, back_after}
+use Rattle.lsl_machine.specs.declared.restoring.Restorer.{Restorer}
+use Rattle.lsl_machine.specs.declared.running.Activation.{Activation}
+use Rattle.lsl_machine.specs.Laid.{flat, activations}
+use Rattle.lsl_machine.specs.Rooms.{IsReserved}
+
+-- a call as it is kept, whose charge is the greatest number where it is more
+abbrev pub capped : Activation → Activation
+capped a = record a { charge = min a.charge 18446744073709551615 }
+
+-- these calls, this point and these values in hand, and these frames are left; every call has its room
+pub record IsRestoring (bodies : List Body) (r : Restorer) (c : MachineCall) (outer : List MachineCall) (point : ℕ)
+    (hand : List Value) (sack : List Frame) : Type 0 where
+  pub values : r.stack.items ≡ flat (c ∷ outer)
+  pub waiting : r.callers.items ≡ map capped (activations outer)
+  pub function : r.active.function ≡ c.function
+  pub place : r.active.place ≡ c.place
+  pub base_is : r.active.base ≡ length (flat outer)
+  pub floor : r.active.floor ≡ length (flat outer ++ c.slots)
+  pub charge : r.active.charge ≡ min (base outer) 18446744073709551615
+  pub at_point : r.point ≡ point
+  pub in_hand : r.hand.items ≡ reverse hand
+  pub frames : r.frames.items ≡ sack
+  pub reserved : IsReserved bodies (vec_capacity r.stack) (c ∷ outer)
+
+-- what the instruction makes of them
+abbrev pub next_of : List Body → Instr → MachineCall → List MachineCall → ℕ → List Value → List Frame
+    → Option Restoring
+next_of bodies i c outer point hand sack =
+    back_after bodies (back_act (slice_get bodies c.function) (Some i) c point hand sack) outer point hand sack
+
+abbrev pub HasCalls : List Body → Restorer → List MachineCall → ℕ → List Value → List Frame → Type 0
+HasCalls bodies r [] point hand sack = ⊥
+HasCalls bodies r (c ∷ outer) point hand sack = IsRestoring bodies r c outer point hand sack
+
+abbrev pub IsState : List Body → Restorer → Restoring → Type 0
+IsState bodies r s = HasCalls bodies r s.calls s.point s.hand s.sack
+
+abbrev pub CameTo : List Body → Option Restoring → Bool → Restorer → Type 0
+CameTo bodies None awake r = ⊥
+CameTo bodies (Some s) awake r = (s.awake ≡ awake) × IsState bodies r s
+
+-- the instruction restores, and its place can be numbered
+abbrev pub CanBack : List Body → Instr → Restorer → Type 0
+CanBack bodies i r =
+    (c : MachineCall) × (outer : List MachineCall) × (point : ℕ) × (hand : List Value) × (sack : List Frame)
+    × (s : Restoring) × IsRestoring bodies r c outer point hand sack
+    × (next_of bodies i c outer point hand sack ≡ Some s) × (r.active.place + 1 + r.point < 2 ^ 64)
+
+-- it did what it is to do
+abbrev pub Backs : List Body → Instr → Restorer → Bool → Restorer → Type 0
+Backs bodies i old awake new =
+    (c : MachineCall) (outer : List MachineCall) (point : ℕ) (hand : List Value) (sack : List Frame)
+    → IsRestoring bodies old c outer point hand sack
+    → CameTo bodies (next_of bodies i c outer point hand sack) awake new

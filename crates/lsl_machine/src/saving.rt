@@ -1,0 +1,127 @@
+//! Saving: the code of each call's function keeps the call as a frame.
+
+ghost use Rattle.std.specs.Prelude.{◌≡◌, ◌≤◌, [], List, IfOk, OnOk, length, reverse, Some, None};
+ghost use Rattle.lsl_value.specs.declared.tagged.Value.{Value as Tagged};
+ghost use Rattle.lsl_code.specs.Machine.{MachineCall};
+ghost use Rattle.lsl_code.specs.Saving.{save_act};
+ghost use Rattle.lsl_code.specs.Weaves.{bodies_of};
+ghost use Rattle.lsl_code.specs.declared.instructions.Instr.TheVariants as instrs;
+ghost use Rattle.lsl_machine.specs.CallsSaved.{CanKeep, CanSeal, DidKeep, HasCall, IsFrameOf, call_of, low_of};
+
+use crate::running::Activation;
+use lsl_code::{Frame, Instr, Woven};
+use lsl_text::NoMemory;
+use lsl_value::{Value, Values};
+use std::alloc::Global;
+use std::mem::replace;
+
+/// A call on its way to a frame, above the calls that wait for it. The values that are kept so far stand in hand, the
+/// one kept first at the front.
+#[derive(Debug, Drop)]
+pub struct Saver {
+    pub alloc: Global,
+    pub active: Activation,
+    pub stack: Vec<Value>,
+    pub hand: Vec<Value>,
+}
+
+impl Saver {
+    /// Keeps the call in hand as its function's code does, and leaves it.
+    pub fn seal(&mut self, unit: &Woven) -> Result<Frame, NoMemory>
+        requires { CanSeal (bodies_of unit.now) self.old }
+        ensures frame { IfOk result (IsFrameOf (bodies_of unit.now) (call_of self.old)) }
+        ensures left { OnOk result (self.new.stack.items ≡ low_of self.old) }
+        ensures empty { OnOk result (self.new.hand.items ≡ []) }
+    {
+        let Some(function) = unit.functions.get(self.active.function as usize) else {
+            unreachable!();
+        };
+        let end = function.code.len();
+        for i in 0..end {
+            let Some(instr) = function.code.get(self.active.place) else {
+                unreachable!();
+            };
+            if let Some(point) = self.keep(instr)? {
+                return Ok(self.close(point));
+            }
+        }
+        unreachable!()
+    }
+
+    /// Performs one instruction. At a seal it answers the point.
+    fn keep(&mut self, instr: &Instr) -> Result<Option<u16>, NoMemory>
+        requires { CanKeep instr.now self.old }
+        ensures { IfOk result (λ point. (low : List Tagged) (c : MachineCall) (hand : List Tagged) →
+            HasCall self.old low c hand →
+            DidKeep instr.now low c hand (save_act (Some instr.now) c hand) point self.new) }
+    {
+        match instr {
+            Instr::TestSave(to) => {
+                self.active.place = *to as usize;
+                Ok(None)
+            }
+            Instr::Jump(to) => {
+                self.active.place = *to as usize;
+                Ok(None)
+            }
+            Instr::KeepSlot(n) => {
+                self.keep_slot(*n)?;
+                Ok(None)
+            }
+            Instr::KeepTop => {
+                self.keep_top()?;
+                Ok(None)
+            }
+            Instr::Seal(point) => Ok(Some(*point)),
+            _ => unreachable!(),
+        }
+    }
+
+    /// Moves a slot's value to the hand.
+    fn keep_slot(&mut self, n: u16) -> Result<(), NoMemory>
+        requires { CanKeep (instrs.KeepSlot n) self.old }
+        ensures { OnOk result ((low : List Tagged) (c : MachineCall) (hand : List Tagged) →
+            HasCall self.old low c hand →
+            DidKeep (instrs.KeepSlot n) low c hand (save_act (Some (instrs.KeepSlot n)) c hand) None self.new) }
+    {
+        let place = self.active.base + n as usize;
+        let value = replace(&mut self.stack[place], Value::Int(0));
+        self.hand.push(value)?;
+        self.active.place += 1;
+        Ok(())
+    }
+
+    /// Moves the topmost operand to the hand.
+    fn keep_top(&mut self) -> Result<(), NoMemory>
+        requires { CanKeep instrs.KeepTop self.old }
+        ensures { OnOk result ((low : List Tagged) (c : MachineCall) (hand : List Tagged) →
+            HasCall self.old low c hand →
+            DidKeep instrs.KeepTop low c hand (save_act (Some instrs.KeepTop) c hand) None self.new) }
+    {
+        let Some(value) = self.stack.pop() else {
+            unreachable!();
+        };
+        self.hand.push(value)?;
+        self.active.place += 1;
+        Ok(())
+    }
+
+    /// Closes the frame in hand at this point, and leaves the call. Takes no memory.
+    fn close(&mut self, point: u16) -> Frame
+        requires { self.old.active.base ≤ length self.old.stack.items }
+        ensures function { result.function ≡ self.old.active.function }
+        ensures point { result.point ≡ point }
+        ensures values { result.slots ≡ reverse self.old.hand.items }
+        ensures left { self.new.stack.items ≡ low_of self.old }
+        ensures empty { self.new.hand.items ≡ [] }
+    {
+        self.stack.truncate(self.active.base);
+        let mut values = replace(&mut self.hand, Vec::new(self.alloc));
+        values.reverse();
+        Frame {
+            function: self.active.function,
+            point,
+            slots: Values::from_vec(values),
+        }
+    }
+}
