@@ -1,5 +1,5 @@
 -- The calls that frames are restored to are charged what the frames are.
-use Rattle.std.proofs.Common.{◌≡◌, ◌∙◌, refl, sym, ap, subst, arith, ℕ, zero, suc, ◌+◌, ◌<◌, ◌≤◌, List, [], ◌∷◌, ◌++◌, inl, inr, length, map, Option, Some, None, true, false, append_assoc, append-nil}
+use Rattle.std.proofs.Common.{◌≡◌, ◌∙◌, refl, sym, ap, subst, arith, ℕ, zero, suc, ◌+◌, ◌<◌, ◌≤◌, List, [], ◌∷◌, ◌++◌, inr, length, map, Option, Some, None, true, false, append_assoc, append-nil}
 use Rattle.std.specs.Prelude.{slice_get, option_map, option_and_then, sum_by}
 use Rattle.std.proofs.lemmas.List.Sums.{sum_by-cons}
 use Rattle.lsl_value.specs.declared.tagged.Kind.{Kind}
@@ -18,7 +18,6 @@ use Rattle.lsl_code.specs.ModeRuns.{Beside, BackRun}
 use Rattle.lsl_code.specs.Modes.{repeat}
 use Rattle.lsl_code.specs.Restoring.{Restoring, restoring, awake_with, blank, BackAct, Moves, Reenters, Wakes, NoBack, back_act, back_after, back_step, begins_restoring}
 use Rattle.lsl_code.specs.Woven.{is_kept, is_woven}
-use Rattle.lsl_code.proofs.ModeRuns.{one_restoring}
 use Rattle.lsl_code.proofs.Repeating.{first_then, both_then, one_end}
 use Rattle.lsl_code.proofs.Sames.{both_true, eq_is}
 use Rattle.lsl_code.proofs.Told.{all_at}
@@ -27,9 +26,9 @@ use Rattle.lsl_weave.proofs.BackOn.{back_goes_on, back_not_over}
 use Rattle.lsl_weave.proofs.Chains.{WaitFrames, wait_frames, frame_body, handler_body}
 use Rattle.lsl_weave.proofs.Reentered.{after_end}
 use Rattle.lsl_weave.proofs.SavingOn.{AreKept, kept_ok}
-use Rattle.lsl_machine.proofs.Carried.{AtMostOnce, puts_of}
-use Rattle.lsl_machine.proofs.Counted.{idle, idle_all}
-use Rattle.lsl_machine.proofs.PutCharges.{IsPutting, PutsOn, HasPut, has_put}
+use Rattle.lsl_machine.proofs.Carried.{puts_of}
+use Rattle.lsl_machine.proofs.Counted.{idle_all}
+use Rattle.lsl_machine.proofs.PutCharges.{PutsOn, HasPut, has_put}
 use Rattle.lsl_machine.proofs.Reaching.{alone}
 use Rattle.lsl_machine.proofs.Totals.{base_more}
 use Rattle.lsl_machine.proofs.Vacating.{slot_there}

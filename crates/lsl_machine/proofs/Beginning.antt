@@ -15,6 +15,7 @@ use Rattle.lsl_code.specs.Laws.{with_answers}
 use Rattle.lsl_code.specs.Machine.{Faulted, call_at}
 use Rattle.lsl_code.specs.Runs.{Over, run}
 use Rattle.lsl_code.proofs.UnitTold.{woven_tells}
+use Rattle.lsl_code.specs.Standing.{IsChain}
 use Rattle.lsl_machine.specs.declared.running.Activation.{Activation}
 use Rattle.lsl_machine.specs.declared.running.Running.{Running}
 use Rattle.lsl_machine.specs.Laid.{machine_of}
@@ -31,7 +32,7 @@ use Rattle.lsl_machine.specs.Laid.{state_of, IsLaid}
 use Rattle.lsl_machine.proofs.Parting.{body_at}
 use Rattle.std.proofs.lemmas.Option.{slice_get_within}
 use Rattle.std.proofs.lemmas.List.{length-map}
-use Rattle.lsl_machine.specs.State.{State, AreArguments, CanRun, IsKinded, IsOf, bodies_of, kept_with}
+use Rattle.lsl_machine.specs.State.{State, AreArguments, CanRun, IsKinded, IsChained, IsOf, bodies_of, kept_with}
 use Rattle.lsl_code.specs.Machine.{Machine}
 use Rattle.std.specs.Prelude.{vec_capacity}
 use Rattle.lsl_machine.specs.Rooms.{IsReserved}
@@ -81,6 +82,7 @@ pub record HasBegun (unit : Code) (f : ℕ) (kept : Kept) (args : List Value) (s
   pub ready : CanRun s.standing
   pub behind : ticks_passed s.standing ≡ 0
   pub of : IsOf unit s
+  pub chained : IsChained (bodies_of unit) f s
 
 pub has_begun : (unit : Code) (f limit : ℕ) (globals args : List Value) (body : Body) (r : Running) (s : Standing)
     → slice_get (bodies_of unit) f ≡ Some body
@@ -107,7 +109,9 @@ has_begun unit f limit globals args body r standing.Ready there kg ka h entered 
             (woven_tells unit.globals unit.states bodies unit.woven) f body kept args [] there kg ka),
         subst (λ (m : Machine). IsReserved bodies (vec_capacity r.stack) m.calls) (sym view)
             (entered_reserved bodies r kept f slots [] h entered, tt),
+        (f, subst (λ (m : Machine). IsChain bodies f m.calls) (sym view) refl),
       );
+      chained = subst (λ (m : Machine). IsChain bodies f m.calls) (sym view) refl;
     }
   where
     within_is : (n limit : ℕ) → n ≤ limit → nat_le n limit ≡ true
@@ -123,7 +127,8 @@ has_begun unit f limit globals args body r standing.Full there kg ka h entered =
           ∙ ap (λ b. cond b (run bodies t (begun f kept slots a)) (Over (Faulted StackHeap))) no_room;
       ready = tt;
       behind = refl;
-      of = (tt, tt);
+      of = (tt, tt, (f, tt));
+      chained = tt;
     }
   where
     over_is : (n limit : ℕ) → limit < n → nat_le n limit ≡ false

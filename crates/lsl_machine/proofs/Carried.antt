@@ -1,15 +1,11 @@
 -- How often a way keeps each slot, or puts a value to it.
-use Rattle.std.proofs.Common.{◌≡◌, ◌∙◌, refl, sym, ap, arith, ℕ, zero, suc, ◌+◌, ◌<◌, ◌≤◌, true, List, [], ◌∷◌, length, Option, Some, None, inl, inr, slice_set}
+use Rattle.std.proofs.Common.{◌≡◌, refl, arith, ℕ, zero, suc, ◌<◌, ◌≤◌, List, [], ◌∷◌, length, Some, inl, inr}
 use Rattle.std.specs.Prelude.{slice_get}
-use Rattle.std.proofs.lemmas.Option.{none-some, some_pair_parts}
 use Rattle.std.proofs.lemmas.Bool.{cases_eq}
-use Rattle.std.proofs.lemmas.List.{length-set}
 use Rattle.lsl_value.specs.declared.tagged.Value.{Value}
-use Rattle.lsl_value.specs.Values.{charge_of}
-use Rattle.lsl_running.specs.Charging.{charges_of}
-use Rattle.lsl_code.specs.SaveWays.{Keep, OfSlot, OfTop, with_one, kept, keep_count}
-use Rattle.lsl_code.specs.BackWays.{Put, ToSlot, ToTop, put_back, put_count}
-use Rattle.lsl_machine.proofs.Counted.{one_more, due, idle, once_more, counted_here, counted_there, due_more, due_none, due_all, idle_more, idle_none, idle_all}
+use Rattle.lsl_code.specs.SaveWays.{Keep, keep_count}
+use Rattle.lsl_code.specs.BackWays.{Put, put_count}
+use Rattle.lsl_machine.proofs.Counted.{once_more, counted_here, counted_there}
 
 abbrev pub keeps_of : List Keep → ℕ → ℕ
 keeps_of order n = keep_count n order
@@ -34,5 +30,7 @@ none_left c m n once lt =
 
 pub fewer : (c : ℕ → ℕ) (m n : ℕ) → AtMostOnce (once_more c m) n → AtMostOnce c n
 fewer c m n once k lt =
-    elim (cases_eq k m) [ inl e ↦ (let a = once k lt in let b = counted_here c m k e in omega arith)
-    | inr e ↦ (let a = once k lt in let b = counted_there c m k e in omega arith) ]
+    elim (cases_eq k m) [
+      | inl e ↦ (let a = once k lt in let b = counted_here c m k e in omega arith)
+      | inr e ↦ (let a = once k lt in let b = counted_there c m k e in omega arith)
+    ]

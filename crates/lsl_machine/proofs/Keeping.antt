@@ -1,7 +1,6 @@
 -- A call stays on the way of its function's code to a frame.
-use Rattle.std.proofs.Common.{◌≡◌, ◌≢◌, ◌∙◌, refl, sym, ap, subst, arith, ℕ, zero, suc, ◌+◌, ◌<◌, ◌≤◌, true, List, [], ◌∷◌, ◌++◌, length, reverse, Option, Some, None, inl, inr, slice_set}
+use Rattle.std.proofs.Common.{◌≡◌, ◌≢◌, ◌∙◌, refl, sym, ap, subst, arith, ℕ, zero, suc, ◌+◌, ◌<◌, ◌≤◌, true, List, [], ◌∷◌, ◌++◌, length, Option, Some, None, slice_set}
 use Rattle.std.specs.Prelude.{slice_get, option_map}
-use Rattle.std.proofs.lemmas.Bool.{cases_eq}
 use Rattle.std.proofs.lemmas.Option.{none-some}
 use Rattle.lsl_value.specs.declared.tagged.Kind.{Kind}
 use Rattle.lsl_value.specs.declared.tagged.Value.{Value}
@@ -15,19 +14,19 @@ use Rattle.lsl_code.specs.Bodies.{Body, instruction_in}
 use Rattle.lsl_code.specs.Kinds.{kinds_of}
 use Rattle.lsl_code.specs.Machine.{MachineCall, call_at}
 use Rattle.lsl_code.specs.Modes.{repeat, at_place}
-use Rattle.lsl_code.specs.Saving.{SaveAct, Keeps, Seals, NoSave, saving, keeps_slot, keeps_top, frame_of, save_act, save_after, save_step}
+use Rattle.lsl_code.specs.Saving.{Keeps, saving, keeps_slot, keeps_top, frame_of, save_act, save_after, save_step}
 use Rattle.lsl_code.specs.Standing.{point_instr}
 use Rattle.lsl_code.proofs.Repeating.{then_one}
 use Rattle.lsl_code.proofs.Sames.{both_true, eq_is}
 use Rattle.lsl_code.proofs.Told.{all_at}
-use Rattle.lsl_code.specs.SaveWays.{Keep, OfSlot, OfTop, SaveWay, keeping, onward, keeps_at, keeps, kept, keep_count, is_kept_once, is_save_way, saves_point, saves_at}
+use Rattle.lsl_code.specs.SaveWays.{Keep, OfSlot, OfTop, SaveWay, keeping, keeps_at, keeps, kept, keep_count, is_kept_once, is_save_way, saves_point, saves_at}
 use Rattle.lsl_code.specs.Woven.{is_kept}
 use Rattle.lsl_weave.specs.WovenCalls.{IsAt}
 use Rattle.lsl_weave.proofs.SavingOn.{OnSaveWay, SaveGoesOn, onward_is, save_begins, save_goes_on, save_not_over}
 use Rattle.lsl_machine.specs.declared.saving.Saver.{Saver}
 use Rattle.lsl_machine.specs.CallsSaved.{HasCall, IsSaveAct, CanKeep, DidKeep, IsFrameOf}
 use Rattle.lsl_machine.proofs.Carried.{AtMostOnce, keeps_of, none_left, fewer}
-use Rattle.lsl_machine.proofs.Counted.{one_more, due, once_more, counted_here, counted_there, due_more, due_none, due_all}
+use Rattle.lsl_machine.proofs.Counted.{one_more, due, counted_here, counted_there, due_more, due_none, due_all}
 
 abbrev pub with_slots : MachineCall → List Value → MachineCall
 with_slots c slots = call_at c.function c.place slots c.operands
@@ -195,7 +194,7 @@ module _ (bodies : List Body) (w : Body) (start : MachineCall) (low : List Value
     able_by _ e g = absurd (none-some x.on.way e)
 
     -- which finds what it needs
-    pub can_keep : s.active.place + 1 < 18446744073709551616 → CanKeep i s
+    pub can_keep : s.active.place + 1 ≤ 4294967296 → CanKeep i s
     can_keep short = (low, with_slots x.c x.slots, x.hand, x.lies, able_by i way_here goes, short)
 
     one_step : (next : MachineCall) (more : List Value)

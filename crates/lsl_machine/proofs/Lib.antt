@@ -16,6 +16,11 @@ pub mod Sparing
 pub mod Reserving
 pub mod Counted
 pub mod Keeping
+pub mod OneFramed
+pub mod Moved
+pub mod Returning
+pub mod Sacking
+pub mod Chained
 pub mod BackCharged
 pub mod Waking
 pub mod Putting

@@ -1,5 +1,5 @@
 -- On its way restoring keeps what the frame in hand and the call are charged together.
-use Rattle.std.proofs.Common.{◌≡◌, ◌∙◌, refl, sym, ap, subst, arith, ℕ, suc, ◌+◌, ◌<◌, List, [], ◌∷◌, ◌++◌, ◌⊎◌, inl, inr, ⊎_elim, length, Option, Some, None, Bool, true, false, slice_set}
+use Rattle.std.proofs.Common.{◌≡◌, ◌∙◌, refl, sym, ap, subst, arith, ℕ, suc, ◌+◌, List, [], ◌∷◌, ◌++◌, ◌⊎◌, inl, inr, ⊎_elim, length, Option, Some, None, Bool, true, false}
 use Rattle.std.specs.Prelude.{slice_get, option_map}
 use Rattle.std.proofs.lemmas.List.{length-set}
 use Rattle.std.proofs.lemmas.Option.{none-some}
@@ -11,12 +11,12 @@ use Rattle.lsl_code.specs.declared.instructions.Instr.TheVariants.{Jump, TestBac
 use Rattle.lsl_code.specs.Bodies.{Body}
 use Rattle.lsl_code.specs.Machine.{MachineCall}
 use Rattle.lsl_code.specs.Modes.{at_place}
-use Rattle.lsl_code.specs.Restoring.{BackAct, Moves, Reenters, Wakes, NoBack, unpacked, takes, where_slot, with_slot, back_act}
+use Rattle.lsl_code.specs.Restoring.{BackAct, Moves, Reenters, Wakes, NoBack, takes, where_slot, with_slot, back_act}
 use Rattle.lsl_code.specs.BackWays.{Put, ToSlot, ToTop, BackWay, putting, way_end, backs_at, backs}
 use Rattle.lsl_weave.proofs.Restored.{unpacked_end}
 use Rattle.lsl_weave.proofs.SavingOn.{onward_is}
 use Rattle.lsl_machine.proofs.Carried.{AtMostOnce, puts_of, none_left, fewer, has_place}
-use Rattle.lsl_machine.proofs.Counted.{one_more, idle, once_more, idle_more, idle_none}
+use Rattle.lsl_machine.proofs.Counted.{one_more, idle, idle_more, idle_none}
 
 -- at most n instructions are left to put back these values, and these and the call's are charged so
 pub record IsPutting (w : Body) (n : ℕ) (opened : Bool) (p : ℕ) (c : MachineCall) (values : List Value)

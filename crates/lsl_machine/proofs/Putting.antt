@@ -1,21 +1,21 @@
 -- Calls that are restored, from instruction to instruction.
-use Rattle.std.proofs.Common.{◌≡◌, ◌∙◌, refl, sym, ap, subst, arith, ℕ, zero, suc, ◌+◌, ◌-◌, ◌<◌, ◌≤◌, true, false, List, [], ◌∷◌, ◌++◌, length, map, min, reverse, length-append, Option, Some, None, slice_set, vec_capacity}
+use Rattle.std.proofs.Common.{◌≡◌, ◌∙◌, refl, sym, ap, subst, arith, ℕ, zero, suc, ◌+◌, ◌-◌, ◌<◌, ◌≤◌, false, List, [], ◌∷◌, ◌++◌, length, map, reverse, length-append, Option, Some, None, slice_set, vec_capacity}
 use Rattle.std.specs.Prelude.{slice_get}
-use Rattle.std.proofs.lemmas.List.{append-nil, map-append, reverse-reverse, set-append_left, set-append_right, length-set}
+use Rattle.std.proofs.lemmas.List.{append-nil, reverse-reverse, set-append_left, set-append_right, length-set}
 use Rattle.lsl_value.specs.declared.tagged.Value.{Value}
 use Rattle.lsl_running.specs.Values.{empty_of}
 use Rattle.lsl_code.specs.declared.frames.Frame.{Frame}
 use Rattle.lsl_code.specs.declared.instructions.Instr.TheVariants.{Unpack, BackSlot, BackTop}
 use Rattle.lsl_code.specs.Bodies.{Body}
-use Rattle.lsl_code.specs.Machine.{MachineCall, base, call_at}
+use Rattle.lsl_code.specs.Machine.{MachineCall}
 use Rattle.lsl_code.specs.Modes.{at_place}
 use Rattle.lsl_code.specs.Restoring.{Restoring, Moves, blank, takes, unpacked, where_slot, with_slot, back_after}
 use Rattle.lsl_machine.specs.declared.restoring.Restorer.{Restorer}
 use Rattle.lsl_machine.specs.declared.running.Activation.{Activation}
-use Rattle.lsl_machine.specs.Laid.{flat, activation, activations}
-use Rattle.lsl_machine.specs.Rooms.{IsReserved, depth_of, most_of}
-use Rattle.lsl_machine.specs.CallsRestored.{Backs, CameTo, CanBack, IsRestoring, capped, next_of}
-use Rattle.lsl_machine.proofs.Laying.{append_last, last_same, reverse-push}
+use Rattle.lsl_machine.specs.Laid.{flat}
+use Rattle.lsl_machine.specs.Rooms.{IsReserved, most_of}
+use Rattle.lsl_machine.specs.CallsRestored.{Backs, CameTo, CanBack, IsRestoring, next_of}
+use Rattle.lsl_machine.proofs.Laying.{append_last, reverse-push}
 use Rattle.lsl_machine.proofs.Reserving.{reserved_more}
 use Rattle.lsl_machine.proofs.Vacating.{slot_there}
 use Rattle.lsl_weave.proofs.Restored.{unpacked_end}

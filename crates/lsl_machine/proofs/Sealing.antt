@@ -1,21 +1,20 @@
 -- The call that a saver has in hand.
-use Rattle.std.proofs.Common.{◌≡◌, ◌∙◌, refl, sym, ap, subst, arith, ℕ, zero, suc, ◌+◌, ◌-◌, ◌<◌, ◌≤◌, List, [], ◌∷◌, ◌++◌, length, reverse, take, drop, length-append, Option, Some, None, true}
+use Rattle.std.proofs.Common.{◌≡◌, ◌∙◌, sym, ap, subst, arith, ℕ, suc, ◌+◌, ◌<◌, ◌≤◌, List, ◌++◌, length, reverse, take, length-append, Some, true}
 use Rattle.std.specs.Prelude.{slice_get, nat_lt}
 use Rattle.std.proofs.lemmas.Option.{slice_get_within}
 use Rattle.std.proofs.lemmas.Bool.Decides.{nat_tests}
-use Rattle.std.proofs.lemmas.List.{append-nil, append_assoc, reverse-reverse}
+use Rattle.std.proofs.lemmas.List.{append_assoc, reverse-reverse}
 use Rattle.lsl_value.specs.declared.tagged.Value.{Value}
 use Rattle.lsl_code.specs.declared.frames.Frame.{Frame}
 use Rattle.lsl_code.specs.declared.instructions.Instr.{Instr}
 use Rattle.lsl_code.specs.declared.woven_units.Woven.{Woven}
 use Rattle.lsl_code.specs.Bodies.{Body}
-use Rattle.lsl_code.specs.Machine.{MachineCall, call_at}
+use Rattle.lsl_code.specs.Machine.{MachineCall}
 use Rattle.lsl_code.specs.Saving.{frame_of, save_act}
 use Rattle.lsl_code.specs.Weaves.{bodies_of}
 use Rattle.lsl_code.proofs.Sames.{both_true}
 use Rattle.lsl_weave.proofs.SavingOn.{function_ok, kept_ok}
 use Rattle.lsl_machine.specs.declared.saving.Saver.{Saver}
-use Rattle.lsl_machine.specs.Laid.{call_in}
 use Rattle.lsl_machine.specs.CallsSaved.{HasCall, CanSeal, DidKeep, IsFrameOf, call_of, low_of}
 use Rattle.lsl_machine.proofs.Keeping.{IsSealing, with_slots, begins_sealing, is_sealed}
 use Rattle.lsl_machine.proofs.Leaving.{take_front}
@@ -59,8 +58,9 @@ is_less m n e = grind (arith, nat_tests)
 pub place_short : (unit : Woven) (f : ℕ) (w : Body) (place : ℕ) (i : Instr) → slice_get (bodies_of unit) f ≡ Some w
     → slice_get w.code place ≡ Some i → place + 1 ≤ 4294967296
 place_short unit f w place i found here =
-    let both = both_true _ _ (function_ok unit.globals unit.states (bodies_of unit) unit.woven f w found) in
-    let short : length w.code < 4294967296 = is_less (length w.code) 4294967296 (both_true _ _ both.0).1 in
+    let short : length w.code < 4294967296 = is_less (length w.code) 4294967296
+    (both_true _ _ (both_true _ _
+    (function_ok unit.globals unit.states (bodies_of unit) unit.woven f w found)).0).1 in
     let within = slice_get_within w.code place i here in
     omega arith
 

@@ -32,7 +32,7 @@ left_passes (c ∷ outer) g (Some v) n e =
       go true e = absurd cc
       go false e = absurd cc
 
-passes_only : (d : Did) (g : Kept) (f place : ℕ) (sl ops : List Value) (outer : List MachineCall) (n : Machine)
+pub passes_only : (d : Did) (g : Kept) (f place : ℕ) (sl ops : List Value) (outer : List MachineCall) (n : Machine)
     → after d g [] f place sl ops outer ≡ Pauses (Passing n) → d ≡ Passes
 passes_only Passes g f place sl ops outer n e = refl
 passes_only (Leaves given) g f place sl ops outer n e = absurd (left_passes outer g given n e)

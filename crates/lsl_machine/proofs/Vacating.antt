@@ -1,7 +1,7 @@
 -- A value moves from the stack to the hand.
 use Rattle.std.proofs.Common.{◌≡◌, ◌∙◌, refl, sym, ap, subst, arith, ℕ, zero, suc, ◌+◌, ◌-◌, ◌<◌, List, [], ◌∷◌, ◌++◌, length, reverse, length-append, Option, Some, None, slice_set, get_or}
 use Rattle.std.specs.Prelude.{slice_get}
-use Rattle.std.proofs.lemmas.List.{append-nil, get_or_append_left, get_or-append-add, set-append_left, set-append_right, length-set}
+use Rattle.std.proofs.lemmas.List.{get_or_append_left, get_or-append-add, set-append_left, set-append_right, length-set}
 use Rattle.lsl_value.specs.declared.tagged.Value.{Value}
 use Rattle.lsl_running.specs.Values.{absent}
 use Rattle.lsl_code.specs.declared.instructions.Instr.TheVariants.{KeepSlot, KeepTop}

@@ -1,5 +1,5 @@
 -- Calls that are restored: entered again, charged, and gone on from.
-use Rattle.std.proofs.Common.{◌≡◌, ◌∙◌, refl, sym, ap, subst, arith, ℕ, ◌+◌, ◌<◌, ◌≤◌, true, false, List, [], ◌∷◌, ◌++◌, drop, length, map, min, reverse, Option, Some, None, option_map, vec_capacity}
+use Rattle.std.proofs.Common.{◌≡◌, ◌∙◌, refl, sym, ap, subst, arith, ℕ, ◌+◌, ◌≤◌, true, false, List, [], ◌∷◌, ◌++◌, drop, length, map, min, Some, option_map, vec_capacity}
 use Rattle.std.specs.Prelude.{slice_get}
 use Rattle.std.proofs.lemmas.List.{append-nil, map-append}
 use Rattle.lsl_value.specs.declared.tagged.Value.{Value}
@@ -10,14 +10,14 @@ use Rattle.lsl_code.specs.declared.frames.Frame.{Frame}
 use Rattle.lsl_code.specs.declared.instructions.Instr.TheVariants.{Again, Awake}
 use Rattle.lsl_code.specs.Bodies.{Body, instruction_in, instruction_at}
 use Rattle.lsl_code.specs.Machine.{MachineCall, base, used_in}
-use Rattle.lsl_code.specs.Modes.{at_place, landing}
+use Rattle.lsl_code.specs.Modes.{landing}
 use Rattle.lsl_code.specs.Restoring.{restoring, blank, lands}
 use Rattle.lsl_machine.specs.declared.restoring.Restorer.{Restorer}
 use Rattle.lsl_machine.specs.declared.running.Activation.{Activation}
 use Rattle.lsl_machine.specs.declared.running.Running.{Running}
 use Rattle.lsl_machine.specs.Laid.{flat, activation, activations, Lays}
-use Rattle.lsl_machine.specs.Rooms.{IsReserved, depth_of, most_of}
-use Rattle.lsl_machine.specs.CallsRestored.{Backs, CameTo, CanBack, IsRestoring, capped, next_of}
+use Rattle.lsl_machine.specs.Rooms.{most_of}
+use Rattle.lsl_machine.specs.CallsRestored.{Backs, CameTo, IsRestoring, capped}
 use Rattle.lsl_machine.proofs.Putting.{put_place}
 use Rattle.lsl_machine.proofs.Reserving.{flat_depth, reserved_more}
 use Rattle.lsl_machine.proofs.Totals.{base_more, above_charge}
@@ -25,8 +25,12 @@ use Rattle.lsl_machine.proofs.Totals.{base_more, above_charge}
 -- the call where it lands
 pub landed : (bodies : List Body) (r t : Restorer) (c : MachineCall) (outer : List MachineCall) (point : ℕ)
     (hand : List Value) (sack : List Frame) → IsRestoring bodies r c outer point hand sack
-    → t ≡ record r { active = record r.active { place = landing
-    (instruction_at bodies r.active.function (r.active.place + 1)) (r.active.place + 1) } }
+    → t ≡ record r {
+      active = record r.active {
+        place = landing
+            (instruction_at bodies r.active.function (r.active.place + 1)) (r.active.place + 1);
+      };
+    }
     → IsRestoring bodies t (lands (slice_get bodies c.function) c) outer point hand sack
 landed bodies r t c outer point hand sack h is =
     let place : landing (instruction_at bodies r.active.function (r.active.place + 1)) (r.active.place + 1)
@@ -38,8 +42,12 @@ landed bodies r t c outer point hand sack h is =
     (is ∙ ap {A = ℕ} {B = Restorer} (λ p. record r { active = record r.active { place = p } }) place)
 
 pub awoken : (bodies : List Body) (r t : Restorer)
-    → t ≡ record r { active = record r.active { place = landing
-    (instruction_at bodies r.active.function (r.active.place + 1)) (r.active.place + 1) } }
+    → t ≡ record r {
+      active = record r.active {
+        place = landing
+            (instruction_at bodies r.active.function (r.active.place + 1)) (r.active.place + 1);
+      };
+    }
     → Backs bodies Awake r true t
 awoken bodies r t is c outer point hand sack h = (refl, landed bodies r t c outer point hand sack h is)
 
@@ -58,8 +66,12 @@ charge_is bodies r c outer point hand sack h held charge a b =
 
 -- a function is entered again
 pub entered_again : (bodies : List Body) (old r t : Restorer) (callee charge : ℕ) (w : Body)
-    → r ≡ record old { active = record old.active { place = landing
-    (instruction_at bodies old.active.function (old.active.place + 1)) (old.active.place + 1) } }
+    → r ≡ record old {
+      active = record old.active {
+        place = landing
+            (instruction_at bodies old.active.function (old.active.place + 1)) (old.active.place + 1);
+      };
+    }
     → slice_get bodies callee ≡ Some w
     → ((c : MachineCall) (outer : List MachineCall) (point : ℕ) (hand : List Value) (sack : List Frame)
     → IsRestoring bodies r c outer point hand sack → charge ≡ min (base (c ∷ outer)) 18446744073709551615)
@@ -74,7 +86,7 @@ pub entered_again : (bodies : List Body) (old r t : Restorer) (callee charge : �
       charge = charge;
     } → t.point ≡ r.point → t.hand ≡ r.hand → t.frames ≡ r.frames → Backs bodies (Again callee) old false t
 entered_again bodies old r t callee charge w land found charged stack room grows callers active point hand'
-  frames c outer p hand sack h =
+    frames c outer p hand sack h =
     let c' = lands (slice_get bodies c.function) c in
     let here = landed bodies old r c outer p hand sack h land in
     let total = charged c' outer p hand sack here in
@@ -155,7 +167,7 @@ pub finished : (bodies : List Body) (s : Restorer) (r : Running) (c : MachineCal
     → r.stack ≡ s.stack → r.callers ≡ s.callers → r.active ≡ record s.active { charge = charge }
     → r.globals.items ≡ kept.globals → r.global_charge ≡ globals → r.limit ≡ kept.limit → Lays r kept c outer
 finished bodies s r c outer point hand sack kept charge globals h small within total all stack callers active gl gc
-  limit =
+    limit =
     let used : base (c ∷ outer) + charges_of kept.globals ≤ kept.limit = within in
     let top : charge ≡ base (c ∷ outer) = omega arith in
     let more = base_more c outer in

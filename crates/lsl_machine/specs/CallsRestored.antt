@@ -1,14 +1,17 @@
 -- How the calls that are restored lie on the stack, and what an instruction makes of them.
-use Rattle.std.specs.Prelude.{◌≡◌, ℕ, ◌+◌, ◌<◌, ◌^◌, Bool, List, [], ◌∷◌, ◌++◌, Option, Some, None, length, map, min, reverse, slice_get, vec_capacity}
+use Rattle.std.specs.Prelude.{◌≡◌, ℕ, ◌+◌, ◌≤◌, Bool, List, [], ◌∷◌, ◌++◌, Option, Some, None, length, map, min, reverse, slice_get, vec_capacity}
 use Rattle.lsl_value.specs.declared.tagged.Value.{Value}
+use Rattle.lsl_running.specs.declared.kept.Kept.{Kept}
 use Rattle.lsl_code.specs.declared.frames.Frame.{Frame}
 use Rattle.lsl_code.specs.declared.instructions.Instr.{Instr}
 use Rattle.lsl_code.specs.Bodies.{Body}
 use Rattle.lsl_code.specs.Machine.{MachineCall, base}
+use Rattle.lsl_code.specs.ModeRuns.{Beside, BackRun}
 use Rattle.lsl_code.specs.Restoring.{Restoring, back_act, back_after}
 use Rattle.lsl_machine.specs.declared.restoring.Restorer.{Restorer}
 use Rattle.lsl_machine.specs.declared.running.Activation.{Activation}
-use Rattle.lsl_machine.specs.Laid.{flat, activations}
+use Rattle.lsl_machine.specs.declared.running.Running.{Running}
+use Rattle.lsl_machine.specs.Laid.{Held, flat, activations, machine_of}
 use Rattle.lsl_machine.specs.Rooms.{IsReserved}
 
 -- a call as it is kept, whose charge is the greatest number where it is more
@@ -52,7 +55,7 @@ abbrev pub CanBack : List Body → Instr → Restorer → Type 0
 CanBack bodies i r =
     (c : MachineCall) × (outer : List MachineCall) × (point : ℕ) × (hand : List Value) × (sack : List Frame)
     × (s : Restoring) × IsRestoring bodies r c outer point hand sack
-    × (next_of bodies i c outer point hand sack ≡ Some s) × (r.active.place + 1 + r.point < 2 ^ 64)
+    × (next_of bodies i c outer point hand sack ≡ Some s) × (r.active.place + 1 ≤ 4294967296)
 
 -- it did what it is to do
 abbrev pub Backs : List Body → Instr → Restorer → Bool → Restorer → Type 0
@@ -60,3 +63,14 @@ Backs bodies i old awake new =
     (c : MachineCall) (outer : List MachineCall) (point : ℕ) (hand : List Value) (sack : List Frame)
     → IsRestoring bodies old c outer point hand sack
     → CameTo bodies (next_of bodies i c outer point hand sack) awake new
+
+-- what stands beside frames: no answer is left
+abbrev pub beside : Kept → Beside
+beside kept = record { kept = kept; answers = [] }
+
+-- this is the machine that restoring these frames ends with, after n instructions
+pub record IsRestored (bodies : List Body) (handler : ℕ) (frames : List Frame) (kept : Kept) (r : Running)
+    (n : ℕ) : Type 0 where
+  pub held : Held r
+  pub ran : BackRun bodies handler frames (beside kept) (machine_of r) n
+  pub reserved : IsReserved bodies (vec_capacity r.stack) (machine_of r).calls

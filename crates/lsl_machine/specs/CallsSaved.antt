@@ -1,15 +1,16 @@
 -- How a call that is saved lies on the stack, and what saving it gives.
-use Rattle.std.specs.Prelude.{◌≡◌, ℕ, ◌+◌, ◌<◌, ◌^◌, List, [], ◌∷◌, ◌++◌, Option, Some, None, length, reverse, take, slice_set}
+use Rattle.std.specs.Prelude.{◌≡◌, ℕ, ◌+◌, ◌≤◌, List, [], ◌∷◌, ◌++◌, Option, Some, None, length, reverse, take, slice_set, sum_by}
 use Rattle.lsl_value.specs.declared.tagged.Value.{Value}
-use Rattle.lsl_running.specs.Charging.{charges_of}
+use Rattle.lsl_running.specs.Charging.{charges_of, script_charge}
 use Rattle.lsl_running.specs.Values.{absent}
 use Rattle.lsl_code.specs.declared.frames.Frame.{Frame}
 use Rattle.lsl_code.specs.declared.instructions.Instr.{Instr}
 use Rattle.lsl_code.specs.declared.instructions.Instr.TheVariants.{KeepSlot}
 use Rattle.lsl_code.specs.Bodies.{Body}
-use Rattle.lsl_code.specs.Machine.{MachineCall, call_at}
+use Rattle.lsl_code.specs.Frames.{frame_charge}
+use Rattle.lsl_code.specs.Machine.{MachineCall, base, call_at}
 use Rattle.lsl_code.specs.Modes.{repeat}
-use Rattle.lsl_code.specs.Saving.{SaveAct, Keeps, Seals, NoSave, saving, save_act, save_step}
+use Rattle.lsl_code.specs.Saving.{SaveAct, Keeps, Seals, NoSave, saving, save_act, save_step, begins_saving}
 use Rattle.lsl_weave.specs.WovenCalls.{IsAt}
 use Rattle.lsl_machine.specs.declared.saving.Saver.{Saver}
 use Rattle.lsl_machine.specs.Laid.{call_in}
@@ -38,7 +39,7 @@ IsSaveAct NoSave = ⊥
 abbrev pub CanKeep : Instr → Saver → Type 0
 CanKeep i s =
     (low : List Value) × (c : MachineCall) × (hand : List Value) × HasCall s low c hand
-    × IsSaveAct (save_act (Some i) c hand) × (s.active.place + 1 < 2 ^ 64)
+    × IsSaveAct (save_act (Some i) c hand) × (s.active.place + 1 ≤ 4294967296)
 
 -- a slot that was kept is empty
 abbrev pub vacated : Instr → MachineCall → MachineCall
@@ -65,3 +66,9 @@ pub record IsFrameOf (bodies : List Body) (c : MachineCall) (frame : Frame) : Ty
       × ((outer : List MachineCall) (sack : List Frame)
       → repeat (save_step bodies) n (saving (c ∷ outer) [] sack) ≡ Some (saving outer [] (sack ++ frame ∷ [])))
   pub charge : charges_of frame.slots ≡ charges_of c.slots + charges_of c.operands
+
+-- saving these calls ends with these frames, and they are charged so
+pub record AreSaved (bodies : List Body) (calls : List MachineCall) (frames : List Frame) : Type 0 where
+  pub ran : (n : ℕ)
+      × (repeat (save_step bodies) n (begins_saving calls) ≡ Some (saving [] [] frames))
+  pub charge : base calls ≡ script_charge + sum_by frame_charge frames

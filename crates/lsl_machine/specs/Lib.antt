@@ -4,6 +4,7 @@ pub mod Entry
 pub mod Futures
 pub mod Laid
 pub mod Memory
+pub mod Parking
 pub mod Reservations
 pub mod Rooms
 pub mod State

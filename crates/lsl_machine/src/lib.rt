@@ -2,7 +2,7 @@
 //! definition comes to, and looks at nothing but the unit.
 #![tactic(auto)]
 
-ghost use Rattle.std.specs.Prelude.{◌≡◌, ◌≢◌, ◌<◌, ◌≤◌, ◌∷◌, ℕ, List, length, slice_get, IfOk};
+ghost use Rattle.std.specs.Prelude.{◌≡◌, ◌≢◌, ◌<◌, ◌≤◌, ◌∷◌, ◌-◌, ℕ, List, length, slice_get, IfOk, OnErr};
 ghost use Rattle.lsl_value.specs.declared.tagged.Value.{Value as Tagged};
 ghost use Rattle.lsl_running.specs.Charging.{default_limit};
 ghost use Rattle.lsl_running.specs.declared.host.Reply.{Reply};
@@ -12,10 +12,17 @@ ghost use Rattle.lsl_code.specs.Kinds.{kinds_of};
 ghost use Rattle.lsl_code.specs.Wholes.{run_of, whole_of_bodies};
 ghost use Rattle.lsl_code.specs.declared.woven_units.Woven.{Woven as Code};
 ghost use Rattle.lsl_machine.specs.Futures.{halt_from, whole_from, ticks_passed, GoesOn, IsCut, IsAsked, RunsOn, StandsCut};
+ghost use Rattle.lsl_code.specs.Frames.{AreValid, frames_of, points_of};
+ghost use Rattle.lsl_code.specs.Machine.{Machine as Restored, MachineCall};
+ghost use Rattle.lsl_code.specs.ModeRuns.{BackRun, SaveRun};
+ghost use Rattle.lsl_code.specs.Standing.{HasFrames};
+ghost use Rattle.lsl_code.specs.Weaves.{Weaves, most_steps};
+ghost use Rattle.lsl_machine.specs.CallsRestored.{beside};
+ghost use Rattle.lsl_machine.specs.Parking.{HasParked};
 ghost use Rattle.lsl_machine.specs.Memory.{TakesNone};
-ghost use Rattle.lsl_machine.specs.State.{State, IsOf, CanRun, Wants, HasEnded, AreArguments, bodies_of, standing_of, kept_with};
+ghost use Rattle.lsl_machine.specs.State.{State, IsOf, IsChained, IsCharged, CanRun, Wants, HasEnded, AreArguments, bodies_of, standing_of, kept_with};
 
-use lsl_code::Woven;
+use lsl_code::{Sack, Woven};
 use lsl_text::NoMemory;
 use lsl_value::{Value, Values};
 use std::alloc::Global;
@@ -34,10 +41,18 @@ mod slots;
 mod standing;
 
 use crate::entering::enter;
+use crate::restoring::restore;
 use crate::running::Running;
 pub use crate::standing::Halt;
 use crate::standing::{Standing, standing_at};
 pub use lsl_running::{Call, Fault, Kept, Outcome, Reply};
+
+/// A machine that was saved: its calls as frames, and its globals with the limit.
+#[derive(Debug, Drop)]
+pub struct Parked {
+    pub sack: Sack,
+    pub kept: Kept,
+}
 
 /// A handler that runs. A contract sees the definition's machine, and where it stands.
 #[derive(Debug, Drop)]
@@ -80,6 +95,8 @@ impl Machine {
         ensures ready { IfOk result (λ begun. CanRun begun.standing) }
         ensures behind { IfOk result (λ begun. ticks_passed begun.standing ≡ 0) }
         ensures of { IfOk result (IsOf unit.now) }
+        ensures chained { IfOk result (IsChained (bodies_of unit.now) handler) }
+        ensures charged { IfOk result IsCharged }
     {
         let (running, standing) = enter(alloc, unit, handler, globals, limit, args)?;
         Ok(Machine { running, standing })
@@ -100,6 +117,9 @@ impl Machine {
         ensures listens { result ≢ Halt.Faulted Fault.TooManyListens }
         ensures standing { self.new.standing ≡ standing_of result }
         ensures of { IsOf unit.now self.new }
+        ensures chained { (handler : ℕ) → IsChained (bodies_of unit.now) handler self.old →
+            IsChained (bodies_of unit.now) handler self.new }
+        ensures charged { IsCharged self.new }
         // On integers alone it takes no memory, but to enter a function and to ask.
         ensures memory { TakesNone (bodies_of unit.now) self.old → result ≢ Halt.NoMemory }
     {
@@ -120,8 +140,77 @@ impl Machine {
         ensures ready { CanRun self.new.standing }
         ensures behind { ticks_passed self.new.standing ≡ 0 }
         ensures of { (unit : Code) → IsOf unit self.old → IsOf unit self.new }
+        ensures chained { (bodies : List Body) (handler : ℕ) → IsChained bodies handler self.old →
+            IsChained bodies handler self.new }
+        ensures charged { IsCharged self.new }
     {
         self.standing = self.running.receive(value);
+    }
+
+    /// What the unit's own code saves the machine as, which stands at a tick: its calls as frames, and its globals with
+    /// the limit. The values move.
+    pub fn save(self, unit: &Woven) -> Result<Parked, NoMemory>
+        requires stands { self.standing ≡ Standing.AtTick }
+        requires of { IsOf unit.now self }
+        ensures saved { IfOk result (λ parked.
+            SaveRun (bodies_of unit.now) self.machine parked.sack (beside parked.kept)) }
+        ensures kept { IfOk result (λ parked. parked.kept ≡ self.machine.kept) }
+        ensures kinds { IfOk result (λ parked. kinds_of parked.kept.globals ≡ kinds_of unit.now.globals) }
+        ensures valid { IfOk result (λ parked. (handler : ℕ) → IsChained (bodies_of unit.now) handler self →
+            AreValid (points_of (bodies_of unit.now)) handler parked.kept.globals parked.kept.limit parked.sack) }
+        // What a unit that weaves saves are the machine's frames.
+        ensures frames { IfOk result (λ parked. Weaves unit.now →
+            parked.sack ≡ frames_of (bodies_of unit.now) self.machine.calls) }
+        ensures moves { IfOk result (λ parked. Weaves unit.now → (handler : ℕ) →
+            IsChained (bodies_of unit.now) handler self →
+            HasParked (bodies_of unit.now) handler self parked.sack parked.kept) }
+    {
+        let Machine {
+            running,
+            standing: _,
+        } = self;
+        let (frames, kept) = running.save(unit)?;
+        let sack = Sack::from_vec(frames);
+        Ok(Parked { sack, kept })
+    }
+
+    /// The machine that the unit's own code makes of what was saved, at its tick. The count of steps grows by one for
+    /// each instruction.
+    pub fn restore(
+        alloc: Global,
+        unit: &Woven,
+        handler: u16,
+        parked: Parked,
+        steps: &mut u64,
+    ) -> Result<Machine, NoMemory>
+        requires valid { AreValid (points_of (bodies_of unit.now)) handler parked.kept.globals parked.kept.limit
+            parked.sack }
+        requires globals { kinds_of parked.kept.globals ≡ kinds_of unit.now.globals }
+        requires limit { parked.kept.limit ≤ default_limit }
+        requires steps { steps.old ≤ 9223372036854775807 }
+        ensures restored { IfOk result (λ restored. BackRun (bodies_of unit.now) handler parked.sack
+            (beside parked.kept) restored.machine (steps.new - steps.old)) }
+        ensures stands { IfOk result (λ restored. restored.standing ≡ Standing.AtTick) }
+        ensures of { IfOk result (IsOf unit.now) }
+        ensures chained { IfOk result (IsChained (bodies_of unit.now) handler) }
+        ensures charged { IfOk result IsCharged }
+        ensures kept { IfOk result (λ restored. restored.machine.kept ≡ parked.kept) }
+        // A unit that weaves makes the machine that was saved, with few instructions.
+        ensures same { IfOk result (λ restored. Weaves unit.now → (calls : List MachineCall) →
+            HasFrames (bodies_of unit.now) handler calls parked.sack → restored.machine.calls ≡ calls) }
+        ensures moved { IfOk result (λ restored. Weaves unit.now → (saved : State) →
+            HasParked (bodies_of unit.now) handler saved parked.sack parked.kept →
+            (restored.machine ≡ saved.machine) × (restored.standing ≡ saved.standing)) }
+        ensures bound { IfOk result (λ restored. Weaves unit.now →
+            steps.new - steps.old ≤ most_steps parked.sack) }
+        ensures counted { steps.old ≤ steps.new }
+        ensures lacking { OnErr result ((m : Restored) (n : ℕ) →
+            BackRun (bodies_of unit.now) handler parked.sack (beside parked.kept) m n → steps.new - steps.old ≤ n) }
+    {
+        let Parked { sack, kept } = parked;
+        let running = restore(alloc, unit, handler, sack.into_vec(), kept, steps)?;
+        let standing = Standing::AtTick;
+        Ok(Machine { running, standing })
     }
 
     /// The globals and the limit of a handler that ended. Takes no memory.

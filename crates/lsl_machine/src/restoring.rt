@@ -1,16 +1,18 @@
 //! Restoring: the code of each frame's function makes the frame a call again.
 
-ghost use Rattle.std.specs.Prelude.{◌≡◌, ◌≤◌, ◌<◌, ◌+◌, ◌^◌, ◌∷◌, ℕ, [], List, IfOk, OnOk, Some, false, min, length, slice_get, option_copied, vec_capacity};
+ghost use Rattle.std.specs.Prelude.{◌≡◌, ◌≤◌, ◌+◌, ◌-◌, ◌∷◌, ℕ, [], List, IfOk, OnOk, OnErr, Some, false, min, length, slice_get, option_copied, vec_capacity};
 ghost use Rattle.lsl_value.specs.declared.tagged.Value.{Value as Tagged};
 ghost use Rattle.lsl_running.specs.Charging.{default_limit};
 ghost use Rattle.lsl_code.specs.declared.frames.Frame.{Frame as SavedCall};
 ghost use Rattle.lsl_code.specs.declared.instructions.Instr.TheVariants as instrs;
 ghost use Rattle.lsl_code.specs.Bodies.{Body, instruction_at};
-ghost use Rattle.lsl_code.specs.Machine.{MachineCall, base, used_in};
+ghost use Rattle.lsl_code.specs.Machine.{Machine as Restored, MachineCall, base, used_in};
 ghost use Rattle.lsl_code.specs.Modes.{landing as landing_of};
 ghost use Rattle.lsl_code.specs.Restoring.{blank};
 ghost use Rattle.lsl_code.specs.Weaves.{bodies_of};
-ghost use Rattle.lsl_machine.specs.CallsRestored.{Backs, CanBack, IsRestoring};
+ghost use Rattle.lsl_code.specs.Frames.{AreValid, points_of};
+ghost use Rattle.lsl_code.specs.ModeRuns.{BackRun};
+ghost use Rattle.lsl_machine.specs.CallsRestored.{Backs, CanBack, IsRestored, IsRestoring, beside};
 ghost use Rattle.lsl_machine.specs.Laid.{Lays};
 
 use crate::calls::{CALL_CHARGE, above, push_empties};
@@ -37,7 +39,12 @@ pub struct Restorer {
 
 impl Restorer {
     /// The handler's function, entered to be restored, before these frames.
-    pub fn begin(alloc: Global, unit: &Woven, handler: u16, frames: Vec<Frame>) -> Result<Restorer, NoMemory>
+    pub fn begin(
+        alloc: Global,
+        unit: &Woven,
+        handler: u16,
+        frames: Vec<Frame>,
+    ) -> Result<Restorer, NoMemory>
         requires { (body : Body) × (slice_get (bodies_of unit.now) handler ≡ Some body) }
         ensures { IfOk result (λ begun. (body : Body) → slice_get (bodies_of unit.now) handler ≡ Some body →
             IsRestoring (bodies_of unit.now) begun (blank handler body) [] 0 [] frames.items) }
@@ -159,8 +166,16 @@ impl Restorer {
         self.land(unit);
         let charge = self.charge();
         let base = self.stack.len();
-        push_empties(self.alloc, &mut self.stack, function.slots.as_slice(), function.most)?;
-        self.callers.push(Activation { charge, ..self.active })?;
+        push_empties(
+            self.alloc,
+            &mut self.stack,
+            function.slots.as_slice(),
+            function.most,
+        )?;
+        self.callers.push(Activation {
+            charge,
+            ..self.active
+        })?;
         self.active = Activation {
             function: callee,
             place: 0,
@@ -173,10 +188,14 @@ impl Restorer {
 
     /// Goes on behind the instruction, or where the jump there leads.
     fn land(&mut self, unit: &Woven)
-        requires { self.old.active.place + 1 < 2 ^ 64 }
-        ensures { self.new ≡ record self.old { active = record self.old.active { place = landing_of
-            (instruction_at (bodies_of unit.now) self.old.active.function (self.old.active.place + 1))
-            (self.old.active.place + 1) } } }
+        requires { self.old.active.place + 1 ≤ 4294967296 }
+        ensures { self.new ≡ record self.old {
+          active = record self.old.active {
+            place = landing_of
+                (instruction_at (bodies_of unit.now) self.old.active.function (self.old.active.place + 1))
+                (self.old.active.place + 1);
+          };
+        } }
     {
         self.active.place = landing(unit, self.active.function, self.active.place + 1);
     }
@@ -201,7 +220,13 @@ impl Restorer {
         ensures room { vec_capacity result.stack ≡ vec_capacity self.stack }
     {
         let charge = self.charge();
-        let Restorer { alloc, active, callers, stack, .. } = self;
+        let Restorer {
+            alloc,
+            active,
+            callers,
+            stack,
+            ..
+        } = self;
         let Kept { globals, limit } = kept;
         let globals = globals.into_vec();
         let global_charge = charge_from(0, globals.as_slice());
@@ -232,4 +257,36 @@ pub fn instruction(unit: &Woven, function: u16, place: usize) -> Option<&Instr>
     ensures { option_copied result ≡ instruction_at (bodies_of unit.now) function place }
 {
     unit.functions.get(function as usize)?.code.get(place)
+}
+
+/// The machine that the unit's own code makes of these frames of the handler's function, beside these globals and this
+/// limit. The count of steps grows by one for each instruction.
+pub fn restore(
+    alloc: Global,
+    unit: &Woven,
+    handler: u16,
+    frames: Vec<Frame>,
+    kept: Kept,
+    steps: &mut u64,
+) -> Result<Running, NoMemory>
+    requires valid { AreValid (points_of (bodies_of unit.now)) handler kept.globals kept.limit frames.items }
+    requires limit { kept.limit ≤ default_limit }
+    requires steps { steps.old ≤ 9223372036854775807 }
+    ensures restored { IfOk result (λ running.
+        IsRestored (bodies_of unit.now) handler frames.items kept running (steps.new - steps.old)) }
+    ensures counted { steps.old ≤ steps.new }
+    ensures lacking { OnErr result ((m : Restored) (n : ℕ) →
+        BackRun (bodies_of unit.now) handler frames.items (beside kept) m n → steps.new - steps.old ≤ n) }
+{
+    let mut restorer = Restorer::begin(alloc, unit, handler, frames)?;
+    for i in 0..u64::MAX {
+        let Some(instr) = instruction(unit, restorer.active.function, restorer.active.place) else {
+            unreachable!();
+        };
+        *steps += 1;
+        if restorer.back(unit, instr)? {
+            return Ok(restorer.finish(kept));
+        }
+    }
+    unreachable!()
 }

@@ -1,15 +1,18 @@
 //! Saving: the code of each call's function keeps the call as a frame.
 
-ghost use Rattle.std.specs.Prelude.{◌≡◌, ◌≤◌, [], List, IfOk, OnOk, length, reverse, Some, None};
+ghost use Rattle.std.specs.Prelude.{◌≡◌, ◌≤◌, ℕ, [], List, IfOk, OnOk, length, reverse, Some, None};
 ghost use Rattle.lsl_value.specs.declared.tagged.Value.{Value as Tagged};
 ghost use Rattle.lsl_code.specs.Machine.{MachineCall};
 ghost use Rattle.lsl_code.specs.Saving.{save_act};
 ghost use Rattle.lsl_code.specs.Weaves.{bodies_of};
 ghost use Rattle.lsl_code.specs.declared.instructions.Instr.TheVariants as instrs;
-ghost use Rattle.lsl_machine.specs.CallsSaved.{CanKeep, CanSeal, DidKeep, HasCall, IsFrameOf, call_of, low_of};
+ghost use Rattle.lsl_weave.specs.WovenCalls.{RestAtTick};
+ghost use Rattle.lsl_machine.specs.Laid.{Held, kept_of, machine_of};
+ghost use Rattle.lsl_machine.specs.CallsSaved.{AreSaved, CanKeep, CanSeal, DidKeep, HasCall, IsFrameOf, call_of, low_of};
 
-use crate::running::Activation;
+use crate::running::{Activation, Running};
 use lsl_code::{Frame, Instr, Woven};
+use lsl_running::Kept;
 use lsl_text::NoMemory;
 use lsl_value::{Value, Values};
 use std::alloc::Global;
@@ -123,5 +126,44 @@ impl Saver {
             point,
             slots: Values::from_vec(values),
         }
+    }
+}
+
+impl Running {
+    /// What the unit's own code saves the calls as, the innermost first, and the globals with the limit. The values
+    /// move, and each is touched so often as the code names it.
+    pub fn save(self, unit: &Woven) -> Result<(Vec<Frame>, Kept), NoMemory>
+        requires laid { Held self }
+        requires rests { (handler : ℕ) × RestAtTick (bodies_of unit.now) handler (machine_of self).calls }
+        ensures frames { IfOk result (λ parked. AreSaved (bodies_of unit.now) (machine_of self).calls parked.0.items) }
+        ensures kept { IfOk result (λ parked. parked.1 ≡ kept_of self) }
+    {
+        let Running {
+            alloc,
+            globals,
+            limit,
+            active,
+            callers,
+            stack,
+            ..
+        } = self;
+        let mut callers = callers;
+        let mut frames = Vec::new(alloc);
+        let mut saver = Saver {
+            alloc,
+            active: Activation {
+                place: active.place + 1,
+                ..active
+            },
+            stack,
+            hand: Vec::new(alloc),
+        };
+        frames.push(saver.seal(unit)?)?;
+        while let Some(caller) = callers.pop() {
+            saver.active = caller;
+            frames.push(saver.seal(unit)?)?;
+        }
+        let globals = Values::from_vec(globals);
+        Ok((frames, Kept { globals, limit }))
     }
 }

@@ -2,14 +2,16 @@ use Rattle.std.proofs.Common.{◌≡◌, sym, ap, subst, [], ◌∷◌}
 use Rattle.lsl_code.specs.Wholes.{told}
 use Rattle.lsl_machine.specs.Laid.{machine_of}
 use Rattle.lsl_running.specs.declared.host.Reply.TheVariants as reply
-use Rattle.lsl_machine.specs.State.{State, HasReserved, Wants, IsIn, bodies_of}
+use Rattle.lsl_machine.specs.State.{State, HasReserved, IsChained, IsChainedAt, Wants, IsIn, bodies_of}
 use Rattle.lsl_machine.specs.Rooms.{IsReserved}
 use Rattle.std.specs.Prelude.{vec_capacity}
 use Rattle.lsl_machine.proofs.Reserving.{answered_reserved}
 use Rattle.lsl_machine.specs.Futures.{halt_from}
-use Rattle.lsl_machine.specs.Laid.{state_of, IsLaid}
+use Rattle.lsl_machine.specs.Laid.{IsLaid}
 use Rattle.lsl_machine.specs.declared.standing.Standing.TheVariants as standing
 use Rattle.lsl_machine.proofs.Answering.{runs_answered, of_answered, has_asked, ready_runs, ready_passes_none}
+use Rattle.lsl_code.specs.Standing.{IsChain}
+use Rattle.lsl_machine.proofs.Chained.{answered_chained, laid_charge}
 use Rattle.lsl_machine.proofs.Machine.answer.Goals as goal
 
 pub receive-self-inside-requires : goal.receive-self-inside-requires
@@ -44,6 +46,22 @@ returns-clause-ready c = ready_runs c.receive-self-inside.result c.receive-self-
 pub returns-clause-behind : goal.returns-clause-behind
 returns-clause-behind c = ready_passes_none c.receive-self-inside.result c.receive-self-inside.ensures.ready
 
+pub returns-clause-chained : goal.returns-clause-chained
+returns-clause-chained c bodies handler old =
+    let wants : Wants c.self.inside.standing c.args.value =
+    subst (λ (s : State). Wants s.standing c.args.value) (sym c.self.view_is) c.requires in
+    let x = has_asked c.self.inside.standing c.args.value wants in
+    let chain : IsChain bodies handler (machine_of c.self.inside.running).calls =
+    subst (λ z. IsChainedAt bodies handler z (machine_of c.self.inside.running)) x.1
+    (subst (λ (s : State). IsChained bodies handler s) (sym c.self.view_is) old) in
+    answered_chained bodies handler c.args.value (machine_of c.self.inside.running)
+    (machine_of c.receive-self-inside.new.self) c.receive-self-inside.result c.receive-self-inside.ensures.ready
+    (c.receive-self-inside.ensures.went []) chain
+
+pub returns-clause-charged : goal.returns-clause-charged
+returns-clause-charged c =
+    laid_charge c.receive-self-inside.new.self c.receive-self-inside.result c.receive-self-inside.ensures.laid
+
 pub returns-clause-of : goal.returns-clause-of
 returns-clause-of c unit old =
     let wants : Wants c.self.inside.standing c.args.value =
@@ -64,4 +82,5 @@ returns-clause-of c unit old =
           (vec_capacity c.self.inside.running.stack) (vec_capacity c.receive-self-inside.new.self.stack)
           c.receive-self-inside.ensures.ready (c.receive-self-inside.ensures.went []) room
           c.receive-self-inside.ensures.room,
+      (old.2.0, returns-clause-chained c bodies old.2.0 old.2.1),
     )

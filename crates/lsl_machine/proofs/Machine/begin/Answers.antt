@@ -3,6 +3,7 @@ use Rattle.lsl_code.specs.Wholes.{told}
 use Rattle.lsl_code.specs.Acts.{first_slots}
 use Rattle.lsl_machine.specs.State.{bodies_of}
 use Rattle.lsl_machine.proofs.Beginning.{body_of_arguments, has_begun, begun_laid}
+use Rattle.lsl_machine.proofs.Chained.{laid_charge}
 use Rattle.lsl_machine.proofs.Machine.begin.Goals as goal
 
 pub invariant_of-result : goal.invariant_of-result
@@ -23,4 +24,6 @@ returns c =
       ready = h.ready;
       behind = h.behind;
       of = h.of;
+      chained = h.chained;
+      charged = laid_charge c.in_ok-running.running c.in_ok-running.standing (invariant_of-result c);
     }

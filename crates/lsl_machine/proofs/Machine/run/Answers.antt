@@ -1,12 +1,13 @@
 use Rattle.std.proofs.Common.{sym, ap, subst}
-use Rattle.lsl_machine.specs.Laid.{machine_of}
-use Rattle.lsl_machine.specs.State.{State, HasReserved, IsIn, CanRun, bodies_of}
+use Rattle.lsl_machine.specs.Laid.{machine_of, IsLaid}
+use Rattle.lsl_machine.specs.State.{State, HasReserved, IsChained, IsChainedAt, IsIn, CanRun, bodies_of}
 use Rattle.lsl_machine.specs.Memory.{TakesNone}
 use Rattle.std.specs.Prelude.{vec_capacity}
 use Rattle.lsl_machine.specs.Futures.{RunsOn, StandsCut}
 use Rattle.lsl_code.specs.Wholes.{told}
 use Rattle.lsl_machine.proofs.Halting.{goes_on}
 use Rattle.lsl_machine.specs.Laid.{state_of}
+use Rattle.lsl_machine.proofs.Chained.{laid_charge}
 use Rattle.lsl_machine.proofs.Machine.run.Goals as goal
 
 pub halt-halt-requires : goal.halt-halt-requires
@@ -38,12 +39,26 @@ returns-clause-stands c e = subst (λ z. StandsCut (bodies_of c.args.unit.now) (
 pub returns-clause-cut : goal.returns-clause-cut
 returns-clause-cut c e = ap (told (bodies_of c.args.unit.now)) (returns-clause-stands c e)
 
+pub returns-clause-chained : goal.returns-clause-chained
+returns-clause-chained c handler chain =
+    let bodies = bodies_of c.args.unit.now in
+    let old = subst (λ (s : State). IsChained bodies handler s) (sym c.self.view_is) chain in
+    subst (λ z. IsChainedAt bodies handler z (machine_of c.halt-halt.new.self)) (sym c.standing_at-self-inside.ensures)
+    (c.halt-halt.ensures.chained handler old)
+
 pub returns-clause-of : goal.returns-clause-of
 returns-clause-of c =
     let new = c.halt-halt.new.self in
-    subst (λ z. IsIn c.args.unit.now z (machine_of new)
+    let kept = subst (λ z. IsIn c.args.unit.now z (machine_of new)
     × HasReserved (bodies_of c.args.unit.now) z (vec_capacity new.stack) (machine_of new))
-    (sym c.standing_at-self-inside.ensures) (c.halt-halt.ensures.of, c.halt-halt.ensures.reserved)
+    (sym c.standing_at-self-inside.ensures) (c.halt-halt.ensures.of, c.halt-halt.ensures.reserved) in
+    let chain = c.requires.of.2 in
+    (kept.0, kept.1, (chain.0, returns-clause-chained c chain.0 chain.1))
+
+pub returns-clause-charged : goal.returns-clause-charged
+returns-clause-charged c =
+    laid_charge c.halt-halt.new.self c.standing_at-self-inside.result
+    (subst (IsLaid c.halt-halt.new.self) (sym c.standing_at-self-inside.ensures) c.halt-halt.ensures.laid)
 
 pub returns-clause-memory : goal.returns-clause-memory
 returns-clause-memory c free =

@@ -1,4 +1,4 @@
-use Rattle.std.proofs.Common.{◌≡◌, ◌∙◌, refl, sym, ap, arith, ◌+◌, ◌++◌, ◌≤◌, Some, length, map, option_map, slice_get, vec_capacity, rules}
+use Rattle.std.proofs.Common.{◌≡◌, ◌∙◌, refl, ap, ◌++◌, Some, length, map, option_map, slice_get, rules}
 use Rattle.std.proofs.lemmas.Option.{slice_get-map}
 use Rattle.lsl_running.specs.Values.{empty_of}
 use Rattle.lsl_code.specs.Weaves.{bodies_of}

@@ -1,5 +1,5 @@
-use Rattle.std.proofs.Common.{◌∙◌, refl, ap, ◌+◌, slice_set}
-use Rattle.lsl_machine.proofs.Putting.{slot_set, slot_put_place}
+use Rattle.std.proofs.Common.{refl}
+use Rattle.lsl_machine.proofs.Putting.{slot_set}
 use Rattle.lsl_machine.proofs.restoring.Restorer.back_slot.Goals as goal
 
 pub returns : goal.returns

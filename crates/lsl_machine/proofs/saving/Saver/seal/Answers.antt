@@ -1,7 +1,6 @@
-use Rattle.std.proofs.Common.{◌≡◌, ◌∙◌, refl, sym, ap, subst, arith, suc, ◌+◌, ◌-◌, ◌<◌, length, map, Some, slice_get, rules}
+use Rattle.std.proofs.Common.{◌≡◌, ◌∙◌, ap, subst, arith, suc, ◌+◌, ◌-◌, length, Some, slice_get, rules}
 use Rattle.std.proofs.lemmas.Option.{slice_get-map}
 use Rattle.std.specs.Prelude.{option_map}
-use Rattle.lsl_code.specs.Bodies.{Body}
 use Rattle.lsl_code.specs.Saving.{save_act}
 use Rattle.lsl_code.specs.Weaves.{bodies_of}
 use Rattle.lsl_code.specs.WovenBodies.{woven_body}
@@ -51,7 +50,7 @@ keep-requires c =
     let i = c.in-Some-get.instr.now in
     let short = place_short c.args.unit.now c.args.self.now.active.function w c.loop-i.self.active.place i inv.found
     there in
-    can_keep bodies w start low left c.loop-i.self x inv.found i there (omega arith)
+    can_keep bodies w start low left c.loop-i.self x inv.found i there short
 
 pub close-requires : goal.close-requires
 close-requires c =

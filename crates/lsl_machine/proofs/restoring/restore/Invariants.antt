@@ -1,0 +1,10 @@
+use Rattle.std.proofs.Common.{◌≡◌, ◌+◌}
+use Rattle.lsl_machine.proofs.Returning.{IsReturning}
+use Rattle.lsl_machine.proofs.restoring.restore.Given as goal
+
+-- so many instructions were done and counted
+abbrev pub invariant-loop-i : goal.invariant-loop-i
+invariant-loop-i l = record {
+  way : IsReturning l.unit l.fn.handler l.fn.frames.items l.restorer l.i;
+  counted : l.steps ≡ l.fn.steps + l.i;
+}
