@@ -2,7 +2,7 @@
 //! definition comes to, and looks at nothing but the unit.
 #![tactic(auto)]
 
-ghost use Rattle.std.specs.Prelude.{◌≡◌, ◌≢◌, ◌<◌, ◌≤◌, ◌∷◌, ◌-◌, ℕ, List, length, slice_get, IfOk, OnErr};
+ghost use Rattle.std.specs.Prelude.{◌≡◌, ◌≢◌, ◌<◌, ◌≤◌, [], ◌∷◌, ◌-◌, ℕ, List, length, slice_get, IfOk, OnErr};
 ghost use Rattle.lsl_value.specs.declared.tagged.Value.{Value as Tagged};
 ghost use Rattle.lsl_running.specs.Charging.{default_limit};
 ghost use Rattle.lsl_running.specs.declared.host.Reply.{Reply};
@@ -92,6 +92,7 @@ impl Machine {
         ensures whole { IfOk result (λ begun. (ticks : ℕ) (answers : List Reply) →
             whole_of_bodies (bodies_of unit.now) handler (kept_with globals limit) args ticks answers
             ≡ whole_from (bodies_of unit.now) begun ticks answers) }
+        ensures silent { IfOk result (λ begun. begun.machine.answers ≡ []) }
         ensures ready { IfOk result (λ begun. CanRun begun.standing) }
         ensures behind { IfOk result (λ begun. ticks_passed begun.standing ≡ 0) }
         ensures of { IfOk result (IsOf unit.now) }
@@ -116,6 +117,7 @@ impl Machine {
         ensures asked { IsAsked result }
         ensures listens { result ≢ Halt.Faulted Fault.TooManyListens }
         ensures standing { self.new.standing ≡ standing_of result }
+        ensures silent { self.new.machine.answers ≡ [] }
         ensures of { IsOf unit.now self.new }
         ensures chained { (handler : ℕ) → IsChained (bodies_of unit.now) handler self.old →
             IsChained (bodies_of unit.now) handler self.new }
@@ -137,6 +139,7 @@ impl Machine {
             ≡ halt_from self.new.standing bodies self.new.machine ticks more }
         ensures whole { (bodies : List Body) (ticks : ℕ) (more : List Reply) →
             whole_from bodies self.old ticks (reply.Value value ∷ more) ≡ whole_from bodies self.new ticks more }
+        ensures silent { self.new.machine.answers ≡ [] }
         ensures ready { CanRun self.new.standing }
         ensures behind { ticks_passed self.new.standing ≡ 0 }
         ensures of { (unit : Code) → IsOf unit self.old → IsOf unit self.new }

@@ -1,4 +1,4 @@
-use Rattle.std.proofs.Common.{slice_get, ap}
+use Rattle.std.proofs.Common.{refl, slice_get, ap}
 use Rattle.lsl_code.specs.Wholes.{told}
 use Rattle.lsl_code.specs.Acts.{first_slots}
 use Rattle.lsl_machine.specs.State.{bodies_of}
@@ -21,6 +21,7 @@ returns c =
     record {
       runs = h.runs;
       whole = λ t a. ap (told (bodies_of c.args.unit.now)) (h.runs t a);
+      silent = refl;
       ready = h.ready;
       behind = h.behind;
       of = h.of;
