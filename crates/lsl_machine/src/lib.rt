@@ -198,6 +198,7 @@ impl Machine {
         ensures chained { IfOk result (IsChained (bodies_of unit.now) handler) }
         ensures charged { IfOk result IsCharged }
         ensures kept { IfOk result (λ restored. restored.machine.kept ≡ parked.kept) }
+        ensures silent { IfOk result (λ restored. restored.machine.answers ≡ []) }
         // A unit that weaves makes the machine that was saved, with few instructions.
         ensures same { IfOk result (λ restored. Weaves unit.now → (calls : List MachineCall) →
             HasFrames (bodies_of unit.now) handler calls parked.sack → restored.machine.calls ≡ calls) }
