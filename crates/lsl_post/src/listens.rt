@@ -137,6 +137,13 @@ impl Listens {
         false
     }
 
+    /// Forgets all listens; numbers go on. Takes no memory.
+    pub fn clear(&mut self)
+        ensures { self.new ≡ standing self.old.next [] }
+    {
+        self.table.clear();
+    }
+
     /// Equal listens.
     pub fn copy(&self, alloc: Global) -> Result<Listens, NoMemory>
         ensures { IfOk result (λ listens. listens ≡ self.now) }
