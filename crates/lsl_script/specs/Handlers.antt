@@ -13,6 +13,8 @@ use Rattle.lsl_post.specs.declared.events.Event.{Event}
 use Rattle.lsl_post.specs.Listens.{standing}
 use Rattle.lsl_post.specs.Mailbox.{Mailbox, cleared, new_mailbox, next_event, posted, taken}
 use Rattle.lsl_post.specs.Told.{Told, lead, quiet}
+use Rattle.lsl_script.specs.declared.going.Going.{Going}
+use Rattle.lsl_script.specs.declared.going.Going.TheVariants.{Stays, Leaves, Enters, Restarts}
 use Rattle.lsl_script.specs.Rules.{Rules, initial_kept, whole_in}
 use Rattle.lsl_script.specs.Scripts.{Flight, Doing, Resting, Flying, Stopped, Script, fresh, handles, state_entry, state_exit}
 
@@ -56,17 +58,6 @@ given reply f = record f { answers = f.answers ++ reply ∷ [] }
 
 abbrev pub with_flight : Flight → Script → Script
 with_flight f s = record s { doing = Flying f }
-
--- where a script goes whose handler ended
-pub data Going : Type 0 where
-  -- it stays in its state
-  Stays : Going
-  -- it leaves for this state, once the handler of its exit has run
-  Leaves : ℕ → Going
-  -- it stands in this state
-  Enters : ℕ → Going
-  -- it begins again
-  Restarts : Going
 
 -- from this state, which has a handler of its exit or has none. To go to the state in which it stands is to return, and
 -- so is any change of state in the handler of an exit

@@ -12,7 +12,8 @@ use Rattle.lsl_post.specs.Mailbox.{Mailbox, new_mailbox}
 use Rattle.lsl_post.specs.Timing.{stopped}
 use Rattle.lsl_script.specs.Rules.{Rules, initial_kept}
 use Rattle.lsl_script.specs.Scripts.{Script, fresh, is_ready, state_exit, takes}
-use Rattle.lsl_script.specs.Handlers.{Stays, Enters, ended, entered, event_due, failed, going_from, going_of, resting_charge}
+use Rattle.lsl_script.specs.declared.going.Going.TheVariants.{Stays, Enters}
+use Rattle.lsl_script.specs.Handlers.{ended, entered, event_due, failed, going_from, going_of, resting_charge}
 
 -- a change to the state in which a script stands is a return
 abbrev pub SameStateIsReturn : Type 0

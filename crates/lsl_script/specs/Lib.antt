@@ -1,4 +1,17 @@
 pub mod Rules
 pub mod Scripts
 pub mod Handlers
+pub mod Codes
+pub mod Lawful
+pub mod Parts
+pub mod Fitting
+pub mod Awake
+pub mod Lives
+pub mod FlightLaws
+pub mod Mailing
+pub mod Lending
+pub mod MailLaws
+pub mod MeantLaws
+pub mod Waking
+pub mod Closing
 pub mod Laws

@@ -1,5 +1,8 @@
 //! Laws of scripts. Each law is a function whose clause is the law; it does nothing.
 
+ghost use Rattle.lsl_script.specs.FlightLaws.{FlightsAskSoOften};
+ghost use Rattle.lsl_script.specs.MailLaws.{ListensAreIts, RestingTimerIsIts, StaysAwake, StaysFitting, TimerIsIts};
+ghost use Rattle.lsl_script.specs.MeantLaws.{MeantSaysTheSame};
 ghost use Rattle.lsl_script.specs.Laws.{ChargeComesFirst, ExitComesFirst, FaultsAreForGood, LeavingGoesOn, NewStateKeepsTimer, ResetBeginsAgain, SameStateIsReturn};
 
 /// A change to the state in which a script stands is a return.
@@ -31,4 +34,28 @@ pub fn faults_are_for_good()
 /// The charge at a handler's end is that of the globals that it left, and is told before events go.
 pub fn charge_comes_first()
     ensures { ChargeComesFirst }
+{}
+
+/// An awake script's listens and its timer are its source's, and what is done to them in place is done to the source's;
+/// the script stays one of its unit.
+pub fn mail_of_awake_scripts()
+    ensures listens { ListensAreIts }
+    ensures timer { TimerIsIts }
+    ensures awake { StaysAwake }
+{}
+
+/// The same of the timer of a script between turns.
+pub fn timers_between_turns()
+    ensures timer { RestingTimerIsIts }
+    ensures fits { StaysFitting }
+{}
+
+/// A handler that stands at a tick asks at most so often before its next one.
+pub fn flights_ask_so_often()
+    ensures { FlightsAskSoOften }
+{}
+
+/// Rules that mean what the rules of units mean say the same of scripts of these units.
+pub fn meant_rules_say_the_same()
+    ensures { MeantSaysTheSame }
 {}

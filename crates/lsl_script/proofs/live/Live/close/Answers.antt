@@ -1,0 +1,50 @@
+use Rattle.std.proofs.Common.{◌≡◌, sym, ap, ◌∙◌, subst}
+use Rattle.std.specs.Prelude.{is_some}
+use Rattle.lsl_script.specs.Closing.{count_gone, gone_parts}
+use Rattle.lsl_script.specs.Fitting.{FitsUnit}
+use Rattle.lsl_script.proofs.Closes.{closes_fits, closing_is}
+use Rattle.lsl_script.proofs.live.Live.close.Goals as goal
+
+pub from_parts-requires : goal.from_parts-requires
+from_parts-requires c =
+    let gone : (c.go.new.parts ≡ gone_parts c.args.unit.now c.of-going.result c.keep.new.parts)
+    × (c.in_ok-cleared.cleared ≡ count_gone c.of-going.result c.keep.new.parts.queue) = c.in_ok-cleared.ensures in
+    closes_fits c.args.unit.now c.args.self c.finish-kept.result c.keep.new.parts c.go.new.parts c.in-Some.outcome
+    c.is_some-exits.result c.of-going.result c.requires.awake c.requires.ended (record {
+      has = c.finish-kept.ensures;
+      mid_is = c.keep.ensures;
+      ended = c.in-Some.is;
+      exits_are = c.is_some-exits.ensures ∙ ap is_some c.handler.ensures;
+      going_is = c.of-going.ensures;
+      new_is = gone.0;
+    })
+
+pub returns-clause-fits : goal.returns-clause-fits
+returns-clause-fits c =
+    let gone : (c.go.new.parts ≡ gone_parts c.args.unit.now c.of-going.result c.keep.new.parts)
+    × (c.in_ok-cleared.cleared ≡ count_gone c.of-going.result c.keep.new.parts.queue) = c.in_ok-cleared.ensures in
+    subst (FitsUnit c.args.unit.now) (sym c.from_parts.ensures)
+    (closes_fits c.args.unit.now c.args.self c.finish-kept.result c.keep.new.parts c.go.new.parts c.in-Some.outcome
+    c.is_some-exits.result c.of-going.result c.requires.awake c.requires.ended (record {
+      has = c.finish-kept.ensures;
+      mid_is = c.keep.ensures;
+      ended = c.in-Some.is;
+      exits_are = c.is_some-exits.ensures ∙ ap is_some c.handler.ensures;
+      going_is = c.of-going.ensures;
+      new_is = gone.0;
+    }))
+
+pub returns-clause-source : goal.returns-clause-source
+returns-clause-source c codes s f number ends =
+    let gone : (c.go.new.parts ≡ gone_parts c.args.unit.now c.of-going.result c.keep.new.parts)
+    × (c.in_ok-cleared.cleared ≡ count_gone c.of-going.result c.keep.new.parts.queue) = c.in_ok-cleared.ensures in
+    closing_is codes c.args.unit.now s c.args.self c.finish-kept.result c.keep.new.parts c.go.new.parts
+    c.in-Some.outcome
+    ends.way c.is_some-exits.result c.of-going.result number _ c.requires.ended (record {
+      has = c.finish-kept.ensures;
+      mid_is = c.keep.ensures;
+      ended = c.in-Some.is;
+      exits_are = c.is_some-exits.ensures ∙ ap is_some c.handler.ensures;
+      going_is = c.of-going.ensures;
+      new_is = gone.0;
+    }) ends.carries ends.ended c.from_parts.ensures c.resting_charge-charge.ensures gone.1

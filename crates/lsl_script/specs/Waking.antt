@@ -1,0 +1,58 @@
+-- What waking a script comes to.
+use Rattle.std.specs.Prelude.{◌≡◌, ℕ, true, false, List, [], drop, Option, Some, None, is_some, slice_get}
+use Rattle.lsl_running.specs.declared.kept.Kept.{Kept}
+use Rattle.lsl_code.specs.declared.woven_units.Woven.{Woven as Code}
+use Rattle.lsl_post.specs.declared.events.Event.{Event}
+use Rattle.lsl_post.specs.declared.parts.Rest.{Rest}
+use Rattle.lsl_post.specs.declared.parts.Rest.TheVariants.{Idle, Saved, Dead}
+use Rattle.lsl_post.specs.declared.parts.ScriptParts.{ScriptParts}
+use Rattle.lsl_script.specs.declared.live.Live.{Live}
+use Rattle.lsl_script.specs.declared.waking.WakeFault.{WakeFault}
+use Rattle.lsl_script.specs.declared.waking.WakeFault.TheVariants.{NotReady, NoMemory}
+use Rattle.lsl_script.specs.Awake.{taken_by}
+use Rattle.lsl_script.specs.Codes.{rules_of}
+use Rattle.lsl_script.specs.Fitting.{are_ready}
+use Rattle.lsl_script.specs.Handlers.{take_next}
+use Rattle.lsl_script.specs.Lawful.{AsksAtMost}
+use Rattle.lsl_script.specs.Lives.{Lives, Rests, entries_of_taking}
+use Rattle.lsl_script.specs.Scripts.{Flight, Flying, Script, state_exit}
+
+-- it can't run, and is handed back as it was, exactly where it isn't ready
+abbrev pub IsRefused : ℕ → ScriptParts → WakeFault → Type 0
+IsRefused clock parts (NotReady script) = (are_ready clock parts ≡ false) × (script ≡ parts)
+IsRefused clock parts NoMemory = are_ready clock parts ≡ true
+
+-- the event that is taken next: a script that leaves its state takes its exit before any that waits
+abbrev pub event_in : Option ℕ → List Event → Option Event
+event_in None queue = slice_get queue 0
+event_in (Some state) queue = Some state_exit
+
+abbrev pub queue_behind : Option ℕ → List Event → List Event
+queue_behind None queue = drop 1 queue
+queue_behind (Some state) queue = queue
+
+-- a handler was saved, or an event can be taken
+abbrev pub CanWakeFrom : ScriptParts → Rest → Type 0
+CanWakeFrom parts Idle = is_some (event_in parts.leaving parts.queue) ≡ true
+CanWakeFrom parts (Saved e frames) = Unit {0}
+CanWakeFrom parts (Dead fault) = ⊥
+
+-- the parts without what a script keeps, and with it
+abbrev pub IsEmptied : ScriptParts → Type 0
+IsEmptied parts = (parts.globals ≡ []) × (parts.rest ≡ Idle)
+
+abbrev pub resting_parts : ScriptParts → Kept → Rest → ScriptParts
+resting_parts parts kept rest = record parts { globals = kept.globals; limit = kept.limit; rest = rest }
+
+abbrev pub CanWake : ScriptParts → Type 0
+CanWake parts = CanWakeFrom parts parts.rest
+
+-- the awake script stands for the source script that has taken its next event, unless a handler was in flight; the
+-- journal tells of the event; and the handler asks at most so often before its next tick
+pub record WakesAs (codes : List Code) (unit : Code) (s : Script) (live : Live) : Type 0 where
+  pub flight : Flight
+  pub flies : (number : ℕ) → (take_next number s s.doing).value.doing ≡ Flying flight
+  pub lives : (number : ℕ) → Lives codes unit (take_next number s s.doing).value flight live
+  pub rests : live.began ≡ false → Rests codes unit s flight live
+  pub took : (number : ℕ) → (take_next number s s.doing).entries ≡ entries_of_taking number (taken_by live)
+  pub asks : AsksAtMost (rules_of codes) s.code s.state flight ((rules_of codes).most s.code)

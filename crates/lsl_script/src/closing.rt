@@ -1,0 +1,141 @@
+//! A handler ends.
+
+ghost use Rattle.std.specs.Prelude.{◌≡◌, ◌+◌, ℕ, List, min, length, IfOk};
+ghost use Rattle.lsl_code.specs.declared.woven_units.Woven.{Woven as Code};
+ghost use Rattle.lsl_running.specs.Charging.{charges_of};
+ghost use Rattle.lsl_script.specs.Awake.{HasEnded, IsAwake};
+ghost use Rattle.lsl_script.specs.Closing.{ClosesAs, begun_again, count_gone, entering, forgotten, gone_parts, initial_of};
+ghost use Rattle.lsl_script.specs.Fitting.{FitsUnit};
+ghost use Rattle.lsl_script.specs.Lives.{Ends};
+ghost use Rattle.lsl_script.specs.Scripts.{Flight, Script as Source};
+
+use crate::going::Going;
+use crate::live::Live;
+use crate::resting::keep;
+use crate::scripts::{DEFAULT_LIMIT, Script, entry};
+use lsl_code::Woven;
+use lsl_post::{Listens, ScriptParts, Timer};
+use lsl_running::Kept;
+use lsl_text::NoMemory;
+use lsl_value::{EventId, Values, charge};
+use std::alloc::Global;
+
+/// What a handler's end comes to: the script at rest, its charge then, and how many events went where it changed its
+/// state or began again.
+#[derive(Drop)]
+pub struct Closed {
+    pub script: Script,
+    pub charge: u64,
+    pub cleared: Option<u32>,
+}
+
+impl Live {
+    /// The handler has ended.
+    pub fn close(self, alloc: Global, unit: &Woven) -> Result<Closed, NoMemory>
+        requires awake { IsAwake unit.now self }
+        requires ended { HasEnded unit.now self }
+        ensures fits { IfOk result (λ closed. FitsUnit unit.now closed.script) }
+        ensures source { (codes : List Code) (s : Source) (f : Flight) (number : ℕ) →
+            (ends : Ends codes unit.now s f self) →
+            IfOk result (ClosesAs codes number s self.machine.machine.kept ends.way) }
+    {
+        let Live {
+            mut parts,
+            outcome,
+            machine,
+            ..
+        } = self;
+        let Some(outcome) = outcome else {
+            unreachable!();
+        };
+        let kept = machine.finish();
+        let charge = resting_charge(&kept.globals);
+        keep(&mut parts, kept);
+        let exits = unit.handler(parts.state, EventId::StateExit).is_some();
+        let going = Going::of(parts.leaving, parts.state, exits, outcome);
+        let cleared = go(alloc, unit, &mut parts, going)?;
+        Ok(Closed {
+            script: Script::from_parts(parts, unit),
+            charge,
+            cleared,
+        })
+    }
+}
+
+// The script goes there. How many events went, where they went.
+fn go(
+    alloc: Global,
+    unit: &Woven,
+    parts: &mut ScriptParts,
+    going: Going,
+) -> Result<Option<u32>, NoMemory>
+    ensures { IfOk result (λ cleared. (parts.new ≡ gone_parts unit.now going parts.old)
+        × (cleared ≡ count_gone going parts.old.queue)) }
+{
+    match going {
+        Going::Stays => Ok(None),
+        Going::Leaves(to) => {
+            parts.leaving = Some(to);
+            Ok(None)
+        }
+        Going::Enters(to) => Ok(Some(enter(alloc, unit, parts, to))),
+        Going::Restarts => Ok(Some(restart(alloc, unit, parts)?)),
+    }
+}
+
+// The script stands in this state, and the entry is posted. How many events went.
+fn enter(alloc: Global, unit: &Woven, parts: &mut ScriptParts, to: u16) -> u32
+    ensures parts { parts.new ≡ entering unit.now.states to parts.old }
+    ensures count { result ≡ length parts.old.queue }
+{
+    parts.state = to;
+    parts.leaving = None;
+    parts.listens.clear();
+    let count = parts.queue.clear();
+    drop(parts.post(unit, entry(alloc)));
+    count
+}
+
+// The script begins again. How many events went.
+fn restart(alloc: Global, unit: &Woven, parts: &mut ScriptParts) -> Result<u32, NoMemory>
+    ensures { IfOk result (λ count. (parts.new ≡ begun_again unit.now parts.old) × (count ≡ length parts.old.queue)) }
+{
+    keep(parts, initial(alloc, unit)?);
+    parts.state = 0;
+    parts.leaving = None;
+    let count = forget(alloc, parts);
+    drop(parts.post(unit, entry(alloc)));
+    Ok(count)
+}
+
+/// All that waits, the listens and the timer go. How many events went.
+pub fn forget(alloc: Global, parts: &mut ScriptParts) -> u32
+    ensures parts { parts.new ≡ forgotten parts.old }
+    ensures count { result ≡ length parts.old.queue }
+{
+    parts.listens = Listens::new(alloc);
+    parts.timer = Timer::new();
+    parts.queue.clear()
+}
+
+/// What a script has at its start.
+pub fn initial(alloc: Global, unit: &Woven) -> Result<Kept, NoMemory>
+    ensures { IfOk result (λ kept. kept ≡ initial_of unit.now) }
+{
+    Ok(Kept {
+        globals: unit.globals().copy(alloc)?,
+        limit: DEFAULT_LIMIT,
+    })
+}
+
+// What a script with these globals is charged between handlers, and the greatest number where it is more.
+#[tactic(auto, using(lsl_machine::proofs::Charges::charges_step))]
+fn resting_charge(globals: &Values) -> u64
+    ensures { result ≡ min (1024 + charges_of globals.now) 18446744073709551615 }
+{
+    let mut sum: u64 = 1_024;
+    for value in globals.as_slice() {
+        sum = sum.saturating_add(charge(value));
+    }
+    sum
+}

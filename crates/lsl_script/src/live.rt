@@ -1,0 +1,204 @@
+//! A script that is awake: its machine runs the handler of the event in hand.
+
+ghost use Rattle.std.specs.Prelude.{◌≡◌, ℕ, List, nat_le, true, false, IfSome, option_copied};
+ghost use Rattle.std.specs.Borrow.{Lends, sem};
+ghost use Rattle.lsl_value.specs.declared.names.BuiltinId.{BuiltinId};
+ghost use Rattle.lsl_running.specs.declared.host.Reply.TheVariants as reply;
+ghost use Rattle.lsl_code.specs.declared.woven_units.Woven.{Woven as Code};
+ghost use Rattle.lsl_machine.specs.State.{CanRun, Wants};
+ghost use Rattle.lsl_post.specs.declared.timer.Timer.{Timer as Ticking};
+ghost use Rattle.lsl_post.specs.Listens.{Standing};
+ghost use Rattle.lsl_post.specs.Mailbox.{posted_to, with_posted};
+ghost use Rattle.lsl_post.specs.Timer.{timing_of};
+ghost use Rattle.lsl_post.specs.Timing.{Timing};
+ghost use Rattle.lsl_script.specs.Awake.{IsAwake, IsBeside, StandsAfter, taken_by};
+ghost use Rattle.lsl_script.specs.Codes.{HasUnit, rules_of};
+ghost use Rattle.lsl_script.specs.Fitting.{is_exit};
+ghost use Rattle.lsl_script.specs.Handlers.{given};
+ghost use Rattle.lsl_script.specs.Lives.{Lives, Rests, Turns, Waits};
+ghost use Rattle.lsl_script.specs.Mailing.{LendsListens, LendsTimer, listening, ticking, turn_of, with_halt, with_listens, with_timer, with_wake};
+ghost use Rattle.lsl_script.specs.Scripts.{Flight, Script as Source, entries_of_posting, is_ready, napped, post_to};
+
+use lsl_code::Woven;
+use lsl_machine::{Halt, Machine};
+use lsl_post::{Event, Listens, Posted, ScriptParts, Timer};
+use lsl_running::{Call, Fault, Outcome};
+use lsl_value::Value;
+
+/// A script that is awake. Its parts have neither its globals, which the machine has, nor the calls that were saved.
+#[derive(Drop)]
+pub struct Live {
+    pub(crate) parts: ScriptParts,
+    pub(crate) event: Event,
+    /// the function of the event's handler
+    pub(crate) handler: u16,
+    /// whether the handler was begun when the script woke
+    pub(crate) began: bool,
+    /// whether the handler was begun and hasn't gone on since
+    pub(crate) fresh: bool,
+    /// how the handler ended, once it has
+    pub(crate) outcome: Option<Outcome>,
+    pub(crate) machine: Machine,
+}
+
+/// How far a script came.
+#[derive(Debug, Drop)]
+pub enum Turn {
+    /// to this host call, for whose answer it waits
+    Asks(Call),
+    AtTick,
+    /// to its handler's end
+    Ended,
+    Faulted(Fault),
+    NoMemory,
+}
+
+impl Live {
+    /// The event that was taken when the script woke: none where it took up a saved handler. Takes no memory.
+    pub fn took(&self) -> Option<&Event>
+        ensures { option_copied result ≡ taken_by self.now }
+    {
+        if self.began { Some(&self.event) } else { None }
+    }
+
+    /// The event in hand. Takes no memory.
+    pub fn event(&self) -> &Event
+        ensures { result.now ≡ self.now.event }
+    {
+        &self.event
+    }
+
+    /// Whether the script, which stands at a tick, isn't asleep. Takes no memory.
+    pub fn ready(&self, clock: u64) -> bool
+        ensures value { result ≡ nat_le self.now.parts.wake clock }
+        ensures source { (codes : List Code) (unit : Code) (s : Source) (f : Flight) → Rests codes unit s f self.now →
+            result ≡ is_ready clock s }
+    {
+        self.parts.wake <= clock
+    }
+
+    /// Goes on to the next tick, ask or end. A handler that was just begun passes its first tick too. After `NoMemory`
+    /// the script is only to be dropped.
+    pub fn go(&mut self, unit: &Woven) -> Turn
+        requires able { CanRun self.old.machine.standing }
+        requires awake { IsAwake unit.now self.old }
+        ensures awake { IsAwake unit.now self.new }
+        ensures stands { StandsAfter unit.now result self.new }
+        ensures beside { IsBeside self.old self.new }
+        ensures source { (codes : List Code) (s : Source) (f : Flight) → Lives codes unit.now s f self.old →
+            Turns codes unit.now s f result self.new }
+    {
+        if self.fresh {
+            self.go_first(unit)
+        } else {
+            self.go_on(unit)
+        }
+    }
+
+    // From the handler's start: to its first tick, and then on.
+    fn go_first(&mut self, unit: &Woven) -> Turn
+        requires fresh { self.old.fresh ≡ true }
+        requires able { CanRun self.old.machine.standing }
+        requires awake { IsAwake unit.now self.old }
+        ensures awake { IsAwake unit.now self.new }
+        ensures stands { StandsAfter unit.now result self.new }
+        ensures beside { IsBeside self.old self.new }
+        ensures source { (codes : List Code) (s : Source) (f : Flight) → Lives codes unit.now s f self.old →
+            Turns codes unit.now s f result self.new }
+    {
+        self.fresh = false;
+        match self.machine.run(unit) {
+            Halt::AtTick => self.go_on(unit),
+            halt => self.halted(halt),
+        }
+    }
+
+    // From a tick or an answer.
+    fn go_on(&mut self, unit: &Woven) -> Turn
+        requires fresh { self.old.fresh ≡ false }
+        requires able { CanRun self.old.machine.standing }
+        requires awake { IsAwake unit.now self.old }
+        ensures awake { IsAwake unit.now self.new }
+        ensures stands { StandsAfter unit.now result self.new }
+        ensures beside { IsBeside self.old self.new }
+        ensures source { (codes : List Code) (s : Source) (f : Flight) → Lives codes unit.now s f self.old →
+            Turns codes unit.now s f result self.new }
+    {
+        let halt = self.machine.run(unit);
+        self.halted(halt)
+    }
+
+    // What a halt of the machine is to the script.
+    fn halted(&mut self, halt: Halt) -> Turn
+        ensures live { self.new ≡ with_halt halt self.old }
+        ensures turn { result ≡ turn_of halt }
+    {
+        match halt {
+            Halt::Asks(call) => Turn::Asks(call),
+            Halt::AtTick => Turn::AtTick,
+            Halt::Ended(outcome) => {
+                self.outcome = Some(outcome);
+                Turn::Ended
+            }
+            Halt::Faulted(fault) => Turn::Faulted(fault),
+            Halt::NoMemory => Turn::NoMemory,
+        }
+    }
+
+    /// Gives the answer to what was asked for: a value of the call's result, or none where it has none. Takes no
+    /// memory.
+    pub fn answer(&mut self, value: Option<Value>)
+        requires { Wants self.old.machine.standing value }
+        ensures able { CanRun self.new.machine.standing }
+        ensures awake { (unit : Code) → IsAwake unit self.old → IsAwake unit self.new }
+        ensures beside { IsBeside self.old self.new }
+        ensures source { (codes : List Code) (unit : Code) (s : Source) (f : Flight) (id : BuiltinId) →
+            Waits codes unit s f id self.old → Lives codes unit s (given (reply.Value value) f) self.new }
+    {
+        self.machine.answer(value);
+    }
+
+    /// Posts an event, which isn't `state_exit`. Takes no memory; walks the state's handlers, and at a timer event the
+    /// queue.
+    pub fn post(&mut self, unit: &Woven, event: Event) -> Posted
+        requires awake { IsAwake unit.now self.old }
+        requires other { is_exit event ≡ false }
+        ensures posted { result ≡ posted_to unit.now.states event self.old.parts }
+        ensures parts { self.new ≡ record self.old { parts = with_posted unit.now.states event self.old.parts } }
+        ensures awake { IsAwake unit.now self.new }
+        ensures source { (codes : List Code) (s : Source) (f : Flight) (id : BuiltinId) (number : ℕ) →
+            Waits codes unit.now s f id self.old →
+            let told = post_to (rules_of codes) number event s in
+            Waits codes unit.now told.value f id self.new × (told.entries ≡ entries_of_posting number result) }
+    {
+        self.parts.post(unit, event)
+    }
+
+    /// Its listens. Takes no memory.
+    pub fn listens(&mut self) -> &mut Listens
+        ensures* lends { sem 𝓛 (LendsListens self.entry result) }
+        ensures value { result.now ≡ self.old.parts.listens }
+    {
+        let parts = &mut self.parts;
+        &mut parts.listens
+    }
+
+    /// Its timer. Takes no memory.
+    pub fn timer(&mut self) -> &mut Timer
+        ensures* lends { sem 𝓛 (LendsTimer self.entry result) }
+        ensures value { result.now ≡ self.old.parts.timer }
+    {
+        let parts = &mut self.parts;
+        &mut parts.timer
+    }
+
+    /// It sleeps until this reading of the clock. Takes no memory.
+    pub fn nap(&mut self, wake: u64)
+        ensures wake { self.new ≡ with_wake wake self.old }
+        ensures awake { (unit : Code) → IsAwake unit self.old → IsAwake unit self.new }
+        ensures source { (codes : List Code) (unit : Code) (s : Source) (f : Flight) (id : BuiltinId) →
+            Waits codes unit s f id self.old → Waits codes unit (napped wake s) f id self.new }
+    {
+        self.parts.wake = wake;
+    }
+}

@@ -1,0 +1,55 @@
+//! A script comes to rest at a tick: its calls are saved.
+
+ghost use Rattle.std.specs.Prelude.{◌≡◌, List, IfOk};
+ghost use Rattle.lsl_code.specs.declared.woven_units.Woven.{Woven as Code};
+ghost use Rattle.lsl_code.specs.Weaves.{Weaves};
+ghost use Rattle.lsl_machine.specs.declared.standing.Standing.TheVariants as standings;
+ghost use Rattle.lsl_script.specs.Awake.{IsAwake};
+ghost use Rattle.lsl_script.specs.Codes.{rules_of};
+ghost use Rattle.lsl_script.specs.Fitting.{FitsUnit};
+ghost use Rattle.lsl_script.specs.Lawful.{Lawful};
+ghost use Rattle.lsl_script.specs.Lives.{Rests};
+ghost use Rattle.lsl_script.specs.Parts.{parts_of};
+ghost use Rattle.lsl_script.specs.Scripts.{Flight, Script as Source};
+
+use crate::live::Live;
+use crate::scripts::Script;
+use lsl_code::Woven;
+use lsl_machine::Parked;
+use lsl_post::{Rest, ScriptParts};
+use lsl_running::Kept;
+use lsl_text::NoMemory;
+
+impl Live {
+    /// The script at rest, its handler saved where it stands.
+    pub fn rest(self, unit: &Woven) -> Result<Script, NoMemory>
+        requires awake { IsAwake unit.now self }
+        requires stands { self.machine.standing ≡ standings.AtTick }
+        requires weaves { Weaves unit.now }
+        ensures fits { IfOk result (FitsUnit unit.now) }
+        ensures source { (codes : List Code) (s : Source) (f : Flight) → Rests codes unit.now s f self →
+            IfOk result (λ script. script ≡ parts_of codes s) }
+        ensures lawful { (codes : List Code) (s : Source) (f : Flight) → Rests codes unit.now s f self →
+            Lawful (rules_of codes) s }
+    {
+        let Live {
+            mut parts,
+            event,
+            machine,
+            ..
+        } = self;
+        let Parked { sack, kept } = machine.save(unit)?;
+        keep(&mut parts, kept);
+        parts.rest = Rest::Saved(event, sack);
+        Ok(Script::from_parts(parts, unit))
+    }
+}
+
+/// The script keeps these globals and this limit.
+pub fn keep(parts: &mut ScriptParts, kept: Kept)
+    ensures { parts.new ≡ record parts.old { globals = kept.globals; limit = kept.limit } }
+{
+    let Kept { globals, limit } = kept;
+    parts.globals = globals;
+    parts.limit = limit;
+}
