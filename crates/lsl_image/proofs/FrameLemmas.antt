@@ -1,14 +1,13 @@
 -- Saved calls, read one behind another.
-use Rattle.std.proofs.Common.{◌≡◌, ◌∙◌, refl, subst, sym, ap, ℕ, ◌+◌, nat_lt, List, [], ◌∷◌, ◌++◌, length, Bool, true, false, Option, Some, None, Result}
+use Rattle.std.proofs.Common.{◌≡◌, ◌∙◌, refl, subst, sym, ap, ℕ, ◌+◌, nat_lt, List, [], ◌∷◌, ◌++◌, length, true, false, Option, Some, None, Result}
 use Rattle.lsl_text.specs.declared.Refusal.{Refusal}
-use Rattle.lsl_value.specs.declared.tagged.Value.{Value}
 use Rattle.lsl_code.specs.declared.frames.Frame.{Frame}
 use Rattle.lsl_code.specs.declared.functions.Point.{Point}
 use Rattle.lsl_code.specs.declared.units.Unit.{Unit as Code}
 use Rattle.lsl_image.specs.declared.faults.ImageFault.{ImageFault}
 use Rattle.lsl_image.specs.declared.faults.ImageFault.TheVariants.{Body}
 use Rattle.lsl_image.specs.Layout.{Layout, Ends, ◌>>=◌, values_of}
-use Rattle.lsl_image.specs.Reading.{Faults, Gives, Reads}
+use Rattle.lsl_image.specs.Reading.{Faults, Reads}
 use Rattle.lsl_image.specs.Rest.{callee_of, frame, frame_at, frame_behind, frame_in, same_callee}
 use Rattle.lsl_image.proofs.LeadingLemmas.{Leads}
 

@@ -1,13 +1,11 @@
 -- Bytes of a layout stand for one thing, and have no fault.
-use Rattle.std.proofs.Common.{◌≡◌, ◌∙◌, sym, ap, refl, subst, inl, inr, ◌⊎◌, ⊎_elim, arith, ℕ, ◌+◌, List, length, drop}
+use Rattle.std.proofs.Common.{◌≡◌, ◌∙◌, sym, ap, subst, inl, inr, arith, ℕ, List, length, drop}
 use Rattle.lsl_bytes.specs.Laws.{IsPrefixFree}
-use Rattle.lsl_bytes.specs.Places.{StandsAt}
 use Rattle.lsl_bytes.proofs.NumberLemmas.{i32-prefix_free, u8-prefix_free, u16-prefix_free, u32-prefix_free, u64-prefix_free}
 use Rattle.lsl_bytes.proofs.PlaceLemmas.{same-fronts}
 use Rattle.lsl_bytes.proofs.TextLemmas.{text-prefix_free}
 use Rattle.lsl_bytes.proofs.ValueLemmas.{value-prefix_free}
 use Rattle.lsl_image.specs.declared.faults.ImageFault.{ImageFault}
-use Rattle.lsl_image.specs.declared.faults.ImageFault.TheVariants.{Body}
 use Rattle.lsl_image.specs.Layout.{Content, Fits, Form, U8, U16, U32, U64, I32, Bytes, TextForm, ValueForm, Layout, Ends, Refused, Here, Field, bytes_of}
 use Rattle.lsl_image.specs.Reading.{Faults, Gives, Stands}
 

@@ -1,5 +1,5 @@
 -- Layouts read one behind another.
-use Rattle.std.proofs.Common.{◌≡◌, refl, subst, inl, inr, ℕ, List, Result, Ok, Err}
+use Rattle.std.proofs.Common.{refl, subst, inl, inr, ℕ, List, Result, Ok, Err}
 use Rattle.lsl_text.specs.declared.Refusal.{Refusal}
 use Rattle.lsl_text.specs.declared.Refusal.TheVariants.{Fault, NoMemory}
 use Rattle.lsl_image.specs.declared.faults.ImageFault.{ImageFault}

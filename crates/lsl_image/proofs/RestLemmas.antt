@@ -1,6 +1,5 @@
 -- What a script rests in, behind its number.
 use Rattle.std.proofs.Common.{◌≡◌, ◌≢◌, ◌∙◌, refl, subst, sym, arith, ℕ, zero, suc, ◌<◌, ◌≤◌, nat_le, List, Bool, true, false}
-use Rattle.std.proofs.lemmas.Bool.{false≢true}
 use Rattle.lsl_value.specs.declared.tagged.Value.{Value}
 use Rattle.lsl_running.specs.declared.ends.Fault.TheVariants.{MathError, StackHeap, TooManyListens}
 use Rattle.lsl_code.specs.declared.frames.Frame.{Frame}
@@ -12,6 +11,7 @@ use Rattle.lsl_image.specs.declared.faults.ImageFault.TheVariants.{Body}
 use Rattle.lsl_image.specs.Layout.{Layout, tested}
 use Rattle.lsl_image.specs.Reading.{Faults, Gives}
 use Rattle.lsl_image.specs.Rest.{dead_rest, fault_numbered, rest_of, saved_rest}
+use Rattle.lsl_image.proofs.FieldLemmas.{test-fails, test-passes}
 use Rattle.lsl_image.proofs.LeadingLemmas.{Leads, leads-ends}
 
 pub fault_first : (n : ℕ) → n < 2 → fault_numbered n ≡ MathError
@@ -30,15 +30,6 @@ fault_last zero least = absurd (omega (arith, least))
 fault_last (suc zero) least = absurd (omega (arith, least))
 fault_last (suc (suc zero)) least = absurd (omega (arith, least))
 fault_last (suc (suc (suc n))) least = refl
-
-module _ {A : Type 0} (bytes : List ℕ) (place : ℕ) (a : A) (q : ℕ) where
-  test-fails : (good : Bool) → good ≡ false → Faults bytes (tested good place a) q (Body place)
-  test-fails true bad = absurd (false≢true (sym bad))
-  test-fails false bad = refl
-
-  test-passes : (good : Bool) → good ≡ true → Gives bytes (tested good place a) q a q
-  test-passes true holds = (refl, refl)
-  test-passes false holds = absurd (false≢true holds)
 
 module _ (bytes : List ℕ) (globals : List Value) (most place : ℕ) (frames shown : List Frame)
     (same : shown ≡ frames) (within : Bool) (own : within ≡ nat_le (parked_charge globals shown) most) (q : ℕ)

@@ -1,9 +1,8 @@
 -- What is spelled is read, and what is read is spelled.
-use Rattle.std.proofs.Common.{◌≡◌, ◌∙◌, sym, ap, refl, subst, arith, ℕ, ◌+◌, ◌≤◌, List, [], ◌∷◌, ◌++◌, length, drop, length-append, append_assoc}
-use Rattle.std.proofs.lemmas.List.{append-nil, drop_at, drop-drop}
+use Rattle.std.proofs.Common.{◌∙◌, sym, ap, refl, subst, arith, ℕ, ◌+◌, ◌≤◌, List, [], ◌++◌, length, drop, length-append, append_assoc}
 use Rattle.lsl_bytes.specs.Places.{StandsAt}
 use Rattle.lsl_bytes.proofs.PlaceLemmas.{stands-front, stands-rest}
-use Rattle.lsl_image.specs.Layout.{Content, Form, Layout, Ends, Refused, Here, Field, bytes_of}
+use Rattle.lsl_image.specs.Layout.{Layout, Ends, Refused, Here, Field, bytes_of}
 use Rattle.lsl_image.specs.Reading.{Gives}
 use Rattle.lsl_image.specs.Spelling.{Spells}
 

@@ -1,11 +1,11 @@
 -- Which bytes are images, what they stand for, and what the first fault of other bytes is.
-use Rattle.std.specs.Prelude.{◌≡◌, ◌≢◌, ℕ, ◌+◌, ◌-◌, ◌<◌, ◌≤◌, ◌^◌, ◌⊎◌, List, length, take, drop}
+use Rattle.std.specs.Prelude.{◌≡◌, ◌≢◌, ℕ, ◌-◌, ◌<◌, ◌≤◌, ◌⊎◌, List, length, take, drop}
 use Rattle.sha2.specs.Sha256.{sha256}
 use Rattle.lsl_code.specs.declared.units.Unit.{Unit as Code}
 use Rattle.lsl_bytes.specs.Fields.{FitsU64, u64_bytes}
 use Rattle.lsl_bytes.specs.Places.{StandsAt}
 use Rattle.lsl_image.specs.declared.faults.ImageFault.{ImageFault}
-use Rattle.lsl_image.specs.declared.faults.ImageFault.TheVariants.{Size, Digest, Version, WrongCode, Body, NotFrozen}
+use Rattle.lsl_image.specs.declared.faults.ImageFault.TheVariants.{Size, Digest}
 use Rattle.lsl_image.specs.declared.parts.ObjectParts.{ObjectParts}
 use Rattle.lsl_image.specs.declared.parts.Shape.{Shape}
 use Rattle.lsl_image.specs.declared.parts.WorldParts.{WorldParts}
@@ -45,19 +45,23 @@ IsIntact bytes = HasSize bytes × (digest_in bytes ≡ sha256 (covered bytes))
 abbrev pub IsImage : {A : Type 0} → (ℕ → Layout A) → List ℕ → A → Type 0
 IsImage layout bytes a = IsIntact bytes × Gives (covered bytes) (layout (digested bytes)) 0 a (digested bytes)
 
+-- the digest of these bytes isn't that which stands behind them
+abbrev pub IsDigestFault : List ℕ → List ℕ → ImageFault → Type 0
+IsDigestFault bytes behind (Digest found wanted) = (found ≡ sha256 bytes) × (wanted ≡ behind) × (found ≢ wanted)
+IsDigestFault bytes behind fault = ⊥
+
+-- another size is named than that of the bytes, or another digest stands there than theirs
+abbrev pub IsOuterFault : List ℕ → ImageFault → Type 0
+IsOuterFault bytes (Size found wanted) = (found ≡ length bytes) × WantsSize bytes wanted
+IsOuterFault bytes fault = HasSize bytes × IsDigestFault (covered bytes) (digest_in bytes) fault
+
 -- the bytes arrived as they were sent, and this is the first fault of their fields
 abbrev pub IsFieldFault : {A : Type 0} → (ℕ → Layout A) → List ℕ → ImageFault → Type 0
 IsFieldFault layout bytes fault = IsIntact bytes × Faults (covered bytes) (layout (digested bytes)) 0 fault
 
 -- this is the first fault of bytes that are no image of this layout
 abbrev pub IsFirstFault : {A : Type 0} → (ℕ → Layout A) → List ℕ → ImageFault → Type 0
-IsFirstFault layout bytes (Size found wanted) = (found ≡ length bytes) × WantsSize bytes wanted
-IsFirstFault layout bytes (Digest found wanted) =
-    HasSize bytes × (found ≡ sha256 (covered bytes)) × (wanted ≡ digest_in bytes) × (found ≢ wanted)
-IsFirstFault layout bytes NotFrozen = ⊥
-IsFirstFault layout bytes (Version n) = IsFieldFault layout bytes (Version n)
-IsFirstFault layout bytes (WrongCode found wanted) = IsFieldFault layout bytes (WrongCode found wanted)
-IsFirstFault layout bytes (Body place) = IsFieldFault layout bytes (Body place)
+IsFirstFault layout bytes fault = IsOuterFault bytes fault ⊎ IsFieldFault layout bytes fault
 
 -- images of objects, read where the object is in this region, and of worlds
 abbrev pub ObjectImage : List ℕ → Shape → List Code → ObjectParts → List ℕ → Type 0

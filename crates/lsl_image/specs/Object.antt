@@ -1,10 +1,9 @@
 -- The layout of an object's image.
-use Rattle.std.specs.Prelude.{ℕ, zero, suc, ◌+◌, ◌*◌, ◌==◌, Bool, true, not, ◌&&◌, nat_le, nat_lt, if◌then◌else◌, List, [], ◌∷◌, ◌++◌, length, map, Option, Some, None, slice_get, codes, sum_by}
-use Rattle.std.specs.Char.{digit_value}
+use Rattle.std.specs.Prelude.{ℕ, ◌+◌, ◌==◌, Bool, true, false, ◌&&◌, nat_le, nat_lt, if◌then◌else◌, List, [], ◌∷◌, ◌++◌, length, Option, Some, None, slice_get, codes, sum_by}
 use Rattle.std.specs.Cmp.Lexicographic.{slice_cmp}
-use Rattle.std.specs.List.{filter as kept}
 use Rattle.std.specs.Ordering.{is_lt, nat_cmp}
 use Rattle.std.specs.Str.{bytes_eq, encode_utf8_all}
+use Rattle.uuid.specs.Text.{parsed}
 use Rattle.lsl_code.specs.declared.units.Unit.{Unit as Code}
 use Rattle.lsl_post.specs.declared.parts.Pair.{Pair}
 use Rattle.lsl_post.specs.declared.parts.ScriptParts.{ScriptParts}
@@ -14,15 +13,14 @@ use Rattle.lsl_image.specs.declared.parts.Shape.{Shape}
 use Rattle.lsl_image.specs.Layout.{Layout, Bytes, Ends, Refused, U8, U16, U64, TextForm, ◌>>=◌, each, field, field_that, grown, here, repeated, tested}
 use Rattle.lsl_image.specs.Rest.{script}
 
--- two digits of sixteen a byte
-abbrev pub paired : List ℕ → List ℕ
-paired [] = []
-paired (a ∷ []) = []
-paired (a ∷ b ∷ digits) = (a * 16 + b) ∷ paired digits
+-- the 16 bytes of the UUID that a key is
+abbrev pub key_bytes : List ℕ → Option (List ℕ)
+key_bytes key = parsed (encode_utf8_all key)
 
--- the 16 bytes of a key
-abbrev pub key_bytes : List ℕ → List ℕ
-key_bytes key = paired (map digit_value (kept (λ c. not (c == 45)) key))
+-- these bytes, and no others
+abbrev pub are_these : Option (List ℕ) → List ℕ → Bool
+are_these None found = false
+are_these (Some bytes) found = bytes_eq found bytes
 
 abbrev pub is_above : List ℕ → List Pair → Bool
 is_above name [] = true
@@ -62,7 +60,7 @@ script_of version number (Some unit) = script version number unit
 -- an object's own part of an image
 unfoldable pub body : ℕ → Shape → List Code → Layout ObjectParts
 body version shape library = do
-  key ← field_that (Bytes 16) (λ key. bytes_eq key (key_bytes shape.key))
+  key ← field_that (Bytes 16) (are_these (key_bytes shape.key))
   prims ← field_that U8 (λ n. n == shape.prims)
   names ← repeated shape.prims (field TextForm)
   count ← field_that U16 (λ n. n == length shape.units)
@@ -70,26 +68,32 @@ body version shape library = do
   pairs ← store version
   Ends (record { key = shape.key; names = names; scripts = scripts; store = pairs })
 
--- what an image begins with: its letters, a version that is known, and its size
+-- a version that is known
+unfoldable pub known_version : Layout ℕ
+known_version = do
+  version ← field U16
+  if nat_le 1 version && nat_le version 2 then Ends version else Refused (Version version)
+
+-- what an image begins with: its letters, its version and its size
 unfoldable pub head : List ℕ → Layout ℕ
 head letters = do
   magic ← field_that (Bytes 4) (λ found. bytes_eq found letters)
-  version ← field U16
-  known ← (if nat_le 1 version && nat_le version 2 then Ends version else Refused (Version version))
+  version ← known_version
   size ← field U64
-  Ends known
+  Ends version
 
 -- version 2 names the region that sends the object
 unfoldable pub sender : ℕ → List ℕ → Layout (List ℕ)
-sender version region = if version == 1 then Ends region else field_that TextForm (bytes_eq region)
+sender version region = if version == 1 then Ends region else field_that TextForm (λ found. bytes_eq found region)
 
--- the layout ends where the digest begins
-abbrev pub up_to : {A : Type 0} → ℕ → A → Layout A
-up_to end a = here >>= λ place. tested (place == end) place a
+-- the fields end here, where the digest begins
+unfoldable pub ends_at : ℕ → Layout ℕ
+ends_at end = here >>= λ place. tested (place == end) place place
 
 unfoldable pub object : List ℕ → Shape → List Code → ℕ → Layout ObjectParts
 object region shape library end = do
   version ← head (codes "LSLO")
   from ← sender version region
   parts ← body version shape library
-  up_to end parts
+  last ← ends_at end
+  Ends parts

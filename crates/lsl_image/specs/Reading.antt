@@ -40,3 +40,8 @@ abbrev pub Reads : {A : Type 0} → List ℕ → Layout A → ℕ → Result (A 
 Reads bytes layout place (Ok (a, next)) = Gives bytes layout place a next
 Reads bytes layout place (Err (Fault fault)) = Faults bytes layout place fault
 Reads bytes layout place (Err NoMemory) = Unit {0}
+
+-- a refusal is this fault, or want of memory
+abbrev pub IsRefusedBy : (ImageFault → Type 0) → Refusal ImageFault → Type 0
+IsRefusedBy First (Fault fault) = First fault
+IsRefusedBy First NoMemory = Unit {0}

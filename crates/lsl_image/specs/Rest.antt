@@ -1,5 +1,5 @@
 -- The layout of what a script rests in, and of all its parts.
-use Rattle.std.specs.Prelude.{ℕ, zero, suc, ◌+◌, ◌==◌, Bool, true, false, not, ◌&&◌, ◌||◌, nat_eq, nat_le, nat_lt, if◌then◌else◌, List, [], ◌∷◌, length, Option, Some, None, is_some}
+use Rattle.std.specs.Prelude.{ℕ, zero, suc, ◌+◌, Bool, true, false, ◌&&◌, ◌||◌, nat_eq, nat_le, nat_lt, if◌then◌else◌, List, [], ◌∷◌, length, Option, Some, None, is_some}
 use Rattle.std.specs.Str.{bytes_eq}
 use Rattle.lsl_value.specs.declared.tagged.Value.{Value}
 use Rattle.lsl_running.specs.declared.ends.Fault.{Fault}
@@ -11,11 +11,9 @@ use Rattle.lsl_code.specs.Bodies.{point_of}
 use Rattle.lsl_code.specs.Frames.{parked_charge}
 use Rattle.lsl_code.specs.Kinds.{kinds_of}
 use Rattle.lsl_code.specs.Units.{handler_of}
-use Rattle.lsl_post.specs.declared.events.Event.{Event}
 use Rattle.lsl_post.specs.declared.parts.Rest.{Rest}
 use Rattle.lsl_post.specs.declared.parts.Rest.TheVariants.{Idle, Saved, Dead}
 use Rattle.lsl_post.specs.declared.parts.ScriptParts.{ScriptParts}
-use Rattle.lsl_image.specs.declared.faults.ImageFault.{ImageFault}
 use Rattle.lsl_image.specs.declared.faults.ImageFault.TheVariants.{Body, WrongCode}
 use Rattle.lsl_image.specs.Layout.{Layout, Bytes, Ends, Refused, U8, U16, U64, ◌>>=◌, field, field_that, grown, here, tested, values_of}
 use Rattle.lsl_image.specs.Script.{event_in, leaving, limit, listens, queue, timer}

@@ -1,5 +1,5 @@
 -- What is spelled is read, and what is read is spelled.
-use Rattle.std.specs.Prelude.{◌≡◌, ℕ, ◌≤◌, List, length}
+use Rattle.std.specs.Prelude.{ℕ, ◌≤◌, List, length}
 use Rattle.lsl_bytes.specs.Places.{StandsAt}
 use Rattle.lsl_image.specs.Layout.{Layout}
 use Rattle.lsl_image.specs.Reading.{Gives}

@@ -5,7 +5,7 @@ use Rattle.lsl_image.specs.declared.parts.Placed.{Placed}
 use Rattle.lsl_image.specs.declared.parts.Shape.{Shape}
 use Rattle.lsl_image.specs.declared.parts.WorldParts.{WorldParts}
 use Rattle.lsl_image.specs.Layout.{Layout, Ends, U8, U64, TextForm, ◌>>=◌, each, field, field_that}
-use Rattle.lsl_image.specs.Object.{body, head, up_to}
+use Rattle.lsl_image.specs.Object.{body, ends_at, head}
 
 -- the greatest reading of the clock, in milliseconds
 abbrev pub most_clock : ℕ
@@ -24,4 +24,5 @@ world shapes library end = do
   clock ← field_that U64 (λ n. nat_le n most_clock)
   count ← field_that U8 (λ n. n == length shapes)
   objects ← each (placed version library) shapes
-  up_to end (record { clock = clock; objects = objects })
+  last ← ends_at end
+  Ends (record { clock = clock; objects = objects })

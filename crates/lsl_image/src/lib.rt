@@ -8,16 +8,25 @@ mod examples;
 mod faults;
 mod fields;
 mod frames;
+mod head;
+mod images;
 mod laws;
+mod listens;
+mod object;
 mod parts;
 mod queue;
 mod rest;
+mod script;
+mod seal;
+mod store;
 mod toucher;
 mod values;
 mod waiting;
+mod world;
 
 pub use crate::examples::{object_without_scripts, world_without_objects};
 pub use crate::faults::ImageFault;
+pub use crate::images::{read_object, read_world};
 pub use crate::laws::{
     first_faults_are_one, images_are_of_one, images_have_no_fault, spelled_and_read,
 };

@@ -1,12 +1,36 @@
 //! Values of the kinds that are due.
 
+ghost use Rattle.std.specs.Prelude.{◌≡◌, map, IfOk};
+ghost use Rattle.lsl_value.specs.Values.{kind_of};
+ghost use Rattle.lsl_code.specs.Kinds.{kinds_of};
 ghost use Rattle.lsl_image.specs.Layout.{value_of, values_of};
 ghost use Rattle.lsl_image.specs.Reading.{Reads};
 
 use crate::faults::wrong;
 use crate::fields::{Read, read_value};
+use lsl_code::Woven;
+use lsl_text::NoMemory;
 use lsl_value::{Kind, Value, Values};
 use std::alloc::Global;
+
+/// A value of the kind of each global of the unit.
+pub fn read_globals(alloc: Global, bytes: &[u8], place: usize, unit: &Woven) -> Read<Values>
+    ensures { Reads bytes.now (values_of (kinds_of unit.now.globals)) place result }
+{
+    let kinds = kinds_of(alloc, unit.globals().as_slice())?;
+    read_values(alloc, bytes, place, kinds.as_slice())
+}
+
+// The kinds of these values.
+fn kinds_of(alloc: Global, values: &[Value]) -> Result<Vec<Kind>, NoMemory>
+    ensures { IfOk result (λ kinds. kinds.items ≡ map kind_of values.now) }
+{
+    let mut kinds = Vec::with_capacity(alloc, values.len())?;
+    for value in values {
+        kinds.push(value.kind())?;
+    }
+    Ok(kinds)
+}
 
 /// A value of each of these kinds.
 pub fn read_values(alloc: Global, bytes: &[u8], place: usize, kinds: &[Kind]) -> Read<Values>

@@ -1,4 +1,4 @@
-use Rattle.std.proofs.Common.{◌≡◌, ◌∙◌, sym, subst, List, Err}
+use Rattle.std.proofs.Common.{◌∙◌, sym, subst, List, Err}
 use Rattle.lsl_value.specs.declared.tagged.Kind.{Kind}
 use Rattle.lsl_image.specs.Layout.{values_of}
 use Rattle.lsl_image.specs.Reading.{Gives, Reads}

@@ -1,4 +1,4 @@
-use Rattle.std.proofs.Common.{◌≡◌, ◌<◌, ◌∙◌, ◌++◌, ◌∷◌, [], ap, sym, arith, length, length-append, Ok, Err}
+use Rattle.std.proofs.Common.{◌≡◌, ◌<◌, ◌++◌, ◌∷◌, [], ap, sym, arith, length, length-append, Ok, Err}
 use Rattle.lsl_image.specs.Rest.{callee_of, frame_behind}
 use Rattle.lsl_image.proofs.FrameLemmas.{callee-after, frame-behind}
 use Rattle.lsl_image.proofs.LeadingLemmas.{leads-full, leads-more, leads-start, leads-stops}

@@ -1,4 +1,3 @@
-use Rattle.std.proofs.Common.{ℕ, ◌≤◌, List, length}
 use Rattle.lsl_image.specs.Layout.{Layout}
 use Rattle.lsl_image.specs.SpellingLaws.{IsReadAsSpelled, IsSpelledAsRead}
 use Rattle.lsl_image.proofs.SpellingLemmas.{given-spelled, spelled-gives}
