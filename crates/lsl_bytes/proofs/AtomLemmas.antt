@@ -1,5 +1,5 @@
 -- Elements behind the tags of their kinds.
-use Rattle.std.proofs.Common.{◌≡◌, ◌∙◌, sym, ap, refl, subst, ℕ, ℤ, ◌+◌, ◌<◌, ◌≤◌, ◌^◌, arith, List, [], ◌∷◌, ◌++◌, length, append_assoc, Option, Some, None}
+use Rattle.std.proofs.Common.{◌≡◌, ◌∙◌, sym, ap, refl, subst, ℕ, ℤ, ◌<◌, arith, List, [], ◌∷◌, ◌++◌, Some, None}
 use Rattle.lsl_value.specs.Text.{IsText}
 use Rattle.lsl_value.specs.declared.list.Atom.{Atom}
 use Rattle.lsl_value.specs.declared.list.Atom.TheVariants.{Int, Str, Key}

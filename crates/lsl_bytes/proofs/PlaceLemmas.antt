@@ -1,7 +1,7 @@
 -- Parts that stand at places, and what was taken there.
-use Rattle.std.proofs.Common.{◌≡◌, ◌∙◌, sym, ap, refl, subst, inl, inr, get_or, ℕ, ◌+◌, ◌<◌, ◌≤◌, arith, List, [], ◌∷◌, ◌++◌, length, take, drop, length-append, length-drop, append_assoc, ◌-◌, slice_range, Option, Some, None}
+use Rattle.std.proofs.Common.{◌≡◌, ◌∙◌, sym, ap, refl, subst, inl, inr, get_or, ℕ, ◌+◌, ◌<◌, ◌≤◌, arith, List, ◌++◌, length, take, drop, length-append, length-drop, append_assoc, ◌-◌, slice_range, Some, None}
 use Rattle.std.proofs.lemmas.Bool.{cases_lt}
-use Rattle.std.proofs.lemmas.List.{drop-drop, drop_at, take_at, take_all, take-append-drop, length-take, append-nil, get_or-drop, get_or_append_left, get_or_past}
+use Rattle.std.proofs.lemmas.List.{drop-drop, drop_at, take_at, take_all, take-append-drop, length-take, get_or-drop, get_or_append_left, get_or_past}
 use Rattle.std.proofs.lemmas.Option.{none-some, some_pair_parts}
 use Rattle.lsl_bytes.specs.Laws.{IsPrefixFree}
 use Rattle.lsl_bytes.specs.Places.{StandsAt, Takes}

@@ -1,5 +1,5 @@
 -- Texts behind the count of their bytes.
-use Rattle.std.proofs.Common.{◌≡◌, ◌∙◌, sym, ap, refl, subst, ⊎_elim, ℕ, ◌+◌, ◌-◌, ◌<◌, ◌≤◌, ◌^◌, arith, List, [], ◌++◌, length, take, drop, slice_range, append_assoc, length-drop, ◌⊎◌, Option, Some, None}
+use Rattle.std.proofs.Common.{◌≡◌, ◌∙◌, sym, ap, refl, subst, ⊎_elim, ℕ, ◌+◌, ◌-◌, ◌<◌, ◌≤◌, arith, List, [], ◌++◌, length, take, drop, slice_range, append_assoc, length-drop, ◌⊎◌, Some, None}
 use Rattle.std.specs.Str.{encode_utf8_all}
 use Rattle.std.proofs.lemmas.List.{append-nil, length-take}
 use Rattle.std.proofs.lemmas.Str.{encodes_same}
@@ -8,7 +8,7 @@ use Rattle.lsl_bytes.specs.Fields.{FitsU32, IsCountable, u32_bytes, counted_byte
 use Rattle.lsl_bytes.specs.Laws.{IsPrefixFree}
 use Rattle.lsl_bytes.specs.Places.{StandsAt, Takes}
 use Rattle.lsl_bytes.proofs.NumberLemmas.{u32-prefix_free}
-use Rattle.lsl_bytes.proofs.PlaceLemmas.{front-stands, same-fronts, none-whole, stands-append, taken-front, takes_as, takes_no, takes_none, takes_some}
+use Rattle.lsl_bytes.proofs.PlaceLemmas.{front-stands, same-fronts, stands-append, taken-front, takes_as, takes_no, takes_none, takes_some}
 
 pub counted-prefix_free : IsPrefixFree counted_bytes IsCountable
 unfolding counted_bytes

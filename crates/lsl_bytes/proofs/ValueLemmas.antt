@@ -1,11 +1,11 @@
 -- Values: an element's, or a list behind its tag.
-use Rattle.std.proofs.Common.{◌≡◌, ◌∙◌, sym, ap, refl, subst, inl, inr, ◌⊎◌, ⊎_elim, ℕ, suc, ◌+◌, ◌<◌, ◌≤◌, ◌^◌, arith, List, [], ◌∷◌, ◌++◌, length, Option, Some, None}
+use Rattle.std.proofs.Common.{◌≡◌, ◌∙◌, sym, ap, refl, subst, inl, inr, ◌⊎◌, ℕ, arith, List, ◌∷◌, ◌++◌, Some, None}
 use Rattle.lsl_value.specs.Values.{value_of_atom}
 use Rattle.lsl_value.specs.declared.list.Atom.{Atom}
 use Rattle.lsl_value.specs.declared.list.Atom.TheVariants.{Int as AtomInt, Str as AtomStr, Key as AtomKey}
 use Rattle.lsl_value.specs.declared.tagged.Value.{Value}
 use Rattle.lsl_value.specs.declared.tagged.Value.TheVariants.{Int, Str, Key, List as ListValue}
-use Rattle.lsl_bytes.specs.Fields.{FitsU8, AreItems, IsAtom, IsValue, u8_bytes, i32_bytes, text_bytes, atom_bytes, list_bytes, value_bytes}
+use Rattle.lsl_bytes.specs.Fields.{FitsU8, AreItems, IsAtom, IsValue, u8_bytes, atom_bytes, list_bytes, value_bytes}
 use Rattle.lsl_bytes.specs.Laws.{IsPrefixFree}
 use Rattle.lsl_bytes.specs.Places.{StandsAt, Takes}
 use Rattle.lsl_bytes.proofs.AtomLemmas.{atom-prefix_free, atom-tag, same-tag, tag-differs, tagged-found}

@@ -3,9 +3,10 @@
 //! After an `Err` of a call that appends, a front of its bytes may stand behind the old ones.
 
 ghost use Rattle.std.specs.Prelude.{◌≡◌, ◌≤◌, ◌++◌, ◌∷◌, take, vec_len, length, IfOk, OnOk, OnErr};
-ghost use Rattle.std.specs.List.{flat_map};
+ghost use Rattle.std.specs.List.{flat_map, AllByRecursion};
 ghost use Rattle.std.specs.Option.{option_map};
-ghost use Rattle.lsl_bytes.specs.Fields.{AreAtoms, AreItems, IsAtom, atom_bytes, i32_bytes, list_bytes, text_bytes};
+ghost use Rattle.lsl_value.specs.Text.{IsText};
+ghost use Rattle.lsl_bytes.specs.Fields.{AreAtoms, AreItems, FitsI32, IsAtom, atom_bytes, i32_bytes, list_bytes, text_bytes};
 ghost use Rattle.lsl_bytes.specs.Places.{Takes};
 
 use crate::Taken;
@@ -34,6 +35,7 @@ const LEAST_ATOM_BYTES: usize = 5;
 pub fn append_int(out: &mut Vec<u8>, n: i32) -> Result<(), NoMemory>
     ensures ok { OnOk result (out.new.items ≡ out.old.items ++ 1 ∷ i32_bytes n) }
     ensures front { OnErr result (take (vec_len out.old) out.new.items ≡ out.old.items) }
+    ensures valid { OnOk result (FitsI32 n) }
 {
     out.push(INT_TAG)?;
     push_i32(out, n)
@@ -43,6 +45,7 @@ pub fn append_int(out: &mut Vec<u8>, n: i32) -> Result<(), NoMemory>
 pub fn append_tagged(out: &mut Vec<u8>, tag: u8, text: &Text) -> Result<(), NoMemory>
     ensures ok { OnOk result (out.new.items ≡ out.old.items ++ tag ∷ text_bytes text.now) }
     ensures front { OnErr result (take (vec_len out.old) out.new.items ≡ out.old.items) }
+    ensures valid { OnOk result (IsText text.now) }
 {
     out.push(tag)?;
     append_text(out, text)
@@ -53,6 +56,7 @@ pub fn append_tagged(out: &mut Vec<u8>, tag: u8, text: &Text) -> Result<(), NoMe
 pub fn append_items(out: &mut Vec<u8>, items: &Items) -> Result<(), NoMemory>
     ensures ok { OnOk result (out.new.items ≡ out.old.items ++ 7 ∷ list_bytes items.now) }
     ensures front { OnErr result (take (vec_len out.old) out.new.items ≡ out.old.items) }
+    ensures valid { OnOk result (AreItems items.now) }
 {
     out.push(LIST_TAG)?;
     push_u32(out, items.len() as u32)?;
@@ -63,6 +67,7 @@ pub fn append_items(out: &mut Vec<u8>, items: &Items) -> Result<(), NoMemory>
 fn append_atom(out: &mut Vec<u8>, atom: &Atom) -> Result<(), NoMemory>
     ensures ok { OnOk result (out.new.items ≡ out.old.items ++ atom_bytes atom.now) }
     ensures front { OnErr result (take (vec_len out.old) out.new.items ≡ out.old.items) }
+    ensures valid { OnOk result (IsAtom atom.now) }
 {
     match atom {
         Atom::Int(n) => append_int(out, *n),
@@ -74,6 +79,7 @@ fn append_atom(out: &mut Vec<u8>, atom: &Atom) -> Result<(), NoMemory>
 fn append_atoms(out: &mut Vec<u8>, atoms: &[Atom]) -> Result<(), NoMemory>
     ensures ok { OnOk result (out.new.items ≡ out.old.items ++ flat_map atom_bytes atoms.now) }
     ensures front { OnErr result (take (vec_len out.old) out.new.items ≡ out.old.items) }
+    ensures valid { OnOk result (AllByRecursion IsAtom atoms.now) }
 {
     'atoms: for atom in atoms {
         append_atom(out, atom)?;

@@ -12,10 +12,11 @@ use lsl_text::NoMemory;
 use lsl_value::Text;
 use std::alloc::Global;
 
-/// Appends a text: the count of its bytes, and its UTF-8.
+/// Appends a text: the count of its bytes, and its UTF-8. Any text fits its field.
 pub fn push_text(out: &mut Vec<u8>, text: &Text) -> Result<(), NoMemory>
     ensures ok { OnOk result (out.new.items ≡ out.old.items ++ text_bytes text.now) }
     ensures unchanged { OnErr result (out.new.items ≡ out.old.items) }
+    ensures valid { IsText text.now }
 {
     let start = out.len();
     let pushed = append_text(out, text);
@@ -30,6 +31,7 @@ pub fn push_text(out: &mut Vec<u8>, text: &Text) -> Result<(), NoMemory>
 pub fn append_text(out: &mut Vec<u8>, text: &Text) -> Result<(), NoMemory>
     ensures ok { OnOk result (out.new.items ≡ out.old.items ++ text_bytes text.now) }
     ensures front { OnErr result (take (vec_len out.old) out.new.items ≡ out.old.items) }
+    ensures valid { IsText text.now }
 {
     push_u32(out, text.bytes().len() as u32)?;
     out.extend_from_slice(text.bytes())

@@ -14,10 +14,12 @@ use lsl_text::NoMemory;
 use lsl_value::{Atom, Value};
 use std::alloc::Global;
 
-/// Appends a value: the tag of its kind, and the number, the text, or the count of elements and these.
+/// Appends a value: the tag of its kind, and the number, the text, or the count of elements and these. Any value fits its
+/// field.
 pub fn push_value(out: &mut Vec<u8>, value: &Value) -> Result<(), NoMemory>
     ensures ok { OnOk result (out.new.items ≡ out.old.items ++ value_bytes value.now) }
     ensures unchanged { OnErr result (out.new.items ≡ out.old.items) }
+    ensures valid { OnOk result (IsValue value.now) }
 {
     let start = out.len();
     let pushed = append_value(out, value);
@@ -52,6 +54,7 @@ pub fn take_value(alloc: Global, bytes: &[u8], place: usize) -> Taken<Value>
 fn append_value(out: &mut Vec<u8>, value: &Value) -> Result<(), NoMemory>
     ensures ok { OnOk result (out.new.items ≡ out.old.items ++ value_bytes value.now) }
     ensures front { OnErr result (take (vec_len out.old) out.new.items ≡ out.old.items) }
+    ensures valid { OnOk result (IsValue value.now) }
 {
     match value {
         Value::Int(n) => append_int(out, *n),

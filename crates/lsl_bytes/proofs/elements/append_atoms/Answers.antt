@@ -1,4 +1,4 @@
-use Rattle.std.proofs.Common.{◌≡◌, Result, Ok, Err, OnErr, take, rules}
+use Rattle.std.proofs.Common.{Result, Ok, Err, OnErr, take, rules}
 use Rattle.std.specs.List.{flat_map}
 use Rattle.lsl_bytes.specs.Fields.{atom_bytes}
 use Rattle.lsl_bytes.proofs.PlaceLemmas.{front-kept}
@@ -12,5 +12,5 @@ pub returns-in_err-append_atom-clause-front : goal.returns-in_err-append_atom-cl
 returns-in_err-append_atom-clause-front c =
     at_err c.from_residual.result _
     (front-kept c.args.out.now.items c.atoms.out.items c.append_atom.new.out.items
-    (flat_map atom_bytes (take c.atoms.atom-index c.args.atoms.now)) _ _ (search rules) c.atoms.invariant
+    (flat_map atom_bytes (take c.atoms.atom-index c.args.atoms.now)) _ _ (search rules) c.atoms.invariant.written
     c.in_err-append_atom.ensures.front)

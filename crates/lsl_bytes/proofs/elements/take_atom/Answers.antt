@@ -1,6 +1,5 @@
-use Rattle.std.proofs.Common.{◌≡◌, ◌∙◌, sym, ap, subst, ℕ, Some, arith}
-use Rattle.lsl_bytes.specs.Fields.{FitsU8, FitsI32, IsAtom, u8_bytes, i32_bytes, text_bytes, atom_bytes}
-use Rattle.lsl_bytes.specs.Places.{Takes}
+use Rattle.std.proofs.Common.{◌≡◌, arith}
+use Rattle.lsl_bytes.specs.Fields.{FitsI32, IsAtom, i32_bytes, text_bytes, atom_bytes}
 use Rattle.std.specs.Int.{w32, cast_signed, cast_unsigned}
 use Rattle.std.proofs.lemmas.Int.{to_z-of_z}
 use Rattle.lsl_value.specs.Text.{IsText}

@@ -1,4 +1,4 @@
-use Rattle.std.proofs.Common.{arith, ◌≡◌, ◌+◌, sym, ap, subst, List, [], ◌∷◌, ◌++◌, length, length-append}
+use Rattle.std.proofs.Common.{arith, ◌≡◌, sym, ap, subst, List, [], ◌∷◌, ◌++◌, length, length-append}
 use Rattle.lsl_value.specs.declared.list.Atom.{Atom}
 use Rattle.lsl_bytes.proofs.ListLemmas.{IsTaking, taking-all, taking-more, taking-stops}
 use Rattle.lsl_bytes.proofs.elements.take_atoms.Goals as goal

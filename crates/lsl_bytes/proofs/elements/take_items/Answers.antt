@@ -1,4 +1,4 @@
-use Rattle.std.proofs.Common.{arith, ◌≡◌}
+use Rattle.std.proofs.Common.{arith}
 use Rattle.lsl_bytes.proofs.ListLemmas.{list-found, list-no_atoms, list-no_count, list-too_long}
 use Rattle.lsl_bytes.proofs.elements.take_items.Goals as goal
 

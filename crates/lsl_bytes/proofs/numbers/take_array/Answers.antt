@@ -1,4 +1,4 @@
-use Rattle.std.proofs.Common.{◌≡◌, ◌+◌, List, ℕ, length}
+use Rattle.std.proofs.Common.{◌+◌}
 use Rattle.lsl_bytes.proofs.NumberLemmas.{array_bytes, IsArray}
 use Rattle.lsl_bytes.proofs.PlaceLemmas.{front-stands, same-fronts, takes_some}
 use Rattle.lsl_bytes.proofs.numbers.take_array.Goals as goal

@@ -1,4 +1,4 @@
-use Rattle.std.proofs.Common.{arith, ◌∙◌, ap, ℕ, ℤ, ◌≡◌}
+use Rattle.std.proofs.Common.{◌∙◌, ap, ℤ, ◌≡◌}
 use Rattle.std.specs.Int.{w32, cast_unsigned, cast_signed}
 use Rattle.std.proofs.lemmas.Int.{of_z-to_z}
 use Rattle.lsl_bytes.specs.Fields.{u32_bytes, FitsU32, i32_bytes, FitsI32}

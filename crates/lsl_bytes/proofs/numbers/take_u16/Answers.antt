@@ -1,5 +1,4 @@
-use Rattle.std.proofs.Common.{arith, List, ℕ, ◌≡◌, ◌+◌, length}
-use Rattle.std.proofs.lemmas.Option.{none-some}
+use Rattle.std.proofs.Common.{arith}
 use Rattle.lsl_bytes.specs.Fields.{u16_bytes, FitsU16}
 use Rattle.lsl_bytes.proofs.NumberLemmas.{array_bytes, IsArray, array-none, length-u16, u16-of_bytes, u16-prefix_free}
 use Rattle.lsl_bytes.proofs.PlaceLemmas.{part-fits, takes_as}

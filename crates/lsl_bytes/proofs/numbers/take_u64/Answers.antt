@@ -1,5 +1,4 @@
-use Rattle.std.proofs.Common.{arith, List, ℕ, ◌≡◌, ◌+◌, length}
-use Rattle.std.proofs.lemmas.Option.{none-some}
+use Rattle.std.proofs.Common.{arith}
 use Rattle.lsl_bytes.specs.Fields.{u64_bytes, FitsU64}
 use Rattle.lsl_bytes.proofs.NumberLemmas.{array_bytes, IsArray, array-none, length-u64, u64-of_bytes, u64-prefix_free}
 use Rattle.lsl_bytes.proofs.PlaceLemmas.{part-fits, takes_as}

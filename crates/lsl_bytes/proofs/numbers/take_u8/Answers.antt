@@ -1,7 +1,7 @@
-use Rattle.std.proofs.Common.{arith, ◌∙◌, sym, ap, List, ℕ, ◌≡◌, ◌+◌, length}
+use Rattle.std.proofs.Common.{arith, ◌∙◌, sym, ap}
 use Rattle.lsl_bytes.specs.Fields.{u8_bytes, FitsU8}
 use Rattle.lsl_bytes.proofs.NumberLemmas.{array_bytes, IsArray, array-none, length-u8, u8-of_bytes, u8-prefix_free}
-use Rattle.lsl_bytes.proofs.PlaceLemmas.{part-fits, takes_as}
+use Rattle.lsl_bytes.proofs.PlaceLemmas.{takes_as}
 use Rattle.lsl_bytes.proofs.numbers.take_u8.Goals as goal
 
 pub returns-in_err-field : goal.returns-in_err-field

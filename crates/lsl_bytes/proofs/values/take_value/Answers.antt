@@ -1,4 +1,4 @@
-use Rattle.std.proofs.Common.{◌≡◌, ℕ, arith}
+use Rattle.std.proofs.Common.{◌≡◌, arith}
 use Rattle.lsl_bytes.proofs.ValueLemmas.{value-atom_found, value-atom_none, value-list_found, value-list_none, value-no_tag}
 use Rattle.lsl_bytes.proofs.values.take_value.Goals as goal
 
