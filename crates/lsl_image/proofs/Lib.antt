@@ -14,6 +14,8 @@ pub mod PairLemmas
 pub mod ReadingLemmas
 pub mod RestLemmas
 pub mod SealLemmas
+pub mod SealedLemmas
 pub mod SpellingLemmas
 pub mod StoreLemmas
 pub mod WaitingLemmas
+pub mod WroteLemmas

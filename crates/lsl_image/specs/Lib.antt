@@ -1,5 +1,7 @@
 pub mod Answers
+pub mod Bytes
 pub mod Examples
+pub mod Fits
 pub mod Images
 pub mod Laws
 pub mod Layout
@@ -9,4 +11,5 @@ pub mod Rest
 pub mod Script
 pub mod Spelling
 pub mod SpellingLaws
+pub mod Valid
 pub mod World

@@ -23,6 +23,12 @@ mod toucher;
 mod values;
 mod waiting;
 mod world;
+mod write_body;
+mod write_events;
+mod write_images;
+mod write_rest;
+mod write_script;
+mod write_waiting;
 
 pub use crate::examples::{object_without_scripts, world_without_objects};
 pub use crate::faults::ImageFault;
@@ -31,3 +37,4 @@ pub use crate::laws::{
     first_faults_are_one, images_are_of_one, images_have_no_fault, spelled_and_read,
 };
 pub use crate::parts::{ObjectParts, Pairs, Placed, Shape, Shapes, WorldParts};
+pub use crate::write_images::{write_object, write_world};

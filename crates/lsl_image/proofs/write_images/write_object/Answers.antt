@@ -1,0 +1,13 @@
+use Rattle.std.proofs.Common.{◌∙◌, ◌++◌, ap}
+use Rattle.std.specs.Prelude.{codes}
+use Rattle.std.proofs.lemmas.Result.{IfOk-weaker}
+use Rattle.lsl_bytes.specs.Fields.{text_bytes}
+use Rattle.lsl_image.specs.Bytes.{body_bytes, image_bytes}
+use Rattle.lsl_image.proofs.SealedLemmas.{fields-are}
+use Rattle.lsl_image.proofs.write_images.write_object.Goals as goal
+
+pub returns : goal.returns
+returns c =
+    let fields = fields-are c.in_ok-out.out.items c.write_object_fields.new.out.items (text_bytes c.args.region.now ++ body_bytes 2 c.args.library.now c.args.parts.now) c.in_ok-out.ensures
+    c.in_ok-write_object_fields.ensures.ok in
+    IfOk-weaker c.sealed.result _ _ (λ image is. is ∙ ap (image_bytes (codes "LSLO") 2) fields) c.sealed.ensures

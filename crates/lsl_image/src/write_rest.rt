@@ -1,0 +1,77 @@
+//! What a script rests in, appended to an image.
+
+ghost use Rattle.std.specs.Prelude.{◌≡◌, ◌++◌, ◌<◌, ◌≤◌, length, OnOk};
+ghost use Rattle.std.specs.List.{flat_map, AllByRecursion};
+ghost use Rattle.lsl_image.specs.Bytes.{calls_bytes, fault_number, frame_bytes, rest_bytes};
+ghost use Rattle.lsl_image.specs.Fits.{FitsFrame, FitsRest};
+ghost use Rattle.lsl_image.specs.Valid.{HasFewCalls};
+
+use crate::write_events::{write_event, write_values};
+use lsl_bytes::{push_u8, push_u16};
+use lsl_code::{Frame, Sack};
+use lsl_post::Rest;
+use lsl_running::Fault;
+use lsl_text::NoMemory;
+
+/// Appends what a script rests in behind its number.
+pub fn write_rest(out: &mut Vec<u8>, rest: &Rest) -> Result<(), NoMemory>
+    requires { HasFewCalls rest.now }
+    ensures ok { OnOk result (out.new.items ≡ out.old.items ++ rest_bytes rest.now) }
+    ensures fits { OnOk result (FitsRest rest.now) }
+{
+    match rest {
+        Rest::Idle => push_u8(out, 0),
+        Rest::Saved(event, sack) => {
+            push_u8(out, 1)?;
+            write_event(out, event)?;
+            write_calls(out, sack)
+        }
+        Rest::Dead(fault) => {
+            push_u8(out, 2)?;
+            push_u8(out, fault_number(*fault))
+        }
+    }
+}
+
+// The number of the fault, from 1.
+fn fault_number(fault: Fault) -> u8
+    ensures { result ≡ fault_number fault }
+{
+    match fault {
+        Fault::MathError => 1,
+        Fault::StackHeap => 2,
+        Fault::TooManyListens => 3,
+    }
+}
+
+// Appends saved calls behind their count.
+#[tactic(auto, unfolding(crate::specs::Bytes::calls_bytes))]
+fn write_calls(out: &mut Vec<u8>, sack: &Sack) -> Result<(), NoMemory>
+    requires { length sack.now < 65536 }
+    ensures ok { OnOk result (out.new.items ≡ out.old.items ++ calls_bytes sack.now) }
+    ensures fits { OnOk result (AllByRecursion FitsFrame sack.now) }
+{
+    let frames = sack.frames();
+    push_u16(out, frames.len() as u16)?;
+    write_frames(out, frames)
+}
+
+fn write_frames(out: &mut Vec<u8>, frames: &[Frame]) -> Result<(), NoMemory>
+    ensures ok { OnOk result (out.new.items ≡ out.old.items ++ flat_map frame_bytes frames.now) }
+    ensures fits { OnOk result (AllByRecursion FitsFrame frames.now) }
+{
+    for frame in frames {
+        write_frame(out, frame)?;
+    }
+    Ok(())
+}
+
+#[tactic(auto, unfolding(crate::specs::Bytes::frame_bytes))]
+fn write_frame(out: &mut Vec<u8>, frame: &Frame) -> Result<(), NoMemory>
+    ensures ok { OnOk result (out.new.items ≡ out.old.items ++ frame_bytes frame.now) }
+    ensures fits { OnOk result (FitsFrame frame.now) }
+{
+    push_u16(out, frame.function)?;
+    push_u16(out, frame.point)?;
+    write_values(out, frame.slots.as_slice())
+}
