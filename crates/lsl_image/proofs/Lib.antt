@@ -4,6 +4,7 @@ pub mod EachLemmas
 pub mod EventLemmas
 pub mod FieldLemmas
 pub mod FrameLemmas
+pub mod GivenLemmas
 pub mod HeadLemmas
 pub mod ImageLemmas
 pub mod KindedLemmas
@@ -17,5 +18,8 @@ pub mod SealLemmas
 pub mod SealedLemmas
 pub mod SpellingLemmas
 pub mod StoreLemmas
+pub mod ValidCallLemmas
+pub mod ValidLemmas
+pub mod ValidPartLemmas
 pub mod WaitingLemmas
 pub mod WroteLemmas

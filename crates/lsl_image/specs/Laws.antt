@@ -1,11 +1,14 @@
 -- What an image stands for is one thing, an image has no fault, and other bytes have one first fault.
-use Rattle.std.specs.Prelude.{◌≡◌, List, ℕ}
+use Rattle.std.specs.Prelude.{◌≡◌, List, ℕ, true}
+use Rattle.std.specs.List.{AllByRecursion}
+use Rattle.lsl_value.specs.Key.{is_valid_key}
 use Rattle.lsl_code.specs.declared.units.Unit.{Unit as Code}
 use Rattle.lsl_image.specs.declared.faults.ImageFault.{ImageFault}
 use Rattle.lsl_image.specs.declared.parts.ObjectParts.{ObjectParts}
 use Rattle.lsl_image.specs.declared.parts.Shape.{Shape}
 use Rattle.lsl_image.specs.declared.parts.WorldParts.{WorldParts}
 use Rattle.lsl_image.specs.Images.{ObjectFirst, ObjectImage, WorldFirst, WorldImage}
+use Rattle.lsl_image.specs.Valid.{IsObject, IsWorld}
 
 abbrev pub ObjectsAreOne : Type 0
 ObjectsAreOne =
@@ -37,3 +40,17 @@ abbrev pub WorldFaultsAreOne : Type 0
 WorldFaultsAreOne =
     (shapes : List Shape) (library : List Code) (bytes : List ℕ) (a b : ImageFault) →
     WorldFirst shapes library bytes a → WorldFirst shapes library bytes b → a ≡ b
+
+-- what is read is valid, so that it can be written again
+abbrev pub ObjectsAreValid : Type 0
+ObjectsAreValid =
+    (region : List ℕ) (shape : Shape) (library : List Code) (bytes : List ℕ) (a : ObjectParts) →
+    is_valid_key shape.key ≡ true → ObjectImage region shape library a bytes → IsObject library a
+
+abbrev pub HasKey : Shape → Type 0
+HasKey shape = is_valid_key shape.key ≡ true
+
+abbrev pub WorldsAreValid : Type 0
+WorldsAreValid =
+    (shapes : List Shape) (library : List Code) (bytes : List ℕ) (a : WorldParts) →
+    AllByRecursion HasKey shapes → WorldImage shapes library a bytes → IsWorld library a

@@ -4,7 +4,7 @@ ghost use Rattle.lsl_image.specs.declared.parts.ObjectParts.{ObjectParts};
 ghost use Rattle.lsl_image.specs.declared.parts.WorldParts.{WorldParts};
 ghost use Rattle.lsl_image.specs.Layout.{Layout};
 ghost use Rattle.lsl_image.specs.SpellingLaws.{IsReadAsSpelled, IsSpelledAsRead};
-ghost use Rattle.lsl_image.specs.Laws.{ObjectFaultsAreOne, ObjectsAreOne, ObjectsHaveNoFault, WorldFaultsAreOne, WorldsAreOne, WorldsHaveNoFault};
+ghost use Rattle.lsl_image.specs.Laws.{ObjectFaultsAreOne, ObjectsAreOne, ObjectsAreValid, ObjectsHaveNoFault, WorldFaultsAreOne, WorldsAreOne, WorldsAreValid, WorldsHaveNoFault};
 
 /// The bytes of an image stand for one thing.
 pub fn images_are_of_one()
@@ -28,4 +28,10 @@ pub fn first_faults_are_one()
 pub fn spelled_and_read()
     ensures objects { (layout : Layout ObjectParts) → IsReadAsSpelled layout × IsSpelledAsRead layout }
     ensures worlds { (layout : Layout WorldParts) → IsReadAsSpelled layout × IsSpelledAsRead layout }
+{}
+
+/// What is read is valid, where the shapes have keys: it can be written again.
+pub fn images_are_valid()
+    ensures objects { ObjectsAreValid }
+    ensures worlds { WorldsAreValid }
 {}
