@@ -1,1 +1,10 @@
 pub mod Cuts
+pub mod CutBytes
+pub mod Placed
+pub mod Results
+pub mod Seats
+pub mod Posts
+pub mod Away
+pub mod Calls
+pub mod Lending
+pub mod Rings

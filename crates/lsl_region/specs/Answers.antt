@@ -1,5 +1,5 @@
 -- What a host call answers and does: a case for each call.
-use Rattle.std.specs.Prelude.{ℕ, ◌+◌, ◌*◌, ◌/◌, ℤ, pos, negsuc, Bool, not, ◌&&◌, nat_eq, if◌then◌else◌, List, [], ◌∷◌, length, Option, Some, None, get_or, slice_get, slice_set}
+use Rattle.std.specs.Prelude.{ℕ, ◌+◌, ◌*◌, ◌/◌, ℤ, pos, negsuc, Bool, true, false, not, ◌&&◌, nat_eq, if◌then◌else◌, List, [], ◌∷◌, length, Option, Some, None, get_or, slice_get, slice_set}
 use Rattle.std.specs.Ordering.{int_eq}
 use Rattle.lsl_value.specs.declared.names.BuiltinId.{BuiltinId}
 use Rattle.lsl_value.specs.declared.names.BuiltinId.TheVariants.{Say, Whisper, Shout, RegionSay, OwnerSay, Listen, ListenRemove, ListenControl, SetTimerEvent, Sleep, MessageLinked, GetOwner, GetKey, GetLinkKey, GetLinkName, GetLinkNumber, GetNumberOfPrims, GetObjectName, SetObjectName, GetScriptName, GetUnixTime, DetectedKey, DetectedName, DetectedLinkNumber}
@@ -13,17 +13,21 @@ use Rattle.lsl_running.specs.Values.{absent}
 use Rattle.lsl_post.specs.declared.entries.Entry.TheVariants as entry
 use Rattle.lsl_post.specs.declared.entries.Voice.{Voice}
 use Rattle.lsl_post.specs.declared.entries.Voice.TheVariants as voice
+use Rattle.lsl_post.specs.declared.events.Event.{Event}
 use Rattle.lsl_post.specs.declared.events.Toucher.{Toucher}
 use Rattle.lsl_post.specs.Filters.{filter}
 use Rattle.lsl_post.specs.Listens.{Standing, closed, controlled, listened}
-use Rattle.lsl_post.specs.Mailbox.{Mailbox, timer_set}
+use Rattle.lsl_post.specs.Timing.{timing_set}
 use Rattle.lsl_post.specs.Told.{Told, as_value, lead, quiet}
 use Rattle.lsl_script.specs.Rules.{Rules}
-use Rattle.lsl_script.specs.Scripts.{Doing, Resting, Flying, Stopped, napped}
+use Rattle.lsl_script.specs.Mailing.{listening, ticking}
+use Rattle.lsl_script.specs.Scripts.{Doing, Resting, Flying, Script, Stopped, napped}
 use Rattle.lsl_region.specs.Links.{is_for, link_of, prim_or_this}
 use Rattle.lsl_region.specs.Posting.{message_event, post_all, said_to_all}
 use Rattle.lsl_region.specs.Texts.{cut_name, cut_speech}
-use Rattle.lsl_region.specs.Worlds.{Member, Object, Prim, World, at_member, object_of, prim_at, prim_of, with_object}
+use Rattle.lsl_region.specs.declared.objects.Linkset.{Linkset}
+use Rattle.lsl_region.specs.declared.objects.Primitive.{Primitive}
+use Rattle.lsl_region.specs.Worlds.{Member, World, object_of, prim_at, prim_of, with_member, with_object}
 
 -- a world, and what the call is answered
 abbrev pub Answered : Type 0
@@ -37,10 +41,6 @@ gives v = reply.Value (Some v)
 
 abbrev pub replied : Reply → Told World → Answered
 replied given a = as_value (λ w. (w, given)) a
-
--- the call changes nothing
-abbrev pub tells : Value → World → Answered
-tells v w = quiet (w, gives v)
 
 -- the arguments, from the first
 abbrev pub integer_of : Value → ℤ
@@ -59,25 +59,13 @@ abbrev pub text_at : ℕ → List Value → List ℕ
 text_at place args = text_of (get_or args place absent)
 
 -- the script's prim says a text, cut, on a channel; others hear it
-abbrev pub said_by : Rules → ℕ → Voice → Prim → ℤ → List ℕ → World → Told World
+abbrev pub said_by : Rules → ℕ → Voice → Primitive → ℤ → List ℕ → World → Told World
 said_by r place how p channel text w =
     lead (entry.Chat (place + 1) how channel text ∷ []) (said_to_all r (filter channel p.name p.key text) w)
 
 abbrev pub says : Rules → ℕ → Voice → Member → List Value → World → Answered
 says r place how m args w =
     replied nothing (said_by r place how (prim_of w m) (integer_at 0 args) (cut_speech (text_at 1 args)) w)
-
--- one listen more, or none where as many stand as can
-abbrev pub with_listens : ℕ → World → Option (ℤ × Standing) → Answered
-with_listens place w None = quiet (w, reply.Stop TooManyListens)
-with_listens place w (Some (number, s)) =
-    replied (gives (value.Int number))
-    (at_member place (λ m. quiet (record m.script { mailbox = record m.script.mailbox { listens = s } })) w)
-
--- the script's mailbox changes
-abbrev pub with_mailbox : ℕ → (Mailbox → Mailbox) → World → Answered
-with_mailbox place change w =
-    replied nothing (at_member place (λ m. quiet (record m.script { mailbox = change m.script.mailbox })) w)
 
 -- asleep until so many seconds from now, or until now
 abbrev pub wake_after : ℤ → ℕ → ℕ
@@ -90,27 +78,57 @@ prims_count w m = length (object_of w m).prims
 abbrev pub own_link : World → Member → ℕ
 own_link w m = link_of (prims_count w m) m.prim
 
--- a message goes to the scripts of the prims of the sender's object that the number names
-abbrev pub is_message_to : Member → ℤ → World → Member → Bool
-is_message_to sender number w m =
-    nat_eq m.object sender.object && is_for (prims_count w sender) sender.prim number m.prim
+-- one listen more; the script stops where as many stand as can
+abbrev pub listened_reply : Option (ℤ × Standing) → Reply
+listened_reply None = reply.Stop TooManyListens
+listened_reply (Some (number, listens)) = gives (value.Int number)
 
-abbrev pub key_of_prim : Object → Option ℕ → List ℕ
-key_of_prim o None = null_key
-key_of_prim o (Some place) = (prim_at o place).key
+abbrev pub listened_script : Option (ℤ × Standing) → Script → Script
+listened_script None s = s
+listened_script (Some (number, listens)) s = listening listens s
 
-abbrev pub name_of_prim : Object → Option ℕ → List ℕ
-name_of_prim o None = null_key
-name_of_prim o (Some place) = (prim_at o place).name
+abbrev pub listen_asked : List Value → Script → Option (ℤ × Standing)
+listen_asked args s =
+    listened (filter (integer_at 0 args) (text_at 1 args) (text_at 2 args) (text_at 3 args)) s.mailbox.listens
 
-abbrev pub prim_asked : World → Member → List Value → Option ℕ
-prim_asked w m args = prim_or_this (prims_count w m) m.prim (integer_at 0 args)
+-- what a call does to the script that asks, at this reading of the clock, and what it is answered
+abbrev pub mailed : BuiltinId → List Value → ℕ → Script → Script × Reply
+mailed Listen args clock s = (listened_script (listen_asked args s) s, listened_reply (listen_asked args s))
+mailed ListenRemove args clock s = (listening (closed (integer_at 0 args) s.mailbox.listens) s, nothing)
+mailed ListenControl args clock s =
+    (listening (controlled (integer_at 0 args) (not (int_eq (integer_at 1 args) (pos 0))) s.mailbox.listens) s, nothing)
+mailed SetTimerEvent args clock s = (ticking (timing_set (integer_at 0 args) clock) s, nothing)
+mailed Sleep args clock s = (napped (wake_after (integer_at 0 args) clock) s, nothing)
+mailed id args clock s = (s, nothing)
+
+abbrev pub with_mailed : ℕ → Member → Script × Reply → World → Answered
+with_mailed place m done w = quiet (with_member w place (record m { script = done.0 }), done.1)
+
+-- a message goes to the scripts of the prims of the sender's object, which has so many, that the number names
+abbrev pub is_message_to : ℕ → Member → ℤ → World → Member → Bool
+is_message_to count sender number w m =
+    nat_eq m.object sender.object && is_for count sender.prim number m.prim
+
+-- of no prim, the key of zeros and its text
+abbrev pub key_of_prim : List Primitive → Option ℕ → List ℕ
+key_of_prim prims None = null_key
+key_of_prim prims (Some place) = (prim_at prims place).key
+
+abbrev pub name_of_prim : List Primitive → Option ℕ → List ℕ
+name_of_prim prims None = null_key
+name_of_prim prims (Some place) = (prim_at prims place).name
+
+abbrev pub prim_asked : List Primitive → ℕ → List Value → Option ℕ
+prim_asked prims this args = prim_or_this (length prims) this (integer_at 0 args)
+
+abbrev pub with_name : List Primitive → ℕ → List ℕ → List Primitive
+with_name prims place name = slice_set prims place (record (prim_at prims place) { name = name })
 
 -- the script's prim has a new name, cut
 abbrev pub renamed : World → Member → List ℕ → World
 renamed w m name =
     let o = object_of w m in
-    with_object w m.object (record o { prims = slice_set o.prims m.prim (record (prim_of w m) { name = name }) })
+    with_object w m.object (record o { prims = with_name o.prims m.prim name })
 
 -- who touched, where the event in hand is a touch and is asked for at place 0
 abbrev pub toucher_in_hand : Doing → Option Toucher
@@ -118,8 +136,8 @@ toucher_in_hand Resting = None
 toucher_in_hand (Flying f) = f.event.toucher
 toucher_in_hand (Stopped fault) = None
 
-abbrev pub detected : Member → List Value → Option Toucher
-detected m args = if int_eq (integer_at 0 args) (pos 0) then toucher_in_hand m.script.doing else None
+abbrev pub detected : Option Toucher → List Value → Option Toucher
+detected toucher args = if int_eq (integer_at 0 args) (pos 0) then toucher else None
 
 abbrev pub detected_key : Option Toucher → List ℕ
 detected_key None = null_key
@@ -133,6 +151,56 @@ abbrev pub detected_link : Option Toucher → ℤ
 detected_link None = pos 0
 detected_link (Some t) = t.link
 
+-- what a call is only told: the script is in this prim of this object, has this name and this toucher in hand
+abbrev pub told_to : Linkset → (prim : ℕ) → (name : List ℕ) → (clock : ℕ) → Option Toucher → BuiltinId → List Value
+    → Option Value
+told_to o prim name clock toucher GetOwner args = Some (value.Key o.owner)
+told_to o prim name clock toucher GetKey args = Some (value.Key (prim_at o.prims prim).key)
+told_to o prim name clock toucher GetLinkKey args =
+    Some (value.Key (key_of_prim o.prims (prim_asked o.prims prim args)))
+told_to o prim name clock toucher GetLinkName args =
+    Some (value.Str (name_of_prim o.prims (prim_asked o.prims prim args)))
+told_to o prim name clock toucher GetLinkNumber args = Some (value.Int (pos (link_of (length o.prims) prim)))
+told_to o prim name clock toucher GetNumberOfPrims args = Some (value.Int (pos (length o.prims)))
+told_to o prim name clock toucher GetObjectName args = Some (value.Str (prim_at o.prims prim).name)
+told_to o prim name clock toucher GetScriptName args = Some (value.Str name)
+told_to o prim name clock toucher GetUnixTime args = Some (value.Int (pos (clock / 1000)))
+told_to o prim name clock toucher DetectedKey args = Some (value.Key (detected_key (detected toucher args)))
+told_to o prim name clock toucher DetectedName args = Some (value.Str (detected_name (detected toucher args)))
+told_to o prim name clock toucher DetectedLinkNumber args = Some (value.Int (detected_link (detected toucher args)))
+told_to o prim name clock toucher id args = None
+
+abbrev pub told_in : World → Member → BuiltinId → List Value → Option Value
+told_in w m id args = told_to (object_of w m) m.prim m.name w.clock (toucher_in_hand m.script.doing) id args
+
+-- the call does more than to be told something
+abbrev pub does_more : BuiltinId → Bool
+does_more Say = true
+does_more Whisper = true
+does_more Shout = true
+does_more RegionSay = true
+does_more OwnerSay = true
+does_more Listen = true
+does_more ListenRemove = true
+does_more ListenControl = true
+does_more SetTimerEvent = true
+does_more Sleep = true
+does_more MessageLinked = true
+does_more SetObjectName = true
+does_more id = false
+
+-- of these, the calls on the mailbox and the sleep of the script that asks
+abbrev pub is_mailing : BuiltinId → Bool
+is_mailing Listen = true
+is_mailing ListenRemove = true
+is_mailing ListenControl = true
+is_mailing SetTimerEvent = true
+is_mailing Sleep = true
+is_mailing id = false
+
+abbrev pub message_of : World → Member → List Value → Event
+message_of w m args = message_event (pos (own_link w m)) (integer_at 1 args) (text_at 2 args) (text_at 3 args)
+
 -- the call of the member at this place, with these arguments
 abbrev pub answer_of : Rules → ℕ → Member → BuiltinId → List Value → World → Answered
 answer_of r place m Say args w = says r place voice.Say m args w
@@ -142,37 +210,17 @@ answer_of r place m RegionSay args w =
     if int_eq (integer_at 0 args) (pos 0) then quiet (w, nothing) else says r place voice.Region m args w
 answer_of r place m OwnerSay args w =
     record { value = (w, nothing); entries = entry.Owner (place + 1) (cut_speech (text_at 0 args)) ∷ [] }
-answer_of r place m Listen args w =
-    with_listens place w
-    (listened (filter (integer_at 0 args) (text_at 1 args) (text_at 2 args) (text_at 3 args)) m.script.mailbox.listens)
-answer_of r place m ListenRemove args w =
-    with_mailbox place (λ box. record box { listens = closed (integer_at 0 args) box.listens }) w
-answer_of r place m ListenControl args w =
-    with_mailbox place
-    (λ box. record box {
-      listens = controlled (integer_at 0 args) (not (int_eq (integer_at 1 args) (pos 0))) box.listens;
-    }) w
-answer_of r place m SetTimerEvent args w = with_mailbox place (timer_set (integer_at 0 args) w.clock) w
-answer_of r place m Sleep args w =
-    replied nothing (at_member place (λ n. quiet (napped (wake_after (integer_at 0 args) w.clock) n.script)) w)
+answer_of r place m Listen args w = with_mailed place m (mailed Listen args w.clock m.script) w
+answer_of r place m ListenRemove args w = with_mailed place m (mailed ListenRemove args w.clock m.script) w
+answer_of r place m ListenControl args w = with_mailed place m (mailed ListenControl args w.clock m.script) w
+answer_of r place m SetTimerEvent args w = with_mailed place m (mailed SetTimerEvent args w.clock m.script) w
+answer_of r place m Sleep args w = with_mailed place m (mailed Sleep args w.clock m.script) w
 answer_of r place m MessageLinked args w =
     replied nothing
-    (post_all r (is_message_to m (integer_at 0 args))
-    (message_event (pos (own_link w m)) (integer_at 1 args) (text_at 2 args) (text_at 3 args)) w)
-answer_of r place m GetOwner args w = tells (value.Key (object_of w m).owner) w
-answer_of r place m GetKey args w = tells (value.Key (prim_of w m).key) w
-answer_of r place m GetLinkKey args w = tells (value.Key (key_of_prim (object_of w m) (prim_asked w m args))) w
-answer_of r place m GetLinkName args w = tells (value.Str (name_of_prim (object_of w m) (prim_asked w m args))) w
-answer_of r place m GetLinkNumber args w = tells (value.Int (pos (own_link w m))) w
-answer_of r place m GetNumberOfPrims args w = tells (value.Int (pos (prims_count w m))) w
-answer_of r place m GetObjectName args w = tells (value.Str (prim_of w m).name) w
+    (post_all r (is_message_to (prims_count w m) m (integer_at 0 args))
+    (message_of w m args) w)
 answer_of r place m SetObjectName args w = quiet (renamed w m (cut_name (text_at 0 args)), nothing)
-answer_of r place m GetScriptName args w = tells (value.Str m.name) w
-answer_of r place m GetUnixTime args w = tells (value.Int (pos (w.clock / 1000))) w
-answer_of r place m DetectedKey args w = tells (value.Key (detected_key (detected m args))) w
-answer_of r place m DetectedName args w = tells (value.Str (detected_name (detected m args))) w
-answer_of r place m DetectedLinkNumber args w = tells (value.Int (detected_link (detected m args))) w
-answer_of r place m id args w = quiet (w, nothing)
+answer_of r place m id args w = quiet (w, reply.Value (told_in w m id args))
 
 abbrev pub answer_in : Rules → ℕ → Option Member → BuiltinId → List Value → World → Answered
 answer_in r place None id args w = quiet (w, nothing)

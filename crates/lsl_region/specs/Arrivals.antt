@@ -1,6 +1,7 @@
 -- What comes from outside: chat, touches, changes, rezzing, and readings of the clock.
 use Rattle.std.specs.Prelude.{ℕ, ℤ, pos, Bool, ◌&&◌, ◌||◌, max, nat_eq, if◌then◌else◌, List, [], ◌∷◌, length, Option, Some, None, refl}
 use Rattle.std.specs.List.{list_any}
+use Rattle.lsl_value.specs.declared.names.EventId.{EventId}
 use Rattle.lsl_value.specs.declared.names.EventId.TheVariants as event
 use Rattle.lsl_value.specs.declared.tagged.Value.TheVariants as value
 use Rattle.lsl_post.specs.declared.events.Event.{Event}
@@ -71,6 +72,12 @@ changed_event flags = record { id = event.Changed; args = value.Int flags ∷ []
 
 abbrev pub rez_event : ℤ → Event
 rez_event n = record { id = event.OnRez; args = value.Int n ∷ []; toucher = None; fits = refl }
+
+-- an event that is posted to a whole object
+abbrev pub IsObjectEvent : EventId → Type 0
+IsObjectEvent event.Changed = Unit {0}
+IsObjectEvent event.OnRez = Unit {0}
+IsObjectEvent id = ⊥
 
 -- an event for all scripts of an object
 abbrev pub post_object : Rules → ℕ → Event → World → Told World

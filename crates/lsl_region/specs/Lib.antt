@@ -2,7 +2,10 @@ pub mod Worlds
 pub mod Links
 pub mod Texts
 pub mod Posting
+pub mod Mailing
 pub mod Answers
+pub mod Grids
+pub mod Timers
 pub mod Segments
 pub mod Arrivals
 pub mod Laws

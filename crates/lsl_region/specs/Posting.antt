@@ -1,14 +1,18 @@
 -- Events that are posted to scripts, in the order of their numbers.
-use Rattle.std.specs.Prelude.{ℕ, ◌+◌, ℤ, Bool, not, ◌&&◌, if◌then◌else◌, List, [], ◌∷◌, length, None, refl}
+use Rattle.std.specs.Prelude.{ℕ, ◌+◌, ℤ, Bool, not, ◌&&◌, nat_eq, if◌then◌else◌, List, [], ◌∷◌, length, None, refl}
 use Rattle.std.specs.Str.{bytes_eq}
 use Rattle.lsl_value.specs.declared.names.EventId.TheVariants as event
 use Rattle.lsl_value.specs.declared.tagged.Value.TheVariants as value
 use Rattle.lsl_post.specs.declared.events.Event.{Event}
 use Rattle.lsl_post.specs.declared.filters.Filter.{Filter}
+use Rattle.lsl_post.specs.Listens.{Standing, hears}
 use Rattle.lsl_post.specs.Mailbox.{mailbox_hears}
 use Rattle.lsl_post.specs.Told.{Told, each, quiet}
 use Rattle.lsl_script.specs.Rules.{Rules}
 use Rattle.lsl_script.specs.Scripts.{post_to, ring_to}
+use Rattle.lsl_region.specs.declared.audience.Audience.{Audience}
+use Rattle.lsl_region.specs.declared.audience.Audience.TheVariants.{Hearers, Prim as InPrim, Object as InObject, Linked}
+use Rattle.lsl_region.specs.Links.{is_for}
 use Rattle.lsl_region.specs.Worlds.{Member, World, at_member, prim_of}
 
 -- to the script at this place, where the test holds of it
@@ -31,6 +35,17 @@ listen_event said = record {
 -- a script hears what is said on a channel by who has this name and this key, unless its own prim says it
 abbrev pub hears_said : Filter → World → Member → Bool
 hears_said said w m = not (bytes_eq (prim_of w m).key said.id) && mailbox_hears said m.script.mailbox
+
+-- whether a script hears, or is meant, that is in this prim of this object, with this key and these listens
+abbrev pub is_admitted : Audience → (object prim : ℕ) → List ℕ → Standing → Bool
+is_admitted (Hearers said) object prim key listens = not (bytes_eq key said.id) && hears said listens
+is_admitted (InPrim of at) object prim key listens = nat_eq object of && nat_eq prim at
+is_admitted (InObject of) object prim key listens = nat_eq object of
+is_admitted (Linked of count sender number) object prim key listens =
+    nat_eq object of && is_for count sender number prim
+
+abbrev pub admits : Audience → World → Member → Bool
+admits a w m = is_admitted a m.object m.prim (prim_of w m).key m.script.mailbox.listens
 
 abbrev pub said_to_all : Rules → Filter → World → Told World
 said_to_all r said w = post_all r (hears_said said) (listen_event said) w

@@ -2,17 +2,8 @@
 use Rattle.std.specs.Prelude.{ℕ, List, [], Option, Some, None, get_or, slice_get, slice_set}
 use Rattle.lsl_post.specs.Told.{Told, as_value, quiet}
 use Rattle.lsl_script.specs.Scripts.{Script}
-
--- a prim: its key and its name
-pub record Prim : Type 0 where
-  pub key : List ℕ
-  pub name : List ℕ
-
--- an object: its owner's key, the region in which it is, and its prims, the root first
-pub record Object : Type 0 where
-  pub owner : List ℕ
-  pub region : List ℕ
-  pub prims : List Prim
+use Rattle.lsl_region.specs.declared.objects.Linkset.{Linkset}
+use Rattle.lsl_region.specs.declared.objects.Primitive.{Primitive}
 
 -- a script with the places of its object and its prim, and its name
 pub record Member : Type 0 where
@@ -25,31 +16,35 @@ pub record Member : Type 0 where
 -- more than their places here
 pub record World : Type 0 where
   pub clock : ℕ
-  pub objects : List Object
+  pub objects : List Linkset
   pub members : List Member
 
-abbrev pub no_prim : Prim
+-- without objects, at this reading of the clock
+abbrev pub empty_world : ℕ → World
+empty_world clock = record { clock = clock; objects = []; members = [] }
+
+abbrev pub no_prim : Primitive
 no_prim = record { key = []; name = [] }
 
-abbrev pub no_object : Object
+abbrev pub no_object : Linkset
 no_object = record { owner = []; region = []; prims = [] }
 
-abbrev pub object_at : World → ℕ → Object
+abbrev pub object_at : World → ℕ → Linkset
 object_at w place = get_or w.objects place no_object
 
-abbrev pub object_of : World → Member → Object
+abbrev pub object_of : World → Member → Linkset
 object_of w m = object_at w m.object
 
-abbrev pub prim_at : Object → ℕ → Prim
-prim_at o place = get_or o.prims place no_prim
+abbrev pub prim_at : List Primitive → ℕ → Primitive
+prim_at prims place = get_or prims place no_prim
 
-abbrev pub prim_of : World → Member → Prim
-prim_of w m = prim_at (object_of w m) m.prim
+abbrev pub prim_of : World → Member → Primitive
+prim_of w m = prim_at (object_of w m).prims m.prim
 
 abbrev pub with_member : World → ℕ → Member → World
 with_member w place m = record w { members = slice_set w.members place m }
 
-abbrev pub with_object : World → ℕ → Object → World
+abbrev pub with_object : World → ℕ → Linkset → World
 with_object w place o = record w { objects = slice_set w.objects place o }
 
 abbrev pub changed_at : ℕ → (Member → Told Script) → World → Option Member → Told World

@@ -1,5 +1,23 @@
 //! A world of objects and scripts as their texts mean it: what the host answers, what comes from outside, and
-//! what a turn of a script does. Definitions in specs/, and laws over them; no code runs a world here yet.
+//! what a turn of a script does.
 #![tactic(auto)]
 
+mod answers;
+mod arguments;
+mod arrivals;
+mod audience;
+mod events;
+mod grid;
 pub mod laws;
+mod lent;
+mod links;
+mod mailing;
+mod objects;
+mod posting;
+mod speaking;
+mod telling;
+mod texts;
+mod timers;
+
+pub use crate::grid::{Grid, Seat};
+pub use crate::objects::{Linkset, Primitive, Prims};

@@ -5,13 +5,14 @@ use Rattle.lsl_post.specs.declared.entries.Entry.{Entry}
 use Rattle.lsl_post.specs.declared.entries.Entry.TheVariants as entry
 use Rattle.lsl_tree.specs.Program.{Program}
 use Rattle.lsl_script.specs.Rules.{Rules}
-use Rattle.lsl_region.specs.Worlds.{Object, World}
+use Rattle.lsl_region.specs.declared.objects.Linkset.{Linkset}
+use Rattle.lsl_region.specs.Worlds.{World}
 use Rattle.lsl_world.specs.Programs.{rules_of}
 use Rattle.lsl_world.specs.Starts.{start}
 use Rattle.lsl_world.specs.Steps.{reference}
 
 -- the regions of these objects, whose numbers are from this one on
-abbrev pub homes_from : ℕ → List Object → List Entry
+abbrev pub homes_from : ℕ → List Linkset → List Entry
 homes_from number [] = []
 homes_from number (o ∷ objects) = entry.Home number o.region ∷ homes_from (suc number) objects
 

@@ -6,12 +6,14 @@ use Rattle.lsl_lines.specs.declared.file.ScriptLine.{ScriptLine}
 use Rattle.lsl_lines.specs.declared.file.WorldFile.{WorldFile}
 use Rattle.lsl_script.specs.Rules.{Rules}
 use Rattle.lsl_script.specs.Scripts.{new_script}
-use Rattle.lsl_region.specs.Worlds.{Member, Object, Prim, World}
+use Rattle.lsl_region.specs.declared.objects.Linkset.{Linkset}
+use Rattle.lsl_region.specs.declared.objects.Primitive.{Primitive}
+use Rattle.lsl_region.specs.Worlds.{Member, World}
 
-abbrev pub prim_of_line : PrimLine → Prim
+abbrev pub prim_of_line : PrimLine → Primitive
 prim_of_line line = record { key = line.key; name = line.name }
 
-abbrev pub object_of_line : ObjectLine → Object
+abbrev pub object_of_line : ObjectLine → Linkset
 object_of_line line = record { owner = line.owner; region = line.region; prims = map prim_of_line line.prims }
 
 -- the scripts of the prim at this place of the object at this place
@@ -26,7 +28,7 @@ members_of_prims r object prim (line ∷ lines) =
     members_of_prim r object prim line.scripts ++ members_of_prims r object (suc prim) lines
 
 -- of these objects, whose places are from this one on
-abbrev pub members_of_objects : Rules → ℕ → List ObjectLine → List Member
+abbrev pub members_of_objects : Rules → ℕ → List LinksetLine → List Member
 members_of_objects r object [] = []
 members_of_objects r object (line ∷ lines) =
     members_of_prims r object 0 line.prims ++ members_of_objects r (suc object) lines

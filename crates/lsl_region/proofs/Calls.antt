@@ -1,0 +1,57 @@
+-- Host calls by what they do.
+use Rattle.std.proofs.Common.{◌≡◌, ◌≢◌, Bool, true, false, refl, sym, ◌∙◌, ap}
+use Rattle.lsl_value.specs.declared.names.BuiltinId.{BuiltinId}
+use Rattle.lsl_value.specs.declared.names.BuiltinId.TheVariants.{Say, Whisper, Shout, RegionSay, OwnerSay, Listen, ListenRemove, ListenControl, SetTimerEvent, Sleep, MessageLinked, SetObjectName}
+use Rattle.std.specs.Prelude.{ℕ, List}
+use Rattle.lsl_value.specs.declared.tagged.Value.{Value}
+use Rattle.lsl_running.specs.declared.host.Reply.TheVariants as reply
+use Rattle.lsl_post.specs.Told.{quiet}
+use Rattle.lsl_script.specs.Rules.{Rules}
+use Rattle.lsl_region.specs.Answers.{answer_of, does_more, is_mailing, mailed, told_in, with_mailed}
+use Rattle.lsl_region.specs.Worlds.{Member, World}
+
+pub last-mailing : (id : BuiltinId) → is_mailing id ≡ true → id ≢ Listen → id ≢ ListenRemove → id ≢ ListenControl
+    → id ≢ SetTimerEvent → id ≡ Sleep
+last-mailing Listen e a b c d = absurd (a refl)
+last-mailing ListenRemove e a b c d = absurd (b refl)
+last-mailing ListenControl e a b c d = absurd (c refl)
+last-mailing SetTimerEvent e a b c d = absurd (d refl)
+last-mailing Sleep e a b c d = refl
+last-mailing id e a b c d = absurd cc
+
+pub last-more : (id : BuiltinId) → does_more id ≡ true → is_mailing id ≡ false → id ≢ Say → id ≢ Whisper → id ≢ Shout
+    → id ≢ RegionSay → id ≢ OwnerSay → id ≢ MessageLinked → id ≡ SetObjectName
+last-more Say e m a b c d f g = absurd (a refl)
+last-more Whisper e m a b c d f g = absurd (b refl)
+last-more Shout e m a b c d f g = absurd (c refl)
+last-more RegionSay e m a b c d f g = absurd (d refl)
+last-more OwnerSay e m a b c d f g = absurd (f refl)
+last-more MessageLinked e m a b c d f g = absurd (g refl)
+last-more SetObjectName e m a b c d f g = refl
+last-more id e m a b c d f g = absurd cc
+
+module _ (r : Rules) (place : ℕ) (m : Member) (args : List Value) (w : World) where
+  pub told-is : (id : BuiltinId) → does_more id ≡ false
+      → answer_of r place m id args w ≡ quiet (w, reply.Value (told_in w m id args))
+  told-is Say e = absurd cc
+  told-is Whisper e = absurd cc
+  told-is Shout e = absurd cc
+  told-is RegionSay e = absurd cc
+  told-is OwnerSay e = absurd cc
+  told-is Listen e = absurd cc
+  told-is ListenRemove e = absurd cc
+  told-is ListenControl e = absurd cc
+  told-is SetTimerEvent e = absurd cc
+  told-is Sleep e = absurd cc
+  told-is MessageLinked e = absurd cc
+  told-is SetObjectName e = absurd cc
+  told-is id e = refl
+
+  pub mailed-is : (id : BuiltinId) → is_mailing id ≡ true
+      → answer_of r place m id args w ≡ with_mailed place m (mailed id args w.clock m.script) w
+  mailed-is Listen e = refl
+  mailed-is ListenRemove e = refl
+  mailed-is ListenControl e = refl
+  mailed-is SetTimerEvent e = refl
+  mailed-is Sleep e = refl
+  mailed-is id e = absurd cc

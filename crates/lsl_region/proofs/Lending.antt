@@ -1,0 +1,112 @@
+-- What a call does to the script that is out.
+use Rattle.std.proofs.Common.{◌≡◌, ℕ, ◌<◌, List, ◌++◌, length, refl, ap, sym, ◌∙◌, subst, append-nil, true}
+use Rattle.std.specs.Prelude.{ℤ, Option, Some, None, slice_get, slice_set}
+use Rattle.std.specs.declared.result.Result.{Result}
+use Rattle.std.proofs.lemmas.Option.{get_or_from_slice_get, slice_get_within}
+use Rattle.lsl_value.specs.declared.names.BuiltinId.{BuiltinId}
+use Rattle.lsl_value.specs.declared.names.BuiltinId.TheVariants.{Listen, ListenRemove, ListenControl, SetTimerEvent, Sleep}
+use Rattle.lsl_value.specs.declared.tagged.Value.{Value}
+use Rattle.lsl_running.specs.declared.host.Reply.{Reply}
+use Rattle.lsl_code.specs.declared.woven_units.Woven.{Woven as Code}
+use Rattle.lsl_post.specs.Listens.{Standing}
+use Rattle.lsl_script.specs.declared.live.Live.{Live}
+use Rattle.lsl_script.specs.Codes.{rules_of}
+use Rattle.lsl_script.specs.Lawful.{IsLawfulDoing, IsTiming}
+use Rattle.lsl_script.specs.Lives.{Waits}
+use Rattle.lsl_script.specs.Scripts.{Doing, Flight, Script}
+use Rattle.lsl_region.specs.declared.grid.Seat.{Seat}
+use Rattle.lsl_region.specs.declared.objects.Linkset.{Linkset}
+use Rattle.lsl_region.specs.declared.objects.Primitive.{Primitive}
+use Rattle.lsl_region.specs.Answers.{listen_asked, listened_script, mailed, renamed, with_name}
+use Rattle.lsl_region.specs.Grids.{Contents, IsScript, Lent, Stands, object_in, prim_in, renamed_grid, seat_of}
+use Rattle.lsl_region.specs.Worlds.{Member, World, object_of, prim_of, with_member}
+use Rattle.lsl_region.proofs.Away.{away-seat, member-there, stands-away}
+use Rattle.lsl_region.proofs.Placed.{KeepsScript}
+
+-- the handler in flight is as it was
+pub record SameDoing (s t : Script) : Type 0 where
+  pub code : t.code ≡ s.code
+  pub state : t.state ≡ s.state
+  pub doing : t.doing ≡ s.doing
+
+listened-same : (o : Option (ℤ × Standing)) (s : Script) → SameDoing s (listened_script o s)
+listened-same None s = record { code = refl; state = refl; doing = refl }
+listened-same (Some x) s = record { code = refl; state = refl; doing = refl }
+
+mailed-same : (id : BuiltinId) (args : List Value) (clock : ℕ) (s : Script) → SameDoing s (mailed id args clock s).0
+mailed-same Listen args clock s = listened-same (listen_asked args s) s
+mailed-same ListenRemove args clock s = record { code = refl; state = refl; doing = refl }
+mailed-same ListenControl args clock s = record { code = refl; state = refl; doing = refl }
+mailed-same SetTimerEvent args clock s = record { code = refl; state = refl; doing = refl }
+mailed-same Sleep args clock s = record { code = refl; state = refl; doing = refl }
+mailed-same id args clock s = record { code = refl; state = refl; doing = refl }
+
+keeps-from : (codes : List Code) (s t : Script) → IsScript codes s → SameDoing s t → IsTiming t.mailbox.timing
+    → KeepsScript codes s t
+keeps-from codes s t l k timing =
+    record {
+      script = record {
+        known = subst (λ (n : ℕ). n < length codes) (sym k.code) l.known;
+        lawful = record {
+          timing = timing;
+          doing = subst (λ (n : ℕ). IsLawfulDoing (rules_of codes) n t.state t.doing) (sym k.code)
+              (subst (λ (n : ℕ). IsLawfulDoing (rules_of codes) s.code n t.doing) (sym k.state)
+              (subst (λ (d : Doing). IsLawfulDoing (rules_of codes) s.code s.state d) (sym k.doing) l.lawful.doing));
+        };
+      };
+      code = k.code;
+    }
+
+module _ (codes : List Code) (unit : Code) (clock place : ℕ) (grid : Contents) (live : Live) (of : BuiltinId)
+    (f : Flight) (w : World) (lent : Lent codes unit clock place grid live of f w) where
+  -- a call on its mailbox was done
+  pub lent-mailed : (new : Live) (id : BuiltinId) (args : List Value)
+      → Waits codes unit (mailed id args clock lent.member.script).0 f of new
+      → Lent codes unit clock place grid new of f
+      (with_member w place (record lent.member { script = (mailed id args clock lent.member.script).0 }))
+  lent-mailed new id args waits =
+      let t : Script = (mailed id args clock lent.member.script).0 in
+      record {
+        stands = stands-away codes clock place grid w lent.member t lent.stands lent.at
+            (keeps-from codes lent.member.script t (lent.stands.scripts place lent.member lent.at)
+            (mailed-same id args clock lent.member.script) waits.carries.timing);
+        member = record lent.member { script = t };
+        at = member-there w place lent.member (record lent.member { script = t }) lent.at;
+        waits = waits;
+      }
+
+  -- its object and prim are those of its seat
+  pub lent-object : object_in grid.objects (seat_of codes true lent.member) ≡ object_of w lent.member
+  lent-object = ap (λ (os : List Linkset). object_in os (seat_of codes true lent.member)) lent.stands.objects
+
+  pub lent-prim : prim_in grid.objects (seat_of codes true lent.member) ≡ prim_of w lent.member
+  lent-prim = ap (λ (os : List Linkset). prim_in os (seat_of codes true lent.member)) lent.stands.objects
+
+  -- its prim has another name
+  pub lent-renamed : (name : List ℕ)
+      → Lent codes unit clock place (renamed_grid grid (seat_of codes true lent.member) name) live of f
+      (renamed w lent.member name)
+  lent-renamed name = record {
+    stands = record {
+      time = lent.stands.time;
+      objects = ap (λ (os : List Linkset).
+          let o = object_in os (seat_of codes true lent.member) in
+          slice_set os lent.member.object (record o { prims = with_name o.prims lent.member.prim name })) lent.stands.objects;
+      seats = lent.stands.seats;
+      scripts = lent.stands.scripts;
+    };
+    member = lent.member;
+    at = lent.at;
+    waits = lent.waits;
+  }
+
+  -- its unit is that of its seat
+  pub lent-unit : (seat : Seat) (of_seat : Code) → slice_get grid.seats place ≡ Some seat
+      → Some of_seat ≡ slice_get codes seat.unit → of_seat ≡ unit
+  lent-unit seat of_seat at e =
+      let same : Some seat ≡ Some (seat_of codes true lent.member)
+      = sym at ∙ away-seat codes clock place grid w lent.member lent.stands lent.at in
+      let is : seat ≡ seat_of codes true lent.member = cc in
+      let both : Some of_seat ≡ Some unit
+      = e ∙ ap (λ (z : Seat). slice_get codes z.unit) is ∙ lent.waits.carries.known in
+      cc

@@ -1,0 +1,96 @@
+use Rattle.std.proofs.Common.{◌≡◌, ◌∙◌, ℕ, List, ap, refl, sym, subst}
+use Rattle.lsl_value.specs.declared.names.BuiltinId.TheVariants.{SetObjectName}
+use Rattle.lsl_running.specs.declared.host.Reply.{Reply}
+use Rattle.lsl_running.specs.declared.host.Reply.TheVariants as reply
+use Rattle.lsl_code.specs.Kinded.{Answers}
+use Rattle.lsl_post.specs.Journal.{Tells}
+use Rattle.lsl_region.specs.declared.grid.Seat.{Seat}
+use Rattle.lsl_region.specs.Answers.{Answered, mailed, nothing, renamed, text_at, told_in, with_mailed}
+use Rattle.lsl_region.specs.Grids.{AreSeated, Lent}
+use Rattle.lsl_region.specs.Texts.{cut_name}
+use Rattle.lsl_region.specs.Worlds.{World, with_member}
+use Rattle.lsl_region.proofs.Calls.{last-more, mailed-is, told-is}
+use Rattle.lsl_region.proofs.Lending.{lent-mailed}
+use Rattle.lsl_region.proofs.Results.{IfOk-both, IfOk-map, OnOk-any, tells-quiet}
+use Rattle.lsl_region.proofs.grid.Grid.answer_at.Goals as goal
+
+pub returns-then-not-does_more-clause-does : goal.returns-then-not-does_more-clause-does
+returns-then-not-does_more-clause-does c = λ m f of w lent.
+    let e = told-is m.rules c.args.place lent.member c.args.args.now w c.args.id
+    (sym c.does_more.ensures ∙ c.if-not-does_more.true) in
+    subst (λ (a : Answered). Tells c.tell.result
+    (λ x given. Lent c.args.library.now c.args.unit.now c.args.clock c.args.place c.args.self.now c.args.live.now of f x.0
+    × (given ≡ x.1)) c.args.out.now c.args.out.now a) (sym e)
+    (tells-quiet c.tell.result
+    (λ (x : World × Reply) given. Lent c.args.library.now c.args.unit.now c.args.clock c.args.place c.args.self.now
+    c.args.live.now of f x.0 × (given ≡ x.1))
+    (w, reply.Value (told_in w lent.member c.args.id c.args.args.now)) c.args.out.now
+    (IfOk-map c.tell.result _ _ (λ given is. (lent, is))
+    (c.tell.ensures.does c.args.library.now c.args.unit.now of f w lent)))
+
+pub returns-then-is_mailing-clause-does : goal.returns-then-is_mailing-clause-does
+returns-then-is_mailing-clause-does c = λ m f of w lent.
+    let s = lent.member.script in
+    let e = mailed-is m.rules c.args.place lent.member c.args.args.now w c.args.id
+    (sym c.is_mailing.ensures ∙ c.if-is_mailing.true)
+    ∙ ap (λ (n : ℕ). with_mailed c.args.place lent.member (mailed c.args.id c.args.args.now n s) w) lent.stands.time in
+    let done = mailed c.args.id c.args.args.now c.args.clock s in
+    subst (λ (a : Answered). Tells c.mail.result
+    (λ x given. Lent c.args.library.now c.args.unit.now c.args.clock c.args.place c.args.self.now c.mail.new.live of f x.0
+    × (given ≡ x.1)) c.args.out.now c.args.out.now a) (sym e)
+    (tells-quiet c.mail.result
+    (λ (x : World × Reply) given. Lent c.args.library.now c.args.unit.now c.args.clock c.args.place c.args.self.now
+    c.mail.new.live of f x.0 × (given ≡ x.1))
+    (with_member w c.args.place (record lent.member { script = done.0 }), done.1) c.args.out.now
+    (IfOk-map c.mail.result _ _
+    (λ given d. let k = d c.args.library.now c.args.unit.now s f of lent.waits in (
+      lent-mailed c.args.library.now c.args.unit.now c.args.clock c.args.place c.args.self.now c.args.live.now of f w lent
+          c.mail.new.live c.args.id c.args.args.now k.0,
+      k.1,
+    )) c.mail.ensures.does))
+
+pub returns-in-Say-clause-does : goal.returns-in-Say-clause-does
+returns-in-Say-clause-does c = λ m f of w lent.
+    rw c.in-Say.is (c.says.ensures.does m c.args.clock f of w lent)
+
+pub returns-in-Whisper-clause-does : goal.returns-in-Whisper-clause-does
+returns-in-Whisper-clause-does c = λ m f of w lent.
+    rw c.in-Whisper.is (c.says-in-Whisper.ensures.does m c.args.clock f of w lent)
+
+pub returns-in-Shout-clause-does : goal.returns-in-Shout-clause-does
+returns-in-Shout-clause-does c = λ m f of w lent.
+    rw c.in-Shout.is (c.says-in-Shout.ensures.does m c.args.clock f of w lent)
+
+pub returns-in-RegionSay-clause-does : goal.returns-in-RegionSay-clause-does
+returns-in-RegionSay-clause-does c = λ m f of w lent.
+    rw c.in-RegionSay.is (c.says_in_region.ensures.does m c.args.clock f of w lent)
+
+pub returns-in-MessageLinked-clause-does : goal.returns-in-MessageLinked-clause-does
+returns-in-MessageLinked-clause-does c = λ m f of w lent.
+    rw c.in-MessageLinked.is (c.sends.ensures.does m c.args.clock f of w lent)
+
+pub returns-in_default-clause-does : goal.returns-in_default-clause-does
+returns-in_default-clause-does c = λ m f of w lent.
+    let e = last-more c.args.id (sym c.does_more.ensures ∙ c.if-not-does_more.false)
+    (sym c.is_mailing.ensures ∙ c.if-is_mailing.false) c.in_default.not-Say c.in_default.not-Whisper
+    c.in_default.not-Shout c.in_default.not-RegionSay c.in_default.not-OwnerSay c.in_default.not-MessageLinked in
+    rw e (tells-quiet c.renames.result
+    (λ (x : World × Reply) given. Lent c.args.library.now c.args.unit.now c.args.clock c.args.place c.renames.new.self
+    c.args.live.now of f x.0 × (given ≡ x.1))
+    (renamed w lent.member (cut_name (text_at 0 c.args.args.now)), nothing) c.args.out.now
+    (IfOk-both c.renames.result _ _
+    (c.renames.ensures.does c.args.library.now c.args.unit.now c.args.clock c.args.live.now of f w lent)
+    c.renames.ensures.reply))
+
+pub returns-in_default-clause-fits : goal.returns-in_default-clause-fits
+returns-in_default-clause-fits c =
+    let e = last-more c.args.id (sym c.does_more.ensures ∙ c.if-not-does_more.false)
+    (sym c.is_mailing.ensures ∙ c.if-is_mailing.false) c.in_default.not-Say c.in_default.not-Whisper
+    c.in_default.not-Shout c.in_default.not-RegionSay c.in_default.not-OwnerSay c.in_default.not-MessageLinked in
+    IfOk-map c.renames.result _ _
+    (λ given is. rw e (subst (λ (z : Reply). Answers SetObjectName z) (sym is) refl)) c.renames.ensures.reply
+
+pub returns-in_default-clause-seated : goal.returns-in_default-clause-seated
+returns-in_default-clause-seated c =
+    OnOk-any c.renames.result _
+    (subst (λ (s : List Seat). AreSeated c.args.library.now s) (sym c.renames.ensures.seats) c.requires.seated)

@@ -1,0 +1,16 @@
+use Rattle.std.proofs.Common.{◌≡◌, ◌∙◌, Bool, List, sym, subst}
+use Rattle.std.specs.Prelude.{if◌then◌else◌}
+use Rattle.lsl_post.specs.Journal.{Tells}
+use Rattle.lsl_post.specs.Told.{quiet}
+use Rattle.lsl_post.specs.declared.entries.Voice.TheVariants.{Region}
+use Rattle.lsl_region.specs.Answers.{nothing, says}
+use Rattle.lsl_region.specs.Grids.{Lent}
+use Rattle.lsl_region.proofs.grid.Grid.says_in_region.Goals as goal
+
+pub returns-clause-does : goal.returns-clause-does
+returns-clause-does c = λ m clock f of w lent.
+    subst (λ (b : Bool). Tells c.says.result
+    (λ x reply. Lent c.args.library.now c.args.unit.now clock c.args.place c.says.new.self c.says.new.live of f x.0
+    × (reply ≡ x.1)) c.args.out.now c.says.new.out
+    (if b then quiet (w, nothing) else says m.rules c.args.place Region lent.member c.args.args.now w))
+    (sym c.if-is_silent.false ∙ c.is_silent.ensures) (c.says.ensures.does m clock f of w lent)

@@ -1,0 +1,24 @@
+use Rattle.std.proofs.Common.{refl}
+use Rattle.lsl_region.proofs.Calls.{last-mailing}
+use Rattle.lsl_region.proofs.mailing.mail.Goals as goal
+
+pub returns-in-Listen-clause-does : goal.returns-in-Listen-clause-does
+returns-in-Listen-clause-does c = rw c.in-Listen.is c.listen.ensures.does
+
+pub returns-in-ListenRemove-clause-does : goal.returns-in-ListenRemove-clause-does
+returns-in-ListenRemove-clause-does c = λ codes unit s f of k.
+    rw c.in-ListenRemove.is (c.unlisten.ensures.does codes unit s f of k, refl)
+
+pub returns-in-ListenControl-clause-does : goal.returns-in-ListenControl-clause-does
+returns-in-ListenControl-clause-does c = λ codes unit s f of k.
+    rw c.in-ListenControl.is (c.control.ensures.does codes unit s f of k, refl)
+
+pub returns-in-SetTimerEvent-clause-does : goal.returns-in-SetTimerEvent-clause-does
+returns-in-SetTimerEvent-clause-does c = λ codes unit s f of k.
+    rw c.in-SetTimerEvent.is (c.set_timer.ensures.does codes unit s f of k, refl)
+
+pub returns-in_default-clause-does : goal.returns-in_default-clause-does
+returns-in_default-clause-does c = λ codes unit s f of k.
+    let e = last-mailing c.args.id c.requires.id c.in_default.not-Listen c.in_default.not-ListenRemove
+    c.in_default.not-ListenControl c.in_default.not-SetTimerEvent in
+    rw e (c.sleep.ensures.does codes unit s f of k, refl)

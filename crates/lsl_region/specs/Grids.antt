@@ -1,0 +1,111 @@
+-- What a grid has, and the world for which it stands, also while one script is out of it.
+use Rattle.std.specs.Prelude.{◌≡◌, ℕ, ◌<◌, ◌≤◌, Bool, true, false, nat_eq, List, length, Option, Some, None, get_or, slice_get, slice_set}
+use Rattle.std.specs.Option.{option_map}
+use Rattle.lsl_value.specs.declared.names.BuiltinId.{BuiltinId}
+use Rattle.lsl_code.specs.declared.woven_units.Woven.{Woven as Code}
+use Rattle.lsl_post.specs.declared.parts.ScriptParts.{ScriptParts}
+use Rattle.lsl_script.specs.Codes.{HasUnit, rules_of}
+use Rattle.lsl_script.specs.Fitting.{FitsUnit}
+use Rattle.lsl_script.specs.declared.live.Live.{Live}
+use Rattle.lsl_script.specs.Lawful.{Lawful}
+use Rattle.lsl_script.specs.Lives.{Waits}
+use Rattle.lsl_script.specs.Parts.{parts_of}
+use Rattle.lsl_script.specs.Scripts.{Flight, Script}
+use Rattle.lsl_value.specs.declared.tagged.Value.{Value}
+use Rattle.lsl_region.specs.declared.audience.Audience.{Audience}
+use Rattle.lsl_region.specs.declared.audience.Audience.TheVariants.{Linked}
+use Rattle.lsl_region.specs.Answers.{integer_at, with_name}
+use Rattle.lsl_region.specs.declared.grid.Seat.{Seat}
+use Rattle.lsl_region.specs.declared.objects.Linkset.{Linkset}
+use Rattle.lsl_region.specs.declared.objects.Primitive.{Primitive}
+use Rattle.lsl_region.specs.Worlds.{Member, World, no_object, prim_at}
+
+-- the objects, and the seats of the scripts
+pub record Contents : Type 0 where
+  pub objects : List Linkset
+  pub seats : List Seat
+
+-- the seat's object and prim are there
+pub record IsPlaced (objects : List Linkset) (seat : Seat) : Type 0 where
+  pub object : Linkset
+  pub there : slice_get objects seat.object ≡ Some object
+  pub prim : seat.prim < length object.prims
+
+abbrev pub object_in : List Linkset → Seat → Linkset
+object_in objects seat = get_or objects seat.object no_object
+
+abbrev pub prim_in : List Linkset → Seat → Primitive
+prim_in objects seat = prim_at (object_in objects seat).prims seat.prim
+
+abbrev pub key_in : List Linkset → Seat → List ℕ
+key_in objects seat = (prim_in objects seat).key
+
+-- a message with these arguments goes from this seat's prim, whose object has so many
+abbrev pub linked_to : ℕ → Seat → List Value → Audience
+linked_to count seat args = Linked seat.object count seat.prim (integer_at 0 args)
+
+-- the seat's prim has this name
+abbrev pub renamed_grid : Contents → Seat → List ℕ → Contents
+renamed_grid grid seat name =
+    let o = object_in grid.objects seat in
+    record grid { objects = slice_set grid.objects seat.object (record o { prims = with_name o.prims seat.prim name }) }
+
+-- so many objects, prims and scripts there are at most
+pub record ArePlaced (objects : List Linkset) (seats : List Seat) : Type 0 where
+  pub few_objects : length objects ≤ 64
+  pub few_prims : (n : ℕ) (o : Linkset) → slice_get objects n ≡ Some o → length o.prims ≤ 255
+  pub few_seats : length seats ≤ 256
+  pub placed : (n : ℕ) (seat : Seat) → slice_get seats n ≡ Some seat → IsPlaced objects seat
+
+-- a script that isn't out is one of the unit of this number
+abbrev pub FitsSeat : Code → ℕ → Option ScriptParts → Type 0
+FitsSeat unit number None = Unit {0}
+FitsSeat unit number (Some parts) = (parts.unit ≡ number) × FitsUnit unit parts
+
+pub record IsSeated (codes : List Code) (seat : Seat) : Type 0 where
+  pub unit : Code
+  pub has : HasUnit codes seat.unit unit
+  pub fits : FitsSeat unit seat.unit seat.script
+
+-- every script is of a unit
+abbrev pub AreSeated : List Code → List Seat → Type 0
+AreSeated codes seats = (n : ℕ) (seat : Seat) → slice_get seats n ≡ Some seat → IsSeated codes seat
+
+-- the script at a place is out of the grid, or none is
+abbrev pub is_out : Option ℕ → ℕ → Bool
+is_out None place = false
+is_out (Some out) place = nat_eq out place
+
+abbrev pub parts_in : List Code → Bool → Script → Option ScriptParts
+parts_in codes true s = None
+parts_in codes false s = Some (parts_of codes s)
+
+abbrev pub seat_of : List Code → Bool → Member → Seat
+seat_of codes away m =
+    record {
+      object = m.object;
+      prim = m.prim;
+      name = m.name;
+      unit = m.script.code;
+      script = parts_in codes away m.script;
+    }
+
+-- a script of the world is one of a unit, with a lawful flight
+pub record IsScript (codes : List Code) (s : Script) : Type 0 where
+  pub known : s.code < length codes
+  pub lawful : Lawful (rules_of codes) s
+
+-- the grid stands for the world, but for the script that is out
+pub record Stands (codes : List Code) (out : Option ℕ) (clock : ℕ) (grid : Contents) (w : World) : Type 0 where
+  pub time : w.clock ≡ clock
+  pub objects : grid.objects ≡ w.objects
+  pub seats : (n : ℕ) → slice_get grid.seats n ≡ option_map (seat_of codes (is_out out n)) (slice_get w.members n)
+  pub scripts : (n : ℕ) (m : Member) → slice_get w.members n ≡ Some m → IsScript codes m.script
+
+-- the script at a place is out of the grid, and waits in a flight for the answer to a call
+pub record Lent (codes : List Code) (unit : Code) (clock place : ℕ) (grid : Contents) (live : Live) (id : BuiltinId)
+    (f : Flight) (w : World) : Type 0 where
+  pub stands : Stands codes (Some place) clock grid w
+  pub member : Member
+  pub at : slice_get w.members place ≡ Some member
+  pub waits : Waits codes unit member.script f id live

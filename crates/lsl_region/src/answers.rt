@@ -1,0 +1,137 @@
+//! Host calls: a case for each.
+
+ghost use Rattle.std.specs.Prelude.{◌≡◌, ◌<◌, ◌≤◌, ◌-◌, ℕ, List, true, false, length, slice_get, Some, IfOk, OnOk};
+ghost use Rattle.lsl_value.specs.declared.names.BuiltinId.{BuiltinId as Id};
+ghost use Rattle.lsl_value.specs.declared.names.BuiltinId.TheVariants as ids;
+ghost use Rattle.lsl_running.specs.Calling.{call_form};
+ghost use Rattle.lsl_code.specs.Effects.{is_asked};
+ghost use Rattle.lsl_code.specs.Kinded.{Answers};
+ghost use Rattle.lsl_post.specs.Journal.{Tells};
+ghost use Rattle.lsl_post.specs.Timing.{latest_clock};
+ghost use Rattle.lsl_code.specs.declared.woven_units.Woven.{Woven as Code};
+ghost use Rattle.lsl_script.specs.Awake.{IsAskedFor, IsAwake};
+ghost use Rattle.lsl_script.specs.Codes.{HasUnit, Meant};
+ghost use Rattle.lsl_script.specs.Scripts.{Flight};
+ghost use Rattle.lsl_region.specs.Answers.{answer, answer_of, does_more, is_mailing};
+ghost use Rattle.lsl_region.specs.Grids.{AreSeated, Lent};
+ghost use Rattle.lsl_region.specs.Worlds.{World};
+ghost use Rattle.lsl_region.specs.declared.grid.Seat.{Seat as Place};
+
+use crate::grid::Grid;
+use crate::mailing::mail;
+use lsl_code::{Library, Woven};
+use lsl_post::{Entries, Voice};
+use lsl_running::{Call, Reply};
+use lsl_script::Live;
+use lsl_text::NoMemory;
+use lsl_value::{BuiltinId, Values};
+
+impl Grid {
+    /// Answers a host call of the script of this number, which is out of the grid and waits for the answer. The script
+    /// stops where it asks for a listen more than 65. After want of memory the entries are the first of the call's, and the
+    /// grid is only to be dropped. Chat and messages walk the scripts.
+    pub fn answer(
+        &mut self,
+        live: &mut Live,
+        script: u32,
+        call: Call,
+        clock: u64,
+        library: &Library,
+        out: &mut Entries,
+    ) -> Result<Reply, NoMemory>
+        requires first { 0 < script }
+        requires last { script ≤ length self.old.seats }
+        requires clock { clock ≤ latest_clock }
+        requires seated { AreSeated library.now self.old.seats }
+        requires awake { (seat : Place) (unit : Code) → slice_get self.old.seats (script - 1) ≡ Some seat →
+            HasUnit library.now seat.unit unit → IsAwake unit live.old }
+        requires asked { IsAskedFor call }
+        ensures does { (m : Meant library.now) (unit : Code) (f : Flight) (w : World) →
+            Lent library.now unit clock (script - 1) self.old live.old call.id f w →
+            Tells result (λ x reply. Lent library.now unit clock (script - 1) self.new live.new call.id f x.0
+            × (reply ≡ x.1)) out.old out.new (answer m.rules (script - 1) call.id call.args w) }
+        ensures fits { IfOk result (Answers call.id) }
+        ensures seated { OnOk result (AreSeated library.now self.new.seats) }
+        ensures machine { live.new.machine ≡ live.old.machine }
+    {
+        let place = script as usize - 1;
+        let unit = library.unit(self.seats[place].unit);
+        let Call { id, args } = call;
+        self.answer_at(place, live, id, &args, clock, library, unit, out)
+    }
+
+    /// Answers a host call of the script at this place, which is out of the grid and waits.
+    pub(crate) fn answer_at(
+        &mut self,
+        place: usize,
+        live: &mut Live,
+        id: BuiltinId,
+        args: &Values,
+        clock: u64,
+        library: &Library,
+        unit: &Woven,
+        out: &mut Entries,
+    ) -> Result<Reply, NoMemory>
+        requires place { place < length self.old.seats }
+        requires clock { clock ≤ latest_clock }
+        requires seated { AreSeated library.now self.old.seats }
+        requires awake { IsAwake unit.now live.old }
+        requires host { is_asked (call_form id) ≡ true }
+        ensures does { (m : Meant library.now) (f : Flight) (of : Id) (w : World) →
+            (lent : Lent library.now unit.now clock place self.old live.old of f w) →
+            Tells result (λ x reply. Lent library.now unit.now clock place self.new live.new of f x.0 × (reply ≡ x.1))
+            out.old out.new (answer_of m.rules place lent.member id args.now w) }
+        ensures fits { IfOk result (Answers id) }
+        ensures seated { OnOk result (AreSeated library.now self.new.seats) }
+        ensures len { length self.new.seats ≡ length self.old.seats }
+        ensures awake { IsAwake unit.now live.new }
+        ensures machine { live.new.machine ≡ live.old.machine }
+    {
+        if !does_more(id) {
+            return self.tell(place, live, id, args, clock);
+        }
+        if is_mailing(id) {
+            return mail(live, id, args, clock);
+        }
+        match id {
+            BuiltinId::Say => self.says(place, live, Voice::Say, args, library, unit, out),
+            BuiltinId::Whisper => self.says(place, live, Voice::Whisper, args, library, unit, out),
+            BuiltinId::Shout => self.says(place, live, Voice::Shout, args, library, unit, out),
+            BuiltinId::RegionSay => self.says_in_region(place, live, args, library, unit, out),
+            BuiltinId::OwnerSay => self.says_to_owner(place, args, out),
+            BuiltinId::MessageLinked => self.sends(place, live, args, library, unit, out),
+            _ => self.renames(place, args),
+        }
+    }
+}
+
+// Whether the call does more than to be told something.
+fn does_more(id: BuiltinId) -> bool
+    ensures { result ≡ does_more id }
+{
+    is_mailing(id)
+        || matches!(
+            id,
+            BuiltinId::Say
+                | BuiltinId::Whisper
+                | BuiltinId::Shout
+                | BuiltinId::RegionSay
+                | BuiltinId::OwnerSay
+                | BuiltinId::MessageLinked
+                | BuiltinId::SetObjectName
+        )
+}
+
+// Whether the call is on the mailbox or the sleep of the script that asks.
+fn is_mailing(id: BuiltinId) -> bool
+    ensures { result ≡ is_mailing id }
+{
+    matches!(
+        id,
+        BuiltinId::Listen
+            | BuiltinId::ListenRemove
+            | BuiltinId::ListenControl
+            | BuiltinId::SetTimerEvent
+            | BuiltinId::Sleep
+    )
+}

@@ -1,0 +1,27 @@
+//! The arguments of a host call, from the first.
+
+ghost use Rattle.std.specs.Prelude.{◌≡◌, IfOk};
+ghost use Rattle.lsl_region.specs.Answers.{integer_at, text_at};
+
+use lsl_text::NoMemory;
+use lsl_value::{Text, Value, Values};
+
+/// The integer at this place, and 0 where none stands there. Takes no memory.
+pub(crate) fn integer_at(args: &Values, place: usize) -> i32
+    ensures { result ≡ integer_at place args.now }
+{
+    match args.as_slice().get(place) {
+        Some(Value::Int(n)) => *n,
+        _ => 0,
+    }
+}
+
+/// The text at this place, a string's or a key's, and the empty one where none stands there. It is shared.
+pub(crate) fn text_at(args: &Values, place: usize) -> Result<Text, NoMemory>
+    ensures { IfOk result (λ text. text ≡ text_at place args.now) }
+{
+    match args.as_slice().get(place) {
+        Some(Value::Str(text) | Value::Key(text)) => text.copy(),
+        _ => Ok(Text::new()),
+    }
+}

@@ -1,0 +1,64 @@
+//! A grid: objects, and the scripts in their prims.
+
+ghost use Rattle.std.specs.Prelude.{◌≡◌, ◌<◌, ◌≤◌, ◌-◌, [], length, get_or, None};
+ghost use Rattle.lsl_code.specs.declared.woven_units.Woven.{Woven as Code};
+ghost use Rattle.lsl_region.specs.Grids.{Stands};
+ghost use Rattle.lsl_region.specs.Worlds.{no_object, empty_world};
+
+use crate::objects::Linkset;
+use lsl_script::Script;
+use lsl_value::Text;
+use std::alloc::Global;
+use std::marker::Model;
+
+/// A script with the places of its object and its prim, its name, and the number of its unit. It is out while it is
+/// awake.
+#[derive(Drop)]
+pub struct Seat {
+    pub object: usize,
+    pub prim: usize,
+    pub name: Text,
+    pub unit: u32,
+    pub script: Option<Script>,
+}
+
+/// Objects and scripts, both numbered from 1 in the order in which they were added.
+#[derive(Drop)]
+pub struct Grid {
+    pub(crate) alloc: Global,
+    pub(crate) objects: Vec<Linkset>,
+    pub(crate) seats: Vec<Seat>,
+}
+
+impl Model for Grid {
+    ghost use Rattle.lsl_region.specs.Grids.{Contents, ArePlaced};
+
+    ghost Value = { Contents };
+
+    ghost view = { λ g. record { objects = g.objects.items; seats = g.seats.items } };
+
+    ghost invariant = { λ g. ArePlaced g.objects.items g.seats.items };
+}
+
+impl Grid {
+    /// No object and no script. Takes no memory.
+    pub fn new(alloc: Global) -> Grid
+        ensures stands { (codes : _) (clock : _) → Stands codes None clock result (empty_world clock) }
+        ensures none { (result.objects ≡ []) × (result.seats ≡ []) }
+    {
+        Grid {
+            alloc,
+            objects: Vec::new(alloc),
+            seats: Vec::new(alloc),
+        }
+    }
+
+    /// The region of the object of this number. Takes no memory.
+    pub fn region(&self, object: u32) -> &Text
+        requires first { 0 < object }
+        requires last { object ≤ length self.now.objects }
+        ensures { result.now ≡ (get_or self.now.objects (object - 1) no_object).region }
+    {
+        &self.objects[object as usize - 1].region
+    }
+}

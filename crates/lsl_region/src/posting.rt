@@ -1,0 +1,165 @@
+//! Events that are posted to scripts, in the order of their numbers.
+
+ghost use Rattle.std.specs.Prelude.{◌≡◌, ◌<◌, ◌≤◌, ◌+◌, ℕ, List, Option, Some, None, false, length, slice_get, is_some, OnOk};
+ghost use Rattle.lsl_post.specs.Journal.{Adds, Tells};
+ghost use Rattle.lsl_code.specs.declared.woven_units.Woven.{Woven as Code};
+ghost use Rattle.lsl_script.specs.Codes.{HasUnit, Meant, rules_of};
+ghost use Rattle.lsl_script.specs.Fitting.{FitsUnit, is_exit};
+ghost use Rattle.lsl_script.specs.Parts.{parts_of};
+ghost use Rattle.lsl_script.specs.Scripts.{Script as Source, entries_of_posting, post_to};
+ghost use Rattle.lsl_region.specs.Grids.{AreSeated, FitsSeat, Stands, is_out, key_in};
+ghost use Rattle.lsl_region.specs.Posting.{admits, is_admitted, post_all, post_where};
+ghost use Rattle.lsl_region.specs.Worlds.{Member, World};
+ghost use Rattle.lsl_region.specs.declared.grid.Seat.{Seat as Place};
+
+use crate::audience::Audience;
+use crate::grid::Grid;
+use lsl_code::{Library, Woven};
+use lsl_post::{Entries, Entry, Event, Listens, Posted};
+use lsl_script::Script;
+use lsl_text::NoMemory;
+use std::alloc::Global;
+
+/// The number of the script at this place.
+pub(crate) fn number(place: usize) -> u32
+    requires { place < 256 }
+    ensures { result ≡ place + 1 }
+{
+    place as u32 + 1
+}
+
+/// Tells of an event that is dropped.
+pub(crate) fn tell_posted(number: u32, posted: Posted, out: &mut Entries) -> Result<(), NoMemory>
+    ensures { Adds result out.old out.new (entries_of_posting number posted) }
+{
+    match posted {
+        Posted::Dropped(event) => out.push(Entry::Drop(number, event)),
+        Posted::Queued | Posted::Unheard => Ok(()),
+    }
+}
+
+// Posts an event to the script of this number, which has this unit.
+pub(crate) fn post_script(
+    alloc: Global,
+    script: &mut Script,
+    number: u32,
+    event: &Event,
+    unit: &Woven,
+    out: &mut Entries,
+) -> Result<(), NoMemory>
+    requires fits { FitsUnit unit.now script.old }
+    requires other { is_exit event.now ≡ false }
+    ensures told { (codes : List Code) (s : Source) → HasUnit codes s.code unit.now → script.old ≡ parts_of codes s →
+        Tells result (λ t _. script.new ≡ parts_of codes t) out.old out.new
+        (post_to (rules_of codes) number event.now s) }
+    ensures fits { OnOk result (FitsUnit unit.now script.new) }
+    ensures unit { OnOk result (script.new.unit ≡ script.old.unit) }
+{
+    let posted = script.post(unit, event.copy(alloc)?);
+    tell_posted(number, posted, out)
+}
+
+// Posts an event to the script of this number, unless it is out.
+fn post_seat(
+    alloc: Global,
+    seat: &mut Option<Script>,
+    number: u32,
+    event: &Event,
+    unit: &Woven,
+    out: &mut Entries,
+) -> Result<(), NoMemory>
+    requires fits { (of : ℕ) × FitsSeat unit.now of seat.old }
+    requires other { is_exit event.now ≡ false }
+    ensures told { (codes : List Code) (s : Source) → HasUnit codes s.code unit.now →
+        seat.old ≡ Some (parts_of codes s) →
+        Tells result (λ t _. seat.new ≡ Some (parts_of codes t)) out.old out.new
+        (post_to (rules_of codes) number event.now s) }
+    ensures fits { (of : ℕ) → FitsSeat unit.now of seat.old → OnOk result (FitsSeat unit.now of seat.new) }
+{
+    match seat {
+        Some(script) => post_script(alloc, script, number, event, unit, out),
+        None => Ok(()),
+    }
+}
+
+impl Grid {
+    // Whether the script at this place is one of them, where it has these listens.
+    pub(crate) fn admits(&self, place: usize, audience: &Audience, listens: &Listens) -> bool
+        requires { place < length self.now.seats }
+        ensures { (seat : Place) → slice_get self.now.seats place ≡ Some seat →
+            result ≡ is_admitted audience.now seat.object seat.prim (key_in self.now.objects seat) listens.now }
+    {
+        let seat = &self.seats[place];
+        let prim = self.objects[seat.object].prims.prim(seat.prim);
+        audience.admits(seat.object, seat.prim, &prim.key, listens)
+    }
+
+    // Whether the script at this place isn't out, and is one of them.
+    fn is_meant(&self, place: usize, audience: &Audience) -> bool
+        requires { place < length self.now.seats }
+        ensures { (seat : Place) (script : _) → slice_get self.now.seats place ≡ Some seat → seat.script ≡ Some script →
+            result ≡ is_admitted audience.now seat.object seat.prim (key_in self.now.objects seat) script.listens }
+    {
+        match &self.seats[place].script {
+            Some(script) => self.admits(place, audience, &script.parts().listens),
+            None => false,
+        }
+    }
+
+    /// Posts an event to the script at this place, where it is one of them.
+    pub(crate) fn post_at(
+        &mut self,
+        place: usize,
+        audience: &Audience,
+        event: &Event,
+        library: &Library,
+        out: &mut Entries,
+    ) -> Result<(), NoMemory>
+        requires place { place < length self.old.seats }
+        requires seated { AreSeated library.now self.old.seats }
+        requires other { is_exit event.now ≡ false }
+        ensures does { (away : Option ℕ) (clock : ℕ) (w : World) →
+            Stands library.now away clock self.old w → is_out away place ≡ false →
+            Tells result (λ v _. Stands library.now away clock self.new v) out.old out.new
+            (post_where (rules_of library.now) (admits audience.now) event.now place w) }
+        ensures seated { OnOk result (AreSeated library.now self.new.seats) }
+        ensures len { length self.new.seats ≡ length self.old.seats }
+        ensures objects { self.new.objects ≡ self.old.objects }
+    {
+        if !self.is_meant(place, audience) {
+            return Ok(());
+        }
+        let seat = &mut self.seats[place];
+        let unit = library.unit(seat.unit);
+        post_seat(
+            self.alloc,
+            &mut seat.script,
+            number(place),
+            event,
+            unit,
+            out,
+        )
+    }
+    /// Posts an event to all scripts that are among them.
+    pub(crate) fn post_all(
+        &mut self,
+        audience: &Audience,
+        event: &Event,
+        library: &Library,
+        out: &mut Entries,
+    ) -> Result<(), NoMemory>
+        requires seated { AreSeated library.now self.old.seats }
+        requires other { is_exit event.now ≡ false }
+        ensures does { (m : Meant library.now) (clock : ℕ) (w : World) → Stands library.now None clock self.old w →
+            Tells result (λ v _. Stands library.now None clock self.new v) out.old out.new
+            (post_all m.rules (admits audience.now) event.now w) }
+        ensures seated { OnOk result (AreSeated library.now self.new.seats) }
+        ensures len { length self.new.seats ≡ length self.old.seats }
+        ensures objects { self.new.objects ≡ self.old.objects }
+    {
+        for place in 0..self.seats.len() {
+            self.post_at(place, audience, event, library, out)?;
+        }
+        Ok(())
+    }
+}

@@ -1,0 +1,341 @@
+//! Host calls that say or send something, or name a prim.
+
+ghost use Rattle.std.specs.Prelude.{◌≡◌, ◌<◌, ◌≤◌, ◌+◌, ℕ, List, [], ◌∷◌, ◌++◌, pos, true, false, length, slice_get, Some, IfOk, OnOk};
+ghost use Rattle.std.specs.Ordering.{int_eq};
+ghost use Rattle.lsl_value.specs.declared.names.BuiltinId.{BuiltinId as Id};
+ghost use Rattle.lsl_value.specs.declared.names.BuiltinId.TheVariants as ids;
+ghost use Rattle.lsl_running.specs.declared.host.Reply.TheVariants as replies;
+ghost use Rattle.lsl_running.specs.Calling.{call_form};
+ghost use Rattle.lsl_code.specs.declared.woven_units.Woven.{Woven as Code};
+ghost use Rattle.lsl_code.specs.Effects.{is_asked};
+ghost use Rattle.lsl_code.specs.Kinded.{Answers};
+ghost use Rattle.lsl_post.specs.Filters.{filter};
+ghost use Rattle.lsl_post.specs.Journal.{Adds, Tells};
+ghost use Rattle.lsl_post.specs.Timing.{latest_clock};
+ghost use Rattle.lsl_post.specs.declared.entries.Entry.TheVariants as entries;
+ghost use Rattle.lsl_script.specs.Awake.{IsAwake};
+ghost use Rattle.lsl_script.specs.Codes.{Meant};
+ghost use Rattle.lsl_script.specs.Fitting.{is_exit};
+ghost use Rattle.lsl_script.specs.Scripts.{Flight};
+ghost use Rattle.lsl_script.specs.declared.live.Live.{Live as Awake};
+ghost use Rattle.lsl_region.specs.Answers.{answer_of, does_more, integer_at, message_of, nothing, renamed, said_by, says, text_at, told_in};
+ghost use Rattle.lsl_region.specs.Grids.{AreSeated, Lent, linked_to, object_in, prim_in, renamed_grid};
+ghost use Rattle.lsl_region.specs.Links.{link_of};
+ghost use Rattle.lsl_region.specs.Texts.{cut_name, cut_speech};
+ghost use Rattle.lsl_region.specs.Worlds.{World, prim_of};
+ghost use Rattle.lsl_region.specs.declared.grid.Seat.{Seat as Place};
+
+use crate::arguments::{integer_at, text_at};
+use crate::audience::Audience;
+use crate::events::{listen_event, message_event};
+use crate::grid::Grid;
+use crate::links::link_of;
+use crate::objects::{Linkset, Primitive};
+use crate::posting::number;
+use crate::telling::told_to;
+use crate::texts::{cut_name, cut_speech};
+use lsl_code::{Library, Woven};
+use lsl_post::{Entries, Entry, Event, Filter, Voice};
+use lsl_running::Reply;
+use lsl_script::Live;
+use lsl_text::NoMemory;
+use lsl_value::{BuiltinId, Text, Values};
+use std::alloc::Global;
+
+impl Grid {
+    // The object of the script at this place.
+    fn object_of(&self, place: usize) -> &Linkset
+        requires { place < length self.now.seats }
+        ensures value { (seat : Place) → slice_get self.now.seats place ≡ Some seat →
+            result.now ≡ object_in self.now.objects seat }
+        ensures within { (seat : Place) → slice_get self.now.seats place ≡ Some seat →
+            seat.prim < length result.now.prims }
+        ensures few { length result.now.prims ≤ 255 }
+    {
+        &self.objects[self.seats[place].object]
+    }
+
+    // The prim of the script at this place.
+    fn prim_of(&self, place: usize) -> &Primitive
+        requires { place < length self.now.seats }
+        ensures { (seat : Place) → slice_get self.now.seats place ≡ Some seat →
+            result.now ≡ prim_in self.now.objects seat }
+    {
+        self.object_of(place).prims.prim(self.seats[place].prim)
+    }
+
+    // What is heard where the script at this place says a text.
+    fn heard_of(&self, place: usize, channel: i32, text: &Text) -> Result<Filter, NoMemory>
+        requires { place < length self.now.seats }
+        ensures { (seat : Place) → slice_get self.now.seats place ≡ Some seat →
+            IfOk result (λ said. said ≡ filter channel (prim_in self.now.objects seat).name
+            (prim_in self.now.objects seat).key text.now) }
+    {
+        let prim = self.prim_of(place);
+        Ok(Filter {
+            channel,
+            name: prim.name.copy()?,
+            id: prim.key.copy()?,
+            message: text.copy()?,
+        })
+    }
+
+    /// The call is told something.
+    pub(crate) fn tell(
+        &self,
+        place: usize,
+        live: &Live,
+        id: BuiltinId,
+        args: &Values,
+        clock: u64,
+    ) -> Result<Reply, NoMemory>
+        requires place { place < length self.now.seats }
+        requires clock { clock ≤ latest_clock }
+        ensures does { (codes : List Code) (unit : Code) (of : Id) (f : Flight) (w : World) →
+            (lent : Lent codes unit clock place self.now live.now of f w) →
+            IfOk result (λ reply. reply ≡ replies.Value (told_in w lent.member id args.now)) }
+        ensures fits { is_asked (call_form id) ≡ true → does_more id ≡ false → IfOk result (Answers id) }
+    {
+        let seat = &self.seats[place];
+        let toucher = &live.event().toucher;
+        let told = told_to(
+            self.alloc,
+            self.object_of(place),
+            seat.prim,
+            &seat.name,
+            clock,
+            toucher,
+            id,
+            args,
+        )?;
+        Ok(Reply::Value(told))
+    }
+
+    // The script's prim says a text on a channel, and others hear it.
+    fn say_by(
+        &mut self,
+        place: usize,
+        live: &mut Live,
+        voice: Voice,
+        channel: i32,
+        text: Text,
+        library: &Library,
+        unit: &Woven,
+        out: &mut Entries,
+    ) -> Result<(), NoMemory>
+        requires place { place < length self.old.seats }
+        requires seated { AreSeated library.now self.old.seats }
+        requires awake { IsAwake unit.now live.old }
+        ensures does { (m : Meant library.now) (clock : ℕ) (f : Flight) (of : Id) (w : World) →
+            (lent : Lent library.now unit.now clock place self.old live.old of f w) →
+            Tells result (λ v _. Lent library.now unit.now clock place self.new live.new of f v) out.old out.new
+            (said_by m.rules place voice (prim_of w lent.member) channel text w) }
+        ensures seated { OnOk result (AreSeated library.now self.new.seats) }
+        ensures len { length self.new.seats ≡ length self.old.seats }
+        ensures awake { IsAwake unit.now live.new }
+        ensures machine { live.new.machine ≡ live.old.machine }
+    {
+        let said = self.heard_of(place, channel, &text)?;
+        let event = listen_event(self.alloc, &said)?;
+        out.push(Entry::Chat(number(place), voice, channel, text))?;
+        self.post_all_with(
+            place,
+            live,
+            &Audience::Hearers(said),
+            &event,
+            library,
+            unit,
+            out,
+        )
+    }
+
+    /// The script's prim says the text at place 1 on the channel at place 0.
+    pub(crate) fn says(
+        &mut self,
+        place: usize,
+        live: &mut Live,
+        voice: Voice,
+        args: &Values,
+        library: &Library,
+        unit: &Woven,
+        out: &mut Entries,
+    ) -> Result<Reply, NoMemory>
+        requires place { place < length self.old.seats }
+        requires seated { AreSeated library.now self.old.seats }
+        requires awake { IsAwake unit.now live.old }
+        ensures does { (m : Meant library.now) (clock : ℕ) (f : Flight) (of : Id) (w : World) →
+            (lent : Lent library.now unit.now clock place self.old live.old of f w) →
+            Tells result (λ x reply. Lent library.now unit.now clock place self.new live.new of f x.0 × (reply ≡ x.1))
+            out.old out.new (says m.rules place voice lent.member args.now w) }
+        ensures reply { IfOk result (λ reply. reply ≡ nothing) }
+        ensures seated { OnOk result (AreSeated library.now self.new.seats) }
+        ensures len { length self.new.seats ≡ length self.old.seats }
+        ensures awake { IsAwake unit.now live.new }
+        ensures machine { live.new.machine ≡ live.old.machine }
+    {
+        let text = spoken(self.alloc, args, 1)?;
+        self.say_by(
+            place,
+            live,
+            voice,
+            integer_at(args, 0),
+            text,
+            library,
+            unit,
+            out,
+        )?;
+        Ok(Reply::Value(None))
+    }
+
+    /// The same to the whole region, where nothing is said on channel 0.
+    pub(crate) fn says_in_region(
+        &mut self,
+        place: usize,
+        live: &mut Live,
+        args: &Values,
+        library: &Library,
+        unit: &Woven,
+        out: &mut Entries,
+    ) -> Result<Reply, NoMemory>
+        requires place { place < length self.old.seats }
+        requires seated { AreSeated library.now self.old.seats }
+        requires awake { IsAwake unit.now live.old }
+        ensures does { (m : Meant library.now) (clock : ℕ) (f : Flight) (of : Id) (w : World) →
+            (lent : Lent library.now unit.now clock place self.old live.old of f w) →
+            Tells result (λ x reply. Lent library.now unit.now clock place self.new live.new of f x.0 × (reply ≡ x.1))
+            out.old out.new (answer_of m.rules place lent.member ids.RegionSay args.now w) }
+        ensures reply { IfOk result (λ reply. reply ≡ nothing) }
+        ensures seated { OnOk result (AreSeated library.now self.new.seats) }
+        ensures len { length self.new.seats ≡ length self.old.seats }
+        ensures awake { IsAwake unit.now live.new }
+        ensures machine { live.new.machine ≡ live.old.machine }
+    {
+        if is_silent(args) {
+            return Ok(Reply::Value(None));
+        }
+        self.says(place, live, Voice::Region, args, library, unit, out)
+    }
+
+    /// The text at place 0 is said to the owner.
+    pub(crate) fn says_to_owner(
+        &self,
+        place: usize,
+        args: &Values,
+        out: &mut Entries,
+    ) -> Result<Reply, NoMemory>
+        requires { place < length self.now.seats }
+        ensures does { Adds result out.old out.new
+            (entries.Owner (place + 1) (cut_speech (text_at 0 args.now)) ∷ []) }
+        ensures reply { IfOk result (λ reply. reply ≡ nothing) }
+    {
+        let text = spoken(self.alloc, args, 0)?;
+        out.push(Entry::Owner(number(place), text))?;
+        Ok(Reply::Value(None))
+    }
+
+    // The message of these arguments.
+    fn message(&self, place: usize, args: &Values) -> Result<Event, NoMemory>
+        requires { place < length self.now.seats }
+        ensures value { (codes : List Code) (unit : Code) (clock : ℕ) (live : Awake) (of : Id) (f : Flight) (w : World) →
+            (lent : Lent codes unit clock place self.now live of f w) →
+            IfOk result (λ event. event ≡ message_of w lent.member args.now) }
+        ensures other { IfOk result (λ event. is_exit event ≡ false) }
+    {
+        let (text, key) = (text_at(args, 2)?, text_at(args, 3)?);
+        message_event(self.alloc, self.link(place), integer_at(args, 1), text, key)
+    }
+
+    // The link number of the prim of the script at this place.
+    fn link(&self, place: usize) -> i32
+        requires { place < length self.now.seats }
+        ensures { (seat : Place) → slice_get self.now.seats place ≡ Some seat →
+            result ≡ pos (link_of (length (object_in self.now.objects seat).prims) seat.prim) }
+    {
+        link_of(self.object_of(place).prims.len(), self.seats[place].prim)
+    }
+
+    // To whom a message with these arguments goes.
+    fn linked(&self, place: usize, args: &Values) -> Audience
+        requires { place < length self.now.seats }
+        ensures { (seat : Place) → slice_get self.now.seats place ≡ Some seat →
+            result ≡ linked_to (length (object_in self.now.objects seat).prims) seat args.now }
+    {
+        let seat = &self.seats[place];
+        Audience::Linked {
+            object: seat.object,
+            count: self.object_of(place).prims.len(),
+            sender: seat.prim,
+            number: integer_at(args, 0),
+        }
+    }
+
+    /// A message goes to the scripts of the prims that the number at place 0 names.
+    pub(crate) fn sends(
+        &mut self,
+        place: usize,
+        live: &mut Live,
+        args: &Values,
+        library: &Library,
+        unit: &Woven,
+        out: &mut Entries,
+    ) -> Result<Reply, NoMemory>
+        requires place { place < length self.old.seats }
+        requires seated { AreSeated library.now self.old.seats }
+        requires awake { IsAwake unit.now live.old }
+        ensures does { (m : Meant library.now) (clock : ℕ) (f : Flight) (of : Id) (w : World) →
+            (lent : Lent library.now unit.now clock place self.old live.old of f w) →
+            Tells result (λ x reply. Lent library.now unit.now clock place self.new live.new of f x.0 × (reply ≡ x.1))
+            out.old out.new (answer_of m.rules place lent.member ids.MessageLinked args.now w) }
+        ensures reply { IfOk result (λ reply. reply ≡ nothing) }
+        ensures seated { OnOk result (AreSeated library.now self.new.seats) }
+        ensures len { length self.new.seats ≡ length self.old.seats }
+        ensures awake { IsAwake unit.now live.new }
+        ensures machine { live.new.machine ≡ live.old.machine }
+    {
+        let event = self.message(place, args)?;
+        let audience = self.linked(place, args);
+        self.post_all_with(place, live, &audience, &event, library, unit, out)?;
+        Ok(Reply::Value(None))
+    }
+
+    // Names the prim of the script at this place.
+    fn set_name(&mut self, place: usize, name: Text)
+        requires { place < length self.old.seats }
+        ensures grid { (seat : Place) → slice_get self.old.seats place ≡ Some seat →
+            self.new ≡ renamed_grid self.old seat name }
+        ensures seats { self.new.seats ≡ self.old.seats }
+    {
+        let seat = &self.seats[place];
+        self.objects[seat.object].prims.rename(seat.prim, name);
+    }
+
+    /// The script's prim has the name at place 0, cut.
+    pub(crate) fn renames(&mut self, place: usize, args: &Values) -> Result<Reply, NoMemory>
+        requires { place < length self.old.seats }
+        ensures does { (codes : List Code) (unit : Code) (clock : ℕ) (live : Awake) (of : Id) (f : Flight) (w : World) →
+            (lent : Lent codes unit clock place self.old live of f w) →
+            OnOk result (Lent codes unit clock place self.new live of f
+            (renamed w lent.member (cut_name (text_at 0 args.now)))) }
+        ensures reply { IfOk result (λ reply. reply ≡ nothing) }
+        ensures seats { self.new.seats ≡ self.old.seats }
+    {
+        let text = text_at(args, 0)?;
+        let name = cut_name(self.alloc, &text)?;
+        self.set_name(place, name);
+        Ok(Reply::Value(None))
+    }
+}
+
+// Whether the channel at place 0 is the region's silent one.
+fn is_silent(args: &Values) -> bool
+    ensures { result ≡ int_eq (integer_at 0 args.now) (pos 0) }
+{
+    integer_at(args, 0) == 0
+}
+
+// The text at this place as it is said.
+fn spoken(alloc: Global, args: &Values, place: usize) -> Result<Text, NoMemory>
+    ensures { IfOk result (λ text. text ≡ cut_speech (text_at place args.now)) }
+{
+    cut_speech(alloc, &text_at(args, place)?)
+}

@@ -1,0 +1,94 @@
+//! What a host call is only told.
+
+ghost use Rattle.std.specs.Prelude.{◌≡◌, ◌<◌, ◌≤◌, ℕ, Option, true, length, IfOk, option_copied};
+ghost use Rattle.std.specs.Option.{option_map};
+ghost use Rattle.lsl_value.specs.Values.{kind_of};
+ghost use Rattle.lsl_post.specs.Timing.{latest_clock};
+ghost use Rattle.lsl_region.specs.Answers.{detected, detected_key, detected_link, detected_name, told_to};
+
+use crate::arguments::integer_at;
+use crate::links::{link_of, prim_or_this};
+use crate::objects::{Linkset, null_key};
+use lsl_post::Toucher;
+use lsl_text::NoMemory;
+use lsl_value::{BuiltinId, Text, Value, Values};
+use std::alloc::Global;
+
+/// What the call is told of this object, the script's prim and name, the clock, and who touched.
+pub(crate) fn told_to(
+    alloc: Global,
+    object: &Linkset,
+    prim: usize,
+    name: &Text,
+    clock: u64,
+    toucher: &Option<Toucher>,
+    id: BuiltinId,
+    args: &Values,
+) -> Result<Option<Value>, NoMemory>
+    requires prim { prim < length object.now.prims }
+    requires few { length object.now.prims ≤ 255 }
+    requires clock { clock ≤ latest_clock }
+    ensures { IfOk result (λ told. told ≡ told_to object.now prim name.now clock toucher.now id args.now) }
+{
+    let prims = &object.prims;
+    let value = match id {
+        BuiltinId::GetOwner => Value::Key(object.owner.copy()?),
+        BuiltinId::GetKey => Value::Key(prims.prim(prim).key.copy()?),
+        BuiltinId::GetLinkKey => {
+            Value::Key(prims.key_of(alloc, prim_or_this(prims.len(), prim, integer_at(args, 0)))?)
+        }
+        BuiltinId::GetLinkName => {
+            Value::Str(prims.name_of(alloc, prim_or_this(prims.len(), prim, integer_at(args, 0)))?)
+        }
+        BuiltinId::GetLinkNumber => Value::Int(link_of(prims.len(), prim)),
+        BuiltinId::GetNumberOfPrims => Value::Int(prims.len() as i32),
+        BuiltinId::GetObjectName => Value::Str(prims.prim(prim).name.copy()?),
+        BuiltinId::GetScriptName => Value::Str(name.copy()?),
+        BuiltinId::GetUnixTime => Value::Int((clock / 1000) as i32),
+        BuiltinId::DetectedKey => Value::Key(detected_key(alloc, toucher, args)?),
+        BuiltinId::DetectedName => Value::Str(detected_name(toucher, args)?),
+        BuiltinId::DetectedLinkNumber => Value::Int(detected_link(toucher, args)),
+        _ => return Ok(None),
+    };
+    Ok(Some(value))
+}
+
+// Who touched, where place 0 is asked for.
+fn detected<'a>(toucher: &'a Option<Toucher>, args: &Values) -> Option<&'a Toucher>
+    ensures { option_copied result ≡ detected toucher.now args.now }
+{
+    if integer_at(args, 0) == 0 {
+        return toucher.as_ref();
+    }
+    None
+}
+
+// The key of who touched, and that of zeros where nobody did.
+fn detected_key(alloc: Global, toucher: &Option<Toucher>, args: &Values) -> Result<Text, NoMemory>
+    ensures { IfOk result (λ key. key ≡ detected_key (detected toucher.now args.now)) }
+{
+    match detected(toucher, args) {
+        Some(toucher) => toucher.key.copy(),
+        None => null_key(alloc),
+    }
+}
+
+// The name of who touched, and none where nobody did.
+fn detected_name(toucher: &Option<Toucher>, args: &Values) -> Result<Text, NoMemory>
+    ensures { IfOk result (λ name. name ≡ detected_name (detected toucher.now args.now)) }
+{
+    match detected(toucher, args) {
+        Some(toucher) => toucher.name.copy(),
+        None => Ok(Text::new()),
+    }
+}
+
+// The number of the touched prim, and 0 where nobody touched.
+fn detected_link(toucher: &Option<Toucher>, args: &Values) -> i32
+    ensures { result ≡ detected_link (detected toucher.now args.now) }
+{
+    match detected(toucher, args) {
+        Some(toucher) => toucher.link,
+        None => 0,
+    }
+}
