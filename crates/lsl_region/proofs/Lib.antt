@@ -1,5 +1,6 @@
 pub mod Cuts
 pub mod CutBytes
+pub mod Behind
 pub mod Placed
 pub mod Results
 pub mod Seats

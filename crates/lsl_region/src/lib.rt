@@ -2,6 +2,7 @@
 //! what a turn of a script does.
 #![tactic(auto)]
 
+mod adding;
 mod answers;
 mod arguments;
 mod arrivals;

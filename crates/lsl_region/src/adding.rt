@@ -1,0 +1,47 @@
+//! Objects and scripts are added to a grid.
+
+ghost use Rattle.std.specs.Prelude.{◌≡◌, ◌<◌, ◌≤◌, [], ◌∷◌, ◌++◌, length, OnOk};
+ghost use Rattle.lsl_region.specs.Grids.{IsPlaced};
+
+use crate::grid::{Grid, Seat};
+use crate::objects::Linkset;
+use lsl_text::NoMemory;
+
+impl Grid {
+    /// Adds an object behind the others, which are 63 at most.
+    pub fn add(&mut self, object: Linkset) -> Result<(), NoMemory>
+        requires room { length self.old.objects < 64 }
+        requires prims { length object.prims ≤ 255 }
+        ensures added { OnOk result (self.new.objects ≡ self.old.objects ++ object ∷ []) }
+        ensures seats { self.new.seats ≡ self.old.seats }
+    {
+        self.objects.push(object)?;
+        Ok(())
+    }
+
+    /// Adds a script behind the others, which are 255 at most, in a prim that is there.
+    pub fn seat(&mut self, seat: Seat) -> Result<(), NoMemory>
+        requires room { length self.old.seats < 256 }
+        requires placed { IsPlaced self.old.objects seat }
+        ensures added { OnOk result (self.new.seats ≡ self.old.seats ++ seat ∷ []) }
+        ensures objects { self.new.objects ≡ self.old.objects }
+    {
+        self.seats.push(seat)?;
+        Ok(())
+    }
+
+    /// How many objects there are. Takes no memory.
+    pub fn objects(&self) -> usize
+        ensures { result ≡ length self.now.objects }
+    {
+        self.objects.len()
+    }
+
+    /// How many scripts there are. Takes no memory.
+    pub fn scripts(&self) -> usize
+        ensures value { result ≡ length self.now.seats }
+        ensures within { result ≤ 256 }
+    {
+        self.seats.len()
+    }
+}
