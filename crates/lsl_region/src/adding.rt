@@ -32,7 +32,8 @@ impl Grid {
 
     /// How many objects there are. Takes no memory.
     pub fn objects(&self) -> usize
-        ensures { result ≡ length self.now.objects }
+        ensures value { result ≡ length self.now.objects }
+        ensures within { result ≤ 64 }
     {
         self.objects.len()
     }

@@ -1,6 +1,6 @@
 //! Objects: prims with their keys and names, in a region.
 
-ghost use Rattle.std.specs.Prelude.{◌≡◌, ◌<◌, length, IfOk, IfSome};
+ghost use Rattle.std.specs.Prelude.{◌≡◌, ◌<◌, [], ◌∷◌, ◌++◌, length, IfOk, IfSome, OnOk};
 ghost use Rattle.lsl_value.specs.Key.{null_key};
 ghost use Rattle.lsl_region.specs.Answers.{key_of_prim, name_of_prim, with_name};
 ghost use Rattle.lsl_region.specs.Worlds.{prim_at};
@@ -44,6 +44,23 @@ pub struct Linkset {
 }
 
 impl Prims {
+    /// No prim. Takes no memory.
+    pub fn new(alloc: Global) -> Prims
+        ensures { result ≡ [] }
+    {
+        Prims {
+            list: Vec::new(alloc),
+        }
+    }
+
+    /// Adds a prim of this key and name behind the others.
+    pub fn push(&mut self, key: Text, name: Text) -> Result<(), NoMemory>
+        ensures { OnOk result (self.new ≡ self.old ++ record { key = key; name = name } ∷ []) }
+    {
+        self.list.push(Primitive { key, name })?;
+        Ok(())
+    }
+
     /// These prims. Takes no memory.
     pub fn from_vec(list: Vec<Primitive>) -> Prims
         ensures { result ≡ list.items }
