@@ -10,11 +10,11 @@ use Rattle.lsl_table.specs.Events.{signature_of}
 use Rattle.lsl_tree.specs.Program.{EventRoutine, ProgramState, Program}
 use Rattle.lsl_running.specs.declared.host.Reply.{Reply}
 use Rattle.lsl_meaning.specs.Globals.{initial_kept}
-use Rattle.lsl_code.specs.declared.units.Unit.{Unit as Code}
+use Rattle.lsl_code.specs.declared.woven_units.Woven.{Woven as Code}
 use Rattle.lsl_code.specs.Units.{handler_of}
 use Rattle.lsl_code.specs.WellFormed.{IsWellFormedState}
-use Rattle.lsl_code.specs.Wholes.{whole_of_unit}
-use Rattle.lsl_code.proofs.UnitTold.{fits_tells}
+use Rattle.lsl_code.specs.Wholes.{whole_of_bodies}
+use Rattle.lsl_code.proofs.UnitTold.{woven_tells}
 use Rattle.lsl_gen.specs.Programs.{numbered_handlers, numbered_states}
 use Rattle.lsl_machine.specs.Futures.{whole_from, ticks_passed}
 use Rattle.lsl_machine.specs.State.{AreArguments, State, bodies_of, kept_with}
@@ -76,7 +76,7 @@ module _ (p : Program) (code : Code) (runs : Runs p code) (built : is_built p �
   -- it takes no arguments
   pub no_arguments : AreArguments (slice_get (bodies_of code) (length p.functions)) []
   no_arguments =
-      let formed = (fits_tells code.globals code.states (bodies_of code) code.fits).each_state in
+      let formed = (woven_tells code.globals code.states (bodies_of code) code.woven).each_state in
       let n = length p.functions in
       let s = entry.state in
       let states : code.states ≡ numbered_states n (s ∷ []) = runs.states ∙ ap (numbered_states n) entry.states_are in
@@ -93,7 +93,7 @@ module _ (p : Program) (code : Code) (runs : Runs p code) (built : is_built p �
   pub Course-begun : (f : ℕ) (globals args : List Value) (s : State) → f ≡ length p.functions
       → globals ≡ code.globals → args ≡ []
       → ((ticks : ℕ) (answers : List Reply)
-      → whole_of_unit code.functions f (kept_with globals 65536) args ticks answers
+      → whole_of_bodies (bodies_of code) f (kept_with globals 65536) args ticks answers
       ≡ whole_from (bodies_of code) s ticks answers)
       → ticks_passed s.standing ≡ 0 → (before : List ℕ) → Course p (bodies_of code) 0 s before before
   Course-begun f globals args s number same none begins passes before = record {
@@ -102,9 +102,9 @@ module _ (p : Program) (code : Code) (runs : Runs p code) (built : is_built p �
     goes = λ more given.
         ap (λ t. entry_whole p t given) (zero_more more)
         ∙ sym (runs.meaning (length p.functions) (initial_kept p) [] more given)
-        ∙ sym (ap (λ g. whole_of_unit code.functions (length p.functions) (kept_with g 65536) [] more given)
+        ∙ sym (ap (λ g. whole_of_bodies (bodies_of code) (length p.functions) (kept_with g 65536) [] more given)
         (same ∙ runs.globals))
-        ∙ sym (ap₂ (λ k a. whole_of_unit code.functions k (kept_with globals 65536) a more given) number none)
+        ∙ sym (ap₂ (λ k a. whole_of_bodies (bodies_of code) k (kept_with globals 65536) a more given) number none)
         ∙ begins more given
         ∙ ap (λ t. whole_from (bodies_of code) s t given) (none_passed passes more);
     written = sym (append-nil before);

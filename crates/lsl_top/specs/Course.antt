@@ -7,8 +7,9 @@ use Rattle.lsl_tree.specs.Program.{Program}
 use Rattle.lsl_running.specs.declared.host.Reply.{Reply}
 use Rattle.lsl_running.specs.Results.{Whole, Asks}
 use Rattle.lsl_meaning.specs.Globals.{initial_globals}
-use Rattle.lsl_code.specs.declared.units.Unit.{Unit as Code}
+use Rattle.lsl_code.specs.declared.woven_units.Woven.{Woven as Code}
 use Rattle.lsl_code.specs.Bodies.{Body}
+use Rattle.lsl_code.specs.Weaves.{bodies_of}
 use Rattle.lsl_gen.specs.Laws.{Agrees}
 use Rattle.lsl_gen.specs.Programs.{generated_states}
 use Rattle.lsl_machine.specs.Futures.{whole_from, ticks_passed}
@@ -19,7 +20,7 @@ use Rattle.lsl_top.specs.Journal.{Says, answers, ending, entry_whole, owner_line
 pub record Runs (p : Program) (code : Code) : Type 0 where
   pub globals : code.globals ≡ initial_globals p
   pub states : code.states ≡ generated_states p
-  pub meaning : Agrees code.functions p
+  pub meaning : Agrees (bodies_of code) p
 
 -- with so many ticks that it may pass, what comes of a machine is what comes of the program behind so many answers
 abbrev pub Goes : Program → List Body → ℕ → ℕ → State → Type 0
