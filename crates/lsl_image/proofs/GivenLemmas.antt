@@ -2,7 +2,7 @@
 use Rattle.std.proofs.Common.{◌≡◌, ◌∙◌, refl, sym, ap, subst, arith, ℕ, zero, suc, ◌+◌, List, [], ◌∷◌, ◌++◌, length, Bool, true, false}
 use Rattle.std.proofs.lemmas.List.{length_push}
 use Rattle.std.specs.List.{AllByRecursion}
-use Rattle.lsl_image.specs.Layout.{Content, Fits, Form, Layout, Ends, Refused, ◌>>=◌, each_behind, field, field_that, grown, here, tested}
+use Rattle.lsl_image.specs.Layout.{Content, Fits, Form, Layout, Ends, ◌>>=◌, each_behind, field, field_that, grown, here, tested}
 use Rattle.lsl_image.specs.Reading.{Gives}
 use Rattle.lsl_image.proofs.ReadingLemmas.{gives-split}
 

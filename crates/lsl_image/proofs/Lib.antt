@@ -17,6 +17,12 @@ pub mod RestLemmas
 pub mod SealLemmas
 pub mod SealedLemmas
 pub mod SpellingLemmas
+pub mod SpeltCallLemmas
+pub mod SpeltEventLemmas
+pub mod SpeltImageLemmas
+pub mod SpeltLemmas
+pub mod SpeltListenLemmas
+pub mod SpeltPartLemmas
 pub mod StoreLemmas
 pub mod ValidCallLemmas
 pub mod ValidLemmas

@@ -1,6 +1,6 @@
 -- Saved calls that are read are a handler's.
-use Rattle.std.proofs.Common.{◌≡◌, ◌∙◌, refl, sym, ap, subst, arith, eqb-true, eq-eqb, ne_eqb, ℕ, zero, suc, ◌+◌, ◌<◌, ◌≤◌, ◌==◌, ◌&&◌, ◌||◌, nat_eq, nat_lt, nat_le, cond, List, [], ◌∷◌, ◌++◌, length, append_assoc, length-append, Bool, true, false, Option, Some, None}
-use Rattle.std.proofs.lemmas.Bool.{and_parts, false≢true, leb-true, ltb-true}
+use Rattle.std.proofs.Common.{◌≡◌, ◌∙◌, refl, sym, ap, subst, arith, eqb-true, ℕ, zero, suc, ◌+◌, ◌<◌, ◌&&◌, ◌||◌, nat_eq, nat_lt, nat_le, cond, List, [], ◌∷◌, ◌++◌, length, append_assoc, length-append, Bool, true, false, Option, Some, None}
+use Rattle.std.proofs.lemmas.Bool.{and_parts, false≢true, leb-true}
 use Rattle.std.proofs.lemmas.Bool.Decides.{nat_tests}
 use Rattle.std.proofs.lemmas.List.{append-nil, length_push}
 use Rattle.lsl_value.specs.declared.tagged.Value.{Value}
@@ -10,8 +10,8 @@ use Rattle.lsl_code.specs.declared.units.Unit.{Unit as Code}
 use Rattle.lsl_code.specs.Bodies.{point_of}
 use Rattle.lsl_code.specs.Frames.{AreFrames, AreValid, EndsIn, FitFrames, IsAtPoint, parked_charge}
 use Rattle.lsl_image.specs.declared.faults.ImageFault.TheVariants.{Body}
-use Rattle.lsl_image.specs.Layout.{Layout, Ends, Refused, U16, ◌>>=◌, grown, tested, values_of}
-use Rattle.lsl_image.specs.Rest.{callee_of, ends_in, frame, frame_at, frame_behind, frame_in, is_number_of, same_callee, saved_calls}
+use Rattle.lsl_image.specs.Layout.{Ends, Refused, U16, ◌>>=◌, grown, values_of}
+use Rattle.lsl_image.specs.Rest.{callee_of, ends_in, frame, frame_at, frame_behind, frame_in, same_callee, saved_calls}
 use Rattle.lsl_image.proofs.FrameLemmas.{callee-after}
 use Rattle.lsl_image.proofs.GivenLemmas.{Given, ended, grown-long, split, tested-told, that-told}
 use Rattle.lsl_image.proofs.ValidLemmas.{values-kinds_are}
@@ -32,9 +32,12 @@ module _ (bytes : List ℕ) (unit : Code) (handler : ℕ) where
     test-point point known true same p f q g =
         let s = split g in
         let is : f ≡ frame function number s.value = ended s.rest in
-        let at : IsAtPoint (point_of unit.functions) callee (frame function number s.value) =
-        (point, sym known, callee-same point.calls callee same,
-        values-kinds_are bytes point.kinds p s.value s.middle s.first) in
+        let at : IsAtPoint (point_of unit.functions) callee (frame function number s.value) = (
+          point,
+          sym known,
+          callee-same point.calls callee same,
+          values-kinds_are bytes point.kinds p s.value s.middle s.first,
+        ) in
         (ap (λ (x : Frame). x.function) is, subst (IsAtPoint (point_of unit.functions) callee) (sym is) at)
     test-point point known false other p f q g = absurd g.gives
 
@@ -57,9 +60,11 @@ module _ (bytes : List ℕ) (unit : Code) (handler : ℕ) where
       let ends = (and_parts (nat_lt first.value (length unit.functions)) (ends_in (Some handler) more first.value)
       test.holds).1 in
       let told = at-point placed.value first.value numbered.value callee (point_of unit.functions first.value numbered.value)
-      refl numbered.middle f q numbered.rest in
-      (told.1, λ last. told.0 ∙ eqb-true first.value handler
-      (sym (ap (λ (b : Bool). b || nat_eq first.value handler) last) ∙ ends))
+      refl numbered.middle f q numbered.rest in (
+        told.1,
+        λ last. told.0 ∙ eqb-true first.value handler
+            (sym (ap (λ (b : Bool). b || nat_eq first.value handler) last) ∙ ends),
+      )
 
   -- the frames behind these
   frames-told : (count n : ℕ) (before : List Frame) (p : ℕ) (frames : List Frame) (q : ℕ) → length before + n ≡ count
@@ -80,8 +85,14 @@ module _ (bytes : List ℕ) (unit : Code) (handler : ℕ) where
       subst (λ (c : Option ℕ). FitFrames (point_of unit.functions) handler c others.0) callee others.2 in (
         s.value ∷ others.0,
         others.1 ∙ append_assoc before (s.value ∷ []) others.0,
-        ((told.0, last n others.0 s.value (λ none. told.1 (grind (arith, nat_tests, all, none)))
-            (omega (arith, long, ap length others.1, length-append (before ++ s.value ∷ []) others.0))), fit),
+        (
+          (
+            told.0,
+            last n others.0 s.value (λ none. told.1 (grind (arith, nat_tests, all, none)))
+                (omega (arith, long, ap length others.1, length-append (before ++ s.value ∷ []) others.0)),
+          ),
+          fit,
+        ),
       )
     where
       last : (n : ℕ) (behind : List Frame) (f : Frame) → (n ≡ 0 → f.function ≡ handler) → length behind ≡ n

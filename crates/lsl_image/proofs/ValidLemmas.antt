@@ -1,19 +1,17 @@
 -- Parts that are read are valid: events, and the states that a script is leaving for.
-use Rattle.std.proofs.Common.{◌≡◌, ◌≢◌, ◌∙◌, refl, sym, ap, subst, arith, ℕ, zero, suc, ◌<◌, ◌≤◌, ◌==◌, ◌&&◌, nat_lt, nat_le, not, cond, eq-eqb, List, [], length, Bool, true, false, Option, Some, None}
-use Rattle.std.proofs.lemmas.Bool.{and_parts, false≢true, leb-true, ltb-true, not-true}
+use Rattle.std.proofs.Common.{◌≡◌, ◌≢◌, ◌∙◌, refl, sym, ap, subst, ℕ, zero, suc, ◌<◌, ◌==◌, ◌&&◌, nat_lt, not, cond, eq-eqb, List, [], length, Bool, true, false, Option, Some, None}
+use Rattle.std.proofs.lemmas.Bool.{and_parts, false≢true, ltb-true, not-true}
 use Rattle.std.specs.List.{AllByRecursion}
 use Rattle.lsl_value.specs.declared.names.EventId.{EventId}
 use Rattle.lsl_value.specs.declared.names.EventId.TheVariants.{StateExit}
 use Rattle.lsl_value.specs.declared.tagged.Kind.{Kind}
 use Rattle.lsl_value.specs.declared.tagged.Value.{Value}
-use Rattle.lsl_table.specs.Events.{signature_of}
 use Rattle.lsl_code.specs.declared.units.Unit.{Unit as Code}
 use Rattle.lsl_code.specs.Kinds.{kinds_of}
 use Rattle.lsl_code.proofs.Sames.{sames_are}
 use Rattle.lsl_post.specs.declared.events.Event.{Event}
-use Rattle.lsl_image.specs.Layout.{Layout, Ends, Refused, U16, ◌>>=◌, values_of}
-use Rattle.lsl_image.specs.Reading.{Gives}
-use Rattle.lsl_image.specs.Script.{event_in, event_numbered, event_of, event_that_may, event_with, flagged_leaving, handles, leaving, may_stand, other_state, queue}
+use Rattle.lsl_image.specs.Layout.{Ends, Refused, U16, ◌>>=◌, values_of}
+use Rattle.lsl_image.specs.Script.{event_in, event_numbered, event_of, event_that_may, flagged_leaving, handles, leaving, may_stand, other_state, queue}
 use Rattle.lsl_image.specs.Valid.{MayLeave, MayLeaveFor, MayWait}
 use Rattle.lsl_image.specs.declared.faults.ImageFault.TheVariants.{Body}
 use Rattle.lsl_image.proofs.GivenLemmas.{Given, ended, grown-all, split, that-told}
@@ -28,9 +26,10 @@ module _ (bytes : List ℕ) (unit : Code) (state : ℕ) where
       → (to < length unit.states) × (to ≢ state)
   other-told p to q g =
       let t = that-told U16 (λ n. nat_lt n (length unit.states) && not (n == state)) g in
-      let parts = and_parts (nat_lt to (length unit.states)) (not (to == state)) t.holds in
-      (ltb-true to (length unit.states) parts.0,
-      λ same. false≢true (sym (not-true (to == state) parts.1) ∙ eq-eqb to state same))
+      let parts = and_parts (nat_lt to (length unit.states)) (not (to == state)) t.holds in (
+        ltb-true to (length unit.states) parts.0,
+        λ same. false≢true (sym (not-true (to == state) parts.1) ∙ eq-eqb to state same),
+      )
 
   exit-may : (place : ℕ) (b : Bool) → handles unit state StateExit ≡ b → (p : ℕ) (left : Option ℕ) (q : ℕ)
       → Given bytes (cond b (other_state unit state >>= λ to. Ends (Some to)) (Refused (Body place))) p left q

@@ -1,32 +1,27 @@
 -- Scripts, stores, objects and worlds that are read are valid.
-use Rattle.std.proofs.Common.{◌≡◌, ◌∙◌, refl, sym, ap, subst, arith, eqb-true, ℕ, zero, suc, ◌+◌, ◌<◌, ◌≤◌, ◌==◌, ◌&&◌, nat_lt, nat_le, not, cond, List, [], ◌∷◌, ◌++◌, length, Bool, true, false, Option, Some, None, is_some, slice_get, sum_by}
+use Rattle.std.proofs.Common.{◌≡◌, ◌∙◌, refl, sym, ap, subst, arith, eqb-true, ℕ, zero, suc, ◌≤◌, ◌==◌, ◌&&◌, nat_lt, nat_le, not, cond, List, [], ◌∷◌, ◌++◌, length, Bool, true, false, Option, Some, None, is_some, slice_get, sum_by}
 use Rattle.std.proofs.lemmas.Bool.{and_parts, false≢true, leb-true, ltb-true}
-use Rattle.std.proofs.lemmas.List.Sums.{sum_by_push}
 use Rattle.std.specs.List.{AllByRecursion}
-use Rattle.std.specs.Prelude.{codes}
 use Rattle.lsl_value.specs.Key.{is_valid_key}
 use Rattle.lsl_value.specs.declared.names.EventId.TheVariants.{StateExit}
 use Rattle.lsl_code.specs.declared.units.Unit.{Unit as Code}
-use Rattle.lsl_code.specs.Bodies.{point_of}
 use Rattle.lsl_code.specs.Kinds.{kinds_of}
 use Rattle.lsl_code.specs.Units.{handler_of, same_event}
 use Rattle.lsl_post.specs.declared.events.Event.{Event}
 use Rattle.lsl_post.specs.declared.parts.Pair.{Pair}
 use Rattle.lsl_post.specs.declared.parts.Rest.{Rest}
-use Rattle.lsl_post.specs.declared.parts.Rest.TheVariants.{Idle, Saved, Dead}
 use Rattle.lsl_post.specs.declared.parts.ScriptParts.{ScriptParts}
-use Rattle.lsl_image.specs.declared.faults.ImageFault.TheVariants.{Body}
 use Rattle.lsl_image.specs.declared.parts.ObjectParts.{ObjectParts}
 use Rattle.lsl_image.specs.declared.parts.Placed.{Placed}
 use Rattle.lsl_image.specs.declared.parts.Shape.{Shape}
 use Rattle.lsl_image.specs.declared.parts.WorldParts.{WorldParts}
-use Rattle.lsl_image.specs.Layout.{Layout, Ends, Refused, U8, U16, U32, U64, TextForm, ◌>>=◌, each, field, field_that, grown, here, repeated, tested}
+use Rattle.lsl_image.specs.Layout.{Ends, U8, U16, U32, U64, TextForm, ◌>>=◌, field, field_that, grown}
 use Rattle.lsl_image.specs.Object.{body, finds_room, is_above, object, pair, pair_behind, pair_bytes, script_of, store}
 use Rattle.lsl_image.specs.Rest.{dead_rest, rest, rest_of, saved_calls, saved_rest, script}
 use Rattle.lsl_image.specs.Script.{handles, limit, may_stand}
 use Rattle.lsl_image.specs.Valid.{Ascend, HasUnit, IsObject, IsPair, IsPlaced, IsSaved, IsScript, IsStore, IsWorld, MayRest}
 use Rattle.lsl_image.specs.World.{most_clock, placed, world}
-use Rattle.lsl_image.proofs.GivenLemmas.{Given, each-all, each-long, each-push, ended, field-told, grown-all, grown-long, split, tested-told, that-told}
+use Rattle.lsl_image.proofs.GivenLemmas.{Given, each-all, each-long, each-push, ended, field-told, grown-long, split, tested-told, that-told}
 use Rattle.lsl_image.proofs.ValidLemmas.{event-stands, leaving-may, queue-may, values-kinds_are}
 use Rattle.lsl_image.proofs.ValidCallLemmas.{calls-valid}
 

@@ -1,5 +1,6 @@
 -- What was appended, piece by piece and one for each of a list.
-use Rattle.std.proofs.Common.{◌≡◌, ◌∙◌, sym, ap, subst, arith, ℕ, zero, suc, ◌+◌, ◌*◌, ◌<◌, ◌≤◌, List, [], ◌∷◌, ◌++◌, length, take, get_or, append_assoc, Result, Ok, Err, OnOk, Some, slice_get, sum_by}
+use Rattle.std.proofs.Common.{◌≡◌, ◌∙◌, refl, sym, ap, subst, arith, ℕ, zero, suc, ◌+◌, ◌*◌, ◌<◌, ◌≤◌, List, [], ◌∷◌, ◌++◌, length, take, get_or, append_assoc, Result, Ok, Err, OnOk, Some, slice_get, sum_by}
+use Rattle.std.proofs.lemmas.Option.{slice_get_read}
 use Rattle.std.specs.List.{flat_map, AllByRecursion}
 use Rattle.std.proofs.lemmas.List.{append-nil}
 use Rattle.std.proofs.lemmas.List.Sums.{sum_by-cons}
@@ -54,6 +55,10 @@ module _ {X : Type 0} where
   pub fits-at : (P : X → Type 0) (xs : List X) (i : ℕ) (x : X) → Some x ≡ slice_get xs i
       → AllByRecursion P (take i xs) → P x → AllByRecursion P (take (i + 1) xs)
   fits-at P xs i x is all one = subst (AllByRecursion P) (sym (take-at xs i x is)) (each-push P (take i xs) x all one)
+
+  -- an item is what stands at its place
+  pub item-at : (xs : List X) (i : ℕ) (x : X) → i < length xs → x ≡ get_or xs i x → Some x ≡ slice_get xs i
+  item-at xs i x within is = sym (slice_get_read xs (length xs) i x refl within is)
 
   -- what holds of each holds of the one at a place
   pub each-at : (P : X → Type 0) (xs : List X) (i : ℕ) (x : X) → AllByRecursion P xs → i < length xs

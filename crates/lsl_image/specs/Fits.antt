@@ -20,6 +20,7 @@ use Rattle.lsl_image.specs.declared.parts.ObjectParts.{ObjectParts}
 use Rattle.lsl_image.specs.declared.parts.Placed.{Placed}
 use Rattle.lsl_image.specs.declared.parts.WorldParts.{WorldParts}
 use Rattle.lsl_image.specs.Bytes.{digest_of}
+use Rattle.lsl_image.specs.Object.{key_bytes}
 
 abbrev pub AreValues : List Value → Type 0
 AreValues values = AllByRecursion IsValue values
@@ -94,7 +95,12 @@ pub record FitsPair (p : Pair) : Type 0 where
   pub name : IsText p.name
   pub value : IsText p.value
 
+-- a key has 16 bytes
+abbrev pub FitsKey : List ℕ → Type 0
+FitsKey key = (id : List ℕ) × (key_bytes key ≡ Some id) × (length id ≡ 16)
+
 pub record FitsObject (library : List Code) (o : ObjectParts) : Type 0 where
+  pub key : FitsKey o.key
   pub names : AllByRecursion IsText o.names
   pub scripts : AllByRecursion (FitsIn library) o.scripts
   pub store : AllByRecursion FitsPair o.store

@@ -6,7 +6,7 @@ ghost use Rattle.lsl_value.specs.Key.{is_valid_key};
 ghost use Rattle.lsl_value.specs.Text.{IsText};
 ghost use Rattle.lsl_bytes.specs.Fields.{text_bytes};
 ghost use Rattle.lsl_image.specs.Bytes.{body_bytes, both_bytes, library_script_bytes, names_bytes, placed_bytes, scripts_bytes, store_bytes, uuid_bytes};
-ghost use Rattle.lsl_image.specs.Fits.{FitsIn, FitsObject, FitsPair, FitsPlaced};
+ghost use Rattle.lsl_image.specs.Fits.{FitsIn, FitsKey, FitsObject, FitsPair, FitsPlaced};
 ghost use Rattle.lsl_image.specs.Object.{key_bytes};
 ghost use Rattle.lsl_image.specs.Valid.{HasUnit, IsObject, IsPlaced};
 
@@ -35,7 +35,8 @@ pub fn write_body(out: &mut Vec<u8>, parts: &ObjectParts, library: &Library) -> 
 // Appends the 16 bytes of a key.
 fn write_key(out: &mut Vec<u8>, key: &Text) -> Result<(), NoMemory>
     requires { is_valid_key key.now ≡ true }
-    ensures { OnOk result (out.new.items ≡ out.old.items ++ uuid_bytes (key_bytes key.now)) }
+    ensures ok { OnOk result (out.new.items ≡ out.old.items ++ uuid_bytes (key_bytes key.now)) }
+    ensures fits { OnOk result (FitsKey key.now) }
 {
     match Uuid::try_parse(key.as_str()) {
         Ok(id) => out.extend_from_slice(id.as_bytes().as_slice()),

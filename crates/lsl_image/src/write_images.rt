@@ -5,7 +5,8 @@ ghost use Rattle.lsl_value.specs.Text.{IsText};
 ghost use Rattle.lsl_bytes.specs.Fields.{text_bytes};
 ghost use Rattle.lsl_image.specs.Bytes.{body_bytes, head_bytes, image_bytes, object_image, objects_bytes, world_image};
 ghost use Rattle.lsl_image.specs.Fits.{FitsObject, FitsWorld};
-ghost use Rattle.lsl_image.specs.Valid.{IsObject, IsWorld};
+ghost use Rattle.lsl_image.specs.Images.{ObjectImage, WorldImage};
+ghost use Rattle.lsl_image.specs.Valid.{IsObject, IsWorld, shape_of, shapes_of};
 
 use crate::parts::{ObjectParts, WorldParts};
 use crate::seal::digest_of;
@@ -34,7 +35,9 @@ pub fn write_object(
     library: &Library,
 ) -> Result<Vec<u8>, NoMemory>
     requires { IsObject library.now parts.now }
-    ensures { IfOk result (λ image. image.items ≡ object_image 2 region.now library.now parts.now) }
+    ensures image { IfOk result
+        (λ image. ObjectImage region.now (shape_of parts.now) library.now parts.now image.items) }
+    ensures bytes { IfOk result (λ image. image.items ≡ object_image 2 region.now library.now parts.now) }
 {
     let mut out = begun(alloc)?;
     write_object_fields(&mut out, parts, region, library)?;
@@ -48,7 +51,8 @@ pub fn write_world(
     library: &Library,
 ) -> Result<Vec<u8>, NoMemory>
     requires { IsWorld library.now parts.now }
-    ensures { IfOk result (λ image. image.items ≡ world_image 2 library.now parts.now) }
+    ensures image { IfOk result (λ image. WorldImage (shapes_of parts.now) library.now parts.now image.items) }
+    ensures bytes { IfOk result (λ image. image.items ≡ world_image 2 library.now parts.now) }
 {
     let mut out = begun(alloc)?;
     write_world_fields(&mut out, parts, library)?;
@@ -100,7 +104,8 @@ fn begun(alloc: Global) -> Result<Vec<u8>, NoMemory>
 // The image of these fields, before which there is room.
 fn sealed(out: Vec<u8>, letters: &[u8; 4]) -> Result<Vec<u8>, NoMemory>
     requires { 14 ≤ length out.items }
-    ensures { IfOk result (λ image. image.items ≡ image_bytes letters.now 2 (drop 14 out.items)) }
+    ensures bytes { IfOk result (λ image. image.items ≡ image_bytes letters.now 2 (drop 14 out.items)) }
+    ensures small { IfOk result (λ image. length image.items < 18446744073709551616) }
 {
     let mut out = out;
     let size = out.len() as u64 + DIGEST_BYTES as u64;

@@ -9,5 +9,5 @@ returns-clause-ok c =
     let o = c.args.parts.now in
     appended-four c.write_store.result c.args.out.now.items c.write_key.new.out.items c.write_names.new.out.items
     c.write_scripts.new.out.items c.write_store.new.out.items (uuid_bytes (key_bytes o.key)) (names_bytes o.names)
-    (scripts_bytes 2 c.args.library.now o.scripts) (store_bytes 2 o.store) c.in_ok-write_key.ensures
+    (scripts_bytes 2 c.args.library.now o.scripts) (store_bytes 2 o.store) c.in_ok-write_key.ensures.ok
     c.in_ok-write_names.ensures.ok c.in_ok-write_scripts.ensures.ok c.write_store.ensures.ok

@@ -13,8 +13,8 @@ put_head-requires c =
       length-head c.args.letters.now 2 (c.len.result + 32) c.told-letters,
     )
 
-pub returns : goal.returns
-returns c =
+pub returns-clause-bytes : goal.returns-clause-bytes
+returns-clause-bytes c =
     sealed-is c.args.letters.now c.args.out.items c.as_slice.result.now c.put_head.new.out.items
     c.digest_of-digest.result c.write_digest.new.out.items (c.len.result + 32) c.told-letters c.requires
     (omega (arith, c.len.ensures)) (c.as_slice.ensures.value ∙ c.in_ok-head.ensures) c.put_head.ensures
