@@ -9,3 +9,4 @@ pub mod Away
 pub mod Calls
 pub mod Lending
 pub mod Rings
+pub mod Touches

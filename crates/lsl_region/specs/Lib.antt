@@ -8,4 +8,5 @@ pub mod Grids
 pub mod Timers
 pub mod Segments
 pub mod Arrivals
+pub mod Touching
 pub mod Laws

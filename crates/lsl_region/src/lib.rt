@@ -19,6 +19,7 @@ mod speaking;
 mod telling;
 mod texts;
 mod timers;
+mod touching;
 
 pub use crate::grid::{Grid, Seat};
 pub use crate::objects::{Linkset, Primitive, Prims};

@@ -31,7 +31,15 @@ pub(crate) fn prim_named(count: usize, number: i32) -> Option<usize>
     if number < 0 {
         return None;
     }
-    let number = number as usize;
+    prim_numbered(count, number as usize)
+}
+
+/// The same of a number that isn't negative.
+pub(crate) fn prim_numbered(count: usize, number: usize) -> Option<usize>
+    ensures value { result ≡ prim_named count (pos number) }
+    ensures within { 0 < count → IfSome result (λ place. place < count) }
+    ensures few { IfSome result (λ place. (0 < place) → place < count) }
+{
     if number <= 1 {
         return Some(0);
     }

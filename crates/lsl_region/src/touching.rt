@@ -1,0 +1,190 @@
+//! Touches: whose scripts they are for, and the events that they post.
+
+ghost use Rattle.std.specs.Prelude.{◌≡◌, ◌<◌, ◌≤◌, ◌-◌, ◌&&◌, ℕ, nat_eq, Some, None, length, get_or, slice_get, IfOk, OnOk};
+ghost use Rattle.std.specs.List.{list_any};
+ghost use Rattle.lsl_code.specs.declared.woven_units.Woven.{Woven as Code};
+ghost use Rattle.lsl_post.specs.Journal.{Tells};
+ghost use Rattle.lsl_post.specs.declared.parts.ScriptParts.{ScriptParts as Parts};
+ghost use Rattle.lsl_script.specs.Codes.{HasUnit, Meant};
+ghost use Rattle.lsl_region.specs.Arrivals.{handles_touch, is_in_prim, touch, touch_prim, touched, touched_prim, toucher_of};
+ghost use Rattle.lsl_region.specs.Grids.{AreSeated, Stands};
+ghost use Rattle.lsl_region.specs.Touching.{has_touch};
+ghost use Rattle.lsl_region.specs.Worlds.{World, no_object};
+ghost use Rattle.lsl_region.specs.declared.grid.Seat.{Seat as Place};
+
+use crate::audience::Audience;
+use crate::events::{touch_end, touch_held, touch_start};
+use crate::grid::{Grid, Seat};
+use crate::links::{link_of, prim_numbered};
+use lsl_code::{Library, Woven};
+use lsl_post::{Entries, Toucher};
+use lsl_script::Script;
+use lsl_text::NoMemory;
+use lsl_value::{EventId, Text};
+
+impl Grid {
+    /// Someone of this key and name touches the prim of this link number of the object of this number: the three events
+    /// of a touch go, one after another, to all scripts of the prim, or of the root where no script of the prim has a
+    /// handler for any of them. Nothing where no prim has that number. After want of memory the entries are the first of
+    /// the call's, and the grid is only to be dropped. Walks the scripts four times.
+    pub fn touch(
+        &mut self,
+        object: u32,
+        link: u32,
+        key: &Text,
+        name: &Text,
+        library: &Library,
+        out: &mut Entries,
+    ) -> Result<(), NoMemory>
+        requires first { 0 < object }
+        requires last { object ≤ length self.old.objects }
+        requires seated { AreSeated library.now self.old.seats }
+        ensures does { (m : Meant library.now) (clock : ℕ) (w : World) → Stands library.now None clock self.old w →
+            Tells result (λ v _. Stands library.now None clock self.new v) out.old out.new
+            (touch m.rules (object - 1) link key.now name.now w) }
+        ensures seated { OnOk result (AreSeated library.now self.new.seats) }
+    {
+        let object = object as usize - 1;
+        match prim_numbered(self.prims_of(object), link as usize) {
+            Some(prim) => self.touch_prim(object, prim, key, name, library, out),
+            None => Ok(()),
+        }
+    }
+
+    // How many prims the object at this place has.
+    fn prims_of(&self, object: usize) -> usize
+        requires { object < length self.now.objects }
+        ensures value { result ≡ length (get_or self.now.objects object no_object).prims }
+        ensures few { result ≤ 255 }
+    {
+        self.objects[object].prims.len()
+    }
+
+    // Someone touches the prim at this place of the object at this place.
+    fn touch_prim(
+        &mut self,
+        object: usize,
+        prim: usize,
+        key: &Text,
+        name: &Text,
+        library: &Library,
+        out: &mut Entries,
+    ) -> Result<(), NoMemory>
+        requires object { object < length self.old.objects }
+        requires prim { prim ≤ 255 }
+        requires seated { AreSeated library.now self.old.seats }
+        ensures does { (m : Meant library.now) (clock : ℕ) (w : World) → Stands library.now None clock self.old w →
+            Tells result (λ v _. Stands library.now None clock self.new v) out.old out.new
+            (touch_prim m.rules object (Some prim) key.now name.now w) }
+        ensures seated { OnOk result (AreSeated library.now self.new.seats) }
+    {
+        let toucher = toucher(self.prims_of(object), prim, key, name)?;
+        let prim = self.touched_prim(object, prim, library);
+        self.touched(object, prim, &toucher, library, out)
+    }
+
+    // The three events of a touch go to the scripts of this prim.
+    fn touched(
+        &mut self,
+        object: usize,
+        prim: usize,
+        toucher: &Toucher,
+        library: &Library,
+        out: &mut Entries,
+    ) -> Result<(), NoMemory>
+        requires { AreSeated library.now self.old.seats }
+        ensures does { (m : Meant library.now) (clock : ℕ) (w : World) → Stands library.now None clock self.old w →
+            Tells result (λ v _. Stands library.now None clock self.new v) out.old out.new
+            (touched m.rules object prim toucher.now w) }
+        ensures seated { OnOk result (AreSeated library.now self.new.seats) }
+    {
+        let audience = Audience::Prim { object, prim };
+        let start = touch_start(self.alloc, toucher)?;
+        self.post_all(&audience, &start, library, out)?;
+        let held = touch_held(self.alloc, toucher)?;
+        self.post_all(&audience, &held, library, out)?;
+        let end = touch_end(self.alloc, toucher)?;
+        self.post_all(&audience, &end, library, out)
+    }
+
+    // The prim whose scripts a touch is for: the root where no script of the touched prim handles a touch.
+    fn touched_prim(&self, object: usize, prim: usize, library: &Library) -> usize
+        requires { AreSeated library.now self.now.seats }
+        ensures { (m : Meant library.now) (clock : ℕ) (w : World) → Stands library.now None clock self.now w →
+            result ≡ touched_prim m.rules w object prim }
+    {
+        if self.handles_touch(object, prim, library) {
+            prim
+        } else {
+            0
+        }
+    }
+
+    // Whether a script of the prim handles a touch.
+    fn handles_touch(&self, object: usize, prim: usize, library: &Library) -> bool
+        requires { AreSeated library.now self.now.seats }
+        ensures { (m : Meant library.now) (clock : ℕ) (w : World) → Stands library.now None clock self.now w →
+            result ≡ list_any (λ n. is_in_prim object prim w n && handles_touch m.rules n) w.members }
+    {
+        for place in 0..self.seats.len() {
+            if self.handles_touch_at(place, object, prim, library) {
+                return true;
+            }
+        }
+        false
+    }
+
+    // Whether the script at this place, which isn't out, is one of the prim and handles a touch.
+    fn handles_touch_at(&self, place: usize, object: usize, prim: usize, library: &Library) -> bool
+        requires place { place < length self.now.seats }
+        requires seated { AreSeated library.now self.now.seats }
+        ensures { (seat : Place) (unit : Code) (parts : Parts) → slice_get self.now.seats place ≡ Some seat →
+            HasUnit library.now seat.unit unit → seat.script ≡ Some parts →
+            result ≡ ((nat_eq seat.object object && nat_eq seat.prim prim) && has_touch unit.states parts.state) }
+    {
+        let seat = &self.seats[place];
+        if !is_in(seat, object, prim) {
+            return false;
+        }
+        script_handles_touch(&seat.script, library.unit(seat.unit))
+    }
+}
+
+// Whether the seat is in the prim at this place of the object at this place.
+fn is_in(seat: &Seat, object: usize, prim: usize) -> bool
+    ensures { result ≡ (nat_eq seat.now.object object && nat_eq seat.now.prim prim) }
+{
+    seat.object == object && seat.prim == prim
+}
+
+// Who touches the prim at this place, among so many.
+fn toucher(count: usize, prim: usize, key: &Text, name: &Text) -> Result<Toucher, NoMemory>
+    requires { prim ≤ 255 }
+    ensures { IfOk result (λ toucher. toucher ≡ toucher_of count prim key.now name.now) }
+{
+    Ok(Toucher {
+        key: key.copy()?,
+        name: name.copy()?,
+        link: link_of(count, prim),
+    })
+}
+
+// Whether the script, which isn't out, has a handler of a touch in its state.
+fn script_handles_touch(script: &Option<Script>, unit: &Woven) -> bool
+    ensures { (parts : Parts) → script.now ≡ Some parts → result ≡ has_touch unit.now.states parts.state }
+{
+    match script {
+        Some(script) => has_touch(unit, script.parts().state),
+        None => false,
+    }
+}
+
+// Whether a state has a handler for any of the three events of a touch.
+fn has_touch(unit: &Woven, state: u16) -> bool
+    ensures { result ≡ has_touch unit.now.states state }
+{
+    let start = unit.handler(state, EventId::TouchStart).is_some();
+    let held = unit.handler(state, EventId::Touch).is_some();
+    let end = unit.handler(state, EventId::TouchEnd).is_some();
+    start || held || end
+}
