@@ -6,7 +6,7 @@ use Rattle.std.specs.Prelude.{IfErr, IfOk, codes}
 use Rattle.std.specs.Result.{IsErrAnd}
 use Rattle.lsl_text.specs.declared.Refusal.{Refusal}
 use Rattle.lsl_text.specs.declared.Refusal.TheVariants.{Fault, NoMemory}
-use Rattle.lsl_code.specs.declared.units.Unit.{Unit as Code}
+use Rattle.lsl_code.specs.declared.woven_units.Woven.{Woven as Code}
 use Rattle.lsl_image.specs.declared.faults.ImageFault.{ImageFault}
 use Rattle.lsl_image.specs.declared.parts.ObjectParts.{ObjectParts}
 use Rattle.lsl_image.specs.declared.parts.Placed.{Placed}

@@ -1,7 +1,7 @@
 -- Versions and digests, behind their fields; and where the fields of an image end.
 use Rattle.std.proofs.Common.{◌≡◌, refl, ℕ, ◌&&◌, nat_le, ◌==◌, cond, List, true, false}
 use Rattle.std.specs.Str.{bytes_eq}
-use Rattle.lsl_code.specs.declared.units.Unit.{Unit as Code}
+use Rattle.lsl_code.specs.declared.woven_units.Woven.{Woven as Code}
 use Rattle.lsl_image.specs.declared.faults.ImageFault.TheVariants.{Body, Version, WrongCode}
 use Rattle.lsl_image.specs.Layout.{Layout, Ends, Refused, ◌>>=◌, here}
 use Rattle.lsl_image.specs.Object.{ends_at}

@@ -2,7 +2,7 @@
 use Rattle.std.proofs.Common.{◌≡◌, refl, sym, ap, subst, arith, eq-eqb, ℕ, ◌+◌, ◌<◌, ◌≤◌, ◌&&◌, nat_lt, nat_le, cond, List, [], ◌∷◌, ◌++◌, length, append_assoc, Bool, true, false, Option, Some, None, is_some, slice_get}
 use Rattle.std.proofs.lemmas.Bool.{and_from}
 use Rattle.std.proofs.lemmas.Bool.Decides.{nat_tests}
-use Rattle.std.proofs.lemmas.List.{length_push}
+use Rattle.std.proofs.lemmas.List.{length-map, length_push}
 use Rattle.std.proofs.lemmas.Option.{none-some, slice_get_within}
 use Rattle.std.specs.List.{AllByRecursion}
 use Rattle.lsl_value.specs.declared.tagged.Value.{Value}
@@ -10,10 +10,11 @@ use Rattle.lsl_running.specs.declared.ends.Fault.{Fault}
 use Rattle.lsl_running.specs.declared.ends.Fault.TheVariants.{MathError, StackHeap, TooManyListens}
 use Rattle.lsl_code.specs.declared.frames.Frame.{Frame}
 use Rattle.lsl_code.specs.declared.functions.Point.{Point}
-use Rattle.lsl_code.specs.declared.units.Unit.{Unit as Code}
-use Rattle.lsl_code.specs.declared.functions.FunctionCode.{FunctionCode}
-use Rattle.lsl_code.specs.Bodies.{point_in, point_of}
-use Rattle.lsl_code.specs.Frames.{AreFrames, AreValid, EndsIn, FitFrames, IsAtPoint, parked_charge}
+use Rattle.lsl_code.specs.declared.woven_units.Woven.{Woven as Code}
+use Rattle.lsl_code.specs.Bodies.{Body as CodeBody}
+use Rattle.lsl_code.specs.Weaves.{bodies_of}
+use Rattle.lsl_code.specs.WovenBodies.{woven_body}
+use Rattle.lsl_code.specs.Frames.{AreFrames, AreValid, EndsIn, FitFrames, IsAtPoint, body_point, parked_charge, points_of}
 use Rattle.lsl_code.specs.Units.{handler_of}
 use Rattle.lsl_post.specs.declared.parts.Rest.{Rest}
 use Rattle.lsl_post.specs.declared.parts.Rest.TheVariants.{Idle, Saved, Dead}
@@ -34,14 +35,16 @@ callee-itself None = refl
 callee-itself (Some f) = eq-eqb f f refl
 
 module _ (unit : Code) (handler : ℕ) where
-  point-there : (function number : ℕ) (point : Point) → point_of unit.functions function number ≡ Some point
+  point-there : (function number : ℕ) (point : Point) → points_of (bodies_of unit) function number ≡ Some point
       → function < length unit.functions
-  point-there function number point known = by (slice_get unit.functions function) refl known
+  point-there function number point known = by (slice_get (bodies_of unit) function) refl known
     where
-      by : (found : Option FunctionCode) → slice_get unit.functions function ≡ found
-          → point_in found number ≡ Some point → function < length unit.functions
+      by : (found : Option CodeBody) → slice_get (bodies_of unit) function ≡ found
+          → body_point found number ≡ Some point → function < length unit.functions
       by None is known = absurd (none-some point known)
-      by (Some code) is known = slice_get_within unit.functions function code is
+      by (Some code) is known =
+          subst (λ (n : ℕ). function < n) (length-map unit.functions woven_body)
+          (slice_get_within (bodies_of unit) function code is)
 
   ends-so : (more : Bool) (function : ℕ) → (more ≡ false → function ≡ handler)
       → ends_in (Some handler) more function ≡ true
@@ -59,7 +62,7 @@ module _ (unit : Code) (handler : ℕ) where
       subst (λ (b : Bool). Spelt (cond b (values_of point.kinds >>= λ slots. Ends (frame f.function number slots))
       (Refused (Body place))) p f (values_bytes f.slots)) (sym same) made
 
-  frame-spells : (more : Bool) (callee : Option ℕ) (f : Frame) (p : ℕ) → IsAtPoint (point_of unit.functions) callee f
+  frame-spells : (more : Bool) (callee : Option ℕ) (f : Frame) (p : ℕ) → IsAtPoint (points_of (bodies_of unit)) callee f
       → (more ≡ false → f.function ≡ handler) → FitsFrame f
       → Spelt (frame_in unit (Some handler) more callee) p f (frame_bytes f)
   unfolding frame_in frame_bytes
@@ -69,7 +72,7 @@ module _ (unit : Code) (handler : ℕ) where
       (grind (arith, nat_tests, there)) (ends-so more f.function own) in
       let q = p + length (u16_bytes f.function) in
       let r = q + length (u16_bytes f.point) in
-      let known : Spelt (frame_at q f.function f.point callee (point_of unit.functions f.function f.point)) r f
+      let known : Spelt (frame_at q f.function f.point callee (points_of (bodies_of unit) f.function f.point)) r f
       (values_bytes f.slots) =
       subst (λ (o : Option Point). Spelt (frame_at q f.function f.point callee o) r f (values_bytes f.slots)) (sym at.1)
       (at-spells q f.point callee f at.0 r refl at.2 (values-spells at.0.kinds f.slots r at.3 fits.slots)) in
@@ -78,11 +81,11 @@ module _ (unit : Code) (handler : ℕ) where
       fits.function test) (spelt-here _ (spelt-then _ (spelt-field U16 f.point fits.point) known)))
 
   abbrev Good : ℕ → List Frame → Frame → Type 0
-  Good count before f = IsAtPoint (point_of unit.functions) (callee_of before) f
+  Good count before f = IsAtPoint (points_of (bodies_of unit)) (callee_of before) f
       × (nat_lt (length before + 1) count ≡ false → f.function ≡ handler) × FitsFrame f
 
   frames-good : (count : ℕ) (before frames : List Frame) → length before + length frames ≡ count
-      → FitFrames (point_of unit.functions) handler (callee_of before) frames → AllByRecursion FitsFrame frames
+      → FitFrames (points_of (bodies_of unit)) handler (callee_of before) frames → AllByRecursion FitsFrame frames
       → GoodBehind (Good count) before frames
   frames-good count before [] all fit fits = good-nil (Good count) before
   frames-good count before (f ∷ frames) all fit fits =
@@ -90,20 +93,20 @@ module _ (unit : Code) (handler : ℕ) where
       good-cons (Good count) before f frames
       (fit.0.0, last frames f fit.0.1 (omega (arith, all)), fits.0)
       (frames-good count (before ++ f ∷ []) frames (omega (arith, all, length_push before f))
-      (subst (λ (c : Option ℕ). FitFrames (point_of unit.functions) handler c frames) callee fit.1) fits.1)
+      (subst (λ (c : Option ℕ). FitFrames (points_of (bodies_of unit)) handler c frames) callee fit.1) fits.1)
     where
       last : (others : List Frame) (g : Frame) → EndsIn handler g others → length before + 1 + length others ≡ count
           → nat_lt (length before + 1) count ≡ false → g.function ≡ handler
       last [] g ends many none = ends
       last (next ∷ others) g ends many none = absurd (grind (arith, nat_tests, many, none))
 
-  some-calls : (frames : List Frame) → AreFrames (point_of unit.functions) handler frames
-      → (0 < length frames) × FitFrames (point_of unit.functions) handler None frames
+  some-calls : (frames : List Frame) → AreFrames (points_of (bodies_of unit)) handler frames
+      → (0 < length frames) × FitFrames (points_of (bodies_of unit)) handler None frames
   some-calls [] are = absurd are
   some-calls (f ∷ frames) are = (omega arith, are)
 
   pub calls-spells : (globals : List Value) (most : ℕ) (frames : List Frame) (p : ℕ)
-      → AreValid (point_of unit.functions) handler globals most frames → length frames < 65536
+      → AreValid (points_of (bodies_of unit)) handler globals most frames → length frames < 65536
       → AllByRecursion FitsFrame frames
       → Spelt (saved_calls unit globals most (Some handler)) p frames (calls_bytes frames)
   unfolding saved_calls calls_bytes

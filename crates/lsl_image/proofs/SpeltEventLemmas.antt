@@ -11,7 +11,7 @@ use Rattle.lsl_value.specs.declared.names.EventId.TheVariants.{StateExit}
 use Rattle.lsl_value.specs.declared.tagged.Kind.{Kind}
 use Rattle.lsl_value.specs.declared.tagged.Value.{Value}
 use Rattle.lsl_table.specs.Events.{signature_of}
-use Rattle.lsl_code.specs.declared.units.Unit.{Unit as Code}
+use Rattle.lsl_code.specs.declared.woven_units.Woven.{Woven as Code}
 use Rattle.lsl_code.specs.Kinds.{kinds_of, same_kind, same_kinds}
 use Rattle.lsl_code.specs.Units.{event_number}
 use Rattle.lsl_code.proofs.Tested.{sames}

@@ -9,7 +9,7 @@ use Rattle.std.specs.Str.{bytes_eq}
 use Rattle.sha2.specs.Sha256.{sha256}
 use Rattle.sha2.proofs.Facts256.{length-sha256}
 use Rattle.lsl_value.specs.Text.{IsText}
-use Rattle.lsl_code.specs.declared.units.Unit.{Unit as Code}
+use Rattle.lsl_code.specs.declared.woven_units.Woven.{Woven as Code}
 use Rattle.lsl_bytes.specs.Fields.{text_bytes, u8_bytes, u16_bytes, u64_bytes}
 use Rattle.lsl_bytes.specs.Places.{StandsAt}
 use Rattle.lsl_bytes.proofs.NumberLemmas.{length-u16, length-u64}

@@ -6,7 +6,7 @@ use Rattle.std.proofs.lemmas.List.Sums.{sum_by-append}
 use Rattle.std.proofs.lemmas.Slice.Eq.{bytes_eq-Decides}
 use Rattle.std.specs.List.{flat_map, AllByRecursion}
 use Rattle.lsl_value.specs.Text.{IsText}
-use Rattle.lsl_code.specs.declared.units.Unit.{Unit as Code}
+use Rattle.lsl_code.specs.declared.woven_units.Woven.{Woven as Code}
 use Rattle.lsl_code.specs.Kinds.{kinds_of}
 use Rattle.lsl_post.specs.declared.parts.Pair.{Pair}
 use Rattle.lsl_post.specs.declared.parts.ScriptParts.{ScriptParts}

@@ -6,7 +6,7 @@ use Rattle.lsl_value.specs.declared.names.EventId.{EventId}
 use Rattle.lsl_value.specs.declared.names.EventId.TheVariants.{StateExit}
 use Rattle.lsl_value.specs.declared.tagged.Kind.{Kind}
 use Rattle.lsl_value.specs.declared.tagged.Value.{Value}
-use Rattle.lsl_code.specs.declared.units.Unit.{Unit as Code}
+use Rattle.lsl_code.specs.declared.woven_units.Woven.{Woven as Code}
 use Rattle.lsl_code.specs.Kinds.{kinds_of}
 use Rattle.lsl_code.proofs.Sames.{sames_are}
 use Rattle.lsl_post.specs.declared.events.Event.{Event}

@@ -4,7 +4,7 @@ use Rattle.std.proofs.lemmas.Bool.{and_parts, false≢true, leb-true, ltb-true}
 use Rattle.std.specs.List.{AllByRecursion}
 use Rattle.lsl_value.specs.Key.{is_valid_key}
 use Rattle.lsl_value.specs.declared.names.EventId.TheVariants.{StateExit}
-use Rattle.lsl_code.specs.declared.units.Unit.{Unit as Code}
+use Rattle.lsl_code.specs.declared.woven_units.Woven.{Woven as Code}
 use Rattle.lsl_code.specs.Kinds.{kinds_of}
 use Rattle.lsl_code.specs.Units.{handler_of, same_event}
 use Rattle.lsl_post.specs.declared.events.Event.{Event}

@@ -3,7 +3,7 @@ use Rattle.std.proofs.Common.{◌≡◌, ◌≢◌, ◌∙◌, refl, sym, ap, ar
 use Rattle.std.proofs.Math.Bool.{Bool-set}
 use Rattle.std.proofs.lemmas.Bool.{false≢true}
 use Rattle.lsl_value.specs.declared.names.EventId.TheVariants.{StateExit}
-use Rattle.lsl_code.specs.declared.units.Unit.{Unit as Code}
+use Rattle.lsl_code.specs.declared.woven_units.Woven.{Woven as Code}
 use Rattle.lsl_post.specs.declared.timer.Timer.{Timer}
 use Rattle.lsl_post.specs.Timing.{fits_timer}
 use Rattle.lsl_image.specs.declared.faults.ImageFault.TheVariants.{Body}

@@ -7,7 +7,7 @@ use Rattle.std.proofs.lemmas.List.Sums.{sum_by-cons}
 use Rattle.std.proofs.lemmas.Grind.{flat_map-append}
 use Rattle.lsl_value.specs.declared.tagged.Value.{Value}
 use Rattle.lsl_code.specs.declared.frames.Frame.{Frame}
-use Rattle.lsl_code.specs.declared.units.Unit.{Unit as Code}
+use Rattle.lsl_code.specs.declared.woven_units.Woven.{Woven as Code}
 use Rattle.lsl_code.specs.Frames.{frame_charge, parked_charge}
 use Rattle.lsl_post.specs.declared.parts.Rest.{Rest}
 use Rattle.lsl_post.specs.declared.parts.Rest.TheVariants.{Idle, Saved, Dead}

@@ -6,7 +6,7 @@ use Rattle.lsl_value.specs.declared.tagged.Value.{Value}
 use Rattle.lsl_running.specs.declared.ends.Fault.{Fault}
 use Rattle.lsl_running.specs.declared.ends.Fault.TheVariants.{MathError, StackHeap, TooManyListens}
 use Rattle.lsl_code.specs.declared.frames.Frame.{Frame}
-use Rattle.lsl_code.specs.declared.units.Unit.{Unit as Code}
+use Rattle.lsl_code.specs.declared.woven_units.Woven.{Woven as Code}
 use Rattle.lsl_code.specs.Units.{event_number}
 use Rattle.lsl_post.specs.declared.events.Event.{Event}
 use Rattle.lsl_post.specs.declared.events.Toucher.{Toucher}

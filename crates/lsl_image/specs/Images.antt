@@ -1,7 +1,7 @@
 -- Which bytes are images, what they stand for, and what the first fault of other bytes is.
 use Rattle.std.specs.Prelude.{◌≡◌, ◌≢◌, ℕ, ◌-◌, ◌<◌, ◌≤◌, ◌⊎◌, List, length, take, drop}
 use Rattle.sha2.specs.Sha256.{sha256}
-use Rattle.lsl_code.specs.declared.units.Unit.{Unit as Code}
+use Rattle.lsl_code.specs.declared.woven_units.Woven.{Woven as Code}
 use Rattle.lsl_bytes.specs.Fields.{FitsU64, u64_bytes}
 use Rattle.lsl_bytes.specs.Places.{StandsAt}
 use Rattle.lsl_image.specs.declared.faults.ImageFault.{ImageFault}

@@ -4,7 +4,7 @@ use Rattle.std.specs.Cmp.Lexicographic.{slice_cmp}
 use Rattle.std.specs.Ordering.{is_lt, nat_cmp}
 use Rattle.std.specs.Str.{bytes_eq, encode_utf8_all}
 use Rattle.uuid.specs.Text.{parsed}
-use Rattle.lsl_code.specs.declared.units.Unit.{Unit as Code}
+use Rattle.lsl_code.specs.declared.woven_units.Woven.{Woven as Code}
 use Rattle.lsl_post.specs.declared.parts.Pair.{Pair}
 use Rattle.lsl_post.specs.declared.parts.ScriptParts.{ScriptParts}
 use Rattle.lsl_image.specs.declared.faults.ImageFault.TheVariants.{Body, Version}

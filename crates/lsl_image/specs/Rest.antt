@@ -6,9 +6,9 @@ use Rattle.lsl_running.specs.declared.ends.Fault.{Fault}
 use Rattle.lsl_running.specs.declared.ends.Fault.TheVariants.{MathError, StackHeap, TooManyListens}
 use Rattle.lsl_code.specs.declared.frames.Frame.{Frame}
 use Rattle.lsl_code.specs.declared.functions.Point.{Point}
-use Rattle.lsl_code.specs.declared.units.Unit.{Unit as Code}
-use Rattle.lsl_code.specs.Bodies.{point_of}
-use Rattle.lsl_code.specs.Frames.{parked_charge}
+use Rattle.lsl_code.specs.declared.woven_units.Woven.{Woven as Code}
+use Rattle.lsl_code.specs.Weaves.{bodies_of}
+use Rattle.lsl_code.specs.Frames.{parked_charge, points_of}
 use Rattle.lsl_code.specs.Kinds.{kinds_of}
 use Rattle.lsl_code.specs.Units.{handler_of}
 use Rattle.lsl_post.specs.declared.parts.Rest.{Rest}
@@ -55,7 +55,7 @@ frame_in unit handler more callee = do
   function ← field_that U16 (λ f. nat_lt f (length unit.functions) && ends_in handler more f)
   place ← here
   number ← field U16
-  frame_at place function number callee (point_of unit.functions function number)
+  frame_at place function number callee (points_of (bodies_of unit) function number)
 
 -- a frame behind these
 abbrev pub frame_behind : Code → Option ℕ → ℕ → List Frame → Layout Frame

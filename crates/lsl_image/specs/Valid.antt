@@ -7,9 +7,9 @@ use Rattle.std.specs.Str.{encode_utf8_all}
 use Rattle.lsl_value.specs.Key.{is_valid_key}
 use Rattle.lsl_value.specs.declared.names.EventId.TheVariants.{StateExit}
 use Rattle.lsl_code.specs.declared.frames.Frame.{Frame}
-use Rattle.lsl_code.specs.declared.units.Unit.{Unit as Code}
-use Rattle.lsl_code.specs.Bodies.{point_of}
-use Rattle.lsl_code.specs.Frames.{AreValid}
+use Rattle.lsl_code.specs.declared.woven_units.Woven.{Woven as Code}
+use Rattle.lsl_code.specs.Weaves.{bodies_of}
+use Rattle.lsl_code.specs.Frames.{AreValid, points_of}
 use Rattle.lsl_code.specs.Kinds.{kinds_of}
 use Rattle.lsl_code.specs.Units.{handler_of}
 use Rattle.lsl_post.specs.declared.events.Event.{Event}
@@ -44,7 +44,7 @@ pub record IsSaved (unit : Code) (s : ScriptParts) (e : Event) (frames : List Fr
   pub stands : may_stand unit s.state (is_some s.leaving) e.id ≡ true
   pub handler : ℕ
   pub handled : handler_of unit.states s.state e.id ≡ Some handler
-  pub calls : AreValid (point_of unit.functions) handler s.globals s.limit frames
+  pub calls : AreValid (points_of (bodies_of unit)) handler s.globals s.limit frames
 
 abbrev pub MayRest : Code → ScriptParts → Rest → Type 0
 MayRest unit s Idle = ⊤

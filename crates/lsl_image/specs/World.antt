@@ -1,6 +1,6 @@
 -- The layout of a world's image.
 use Rattle.std.specs.Prelude.{ℕ, ◌==◌, nat_le, List, length, codes}
-use Rattle.lsl_code.specs.declared.units.Unit.{Unit as Code}
+use Rattle.lsl_code.specs.declared.woven_units.Woven.{Woven as Code}
 use Rattle.lsl_image.specs.declared.parts.Placed.{Placed}
 use Rattle.lsl_image.specs.declared.parts.Shape.{Shape}
 use Rattle.lsl_image.specs.declared.parts.WorldParts.{WorldParts}

@@ -1,6 +1,6 @@
 use Rattle.std.proofs.Common.{◌≡◌, refl, subst, sym, arith, ℕ, List, Option, None, slice_get}
 use Rattle.std.proofs.lemmas.Option.{slice_get_past}
-use Rattle.lsl_code.specs.declared.units.Unit.{Unit as Code}
+use Rattle.lsl_code.specs.declared.woven_units.Woven.{Woven as Code}
 use Rattle.lsl_image.specs.declared.faults.ImageFault.TheVariants.{Body}
 use Rattle.lsl_image.specs.Layout.{◌>>=◌, here}
 use Rattle.lsl_image.specs.Object.{script_of}
