@@ -1,4 +1,3 @@
 pub mod Accepted
 pub mod FirstFault
 pub mod Answers
-pub mod Asks

@@ -6,6 +6,4 @@ mod courses;
 #[cfg(test)]
 mod driving;
 #[cfg(test)]
-mod exchanged;
-#[cfg(test)]
 mod frames;

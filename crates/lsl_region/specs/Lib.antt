@@ -10,4 +10,3 @@ pub mod Segments
 pub mod Arrivals
 pub mod Touching
 pub mod Laws
-pub mod Turning

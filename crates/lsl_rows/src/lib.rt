@@ -17,5 +17,3 @@ mod programs;
 mod runs;
 #[cfg(test)]
 mod scripts;
-#[cfg(test)]
-mod worlds;
