@@ -28,7 +28,7 @@ members_of_prims r object prim (line ∷ lines) =
     members_of_prim r object prim line.scripts ++ members_of_prims r object (suc prim) lines
 
 -- of these objects, whose places are from this one on
-abbrev pub members_of_objects : Rules → ℕ → List LinksetLine → List Member
+abbrev pub members_of_objects : Rules → ℕ → List ObjectLine → List Member
 members_of_objects r object [] = []
 members_of_objects r object (line ∷ lines) =
     members_of_prims r object 0 line.prims ++ members_of_objects r (suc object) lines
