@@ -8,6 +8,7 @@ stamp=$top/out/lsl.sources
 usage() {
     cat <<'END'
 usage: lsl once FILE        runs a script, and prints its journal
+       lsl replay WORLD     plays a world file, and prints its journal
        lsl check FILE       says that a script is accepted, or tells its first fault
        lsl --try WORDS      the same words, by a program that isn't proved, in half a minute
        lsl --help

@@ -10,10 +10,10 @@ use Rattle.lsl_top.specs.declared.status.Status.TheVariants.{ReadFault, WriteFau
 -- what a status means, as a line
 abbrev pub meaning_of : Status → List ℕ
 meaning_of Ok = []
-meaning_of Usage = codes "usage: lsl once FILE | lsl check FILE\n"
+meaning_of Usage = codes "usage: lsl once FILE | lsl check FILE | lsl replay WORLD\n"
 meaning_of BadWorld = codes "not in the form of a world file; standard output has the fault (lsl: status 2)\n"
-meaning_of BadScript = codes "not accepted; standard output has the fault, tools/explain says it in words (lsl: status 3)\n"
-meaning_of ReadFault = codes "the file can't be read (lsl: status 4)\n"
+meaning_of BadScript = codes "a script isn't accepted; standard output has the fault, tools/explain says it in words (lsl: status 3)\n"
+meaning_of ReadFault = codes "it, or a file that it names, can't be read (lsl: status 4)\n"
 meaning_of WriteFault = codes "standard output took no more, and is cut short (lsl: status 5)\n"
 meaning_of BadImage = codes "not a frozen form of that world; standard output has the fault (lsl: status 6)\n"
 meaning_of NoMemory = codes "there isn't memory enough (lsl: status 7)\n"

@@ -17,12 +17,12 @@ fn meaning(status: Status) -> &'static str
 {
     match status {
         Status::Ok => "",
-        Status::Usage => "usage: lsl once FILE | lsl check FILE\n",
+        Status::Usage => "usage: lsl once FILE | lsl check FILE | lsl replay WORLD\n",
         Status::BadWorld =>
             "not in the form of a world file; standard output has the fault (lsl: status 2)\n",
         Status::BadScript =>
-            "not accepted; standard output has the fault, tools/explain says it in words (lsl: status 3)\n",
-        Status::ReadFault => "the file can't be read (lsl: status 4)\n",
+            "a script isn't accepted; standard output has the fault, tools/explain says it in words (lsl: status 3)\n",
+        Status::ReadFault => "it, or a file that it names, can't be read (lsl: status 4)\n",
         Status::WriteFault => "standard output took no more, and is cut short (lsl: status 5)\n",
         Status::BadImage =>
             "not a frozen form of that world; standard output has the fault (lsl: status 6)\n",

@@ -1,3 +1,4 @@
 pub mod Accepted
 pub mod FirstFault
 pub mod Answers
+pub mod Asks

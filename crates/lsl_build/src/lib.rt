@@ -2,13 +2,15 @@
 //! Nothing here runs it.
 #![tactic(auto)]
 
-ghost use Rattle.std.specs.Prelude.{◌≡◌, IfOk, IsErrOf, MatchResult};
+ghost use Rattle.std.specs.Prelude.{◌≡◌, ◌≤◌, IfOk, IsErrOf, MatchResult};
 ghost use Rattle.lsl_text.specs.declared.Refusal.TheVariants as refusals;
 ghost use Rattle.lsl_tree.specs.Kinded.{IsKinded};
 ghost use Rattle.lsl_tree.specs.Program as program;
 ghost use Rattle.lsl_tree.specs.Program.{program_of};
 ghost use Rattle.lsl_tree.specs.Shape.{IsShaped};
+ghost use Rattle.lsl_code.specs.Laws.{hosts_of};
 ghost use Rattle.lsl_code.specs.Weaves.{Weaves, bodies_of};
+ghost use Rattle.lsl_gen.specs.Counts.{nodes_of};
 ghost use Rattle.lsl_gen.specs.Laws.{Agrees};
 ghost use Rattle.lsl_build.specs.Accepted.{Accepted};
 ghost use Rattle.lsl_build.specs.Codes.{IsCodeOf};
@@ -67,6 +69,8 @@ pub fn build(alloc: Global, text: &[u8]) -> Result<Built, Refusal<BuildFault>>
     // The code is that of the text and its program, and runs as the program is meant.
     ensures code { IfOk result (λ b. IsCodeOf text.now (program_of b.program) b.code) }
     ensures meaning { IfOk result (λ b. Agrees (bodies_of b.code) (program_of b.program)) }
+    // It asks at no more places than the program has nodes.
+    ensures asks { IfOk result (λ b. hosts_of (bodies_of b.code) ≤ nodes_of (program_of b.program)) }
     // It saves any machine of it at a tick as its frames, and restores frames to the machine that has them.
     ensures weaves { IfOk result (λ b. Weaves b.code) }
     // The program's names and kinds are in order.

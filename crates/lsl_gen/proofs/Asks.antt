@@ -1,6 +1,6 @@
 -- The code of a program asks at no more places than the program has nodes, so a handler asks few times between
 -- two ticks.
-use Rattle.std.proofs.Common.{◌≡◌, ◌≢◌, ℕ, suc, ◌+◌, ◌*◌, ◌≤◌, pos, List, [], ◌∷◌, ◌++◌, length, map, refl, ap, ◌∙◌, arith}
+use Rattle.std.proofs.Common.{◌≡◌, ◌≢◌, ℕ, suc, ◌+◌, ◌*◌, ◌≤◌, pos, List, [], ◌∷◌, ◌++◌, length, map, refl, sym, ap, ◌∙◌, subst, arith}
 use Rattle.std.specs.Prelude.{Option, Some, None}
 use Rattle.lsl_value.specs.declared.names.BuiltinId.{BuiltinId}
 use Rattle.lsl_value.specs.declared.names.ConstantId.{ConstantId}
@@ -28,7 +28,7 @@ use Rattle.lsl_running.specs.Results.{ActiveCall}
 use Rattle.lsl_meaning.specs.Expressions.{step_operator}
 use Rattle.lsl_code.specs.declared.instructions.Instr.{Instr}
 use Rattle.lsl_code.specs.declared.instructions.Instr.TheVariants as instr
-use Rattle.lsl_code.specs.Bodies.{Body}
+use Rattle.lsl_code.specs.Bodies.{Body, plain_body}
 use Rattle.lsl_code.specs.Drafts.{numbered}
 use Rattle.lsl_code.specs.Laws.{hosts, hosts_of}
 use Rattle.lsl_code.specs.Machine.{Machine, Ended, Faulted, Lost}
@@ -36,14 +36,14 @@ use Rattle.lsl_code.specs.Runs.{Halt, Over, AskAt, CutAt}
 use Rattle.lsl_code.specs.Wholes.{told, run_of}
 use Rattle.lsl_code.proofs.Asking as code
 use Rattle.lsl_code.proofs.Running.{run_law}
-use Rattle.lsl_gen.specs.Counts.{nodes_in_value, nodes_in_values, nodes_in_effect, nodes_in_effects, nodes_in_action, nodes_in_actions, nodes_in_routines}
+use Rattle.lsl_gen.specs.Counts.{nodes_in_value, nodes_in_values, nodes_in_effect, nodes_in_effects, nodes_in_action, nodes_in_actions, nodes_in_routines, nodes_of}
 use Rattle.lsl_gen.specs.Expressions.{literal, load, store, builtin_code, call_code, value_code, values_code, effect_code, effects_code}
 use Rattle.lsl_gen.specs.Laws.{AsksSoOften}
-use Rattle.lsl_gen.specs.Programs.{ending, draft_of}
+use Rattle.lsl_gen.specs.Programs.{ending, draft_of, generated_functions}
 use Rattle.lsl_gen.specs.declared.label_places.LabelPlace.{LabelPlace}
 use Rattle.lsl_gen.specs.Statements.{size, sizes, places_in, action_code, actions_code}
 use Rattle.lsl_gen.proofs.Agreement.{runs_as_meant}
-use Rattle.lsl_gen.proofs.Bodies.{routine_body, bodies_of}
+use Rattle.lsl_gen.proofs.Bodies.{routine_body, bodies_of, bodies_generated}
 use Rattle.lsl_gen.proofs.Routes.{generated_forward}
 
 hosts-append : (a b : List Instr) → hosts (a ++ b) ≡ hosts a + hosts b
@@ -212,6 +212,12 @@ routine_hosts p r =
 bodies_hosts : (p : Program) (rs : List Routine) → hosts_of (map (routine_body p) rs) ≤ nodes_in_routines rs
 bodies_hosts p [] = omega arith
 bodies_hosts p (r ∷ rs) = let a = routine_hosts p r in let b = bodies_hosts p rs in omega arith
+
+-- the code of a program asks at no more places than the program has nodes
+pub generated_hosts : (p : Program) → hosts_of (map plain_body (generated_functions p)) ≤ nodes_of p
+generated_hosts p =
+    subst (λ (bodies : List Body). hosts_of bodies ≤ nodes_of p) (sym (bodies_generated p))
+    (bodies_hosts p (routines_of p))
 
 -- what the end of a run tells
 cut_told : (bodies : List Body) (h : Halt) (calls : List ActiveCall) → told bodies h ≡ whole.Cut calls

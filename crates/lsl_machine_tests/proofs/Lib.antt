@@ -1,1 +1,2 @@
+pub mod ExchangedUnit
 pub mod Touching

@@ -6,4 +6,6 @@ mod courses;
 #[cfg(test)]
 mod driving;
 #[cfg(test)]
+mod exchanged;
+#[cfg(test)]
 mod frames;

@@ -1,9 +1,9 @@
 -- One thing more stands behind a list.
-use Rattle.std.proofs.Common.{◌≡◌, ℕ, zero, suc, ◌+◌, ◌<◌, ◌≤◌, List, [], ◌∷◌, ◌++◌, length, refl, ap, sym, ◌∙◌, subst, arith, length-append}
-use Rattle.std.specs.Prelude.{Option, Some, None, slice_get}
+use Rattle.std.proofs.Common.{◌≡◌, ℕ, zero, suc, ◌<◌, ◌≤◌, List, [], ◌∷◌, ◌++◌, length, subst, arith, length-append}
+use Rattle.std.specs.Prelude.{Some, slice_get}
 use Rattle.lsl_region.specs.declared.grid.Seat.{Seat}
 use Rattle.lsl_region.specs.declared.objects.Linkset.{Linkset}
-use Rattle.lsl_region.specs.Grids.{ArePlaced, IsPlaced}
+use Rattle.lsl_region.specs.Grids.{ArePlaced}
 
 -- what holds of all items and of one more
 pub all-more : {X : Type 0} (P : X → Type 0) (xs : List X) (y : X)

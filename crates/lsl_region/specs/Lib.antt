@@ -10,3 +10,4 @@ pub mod Segments
 pub mod Arrivals
 pub mod Touching
 pub mod Laws
+pub mod Turning

@@ -20,6 +20,7 @@ mod telling;
 mod texts;
 mod timers;
 mod touching;
+mod turns;
 
 pub use crate::grid::{Grid, Seat};
 pub use crate::objects::{Linkset, Primitive, Prims};

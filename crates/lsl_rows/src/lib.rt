@@ -17,3 +17,5 @@ mod programs;
 mod runs;
 #[cfg(test)]
 mod scripts;
+#[cfg(test)]
+mod worlds;

@@ -54,7 +54,6 @@ fn refused_scripts(rt: HostRuntime) -> Result<(), Fail> {
         ("default{state_entry(){llOwnerSay(\"hi\")}}", "1:39", 10),
         ("default{state_entry(){llOwner Say(\"hi\");}}", "1:31", 10),
         ("default", "1:8", 11),
-        ("default { timer() { } }", "1:1", 90),
         ("default{state_entry(){llOwnerSay(hi);}}", "1:34", 20),
         ("default{state_entry(){llOwnerSay();}}", "1:23", 25),
         (
@@ -63,13 +62,6 @@ fn refused_scripts(rt: HostRuntime) -> Result<(), Fail> {
             25,
         ),
         ("default{state_entry(){llOwnerSay(1);}}", "1:34", 22),
-        ("default{state_entry(){llSay(1,\"a\");}}", "1:1", 90),
-        ("f(){llSleep(1);} default{state_entry(){}}", "1:1", 90),
-        ("default{state_entry(){if(llGetUnixTime());}}", "1:1", 90),
-        ("default{state_entry(){llResetScript();}}", "1:1", 90),
-        ("default{state_entry(){}timer(){}}", "1:1", 90),
-        ("default{state_entry(){}}state s{timer(){}}", "1:1", 90),
-        ("default{timer(){llOwnerSay(\"a\");}}", "1:1", 90),
         ("default { timer() { llOwnerSay(\"x); } }", "1:32", 2),
         ("/*", "1:1", 3),
         ("a # b", "1:3", 5),
@@ -131,13 +123,15 @@ fn long_literals_and_files(rt: HostRuntime) -> Result<(), Fail> {
     whole.resize(65_536, b' ')?;
     let ended = call(alloc, &["once", "s.lsl"], Outside::of(whole.as_slice()))?;
     assert_eq!(rt; ended.status, 0);
+    let most = many_semicolons(alloc, 32_760, b"}}")?;
+    let ended = call(alloc, &["once", "s.lsl"], Outside::of(most.as_slice()))?;
+    assert_eq!(rt; ended.sunk.as_slice(), b"home 1 \"here\"\n".as_slice());
     let mut beyond = Vec::from_slice(alloc, LITERAL)?;
     beyond.resize(65_537, b' ')?;
     for (script, place, number) in [
         (long_script(alloc, 70_000)?, "1:1", 6),
         (nested_blocks(alloc, 200)?, "1:222", 13),
         (beyond, "1:1", 6),
-        (many_semicolons(alloc, 32_760, b"}}")?, "1:1", 90),
         (many_semicolons(alloc, 32_763, b"")?, "1:32779", 14),
     ] {
         let ended = call(alloc, &["once", "s.lsl"], Outside::of(script.as_slice()))?;
@@ -180,6 +174,9 @@ fn bad_words(rt: HostRuntime) -> Result<(), Fail> {
     assert!(rt; refuses(alloc, &[])?);
     assert!(rt; refuses(alloc, &["replay"])?);
     assert!(rt; refuses(alloc, &["replay", "w", "x"])?);
+    assert!(rt; refuses(alloc, &["replay", ""])?);
+    assert!(rt; refuses(alloc, &["replay", "-w"])?);
+    assert!(rt; refuses(alloc, &["freeze", "w"])?);
     assert!(rt; refuses(alloc, &["once"])?);
     assert!(rt; refuses(alloc, &["once", ""])?);
     assert!(rt; refuses(alloc, &["once", "-x"])?);
@@ -247,6 +244,17 @@ fn failing_reads_and_writes(rt: HostRuntime) -> Result<(), Fail> {
         (
             Outside {
                 failing_write: 2,
+                ..calm
+            },
+            "s.lsl",
+            5,
+            44,
+            0,
+            1,
+        ),
+        (
+            Outside {
+                failing_write: 3,
                 ..calm
             },
             "s.lsl",

@@ -22,12 +22,13 @@ impl Link for CopyingLink {
     }
 }
 
-/// What the outside is like in a test: the name and the bytes of its file, the read and the write
-/// that fail, counted from 1, and how many bytes the sink has room for.
+/// What the outside is like in a test: the name and the bytes of its file, further files, the read and the
+/// write that fail, counted from 1, and how many bytes the sink has room for.
 #[derive(Clone, Copy)]
 pub struct Outside<'a> {
     pub name: &'a str,
     pub file: &'a [u8],
+    pub more: &'a [(&'a str, &'a str)],
     pub failing_read: u64,
     pub failing_write: u64,
     pub room: usize,
@@ -39,6 +40,7 @@ impl<'a> Outside<'a> {
         Outside {
             name: "s.lsl",
             file,
+            more: &[],
             failing_read: 0,
             failing_write: 0,
             room: 1_000_000,
@@ -68,6 +70,9 @@ pub fn call(alloc: Global, words: &[&str], outside: Outside<'_>) -> Result<Ended
     let words = strings(alloc, words)?;
     let mut files = Vec::new(alloc);
     files.push(StoredFile::new(alloc, outside.name, outside.file)?)?;
+    for (name, text) in outside.more {
+        files.push(StoredFile::new(alloc, *name, text.as_bytes())?)?;
+    }
     let failing_reads = vec![in alloc; outside.failing_read]?;
     let mut shelf = MemoryShelf::new(alloc, files, failing_reads)?;
     let failing_writes = vec![in alloc; outside.failing_write]?;

@@ -230,3 +230,43 @@ fn the_deepest_blocks(rt: HostRuntime) -> Result<(), Fail> {
     );
     Ok(())
 }
+
+/// Scripts, and their whole reports by `once`.
+const WHOLE: [(&str, &str); 7] = [
+    ("default { timer() { } }", "home 1 \"here\"\n"),
+    (
+        "default{state_entry(){llSay(1,\"a\");}}",
+        "took 1 state_entry\nchat 1 say 1 \"a\"\ndone 1 1024\nhome 1 \"here\"\n",
+    ),
+    (
+        "f(){llSleep(1);} default{state_entry(){}}",
+        "took 1 state_entry\ndone 1 1024\nhome 1 \"here\"\n",
+    ),
+    (
+        "default{state_entry(){llSleep(1); llOwnerSay(\"no\");}}",
+        "took 1 state_entry\nhome 1 \"here\"\n",
+    ),
+    (
+        "default{state_entry(){if(llGetUnixTime());}}",
+        "took 1 state_entry\ndone 1 1024\nhome 1 \"here\"\n",
+    ),
+    (
+        "default{state_entry(){}}state s{timer(){}}",
+        "took 1 state_entry\ndone 1 1024\nhome 1 \"here\"\n",
+    ),
+    ("default{timer(){llOwnerSay(\"a\");}}", "home 1 \"here\"\n"),
+];
+
+#[test]
+fn whole_reports(rt: HostRuntime) -> Result<(), Fail> {
+    for (script, report) in WHOLE {
+        let ended = call(
+            rt.alloc(),
+            &["once", "s.lsl"],
+            Outside::of(script.as_bytes()),
+        )?;
+        assert_eq!(rt; ended.status, 0, "{script}");
+        assert_eq!(rt; ended.sunk.as_slice(), report.as_bytes(), "{script}");
+    }
+    Ok(())
+}

@@ -1,127 +1,141 @@
--- From what was read of a file to what its shelf holds.
-use Rattle.std.proofs.Common.{◌≡◌, ℕ, ◌<◌, ◌≤◌, List, length, Option, Some, None, ◌⊎◌, inl, inr, sym, ◌∙◌, subst, arith}
-use Rattle.std.proofs.lemmas.List.{take_all, length-take}
-use Rattle.std.proofs.lemmas.Bool.{cases_lt}
-use Rattle.lsl_ports.specs.Shelf.{Files, IsHead, IsHeadOf, head_of}
-use Rattle.lsl_ports.specs.Sink.{Grew}
-use Rattle.lsl_lex.specs.Lexed.{LexFirst, IsFirstFault}
-use Rattle.lsl_lex.specs.declared.faults.LexFault.{LexFault}
-use Rattle.lsl_lex.specs.declared.faults.LexKind.{LexKind}
-use Rattle.lsl_lex.specs.declared.faults.LexKind.TheVariants.{NotText, StringEnd, CommentEnd, FloatLiteral, StrayCharacter, TextTooLong}
-use Rattle.lsl_build.specs.declared.faults.BuildFault.{BuildFault}
+-- What a call promises, from how it served a command.
+use Rattle.std.proofs.Common.{◌≡◌, ◌≢◌, ℕ, List, [], ◌∷◌, Option, Some, None, ◌⊎◌, inl, inr, refl, sym, ap, ◌∙◌, subst}
+use Rattle.std.specs.List.{AllZip}
+use Rattle.lsl_ports.specs.Counts.{Rose}
+use Rattle.lsl_ports.specs.Shelf.{Files}
+use Rattle.lsl_ports.specs.Sink.{Grew, GrewByPrefix}
+use Rattle.lsl_ports.proofs.Growth.{grew-none, prefix-grew}
+use Rattle.lsl_lines.specs.Journal.{lines_of}
+use Rattle.lsl_lines.specs.declared.file.WorldFile.{WorldFile}
+use Rattle.lsl_tree.specs.Program.{Program}
+use Rattle.lsl_world.specs.Reports.{journal_of}
+use Rattle.lsl_top.specs.Answers.{Answer, Answers, Plays, done}
+use Rattle.lsl_top.specs.Headline.{IsScriptIn, Runs, WritesJournal}
+use Rattle.lsl_top.specs.Held.{AreHeld}
+use Rattle.lsl_top.specs.Named.{IsNamed, NamedRose}
+use Rattle.lsl_top.specs.Plays.{Play, play_of, play_of_once}
+use Rattle.lsl_top.specs.Ports.{Ports, Serves}
+use Rattle.lsl_top.specs.Promise.{Keeps, KeepsTo, WritesNothing, Wrote}
+use Rattle.lsl_top.specs.Scripts.{AreAccepted}
+use Rattle.lsl_top.specs.Words.{Command, Once, Check, Replay}
 use Rattle.lsl_top.specs.declared.status.Status.{Status}
 use Rattle.lsl_top.specs.declared.status.Status.TheVariants.{Ok, Usage, BadWorld, BadScript, ReadFault, WriteFault, BadImage, NoMemory}
-use Rattle.lsl_tree.specs.Scripts.{Tree}
-use Rattle.lsl_tree.specs.Program.{Program}
-use Rattle.lsl_build.specs.Accepted.{IsAccepted}
-use Rattle.lsl_top.specs.Answer.{IsReport, IsFault, IsRefusal, Wrote}
-use Rattle.lsl_build.specs.Faults.{FirstFault}
-use Rattle.lsl_top.specs.Promise.{ReportIn, FaultIn, Reports, Refuses, OutputOf, Runs}
-use Rattle.lsl_top.specs.Words.{Command, Once, Check, file_of}
+use Rattle.lsl_top.proofs.OneAnswer.{answers-one}
 
--- a head that is short is the file
-head_whole : (file : List ℕ) → length (head_of 65536 file) ≤ 65536 → head_of 65536 file ≡ file
-head_whole file short = take_all 65537 file (omega (arith, length-take 65537 file))
+-- the texts of scripts that are accepted
+abbrev TextsOf : Files → List (List ℕ) → List Program → Type 0
+TextsOf files names programs = (texts : List (List ℕ)) × AreHeld (Some files) names texts × AreAccepted texts programs
 
-head_short : (file : List ℕ) → length file ≤ 65536 → head_of 65536 file ≡ file
-head_short file short = take_all 65537 file (omega arith)
+texts-of : (files : Files) (names : List (List ℕ)) (programs : List Program) → AllZip (IsScriptIn files) names programs
+    → TextsOf files names programs
+texts-of files [] [] h = ([], tt, tt)
+texts-of files (name ∷ names) (p ∷ programs) h =
+    let (text, is, accepted) = h.0 in
+    let (texts, are, all) = texts-of files names programs h.1 in
+    (text ∷ texts, (is, are), (accepted, all))
+texts-of files [] (p ∷ programs) h = absurd h
+texts-of files (name ∷ names) [] h = absurd h
 
-head_long : (file : List ℕ) → 65536 < length file → 65536 < length (head_of 65536 file)
-head_long file long = omega (arith, length-take 65537 file)
+abbrev journal-answer : WorldFile → List Program → Answer
+journal-answer file programs = done (lines_of (journal_of programs file))
 
-accepted_whole : (file : List ℕ) (script : Tree) (program : Program)
-    → IsAccepted (head_of 65536 file) script program → head_of 65536 file ≡ file
-accepted_whole file script program accepted = head_whole file accepted.lexed.source.short
+plays-answer : (files : Files) (play : Play) (programs : List Program) → AllZip (IsScriptIn files) play.names programs
+    → Plays (Some files) play (journal-answer play.world programs)
+plays-answer files play programs h =
+    let (texts, are, all) = texts-of files play.names programs h in (texts, are, inl (programs, all, refl))
 
-report_whole : (command : Command) (file lines : List ℕ) → IsReport command (head_of 65536 file) lines
-    → head_of 65536 file ≡ file
-report_whole (Once name) file lines (program, accepted, built, journal) =
-    accepted_whole file accepted.0 program accepted.1
-report_whole (Check name) file lines (program, accepted, same) = accepted_whole file accepted.0 program accepted.1
+-- what runs is answered with the journal
+runs-answer : (files : Files) (command : Command) (file : WorldFile) (programs : List Program)
+    → Runs files command file programs → Answers (Some files) command (journal-answer file programs)
+runs-answer files (Once name) file programs (is, h) =
+    subst (λ (w : WorldFile). Plays (Some files) (play_of_once name) (journal-answer w programs)) (sym is)
+    (plays-answer files (play_of_once name) programs h)
+runs-answer files (Replay name) file programs ((bytes, is, playable), h) =
+    (bytes, is, inl (file, playable, plays-answer files (play_of file) programs h))
+runs-answer files (Check name) file programs h = absurd h
 
-report_in : (file : Option (List ℕ)) (command : Command) (head lines : List ℕ) → IsHeadOf 65536 file head
-    → IsReport command head lines → ReportIn file command lines
-report_in None command head lines h report = h
-report_in (Some file) command head lines h report =
-    let whole : head_of 65536 file ≡ file =
-    report_whole command file lines (subst (λ z. IsReport command z lines) h report) in
-    subst (λ z. IsReport command z lines) (h ∙ whole) report
+module _ (files : Files) (command : Command) (answer : Answer) (is : Answers (Some files) command answer)
+    (old new : Option (List ℕ)) where
+  -- the answer that was written is this one
+  wrote-this : (status : Status) → Wrote (Answers (Some files) command) status old new
+      → (status ≡ answer.status) × Grew old new answer.lines
+  wrote-this status (other, h, e, grew) =
+      let one = answers-one files command other answer h is in
+      (sym e ∙ ap (λ (a : Answer). a.status) one, subst (λ (a : Answer). Grew old new a.lines) one grew)
 
--- bytes that are too many have the lexical fault of that, and no other
-long_fault : (head file : List ℕ) (fault : LexFault) → 65536 < length head → 65536 < length file
-    → LexFirst head fault → LexFirst file fault
-long_fault head file fault many long first = (first.0, kinds fault.kind first.1, first.2) where
-  kinds : (kind : LexKind) → IsFirstFault head kind first.0 → IsFirstFault file kind first.0
-  kinds TextTooLong f = (long, f.1)
-  kinds NotText f = absurd (omega (arith, f.0))
-  kinds StringEnd f = absurd (omega (arith, f.source.short))
-  kinds CommentEnd f = absurd (omega (arith, f.source.short))
-  kinds FloatLiteral f = absurd (omega (arith, f.source.short))
-  kinds StrayCharacter f = absurd (omega (arith, f.source.short))
+  -- a prefix of this answer at least was written, or nothing
+  wrote-part : KeepsTo (Answers (Some files) command) NoMemory old new → GrewByPrefix old new answer.lines
+  wrote-part (inl e) = subst (λ z. GrewByPrefix old z answer.lines) (sym e)
+      (prefix-grew old old [] answer.lines answer.lines (grew-none old) refl)
+  wrote-part (inr (other, h, part)) =
+      subst (λ (a : Answer). GrewByPrefix old new a.lines) (answers-one files command other answer h is) part
 
-long_first : (head file : List ℕ) (fault : BuildFault) → 65536 < length head → 65536 < length file
-    → FirstFault head fault → FirstFault file fault
-long_first head file fault many long (inl l) =
-    inl (record {
-      lexical = l.lexical;
-      first = long_fault head file l.lexical many long l.first;
-      fault_is =
-          l.fault_is;
-    })
-long_first head file fault many long (inr (inl s)) = absurd (omega (arith, s.lexed.source.short))
-long_first head file fault many long (inr (inr s)) = absurd (omega (arith, s.lexed.source.short))
+  -- all of this answer was written, or memory lacked
+  kept-this : (status : Status) → KeepsTo (Answers (Some files) command) status old new → status ≢ Usage
+      → status ≢ ReadFault → status ≢ WriteFault
+      → ((status ≡ answer.status) × Grew old new answer.lines)
+      ⊎ ((status ≡ NoMemory) × GrewByPrefix old new answer.lines)
+  kept-this Ok k u r w = inl (wrote-this Ok k)
+  kept-this BadWorld k u r w = inl (wrote-this BadWorld k)
+  kept-this BadScript k u r w = inl (wrote-this BadScript k)
+  kept-this BadImage k u r w = inl (wrote-this BadImage k)
+  kept-this NoMemory k u r w = inr (refl, wrote-part k)
+  kept-this Usage k u r w = absurd (u refl)
+  kept-this ReadFault k u r w = absurd (r refl)
+  kept-this WriteFault k u r w = absurd (w refl)
 
-long_refusal : (command : Command) (head file : List ℕ) (fault : BuildFault) → 65536 < length head
-    → 65536 < length file → IsFault command head fault → IsFault command file fault
-long_refusal (Once name) head file fault many long (inl first) = inl (long_first head file fault many long first)
-long_refusal (Once name) head file fault many long (inr outside) =
-    absurd (omega (arith, outside.accepted.1.lexed.source.short))
-long_refusal (Check name) head file fault many long first = long_first head file fault many long first
+module _ (held : Option Files) (words : Option Command) (command : Command) (is : words ≡ Some command)
+    (old new : Ports) (status : Status)
+    (h : Serves (Answers held command) (IsNamed held command) old new status) where
+  pub promise-usage : (status ≡ Usage → words ≡ None) × (words ≡ None → status ≡ Usage)
+  promise-usage = (λ e. absurd (h.no_usage e), λ e. let both : Some command ≡ None = sym is ∙ e in absurd (cc))
 
-fault_in : (file : Option (List ℕ)) (command : Command) (head : List ℕ) (fault : BuildFault)
-    → IsHeadOf 65536 file head → IsFault command head fault → FaultIn file command fault
-fault_in None command head fault h refused = h
-fault_in (Some file) command head fault h refused = elim (cases_lt 65536 (length file)) [
-  | inl long ↦ long_refusal command head file fault
-      (subst (λ z. 65536 < length z) (sym h) (head_long file long)) long refused
-  | inr short ↦ subst (λ z. IsFault command z fault) (h ∙ head_short file short) refused
-]
+  pub promise-nothing : WritesNothing status → new.log.sunk ≡ old.log.sunk
+  promise-nothing n = go status refl n
+    where
+      go : (s : Status) → status ≡ s → WritesNothing s → new.log.sunk ≡ old.log.sunk
+      go ReadFault e n = h.nothing e
+      go Usage e n = absurd (h.no_usage e)
+      go Ok e n = absurd n
+      go BadWorld e n = absurd n
+      go BadScript e n = absurd n
+      go WriteFault e n = absurd n
+      go BadImage e n = absurd n
+      go NoMemory e n = absurd n
 
-reports : (held : Option Files) (command : Command) (head lines : List ℕ)
-    → IsHead held (file_of command) 65536 head → IsReport command head lines → Reports held command lines
-reports None (Once name) head lines h (program, accepted, built, journal) = (program, built, journal)
-reports None (Check name) head lines h (program, accepted, same) = same
-reports (Some files) command head lines h report = report_in (files (file_of command)) command head lines h report
+  pub promise-kept : Keeps held words status old.log.sunk new.log.sunk
+  promise-kept = subst (λ w. Keeps held w status old.log.sunk new.log.sunk) (sym is) h.keeps
 
-refuses : (held : Option Files) (command : Command) (head : List ℕ) (fault : BuildFault)
-    → IsHead held (file_of command) 65536 head → IsFault command head fault → Refuses held command fault
-refuses None command head fault h refused = tt
-refuses (Some files) command head fault h refused = fault_in (files (file_of command)) command head fault h refused
+  pub promise-read : status ≡ ReadFault → NamedRose held words old.read_faults new.read_faults
+  promise-read e = subst (λ w. NamedRose held w old.read_faults new.read_faults) (sym is) (h.read_fault e)
 
-output_of : (held : Option Files) (command : Command) (head lines : List ℕ)
-    → IsHead held (file_of command) 65536 head → IsReport command head lines ⊎ IsRefusal command head lines
-    → OutputOf held command lines
-output_of held command head lines h (inl report) = inl (reports held command head lines h report)
-output_of held command head lines h (inr r) = inr (r.0, refuses held command head r.0 h r.1, r.2)
+  same : (other : Command) → words ≡ Some other → command ≡ other
+  same other e = ap value (sym is ∙ e)
+    where
+      value : Option Command → Command
+      value (Some c) = c
+      value None = command
 
--- what was written for the bytes that were read keeps the promise for the file
-pub Runs-from_wrote : (held : Option Files) (command : Command) (head : List ℕ) (old new : Option (List ℕ))
-    (status : Status) → IsHead held (file_of command) 65536 head → Wrote command head old status new
-    → Runs held command old status new
-Runs-from_wrote held command head old new Ok h w = (w.0, reports held command head w.0 h w.1, w.2)
-Runs-from_wrote held command head old new BadScript h w =
-    (w.1.0, refuses held command head w.1.0 h w.1.1, subst (λ z. Grew old new z) w.1.2 w.2)
-Runs-from_wrote held command head old new WriteFault h w = (w.0, output_of held command head w.0 h w.1, w.2)
-Runs-from_wrote held command head old new NoMemory h w = w
-Runs-from_wrote held command head old new Usage h w = w
-Runs-from_wrote held command head old new BadWorld h w = w
-Runs-from_wrote held command head old new ReadFault h w = absurd w
-Runs-from_wrote held command head old new BadImage h w = w
+  calm : (files : Files) (other : Command) (answer : Answer) → held ≡ Some files → words ≡ Some other
+      → Answers (Some files) other answer
+      → (NamedRose held words old.read_faults new.read_faults → ⊥) → (Rose old.log.faults new.log.faults → ⊥)
+      → ((status ≡ answer.status) × Grew old.log.sunk new.log.sunk answer.lines)
+      ⊎ ((status ≡ NoMemory) × GrewByPrefix old.log.sunk new.log.sunk answer.lines)
+  calm files other answer told e answers quiet whole =
+      let keeps = subst (λ z. KeepsTo (Answers z command) status old.log.sunk new.log.sunk) told h.keeps in
+      kept-this files command answer (subst (λ c. Answers (Some files) c answer) (sym (same other e)) answers)
+      old.log.sunk new.log.sunk status keeps h.no_usage (λ f. quiet (promise-read f)) (λ f. whole (h.write_fault f))
 
--- the same of the bytes of the file that was read
-pub Runs-from_read : (held : Option Files) (command : Command) (name head bytes : List ℕ)
-    (old new : Option (List ℕ)) (status : Status) → name ≡ file_of command → IsHead held name 65536 head
-    → bytes ≡ head → Wrote command bytes old status new → Runs held command old status new
-Runs-from_read held command name head bytes old new status named h same wrote =
-    Runs-from_wrote held command head old new status (subst (λ z. IsHead held z 65536 head) named h)
-    (subst (λ z. Wrote command z old status new) same wrote)
+  pub promise-complete : (files : Files) (other : Command) (answer : Answer) → held ≡ Some files → words ≡ Some other
+      → Answers (Some files) other answer
+      → (NamedRose held words old.read_faults new.read_faults → ⊥) → (Rose old.log.faults new.log.faults → ⊥)
+      → (status ≡ answer.status) ⊎ (status ≡ NoMemory)
+  promise-complete files other answer told e answers quiet whole =
+      elim (calm files other answer told e answers quiet whole) [ inl k ↦ inl k.0 | inr k ↦ inr k.0 ]
+
+  pub promise-headline : (files : Files) (other : Command) (file : WorldFile) (programs : List Program)
+      → held ≡ Some files → words ≡ Some other → Runs files other file programs
+      → (NamedRose held words old.read_faults new.read_faults → ⊥) → (Rose old.log.faults new.log.faults → ⊥)
+      → WritesJournal file programs status old.log.sunk new.log.sunk
+  promise-headline files other file programs told e runs quiet whole =
+      calm files other (journal-answer file programs) told e (runs-answer files other file programs runs) quiet whole

@@ -1,15 +1,18 @@
 -- How a command ends, seen from outside: the contract of the top call as one fact, for whoever runs it.
-use Rattle.std.specs.Prelude.{◌≡◌, ◌≢◌, ◌≤◌, ◌↔◌, ◌⊎◌, ℕ, List, Option, None}
+use Rattle.std.specs.Prelude.{◌≡◌, ◌≤◌, ◌↔◌, ◌⊎◌, ℕ, List, Option, Some, None}
 use Rattle.lsl_ports.specs.Counts.{NoneFell, Rose}
 use Rattle.lsl_ports.specs.Link.{Carried}
 use Rattle.lsl_ports.specs.Shelf.{Files}
-use Rattle.lsl_top.specs.Promise.{HasNoScript, HasScript, NamedRose, WritesNothing}
-use Rattle.lsl_top.specs.Promise.{WritesPrefix, WritesRefusal, WritesReport}
+use Rattle.lsl_lines.specs.declared.file.WorldFile.{WorldFile}
+use Rattle.lsl_tree.specs.Program.{Program}
+use Rattle.lsl_top.specs.Answers.{Answer, Answers}
+use Rattle.lsl_top.specs.Headline.{Runs, WritesJournal}
+use Rattle.lsl_top.specs.Named.{NamedRose}
+use Rattle.lsl_top.specs.Promise.{Keeps, WritesNothing}
 use Rattle.lsl_top.specs.Status.{number_of}
 use Rattle.lsl_top.specs.Words.{Command}
 use Rattle.lsl_top.specs.declared.status.Status.{Status}
-use Rattle.lsl_top.specs.declared.status.Status.TheVariants.{Ok, Usage, BadWorld, BadScript}
-use Rattle.lsl_top.specs.declared.status.Status.TheVariants.{ReadFault, WriteFault, BadImage, NoMemory}
+use Rattle.lsl_top.specs.declared.status.Status.TheVariants.{Usage, ReadFault, WriteFault, NoMemory}
 
 -- what the shelf, the sink and the link tell at one moment
 pub record Outside : Type 0 where
@@ -31,23 +34,23 @@ outside held read_faults sunk write_faults carried link_faults =
       link_faults = link_faults;
     }
 
--- no fault of the command's file and of the sink was counted
+-- no fault of the command's files and of the sink was counted
 pub record IsCalm (command : Option Command) (old new : Outside) : Type 0 where
-  pub reads : NamedRose command old.read_faults new.read_faults → ⊥
+  pub reads : NamedRose old.held command old.read_faults new.read_faults → ⊥
   pub writes : Rose old.write_faults new.write_faults → ⊥
 
 -- the command ended so
-pub record Ends (command : Option Command) (old new : Outside) (status : Status) : Type 0 where
-  pub usage : (status ≡ Usage) ↔ (command ≡ None)
-  pub ok : status ≡ Ok → WritesReport old.held command old.sunk new.sunk
-  pub bad_script : status ≡ BadScript → WritesRefusal old.held command old.sunk new.sunk
-  pub read_fault : status ≡ ReadFault → NamedRose command old.read_faults new.read_faults
+pub record Ends (words : Option Command) (old new : Outside) (status : Status) : Type 0 where
+  pub usage : (status ≡ Usage) ↔ (words ≡ None)
+  pub nothing : WritesNothing status → new.sunk ≡ old.sunk
+  pub kept : Keeps old.held words status old.sunk new.sunk
+  pub read_fault : status ≡ ReadFault → NamedRose old.held words old.read_faults new.read_faults
   pub write_fault : status ≡ WriteFault → Rose old.write_faults new.write_faults
-  pub part : status ≡ WriteFault → WritesPrefix old.held command old.sunk new.sunk
-  pub memory : WritesNothing status → new.sunk ≡ old.sunk
-  pub never : (status ≢ BadWorld) × (status ≢ BadImage)
-  pub complete : HasScript old.held command → IsCalm command old new → (status ≡ Ok) ⊎ (status ≡ NoMemory)
-  pub refused : HasNoScript old.held command → IsCalm command old new → (status ≡ BadScript) ⊎ (status ≡ NoMemory)
+  pub complete : (files : Files) (command : Command) (answer : Answer) → old.held ≡ Some files → words ≡ Some command
+      → Answers (Some files) command answer → IsCalm words old new → (status ≡ answer.status) ⊎ (status ≡ NoMemory)
+  pub headline : (files : Files) (command : Command) (file : WorldFile) (programs : List Program)
+      → old.held ≡ Some files → words ≡ Some command → Runs files command file programs → IsCalm words old new
+      → WritesJournal file programs status old.sunk new.sunk
   pub unchanged : (new.held ≡ old.held) × (new.carried ≡ old.carried)
   pub reads_counted : NoneFell old.read_faults new.read_faults
   pub writes_counted : old.write_faults ≤ new.write_faults
@@ -55,4 +58,4 @@ pub record Ends (command : Option Command) (old new : Outside) (status : Status)
 
 -- the command ended with the status of this number
 abbrev pub EndsAs : ℕ → Option Command → Outside → Outside → Type 0
-EndsAs number command old new = (status : Status) × (number ≡ number_of status) × Ends command old new status
+EndsAs number words old new = (status : Status) × (number ≡ number_of status) × Ends words old new status

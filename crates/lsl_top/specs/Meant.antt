@@ -1,13 +1,23 @@
--- What the reader of the words found.
-use Rattle.std.specs.Prelude.{Option, Some, None}
+-- What the code's values stand for: for private functions.
+use Rattle.std.specs.Prelude.{ℕ, Option, Some, None}
+use Rattle.lsl_text.specs.declared.Refusal.{Refusal}
+use Rattle.lsl_text.specs.declared.Refusal.TheVariants as refusals
+use Rattle.lsl_build.specs.declared.faults.BuildFault.{BuildFault}
+use Rattle.lsl_top.specs.declared.building.Refused.{Refused}
 use Rattle.lsl_top.specs.declared.words.Command.{Command as Found}
 use Rattle.lsl_top.specs.declared.words.Command.TheVariants as found
-use Rattle.lsl_top.specs.Words.{Command, Once, Check}
+use Rattle.lsl_top.specs.Words.{Command, Once, Check, Replay}
 
 abbrev pub asked_by : Found → Command
 asked_by (found.Once file) = Once file.now
 asked_by (found.Check file) = Check file.now
+asked_by (found.Replay file) = Replay file.now
 
 abbrev pub meant_by : Option Found → Option Command
 meant_by None = None
 meant_by (Some command) = Some (asked_by command)
+
+-- the refusal of the text at a place
+abbrev pub refused_at : ℕ → Refusal BuildFault → Refusal Refused
+refused_at place (refusals.Fault fault) = refusals.Fault (record { place = place; fault = fault })
+refused_at place refusals.NoMemory = refusals.NoMemory

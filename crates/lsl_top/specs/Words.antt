@@ -1,27 +1,29 @@
 -- What a command's words ask for.
-use Rattle.std.specs.Prelude.{ℕ, Bool, false, ◌==◌, ◌&&◌, not, codes, List, [], ◌∷◌, Option, Some, None, if◌then◌else◌, map, string_bytes, String}
+use Rattle.std.specs.Prelude.{ℕ, Bool, false, ◌==◌, not, codes, List, [], ◌∷◌, Option, Some, None, if◌then◌else◌, map, string_bytes, String}
 use Rattle.std.specs.Str.{bytes_eq}
 
 -- a command
 pub data Command : Type 0 where
-  -- runs the script of a file
+  -- runs the script of a file, in a world of its own
   Once : (file : List ℕ) → Command
   -- accepts the script of a file, or refuses it
   Check : (file : List ℕ) → Command
-
--- the file that a command names
-abbrev pub file_of : Command → List ℕ
-file_of (Once file) = file
-file_of (Check file) = file
+  -- runs a world file
+  Replay : (world : List ℕ) → Command
 
 -- a word that may name a file: it isn't empty, and doesn't begin with `-`
 abbrev pub names_file : List ℕ → Bool
 names_file [] = false
 names_file (c ∷ word) = not (c == 45)
 
+-- the command of this word, for a file
+abbrev pub command_named : List ℕ → List ℕ → Option Command
+command_named word file = if bytes_eq word (codes "once") then Some (Once file)
+    else if bytes_eq word (codes "check") then Some (Check file)
+    else if bytes_eq word (codes "replay") then Some (Replay file) else None
+
 abbrev pub command_in : List (List ℕ) → Option Command
-command_in (word ∷ file ∷ []) = if bytes_eq word (codes "once") && names_file file then Some (Once file)
-    else if bytes_eq word (codes "check") && names_file file then Some (Check file) else None
+command_in (word ∷ file ∷ []) = if names_file file then command_named word file else None
 command_in _ = None
 
 -- what the words ask for, or none where they are no command

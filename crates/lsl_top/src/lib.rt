@@ -1,33 +1,40 @@
-//! The top call: what a command's words ask for is read, run and written. It reaches the outside
-//! by the shelf, the sink and the link that it is given, and by nothing else.
+//! The top call: what a command's words ask for is read, run and written, over any shelf, sink and link.
 #![tactic(auto)]
 
-ghost use Rattle.std.specs.Prelude.{◌≡◌, ◌≢◌, ◌≤◌, ◌↔◌, ◌⊎◌, ℕ, None, Some};
+ghost use Rattle.std.specs.Prelude.{◌≡◌, ◌≤◌, ◌⊎◌, ◌↔◌, List};
 ghost use Rattle.lsl_ports.specs.Counts.{NoneFell, Rose};
-ghost use Rattle.lsl_top.specs.Promise.{HasNoScript, HasScript, NamedRose, WritesNothing, WritesPrefix, WritesRefusal, WritesReport, Runs};
-ghost use Rattle.lsl_top.specs.Meant.{asked_by};
-ghost use Rattle.lsl_top.specs.Words.{command_of, file_of};
+ghost use Rattle.lsl_ports.specs.Shelf.{Files};
+ghost use Rattle.lsl_lines.specs.declared.file.WorldFile.{WorldFile};
+ghost use Rattle.lsl_tree.specs.Program.{Program};
+ghost use Rattle.lsl_top.specs.Answers.{Answer, Answers};
+ghost use Rattle.lsl_top.specs.Headline.{Runs, WritesJournal};
+ghost use Rattle.lsl_top.specs.Named.{NamedRose};
+ghost use Rattle.lsl_top.specs.Promise.{Keeps, WritesNothing};
+ghost use Rattle.lsl_top.specs.Words.{Command as TheCommand, command_of};
 
-mod built;
-mod chat;
-mod journal;
-mod output;
-mod running;
+mod building;
+mod commands;
+pub mod laws;
+mod lines;
+mod once;
+mod reading;
+mod report;
 mod status;
 mod words;
+mod writing;
 
-use lsl_ports::{Link, Shelf, ShelfFault, Sink, read_all};
-use output::write_output;
-pub use status::Status;
+use crate::commands::serve;
+pub use crate::status::Status;
+use crate::words::parse_words;
+use lsl_ports::{Link, Shelf, Sink};
 use std::alloc::Global;
-use words::{Command, parse_words};
-
-/// How many bytes of a script are read, but for one more, which shows that it is too long.
-const MAX_SCRIPT_BYTES: u64 = 65_536;
 
 /// Does what the command's words ask for, and answers how that ended. `words` are without the
-/// program's name. It takes memory for the file, the script's code and the lines; the whole output
-/// is written at once. The link isn't called yet.
+/// program's name.
+///
+/// A world file is read and tested first; then all scripts are read, each file once, in the order of first naming, and
+/// then built in that order; then the steps are run, and each step's lines are written before the next step. It takes
+/// memory for the files, the code, the world and a step's lines. The link isn't called yet.
 pub fn lsl<S: Shelf, K: Sink, L: Link>(
     alloc: Global,
     words: &[String],
@@ -37,35 +44,30 @@ pub fn lsl<S: Shelf, K: Sink, L: Link>(
 ) -> Status
     // The words are no command.
     ensures usage { (result ≡ Status.Usage) ↔ (command_of words.now ≡ None) }
-    // The file is a script, and the sink grew by exactly the report of its run or its check.
-    ensures ok { result ≡ Status.Ok
-        → WritesReport (S.held shelf.old) (command_of words.now) (K.sunk sink.old) (K.sunk sink.new) }
-    // The file isn't accepted, or is to be run and is outside the built part, and the sink grew by exactly its
-    // refusal for that fault.
-    ensures bad_script { result ≡ Status.BadScript
-        → WritesRefusal (S.held shelf.old) (command_of words.now) (K.sunk sink.old) (K.sunk sink.new) }
-    // The shelf failed at the very file that the words name.
+    // At Usage and ReadFault nothing was written.
+    ensures nothing { WritesNothing result → K.sunk sink.new ≡ K.sunk sink.old }
+    // At Ok, BadWorld and BadScript the sink grew by exactly an answer of that status; at WriteFault and NoMemory by a
+    // prefix of an answer.
+    ensures kept { Keeps (S.held shelf.old) (command_of words.now) result (K.sunk sink.old) (K.sunk sink.new) }
+    // The shelf failed at a file that the words or their world name.
     ensures read_fault { result ≡ Status.ReadFault
-        → NamedRose (command_of words.now) (S.faults shelf.old) (S.faults shelf.new) }
-    // The sink failed, and has taken a prefix of the output.
+        → NamedRose (S.held shelf.old) (command_of words.now) (S.faults shelf.old) (S.faults shelf.new) }
+    // The sink failed.
     ensures write_fault { result ≡ Status.WriteFault → Rose (K.faults sink.old) (K.faults sink.new) }
-    ensures part { result ≡ Status.WriteFault
-        → WritesPrefix (S.held shelf.old) (command_of words.now) (K.sunk sink.old) (K.sunk sink.new) }
-    // At Usage, ReadFault and NoMemory nothing was written.
-    ensures memory { WritesNothing result → K.sunk sink.new ≡ K.sunk sink.old }
-    ensures never { (result ≢ Status.BadWorld) × (result ≢ Status.BadImage) }
-
-    // Where neither the count of the file's faults nor the sink's rose, a script that the shelf
-    // tells of is run or accepted, and any other file is refused, but for want of memory.
-    ensures complete { HasScript (S.held shelf.old) (command_of words.now)
-        → ¬ NamedRose (command_of words.now) (S.faults shelf.old) (S.faults shelf.new)
+    // Over files that are told, where no count of the files' faults rose and not the sink's, the status is that of the
+    // command's answer, but for want of memory.
+    ensures complete { (files : Files) (command : TheCommand) (answer : Answer) → S.held shelf.old ≡ Some files
+        → command_of words.now ≡ Some command → Answers (Some files) command answer
+        → ¬ NamedRose (S.held shelf.old) (command_of words.now) (S.faults shelf.old) (S.faults shelf.new)
         → ¬ Rose (K.faults sink.old) (K.faults sink.new)
-        → (result ≡ Status.Ok) ⊎ (result ≡ Status.NoMemory) }
-    ensures refused { HasNoScript (S.held shelf.old) (command_of words.now)
-        → ¬ NamedRose (command_of words.now) (S.faults shelf.old) (S.faults shelf.new)
+        → (result ≡ answer.status) ⊎ (result ≡ Status.NoMemory) }
+    // Given good files and accepted scripts, and no fault of shelf or sink, the sink grew by exactly the journal of the
+    // scripts' meaning, or memory lacked, and it grew by a prefix of that.
+    ensures headline { (files : Files) (command : TheCommand) (file : WorldFile) (programs : List Program)
+        → S.held shelf.old ≡ Some files → command_of words.now ≡ Some command → Runs files command file programs
+        → ¬ NamedRose (S.held shelf.old) (command_of words.now) (S.faults shelf.old) (S.faults shelf.new)
         → ¬ Rose (K.faults sink.old) (K.faults sink.new)
-        → (result ≡ Status.BadScript) ⊎ (result ≡ Status.NoMemory) }
-
+        → WritesJournal file programs result (K.sunk sink.old) (K.sunk sink.new) }
     ensures unchanged { (S.held shelf.new ≡ S.held shelf.old) × (L.carried link.new ≡ L.carried link.old) }
     ensures counted { NoneFell (S.faults shelf.old) (S.faults shelf.new)
         × (K.faults sink.old ≤ K.faults sink.new)
@@ -74,37 +76,6 @@ pub fn lsl<S: Shelf, K: Sink, L: Link>(
     let _ = link;
     match parse_words(words) {
         None => Status::Usage,
-        Some(command) => run(alloc, command, shelf, sink),
-    }
-}
-
-/// Does what a command asks for with the bytes of its file.
-fn run<S: Shelf, K: Sink>(
-    alloc: Global,
-    command: Command<'_>,
-    shelf: &mut S,
-    sink: &mut K,
-) -> Status
-    ensures runs { Runs (S.held shelf.old) (asked_by command.entry) (K.sunk sink.old) result (K.sunk sink.new) }
-    ensures read_fault { result ≡ Status.ReadFault
-        → Rose (S.faults shelf.old (file_of (asked_by command.entry)))
-        (S.faults shelf.new (file_of (asked_by command.entry))) }
-    ensures write_fault { result ≡ Status.WriteFault → Rose (K.faults sink.old) (K.faults sink.new) }
-    ensures unchanged { S.held shelf.new ≡ S.held shelf.old }
-    ensures shelf_counted { NoneFell (S.faults shelf.old) (S.faults shelf.new) }
-    ensures sink_counted { K.faults sink.old ≤ K.faults sink.new }
-    ensures complete { HasScript (S.held shelf.old) (Some (asked_by command.entry))
-        → ¬ Rose (S.faults shelf.old (file_of (asked_by command.entry)))
-        (S.faults shelf.new (file_of (asked_by command.entry))) → ¬ Rose (K.faults sink.old) (K.faults sink.new)
-        → (result ≡ Status.Ok) ⊎ (result ≡ Status.NoMemory) }
-    ensures refused { HasNoScript (S.held shelf.old) (Some (asked_by command.entry))
-        → ¬ Rose (S.faults shelf.old (file_of (asked_by command.entry)))
-        (S.faults shelf.new (file_of (asked_by command.entry))) → ¬ Rose (K.faults sink.old) (K.faults sink.new)
-        → (result ≡ Status.BadScript) ⊎ (result ≡ Status.NoMemory) }
-{
-    match read_all(alloc, shelf, command.file(), MAX_SCRIPT_BYTES) {
-        Ok(file) => write_output(alloc, command, file.as_slice(), sink),
-        Err(ShelfFault::Failed) => Status::ReadFault,
-        Err(ShelfFault::NoMemory) => Status::NoMemory,
+        Some(command) => serve(alloc, command, shelf, sink),
     }
 }

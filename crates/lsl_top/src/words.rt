@@ -1,26 +1,17 @@
 //! The words of a command, read by hand.
 ghost use Rattle.std.specs.Prelude.{◌≡◌};
-ghost use Rattle.lsl_top.specs.Words.{command_of, file_of, names_file};
-ghost use Rattle.lsl_top.specs.Meant.{asked_by, meant_by};
+ghost use Rattle.lsl_top.specs.Words.{command_named, command_of, names_file};
+ghost use Rattle.lsl_top.specs.Meant.{meant_by};
 
-/// What the words ask for.
+/// What the words ask for, with the file that they name.
 #[derive(Clone, Copy)]
 pub enum Command<'a> {
     /// Runs the script of a file.
     Once(&'a str),
     /// Accepts the script of a file, or refuses it.
     Check(&'a str),
-}
-
-impl<'a> Command<'a> {
-    /// The file that the words name.
-    pub fn file(self) -> &'a str
-        ensures { result.now ≡ file_of (asked_by self.entry) }
-    {
-        match self {
-            Command::Once(file) | Command::Check(file) => file,
-        }
-    }
+    /// Runs a world file.
+    Replay(&'a str),
 }
 
 fn names_file(word: &str) -> bool
@@ -32,17 +23,23 @@ fn names_file(word: &str) -> bool
     }
 }
 
+fn command_named<'a>(word: &str, file: &'a str) -> Option<Command<'a>>
+    ensures { command_named word.now file.now ≡ meant_by result }
+{
+    match word {
+        "once" => Some(Command::Once(file)),
+        "check" => Some(Command::Check(file)),
+        "replay" => Some(Command::Replay(file)),
+        _ => None,
+    }
+}
+
 /// What the words ask for, or none where they are no command. It takes no memory.
 pub fn parse_words(words: &[String]) -> Option<Command<'_>>
     ensures { command_of words.now ≡ meant_by result }
 {
     match words {
-        [word, file] if word.as_str() == "once" && names_file(file.as_str()) => {
-            Some(Command::Once(file.as_str()))
-        }
-        [word, file] if word.as_str() == "check" && names_file(file.as_str()) => {
-            Some(Command::Check(file.as_str()))
-        }
+        [word, file] if names_file(file.as_str()) => command_named(word.as_str(), file.as_str()),
         _ => None,
     }
 }

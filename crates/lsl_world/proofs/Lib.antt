@@ -1,0 +1,11 @@
+pub mod Passing
+pub mod StepRanges
+pub mod Ranges
+pub mod Meanings
+pub mod Counts
+pub mod Kept
+pub mod Seams
+pub mod Telling
+pub mod Walking
+pub mod Filling
+pub mod Beginning

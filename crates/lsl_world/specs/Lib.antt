@@ -2,4 +2,9 @@ pub mod Programs
 pub mod Starts
 pub mod Steps
 pub mod Reports
+pub mod Sizes
+pub mod Ranges
+pub mod Codes
+pub mod Stands
+pub mod Seats
 pub mod Laws

@@ -16,10 +16,14 @@ prim_of_line line = record { key = line.key; name = line.name }
 abbrev pub object_of_line : ObjectLine → Linkset
 object_of_line line = record { owner = line.owner; region = line.region; prims = map prim_of_line line.prims }
 
--- the scripts of the prim at this place of the object at this place
+-- the script of a line, in the prim at this place of the object at this place
+abbrev pub member_of_line : Rules → ℕ → ℕ → ScriptLine → Member
+member_of_line r object prim line =
+    record { object = object; prim = prim; name = line.name; script = new_script r line.file }
+
+-- the scripts of that prim
 abbrev pub members_of_prim : Rules → ℕ → ℕ → List ScriptLine → List Member
-members_of_prim r object prim lines =
-    map (λ l. record { object = object; prim = prim; name = l.name; script = new_script r l.file }) lines
+members_of_prim r object prim lines = map (member_of_line r object prim) lines
 
 -- of these prims, whose places are from this one on
 abbrev pub members_of_prims : Rules → ℕ → ℕ → List PrimLine → List Member

@@ -1,5 +1,12 @@
-//! Runs of world files as the texts of their scripts mean them: the start, what each step does, and the journal of all.
-//! Definitions in specs/, and laws over them; no code runs a world here yet.
+//! Runs of world files as the texts of their scripts mean them: the start, what each step does, and where each object
+//! is in the end.
 #![tactic(auto)]
 
+mod homes;
 pub mod laws;
+mod rounds;
+mod starting;
+mod stepping;
+mod world;
+
+pub use crate::world::World;

@@ -4,10 +4,16 @@
 #[cfg(test)]
 mod events;
 #[cfg(test)]
+mod frames;
+#[cfg(test)]
 mod hearing;
 #[cfg(test)]
 mod listens;
 #[cfg(test)]
+mod posting;
+#[cfg(test)]
 mod queues;
 #[cfg(test)]
 mod timers;
+#[cfg(test)]
+mod turns;

@@ -1,4 +1,4 @@
-use Rattle.std.proofs.Common.{◌≡◌, ◌<◌, ◌++◌, ◌∷◌, [], List, length, ap, subst, sym, arith}
+use Rattle.std.proofs.Common.{◌<◌, List, length, ap, subst, sym, arith}
 use Rattle.lsl_region.specs.declared.objects.Linkset.{Linkset}
 use Rattle.lsl_region.specs.Grids.{ArePlaced, Contents}
 use Rattle.lsl_region.proofs.Behind.{placed-more}

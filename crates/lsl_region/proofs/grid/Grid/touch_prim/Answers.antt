@@ -1,4 +1,4 @@
-use Rattle.std.proofs.Common.{ℕ, List, length, get_or, ap, sym, ◌∙◌, subst}
+use Rattle.std.proofs.Common.{ℕ, List, length, get_or, ap, ◌∙◌, subst}
 use Rattle.std.specs.Prelude.{None}
 use Rattle.lsl_post.specs.declared.events.Toucher.{Toucher}
 use Rattle.lsl_post.specs.Journal.{Tells}

@@ -1,9 +1,5 @@
-use Rattle.std.specs.Prelude.{None}
 use Rattle.std.proofs.lemmas.Result.{MatchResult-from_err}
-use Rattle.lsl_region.specs.Arrivals.{touch_end, touched}
-use Rattle.lsl_region.specs.Grids.{Stands}
-use Rattle.lsl_region.specs.Posting.{post_all}
-use Rattle.lsl_region.proofs.Touches.{amid-part, behind_first, first-err, first-ok, second-err, second-ok, third}
+use Rattle.lsl_region.proofs.Touches.{amid-part, first-err, first-ok, second-err, second-ok, third}
 use Rattle.lsl_region.proofs.grid.Grid.touched.Goals as goal
 
 pub returns-in_err-post_all-clause-does : goal.returns-in_err-post_all-clause-does

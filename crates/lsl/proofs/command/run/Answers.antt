@@ -1,0 +1,24 @@
+use Rattle.std.proofs.Common.{◌∙◌}
+use Rattle.lsl.proofs.command.run.Goals as goal
+
+pub returns-clause-ends : goal.returns-clause-ends
+returns-clause-ends g c =
+    let done = c.lsl-status.ensures in (
+      c.lsl-status.result,
+      c.from.ensures ∙ c.number.ensures,
+      record {
+        usage = done.usage;
+        nothing = done.nothing;
+        kept = done.kept;
+        read_fault = done.read_fault;
+        write_fault = done.write_fault;
+        complete = λ files command answer told words answers calm.
+            done.complete files command answer told words answers calm.reads calm.writes;
+        headline = λ files command file programs told words runs calm.
+            done.headline files command file programs told words runs calm.reads calm.writes;
+        unchanged = done.unchanged;
+        reads_counted = done.counted.0;
+        writes_counted = done.counted.1;
+        links_counted = done.counted.2;
+      },
+    )

@@ -1,0 +1,166 @@
+//! Images as bytes, written down by hand, and what is done to them.
+
+use lsl_build::build;
+use lsl_code::{Library, Sequence};
+use lsl_image::{ImageFault, ObjectParts, Shape, read_object};
+use lsl_text::Refusal;
+use lsl_value::Text;
+use sha2::{Digest, Sha256};
+use std::alloc::Global;
+use std::test::Fail;
+
+/// Two functions, one of them called while a value waits.
+const CALLS: &str = concat!(
+    "integer f(integer n) { integer i; integer s; for (i = 0; i < n; ++i) s += i; return s; } ",
+    "integer g(integer n) { return n * 10; } ",
+    "default { touch_start(integer n) { llOwnerSay((string)(f(4) + g(1))); } }"
+);
+
+/// Globals of every kind, and handlers of many events.
+const KINDS: &str = concat!(
+    "integer n = 5; string s; key k; list l; default { state_entry() { } state_exit() { } ",
+    "touch_start(integer c) { } touch(integer c) { } touch_end(integer c) { } ",
+    "listen(integer c, string m, key i, string t) { } timer() { } ",
+    "link_message(integer f, integer c, string t, key i) { } changed(integer c) { } ",
+    "on_rez(integer c) { } } state other { touch_start(integer c) { } }"
+);
+
+/// A script within two calls, in version 1: 227 bytes.
+pub const CALLS_FIRST: [&str; 5] = [
+    "4c534c4f000100000000000000e3000000000000000000000000000000010100000003426f780001ea2258a4659e8d1b",
+    "66404784bd1bb3bb59681a0be2144db850a3926e1e0ff71f000000000000000100000000000000000000000000000000",
+    "000000000001030100000001010000002430303030303030302d303030302d303030302d303030302d30303030303030",
+    "303030616100000003416e6e000000000002000000010100000004010000000201000000010002000201000000010100",
+    "00000a5252e9a1a25bb1fd78977eb5c9c6aeed3d90fe87359a43eef58aea51142d3933",
+];
+
+/// The same in version 2, sent from the region `A`: 238 bytes.
+pub const CALLS_SECOND: [&str; 5] = [
+    "4c534c4f000200000000000000ee0000000141000000000000000000000000000000010100000003426f780001ea2258",
+    "a4659e8d1b66404784bd1bb3bb59681a0be2144db850a3926e1e0ff71f00000000000000010000000000000000000000",
+    "000000000000000000000001000001030100000001010000002430303030303030302d303030302d303030302d303030",
+    "302d30303030303030303030616100000003416e6e000000000002000000010100000004010000000201000000010002",
+    "00020100000001010000000a00001047ac81b702f3f0510de3e4abc811c3cd01dcb738708fbb5af4825872781f65",
+];
+
+/// Two scripts with values of every kind, events, listens, a timer and a store, in version 2: 862 bytes.
+pub const EVERY_KIND: [&str; 18] = [
+    "4c534c4f0002000000000000035e0000000141000000000000000000000000000000010200000003426f780000000000",
+    "02737a71ebacf258096b3e5199dd95efcc241dbc806ce982b56f2e07989d541ae400000001fffffffb03000000026869",
+    "040000002430303030303030302d303030302d303030302d303030302d30303030303030303030616107000000030100",
+    "000001030000000374776f040000000574687265650a0100030100000001010000002430303030303030302d30303030",
+    "2d303030302d303030302d30303030303030303030616100000003416e6e000000020401000000010005010000000101",
+    "0000000000000000ffffffff0601fffffffd0300000002c3a9040000002430303030303030302d303030302d30303030",
+    "2d303030302d30303030303030303030616103000000000007000700080100000000017fffffff030000000178040000",
+    "000000090100000100000a01800000000000000003020000000101fffffff90000000161000000016200000001630000",
+    "000900000000000000000000000000000000007fffffff0000000000000007ffffffffffffffff0000042800737a71eb",
+    "acf258096b3e5199dd95efcc241dbc806ce982b56f2e07989d541ae400000001fffffffb030000000268690400000024",
+    "30303030303030302d303030302d303030302d303030302d303030303030303030306161070000000301000000010300",
+    "00000374776f040000000574687265650a0100030100000001010000002430303030303030302d303030302d30303030",
+    "2d303030302d30303030303030303030616100000003416e6e0000000204010000000100050100000001010000000000",
+    "000000ffffffff0601fffffffd0300000002c3a9040000002430303030303030302d303030302d303030302d30303030",
+    "2d30303030303030303030616103000000000007000700080100000000017fffffff0300000001780400000000000901",
+    "00000100000a01800000000000000003020000000101fffffff900000001610000000162000000016300000009000000",
+    "00000000000000000000000000007fffffff0000000000000007ffffffffffffffff0000042800000200000001610000",
+    "000131000000016200000002c3a98226dad3da328bae475272cdbcf85a3ba8fc19a7ffe68be8286cfd87b452c40e",
+];
+
+/// The bytes of hexadecimal digits.
+pub fn unhex(alloc: Global, lines: &[&str]) -> Result<Vec<u8>, Fail> {
+    let mut bytes = Vec::new(alloc);
+    for line in lines {
+        match hex::decode(alloc, line.as_bytes()) {
+            Ok(part) => bytes.extend_from_slice(part.as_slice())?,
+            Err(_) => return Err("no hexadecimal digits")?,
+        }
+    }
+    Ok(bytes)
+}
+
+pub fn text(alloc: Global, characters: &str) -> Result<Text, Fail> {
+    Ok(Text::from_utf8(alloc, characters.as_bytes())?.ok_or("no text")?)
+}
+
+/// The units of both scripts.
+pub fn library(alloc: Global) -> Result<Library, Fail> {
+    let mut library = Library::new(alloc);
+    for script in [CALLS, KINDS] {
+        match build(alloc, script.as_bytes()) {
+            Ok(built) => library.add(built.code)?,
+            Err(_) => return Err("the script isn't accepted")?,
+        }
+    }
+    Ok(library)
+}
+
+/// An object of so many prims, with scripts of these units.
+pub fn shape(alloc: Global, prims: u32, units: &[u32]) -> Result<Shape, Fail> {
+    let mut list = Sequence::new(alloc);
+    for unit in units {
+        list.push(*unit)?;
+    }
+    Ok(Shape {
+        key: text(alloc, "00000000-0000-0000-0000-000000000001")?,
+        prims,
+        units: list,
+    })
+}
+
+/// The bytes with others in the place of so many at this place, of the right size and with the right digest.
+pub fn mended(
+    alloc: Global,
+    bytes: &[u8],
+    place: usize,
+    cut: usize,
+    others: &[u8],
+) -> Result<Vec<u8>, Fail> {
+    let mut fields = Vec::new(alloc);
+    fields.extend_from_slice(bytes.get(..place).ok_or("no such place")?)?;
+    fields.extend_from_slice(others)?;
+    let end = bytes.len().checked_sub(32).ok_or("no image")?;
+    fields.extend_from_slice(
+        bytes
+            .get(place.saturating_add(cut)..end)
+            .ok_or("no such place")?,
+    )?;
+    sealed(fields)
+}
+
+/// The fields with their size and their digest.
+fn sealed(fields: Vec<u8>) -> Result<Vec<u8>, Fail> {
+    let mut bytes = fields;
+    let size = (bytes.len() as u64).saturating_add(32).to_be_bytes();
+    for place in 0..8 {
+        let byte = *size.get(place).ok_or("eight bytes")?;
+        *bytes.get_mut(place + 6).ok_or("no head")? = byte;
+    }
+    let mut hasher = Sha256::new();
+    hasher.update(bytes.as_slice());
+    let digest = hasher.finalize();
+    bytes.extend_from_slice(digest.as_slice())?;
+    Ok(bytes)
+}
+
+/// The fault of the bytes, read as an object with the script within two calls in the region `A`.
+pub fn fault_of(
+    alloc: Global,
+    bytes: &[u8],
+    library: &Library,
+) -> Result<Option<ImageFault>, Fail> {
+    let read = read_object(
+        alloc,
+        bytes,
+        &text(alloc, "A")?,
+        &shape(alloc, 1, &[0])?,
+        library,
+    );
+    fault(read)
+}
+
+fn fault(read: Result<ObjectParts, Refusal<ImageFault>>) -> Result<Option<ImageFault>, Fail> {
+    match read {
+        Ok(_) => Ok(None),
+        Err(Refusal::Fault(fault)) => Ok(Some(fault)),
+        Err(Refusal::NoMemory) => Err("memory")?,
+    }
+}

@@ -1,0 +1,122 @@
+-- From what was read of files to what their shelf holds.
+use Rattle.std.proofs.Common.{◌≡◌, ℕ, zero, suc, List, [], ◌∷◌, take, Option, Some, None, inl, inr, refl, ap, subst}
+use Rattle.std.specs.Prelude.{slice_get}
+use Rattle.std.specs.List.{AllZip}
+use Rattle.lsl_ports.specs.Shelf.{Files, IsHeadOf, head_of}
+use Rattle.lsl_tree.specs.Program.{Program}
+use Rattle.lsl_build.specs.Accepted.{Accepted}
+use Rattle.lsl_build.specs.Faults.{FirstFault}
+use Rattle.lsl_build.specs.declared.faults.BuildFault.{BuildFault}
+use Rattle.lsl_top.specs.Answers.{Answer, Checks, PlaysTexts}
+use Rattle.lsl_top.specs.Held.{AreHeld, Holds}
+use Rattle.lsl_top.specs.Plays.{Play}
+use Rattle.lsl_top.specs.Ports.{IsRead}
+use Rattle.lsl_top.specs.Scripts.{AreAccepted, IsRefusedAt}
+use Rattle.lsl_top.proofs.Heads.{accepted-head, first-head}
+
+-- what is found of the bytes that were read holds of the text
+pub record IsReadOf (bytes text : List ℕ) : Type 0 where
+  pub accepted : (program : Program) → Accepted bytes program → Accepted text program
+  pub first : (fault : BuildFault) → FirstFault bytes fault → FirstFault text fault
+
+read-head : (file bytes : List ℕ) → bytes ≡ head_of 65536 file → IsReadOf bytes file
+read-head file bytes e = record {
+  accepted = λ program a. accepted-head file program (subst (λ (z : List ℕ). Accepted z program) e a);
+  first = λ fault f. first-head file fault (subst (λ (z : List ℕ). FirstFault z fault) e f);
+}
+
+-- the file of that name has a text of which this was read
+abbrev pub HasText : Option Files → List ℕ → List ℕ → Type 0
+HasText held name bytes = (text : List ℕ) × Holds held name text × IsReadOf bytes text
+
+pub text-read : (held : Option Files) (name bytes : List ℕ) → IsRead held name bytes → HasText held name bytes
+text-read None name bytes h = (bytes, tt, record { accepted = λ program a. a; first = λ fault f. f })
+text-read (Some files) name bytes h = go (files name) refl h
+  where
+    go : (file : Option (List ℕ)) → files name ≡ file → IsHeadOf 65536 file bytes → HasText (Some files) name bytes
+    go None e h = absurd h
+    go (Some file) e h = (file, e, read-head file bytes h)
+
+-- the same of several files
+abbrev pub HaveTexts : Option Files → List (List ℕ) → List (List ℕ) → Type 0
+HaveTexts held names read = (texts : List (List ℕ)) × AreHeld held names texts × AllZip IsReadOf read texts
+
+pub texts-read : (held : Option Files) (names read : List (List ℕ)) → AllZip (IsRead held) names read
+    → HaveTexts held names read
+texts-read held [] [] h = ([], tt, tt)
+texts-read held (name ∷ names) (bytes ∷ read) h =
+    let (text, is, of) = text-read held name bytes h.0 in
+    let (texts, are, all) = texts-read held names read h.1 in
+    (text ∷ texts, (is, are), (of, all))
+texts-read held [] (bytes ∷ read) h = absurd h
+texts-read held (name ∷ names) [] h = absurd h
+
+accepted-read : (read texts : List (List ℕ)) (programs : List Program) → AllZip IsReadOf read texts
+    → AreAccepted read programs → AreAccepted texts programs
+accepted-read [] [] [] h a = tt
+accepted-read (bytes ∷ read) (text ∷ texts) (p ∷ programs) h a =
+    (h.0.accepted p a.0, accepted-read read texts programs h.1 a.1)
+accepted-read [] [] (p ∷ programs) h a = absurd a
+accepted-read (bytes ∷ read) (text ∷ texts) [] h a = absurd a
+accepted-read [] (text ∷ texts) programs h a = absurd h
+accepted-read (bytes ∷ read) [] programs h a = absurd h
+
+some-one : (a b : List ℕ) → Some a ≡ Some b → a ≡ b
+some-one a b e = ap value e
+  where
+    value : Option (List ℕ) → List ℕ
+    value (Some x) = x
+    value None = a
+
+-- the text at a place, and those before it
+read-at : (read texts : List (List ℕ)) (place : ℕ) (bytes : List ℕ) → AllZip IsReadOf read texts
+    → slice_get read place ≡ Some bytes → (text : List ℕ) × (slice_get texts place ≡ Some text) × IsReadOf bytes text
+read-at [] [] place bytes h e = absurd (cc)
+read-at (b ∷ read) (t ∷ texts) zero bytes h e =
+    (t, refl, subst (λ (z : List ℕ). IsReadOf z t) (some-one b bytes e) h.0)
+read-at (b ∷ read) (t ∷ texts) (suc place) bytes h e = read-at read texts place bytes h.1 e
+read-at [] (t ∷ texts) place bytes h e = absurd h
+read-at (b ∷ read) [] place bytes h e = absurd h
+
+read-before : (read texts : List (List ℕ)) (place : ℕ) → AllZip IsReadOf read texts
+    → AllZip IsReadOf (take place read) (take place texts)
+read-before read texts zero h = tt
+read-before [] [] (suc place) h = tt
+read-before (b ∷ read) (t ∷ texts) (suc place) h = (h.0, read-before read texts place h.1)
+read-before [] (t ∷ texts) (suc place) h = absurd h
+read-before (b ∷ read) [] (suc place) h = absurd h
+
+refused-read : (read texts : List (List ℕ)) (place : ℕ) (fault : BuildFault) → AllZip IsReadOf read texts
+    → IsRefusedAt read place fault → IsRefusedAt texts place fault
+refused-read read texts place fault h r =
+    let (text, at, of) = read-at read texts place r.text h r.text_is in
+    record {
+      text = text;
+      text_is = at;
+      first = of.first fault r.first;
+      before = (
+        r.before.0,
+        accepted-read (take place read) (take place texts) r.before.0 (read-before read texts place h) r.before.1,
+      );
+    }
+
+pub checks-read : (name bytes text : List ℕ) (answer : Answer) → IsReadOf bytes text → Checks name bytes answer
+    → Checks name text answer
+checks-read name bytes text answer of (inl (program, accepted, e)) = inl (program, of.accepted program accepted, e)
+checks-read name bytes text answer of (inr (fault, first, e)) = inr (fault, of.first fault first, e)
+
+pub plays-read : (play : Play) (read texts : List (List ℕ)) (answer : Answer) → AllZip IsReadOf read texts
+    → PlaysTexts play read answer → PlaysTexts play texts answer
+plays-read play read texts answer h (inl (programs, accepted, e)) =
+    inl (programs, accepted-read read texts programs h accepted, e)
+plays-read play read texts answer h (inr (name, fault, first, e)) =
+    inr (
+      name,
+      fault,
+      record {
+        place = first.place;
+        named = first.named;
+        refused = refused-read read texts first.place fault h first.refused;
+      },
+      e,
+    )

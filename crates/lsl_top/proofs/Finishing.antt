@@ -1,0 +1,180 @@
+-- What is written for an answer, and how the command then ends.
+use Rattle.std.proofs.Common.{◌≡◌, ℕ, ◌≤◌, List, Option, Result, Ok as OkResult, Err, inl, inr, refl, ◌∙◌, arith}
+use Rattle.std.proofs.lemmas.Bool.{cases_lt}
+use Rattle.lsl_ports.specs.Counts.{NoneFell, Rose}
+use Rattle.lsl_ports.specs.Shelf.{Files}
+use Rattle.lsl_ports.specs.Sink.{Grew}
+use Rattle.lsl_ports.specs.declared.reading.ShelfFault.{ShelfFault}
+use Rattle.lsl_ports.specs.declared.reading.ShelfFault.TheVariants.{Failed, NoMemory as OutOfMemory}
+use Rattle.lsl_top.specs.Answers.{Answer}
+use Rattle.lsl_top.specs.Ports.{Finishes, Log, Ports, Serves, Writes, log, ports, status_after, unread_status}
+use Rattle.lsl_top.specs.Promise.{KeepsTo}
+use Rattle.lsl_top.specs.declared.status.Status.{Status}
+use Rattle.lsl_top.specs.declared.status.Status.TheVariants.{Ok, Usage, BadWorld, BadScript, ReadFault, WriteFault, BadImage, NoMemory}
+use Rattle.lsl_top.specs.declared.writing.Trouble.{Trouble}
+use Rattle.lsl_top.specs.declared.writing.Trouble.TheVariants.{WriteFault as WriteTrouble, NoMemory as MemoryTrouble}
+
+-- the statuses that answers have
+abbrev pub IsOwn : Status → Type 0
+IsOwn Ok = Unit {0}
+IsOwn BadWorld = Unit {0}
+IsOwn BadScript = Unit {0}
+IsOwn BadImage = Unit {0}
+IsOwn Usage = ⊥
+IsOwn ReadFault = ⊥
+IsOwn WriteFault = ⊥
+IsOwn NoMemory = ⊥
+
+whole : (IsAnswer : Answer → Type 0) (answer : Answer) (a b : Log) (status : Status) → IsOwn status
+    → answer.status ≡ status → IsAnswer answer → Grew a.sunk b.sunk answer.lines → a.faults ≤ b.faults
+    → Finishes IsAnswer a b status
+whole IsAnswer answer a b Ok own e is grew le = record {
+  keeps = (answer, is, e, grew);
+  counted = le;
+  cause = λ f. absurd (cc);
+  no_read = λ f. cc;
+  no_usage = λ f. cc;
+}
+whole IsAnswer answer a b BadWorld own e is grew le = record {
+  keeps = (answer, is, e, grew);
+  counted = le;
+  cause = λ f. absurd (cc);
+  no_read = λ f. cc;
+  no_usage = λ f. cc;
+}
+whole IsAnswer answer a b BadScript own e is grew le = record {
+  keeps = (answer, is, e, grew);
+  counted = le;
+  cause = λ f. absurd (cc);
+  no_read = λ f. cc;
+  no_usage = λ f. cc;
+}
+whole IsAnswer answer a b BadImage own e is grew le = record {
+  keeps = (answer, is, e, grew);
+  counted = le;
+  cause = λ f. absurd (cc);
+  no_read = λ f. cc;
+  no_usage = λ f. cc;
+}
+whole IsAnswer answer a b Usage own e is grew le = absurd own
+whole IsAnswer answer a b ReadFault own e is grew le = absurd own
+whole IsAnswer answer a b WriteFault own e is grew le = absurd own
+whole IsAnswer answer a b NoMemory own e is grew le = absurd own
+
+-- an answer was written, or a prefix of it
+pub finish-written : {T : Type 0} (IsAnswer : Answer → Type 0) (answer : Answer) (a b : Log) (r : Result T Trouble)
+    → IsOwn answer.status → IsAnswer answer → Writes answer.lines a b r
+    → Finishes IsAnswer a b (status_after r answer.status)
+finish-written IsAnswer answer a b (OkResult t) own is w =
+    whole IsAnswer answer a b answer.status own refl is w.ok w.counted
+finish-written IsAnswer answer a b (Err WriteTrouble) own is w = record {
+  keeps = (answer, is, w.part);
+  counted = w.counted;
+  cause = λ f. w.cause refl;
+  no_read = λ f. cc;
+  no_usage = λ f. cc;
+}
+finish-written IsAnswer answer a b (Err MemoryTrouble) own is w = record {
+  keeps = inr (answer, is, w.part);
+  counted = w.counted;
+  cause = λ f. absurd (cc);
+  no_read = λ f. cc;
+  no_usage = λ f. cc;
+}
+
+-- nothing was written for want of memory
+pub finish-memory : (IsAnswer : Answer → Type 0) (a : Log) → Finishes IsAnswer a a NoMemory
+finish-memory IsAnswer a = record {
+  keeps = inl refl;
+  counted = omega arith;
+  cause = λ f. absurd (cc);
+  no_read = λ f. cc;
+  no_usage = λ f. cc;
+}
+
+-- what keeps to some answers keeps to answers that these are
+keeps-as : (IsOne IsOther : Answer → Type 0) (status : Status) (old new : Option (List ℕ))
+    → ((answer : Answer) → IsOne answer → IsOther answer) → KeepsTo IsOne status old new → KeepsTo IsOther status old new
+keeps-as IsOne IsOther Ok old new f k = (k.0, f k.0 k.1, k.2, k.3)
+keeps-as IsOne IsOther BadWorld old new f k = (k.0, f k.0 k.1, k.2, k.3)
+keeps-as IsOne IsOther BadScript old new f k = (k.0, f k.0 k.1, k.2, k.3)
+keeps-as IsOne IsOther BadImage old new f k = (k.0, f k.0 k.1, k.2, k.3)
+keeps-as IsOne IsOther WriteFault old new f k = (k.0, f k.0 k.1, k.2)
+keeps-as IsOne IsOther NoMemory old new f (inl e) = inl e
+keeps-as IsOne IsOther NoMemory old new f (inr k) = inr (k.0, f k.0 k.1, k.2)
+keeps-as IsOne IsOther Usage old new f k = tt
+keeps-as IsOne IsOther ReadFault old new f k = tt
+
+module _ (IsOne IsAnswer : Answer → Type 0) (IsName : List ℕ → Type 0) (held later : Option Files)
+    (faults counted : List ℕ → ℕ) (same : later ≡ held) (fell : NoneFell faults counted) where
+  -- the files were read, and then an answer was written
+  pub serve-finished : (sunk : Option (List ℕ)) (writes : ℕ) (new : Log) (status : Status)
+      → ((answer : Answer) → IsOne answer → IsAnswer answer) → Finishes IsOne (log sunk writes) new status
+      → Serves IsAnswer IsName (ports held faults sunk writes) (ports later counted new.sunk new.faults) status
+  serve-finished sunk writes new status f h = record {
+    keeps = keeps-as IsOne IsAnswer status sunk new.sunk f h.keeps;
+    nothing = λ e. absurd (h.no_read e);
+    read_fault = λ e. absurd (h.no_read e);
+    write_fault = h.cause;
+    no_usage = h.no_usage;
+    unchanged = same;
+    reads_counted = fell;
+    writes_counted = h.counted;
+  }
+
+module _ (IsAnswer : Answer → Type 0) (IsName : List ℕ → Type 0) (held later : Option Files)
+    (faults counted : List ℕ → ℕ) (same : later ≡ held) (fell : NoneFell faults counted) where
+  -- memory lacked before anything was written
+  pub serve-memory : (sunk : Option (List ℕ)) (writes : ℕ)
+      → Serves IsAnswer IsName (ports held faults sunk writes) (ports later counted sunk writes) NoMemory
+  serve-memory sunk writes = record {
+    keeps = inl refl;
+    nothing = λ e. absurd (cc);
+    read_fault = λ e. absurd (cc);
+    write_fault = λ e. absurd (cc);
+    no_usage = λ e. cc;
+    unchanged = same;
+    reads_counted = fell;
+    writes_counted = omega arith;
+  }
+
+  -- a file wasn't read
+  pub serve-unread : (sunk : Option (List ℕ)) (writes : ℕ) (fault : ShelfFault)
+      → (fault ≡ Failed → (name : List ℕ) × IsName name × Rose (faults name) (counted name))
+      → Serves IsAnswer IsName (ports held faults sunk writes) (ports later counted sunk writes) (unread_status fault)
+  serve-unread sunk writes OutOfMemory rose = serve-memory sunk writes
+  serve-unread sunk writes Failed rose = record {
+    keeps = tt;
+    nothing = λ e. refl;
+    read_fault = λ e. rose refl;
+    write_fault = λ e. absurd (cc);
+    no_usage = λ e. cc;
+    unchanged = same;
+    reads_counted = fell;
+    writes_counted = omega arith;
+  }
+
+rose-later : (a b c : ℕ) → a ≤ b → b ≤ c → Rose b c → Rose a c
+rose-later a b c le more rose = λ lt. elim (cases_lt b 18446744073709551615) [
+  | inl below ↦ let k = rose below in omega arith
+  | inr above ↦ omega arith
+]
+
+-- a file was read before, and nothing was written yet
+pub serve-later : (IsOne IsAnswer : Answer → Type 0) (IsOneName IsName : List ℕ → Type 0) (held later : Option Files)
+    (faults counted : List ℕ → ℕ) (sunk : Option (List ℕ)) (writes : ℕ) (new : Ports) (status : Status)
+    → later ≡ held → NoneFell faults counted → ((answer : Answer) → IsOne answer → IsAnswer answer)
+    → ((name : List ℕ) → IsOneName name → IsName name)
+    → Serves IsOne IsOneName (ports later counted sunk writes) new status
+    → Serves IsAnswer IsName (ports held faults sunk writes) new status
+serve-later IsOne IsAnswer IsOneName IsName held later faults counted sunk writes new status same fell f g h = record {
+  keeps = keeps-as IsOne IsAnswer status sunk new.log.sunk f h.keeps;
+  nothing = h.nothing;
+  read_fault = λ e. let (name, is, rose) = h.read_fault e in
+      (name, g name is, rose-later (faults name) (counted name) (new.read_faults name) (fell name) (h.reads_counted name) rose);
+  write_fault = h.write_fault;
+  no_usage = h.no_usage;
+  unchanged = h.unchanged ∙ same;
+  reads_counted = λ name. let a = fell name in let b = h.reads_counted name in omega arith;
+  writes_counted = h.writes_counted;
+}

@@ -1,0 +1,17 @@
+-- What the files of a shelf are, where it tells.
+use Rattle.std.specs.Prelude.{◌≡◌, ℕ, List, Option, Some, None}
+use Rattle.std.specs.List.{AllZip}
+use Rattle.lsl_ports.specs.Shelf.{Files}
+
+-- the file of that name has these bytes; of a shelf that doesn't tell nothing is known
+abbrev pub Holds : Option Files → List ℕ → List ℕ → Type 0
+Holds None name text = Unit {0}
+Holds (Some files) name text = files name ≡ Some text
+
+-- the files of those names have these bytes, in order
+abbrev pub AreHeld : Option Files → List (List ℕ) → List (List ℕ) → Type 0
+AreHeld held names texts = AllZip (Holds held) names texts
+
+-- the shelf tells what it holds
+abbrev pub IsToldBy : Option Files → Files → Type 0
+IsToldBy held files = held ≡ Some files

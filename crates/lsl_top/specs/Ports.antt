@@ -1,0 +1,82 @@
+-- What the shelf and the sink tell at one moment, and what comes of a call over them: for private functions.
+use Rattle.std.specs.Prelude.{◌≡◌, ◌≢◌, ℕ, ◌≤◌, List, Option, Result, Ok as OkResult, Err, OnOk, IsErrOf}
+use Rattle.lsl_ports.specs.Counts.{NoneFell, Rose}
+use Rattle.lsl_ports.specs.Shelf.{Files, IsHead}
+use Rattle.lsl_ports.specs.declared.reading.ShelfFault.{ShelfFault}
+use Rattle.lsl_ports.specs.declared.reading.ShelfFault.TheVariants.{Failed, NoMemory as OutOfMemory}
+use Rattle.lsl_ports.specs.Sink.{Grew, GrewByPrefix}
+use Rattle.lsl_post.specs.Told.{Told}
+use Rattle.lsl_lines.specs.Journal.{lines_of}
+use Rattle.lsl_top.specs.Answers.{Answer}
+use Rattle.lsl_top.specs.Promise.{KeepsTo}
+use Rattle.lsl_top.specs.declared.status.Status.{Status}
+use Rattle.lsl_top.specs.declared.status.Status.TheVariants as statuses
+use Rattle.lsl_top.specs.declared.writing.Trouble.{Trouble}
+use Rattle.lsl_top.specs.declared.writing.Trouble.TheVariants.{WriteFault, NoMemory}
+
+-- what was read of a script's file: all of it, or one byte more than a script may have
+abbrev pub IsRead : Option Files → List ℕ → List ℕ → Type 0
+IsRead held name bytes = IsHead held name 65536 bytes
+
+-- what the sink tells
+pub record Log : Type 0 where
+  pub sunk : Option (List ℕ)
+  pub faults : ℕ
+
+abbrev pub log : Option (List ℕ) → ℕ → Log
+log sunk faults = record { sunk = sunk; faults = faults }
+
+-- these lines were written, all of them at Ok and else a prefix; that a write failed comes only where the count rose
+pub record Writes {T : Type 0} (lines : List ℕ) (old new : Log) (result : Result T Trouble) : Type 0 where
+  pub ok : OnOk result (Grew old.sunk new.sunk lines)
+  pub part : GrewByPrefix old.sunk new.sunk lines
+  pub counted : old.faults ≤ new.faults
+  pub cause : IsErrOf result WriteFault → Rose old.faults new.faults
+
+-- so were the lines of what was done, and at Ok its value is what there is now
+pub record WritesTold {T X : Type 0} (IsNow : X → Type 0) (told : Told X) (old new : Log) (result : Result T Trouble)
+    : Type 0 where
+  pub value : OnOk result (IsNow told.value)
+  pub writes : Writes (lines_of told.entries) old new result
+
+-- the status of what was written: its own where all of it was
+abbrev pub status_after : {T : Type 0} → Result T Trouble → Status → Status
+status_after (OkResult t) status = status
+status_after (Err WriteFault) status = statuses.WriteFault
+status_after (Err NoMemory) status = statuses.NoMemory
+
+-- an answer was written, as far as the status says
+pub record Finishes (IsAnswer : Answer → Type 0) (old new : Log) (status : Status) : Type 0 where
+  pub keeps : KeepsTo IsAnswer status old.sunk new.sunk
+  pub counted : old.faults ≤ new.faults
+  pub cause : status ≡ statuses.WriteFault → Rose old.faults new.faults
+  pub no_read : status ≢ statuses.ReadFault
+  pub no_usage : status ≢ statuses.Usage
+
+-- what the shelf and the sink tell
+pub record Ports : Type 0 where
+  pub held : Option Files
+  pub read_faults : List ℕ → ℕ
+  pub log : Log
+
+abbrev pub ports : Option Files → (List ℕ → ℕ) → Option (List ℕ) → ℕ → Ports
+ports held read_faults sunk write_faults =
+    record { held = held; read_faults = read_faults; log = log sunk write_faults }
+
+-- the same, after files of these names were read
+pub record Serves (IsAnswer : Answer → Type 0) (IsName : List ℕ → Type 0) (old new : Ports) (status : Status)
+    : Type 0 where
+  pub keeps : KeepsTo IsAnswer status old.log.sunk new.log.sunk
+  pub nothing : status ≡ statuses.ReadFault → new.log.sunk ≡ old.log.sunk
+  pub read_fault : status ≡ statuses.ReadFault
+      → (name : List ℕ) × IsName name × Rose (old.read_faults name) (new.read_faults name)
+  pub write_fault : status ≡ statuses.WriteFault → Rose old.log.faults new.log.faults
+  pub no_usage : status ≢ statuses.Usage
+  pub unchanged : new.held ≡ old.held
+  pub reads_counted : NoneFell old.read_faults new.read_faults
+  pub writes_counted : old.log.faults ≤ new.log.faults
+
+-- the status of a file that wasn't read
+abbrev pub unread_status : ShelfFault → Status
+unread_status Failed = statuses.ReadFault
+unread_status OutOfMemory = statuses.NoMemory

@@ -1,0 +1,75 @@
+//! The files of a command, read.
+ghost use Rattle.std.specs.Prelude.{◌≡◌, ◌<◌, length, slice_get, ℕ, List, Contains, map, ◌++◌, ◌∷◌, [], IfOk, IsErrOf, OnOk};
+ghost use Rattle.std.specs.List.{AllZip};
+ghost use Rattle.std.specs.Str.{encode_utf8_all};
+ghost use Rattle.lsl_ports.specs.Counts.{NoneFell, Rose};
+ghost use Rattle.lsl_top.specs.Ports.{IsRead};
+
+use lsl_ports::{Shelf, ShelfFault, read_all};
+use lsl_text::NoMemory;
+use lsl_value::Text;
+use std::alloc::Global;
+
+/// How many bytes of a script are read, but for one more, which shows that it is too long.
+const MAX_SCRIPT_BYTES: u64 = 65_536;
+
+/// The text of a script, or its first bytes where it is too long.
+pub fn read_script<S: Shelf>(
+    alloc: Global,
+    shelf: &mut S,
+    name: &str,
+) -> Result<Vec<u8>, ShelfFault>
+    ensures ok { IfOk result (λ text. IsRead (S.held shelf.old) name.now text.items) }
+    ensures unchanged { S.held shelf.new ≡ S.held shelf.old }
+    ensures err { IsErrOf result ShelfFault.Failed → Rose (S.faults shelf.old name.now) (S.faults shelf.new name.now) }
+    ensures counted { NoneFell (S.faults shelf.old) (S.faults shelf.new) }
+{
+    read_all(alloc, shelf, name, MAX_SCRIPT_BYTES)
+}
+
+/// The texts of these scripts, in order; each file is read once.
+pub fn read_scripts<S: Shelf>(
+    alloc: Global,
+    shelf: &mut S,
+    names: &[&str],
+) -> Result<Vec<Vec<u8>>, ShelfFault>
+    ensures ok { IfOk result (λ texts. AllZip (IsRead (S.held shelf.old)) (map (λ n. n.now) names.now)
+        (map (λ t. t.items) texts.items)) }
+    ensures unchanged { S.held shelf.new ≡ S.held shelf.old }
+    ensures err { IsErrOf result ShelfFault.Failed → (name : List ℕ) × Contains (map (λ n. n.now) names.now) name
+        × Rose (S.faults shelf.old name) (S.faults shelf.new name) }
+    ensures counted { NoneFell (S.faults shelf.old) (S.faults shelf.new) }
+{
+    let mut texts = Vec::new(alloc);
+    for name in names {
+        let text = read_script(alloc, shelf, name)?;
+        push_text(&mut texts, text)?;
+    }
+    Ok(texts)
+}
+
+fn push_text(texts: &mut Vec<Vec<u8>>, text: Vec<u8>) -> Result<(), NoMemory>
+    ensures { OnOk result (texts.new.items ≡ texts.old.items ++ text ∷ []) }
+{
+    texts.push(text)?;
+    Ok(())
+}
+
+/// The names of these files as they are read. It takes memory for the list.
+pub fn file_names<'a>(alloc: Global, files: &'a [Text]) -> Result<Vec<&'a str>, NoMemory>
+    ensures { IfOk result (λ names. map (λ n. n.now) names.items ≡ map encode_utf8_all files.now) }
+{
+    let mut names = Vec::new(alloc);
+    for file in files {
+        names.push(file.as_str())?;
+    }
+    Ok(names)
+}
+
+/// The name at a place. It takes no memory.
+pub fn name_at<'a>(names: &[&'a str], place: usize) -> &'a str
+    requires { place < length names.now }
+    ensures { slice_get (map (λ n. n.now) names.now) place ≡ Some result.now }
+{
+    names[place]
+}

@@ -1,0 +1,29 @@
+use Rattle.std.proofs.Common.{ℕ, ap, sym, ◌∙◌, subst, arith}
+use Rattle.std.specs.Prelude.{All, map}
+use Rattle.lsl_world.specs.Ranges.{IsObjectOf}
+use Rattle.lsl_world.specs.Seats.{seats_of_objects}
+use Rattle.lsl_world.specs.Starts.{object_of_line}
+use Rattle.lsl_world.proofs.Beginning.{sized, starts}
+use Rattle.lsl_world.proofs.Meanings.{meant}
+use Rattle.lsl_world.proofs.world.World.start.Goals as goal
+
+pub returns-clause-of : goal.returns-clause-of
+returns-clause-of c = λ programs runs.
+    let codes = c.args.units in
+    let file = c.args.file.now in
+    record {
+      runs = runs;
+      seated = c.in_ok-grid.ensures.seated;
+      timely = omega arith;
+      stands = starts codes (meant programs codes runs) file c.in_ok-grid.grid
+          (subst (λ (n : ℕ). All (IsObjectOf n) file.objects) (sym c.requires.units) c.requires.file.objects_fit)
+          (c.in_ok-grid.ensures.objects ∙ ap (map object_of_line) c.as_slice.ensures)
+          (c.in_ok-grid.ensures.seats ∙ ap (seats_of_objects codes 0) c.as_slice.ensures);
+    }
+
+pub returns-clause-size : goal.returns-clause-size
+returns-clause-size c =
+    let codes = c.args.units in
+    sized codes c.args.file.now c.in_ok-grid.grid
+    (c.in_ok-grid.ensures.objects ∙ ap (map object_of_line) c.as_slice.ensures)
+    (c.in_ok-grid.ensures.seats ∙ ap (seats_of_objects codes 0) c.as_slice.ensures)

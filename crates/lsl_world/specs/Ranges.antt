@@ -1,0 +1,29 @@
+-- The files of which a world can be made: their counts and places are in their ranges, and their steps name nothing
+-- that isn't there.
+use Rattle.std.specs.Prelude.{ℕ, ◌<◌, ◌≤◌, List, length, All}
+use Rattle.lsl_lines.specs.World.{IsWorld}
+use Rattle.lsl_lines.specs.declared.file.ObjectLine.{ObjectLine}
+use Rattle.lsl_lines.specs.declared.file.PrimLine.{PrimLine}
+use Rattle.lsl_lines.specs.declared.file.ScriptLine.{ScriptLine}
+use Rattle.lsl_lines.specs.declared.file.WorldFile.{WorldFile}
+use Rattle.lsl_world.specs.Sizes.{IsStepOf, scripts_of, size_of_file}
+
+-- a script's file is one of so many
+abbrev pub HasFile : ℕ → ScriptLine → Type 0
+HasFile files script = script.file < files
+
+-- a root at least, and so many files
+pub record IsObjectOf (files : ℕ) (object : ObjectLine) : Type 0 where
+  pub rooted : 0 < length object.prims
+  pub few : length object.prims ≤ 255
+  pub files_there : All (λ (p : PrimLine). All (HasFile files) p.scripts) object.prims
+
+pub record IsInRange (file : WorldFile) : Type 0 where
+  pub few_objects : length file.objects ≤ 64
+  pub few_scripts : scripts_of file.objects ≤ 256
+  pub objects_fit : All (IsObjectOf (length file.files)) file.objects
+  pub steps_fit : All (IsStepOf (size_of_file file)) file.steps
+
+-- a good file is of this kind
+abbrev pub GoodFilesAreInRange : Type 0
+GoodFilesAreInRange = (text : List ℕ) (file : WorldFile) → IsWorld text file → IsInRange file

@@ -1,0 +1,93 @@
+//! Rounds over all scripts: of timers, and of turns.
+
+ghost use Rattle.std.specs.Prelude.{◌≡◌, ◌<◌, ◌≤◌, ◌-◌, ℕ, List, length, IfOk};
+ghost use Rattle.lsl_post.specs.Journal.{Tells};
+ghost use Rattle.lsl_tree.specs.Program.{Program};
+ghost use Rattle.lsl_region.specs.Posting.{ring_all, ring_at};
+ghost use Rattle.lsl_region.specs.Segments.{turn};
+ghost use Rattle.lsl_region.specs.Worlds.{World as SourceWorld};
+ghost use Rattle.lsl_world.specs.Programs.{rules_of};
+ghost use Rattle.lsl_world.specs.Sizes.{HasNumber};
+ghost use Rattle.lsl_world.specs.Stands.{IsOf};
+ghost use Rattle.lsl_world.specs.Steps.{round, rounds};
+
+use crate::world::World;
+use lsl_post::Entries;
+use lsl_text::NoMemory;
+
+/// How many segments a turn within a round has at most.
+const MOST_IN_TURN: u32 = 8;
+
+impl World {
+    /// Reads all timers.
+    pub(crate) fn read_timers(&mut self, out: &mut Entries) -> Result<(), NoMemory>
+        requires some { (programs : List Program) × (w : SourceWorld) × IsOf programs self.old w }
+        ensures { (programs : List Program) (w : SourceWorld) → IsOf programs self.old w
+            → Tells result (λ v _. IsOf programs self.new v) out.old out.new (ring_all (rules_of programs) w) }
+    {
+        for place in 0..self.grid.scripts() {
+            self.read_timer(place as u32 + 1, out)?;
+        }
+        Ok(())
+    }
+
+    // Reads the timer of the script of this number.
+    fn read_timer(&mut self, script: u32, out: &mut Entries) -> Result<(), NoMemory>
+        requires some { (programs : List Program) × (w : SourceWorld) × IsOf programs self.old w }
+        requires script { HasNumber (length self.old.grid.seats) script }
+        ensures { (programs : List Program) (w : SourceWorld) → IsOf programs self.old w
+            → Tells result (λ v _. IsOf programs self.new v) out.old out.new
+            (ring_at (rules_of programs) (script - 1) w) }
+    {
+        self.grid.read_timer(script, self.clock, &self.units, out)
+    }
+
+    /// Rounds, until one finds no script ready or so many segments have run.
+    pub(crate) fn run(&mut self, most: u32, out: &mut Entries) -> Result<(), NoMemory>
+        requires some { (programs : List Program) × (w : SourceWorld) × IsOf programs self.old w }
+        ensures { (programs : List Program) (w : SourceWorld) → IsOf programs self.old w
+            → Tells result (λ v _. IsOf programs self.new v) out.old out.new (rounds (rules_of programs) most w) }
+    {
+        let mut left = most;
+        for _ in 0..most {
+            let spare = self.round(left, out)?;
+            if spare == left {
+                return Ok(());
+            }
+            left = spare;
+        }
+        Ok(())
+    }
+
+    // A turn for each script, in order, and how many segments are left then.
+    fn round(&mut self, left: u32, out: &mut Entries) -> Result<u32, NoMemory>
+        requires some { (programs : List Program) × (w : SourceWorld) × IsOf programs self.old w }
+        ensures { (programs : List Program) (w : SourceWorld) → IsOf programs self.old w
+            → Tells result (λ x n. IsOf programs self.new x.0 × (n ≡ x.1)) out.old out.new
+            (round (rules_of programs) (w, left)) }
+    {
+        let mut spare = left;
+        for place in 0..self.grid.scripts() {
+            let spent = self.turn(place as u32 + 1, spare.min(MOST_IN_TURN), out)?;
+            spare -= spent;
+        }
+        Ok(spare)
+    }
+
+    /// Segments of the script of this number while it is ready, at most so many, and how many they were.
+    pub(crate) fn turn(
+        &mut self,
+        script: u32,
+        most: u32,
+        out: &mut Entries,
+    ) -> Result<u32, NoMemory>
+        requires some { (programs : List Program) × (w : SourceWorld) × IsOf programs self.old w }
+        requires script { HasNumber (length self.old.grid.seats) script }
+        ensures tells { (programs : List Program) (w : SourceWorld) → IsOf programs self.old w
+            → Tells result (λ x n. IsOf programs self.new x.0 × (n ≡ x.1)) out.old out.new
+            (turn (rules_of programs) most (script - 1) w) }
+        ensures within { IfOk result (λ n. n ≤ most) }
+    {
+        self.grid.turn(script, most, self.clock, &self.units, out)
+    }
+}
