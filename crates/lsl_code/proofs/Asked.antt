@@ -7,7 +7,8 @@ use Rattle.lsl_code.specs.Acts.{Did, Goes, Jumps, Enters, Leaves, Passes, Asks, 
 use Rattle.lsl_code.specs.Forward.{is_back, goes_back, is_tick, frees, Lands, Forward}
 use Rattle.lsl_code.specs.Laws.{hosts}
 use Rattle.lsl_code.proofs.Acts.{is_straight, LeadsTo, is_host, By}
-use Rattle.lsl_code.proofs.Due.{code_of, due_jump, due_test, due_of, due_at, hosts_ask, due_flat, due_go, due_past, due_open, past_test}
+use Rattle.lsl_code.specs.Asking.{code_of, due_jump, due_test, due_of, due_at}
+use Rattle.lsl_code.proofs.Due.{hosts_ask, due_flat, due_go, due_past, due_open, past_test}
 
 -- where a call's act goes on in the same stretch, at most k can still be asked
 abbrev pub Due : List Body → ℕ → ℕ → ℕ → Did → Type 0

@@ -1,44 +1,12 @@
--- How often a call can still ask before its next tick.
+-- How often a call can still ask before its next tick: the laws of it.
 use Rattle.std.proofs.Common.{◌≡◌, ℕ, zero, suc, ◌+◌, ◌<◌, ◌≤◌, List, [], ◌∷◌, Bool, true, false, nat_lt, Option, None, Some, refl, ap, arith, drop, slice_get}
 use Rattle.std.proofs.lemmas.Bool.Decides.{nat_tests}
 use Rattle.lsl_value.specs.declared.names.BuiltinId.{BuiltinId}
 use Rattle.lsl_code.specs.declared.instructions.Instr.{Instr}
 use Rattle.lsl_code.specs.declared.instructions.Instr.TheVariants.{Jump, JumpIf, JumpIfNot, Host, Tick, TestSave, TestBack}
-use Rattle.lsl_code.specs.Bodies.{Body, instruction_at}
-use Rattle.lsl_code.specs.Machine.{MachineCall}
 use Rattle.lsl_code.specs.Forward.{is_back, leads_back, is_tick, begins}
 use Rattle.lsl_code.specs.Laws.{hosts}
-
-abbrev pub code_of : Option Body → List Instr
-code_of None = []
-code_of (Some body) = body.code
-
-abbrev pub due_jump : Bool → ℕ → List Instr → ℕ
-due_jump true place code = hosts code
-due_jump false place code = hosts (drop place code)
-
-abbrev pub due_test : Bool → Bool → ℕ → List Instr → ℕ
-due_test true back place code = 0
-due_test false back place code = due_jump back place code
-
--- how often a call can still ask before its next tick
-abbrev pub due_of : Option Instr → Option Instr → ℕ → List Instr → ℕ
-due_of (Some (Tick point)) next place code = 0
-due_of (Some (Jump t)) next place code = due_jump (nat_lt t (suc place)) place code
-due_of (Some (JumpIf t)) next place code = due_jump (nat_lt t (suc place)) place code
-due_of (Some (JumpIfNot t)) next place code = due_jump (nat_lt t (suc place)) place code
-due_of (Some (TestSave t)) next place code = due_test (is_tick next) (is_back (place + 1) next) place code
-due_of (Some (TestBack t)) next place code = due_test (is_tick next) (is_back (place + 1) next) place code
-due_of _ next place code = hosts (drop place code)
-
-abbrev pub due_at : List Body → ℕ → ℕ → ℕ
-due_at bodies f place =
-    due_of (instruction_at bodies f place) (instruction_at bodies f (place + 1)) place
-    (code_of (slice_get bodies f))
-
-abbrev pub due_in : List Body → List MachineCall → ℕ
-due_in bodies [] = 0
-due_in bodies (c ∷ outer) = due_at bodies c.function c.place + due_in bodies outer
+use Rattle.lsl_code.specs.Asking.{due_jump, due_test, due_of}
 
 pub hosts_cons : (i : Instr) (is : List Instr) → hosts is ≤ hosts (i ∷ is)
 hosts_cons (Host id) is = omega arith

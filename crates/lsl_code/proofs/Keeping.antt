@@ -10,7 +10,7 @@ use Rattle.lsl_running.specs.Charging.{is_within}
 use Rattle.lsl_code.specs.Bodies.{Body}
 use Rattle.lsl_code.specs.Acts.{Did, Goes, Jumps, Enters, Leaves, Passes, Asks, Ends, Fails, Stuck}
 use Rattle.lsl_code.specs.Machine.{MachineCall, Machine, Faulted, Lost, Passing, Waiting, Next, On, Pauses, Halts, used_in, put, checked, left_to, replied, after}
-use Rattle.lsl_code.proofs.Due.{due_at, due_in}
+use Rattle.lsl_code.specs.Asking.{due_at, due_in}
 use Rattle.lsl_code.proofs.Asked.{Due}
 
 -- where a step goes on in the same stretch, the answers are enough for what can be asked

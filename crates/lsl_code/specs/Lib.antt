@@ -1,4 +1,5 @@
 pub mod Acts
+pub mod Asking
 pub mod BackWays
 pub mod Bodies
 pub mod Drafts

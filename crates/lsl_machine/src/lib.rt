@@ -20,7 +20,7 @@ ghost use Rattle.lsl_code.specs.Weaves.{Weaves, most_steps};
 ghost use Rattle.lsl_machine.specs.CallsRestored.{beside};
 ghost use Rattle.lsl_machine.specs.Parking.{HasParked};
 ghost use Rattle.lsl_machine.specs.Memory.{TakesNone};
-ghost use Rattle.lsl_machine.specs.State.{State, IsOf, IsChained, IsCharged, CanRun, Wants, HasEnded, AreArguments, bodies_of, standing_of, kept_with};
+ghost use Rattle.lsl_machine.specs.State.{State, IsOf, IsChained, IsCharged, CanRun, Wants, HasEnded, AreArguments, asks_ahead, bodies_of, standing_of, kept_with};
 
 use lsl_code::{Sack, Woven};
 use lsl_text::NoMemory;
@@ -124,6 +124,9 @@ impl Machine {
         ensures charged { IsCharged self.new }
         // On integers alone it takes no memory, but to enter a function and to ask.
         ensures memory { TakesNone (bodies_of unit.now) self.old → result ≢ Halt.NoMemory }
+        // Where it asks and has passed no tick, fewer host calls are ahead of it.
+        ensures ahead { (call : Call) → result ≡ Halt.Asks call → ticks_passed self.old.standing ≡ 0 →
+            asks_ahead (bodies_of unit.now) self.new < asks_ahead (bodies_of unit.now) self.old }
     {
         let halt = self.running.halt(self.standing, unit);
         self.standing = standing_at(&halt);
@@ -146,6 +149,7 @@ impl Machine {
         ensures chained { (bodies : List Body) (handler : ℕ) → IsChained bodies handler self.old →
             IsChained bodies handler self.new }
         ensures charged { IsCharged self.new }
+        ensures ahead { (bodies : List Body) → asks_ahead bodies self.new ≤ asks_ahead bodies self.old }
     {
         self.standing = self.running.receive(value);
     }

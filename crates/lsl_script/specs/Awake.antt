@@ -1,5 +1,5 @@
 -- A script that is awake: its machine is one of its unit, and runs a handler of its state.
-use Rattle.std.specs.Prelude.{◌≡◌, ◌≢◌, ℕ, ◌+◌, ◌≤◌, true, List, [], ◌∷◌, ◌++◌, length, Option, Some, None, if◌then◌else◌}
+use Rattle.std.specs.Prelude.{◌≡◌, ◌≢◌, ℕ, ◌+◌, ◌≤◌, Bool, true, false, List, [], ◌∷◌, ◌++◌, length, Option, Some, None, if◌then◌else◌}
 use Rattle.lsl_table.specs.Calls.{row_of}
 use Rattle.lsl_running.specs.declared.ends.Fault.TheVariants.{TooManyListens}
 use Rattle.lsl_running.specs.declared.ends.Outcome.{Outcome}
@@ -70,6 +70,11 @@ pub record IsRunning (bodies : List Body) (handler : ℕ) (s : State) : Type 0 w
   pub given : List Reply
   pub on_way : IsOnWayAs s.standing bodies run ticks given s
 
+-- a script that waits for an answer has gone on since its handler was begun
+abbrev pub HasBegun : Standing → Bool → Type 0
+HasBegun (standing.Asking id) fresh = fresh ≡ false
+HasBegun s fresh = Unit {0}
+
 pub record IsAwake (unit : Code) (live : Live) : Type 0 where
   pub states : FitsStates unit.states live.parts.state live.parts.leaving live.parts.queue
   pub idle : live.parts.rest ≡ Idle
@@ -77,6 +82,7 @@ pub record IsAwake (unit : Code) (live : Live) : Type 0 where
   pub machine : IsOf unit live.machine
   pub silent : live.machine.machine.answers ≡ []
   pub running : IsRunning (bodies_of unit) live.handler live.machine
+  pub begun : HasBegun live.machine.standing live.fresh
 
 -- the handler ended so: it left globals of their kinds, and a state to which it goes is there
 pub record HasLeft (unit : Code) (way : Outcome) (kept : Kept) : Type 0 where

@@ -1,11 +1,13 @@
 //! A script that is awake: its machine runs the handler of the event in hand.
 
-ghost use Rattle.std.specs.Prelude.{◌≡◌, ℕ, List, nat_le, true, false, IfSome, option_copied};
+ghost use Rattle.std.specs.Prelude.{◌≡◌, ◌<◌, ◌≤◌, ℕ, List, nat_le, true, false, IfSome, option_copied};
 ghost use Rattle.std.specs.Borrow.{Lends, sem};
 ghost use Rattle.lsl_value.specs.declared.names.BuiltinId.{BuiltinId};
 ghost use Rattle.lsl_running.specs.declared.host.Reply.TheVariants as reply;
+ghost use Rattle.lsl_code.specs.Bodies.{Body};
 ghost use Rattle.lsl_code.specs.declared.woven_units.Woven.{Woven as Code};
-ghost use Rattle.lsl_machine.specs.State.{CanRun, Wants};
+ghost use Rattle.lsl_machine.specs.Futures.{ticks_passed};
+ghost use Rattle.lsl_machine.specs.State.{CanRun, Wants, asks_ahead, bodies_of};
 ghost use Rattle.lsl_post.specs.declared.timer.Timer.{Timer as Ticking};
 ghost use Rattle.lsl_post.specs.Listens.{Standing};
 ghost use Rattle.lsl_post.specs.Mailbox.{posted_to, with_posted};
@@ -87,6 +89,10 @@ impl Live {
         ensures beside { IsBeside self.old self.new }
         ensures source { (codes : List Code) (s : Source) (f : Flight) → Lives codes unit.now s f self.old →
             Turns codes unit.now s f result self.new }
+        // Where it asks and has passed no tick, fewer host calls are ahead of it.
+        ensures ahead { self.old.fresh ≡ false → ticks_passed self.old.machine.standing ≡ 0 → (call : Call) →
+            result ≡ Turn.Asks call →
+            asks_ahead (bodies_of unit.now) self.new.machine < asks_ahead (bodies_of unit.now) self.old.machine }
     {
         if self.fresh {
             self.go_first(unit)
@@ -123,6 +129,8 @@ impl Live {
         ensures beside { IsBeside self.old self.new }
         ensures source { (codes : List Code) (s : Source) (f : Flight) → Lives codes unit.now s f self.old →
             Turns codes unit.now s f result self.new }
+        ensures ahead { ticks_passed self.old.machine.standing ≡ 0 → (call : Call) → result ≡ Turn.Asks call →
+            asks_ahead (bodies_of unit.now) self.new.machine < asks_ahead (bodies_of unit.now) self.old.machine }
     {
         let halt = self.machine.run(unit);
         self.halted(halt)
@@ -154,6 +162,10 @@ impl Live {
         ensures beside { IsBeside self.old self.new }
         ensures source { (codes : List Code) (unit : Code) (s : Source) (f : Flight) (id : BuiltinId) →
             Waits codes unit s f id self.old → Lives codes unit s (given (reply.Value value) f) self.new }
+        ensures begun { (unit : Code) → IsAwake unit self.old → self.new.fresh ≡ false }
+        ensures behind { ticks_passed self.new.machine.standing ≡ 0 }
+        ensures ahead { (bodies : List Body) →
+            asks_ahead bodies self.new.machine ≤ asks_ahead bodies self.old.machine }
     {
         self.machine.answer(value);
     }
