@@ -1,5 +1,6 @@
 pub mod ActKinds
 pub mod Acts
+pub mod Ahead
 pub mod Asked
 pub mod Asking
 pub mod AtPoints
