@@ -1,3 +1,4 @@
+pub mod Ahead
 pub mod Arguments
 pub mod Charges
 pub mod Doing

@@ -1,14 +1,15 @@
-use Rattle.std.proofs.Common.{◌≡◌, sym, ap, subst, [], ◌∷◌}
+use Rattle.std.proofs.Common.{◌≡◌, ◌≤◌, sym, ap, subst, [], ◌∷◌}
 use Rattle.lsl_code.specs.Wholes.{told}
 use Rattle.lsl_machine.specs.Laid.{machine_of}
 use Rattle.lsl_running.specs.declared.host.Reply.TheVariants as reply
-use Rattle.lsl_machine.specs.State.{State, HasReserved, IsChained, IsChainedAt, Wants, IsIn, bodies_of}
+use Rattle.lsl_machine.specs.State.{State, HasReserved, IsChained, IsChainedAt, Wants, IsIn, asks_ahead, asks_ahead_at, bodies_of}
 use Rattle.lsl_machine.specs.Rooms.{IsReserved}
 use Rattle.std.specs.Prelude.{vec_capacity}
 use Rattle.lsl_machine.proofs.Reserving.{answered_reserved}
 use Rattle.lsl_machine.specs.Futures.{halt_from}
 use Rattle.lsl_machine.specs.Laid.{IsLaid}
 use Rattle.lsl_machine.specs.declared.standing.Standing.TheVariants as standing
+use Rattle.lsl_machine.proofs.Ahead.{answered_ahead}
 use Rattle.lsl_machine.proofs.Answering.{runs_answered, of_answered, has_asked, ready_runs, ready_passes_none}
 use Rattle.lsl_code.specs.Standing.{IsChain}
 use Rattle.lsl_machine.proofs.Chained.{answered_chained, laid_charge}
@@ -61,6 +62,19 @@ returns-clause-chained c bodies handler old =
 pub returns-clause-charged : goal.returns-clause-charged
 returns-clause-charged c =
     laid_charge c.receive-self-inside.new.self c.receive-self-inside.result c.receive-self-inside.ensures.laid
+
+pub returns-clause-ahead : goal.returns-clause-ahead
+returns-clause-ahead c bodies =
+    let wants : Wants c.self.inside.standing c.args.value =
+    subst (λ (s : State). Wants s.standing c.args.value) (sym c.self.view_is) c.requires in
+    let x = has_asked c.self.inside.standing c.args.value wants in
+    let old = machine_of c.self.inside.running in
+    let new = machine_of c.receive-self-inside.new.self in
+    let s = c.receive-self-inside.result in
+    subst (λ (o : State). asks_ahead_at bodies s new ≤ asks_ahead bodies o) c.self.view_is
+    (subst (λ z. asks_ahead_at bodies s new ≤ asks_ahead_at bodies z old) (sym x.1)
+    (answered_ahead bodies c.args.value old new s c.receive-self-inside.ensures.ready
+    (c.receive-self-inside.ensures.went [])))
 
 pub returns-clause-of : goal.returns-clause-of
 returns-clause-of c unit old =

@@ -1,9 +1,9 @@
-use Rattle.std.proofs.Common.{sym, ap, subst}
+use Rattle.std.proofs.Common.{◌≡◌, ◌<◌, sym, ap, subst}
 use Rattle.lsl_machine.specs.Laid.{machine_of, IsLaid}
-use Rattle.lsl_machine.specs.State.{State, HasReserved, IsChained, IsChainedAt, IsIn, CanRun, bodies_of}
+use Rattle.lsl_machine.specs.State.{State, HasReserved, IsChained, IsChainedAt, IsIn, CanRun, asks_ahead, asks_ahead_at, bodies_of}
 use Rattle.lsl_machine.specs.Memory.{TakesNone}
 use Rattle.std.specs.Prelude.{vec_capacity}
-use Rattle.lsl_machine.specs.Futures.{RunsOn, StandsCut}
+use Rattle.lsl_machine.specs.Futures.{RunsOn, StandsCut, ticks_passed}
 use Rattle.lsl_code.specs.Wholes.{told}
 use Rattle.lsl_machine.proofs.Halting.{goes_on}
 use Rattle.lsl_machine.specs.Laid.{state_of}
@@ -63,3 +63,15 @@ returns-clause-charged c =
 pub returns-clause-memory : goal.returns-clause-memory
 returns-clause-memory c free =
     c.halt-halt.ensures.memory (subst (TakesNone (bodies_of c.args.unit.now)) (sym c.self.view_is) free)
+
+pub returns-clause-ahead : goal.returns-clause-ahead
+returns-clause-ahead c call asks none =
+    let bodies = bodies_of c.args.unit.now in
+    let new = c.halt-halt.new.self in
+    let before : ticks_passed c.self.inside.standing ≡ 0 =
+    subst (λ (s : State). ticks_passed s.standing ≡ 0) (sym c.self.view_is) none in
+    subst (λ (s : State). asks_ahead_at bodies c.standing_at-self-inside.result (machine_of new) < asks_ahead bodies s)
+    c.self.view_is
+    (subst (λ z. asks_ahead_at bodies z (machine_of new) < asks_ahead bodies
+    (state_of c.self.inside.running c.self.inside.standing)) (sym c.standing_at-self-inside.ensures)
+    (c.halt-halt.ensures.ahead call asks before))
