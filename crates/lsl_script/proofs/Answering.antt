@@ -1,5 +1,5 @@
 -- An awake script is given its answer.
-use Rattle.std.proofs.Common.{◌≡◌, ℕ, ◌+◌, List, [], ◌∷◌, ◌++◌, Option, sym, ap, ◌∙◌, subst, append_assoc, arith}
+use Rattle.std.proofs.Common.{◌≡◌, ℕ, ◌+◌, List, [], ◌∷◌, ◌++◌, Bool, false, Option, sym, ap, ◌∙◌, subst, append_assoc, arith}
 use Rattle.lsl_value.specs.declared.names.BuiltinId.{BuiltinId}
 use Rattle.lsl_value.specs.declared.tagged.Value.{Value}
 use Rattle.lsl_running.specs.declared.host.Reply.{Reply}
@@ -12,11 +12,12 @@ use Rattle.lsl_machine.specs.declared.standing.Standing.TheVariants as standing
 use Rattle.lsl_machine.specs.Futures.{halt_from, ticks_passed}
 use Rattle.lsl_machine.specs.State.{CanRun, IsOf, State, Wants, bodies_of}
 use Rattle.lsl_script.specs.declared.live.Live.{Live}
-use Rattle.lsl_script.specs.Awake.{AnswersAs, IsAwake, IsOnWayAs, Run}
+use Rattle.lsl_script.specs.Awake.{AnswersAs, HasBegun, IsAwake, IsOnWayAs, Run}
 use Rattle.lsl_script.specs.Handlers.{given}
 use Rattle.lsl_script.specs.Lawful.{OneGiven}
 use Rattle.lsl_script.specs.Lives.{IsFresh, Lives, Waits, flight_run, ticks_due}
 use Rattle.lsl_script.specs.Scripts.{Flight, Script}
+use Rattle.lsl_script.proofs.Running.{begun_runs_so}
 use Rattle.lsl_script.proofs.Staying.{runs_answered}
 
 -- the machine with its answer
@@ -51,7 +52,14 @@ answered_awake unit live value new wants a awake = record {
       (wants_answers live.machine.standing value wants (bodies_of unit) awake.running.run awake.running.ticks
       awake.running.given live.machine awake.running.on_way)
       (a.runs (bodies_of unit)) a.ready;
+  begun = begun_runs_so new.standing live.fresh a.ready;
 }
+
+-- a script that waited isn't fresh
+pub asked_begun : (z : Standing) (value : Option Value) (fresh : Bool) → Wants z value → HasBegun z fresh
+    → fresh ≡ false
+asked_begun (standing.Asking id) value fresh w h = h
+asked_begun z value fresh w h = absurd w
 
 pub answered_lives : (codes : List Code) (unit : Code) (s : Script) (f : Flight) (id : BuiltinId) (live : Live)
     (value : Option Value) (new : State) → Wants live.machine.standing value → IsAnswered live.machine value new

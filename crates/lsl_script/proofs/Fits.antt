@@ -71,6 +71,7 @@ posted_awake unit live e other a = record {
   machine = a.machine;
   silent = a.silent;
   running = a.running;
+  begun = a.begun;
 }
 
 -- a state with nothing that waits but its entry

@@ -100,6 +100,7 @@ stays_awake unit live a = (
     machine = a.machine;
     silent = a.silent;
     running = a.running;
+    begun = a.begun;
   },
   λ timer. record {
     states = a.states;
@@ -108,6 +109,7 @@ stays_awake unit live a = (
     machine = a.machine;
     silent = a.silent;
     running = a.running;
+    begun = a.begun;
   },
 )
 

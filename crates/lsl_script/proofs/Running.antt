@@ -1,14 +1,19 @@
 -- A run of an awake script's machine, as a whole.
-use Rattle.std.proofs.Common.{◌≡◌, ◌≢◌, ◌+◌, List, [], ◌++◌, false, Some, refl, sym, ap, ◌∙◌, subst}
+use Rattle.std.proofs.Common.{◌≡◌, ◌≢◌, ◌<◌, ◌+◌, ℕ, List, [], ◌++◌, Bool, false, Some, refl, sym, ap, ◌∙◌, subst}
 use Rattle.lsl_running.specs.declared.ends.Fault.TheVariants.{TooManyListens}
 use Rattle.lsl_running.specs.declared.ends.Outcome.{Outcome}
+use Rattle.lsl_running.specs.declared.host.Call.{Call}
+use Rattle.lsl_code.specs.Bodies.{Body}
 use Rattle.lsl_code.specs.declared.woven_units.Woven.{Woven as Code}
 use Rattle.lsl_machine.specs.declared.standing.Halt.{Halt as Answer}
 use Rattle.lsl_machine.specs.declared.standing.Halt.TheVariants as halt
+use Rattle.lsl_machine.specs.declared.standing.Standing.{Standing}
+use Rattle.lsl_machine.specs.declared.standing.Standing.TheVariants as standing
 use Rattle.lsl_machine.specs.Futures.{HaltsBehind, IsAsked, RunsOn, StandsCut, ticks_passed}
-use Rattle.lsl_machine.specs.State.{CanRun, IsOf, State, bodies_of, standing_of}
+use Rattle.lsl_machine.specs.State.{CanRun, IsOf, State, asks_ahead, bodies_of, standing_of}
 use Rattle.lsl_script.specs.declared.live.Live.{Live}
-use Rattle.lsl_script.specs.Awake.{IsAwake, IsBeside, IsRunning, StandsAfter}
+use Rattle.lsl_script.specs.declared.live.Turn.TheVariants as turn
+use Rattle.lsl_script.specs.Awake.{HasBegun, IsAwake, IsBeside, IsRunning, StandsAfter}
 use Rattle.lsl_script.specs.Fitting.{FitsStates, IsInHand}
 use Rattle.lsl_script.specs.Lawful.{AreGiven, flight_whole}
 use Rattle.lsl_script.specs.Codes.{rules_of}
@@ -89,9 +94,19 @@ pub halt_run : (unit : Code) (old : State) (h : Answer) (mid : Live) → IsRun u
     → IsRun unit old h (with_halt h mid).machine
 halt_run unit old h mid r = subst (IsRun unit old h) (sym (halt_machine h mid)) r
 
+-- a script whose handler isn't just begun
+pub begun_so : (z : Standing) (fresh : Bool) → fresh ≡ false → HasBegun z fresh
+begun_so (standing.Asking id) fresh e = e
+begun_so z fresh e = tt
+
+-- and one that can run, and so waits for no answer
+pub begun_runs_so : (z : Standing) (fresh : Bool) → CanRun z → HasBegun z fresh
+begun_runs_so (standing.Asking id) fresh can = absurd can
+begun_runs_so z fresh can = tt
+
 awake_by : (unit : Code) (old new : Live) (h : Answer) → IsAwake unit old → CanRun old.machine.standing → Stays old new
-    → IsRun unit old.machine h new.machine → IsAwake unit new
-awake_by unit old new h a can s r =
+    → new.fresh ≡ false → IsRun unit old.machine h new.machine → IsAwake unit new
+awake_by unit old new h a can s fresh r =
     let hand : IsInHand unit.states new.parts.state new.parts.leaving new.event new.handler =
     subst (λ (p : ScriptParts). IsInHand unit.states p.state p.leaving new.event new.handler) (sym s.parts)
     (subst (λ (e : Event). IsInHand unit.states old.parts.state old.parts.leaving e new.handler) (sym s.event)
@@ -104,18 +119,21 @@ awake_by unit old new h a can s r =
       silent = r.silent;
       running = subst (λ h. IsRunning (bodies_of unit) h new.machine) (sym s.handler)
           (runs_still unit old.handler old.machine new.machine a.running can h r.runs r.stands);
+      begun = begun_so new.machine.standing new.fresh fresh;
     }
 
 pub awake_on : (unit : Code) (old mid new : Live) (h : Answer) → IsAwake unit old → CanRun old.machine.standing
-    → Stays old mid → IsRun unit old.machine h mid.machine → new ≡ with_halt h mid → IsAwake unit new
-awake_on unit old mid new h a can s r e =
+    → Stays old mid → mid.fresh ≡ false → IsRun unit old.machine h mid.machine → new ≡ with_halt h mid
+    → IsAwake unit new
+awake_on unit old mid new h a can s fresh r e =
     subst (IsAwake unit) (sym e)
-    (awake_by unit old (with_halt h mid) h a can (halt_stays h old mid s) (halt_run unit old.machine h mid r))
+    (awake_by unit old (with_halt h mid) h a can (halt_stays h old mid s) (halt_fresh h mid ∙ fresh)
+    (halt_run unit old.machine h mid r))
 
 -- a machine that halted without more of the script
 pub awake_at : (unit : Code) (old mid : Live) (h : Answer) → IsAwake unit old → CanRun old.machine.standing
-    → Stays old mid → IsRun unit old.machine h mid.machine → IsAwake unit mid
-awake_at unit old mid h a can s r = awake_by unit old mid h a can s r
+    → Stays old mid → mid.fresh ≡ false → IsRun unit old.machine h mid.machine → IsAwake unit mid
+awake_at unit old mid h a can s fresh r = awake_by unit old mid h a can s fresh r
 
 pub stands_on : (unit : Code) (old mid new : Live) (h : Answer) → IsAwake unit old → CanRun old.machine.standing
     → IsRun unit old.machine h mid.machine → new ≡ with_halt h mid → StandsAfter unit (turn_of h) new
@@ -153,3 +171,18 @@ halt_beside halt.AtTick live = record { parts = refl; event = refl; handler = re
 halt_beside (halt.Ended way) live = record { parts = refl; event = refl; handler = refl; began = refl }
 halt_beside (halt.Faulted fault) live = record { parts = refl; event = refl; handler = refl; began = refl }
 halt_beside halt.NoMemory live = record { parts = refl; event = refl; handler = refl; began = refl }
+
+turn_asks : (h : Answer) (call : Call) → turn_of h ≡ turn.Asks call → h ≡ halt.Asks call
+turn_asks (halt.Asks other) call e = let same : other ≡ call = cc in ap halt.Asks same
+turn_asks halt.AtTick call e = absurd cc
+turn_asks (halt.Ended way) call e = absurd cc
+turn_asks (halt.Faulted fault) call e = absurd cc
+turn_asks halt.NoMemory call e = absurd cc
+
+-- where the machine's run asks with fewer than k ahead, so does the script
+pub fewer_on : (bodies : List Body) (k : ℕ) (mid new : Live) (h : Answer) (call : Call) → new ≡ with_halt h mid
+    → turn_of h ≡ turn.Asks call → (h ≡ halt.Asks call → asks_ahead bodies mid.machine < k)
+    → asks_ahead bodies new.machine < k
+fewer_on bodies k mid new h call e asks fewer =
+    subst (λ (live : Live). asks_ahead bodies live.machine < k) (sym e)
+    (subst (λ (s : State). asks_ahead bodies s < k) (sym (halt_machine h mid)) (fewer (turn_asks h call asks)))

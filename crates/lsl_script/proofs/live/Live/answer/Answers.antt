@@ -1,4 +1,4 @@
-use Rattle.lsl_script.proofs.Answering.{IsAnswered, answered_awake, answered_lives}
+use Rattle.lsl_script.proofs.Answering.{IsAnswered, answered_awake, answered_lives, asked_begun}
 use Rattle.lsl_script.proofs.live.Live.answer.Goals as goal
 
 answered : (c : goal.After-answer) → IsAnswered c.args.self.now.machine c.args.value c.answer.new.self
@@ -17,3 +17,7 @@ returns-clause-awake c unit awake =
 pub returns-clause-source : goal.returns-clause-source
 returns-clause-source c codes unit s f id waits =
     answered_lives codes unit s f id c.args.self.now c.args.value c.answer.new.self c.requires (answered c) waits
+
+pub returns-clause-begun : goal.returns-clause-begun
+returns-clause-begun c unit awake =
+    asked_begun c.args.self.now.machine.standing c.args.value c.args.self.now.fresh c.requires awake.begun

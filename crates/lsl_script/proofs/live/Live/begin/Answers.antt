@@ -1,4 +1,4 @@
-use Rattle.std.proofs.Common.{◌≡◌, List, [], refl, sym, ◌∙◌, ap, subst}
+use Rattle.std.proofs.Common.{◌≡◌, List, [], true, refl, sym, ◌∙◌, ap, subst}
 use Rattle.lsl_value.specs.declared.tagged.Value.{Value}
 use Rattle.lsl_code.specs.Kinds.{kinds_of}
 use Rattle.lsl_code.specs.Wholes.{run_of}
@@ -8,6 +8,7 @@ use Rattle.lsl_post.specs.declared.parts.ScriptParts.{ScriptParts}
 use Rattle.lsl_script.specs.Awake.{GoesOnAs}
 use Rattle.lsl_script.specs.Fitting.{FitsStates}
 use Rattle.lsl_script.proofs.Origins.{begun_goes, begun_runs}
+use Rattle.lsl_script.proofs.Running.{begun_runs_so}
 use Rattle.lsl_script.proofs.Units.{arguments_fit}
 use Rattle.lsl_script.proofs.Wakes.{begun_wakes, behind_fits, taken_handled}
 use Rattle.lsl_script.proofs.live.Live.begin.Goals as goal
@@ -40,6 +41,7 @@ returns-clause-awake c =
       running = begun_runs unit c.handler_of-handler.result (kept_with c.args.kept.globals c.args.kept.limit)
           c.in_ok-copy.field-0 c.in_ok-machine.machine c.requires.fits.limit c.in_ok-machine.ensures.ready
           c.in_ok-machine.ensures.runs;
+      begun = begun_runs_so c.in_ok-machine.machine.standing true c.in_ok-machine.ensures.ready;
     }
 
 pub returns-clause-source : goal.returns-clause-source

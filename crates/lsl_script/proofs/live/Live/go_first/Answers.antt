@@ -13,7 +13,7 @@ stays old machine = record { parts = refl; event = refl; handler = refl }
 pub go_on-requires-clause-awake : goal.go_on-requires-clause-awake
 go_on-requires-clause-awake c =
     awake_at c.args.unit.now c.args.self.now (record c.args.self.now { fresh = false; machine = c.run.new.self })
-    c.run.result c.requires.awake c.requires.able (stays c.args.self.now c.run.new.self) (record {
+    c.run.result c.requires.awake c.requires.able (stays c.args.self.now c.run.new.self) refl (record {
       runs = c.run.ensures.runs;
       stands = c.run.ensures.standing;
       cut = c.run.ensures.stands;
@@ -60,7 +60,7 @@ returns-in_default c =
     let mid : Live = record old { fresh = false; machine = c.run.new.self } in
     let st = stays old c.run.new.self in
     record {
-      awake = awake_on unit old mid c.halted.new.self c.run.result c.requires.awake c.requires.able st (ran c)
+      awake = awake_on unit old mid c.halted.new.self c.run.result c.requires.awake c.requires.able st refl (ran c)
           c.halted.ensures.live;
       stands = subst (λ t. StandsAfter unit t c.halted.new.self) (sym c.halted.ensures.turn)
           (stands_on unit old mid c.halted.new.self c.run.result c.requires.awake c.requires.able (ran c)

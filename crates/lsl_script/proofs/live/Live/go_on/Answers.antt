@@ -1,7 +1,8 @@
-use Rattle.std.proofs.Common.{refl, sym, subst}
+use Rattle.std.proofs.Common.{refl, sym, ◌∙◌, subst}
+use Rattle.lsl_machine.specs.State.{asks_ahead, bodies_of}
 use Rattle.lsl_script.specs.Awake.{StandsAfter}
 use Rattle.lsl_script.specs.Lives.{Turns}
-use Rattle.lsl_script.proofs.Running.{IsRun, Stays, awake_on, source_on, stands_on}
+use Rattle.lsl_script.proofs.Running.{IsRun, Stays, awake_on, fewer_on, source_on, stands_on}
 use Rattle.lsl_script.proofs.live.Live.go_on.Goals as goal
 
 ran : (c : goal.After-halted) → IsRun c.args.unit.now c.args.self.now.machine c.run-halt.result c.run-halt.new.self
@@ -21,7 +22,8 @@ stays c = record { parts = refl; event = refl; handler = refl }
 pub returns-clause-awake : goal.returns-clause-awake
 returns-clause-awake c =
     awake_on c.args.unit.now c.args.self.now (record c.args.self.now { machine = c.run-halt.new.self })
-    c.halted.new.self c.run-halt.result c.requires.awake c.requires.able (stays c) (ran c) c.halted.ensures.live
+    c.halted.new.self c.run-halt.result c.requires.awake c.requires.able (stays c) c.requires.fresh (ran c)
+    c.halted.ensures.live
 
 pub returns-clause-stands : goal.returns-clause-stands
 returns-clause-stands c =
@@ -34,3 +36,11 @@ returns-clause-source c codes s f lives =
     subst (λ t. Turns codes c.args.unit.now s f t c.halted.new.self) (sym c.halted.ensures.turn)
     (source_on codes c.args.unit.now s f c.args.self.now (record c.args.self.now { machine = c.run-halt.new.self })
     c.halted.new.self c.run-halt.result c.requires.fresh c.requires.fresh (stays c) (ran c) lives c.halted.ensures.live)
+
+pub returns-clause-ahead : goal.returns-clause-ahead
+returns-clause-ahead c none call asks =
+    let bodies = bodies_of c.args.unit.now in
+    fewer_on bodies (asks_ahead bodies c.args.self.now.machine)
+    (record c.args.self.now { machine = c.run-halt.new.self })
+    c.halted.new.self c.run-halt.result call c.halted.ensures.live (sym c.halted.ensures.turn ∙ asks)
+    (λ e. c.run-halt.ensures.ahead call e none)

@@ -1,9 +1,10 @@
-use Rattle.std.proofs.Common.{refl, sym, subst, List}
+use Rattle.std.proofs.Common.{false, refl, sym, subst, List}
 use Rattle.lsl_code.specs.declared.frames.Frame.{Frame}
 use Rattle.lsl_code.specs.Standing.{HasFrames}
 use Rattle.lsl_machine.specs.State.{IsChainedAt, bodies_of}
 use Rattle.lsl_script.specs.Awake.{IsLeft}
 use Rattle.lsl_script.proofs.Origins.{parked_left, restored_runs}
+use Rattle.lsl_script.proofs.Running.{begun_so}
 use Rattle.lsl_script.proofs.TakesUp.{taken_up, taken_wakes}
 use Rattle.lsl_script.proofs.live.Live.take_up.Goals as goal
 
@@ -22,6 +23,7 @@ returns-clause-awake c =
           c.in_ok-machine.ensures.stands c.in_ok-machine.ensures.chained)
           (subst IsLeft (sym c.in_ok-machine.ensures.kept)
           (parked_left c.args.kept.globals c.args.kept.limit c.args.sack c.requires.fits.limit rest.2.1));
+      begun = begun_so c.in_ok-machine.machine.standing false refl;
     }
 
 pub returns-clause-source : goal.returns-clause-source
