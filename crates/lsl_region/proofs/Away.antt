@@ -16,7 +16,7 @@ use Rattle.lsl_script.specs.Scripts.{Flight, Script}
 use Rattle.lsl_region.specs.declared.audience.Audience.{Audience}
 use Rattle.lsl_region.specs.declared.grid.Seat.{Seat}
 use Rattle.lsl_region.specs.declared.objects.Linkset.{Linkset}
-use Rattle.lsl_region.specs.Grids.{Contents, Lent, Stands, is_out, key_in, seat_of}
+use Rattle.lsl_region.specs.Grids.{Contents, IsScript, Lent, Stands, is_out, key_in, seat_of}
 use Rattle.lsl_region.specs.Posting.{admits, is_admitted}
 use Rattle.lsl_region.specs.Worlds.{Member, World, at_member, changed_at, with_member}
 use Rattle.lsl_region.proofs.Placed.{KeepsScript, at-member, slice_get-set_other, slice_get-set_same, stands-with}
@@ -24,7 +24,7 @@ use Rattle.lsl_region.proofs.Seats.{set-same}
 use Rattle.std.proofs.lemmas.Bool.Decides.{nat_tests}
 use Rattle.std.proofs.lemmas.Option.{slice_get_within}
 
-self-out : (n : ℕ) → is_out (Some n) n ≡ true
+pub self-out : (n : ℕ) → is_out (Some n) n ≡ true
 self-out n = search rules
 
 pub other-home : (place to : ℕ) → place ≢ to → is_out (Some place) to ≡ false
@@ -45,15 +45,24 @@ admits-away codes clock place grid w a m listens st e =
     ap (λ (os : List Linkset). is_admitted a m.object m.prim (key_in os (seat_of codes true m)) listens) st.objects
     ∙ ap (is_admitted a m.object m.prim (key_in w.objects (seat_of codes true m))) e
 
+-- a script that is out needs no lawful flight
+pub keeps-out : (codes : List Code) (away : Bool) (s t : Script) → IsScript codes away s → t.code ≡ s.code
+    → KeepsScript codes true s t
+keeps-out codes away s t l k = record {
+  script = record { known = subst (λ (n : ℕ). n < length codes) (sym k) l.known; lawful = tt };
+  code = k;
+}
+
 -- the script that is out may be another one of its code
 pub stands-away : (codes : List Code) (clock place : ℕ) (grid : Contents) (w : World) (m : Member) (t : Script)
-    → Stands codes (Some place) clock grid w → slice_get w.members place ≡ Some m → KeepsScript codes m.script t
+    → Stands codes (Some place) clock grid w → slice_get w.members place ≡ Some m → KeepsScript codes true m.script t
     → Stands codes (Some place) clock grid (with_member w place (record m { script = t }))
 stands-away codes clock place grid w m t st at k =
     let seat : seat_of codes (is_out (Some place) place) (record m { script = t }) ≡ seat_of codes true m
     = ap (λ (b : Bool). seat_of codes b (record m { script = t })) (self-out place)
     ∙ ap (λ (c : ℕ). record (seat_of codes true m) { unit = c }) k.code in
-    stands-with codes (Some place) clock grid w st (Some place) grid place m (record m { script = t }) at k.script refl
+    stands-with codes (Some place) clock grid w st (Some place) grid place m (record m { script = t }) at
+    (subst (λ (b : Bool). IsScript codes b t) (sym (self-out place)) k.script) refl
     (sym (ap (slice_set grid.seats place) seat
     ∙ set-same grid.seats place (seat_of codes true m) (away-seat codes clock place grid w m st at))) (λ j n. refl)
 
@@ -65,7 +74,7 @@ module _ {T E : Type 0} (codes : List Code) (unit : Code) (clock place : ℕ) (g
     (id : BuiltinId) (f : Flight) (w : World) (lent : Lent codes unit clock place grid live id f w)
     (thing : Member → Told Script) where
   -- a change of the script that is out
-  pub lent-self : (r : Result T E) (old now : List Entry) → KeepsScript codes lent.member.script (thing lent.member).value
+  pub lent-self : (r : Result T E) (old now : List Entry) → KeepsScript codes true lent.member.script (thing lent.member).value
       → Tells r (λ t _. Waits codes unit t f id new) old now (thing lent.member)
       → Tells r (λ v _. Lent codes unit clock place grid new id f v) old now (at_member place thing w)
   lent-self (Ok x) old now keeps d =

@@ -10,52 +10,28 @@ use Rattle.lsl_running.specs.declared.host.Reply.{Reply}
 use Rattle.lsl_code.specs.declared.woven_units.Woven.{Woven as Code}
 use Rattle.lsl_post.specs.Listens.{Standing}
 use Rattle.lsl_script.specs.declared.live.Live.{Live}
-use Rattle.lsl_script.specs.Codes.{rules_of}
-use Rattle.lsl_script.specs.Lawful.{IsLawfulDoing, IsTiming}
 use Rattle.lsl_script.specs.Lives.{Waits}
-use Rattle.lsl_script.specs.Scripts.{Doing, Flight, Script}
+use Rattle.lsl_script.specs.Scripts.{Flight, Script}
 use Rattle.lsl_region.specs.declared.grid.Seat.{Seat}
 use Rattle.lsl_region.specs.declared.objects.Linkset.{Linkset}
 use Rattle.lsl_region.specs.declared.objects.Primitive.{Primitive}
 use Rattle.lsl_region.specs.Answers.{listen_asked, listened_script, mailed, renamed, with_name}
-use Rattle.lsl_region.specs.Grids.{Contents, IsScript, Lent, Stands, object_in, prim_in, renamed_grid, seat_of}
+use Rattle.lsl_region.specs.Grids.{Contents, Lent, Stands, object_in, prim_in, renamed_grid, seat_of}
 use Rattle.lsl_region.specs.Worlds.{Member, World, object_of, prim_of, with_member}
-use Rattle.lsl_region.proofs.Away.{away-seat, member-there, stands-away}
-use Rattle.lsl_region.proofs.Placed.{KeepsScript}
+use Rattle.lsl_region.proofs.Away.{away-seat, keeps-out, member-there, stands-away}
 
--- the handler in flight is as it was
-pub record SameDoing (s t : Script) : Type 0 where
-  pub code : t.code ≡ s.code
-  pub state : t.state ≡ s.state
-  pub doing : t.doing ≡ s.doing
+listened-code : (o : Option (ℤ × Standing)) (s : Script) → (listened_script o s).code ≡ s.code
+listened-code None s = refl
+listened-code (Some x) s = refl
 
-listened-same : (o : Option (ℤ × Standing)) (s : Script) → SameDoing s (listened_script o s)
-listened-same None s = record { code = refl; state = refl; doing = refl }
-listened-same (Some x) s = record { code = refl; state = refl; doing = refl }
-
-mailed-same : (id : BuiltinId) (args : List Value) (clock : ℕ) (s : Script) → SameDoing s (mailed id args clock s).0
-mailed-same Listen args clock s = listened-same (listen_asked args s) s
-mailed-same ListenRemove args clock s = record { code = refl; state = refl; doing = refl }
-mailed-same ListenControl args clock s = record { code = refl; state = refl; doing = refl }
-mailed-same SetTimerEvent args clock s = record { code = refl; state = refl; doing = refl }
-mailed-same Sleep args clock s = record { code = refl; state = refl; doing = refl }
-mailed-same id args clock s = record { code = refl; state = refl; doing = refl }
-
-keeps-from : (codes : List Code) (s t : Script) → IsScript codes s → SameDoing s t → IsTiming t.mailbox.timing
-    → KeepsScript codes s t
-keeps-from codes s t l k timing =
-    record {
-      script = record {
-        known = subst (λ (n : ℕ). n < length codes) (sym k.code) l.known;
-        lawful = record {
-          timing = timing;
-          doing = subst (λ (n : ℕ). IsLawfulDoing (rules_of codes) n t.state t.doing) (sym k.code)
-              (subst (λ (n : ℕ). IsLawfulDoing (rules_of codes) s.code n t.doing) (sym k.state)
-              (subst (λ (d : Doing). IsLawfulDoing (rules_of codes) s.code s.state d) (sym k.doing) l.lawful.doing));
-        };
-      };
-      code = k.code;
-    }
+-- a call on its mailbox leaves its code
+mailed-code : (id : BuiltinId) (args : List Value) (clock : ℕ) (s : Script) → (mailed id args clock s).0.code ≡ s.code
+mailed-code Listen args clock s = listened-code (listen_asked args s) s
+mailed-code ListenRemove args clock s = refl
+mailed-code ListenControl args clock s = refl
+mailed-code SetTimerEvent args clock s = refl
+mailed-code Sleep args clock s = refl
+mailed-code id args clock s = refl
 
 module _ (codes : List Code) (unit : Code) (clock place : ℕ) (grid : Contents) (live : Live) (of : BuiltinId)
     (f : Flight) (w : World) (lent : Lent codes unit clock place grid live of f w) where
@@ -68,8 +44,8 @@ module _ (codes : List Code) (unit : Code) (clock place : ℕ) (grid : Contents)
       let t : Script = (mailed id args clock lent.member.script).0 in
       record {
         stands = stands-away codes clock place grid w lent.member t lent.stands lent.at
-            (keeps-from codes lent.member.script t (lent.stands.scripts place lent.member lent.at)
-            (mailed-same id args clock lent.member.script) waits.carries.timing);
+            (keeps-out codes _ lent.member.script t (lent.stands.scripts place lent.member lent.at)
+            (mailed-code id args clock lent.member.script));
         member = record lent.member { script = t };
         at = member-there w place lent.member (record lent.member { script = t }) lent.at;
         waits = waits;

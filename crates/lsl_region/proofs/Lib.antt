@@ -10,3 +10,6 @@ pub mod Calls
 pub mod Lending
 pub mod Rings
 pub mod Touches
+pub mod Coming
+pub mod Flying
+pub mod Segments

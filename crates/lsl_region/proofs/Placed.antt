@@ -69,7 +69,7 @@ module _ (codes : List Code) (away : Option ℕ) (clock : ℕ) (grid : Contents)
 
   -- one member becomes another
   module _ (after : Option ℕ) (new : Contents) (n : ℕ) (m t : Member) (at : slice_get w.members n ≡ Some m)
-      (script : IsScript codes t.script) (objects : new.objects ≡ grid.objects)
+      (script : IsScript codes (is_out after n) t.script) (objects : new.objects ≡ grid.objects)
       (seats : new.seats ≡ slice_set grid.seats n (seat_of codes (is_out after n) t))
       (others : (k : ℕ) → k ≢ n → is_out after k ≡ is_out away k) where
     abbrev members : List Member
@@ -94,14 +94,17 @@ module _ (codes : List Code) (away : Option ℕ) (clock : ℕ) (grid : Contents)
         ∙ ap (option_map (seat_of codes (is_out after k))) (sym (slice_get-set_other w.members n k t e.1))
 
     scripts-with : (k : ℕ) (u : Member) → ((eqb k n ≡ true) × (k ≡ n)) ⊎ ((eqb k n ≡ false) × (k ≢ n))
-        → slice_get members k ≡ Some u → IsScript codes u.script
+        → slice_get members k ≡ Some u → IsScript codes (is_out after k) u.script
     scripts-with k u (inl e) h =
         let there : slice_get members n ≡ Some t
         = slice_get-set_same w.members n t (slice_get_within w.members n m at) in
         let same : Some t ≡ Some u = sym there ∙ ap (slice_get members) (sym e.1) ∙ h in
         let is : t ≡ u = cc in
-        subst (λ (z : Member). IsScript codes z.script) is script
-    scripts-with k u (inr e) h = st.scripts k u (sym (slice_get-set_other w.members n k t e.1) ∙ h)
+        subst (λ (k : ℕ). IsScript codes (is_out after k) u.script) (sym e.1)
+        (subst (λ (z : Member). IsScript codes (is_out after n) z.script) is script)
+    scripts-with k u (inr e) h =
+        subst (λ (b : Bool). IsScript codes b u.script) (sym (others k e.1))
+        (st.scripts k u (sym (slice_get-set_other w.members n k t e.1) ∙ h))
 
     pub stands-with : Stands codes after clock new (with_member w n t)
     stands-with = record {
@@ -116,8 +119,8 @@ pub at-member : (n : ℕ) (thing : Member → Told Script) (w : World) (m : Memb
 at-member n thing w m e = ap (changed_at n thing w) e
 
 -- a script of the same code
-pub record KeepsScript (codes : List Code) (s t : Script) : Type 0 where
-  pub script : IsScript codes t
+pub record KeepsScript (codes : List Code) (away : Bool) (s t : Script) : Type 0 where
+  pub script : IsScript codes away t
   pub code : t.code ≡ s.code
 
 -- a script that isn't out was changed in its seat
@@ -126,7 +129,7 @@ module _ {T E : Type 0} (codes : List Code) (away : Option ℕ) (clock : ℕ) (g
     (st : Stands codes away clock grid w) (home : is_out away n ≡ false) (at : slice_get grid.seats n ≡ Some seat)
     (objects : new.objects ≡ grid.objects)
     (seats : new.seats ≡ slice_set grid.seats n (record seat { script = script }))
-    (keeps : (m : Member) → IsScript codes m.script → KeepsScript codes m.script (thing m).value) where
+    (keeps : (m : Member) → IsScript codes false m.script → KeepsScript codes false m.script (thing m).value) where
   pub changed : (r : Result T E) (old now : List Entry)
       → ((m : Member) → slice_get w.members n ≡ Some m → seat ≡ seat_of codes false m
       → Tells r (λ t _. script ≡ Some (parts_of codes t)) old now (thing m))
@@ -136,7 +139,7 @@ module _ {T E : Type 0} (codes : List Code) (away : Option ℕ) (clock : ℕ) (g
       let is : seat ≡ seat_of codes false s.member = s.is ∙ ap (λ (b : Bool). seat_of codes b s.member) home in
       let d = told s.member s.at is in
       let t : Script = (thing s.member).value in
-      let k = keeps s.member (st.scripts n s.member s.at) in
+      let k = keeps s.member (subst (λ (b : Bool). IsScript codes b s.member.script) home (st.scripts n s.member s.at)) in
       let same : record seat { script = script } ≡ seat_of codes (is_out away n) (record s.member { script = t })
       = ap (λ (z : Seat). record z { script = script }) is
       ∙ ap (λ (p : Option ScriptParts). record (seat_of codes false s.member) { script = p }) d.0
@@ -145,7 +148,7 @@ module _ {T E : Type 0} (codes : List Code) (away : Option ℕ) (clock : ℕ) (g
       subst (λ (a : Told World). Stands codes away clock new a.value × (now ≡ old ++ a.entries))
       (sym (at-member n thing w s.member s.at)) (
         stands-with codes away clock grid w st away new n s.member (record s.member { script = t }) s.at
-            k.script objects
+            (subst (λ (b : Bool). IsScript codes b t) (sym home) k.script) objects
             (seats ∙ ap (slice_set grid.seats n) same) (λ k e. refl),
         d.1,
       )

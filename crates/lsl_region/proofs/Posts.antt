@@ -17,21 +17,28 @@ use Rattle.lsl_region.proofs.Placed.{KeepsScript, at-member}
 use Rattle.lsl_region.proofs.Seats.{set-same}
 
 -- a change of the mailbox that leaves the timer as it is
-pub post-script : (codes : List Code) (r : Rules) (number : ℕ) (e : Event) (s : Script) → IsScript codes s
-    → KeepsScript codes s (post_to r number e s).value
+pub post-script : (codes : List Code) (r : Rules) (number : ℕ) (e : Event) (s : Script) → IsScript codes false s
+    → KeepsScript codes false s (post_to r number e s).value
 post-script codes r number e s l =
     record {
       script = record { known = l.known; lawful = record { timing = l.lawful.timing; doing = l.lawful.doing } };
       code = refl;
     }
 
-pub same-script : (codes : List Code) (s : Script) → IsScript codes s → KeepsScript codes s s
-same-script codes s l = record { script = l; code = refl }
+-- it keeps its code
+pub post-code : (r : Rules) (number : ℕ) (e : Event) (s : Script) (b : Bool)
+    → (if b then post_to r number e s else quiet s).value.code ≡ s.code
+post-code r number e s true = refl
+post-code r number e s false = refl
 
-pub if-script : (codes : List Code) (s : Script) (b : Bool) (t u : Told Script) → KeepsScript codes s t.value
-    → KeepsScript codes s u.value → KeepsScript codes s (if b then t else u).value
-if-script codes s true t u l k = l
-if-script codes s false t u l k = k
+pub same-script : (codes : List Code) (away : Bool) (s : Script) → IsScript codes away s → KeepsScript codes away s s
+same-script codes away s l = record { script = l; code = refl }
+
+pub if-script : (codes : List Code) (away : Bool) (s : Script) (b : Bool) (t u : Told Script)
+    → KeepsScript codes away s t.value → KeepsScript codes away s u.value
+    → KeepsScript codes away s (if b then t else u).value
+if-script codes away s true t u l k = l
+if-script codes away s false t u l k = k
 
 pub with-same : (w : World) (n : ℕ) (m : Member) → slice_get w.members n ≡ Some m → with_member w n m ≡ w
 with-same w n m e = ap (λ (ms : List Member). record w { members = ms }) (set-same w.members n m e)

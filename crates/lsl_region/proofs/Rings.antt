@@ -31,10 +31,10 @@ read-fits clock t fits = go (is_due clock t) refl where
       λ i. a.0 i && (d.0 i || (clock + 1000 * t.period == 0))
   go false e = fits
 
-pub ring-script : (codes : List Code) (r : Rules) (number clock : ℕ) (s : Script) → IsScript codes s
-    → KeepsScript codes s (ring_to r number clock s).value
+pub ring-script : (codes : List Code) (r : Rules) (number clock : ℕ) (s : Script) → IsScript codes false s
+    → KeepsScript codes false s (ring_to r number clock s).value
 ring-script codes r number clock s l =
-    if-script codes s (timer_due clock s.mailbox)
+    if-script codes false s (timer_due clock s.mailbox)
     (post_to r number timer_event (record s { mailbox = timer_read clock s.mailbox })) (quiet s)
     (record {
       script = record {
@@ -43,7 +43,7 @@ ring-script codes r number clock s l =
       };
       code = refl;
     })
-    (same-script codes s l)
+    (same-script codes false s l)
 
 pub rings-same : (codes : List Code) (m : Meant codes) (away : Option ℕ) (clock : ℕ) (grid : Contents) (w : World)
     → Stands codes away clock grid w → (n : ℕ) → ring_at (rules_of codes) n w ≡ ring_at m.rules n w

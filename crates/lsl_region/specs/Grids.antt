@@ -20,6 +20,10 @@ use Rattle.lsl_region.specs.declared.objects.Linkset.{Linkset}
 use Rattle.lsl_region.specs.declared.objects.Primitive.{Primitive}
 use Rattle.lsl_region.specs.Worlds.{Member, World, no_object, prim_at}
 
+-- the number of a seat's unit
+abbrev pub unit_number : Seat → ℕ
+unit_number seat = seat.unit
+
 -- the objects, and the seats of the scripts
 pub record Contents : Type 0 where
   pub objects : List Linkset
@@ -57,15 +61,15 @@ pub record ArePlaced (objects : List Linkset) (seats : List Seat) : Type 0 where
   pub few_seats : length seats ≤ 256
   pub placed : (n : ℕ) (seat : Seat) → slice_get seats n ≡ Some seat → IsPlaced objects seat
 
--- a script that isn't out is one of the unit of this number
-abbrev pub FitsSeat : Code → ℕ → Option ScriptParts → Type 0
-FitsSeat unit number None = Unit {0}
-FitsSeat unit number (Some parts) = (parts.unit ≡ number) × FitsUnit unit parts
+-- a script that isn't out is one of this unit
+abbrev pub FitsSeat : Code → Option ScriptParts → Type 0
+FitsSeat unit None = Unit {0}
+FitsSeat unit (Some parts) = FitsUnit unit parts
 
 pub record IsSeated (codes : List Code) (seat : Seat) : Type 0 where
   pub unit : Code
   pub has : HasUnit codes seat.unit unit
-  pub fits : FitsSeat unit seat.unit seat.script
+  pub fits : FitsSeat unit seat.script
 
 -- every script is of a unit
 abbrev pub AreSeated : List Code → List Seat → Type 0
@@ -90,17 +94,22 @@ seat_of codes away m =
       script = parts_in codes away m.script;
     }
 
--- a script of the world is one of a unit, with a lawful flight
-pub record IsScript (codes : List Code) (s : Script) : Type 0 where
+-- a script that isn't out has a lawful flight
+abbrev pub IsLawful : List Code → Bool → Script → Type 0
+IsLawful codes true s = Unit {0}
+IsLawful codes false s = Lawful (rules_of codes) s
+
+-- a script of the world is one of a unit, with a lawful flight unless it is out
+pub record IsScript (codes : List Code) (away : Bool) (s : Script) : Type 0 where
   pub known : s.code < length codes
-  pub lawful : Lawful (rules_of codes) s
+  pub lawful : IsLawful codes away s
 
 -- the grid stands for the world, but for the script that is out
 pub record Stands (codes : List Code) (out : Option ℕ) (clock : ℕ) (grid : Contents) (w : World) : Type 0 where
   pub time : w.clock ≡ clock
   pub objects : grid.objects ≡ w.objects
   pub seats : (n : ℕ) → slice_get grid.seats n ≡ option_map (seat_of codes (is_out out n)) (slice_get w.members n)
-  pub scripts : (n : ℕ) (m : Member) → slice_get w.members n ≡ Some m → IsScript codes m.script
+  pub scripts : (n : ℕ) (m : Member) → slice_get w.members n ≡ Some m → IsScript codes (is_out out n) m.script
 
 -- the script at a place is out of the grid, and waits in a flight for the answer to a call
 pub record Lent (codes : List Code) (unit : Code) (clock place : ℕ) (grid : Contents) (live : Live) (id : BuiltinId)

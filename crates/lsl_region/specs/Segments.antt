@@ -37,11 +37,13 @@ abbrev pub flown_in : Rules → ℕ → World → Option Member → Told World
 flown_in r place w None = quiet w
 flown_in r place w (Some m) = flown r place w m.script.code m.script.doing
 
--- the script at this place takes its next event, unless a handler is in flight, and passes one tick
+-- the script at this place takes its next event, unless a handler is in flight
+abbrev pub taken : ℕ → World → Told World
+taken place w = at_member place (λ m. take_next (place + 1) m.script m.script.doing) w
+
+-- and passes one tick
 abbrev pub segment : Rules → ℕ → World → Told World
-segment r place w =
-    next_to (at_member place (λ m. take_next (place + 1) m.script m.script.doing) w)
-    (λ v. flown_in r place v (slice_get v.members place))
+segment r place w = next_to (taken place w) (λ v. flown_in r place v (slice_get v.members place))
 
 abbrev pub is_ready_in : World → Option Member → Bool
 is_ready_in w None = false

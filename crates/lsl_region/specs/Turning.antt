@@ -1,23 +1,79 @@
 -- What the grid and an awake script stand for within a turn.
-use Rattle.std.specs.Prelude.{◌≡◌, ℕ, ◌+◌, List, Option, Some, None, slice_get}
+use Rattle.std.specs.Prelude.{◌≡◌, ℕ, ◌+◌, List, Option, Some, None, slice_get, slice_set, true}
 use Rattle.lsl_code.specs.declared.woven_units.Woven.{Woven as Code}
+use Rattle.lsl_code.specs.Weaves.{Weaves}
+use Rattle.lsl_machine.specs.State.{asks_ahead, bodies_of}
+use Rattle.lsl_machine.specs.declared.standing.Standing.TheVariants as standing
+use Rattle.lsl_post.specs.declared.parts.ScriptParts.{ScriptParts}
 use Rattle.lsl_script.specs.declared.live.Live.{Live}
 use Rattle.lsl_script.specs.declared.live.Turn.{Turn}
 use Rattle.lsl_script.specs.declared.live.Turn.TheVariants as turn
 use Rattle.lsl_script.specs.Awake.{HasEnded, IsAskedFor, IsAwake}
-use Rattle.lsl_script.specs.Lives.{Rests, Turns}
-use Rattle.lsl_script.specs.Scripts.{Flight}
-use Rattle.lsl_machine.specs.declared.standing.Standing.TheVariants as standing
+use Rattle.lsl_script.specs.Codes.{HasUnit, rules_of}
+use Rattle.lsl_script.specs.Fitting.{are_ready}
+use Rattle.lsl_script.specs.Lawful.{AsksAtMost}
+use Rattle.lsl_script.specs.Lives.{Lives, Rests, Turns}
+use Rattle.lsl_script.specs.Rules.{Rules}
+use Rattle.lsl_script.specs.Scripts.{Flight, Flying}
+use Rattle.lsl_region.specs.declared.grid.Seat.{Seat}
 use Rattle.lsl_region.specs.Grids.{Contents, Stands}
 use Rattle.lsl_region.specs.Worlds.{Member, World}
 
+-- the grid with this script, or none, in the seat at a place
+abbrev pub with_seated : Contents → ℕ → Seat → Option ScriptParts → Contents
+with_seated grid place seat script = record grid { seats = slice_set grid.seats place (record seat { script = script }) }
+
+-- the script in a seat is there, and can run
+abbrev pub IsReady : ℕ → Option ScriptParts → Type 0
+IsReady clock None = ⊥
+IsReady clock (Some parts) = are_ready clock parts ≡ true
+
+-- this unit, which weaves, is that of the seat at a place
+pub record IsUnitAt (codes : List Code) (unit : Code) (seats : List Seat) (place : ℕ) : Type 0 where
+  pub seat : Seat
+  pub at : slice_get seats place ≡ Some seat
+  pub has : HasUnit codes seat.unit unit
+  pub weaves : Weaves unit
+
+-- a script that is awake between segments stands at a tick
+abbrev pub IsHeld : Code → Option Live → Type 0
+IsHeld unit None = Unit {0}
+IsHeld unit (Some live) = IsAwake unit live × (live.machine.standing ≡ standing.AtTick)
+
+-- one that isn't awake is ready in its seat
+abbrev pub IsReadyInTurn : ℕ → List Seat → ℕ → Option Live → Type 0
+IsReadyInTurn clock seats place None = (seat : Seat) → slice_get seats place ≡ Some seat → IsReady clock seat.script
+IsReadyInTurn clock seats place (Some live) = Unit {0}
+
+-- the script at a place is out, and can go on to the next tick of this flight; it asks at most so often before
+pub record GoesOn (codes : List Code) (unit : Code) (clock place : ℕ) (grid : Contents) (live : Live) (f : Flight)
+    (most : ℕ) (w : World) : Type 0 where
+  pub stands : Stands codes (Some place) clock grid w
+  pub member : Member
+  pub at : slice_get w.members place ≡ Some member
+  pub lives : Lives codes unit member.script f live
+  pub asks : AsksAtMost (rules_of codes) member.script.code member.script.state f most
+
+-- the script at a place is out, has this flight, and asks at most as often as its code can
+pub record Begins (codes : List Code) (unit : Code) (clock place : ℕ) (grid : Contents) (live : Live) (w : World)
+    : Type 0 where
+  pub flight : Flight
+  pub stands : Stands codes (Some place) clock grid w
+  pub member : Member
+  pub at : slice_get w.members place ≡ Some member
+  pub lives : Lives codes unit member.script flight live
+  pub asks : AsksAtMost (rules_of codes) member.script.code member.script.state flight
+      ((rules_of codes).most member.script.code)
+  pub flies : member.script.doing ≡ Flying flight
+
 -- the script at a place is out, and came to this stop of this flight
 pub record Paused (codes : List Code) (unit : Code) (clock place : ℕ) (grid : Contents) (live : Live) (stop : Turn)
-    (f : Flight) (w : World) : Type 0 where
+    (f : Flight) (most : ℕ) (w : World) : Type 0 where
   pub stands : Stands codes (Some place) clock grid w
   pub member : Member
   pub at : slice_get w.members place ≡ Some member
   pub turns : Turns codes unit member.script f stop live
+  pub asks : AsksAtMost (rules_of codes) member.script.code member.script.state f most
 
 -- where it stands then, whatever it stands for
 abbrev pub StandsAt : Code → Turn → Live → Type 0
@@ -26,6 +82,22 @@ StandsAt unit turn.AtTick live = live.machine.standing ≡ standing.AtTick
 StandsAt unit turn.Ended live = HasEnded unit live
 StandsAt unit (turn.Faulted fault) live = Unit {0}
 StandsAt unit turn.NoMemory live = Unit {0}
+
+-- it asks no more
+abbrev pub IsLast : Turn → Type 0
+IsLast (turn.Asks call) = ⊥
+IsLast t = Unit {0}
+
+-- how often it asks at most from this stop on
+abbrev pub asks_left : Code → Turn → Live → ℕ
+asks_left unit (turn.Asks call) live = asks_ahead (bodies_of unit) live.machine + 1
+asks_left unit t live = 0
+
+-- the world, the flight in it, and how often it asks at most before its next tick
+pub record InFlight : Type 0 where
+  pub world : World
+  pub flight : Flight
+  pub most : ℕ
 
 -- the script at a place is out, and stands at a tick of its flight
 pub record Held (codes : List Code) (unit : Code) (clock place : ℕ) (grid : Contents) (live : Live) (w : World)

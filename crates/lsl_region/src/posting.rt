@@ -1,13 +1,13 @@
 //! Events that are posted to scripts, in the order of their numbers.
 
-ghost use Rattle.std.specs.Prelude.{◌≡◌, ◌<◌, ◌≤◌, ◌+◌, ℕ, List, Option, Some, None, false, length, slice_get, is_some, OnOk};
+ghost use Rattle.std.specs.Prelude.{◌≡◌, ◌<◌, ◌≤◌, ◌+◌, ℕ, List, Option, Some, None, false, length, map, slice_get, is_some, OnOk};
 ghost use Rattle.lsl_post.specs.Journal.{Adds, Tells};
 ghost use Rattle.lsl_code.specs.declared.woven_units.Woven.{Woven as Code};
 ghost use Rattle.lsl_script.specs.Codes.{HasUnit, Meant, rules_of};
 ghost use Rattle.lsl_script.specs.Fitting.{FitsUnit, is_exit};
 ghost use Rattle.lsl_script.specs.Parts.{parts_of};
 ghost use Rattle.lsl_script.specs.Scripts.{Script as Source, entries_of_posting, post_to};
-ghost use Rattle.lsl_region.specs.Grids.{AreSeated, FitsSeat, Stands, is_out, key_in};
+ghost use Rattle.lsl_region.specs.Grids.{AreSeated, FitsSeat, Stands, is_out, key_in, unit_number};
 ghost use Rattle.lsl_region.specs.Posting.{admits, is_admitted, post_all, post_where};
 ghost use Rattle.lsl_region.specs.Worlds.{Member, World};
 ghost use Rattle.lsl_region.specs.declared.grid.Seat.{Seat as Place};
@@ -53,7 +53,6 @@ pub(crate) fn post_script(
         Tells result (λ t _. script.new ≡ parts_of codes t) out.old out.new
         (post_to (rules_of codes) number event.now s) }
     ensures fits { OnOk result (FitsUnit unit.now script.new) }
-    ensures unit { OnOk result (script.new.unit ≡ script.old.unit) }
 {
     let posted = script.post(unit, event.copy(alloc)?);
     tell_posted(number, posted, out)
@@ -68,13 +67,13 @@ fn post_seat(
     unit: &Woven,
     out: &mut Entries,
 ) -> Result<(), NoMemory>
-    requires fits { (of : ℕ) × FitsSeat unit.now of seat.old }
+    requires fits { FitsSeat unit.now seat.old }
     requires other { is_exit event.now ≡ false }
     ensures told { (codes : List Code) (s : Source) → HasUnit codes s.code unit.now →
         seat.old ≡ Some (parts_of codes s) →
         Tells result (λ t _. seat.new ≡ Some (parts_of codes t)) out.old out.new
         (post_to (rules_of codes) number event.now s) }
-    ensures fits { (of : ℕ) → FitsSeat unit.now of seat.old → OnOk result (FitsSeat unit.now of seat.new) }
+    ensures fits { OnOk result (FitsSeat unit.now seat.new) }
 {
     match seat {
         Some(script) => post_script(alloc, script, number, event, unit, out),
@@ -124,6 +123,7 @@ impl Grid {
             (post_where (rules_of library.now) (admits audience.now) event.now place w) }
         ensures seated { OnOk result (AreSeated library.now self.new.seats) }
         ensures len { length self.new.seats ≡ length self.old.seats }
+        ensures units { map unit_number self.new.seats ≡ map unit_number self.old.seats }
         ensures objects { self.new.objects ≡ self.old.objects }
     {
         if !self.is_meant(place, audience) {
@@ -155,6 +155,7 @@ impl Grid {
             (post_all m.rules (admits audience.now) event.now w) }
         ensures seated { OnOk result (AreSeated library.now self.new.seats) }
         ensures len { length self.new.seats ≡ length self.old.seats }
+        ensures units { map unit_number self.new.seats ≡ map unit_number self.old.seats }
         ensures objects { self.new.objects ≡ self.old.objects }
     {
         for place in 0..self.seats.len() {

@@ -1,6 +1,6 @@
 //! Timers, and which scripts can run.
 
-ghost use Rattle.std.specs.Prelude.{◌≡◌, ◌<◌, ◌≤◌, ◌-◌, ◌+◌, ℕ, List, Option, Some, None, false, length, slice_get, OnOk};
+ghost use Rattle.std.specs.Prelude.{◌≡◌, ◌<◌, ◌≤◌, ◌-◌, ◌+◌, ℕ, List, Option, Some, None, IsTrue, false, length, slice_get, OnOk};
 ghost use Rattle.lsl_code.specs.declared.woven_units.Woven.{Woven as Code};
 ghost use Rattle.lsl_post.specs.Journal.{Tells};
 ghost use Rattle.lsl_post.specs.Timer.{timing_of};
@@ -16,6 +16,7 @@ ghost use Rattle.lsl_region.specs.Grids.{AreSeated, FitsSeat, Stands, is_out};
 ghost use Rattle.lsl_region.specs.Posting.{ring_at};
 ghost use Rattle.lsl_region.specs.Segments.{is_ready_at};
 ghost use Rattle.lsl_region.specs.Timers.{next_due};
+ghost use Rattle.lsl_region.specs.Turning.{IsReady};
 ghost use Rattle.lsl_region.specs.Worlds.{Member, World};
 
 use crate::events::timer_event;
@@ -42,7 +43,6 @@ fn ring_script(
         Lawful (rules_of codes) s →
         Tells result (λ t _. script.new ≡ parts_of codes t) out.old out.new (ring_to (rules_of codes) number clock s) }
     ensures fits { OnOk result (FitsUnit unit.now script.new) }
-    ensures unit { OnOk result (script.new.unit ≡ script.old.unit) }
 {
     if !script.timer().read(clock) {
         return Ok(());
@@ -59,13 +59,13 @@ fn ring_seat(
     unit: &Woven,
     out: &mut Entries,
 ) -> Result<(), NoMemory>
-    requires fits { (of : ℕ) × FitsSeat unit.now of seat.old }
+    requires fits { FitsSeat unit.now seat.old }
     requires clock { clock ≤ latest_clock }
     ensures told { (codes : List Code) (s : Source) → HasUnit codes s.code unit.now →
         seat.old ≡ Some (parts_of codes s) → Lawful (rules_of codes) s →
         Tells result (λ t _. seat.new ≡ Some (parts_of codes t)) out.old out.new
         (ring_to (rules_of codes) number clock s) }
-    ensures fits { (of : ℕ) → FitsSeat unit.now of seat.old → OnOk result (FitsSeat unit.now of seat.new) }
+    ensures fits { OnOk result (FitsSeat unit.now seat.new) }
 {
     match seat {
         Some(script) => ring_script(alloc, script, number, clock, unit, out),
@@ -133,10 +133,12 @@ impl Grid {
     }
 
     // Whether the script at this place isn't out, and can run.
-    fn is_ready_at(&self, place: usize, clock: u64) -> bool
+    pub(crate) fn is_ready_at(&self, place: usize, clock: u64) -> bool
         requires { place < length self.now.seats }
-        ensures { (seat : Place) (parts : Parts) → slice_get self.now.seats place ≡ Some seat →
+        ensures ready { (seat : Place) (parts : Parts) → slice_get self.now.seats place ≡ Some seat →
             seat.script ≡ Some parts → result ≡ are_ready clock parts }
+        ensures home { IsTrue result → (seat : Place) → slice_get self.now.seats place ≡ Some seat →
+            IsReady clock seat.script }
     {
         match &self.seats[place].script {
             Some(script) => script.ready(clock),

@@ -99,7 +99,7 @@ module _ (codes : List Code) (m : Meant codes) where
 
   -- every script is one of a unit
   abbrev pub Fits : Member → Type 0
-  Fits member = IsScript codes member.script
+  Fits member = IsScript codes false member.script
 
   prim-fits : (object prim : ℕ) (lines : List ScriptLine) → All (HasFile (length codes)) lines
       → Every Fits (members_of_prim m.rules object prim lines)

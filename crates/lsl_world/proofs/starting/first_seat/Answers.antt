@@ -31,8 +31,5 @@ returns-clause-seated c =
     record {
       unit = c.unit.result.now;
       has = has;
-      fits = (
-        ap (λ (parts : ScriptParts). parts.unit) (c.in_ok-script.ensures.script c.args.units.now has),
-        c.in_ok-script.ensures.fits,
-      );
+      fits = c.in_ok-script.ensures.fits;
     }

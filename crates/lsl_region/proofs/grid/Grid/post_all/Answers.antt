@@ -17,6 +17,7 @@ loop-place-init c =
     record {
       len = e;
       same = refl;
+      units = refl;
       objects = refl;
       seated = c.requires.seated;
       walk = λ m clock w st. walk-start _ w _ _ _ _ st
@@ -36,6 +37,7 @@ loop-place-preserved c =
     record {
       len = c.in_ok-post_at.ensures.len ∙ c.loop-place.invariant.len;
       same = c.in_ok-post_at.ensures.len ∙ c.loop-place.invariant.same;
+      units = c.in_ok-post_at.ensures.units ∙ c.loop-place.invariant.units;
       objects = c.in_ok-post_at.ensures.objects ∙ c.loop-place.invariant.objects;
       seated = c.in_ok-post_at.ensures.seated;
       walk = λ m clock w st. walk-ok _ _ _ _ _ _ _ (c.loop-place.invariant.walk m clock w st)

@@ -17,6 +17,7 @@ loop-to-init c =
     record {
       len = e;
       same = refl;
+      units = refl;
       objects = refl;
       seated = c.requires.seated;
       awake = c.requires.awake;
@@ -38,6 +39,7 @@ loop-to-preserved c =
     record {
       len = c.in_ok-post_with.ensures.len ∙ c.loop-to.invariant.len;
       same = c.in_ok-post_with.ensures.len ∙ c.loop-to.invariant.same;
+      units = c.in_ok-post_with.ensures.units ∙ c.loop-to.invariant.units;
       objects = c.in_ok-post_with.ensures.objects ∙ c.loop-to.invariant.objects;
       seated = c.in_ok-post_with.ensures.seated;
       awake = c.in_ok-post_with.ensures.awake;

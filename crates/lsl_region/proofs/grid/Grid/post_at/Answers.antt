@@ -1,4 +1,4 @@
-use Rattle.std.proofs.Common.{◌≡◌, ◌<◌, ℕ, ◌+◌, Bool, List, ◌++◌, length, rules, refl, true, false, ap, sym, ◌∙◌, subst, append-nil, get_or}
+use Rattle.std.proofs.Common.{◌≡◌, ◌<◌, ℕ, ◌+◌, Bool, List, ◌++◌, length, map, rules, refl, true, false, ap, sym, ◌∙◌, subst, append-nil, get_or}
 use Rattle.std.specs.Prelude.{Option, Some, slice_get, if◌then◌else◌}
 use Rattle.lsl_post.specs.declared.entries.Entry.{Entry}
 use Rattle.lsl_post.specs.Journal.{Tells}
@@ -7,14 +7,14 @@ use Rattle.lsl_script.specs.Codes.{HasUnit, rules_of}
 use Rattle.lsl_script.specs.Parts.{parts_of}
 use Rattle.lsl_script.specs.Scripts.{Script, post_to}
 use Rattle.lsl_region.specs.declared.grid.Seat.{Seat}
-use Rattle.lsl_region.specs.Grids.{Contents, AreSeated, FitsSeat, Stands, seat_of}
+use Rattle.lsl_region.specs.Grids.{Contents, AreSeated, FitsSeat, Stands, seat_of, unit_number}
 use Rattle.lsl_region.specs.Posting.{admits}
 use Rattle.lsl_region.specs.Worlds.{Member, World}
 use Rattle.lsl_region.proofs.Placed.{changed, sits}
 use Rattle.lsl_region.proofs.Posts.{admits-is, if-script, post-none, post-script, same-script, thing-meant}
 use Rattle.std.proofs.lemmas.Option.{slice_get-get_or, slice_get_within}
 use Rattle.lsl_region.proofs.Results.{OnOk-map}
-use Rattle.lsl_region.proofs.Seats.{no_seat, placed-set, read-at, seated-set, seated-unit}
+use Rattle.lsl_region.proofs.Seats.{no_seat, placed-set, read-at, seated-set, seated-unit, units-set}
 use Rattle.lsl_region.proofs.grid.Grid.post_at.Goals as goal
 
 pub returns-then-not-is_meant-clause-does : goal.returns-then-not-is_meant-clause-does
@@ -50,7 +50,7 @@ post_seat-requires-clause-fits c =
     let at = read-at c.self.inside.seats.items c.args.place seat h c.index_mut-seat.ensures.value in
     let k = c.requires.seated c.args.place seat
     (ap (λ (g : Contents). slice_get g.seats c.args.place) (sym c.self.view_is) ∙ at) in
-    (seat.unit, seated-unit c.args.library.now seat c.unit-unit.result.now k c.unit-unit.ensures.unit)
+    seated-unit c.args.library.now seat c.unit-unit.result.now k c.unit-unit.ensures.unit
 
 pub invariant_of-self : goal.invariant_of-self
 invariant_of-self c =
@@ -75,8 +75,8 @@ returns-clause-does c = λ away clock w old home.
     changed codes away clock inside _ w place seat c.post_seat.new.seat
     (λ (m : Member). if admits audience w m then post_to (rules_of codes) (place + 1) e m.script else quiet m.script)
     st home at refl refl
-    (λ m l. if-script codes m.script (admits audience w m) _ _
-    (post-script codes (rules_of codes) (place + 1) e m.script l) (same-script codes m.script l))
+    (λ m l. if-script codes false m.script (admits audience w m) _ _
+    (post-script codes (rules_of codes) (place + 1) e m.script l) (same-script codes false m.script l))
     c.post_seat.result _ _
     (λ m k is.
     let script : seat.script ≡ Some (parts_of codes m.script) = ap (λ (z : Seat). z.script) is in
@@ -96,12 +96,15 @@ returns-clause-seated c =
     let codes = c.args.library.now in
     let h : c.args.place < length c.self.inside.seats.items = search (rules, c.requires.place) in
     let seat = c.index_mut-seat.result.now in
-    let at = read-at c.self.inside.seats.items c.args.place seat h c.index_mut-seat.ensures.value in
-    let k = c.requires.seated c.args.place seat
-    (ap (λ (g : Contents). slice_get g.seats c.args.place) (sym c.self.view_is) ∙ at) in
-    let old = seated-unit codes seat c.unit-unit.result.now k c.unit-unit.ensures.unit in
-    OnOk-map c.post_seat.result (FitsSeat c.unit-unit.result.now seat.unit c.post_seat.new.seat) _
+    OnOk-map c.post_seat.result (FitsSeat c.unit-unit.result.now c.post_seat.new.seat) _
     (λ fits. seated-set codes c.self.inside.seats.items c.args.place (record seat { script = c.post_seat.new.seat })
     (record { unit = c.unit-unit.result.now; has = sym c.unit-unit.ensures.unit; fits = fits })
     (subst (λ (g : Contents). AreSeated codes g.seats) (sym c.self.view_is) c.requires.seated) h)
-    (c.post_seat.ensures.fits seat.unit old)
+    c.post_seat.ensures.fits
+
+pub returns-clause-units : goal.returns-clause-units
+returns-clause-units c =
+    let h : c.args.place < length c.self.inside.seats.items = search (rules, c.requires.place) in
+    units-set c.self.inside.seats.items c.args.place c.index_mut-seat.result.now _
+    (read-at c.self.inside.seats.items c.args.place _ h c.index_mut-seat.ensures.value) refl
+    ∙ ap (λ (g : Contents). map unit_number g.seats) c.self.view_is

@@ -9,8 +9,8 @@ use Rattle.lsl_script.specs.Scripts.{Script, post_to}
 use Rattle.lsl_region.specs.Grids.{Lent}
 use Rattle.lsl_region.specs.Posting.{admits}
 use Rattle.lsl_region.specs.Worlds.{Member, World}
-use Rattle.lsl_region.proofs.Away.{lent-self}
-use Rattle.lsl_region.proofs.Posts.{if-script, post-none, post-script, same-script, thing-meant}
+use Rattle.lsl_region.proofs.Away.{keeps-out, lent-self}
+use Rattle.lsl_region.proofs.Posts.{post-code, post-none, thing-meant}
 use Rattle.lsl_region.proofs.grid.Grid.post_own.Goals as goal
 
 pub returns-then-not-admits_live-clause-does : goal.returns-then-not-admits_live-clause-does
@@ -35,9 +35,8 @@ returns-clause-does c = λ codes clock f id w lent.
     lent-self codes c.args.unit.now clock place c.args.self.now c.args.live.now c.post_live.new.live id f w lent
     (λ (m : Member). if admits audience w m then post_to (rules_of codes) (place + 1) event m.script else quiet m.script)
     c.post_live.result _ _
-    (if-script codes s (admits audience w lent.member) _ _
-    (post-script codes (rules_of codes) (place + 1) event s (lent.stands.scripts place lent.member lent.at))
-    (same-script codes s (lent.stands.scripts place lent.member lent.at)))
+    (keeps-out codes _ s _ (lent.stands.scripts place lent.member lent.at)
+    (post-code (rules_of codes) (place + 1) event s (admits audience w lent.member)))
     (subst (λ (t : Told Script). Tells c.post_live.result
     (λ u _. Waits codes c.args.unit.now u f id c.post_live.new.live) c.args.out.now c.post_live.new.out t)
     (thing-meant (rules_of codes) audience event place w lent.member meant)

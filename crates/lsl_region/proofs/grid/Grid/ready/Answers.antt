@@ -11,7 +11,7 @@ pub returns : goal.returns
 returns c = λ codes w st.
     let h : c.args.script - 1 < length c.args.self.now.seats = omega arith in
     let k = home codes c.args.clock c.args.self.now w (c.args.script - 1) st h in
-    c.is_ready_at.ensures k.seat (parts_of codes k.member.script) k.sits k.script
+    c.is_ready_at.ensures.ready k.seat (parts_of codes k.member.script) k.sits k.script
     ∙ ready-is codes c.args.clock k.member.script
     ∙ ap (λ (n : ℕ). is_ready n k.member.script) (sym st.time)
     ∙ ap (λ (o : Option Member). is_ready_in w o) (sym k.at)

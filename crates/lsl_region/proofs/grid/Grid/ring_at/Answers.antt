@@ -31,7 +31,7 @@ ring_seat-requires-clause-fits c =
     let at = read-at c.self.inside.seats.items c.args.place seat h c.index_mut-seat.ensures.value in
     let k = c.requires.seated c.args.place seat
     (ap (λ (g : Contents). slice_get g.seats c.args.place) (sym c.self.view_is) ∙ at) in
-    (seat.unit, seated-unit c.args.library.now seat c.unit-unit.result.now k c.unit-unit.ensures.unit)
+    seated-unit c.args.library.now seat c.unit-unit.result.now k c.unit-unit.ensures.unit
 
 pub invariant_of-self : goal.invariant_of-self
 invariant_of-self c =
@@ -76,12 +76,8 @@ returns-clause-seated c =
     let codes = c.args.library.now in
     let h : c.args.place < length c.self.inside.seats.items = search (rules, c.requires.place) in
     let seat = c.index_mut-seat.result.now in
-    let at = read-at c.self.inside.seats.items c.args.place seat h c.index_mut-seat.ensures.value in
-    let k = c.requires.seated c.args.place seat
-    (ap (λ (g : Contents). slice_get g.seats c.args.place) (sym c.self.view_is) ∙ at) in
-    let old = seated-unit codes seat c.unit-unit.result.now k c.unit-unit.ensures.unit in
-    OnOk-map c.ring_seat.result (FitsSeat c.unit-unit.result.now seat.unit c.ring_seat.new.seat) _
+    OnOk-map c.ring_seat.result (FitsSeat c.unit-unit.result.now c.ring_seat.new.seat) _
     (λ fits. seated-set codes c.self.inside.seats.items c.args.place (record seat { script = c.ring_seat.new.seat })
     (record { unit = c.unit-unit.result.now; has = sym c.unit-unit.ensures.unit; fits = fits })
     (subst (λ (g : Contents). AreSeated codes g.seats) (sym c.self.view_is) c.requires.seated) h)
-    (c.ring_seat.ensures.fits seat.unit old)
+    c.ring_seat.ensures.fits

@@ -1,0 +1,90 @@
+-- A script goes out of the grid, and comes back into it.
+use Rattle.std.proofs.Common.{◌≡◌, ℕ, zero, suc, ◌<◌, ◌⊎◌, inl, inr, Bool, true, false, eqb, List, [], ◌∷◌, map, length, refl, ap, sym, ◌∙◌, subst}
+use Rattle.std.specs.Prelude.{Option, Some, None, slice_get, slice_set}
+use Rattle.std.specs.Option.{option_map}
+use Rattle.std.proofs.lemmas.Option.{slice_get_within}
+use Rattle.lsl_code.specs.declared.woven_units.Woven.{Woven as Code}
+use Rattle.lsl_post.specs.declared.parts.ScriptParts.{ScriptParts}
+use Rattle.lsl_script.specs.Codes.{HasUnit, rules_of}
+use Rattle.lsl_script.specs.Fitting.{FitsUnit}
+use Rattle.lsl_script.specs.Lawful.{Lawful}
+use Rattle.lsl_script.specs.Parts.{parts_of}
+use Rattle.lsl_script.specs.Scripts.{Script}
+use Rattle.lsl_region.specs.declared.grid.Seat.{Seat}
+use Rattle.lsl_region.specs.Grids.{AreSeated, Contents, FitsSeat, IsScript, IsSeated, Stands, is_out, seat_of, unit_number}
+use Rattle.lsl_region.specs.Turning.{IsUnitAt, with_seated}
+use Rattle.lsl_region.specs.Worlds.{Member, World, with_member}
+use Rattle.lsl_region.proofs.Away.{away-seat, other-home, self-out}
+use Rattle.lsl_region.proofs.Placed.{seated-at, slice_get-set_same, stands-with}
+use Rattle.lsl_region.proofs.Seats.{seated-set}
+
+module _ (codes : List Code) (clock place : ℕ) (grid : Contents) (w : World) (m : Member) (t : Script) (seat : Seat)
+    (at : slice_get w.members place ≡ Some m) (sits : slice_get grid.seats place ≡ Some seat)
+    (code : t.code ≡ m.script.code) where
+  -- as another script of its code, whose flight is lawful
+  pub stands-back : Stands codes (Some place) clock grid w → Lawful (rules_of codes) t
+      → Stands codes None clock (with_seated grid place seat (Some (parts_of codes t)))
+      (with_member w place (record m { script = t }))
+  stands-back st lawful =
+      let away : Some seat ≡ Some (seat_of codes true m) = sym sits ∙ away-seat codes clock place grid w m st at in
+      let is : seat ≡ seat_of codes true m = cc in
+      let same : record seat { script = Some (parts_of codes t) } ≡ seat_of codes false (record m { script = t })
+      = ap (λ (z : Seat). record z { script = Some (parts_of codes t) }) is
+      ∙ ap (λ (c : ℕ). record (seat_of codes true m) { unit = c; script = Some (parts_of codes t) }) (sym code) in
+      stands-with codes (Some place) clock grid w st None
+      (with_seated grid place seat (Some (parts_of codes t))) place m (record m { script = t }) at
+      (record {
+        known = subst (λ (n : ℕ). n < length codes) (sym code) (st.scripts place m at).known;
+        lawful = lawful;
+      }) refl (ap (slice_set grid.seats place) same)
+      (λ k other. sym (other-home place k (λ e. other (sym e))))
+
+  -- as another script of its code
+  pub stands-out : Stands codes None clock grid w
+      → Stands codes (Some place) clock (with_seated grid place seat None)
+      (with_member w place (record m { script = t }))
+  stands-out st =
+      let home : Some seat ≡ Some (seat_of codes false m) = sym sits ∙ seated-at codes None clock grid w st place m at in
+      let is : seat ≡ seat_of codes false m = cc in
+      let same : record seat { script = None } ≡ seat_of codes (is_out (Some place) place) (record m { script = t })
+      = ap (λ (z : Seat). record z { script = None }) is
+      ∙ ap (λ (c : ℕ). record (seat_of codes true m) { unit = c }) (sym code)
+      ∙ ap (λ (b : Bool). seat_of codes b (record m { script = t })) (sym (self-out place)) in
+      stands-with codes None clock grid w st (Some place) (with_seated grid place seat None) place m
+      (record m { script = t }) at
+      (record {
+        known = subst (λ (n : ℕ). n < length codes) (sym code) (st.scripts place m at).known;
+        lawful = subst (λ (b : Bool). IsLawful codes b t) (sym (self-out place)) tt;
+      }) refl (ap (slice_set grid.seats place) same)
+      (λ k other. other-home place k (λ e. other (sym e)))
+
+-- the seats' units stay, so the unit at a place does
+units-read : (old new : List Seat) (n : ℕ) (seat : Seat) → map unit_number new ≡ map unit_number old
+    → slice_get old n ≡ Some seat → (t : Seat) × (slice_get new n ≡ Some t) × (t.unit ≡ seat.unit)
+units-read [] new n seat e at = absurd cc
+units-read (x ∷ xs) [] n seat e at = absurd cc
+units-read (x ∷ xs) (y ∷ ys) zero seat e at =
+    let heads : y.unit ≡ x.unit = cc in
+    let is : x ≡ seat = cc in
+    (y, refl, heads ∙ ap unit_number is)
+units-read (x ∷ xs) (y ∷ ys) (suc n) seat e at =
+    let tails : map unit_number ys ≡ map unit_number xs = cc in units-read xs ys n seat tails at
+
+pub unit-kept : (codes : List Code) (unit : Code) (old new : List Seat) (place : ℕ)
+    → map unit_number new ≡ map unit_number old → IsUnitAt codes unit old place → IsUnitAt codes unit new place
+unit-kept codes unit old new place e k =
+    let r = units-read old new place k.seat e k.at in
+    record {
+      seat = r.0;
+      at = r.1;
+      has = subst (λ (n : ℕ). HasUnit codes n unit) (sym r.2) k.has;
+      weaves = k.weaves;
+    }
+
+-- a script that fits the unit of its seat, or none, is there
+pub seated-with : (codes : List Code) (unit : Code) (grid : Contents) (place : ℕ) (seat : Seat)
+    (script : Option ScriptParts) → AreSeated codes grid.seats → slice_get grid.seats place ≡ Some seat
+    → HasUnit codes seat.unit unit → FitsSeat unit script → AreSeated codes (with_seated grid place seat script).seats
+seated-with codes unit grid place seat script seated at has fits =
+    seated-set codes grid.seats place (record seat { script = script })
+    (record { unit = unit; has = has; fits = fits }) seated (slice_get_within grid.seats place seat at)

@@ -1,0 +1,24 @@
+use Rattle.std.proofs.Common.{◌≡◌, ℕ, ◌+◌, length}
+use Rattle.std.specs.Prelude.{None, not}
+use Rattle.lsl_post.specs.Told.{as_value}
+use Rattle.lsl_post.proofs.Amid.{Again}
+use Rattle.lsl_script.specs.Codes.{Meant}
+use Rattle.lsl_region.specs.Grids.{AreSeated, Stands}
+use Rattle.lsl_region.specs.Segments.{is_ready_at, segment, turn}
+use Rattle.lsl_region.specs.Turning.{InTurn, IsHeld, IsUnitAt}
+use Rattle.lsl_region.specs.Worlds.{World}
+use Rattle.lsl_region.proofs.grid.Grid.turn.Given as goal
+
+abbrev pub invariant-loop-spent : goal.invariant-loop-spent
+invariant-loop-spent l =
+    record {
+      len : length l.self.seats ≡ length l.fn.self.seats;
+      seated : AreSeated l.library l.self.seats;
+      unit : IsUnitAt l.library l.unit l.self.seats l.place;
+      held : IsHeld l.unit l.live;
+      again : (m : Meant l.library) (w : World) → Stands l.library None l.clock l.fn.self w →
+          Again (λ (x : World × ℕ). InTurn l.library l.unit l.clock l.place l.self l.live x.0 × (l.spent ≡ x.1))
+          (turn m.rules l.ticks l.place w) l.fn.out l.out
+          (λ x. not (is_ready_at x.0 l.place))
+          (λ x. as_value (λ v. (v, x.1 + 1)) (segment m.rules l.place x.0)) l.spent l.ticks;
+    }

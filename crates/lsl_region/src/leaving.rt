@@ -1,0 +1,29 @@
+//! A script goes out of the grid while it is awake, and comes back.
+
+ghost use Rattle.std.specs.Prelude.{◌≡◌, ◌<◌, Some, None, length, slice_get};
+ghost use Rattle.lsl_region.specs.Turning.{with_seated};
+ghost use Rattle.lsl_region.specs.declared.grid.Seat.{Seat as Place};
+
+use crate::grid::Grid;
+use lsl_script::Script;
+
+impl Grid {
+    /// The script at this place goes out of the grid.
+    pub(crate) fn take_out(&mut self, place: usize) -> Option<Script>
+        requires { place < length self.old.seats }
+        ensures taken { (seat : Place) → slice_get self.old.seats place ≡ Some seat → result ≡ seat.script }
+        ensures seats { (seat : Place) → slice_get self.old.seats place ≡ Some seat →
+            self.new ≡ with_seated self.old place seat None }
+    {
+        self.seats[place].script.take()
+    }
+
+    /// A script comes into the seat at this place.
+    pub(crate) fn put_back(&mut self, place: usize, script: Script)
+        requires { place < length self.old.seats }
+        ensures { (seat : Place) → slice_get self.old.seats place ≡ Some seat →
+            self.new ≡ with_seated self.old place seat (Some script) }
+    {
+        self.seats[place].script = Some(script);
+    }
+}

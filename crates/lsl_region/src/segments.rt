@@ -1,0 +1,233 @@
+//! Segments of one script: from one tick to the next, or to its handler's end, with all host calls on the way.
+
+ghost use Rattle.std.specs.Prelude.{◌≡◌, ◌<◌, ◌≤◌, ◌-◌, ◌+◌, ℕ, None, true, length, map, IfOk, OnOk};
+ghost use Rattle.lsl_code.specs.Weaves.{Weaves};
+ghost use Rattle.lsl_machine.specs.State.{CanRun};
+ghost use Rattle.lsl_machine.specs.declared.standing.Standing.TheVariants as standings;
+ghost use Rattle.lsl_post.specs.Journal.{Adds, Tells};
+ghost use Rattle.lsl_post.specs.Timing.{latest_clock};
+ghost use Rattle.lsl_script.specs.Awake.{IsAskedFor, IsAwake, taken_by};
+ghost use Rattle.lsl_script.specs.Codes.{HasUnit, Meant, rules_of};
+ghost use Rattle.lsl_script.specs.Fitting.{FitsUnit, are_ready};
+ghost use Rattle.lsl_script.specs.Handlers.{given};
+ghost use Rattle.lsl_script.specs.Lawful.{Lawful};
+ghost use Rattle.lsl_script.specs.Lives.{entries_of_closing, entries_of_taking};
+ghost use Rattle.lsl_script.specs.Parts.{parts_of};
+ghost use Rattle.lsl_script.specs.Scripts.{Flight, Script as Source};
+ghost use Rattle.lsl_script.specs.Waking.{WakesAs};
+ghost use Rattle.lsl_region.specs.Answers.{answer};
+ghost use Rattle.lsl_region.specs.Grids.{AreSeated, Stands, unit_number};
+ghost use Rattle.lsl_region.specs.Segments.{asked, taken};
+ghost use Rattle.lsl_region.specs.Turning.{Begins, GoesOn, InTurn, IsHeld, IsLast, IsReadyInTurn, IsUnitAt, Paused, StandsAt, asks_left};
+ghost use Rattle.lsl_region.specs.Worlds.{World};
+
+use crate::grid::Grid;
+use crate::posting::number;
+use lsl_code::{Library, Woven};
+use lsl_post::{Entries, Entry};
+use lsl_running::{Call, Reply};
+use lsl_script::{Closed, Live, Script, Turn, WakeFault};
+use lsl_text::NoMemory;
+use std::alloc::{AllocError, Global};
+
+impl Grid {
+    /// Takes the script at this place out of the grid and wakes it, and tells of the event that it takes.
+    pub(crate) fn begin(
+        &mut self,
+        place: usize,
+        clock: u64,
+        library: &Library,
+        unit: &Woven,
+        out: &mut Entries,
+    ) -> Result<Live, NoMemory>
+        requires place { place < length self.old.seats }
+        requires seated { AreSeated library.now self.old.seats }
+        requires unit { IsUnitAt library.now unit.now self.old.seats place }
+        requires ready { IsReadyInTurn clock self.old.seats place None }
+        ensures does { (m : Meant library.now) (w : World) → Stands library.now None clock self.old w →
+            Tells result (λ v live. Begins library.now unit.now clock place self.new live v) out.old out.new
+            (taken place w) }
+        ensures awake { IfOk result (IsAwake unit.now) }
+        ensures able { IfOk result (λ live. CanRun live.machine.standing) }
+        ensures seated { OnOk result (AreSeated library.now self.new.seats) }
+        ensures unit { OnOk result (IsUnitAt library.now unit.now self.new.seats place) }
+        ensures len { length self.new.seats ≡ length self.old.seats }
+        ensures units { map unit_number self.new.seats ≡ map unit_number self.old.seats }
+    {
+        let Some(script) = self.take_out(place) else {
+            unreachable!();
+        };
+        let live = wake(script, self.alloc, unit, clock)?;
+        tell_taken(number(place), &live, self.alloc, out)?;
+        Ok(live)
+    }
+
+    /// Goes on to the next tick or the handler's end, and answers all host calls on the way.
+    pub(crate) fn go_on(
+        &mut self,
+        place: usize,
+        live: Live,
+        clock: u64,
+        library: &Library,
+        unit: &Woven,
+        out: &mut Entries,
+    ) -> Result<Option<Live>, NoMemory>
+        requires place { place < length self.old.seats }
+        requires clock { clock ≤ latest_clock }
+        requires seated { AreSeated library.now self.old.seats }
+        requires unit { IsUnitAt library.now unit.now self.old.seats place }
+        requires awake { IsAwake unit.now live }
+        requires able { CanRun live.machine.standing }
+        ensures does { (m : Meant library.now) (f : Flight) (most : ℕ) (w : World) →
+            GoesOn library.now unit.now clock place self.old live f most w →
+            Tells result (λ v live. InTurn library.now unit.now clock place self.new live v) out.old out.new
+            (asked m.rules (most + 1) place f w) }
+        ensures seated { OnOk result (AreSeated library.now self.new.seats) }
+        ensures unit { OnOk result (IsUnitAt library.now unit.now self.new.seats place) }
+        ensures held { IfOk result (IsHeld unit.now) }
+        ensures len { length self.new.seats ≡ length self.old.seats }
+        ensures units { map unit_number self.new.seats ≡ map unit_number self.old.seats }
+    {
+        let mut live = live;
+        let mut turn = live.go(unit);
+        'asks: loop {
+            turn = match turn {
+                Turn::Asks(call) => {
+                    self.serve(place, &mut live, call, clock, library, unit, out)?
+                }
+                last => return self.finish(place, live, last, library, unit, out),
+            };
+        }
+    }
+
+    // Answers a host call, and lets the script go on.
+    fn serve(
+        &mut self,
+        place: usize,
+        live: &mut Live,
+        call: Call,
+        clock: u64,
+        library: &Library,
+        unit: &Woven,
+        out: &mut Entries,
+    ) -> Result<Turn, NoMemory>
+        requires place { place < length self.old.seats }
+        requires clock { clock ≤ latest_clock }
+        requires seated { AreSeated library.now self.old.seats }
+        requires awake { IsAwake unit.now live.old }
+        requires asking { live.old.machine.standing ≡ standings.Asking call.id }
+        requires asked { IsAskedFor call }
+        ensures does { (m : Meant library.now) (f : Flight) (most : ℕ) (w : World) →
+            Paused library.now unit.now clock place self.old live.old (Turn.Asks call) f most w →
+            Tells result (λ x turn. Paused library.now unit.now clock place self.new live.new turn (given x.1 f) (most - 1)
+            x.0) out.old out.new (answer m.rules place call.id call.args w) }
+        ensures awake { OnOk result (IsAwake unit.now live.new) }
+        ensures stands { IfOk result (λ turn. StandsAt unit.now turn live.new) }
+        ensures left { IfOk result (λ turn. asks_left unit.now turn live.new
+            < asks_left unit.now (Turn.Asks call) live.old) }
+        ensures seated { OnOk result (AreSeated library.now self.new.seats) }
+        ensures len { length self.new.seats ≡ length self.old.seats }
+        ensures units { map unit_number self.new.seats ≡ map unit_number self.old.seats }
+    {
+        let Call { id, args } = call;
+        match self.answer_at(place, live, id, &args, clock, library, unit, out)? {
+            Reply::Value(value) => {
+                live.answer(value);
+                Ok(live.go(unit))
+            }
+            Reply::Stop(fault) => Ok(Turn::Faulted(fault)),
+        }
+    }
+
+    // Ends a segment at its last stop: the script stays awake at a tick, else it comes back into the grid.
+    fn finish(
+        &mut self,
+        place: usize,
+        live: Live,
+        turn: Turn,
+        library: &Library,
+        unit: &Woven,
+        out: &mut Entries,
+    ) -> Result<Option<Live>, NoMemory>
+        requires place { place < length self.old.seats }
+        requires seated { AreSeated library.now self.old.seats }
+        requires unit { IsUnitAt library.now unit.now self.old.seats place }
+        requires awake { IsAwake unit.now live }
+        requires stands { StandsAt unit.now turn live }
+        requires last { IsLast turn }
+        ensures does { (m : Meant library.now) (clock : ℕ) (f : Flight) (most : ℕ) (w : World) →
+            Paused library.now unit.now clock place self.old live turn f most w →
+            Tells result (λ v live. InTurn library.now unit.now clock place self.new live v) out.old out.new
+            (asked m.rules (most + 1) place f w) }
+        ensures seated { OnOk result (AreSeated library.now self.new.seats) }
+        ensures unit { OnOk result (IsUnitAt library.now unit.now self.new.seats place) }
+        ensures held { IfOk result (IsHeld unit.now) }
+        ensures len { length self.new.seats ≡ length self.old.seats }
+        ensures units { map unit_number self.new.seats ≡ map unit_number self.old.seats }
+    {
+        match turn {
+            Turn::AtTick => Ok(Some(live)),
+            Turn::Ended => {
+                let Closed {
+                    script,
+                    charge,
+                    cleared,
+                } = live.close(self.alloc, unit)?;
+                tell_closing(number(place), charge, cleared, out)?;
+                self.put_back(place, script);
+                Ok(None)
+            }
+            Turn::Faulted(fault) => {
+                let script = live.fail(self.alloc, unit, fault)?;
+                out.push(Entry::Stopped(number(place), fault))?;
+                self.put_back(place, script);
+                Ok(None)
+            }
+            Turn::NoMemory => Err(AllocError),
+            Turn::Asks(_) => unreachable!(),
+        }
+    }
+}
+
+// Wakes a script that can run.
+fn wake(script: Script, alloc: Global, unit: &Woven, clock: u64) -> Result<Live, NoMemory>
+    requires fits { FitsUnit unit.now script }
+    requires weaves { Weaves unit.now }
+    requires ready { are_ready clock script ≡ true }
+    ensures awake { IfOk result (IsAwake unit.now) }
+    ensures able { IfOk result (λ live. CanRun live.machine.standing) }
+    ensures source { (codes : _) (s : Source) → HasUnit codes s.code unit.now → script ≡ parts_of codes s →
+        Lawful (rules_of codes) s → IfOk result (WakesAs codes unit.now s) }
+{
+    match script.wake(alloc, unit, clock) {
+        Ok(live) => Ok(live),
+        Err(WakeFault::NoMemory) => Err(AllocError),
+        Err(WakeFault::NotReady(_)) => unreachable!(),
+    }
+}
+
+// Tells of the event that was taken, where one was.
+fn tell_taken(number: u32, live: &Live, alloc: Global, out: &mut Entries) -> Result<(), NoMemory>
+    ensures { Adds result out.old out.new (entries_of_taking number (taken_by live.now)) }
+{
+    match live.took() {
+        Some(event) => out.push(Entry::Took(number, event.copy(alloc)?)),
+        None => Ok(()),
+    }
+}
+
+// Tells of a handler's end: the charge, and how many events went.
+fn tell_closing(
+    number: u32,
+    charge: u64,
+    cleared: Option<u32>,
+    out: &mut Entries,
+) -> Result<(), NoMemory>
+    ensures { Adds result out.old out.new (entries_of_closing number charge cleared) }
+{
+    out.push(Entry::Done(number, charge))?;
+    match cleared {
+        Some(count) => out.push(Entry::Clear(number, count)),
+        None => Ok(()),
+    }
+}
