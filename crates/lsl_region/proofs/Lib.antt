@@ -12,4 +12,4 @@ pub mod Rings
 pub mod Touches
 pub mod Coming
 pub mod Flying
-pub mod Segments
+pub mod Stops
