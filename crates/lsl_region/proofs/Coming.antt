@@ -1,5 +1,5 @@
 -- A script goes out of the grid, and comes back into it.
-use Rattle.std.proofs.Common.{◌≡◌, ℕ, zero, suc, ◌<◌, ◌⊎◌, inl, inr, Bool, true, false, eqb, List, [], ◌∷◌, map, length, refl, ap, sym, ◌∙◌, subst}
+use Rattle.std.proofs.Common.{◌≡◌, ℕ, zero, suc, ◌<◌, Bool, true, false, List, [], ◌∷◌, map, length, refl, ap, sym, ◌∙◌, subst}
 use Rattle.std.specs.Prelude.{Option, Some, None, slice_get, slice_set}
 use Rattle.std.specs.Option.{option_map}
 use Rattle.std.proofs.lemmas.Option.{slice_get_within}
@@ -11,7 +11,7 @@ use Rattle.lsl_script.specs.Lawful.{Lawful}
 use Rattle.lsl_script.specs.Parts.{parts_of}
 use Rattle.lsl_script.specs.Scripts.{Script}
 use Rattle.lsl_region.specs.declared.grid.Seat.{Seat}
-use Rattle.lsl_region.specs.Grids.{AreSeated, Contents, FitsSeat, IsScript, IsSeated, Stands, is_out, seat_of, unit_number}
+use Rattle.lsl_region.specs.Grids.{AreSeated, Contents, FitsSeat, IsLawful, Stands, is_out, seat_of, unit_number}
 use Rattle.lsl_region.specs.Turning.{IsUnitAt, with_seated}
 use Rattle.lsl_region.specs.Worlds.{Member, World, with_member}
 use Rattle.lsl_region.proofs.Away.{away-seat, other-home, self-out}
@@ -57,6 +57,12 @@ module _ (codes : List Code) (clock place : ℕ) (grid : Contents) (w : World) (
         lawful = subst (λ (b : Bool). IsLawful codes b t) (sym (self-out place)) tt;
       }) refl (ap (slice_set grid.seats place) same)
       (λ k other. other-home place k (λ e. other (sym e)))
+
+-- the seat that is read at a place
+pub seat-is : (g h : Contents) (n : ℕ) (x seat : Seat) → g ≡ h → slice_get g.seats n ≡ Some x
+    → slice_get h.seats n ≡ Some seat → x ≡ seat
+seat-is g h n x seat is at e =
+    let same : Some x ≡ Some seat = sym at ∙ ap (λ (z : Contents). slice_get z.seats n) is ∙ e in cc
 
 -- the seats' units stay, so the unit at a place does
 units-read : (old new : List Seat) (n : ℕ) (seat : Seat) → map unit_number new ≡ map unit_number old

@@ -1,5 +1,5 @@
 -- What comes of a script that is out, for one tick more of its flight.
-use Rattle.std.proofs.Common.{◌≡◌, ℕ, suc, ◌+◌, ◌-◌, ◌<◌, ◌≤◌, List, [], ◌∷◌, ◌++◌, length, refl, ap, sym, ◌∙◌, subst, append_assoc, append-nil, arith}
+use Rattle.std.proofs.Common.{◌≡◌, ℕ, zero, suc, ◌+◌, ◌-◌, ◌<◌, ◌≤◌, List, [], ◌∷◌, ◌++◌, length, refl, ap, sym, ◌∙◌, subst, append_assoc, append-nil, arith}
 use Rattle.std.specs.Prelude.{Option, Some, None, slice_get}
 use Rattle.lsl_value.specs.declared.names.BuiltinId.{BuiltinId}
 use Rattle.lsl_running.specs.declared.ends.Fault.{Fault}
@@ -28,7 +28,7 @@ use Rattle.lsl_script.proofs.Meant.{ended_same, failed_same, flight_same}
 use Rattle.lsl_region.specs.Answers.{answer}
 use Rattle.lsl_region.specs.Grids.{Contents, Lent}
 use Rattle.lsl_region.specs.Segments.{asked, came, whole_in_flight}
-use Rattle.lsl_region.specs.Turning.{Paused, StandsAt, asks_left}
+use Rattle.lsl_region.specs.Turning.{InFlight, Paused, StandsAt, asks_left}
 use Rattle.lsl_region.specs.Worlds.{Member, World, with_member}
 use Rattle.lsl_region.proofs.Placed.{at-member}
 
@@ -51,50 +51,50 @@ asked-more r most place f w h e =
 module _ (codes : List Code) (unit : Code) (clock place : ℕ) (grid : Contents) (live : Live) (stop : Turn)
     (f : Flight) (most : ℕ) (w : World) (m : Meant codes) (p : Paused codes unit clock place grid live stop f most w)
   where
-    abbrev s : Script
-    s = p.member.script
+    abbrev script : Script
+    script = p.member.script
 
     abbrev with : Script → World
     with t = with_member w place (record p.member { script = t })
 
-    known : s.code < length codes
+    known : script.code < length codes
     known = (p.stands.scripts place p.member p.at).known
 
-    comes : (h : Whole) → flight_whole (rules_of codes) s.code s.state f (f.ticks + 1) f.answers ≡ h
+    comes : (h : Whole) → flight_whole (rules_of codes) script.code script.state f (f.ticks + 1) f.answers ≡ h
         → asked m.rules (most + 1) place f w ≡ came m.rules (asked m.rules most place) place f w h
     comes h e = asked-more m.rules most place f w h
         (ap (λ (o : Option Member). whole_in_flight m.rules o f) p.at
-        ∙ flight_same codes m s.code s.state f (f.ticks + 1) f.answers known ∙ e)
+        ∙ flight_same codes m script.code script.state f (f.ticks + 1) f.answers known ∙ e)
 
     -- it asked
     pub comes-asking : (call : Call)
-        → flight_whole (rules_of codes) s.code s.state f (f.ticks + 1) f.answers ≡ whole.Asks call.id call.args
+        → flight_whole (rules_of codes) script.code script.state f (f.ticks + 1) f.answers ≡ whole.Asks call.id call.args
         → asked m.rules (most + 1) place f w
         ≡ next_to (answer m.rules place call.id call.args w) (λ x. asked m.rules most place (given x.1 f) x.0)
     comes-asking call e = comes (whole.Asks call.id call.args) e
 
     -- it came to a tick
     pub comes-cut : (calls : List _)
-        → flight_whole (rules_of codes) s.code s.state f (f.ticks + 1) f.answers ≡ whole.Cut calls
-        → asked m.rules (most + 1) place f w ≡ quiet (with (with_flight (ticked f) s))
+        → flight_whole (rules_of codes) script.code script.state f (f.ticks + 1) f.answers ≡ whole.Cut calls
+        → asked m.rules (most + 1) place f w ≡ quiet (with (with_flight (ticked f) script))
     comes-cut calls e = comes (whole.Cut calls) e
         ∙ at-member place (λ (k : Member). quiet (with_flight (ticked f) k.script)) w p.member p.at
 
     -- it ended
     pub comes-ended : (way : _) (kept : _)
-        → flight_whole (rules_of codes) s.code s.state f (f.ticks + 1) f.answers ≡ whole.Ends way kept
-        → asked m.rules (most + 1) place f w ≡ as_value with (ended (rules_of codes) (place + 1) s kept way)
+        → flight_whole (rules_of codes) script.code script.state f (f.ticks + 1) f.answers ≡ whole.Ends way kept
+        → asked m.rules (most + 1) place f w ≡ as_value with (ended (rules_of codes) (place + 1) script kept way)
     comes-ended way kept e = comes (whole.Ends way kept) e
         ∙ at-member place (λ (k : Member). ended m.rules (place + 1) k.script kept way) w p.member p.at
-        ∙ ap (as_value with) (ended_same codes m (place + 1) s kept way known)
+        ∙ ap (as_value with) (ended_same codes m (place + 1) script kept way known)
 
     -- it faulted
     pub comes-failed : (fault : Fault)
-        → flight_whole (rules_of codes) s.code s.state f (f.ticks + 1) f.answers ≡ whole.Fails fault
-        → asked m.rules (most + 1) place f w ≡ as_value with (failed (rules_of codes) (place + 1) s fault)
+        → flight_whole (rules_of codes) script.code script.state f (f.ticks + 1) f.answers ≡ whole.Fails fault
+        → asked m.rules (most + 1) place f w ≡ as_value with (failed (rules_of codes) (place + 1) script fault)
     comes-failed fault e = comes (whole.Fails fault) e
         ∙ at-member place (λ (k : Member). failed m.rules (place + 1) k.script fault) w p.member p.at
-        ∙ ap (as_value with) (failed_same codes m (place + 1) s fault known)
+        ∙ ap (as_value with) (failed_same codes m (place + 1) script fault known)
 
 -- What comes of a flight that waits, once it has an answer and others, is told of its machine.
 waits-told : (codes : List Code) (unit : Code) (s : Script) (f : Flight) (id : BuiltinId) (live : Live)
@@ -124,7 +124,7 @@ asks-fewer codes unit s t f id of live new most r a b same asks = λ replies eno
 pub asks-once : (codes : List Code) (s : Script) (f : Flight) (most : ℕ) (call : Call)
     → flight_whole (rules_of codes) s.code s.state f (f.ticks + 1) f.answers ≡ whole.Asks call.id call.args
     → AsksAtMost (rules_of codes) s.code s.state f most → 0 < most
-asks-once codes s f 0 call e asks =
+asks-once codes s f zero call e asks =
     absurd (asks [] (omega arith) (
       call.id,
       call.args,
@@ -144,3 +144,35 @@ left-falls unit turn.AtTick live n falls some = some
 left-falls unit turn.Ended live n falls some = some
 left-falls unit (turn.Faulted fault) live n falls some = some
 left-falls unit turn.NoMemory live n falls some = some
+
+-- the script that asked is lent
+abbrev pub paused-lent : (codes : List Code) (unit : Code) (clock place : ℕ) (grid : Contents) (live : Live) (call : Call)
+    (f : Flight) (most : ℕ) (w : World) → Paused codes unit clock place grid live (turn.Asks call) f most w
+    → Lent codes unit clock place grid live call.id f w
+paused-lent codes unit clock place grid live call f most w p = record {
+  stands = p.stands;
+  member = p.member;
+  at = p.at;
+  waits = p.turns.1;
+}
+
+-- one host call is answered
+abbrev pub answering : Rules → ℕ → Call → InFlight → Told InFlight
+answering r place call x =
+    as_value (λ y. record { world = y.0; flight = given y.1 x.flight; most = x.most - 1 })
+    (answer r place call.id call.args x.world)
+
+-- what is left to do then
+abbrev pub still_asked : Rules → ℕ → InFlight → Told World
+still_asked r place x = asked r (x.most + 1) place x.flight x.world
+
+pub goes-asking : (codes : List Code) (unit : Code) (clock place : ℕ) (grid : Contents) (live : Live) (m : Meant codes)
+    (call : Call) (x : InFlight)
+    → Paused codes unit clock place grid live (turn.Asks call) x.flight x.most x.world
+    → still_asked m.rules place x ≡ next_to (answering m.rules place call x) (still_asked m.rules place)
+goes-asking codes unit clock place grid live m call x p =
+    let some = asks-once codes p.member.script x.flight x.most call p.turns.0 p.asks in
+    let n : x.most ≡ x.most - 1 + 1 = omega arith in
+    let a = answer m.rules place call.id call.args x.world in
+    comes-asking codes unit clock place grid live (turn.Asks call) x.flight x.most x.world m p call p.turns.0
+    ∙ ap (λ (k : ℕ). lead a.entries (asked m.rules k place (given a.value.1 x.flight) a.value.0)) n

@@ -63,7 +63,7 @@ module _ (codes : List Code) (away : Option ℕ) (clock : ℕ) (grid : Contents)
         = sym e ∙ st.seats n ∙ ap (option_map (seat_of codes (is_out away n))) k in
         record { member = m; at = k; is = cc }
 
-  seated-at : (n : ℕ) (m : Member) → slice_get w.members n ≡ Some m
+  pub seated-at : (n : ℕ) (m : Member) → slice_get w.members n ≡ Some m
       → slice_get grid.seats n ≡ Some (seat_of codes (is_out away n) m)
   seated-at n m e = st.seats n ∙ ap (option_map (seat_of codes (is_out away n))) e
 

@@ -1,6 +1,7 @@
 //! A script goes out of the grid while it is awake, and comes back.
 
-ghost use Rattle.std.specs.Prelude.{◌≡◌, ◌<◌, Some, None, length, slice_get};
+ghost use Rattle.std.specs.Prelude.{◌≡◌, ◌<◌, Some, None, length, map, slice_get};
+ghost use Rattle.lsl_region.specs.Grids.{unit_number};
 ghost use Rattle.lsl_region.specs.Turning.{with_seated};
 ghost use Rattle.lsl_region.specs.declared.grid.Seat.{Seat as Place};
 
@@ -14,6 +15,8 @@ impl Grid {
         ensures taken { (seat : Place) → slice_get self.old.seats place ≡ Some seat → result ≡ seat.script }
         ensures seats { (seat : Place) → slice_get self.old.seats place ≡ Some seat →
             self.new ≡ with_seated self.old place seat None }
+        ensures len { length self.new.seats ≡ length self.old.seats }
+        ensures units { map unit_number self.new.seats ≡ map unit_number self.old.seats }
     {
         self.seats[place].script.take()
     }
@@ -21,8 +24,10 @@ impl Grid {
     /// A script comes into the seat at this place.
     pub(crate) fn put_back(&mut self, place: usize, script: Script)
         requires { place < length self.old.seats }
-        ensures { (seat : Place) → slice_get self.old.seats place ≡ Some seat →
+        ensures seats { (seat : Place) → slice_get self.old.seats place ≡ Some seat →
             self.new ≡ with_seated self.old place seat (Some script) }
+        ensures len { length self.new.seats ≡ length self.old.seats }
+        ensures units { map unit_number self.new.seats ≡ map unit_number self.old.seats }
     {
         self.seats[place].script = Some(script);
     }
