@@ -1,7 +1,7 @@
 //! Journals of scripts by `once`, with what the language's definition gives.
 
 use crate::outside::{Outside, call};
-use crate::scripts::{many_lists, nested_blocks, said_text};
+use crate::scripts::{many_lists, nested_blocks, push_many, said_text};
 use std::alloc::{AllocError, Global};
 use std::test::Fail;
 
@@ -171,7 +171,7 @@ const SAID: [(usize, &str, usize); 6] = [
 #[test]
 fn said_texts_are_cut(rt: HostRuntime) -> Result<(), Fail> {
     for (count, end, bytes) in SAID {
-        let script = said_text(rt.alloc(), count, end)?;
+        let script = said_text(rt.alloc(), "llOwnerSay(", count, end)?;
         let ended = call(
             rt.alloc(),
             &["once", "s.lsl"],
@@ -180,6 +180,21 @@ fn said_texts_are_cut(rt: HostRuntime) -> Result<(), Fail> {
         assert_eq!(rt; ended.status, 0, "{count} {end}");
         assert_eq!(rt; ended.sunk.len(), bytes + 56, "{count} {end}");
     }
+    Ok(())
+}
+
+#[test]
+fn cut_text(rt: HostRuntime) -> Result<(), Fail> {
+    let script = said_text(rt.alloc(), "llSay(0, ", 1023, "\u{e9}")?;
+    let ended = call(
+        rt.alloc(),
+        &["once", "s.lsl"],
+        Outside::of(script.as_slice()),
+    )?;
+    let mut want = Vec::from_slice(rt.alloc(), b"took 1 state_entry\nchat 1 say 0 \"")?;
+    push_many(&mut want, b'x', 1023)?;
+    want.extend_from_slice(b"\"\ndone 1 1024\nhome 1 \"here\"\n")?;
+    assert_eq!(rt; ended.sunk.as_slice(), want.as_slice());
     Ok(())
 }
 

@@ -2,7 +2,8 @@
 
 use std::alloc::{AllocError, Global};
 
-fn push_many(out: &mut Vec<u8>, byte: u8, count: usize) -> Result<(), AllocError> {
+/// Appends so many equal bytes.
+pub fn push_many(out: &mut Vec<u8>, byte: u8, count: usize) -> Result<(), AllocError> {
     for _ in 0..count {
         out.push(byte)?;
     }
@@ -36,9 +37,16 @@ pub fn nested_blocks(alloc: Global, count: usize) -> Result<Vec<u8>, AllocError>
     Ok(script)
 }
 
-/// A script that says a text of so many `x` and this end.
-pub fn said_text(alloc: Global, count: usize, end: &str) -> Result<Vec<u8>, AllocError> {
-    let mut script = Vec::from_slice(alloc, b"default{state_entry(){llOwnerSay(\"")?;
+/// A script that says a text of so many `x` and this end, by a call with these words before the text.
+pub fn said_text(
+    alloc: Global,
+    call: &str,
+    count: usize,
+    end: &str,
+) -> Result<Vec<u8>, AllocError> {
+    let mut script = Vec::from_slice(alloc, b"default{state_entry(){")?;
+    script.extend_from_slice(call.as_bytes())?;
+    script.push(b'"')?;
     push_many(&mut script, b'x', count)?;
     script.extend_from_slice(end.as_bytes())?;
     script.extend_from_slice(b"\");}}")?;

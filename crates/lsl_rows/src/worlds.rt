@@ -78,7 +78,7 @@ fn worlds_of_one_script(rt: HostRuntime) -> Result<(), Fail> {
 }
 
 /// A world file: its name here, its scripts' files, its text, and the journal.
-const WORLDS: [(&str, &[(&str, &str)], &str, &str); 3] = [
+const WORLDS: [(&str, &[(&str, &str)], &str, &str); 6] = [
     (
         "fair turns",
         &[(
@@ -112,6 +112,28 @@ const WORLDS: [(&str, &[(&str, &str)], &str, &str); 3] = [
         "object K:01 \"Box\" K:02 \"A\"\nscript \"s\" \"a.lsl\"\nscript \"t\" \"b.lsl\"\nbegin\nrun 10\nclock 5000\nrun 10\nend\n",
         "took 1 state_entry\ndone 1 1024\ntook 2 state_entry\ndone 2 1024\ntook 1 timer\nowner 1 \"a\"\ndone 1 1024\ntook 2 timer\nowner 2 \"b\"\ndone 2 1024\nhome 1 \"A\"\n",
     ),
+    (
+        "a touch that falls back",
+        &[
+            (
+                "a.lsl",
+                "default { touch_start(integer n) { llOwnerSay((string)llDetectedLinkNumber(0)); } }",
+            ),
+            ("b.lsl", "default { timer() { } }"),
+        ],
+        "object K:01 \"Box\" K:02 \"A\"\nscript \"s\" \"a.lsl\"\nprim K:03 \"Lid\"\nscript \"t\" \"b.lsl\"\nbegin\ntouch 1 2 K:aa \"Ann\"\nrun 10\nend\n",
+        "took 1 touch_start 1\nowner 1 \"2\"\ndone 1 1024\nhome 1 \"A\"\n",
+    ),
+    (
+        "changed and rezzed",
+        &[(
+            "s.lsl",
+            "default { changed(integer f) { llOwnerSay((string)f); } on_rez(integer n) { llOwnerSay((string)n); } }",
+        )],
+        "object K:01 \"Box\" K:02 \"A\"\nscript \"s\" \"s.lsl\"\nprim K:03 \"Lid\"\nscript \"t\" \"s.lsl\"\nbegin\nchanged 1 32\nrez 1 7\nrun 10\nend\n",
+        "took 1 changed 32\nowner 1 \"32\"\ndone 1 1024\ntook 1 on_rez 7\nowner 1 \"7\"\ndone 1 1024\ntook 2 changed 32\nowner 2 \"32\"\ndone 2 1024\ntook 2 on_rez 7\nowner 2 \"7\"\ndone 2 1024\nhome 1 \"A\"\n",
+    ),
+    ("no objects", &[], "begin\nend\n", ""),
 ];
 
 #[test]
