@@ -1,5 +1,6 @@
 pub mod AnswerLemmas
 pub mod AnyLemmas
+pub mod DecidedLemmas
 pub mod EachLemmas
 pub mod EventLemmas
 pub mod FieldLemmas
@@ -24,6 +25,7 @@ pub mod SpeltLemmas
 pub mod SpeltListenLemmas
 pub mod SpeltPartLemmas
 pub mod StoreLemmas
+pub mod TakenLemmas
 pub mod ValidCallLemmas
 pub mod ValidLemmas
 pub mod ValidPartLemmas

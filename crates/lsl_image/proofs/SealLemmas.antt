@@ -18,7 +18,7 @@ use Rattle.lsl_image.specs.Reading.{Gives, IsRefusedBy, Reads}
 use Rattle.lsl_image.proofs.FieldLemmas.{field-stands}
 
 -- so many bytes stand where there are so many
-length-part : (bytes : List ℕ) (p n : ℕ) → p + n ≤ length bytes → length (take n (drop p bytes)) ≡ n
+pub length-part : (bytes : List ℕ) (p n : ℕ) → p + n ≤ length bytes → length (take n (drop p bytes)) ≡ n
 length-part bytes p n enough = omega (arith, length-take n (drop p bytes), length-drop p bytes)
 
 pub bytes-stand : (bytes : List ℕ) (p n : ℕ) → p + n ≤ length bytes

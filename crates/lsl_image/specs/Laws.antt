@@ -1,7 +1,8 @@
 -- What an image stands for is one thing, an image has no fault, and other bytes have one first fault.
-use Rattle.std.specs.Prelude.{◌≡◌, List, ℕ, true}
+use Rattle.std.specs.Prelude.{◌≡◌, ◌⊎◌, List, ℕ, true}
 use Rattle.std.specs.List.{AllByRecursion}
 use Rattle.lsl_value.specs.Key.{is_valid_key}
+use Rattle.lsl_bytes.specs.Fields.{FitsU8}
 use Rattle.lsl_code.specs.declared.woven_units.Woven.{Woven as Code}
 use Rattle.lsl_image.specs.declared.faults.ImageFault.{ImageFault}
 use Rattle.lsl_image.specs.declared.parts.ObjectParts.{ObjectParts}
@@ -54,3 +55,16 @@ abbrev pub WorldsAreValid : Type 0
 WorldsAreValid =
     (shapes : List Shape) (library : List Code) (bytes : List ℕ) (a : WorldParts) →
     AllByRecursion HasKey shapes → WorldImage shapes library a bytes → IsWorld library a
+
+-- bytes are an image, or have a first fault
+abbrev pub ObjectsOrFaults : Type 0
+ObjectsOrFaults =
+    (region : List ℕ) (shape : Shape) (library : List Code) (bytes : List ℕ) → AllByRecursion FitsU8 bytes →
+    ((a : ObjectParts) × ObjectImage region shape library a bytes)
+    ⊎ ((fault : ImageFault) × ObjectFirst region shape library bytes fault)
+
+abbrev pub WorldsOrFaults : Type 0
+WorldsOrFaults =
+    (shapes : List Shape) (library : List Code) (bytes : List ℕ) → AllByRecursion FitsU8 bytes →
+    ((a : WorldParts) × WorldImage shapes library a bytes)
+    ⊎ ((fault : ImageFault) × WorldFirst shapes library bytes fault)

@@ -4,7 +4,8 @@ ghost use Rattle.lsl_image.specs.declared.parts.ObjectParts.{ObjectParts};
 ghost use Rattle.lsl_image.specs.declared.parts.WorldParts.{WorldParts};
 ghost use Rattle.lsl_image.specs.Layout.{Layout};
 ghost use Rattle.lsl_image.specs.SpellingLaws.{IsReadAsSpelled, IsSpelledAsRead};
-ghost use Rattle.lsl_image.specs.Laws.{ObjectFaultsAreOne, ObjectsAreOne, ObjectsAreValid, ObjectsHaveNoFault, WorldFaultsAreOne, WorldsAreOne, WorldsAreValid, WorldsHaveNoFault};
+ghost use Rattle.lsl_image.specs.Laws.{ObjectFaultsAreOne, ObjectsAreOne, ObjectsAreValid, ObjectsHaveNoFault, ObjectsOrFaults};
+ghost use Rattle.lsl_image.specs.Laws.{WorldFaultsAreOne, WorldsAreOne, WorldsAreValid, WorldsHaveNoFault, WorldsOrFaults};
 
 /// The bytes of an image stand for one thing.
 pub fn images_are_of_one()
@@ -22,6 +23,12 @@ pub fn images_have_no_fault()
 pub fn first_faults_are_one()
     ensures objects { ObjectFaultsAreOne }
     ensures worlds { WorldFaultsAreOne }
+{}
+
+/// All bytes are an image or have a first fault: with the laws above, of one thing or exactly one fault.
+pub fn images_or_faults()
+    ensures objects { ObjectsOrFaults }
+    ensures worlds { WorldsOrFaults }
 {}
 
 /// What is spelled is read, and what is read is spelled.

@@ -35,7 +35,7 @@ pub use crate::faults::ImageFault;
 pub use crate::images::{read_object, read_world};
 pub use crate::laws::{
     first_faults_are_one, images_are_of_one, images_are_valid, images_have_no_fault,
-    spelled_and_read,
+    images_or_faults, spelled_and_read,
 };
 pub use crate::parts::{ObjectParts, Pairs, Placed, Shape, Shapes, WorldParts};
 pub use crate::write_images::{write_object, write_world};
