@@ -6,4 +6,16 @@ mod back;
 #[cfg(test)]
 mod damages;
 #[cfg(test)]
+mod limits;
+#[cfg(test)]
+mod mending;
+#[cfg(test)]
+mod reading;
+#[cfg(test)]
 mod samples;
+#[cfg(test)]
+mod scripts;
+#[cfg(test)]
+mod stores;
+#[cfg(test)]
+mod worlds;

@@ -1,11 +1,13 @@
-//! Images as bytes, written down by hand, and what is done to them.
+//! Scripts, and images of objects and worlds that have them, as bytes that were written down field by field.
+
+ghost use Rattle.std.specs.Prelude.{IfOk};
+ghost use Rattle.std.specs.List.{AllByRecursion};
+ghost use Rattle.lsl_image.specs.Laws.{HasKey};
 
 use lsl_build::build;
 use lsl_code::{Library, Sequence};
-use lsl_image::{ImageFault, ObjectParts, Shape, read_object};
-use lsl_text::Refusal;
-use lsl_value::Text;
-use sha2::{Digest, Sha256};
+use lsl_image::{Shape, Shapes};
+use lsl_value::{Text, valid_key};
 use std::alloc::Global;
 use std::test::Fail;
 
@@ -24,6 +26,12 @@ const KINDS: &str = concat!(
     "link_message(integer f, integer c, string t, key i) { } changed(integer c) { } ",
     "on_rez(integer c) { } } state other { touch_start(integer c) { } }"
 );
+
+/// A handler with a text in a slot.
+const GROWN: &str = "default { touch_start(integer n) { string s; while (1) ; } }";
+
+/// The key of every object.
+const KEY: &str = "00000000-0000-0000-0000-000000000001";
 
 /// A script within two calls, in version 1: 227 bytes.
 pub const CALLS_FIRST: [&str; 5] = [
@@ -65,6 +73,47 @@ pub const EVERY_KIND: [&str; 18] = [
     "000131000000016200000002c3a98226dad3da328bae475272cdbcf85a3ba8fc19a7ffe68be8286cfd87b452c40e",
 ];
 
+/// A script cut in its loop while its text is empty, in version 1: 208 bytes.
+pub const GROWN_FIRST: [&str; 5] = [
+    "4c534c4f000100000000000000d0000000000000000000000000000000010100000003426f780001e5ac806f9a3d7162",
+    "12f97f0b5a0f70da18bb679675e8771b791e78801be0ddf1000000000000000100000000000000000000000000000000",
+    "000000000001030100000001010000002430303030303030302d303030302d303030302d303030302d30303030303030",
+    "303030616100000003416e6e0000000000010000000101000000010300000000d8bc86eabe8ebd534b2c4ca14d2e9e4f",
+    "9f17272bf2e70b5daafe144c919bb8ba",
+];
+
+/// A world without objects, in version 1: 55 bytes.
+pub const EMPTY_FIRST: [&str; 2] = [
+    "4c534c57000100000000000000370000000000000000004b1f47bea6410e72a547efde015aec511dde629ccb99c38d01",
+    "aeeecbc2acdb41",
+];
+
+/// The same in version 2.
+pub const EMPTY_SECOND: [&str; 2] = [
+    "4c534c5700020000000000000037000000000000000000a5858d48fb866c1309c9a05384ac242d3ae84a02ffb95a1aa6",
+    "90d42810e1d634",
+];
+
+/// A world of the object with the script within two calls, in version 1: 241 bytes.
+pub const WORLD_FIRST: [&str; 6] = [
+    "4c534c57000100000000000000f100000000000000000100000001410000000000000000000000000000000101000000",
+    "03426f780001ea2258a4659e8d1b66404784bd1bb3bb59681a0be2144db850a3926e1e0ff71f00000000000000010000",
+    "0000000000000000000000000000000000000001030100000001010000002430303030303030302d303030302d303030",
+    "302d303030302d30303030303030303030616100000003416e6e00000000000200000001010000000401000000020100",
+    "000001000200020100000001010000000abc5a7c9955f14a0ac183d06f399b65d3a4722d4002014a9b6b957cad866319",
+    "8d",
+];
+
+/// The same in version 2: 247 bytes.
+pub const WORLD_SECOND: [&str; 6] = [
+    "4c534c57000200000000000000f700000000000000000100000001410000000000000000000000000000000101000000",
+    "03426f780001ea2258a4659e8d1b66404784bd1bb3bb59681a0be2144db850a3926e1e0ff71f00000000000000010000",
+    "000000000000000000000000000000000000000001000001030100000001010000002430303030303030302d30303030",
+    "2d303030302d303030302d30303030303030303030616100000003416e6e000000000002000000010100000004010000",
+    "00020100000001000200020100000001010000000a0000b18d0f0f794f47a2161d1a15287ada1d98ca7f66019ddb399c",
+    "e441f6027fe913",
+];
+
 /// The bytes of hexadecimal digits.
 pub fn unhex(alloc: Global, lines: &[&str]) -> Result<Vec<u8>, Fail> {
     let mut bytes = Vec::new(alloc);
@@ -81,10 +130,10 @@ pub fn text(alloc: Global, characters: &str) -> Result<Text, Fail> {
     Ok(Text::from_utf8(alloc, characters.as_bytes())?.ok_or("no text")?)
 }
 
-/// The units of both scripts.
+/// The units of the three scripts.
 pub fn library(alloc: Global) -> Result<Library, Fail> {
     let mut library = Library::new(alloc);
-    for script in [CALLS, KINDS] {
+    for script in [CALLS, KINDS, GROWN] {
         match build(alloc, script.as_bytes()) {
             Ok(built) => library.add(built.code)?,
             Err(_) => return Err("the script isn't accepted")?,
@@ -94,73 +143,54 @@ pub fn library(alloc: Global) -> Result<Library, Fail> {
 }
 
 /// An object of so many prims, with scripts of these units.
-pub fn shape(alloc: Global, prims: u32, units: &[u32]) -> Result<Shape, Fail> {
+pub fn shape(alloc: Global, prims: u32, units: &[u32]) -> Result<Shape, Fail>
+    ensures { IfOk result HasKey }
+{
+    let key = text(alloc, KEY)?;
+    if !valid_key(&key) {
+        return Err("no key")?;
+    }
+    Ok(Shape {
+        key,
+        prims,
+        units: numbers(alloc, units)?,
+    })
+}
+
+fn numbers(alloc: Global, units: &[u32]) -> Result<Sequence<u32>, Fail> {
     let mut list = Sequence::new(alloc);
     for unit in units {
         list.push(*unit)?;
     }
-    Ok(Shape {
-        key: text(alloc, "00000000-0000-0000-0000-000000000001")?,
-        prims,
-        units: list,
-    })
+    Ok(list)
 }
 
-/// The bytes with others in the place of so many at this place, of the right size and with the right digest.
-pub fn mended(
-    alloc: Global,
-    bytes: &[u8],
-    place: usize,
-    cut: usize,
-    others: &[u8],
-) -> Result<Vec<u8>, Fail> {
-    let mut fields = Vec::new(alloc);
-    fields.extend_from_slice(bytes.get(..place).ok_or("no such place")?)?;
-    fields.extend_from_slice(others)?;
-    let end = bytes.len().checked_sub(32).ok_or("no image")?;
-    fields.extend_from_slice(
-        bytes
-            .get(place.saturating_add(cut)..end)
-            .ok_or("no such place")?,
-    )?;
-    sealed(fields)
+/// The object with the script within two calls.
+pub fn calls_shape(alloc: Global) -> Result<Shape, Fail>
+    ensures { IfOk result HasKey }
+{
+    shape(alloc, 1, &[0])
 }
 
-/// The fields with their size and their digest.
-fn sealed(fields: Vec<u8>) -> Result<Vec<u8>, Fail> {
-    let mut bytes = fields;
-    let size = (bytes.len() as u64).saturating_add(32).to_be_bytes();
-    for place in 0..8 {
-        let byte = *size.get(place).ok_or("eight bytes")?;
-        *bytes.get_mut(place + 6).ok_or("no head")? = byte;
+/// The object with two scripts of every kind.
+pub fn kinds_shape(alloc: Global) -> Result<Shape, Fail>
+    ensures { IfOk result HasKey }
+{
+    shape(alloc, 2, &[1, 1])
+}
+
+/// The first so many of these two objects.
+pub fn shapes(alloc: Global, count: u32) -> Result<Shapes, Fail>
+    ensures { IfOk result (AllByRecursion HasKey) }
+{
+    let mut list = Sequence::new(alloc);
+    if count == 0 {
+        return Ok(list);
     }
-    let mut hasher = Sha256::new();
-    hasher.update(bytes.as_slice());
-    let digest = hasher.finalize();
-    bytes.extend_from_slice(digest.as_slice())?;
-    Ok(bytes)
-}
-
-/// The fault of the bytes, read as an object with the script within two calls in the region `A`.
-pub fn fault_of(
-    alloc: Global,
-    bytes: &[u8],
-    library: &Library,
-) -> Result<Option<ImageFault>, Fail> {
-    let read = read_object(
-        alloc,
-        bytes,
-        &text(alloc, "A")?,
-        &shape(alloc, 1, &[0])?,
-        library,
-    );
-    fault(read)
-}
-
-fn fault(read: Result<ObjectParts, Refusal<ImageFault>>) -> Result<Option<ImageFault>, Fail> {
-    match read {
-        Ok(_) => Ok(None),
-        Err(Refusal::Fault(fault)) => Ok(Some(fault)),
-        Err(Refusal::NoMemory) => Err("memory")?,
+    list.push(calls_shape(alloc)?)?;
+    if count == 1 {
+        return Ok(list);
     }
+    list.push(kinds_shape(alloc)?)?;
+    Ok(list)
 }
