@@ -32,7 +32,7 @@ loop-place-preserved c =
               globals = built.code.globals;
               states = built.code.states;
               meaning = built.meaning;
-          asks = built.asks;
+              asks = built.asks;
               kinded = built.kinded;
               shaped = built.shaped;
             })),
