@@ -1,8 +1,5 @@
 //! Events and texts as tests need them.
 
-ghost use Rattle.std.specs.Prelude.{◌≡◌, false, IfOk};
-ghost use Rattle.lsl_script.specs.Fitting.{is_exit};
-
 use lsl_post::{Event, Toucher};
 use lsl_value::{EventId, Text, Value, Values};
 use std::alloc::Global;
@@ -13,9 +10,7 @@ pub(crate) fn text(alloc: Global, characters: &str) -> Result<Text, Fail> {
 }
 
 /// A touch by Ann, of this number.
-pub(crate) fn touch(alloc: Global, number: i32) -> Result<Event, Fail>
-    ensures { IfOk result (λ event. is_exit event ≡ false) }
-{
+pub(crate) fn touch(alloc: Global, number: i32) -> Result<Event, Fail> {
     let args = Values::from_vec(vec![in alloc; Value::Int(number)]?);
     let toucher = Toucher {
         key: text(alloc, "00000000-0000-0000-0000-0000000000aa")?,
@@ -30,9 +25,7 @@ pub(crate) fn touch(alloc: Global, number: i32) -> Result<Event, Fail>
 }
 
 /// An event that has no argument.
-pub(crate) fn timer(alloc: Global) -> Event
-    ensures { is_exit result ≡ false }
-{
+pub(crate) fn timer(alloc: Global) -> Event {
     Event {
         id: EventId::Timer,
         args: Values::new(alloc),

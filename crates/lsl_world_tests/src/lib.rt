@@ -4,16 +4,10 @@
 #[cfg(test)]
 mod events;
 #[cfg(test)]
-mod frames;
-#[cfg(test)]
 mod hearing;
 #[cfg(test)]
 mod listens;
 #[cfg(test)]
-mod posting;
-#[cfg(test)]
 mod queues;
 #[cfg(test)]
 mod timers;
-#[cfg(test)]
-mod turns;
