@@ -250,7 +250,7 @@ const TEXT: &str =
 fn keeps_are_done_by_the_code(rt: HostRuntime) -> Result<(), Fail> {
     let alloc = rt.alloc();
     let cases = [
-        (exchanged(alloc)?, [1, 2, 1], [2, 1, 1]),
+        (exchanged(alloc)?, [1, 2, 1], [1, 1, 2]),
         (woven(&rt, alloc, TEXT)?, [1, 1, 2], [1, 1, 2]),
     ];
     for (unit, first, second) in &cases {
