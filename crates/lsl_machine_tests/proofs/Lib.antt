@@ -1,2 +1,1 @@
-pub mod ExchangedUnit
 pub mod Touching
