@@ -29,6 +29,7 @@ pub mod Reentered
 pub mod Resting
 pub mod Restored
 pub mod RestoringLaid
+pub mod RestoringTold
 pub mod Running
 pub mod Saved
 pub mod SavingLaid

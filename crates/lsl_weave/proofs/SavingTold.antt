@@ -8,7 +8,7 @@ use Rattle.lsl_code.specs.declared.frames.Frame.{Frame}
 use Rattle.lsl_code.specs.declared.functions.Point.{Point}
 use Rattle.lsl_code.specs.declared.functions.StateCode.{StateCode}
 use Rattle.lsl_code.specs.declared.instructions.Instr.{Instr}
-use Rattle.lsl_code.specs.declared.instructions.Instr.TheVariants.{Jump, Tick, Call, TestSave, KeepSlot, KeepTop, Seal}
+use Rattle.lsl_code.specs.declared.instructions.Instr.TheVariants.{Jump, TestSave, KeepSlot, KeepTop, Seal}
 use Rattle.lsl_code.specs.declared.woven_functions.WovenCode.{WovenCode}
 use Rattle.lsl_code.specs.Bodies.{Body, instruction_in}
 use Rattle.lsl_code.specs.Fits.{all_places, has_kinds}
@@ -19,13 +19,13 @@ use Rattle.lsl_code.specs.Modes.{at_place, repeat}
 use Rattle.lsl_code.specs.SaveWays.{waiting_kinds}
 use Rattle.lsl_code.specs.Saving.{Saving, saving, SaveAct, Keeps, Seals, NoSave, keeps_slot, keeps_top, save_act, save_after, save_step, begins_saving}
 use Rattle.lsl_code.specs.Standing.{point_instr}
-use Rattle.lsl_code.specs.Woven.{is_woven, is_kept}
+use Rattle.lsl_code.specs.Woven.{is_woven}
 use Rattle.lsl_code.specs.WovenBodies.{woven_body}
 use Rattle.lsl_code.proofs.Sames.{both_true, shape_is}
 use Rattle.lsl_code.proofs.Tested.{both}
 use Rattle.lsl_code.proofs.Told.{all_at}
 use Rattle.lsl_weave.specs.WovenCalls.{IsAt, WaitAtCalls, RestAtTick}
-use Rattle.lsl_weave.specs.ToldLaws.{SavesAsTold, SavingIsTold}
+use Rattle.lsl_weave.specs.ToldLaws.{AreAsTold, SavingIsTold}
 use Rattle.lsl_weave.proofs.SavingOn.{OnSaveWay, SaveGoesOn, kept_ok, save_begins, save_goes_on, save_not_over}
 
 there_front : (all : List (Option (List Kind))) (a b : List Stop) → are_there all (a ++ b) ≡ true
@@ -82,20 +82,22 @@ act_stop all go (Some KeepTop) c d hand hand' e h = by_top c.operands refl e
 act_stop all go (Some (Seal p)) c d hand hand' e h = absurd cc
 act_stop all go o c d hand hand' e h = absurd cc
 
+-- a function's body is that of its woven code
+pub code_of : (functions : List WovenCode) (f : ℕ) (w : Body) → slice_get (map woven_body functions) f ≡ Some w
+    → (code : WovenCode) × (slice_get functions f ≡ Some code) × (woven_body code ≡ w)
+code_of functions f w e =
+    by_code (slice_get functions f) refl (sym (slice_get-map woven_body functions f) ∙ e)
+  where
+    by_code : (o : Option WovenCode) → slice_get functions f ≡ o → option_map woven_body o ≡ Some w
+        → (code : WovenCode) × (slice_get functions f ≡ Some code) × (woven_body code ≡ w)
+    by_code None is e = absurd cc
+    by_code (Some code) is e = let same : woven_body code ≡ w = cc in (code, is, same)
+
 module _ (globals : List Value) (states : List StateCode) (functions : List WovenCode)
     (ok : is_woven globals states (map woven_body functions) ≡ true)
     (modes : all_places tells_modes 0 functions ≡ true) (h : ℕ) where
   abbrev bodies : List Body
   bodies = map woven_body functions
-
-  code_of : (f : ℕ) (w : Body) → slice_get bodies f ≡ Some w
-      → (code : WovenCode) × (slice_get functions f ≡ Some code) × (woven_body code ≡ w)
-  code_of f w e = by_code (slice_get functions f) refl (sym (slice_get-map woven_body functions f) ∙ e)
-    where
-      by_code : (o : Option WovenCode) → slice_get functions f ≡ o → option_map woven_body o ≡ Some w
-          → (code : WovenCode) × (slice_get functions f ≡ Some code) × (woven_body code ≡ w)
-      by_code None is e = absurd cc
-      by_code (Some code) is e = let same : woven_body code ≡ w = cc in (code, is, same)
 
   all_told : (f : ℕ) (code : WovenCode) → slice_get functions f ≡ Some code
       → are_there code.saving (saving_stops code.slots code.points code.code) ≡ true
@@ -125,7 +127,7 @@ module _ (globals : List Value) (states : List StateCode) (functions : List Wove
   begins : (c : MachineCall) (k : ℕ) (callee : Option ℕ) (p x : ℕ) → IsAt bodies c k callee p → x ≡ k + 1
       → IsSaving (at_place c x c.operands) []
   begins c k callee p x fit e =
-      let r = code_of c.function fit.body fit.found in
+      let r = code_of functions c.function fit.body fit.found in
       let code = r.0 in
       let here = ap (λ (w : Body). slice_get w.code k) r.2 ∙ fit.here in
       let mapped = ap (λ (w : Body). slice_get w.points p) r.2 ∙ fit.mapped in
@@ -233,7 +235,8 @@ module _ (globals : List Value) (states : List StateCode) (functions : List Wove
       shape_is (slice_get code.saving c.place) (kinds_of c.operands)
       (both_true (has_kinds (slice_get code.saving c.place) (kinds_of c.operands)) _ told).0
 
-  are_told : (calls : List MachineCall) (hand : List Value) → AreSaving calls hand → SavesAsTold functions calls
+  are_told : (calls : List MachineCall) (hand : List Value) → AreSaving calls hand
+      → AreAsTold (λ w. w.saving) functions calls
   are_told [] hand are = tt
   are_told (c ∷ outer) hand are =
       let i = are.0 in

@@ -1,6 +1,6 @@
 //! Laws of woven units, whoever made them.
 
-ghost use Rattle.lsl_weave.specs.ToldLaws.{SavingIsTold};
+ghost use Rattle.lsl_weave.specs.ToldLaws.{RestoringIsTold, SavingIsTold};
 ghost use Rattle.lsl_weave.specs.WovenLaws.{FramesAreTold, FramesHaveOneMachine, KindedMachinesRest, RestingCallsAreKinded, RestoredRest, SavedFramesFit, WeavingMakesWoven, WovenRestores, WovenSaves};
 
 /// Saving a machine of a woven unit at a tick never gets stuck: it ends, with frames that fit, also where the
@@ -37,4 +37,10 @@ pub fn frames_have_one_machine()
 /// While a woven unit's machine saves, the operands of the innermost call have the kinds that its function tells there.
 pub fn saving_is_told()
     ensures { SavingIsTold }
+{}
+
+/// While frames that fit are restored, up to the end, the operands of the innermost call have the kinds that its
+/// function tells there for restoring.
+pub fn restoring_is_told()
+    ensures { RestoringIsTold }
 {}
