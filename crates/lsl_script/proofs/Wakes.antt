@@ -171,6 +171,12 @@ mail_same : (s : Script) (e : Event) (limit : ℕ) (l : Option ℕ)
 mail_same s e limit None = refl
 mail_same s e limit (Some to) = refl
 
+pub emptied : (parts : ScriptParts) (queue : List Event) → IsEmptied parts
+    → record parts { queue = queue } ≡ record parts { globals = []; queue = queue; rest = Idle }
+emptied parts queue empty =
+    ap {A = Rest} {B = ScriptParts} (λ r. record parts { queue = queue; rest = r }) empty.1
+    ∙ ap {A = List Value} {B = ScriptParts} (λ g. record parts { globals = g; queue = queue; rest = Idle }) empty.0
+
 begun_parts : (codes : List Code) (s : Script) (parts : ScriptParts) (kept : Kept) (e : Event) (live : Live)
     → IsEmptied parts → resting_parts parts kept Idle ≡ parts_of codes s
     → live.parts ≡ record parts { queue = queue_behind parts.leaving parts.queue }

@@ -47,6 +47,31 @@ resting_parts parts kept rest = record parts { globals = kept.globals; limit = k
 abbrev pub CanWake : ScriptParts → Type 0
 CanWake parts = CanWakeFrom parts parts.rest
 
+-- what is taken of resting parts, which event is in hand then, and what stays beside its handler
+abbrev pub taken_at : ScriptParts → Rest → Option Event
+taken_at parts Idle = event_in parts.leaving parts.queue
+taken_at parts (Saved e frames) = None
+taken_at parts (Dead fault) = None
+
+abbrev pub in_hand_at : ScriptParts → Rest → Option Event
+in_hand_at parts Idle = event_in parts.leaving parts.queue
+in_hand_at parts (Saved e frames) = Some e
+in_hand_at parts (Dead fault) = None
+
+abbrev pub queue_at : ScriptParts → Rest → List Event
+queue_at parts Idle = queue_behind parts.leaving parts.queue
+queue_at parts (Saved e frames) = parts.queue
+queue_at parts (Dead fault) = parts.queue
+
+-- Parts wake so, whatever they were read from: they take their next event, and its handler begins, unless a handler was
+-- saved, whose event is in hand again. The globals and the limit go to the machine; all else stays.
+pub record TakesNext (parts : ScriptParts) (live : Live) : Type 0 where
+  pub took : taken_by live ≡ taken_at parts parts.rest
+  pub event : in_hand_at parts parts.rest ≡ Some live.event
+  pub fresh : live.fresh ≡ live.began
+  pub beside : live.parts
+      ≡ record parts { globals = []; limit = live.parts.limit; queue = queue_at parts parts.rest; rest = Idle }
+
 -- the awake script stands for the source script that has taken its next event, unless a handler was in flight; the
 -- journal tells of the event; and the handler asks at most so often before its next tick
 pub record WakesAs (codes : List Code) (unit : Code) (s : Script) (live : Live) : Type 0 where

@@ -15,7 +15,7 @@ ghost use Rattle.lsl_script.specs.Fitting.{FitsUnit, FitsStates, IsInHand, are_r
 ghost use Rattle.lsl_script.specs.Lawful.{Lawful};
 ghost use Rattle.lsl_script.specs.Parts.{parts_of};
 ghost use Rattle.lsl_script.specs.Scripts.{Script as Source, state_exit};
-ghost use Rattle.lsl_script.specs.Waking.{CanWake, IsEmptied, IsRefused, WakesAs, event_in, queue_behind, resting_parts};
+ghost use Rattle.lsl_script.specs.Waking.{CanWake, IsEmptied, IsRefused, TakesNext, WakesAs, event_in, queue_behind, resting_parts};
 
 use crate::live::Live;
 use crate::scripts::{Script, exit};
@@ -57,6 +57,7 @@ impl Script {
         ensures refused { IfErr result (IsRefused clock self) }
         ensures awake { IfOk result (IsAwake unit.now) }
         ensures able { IfOk result (λ live. CanRun live.machine.standing) }
+        ensures took { IfOk result (TakesNext self) }
         ensures source { (codes : _) (s : Source) → HasUnit codes s.code unit.now → self ≡ parts_of codes s →
             Lawful (rules_of codes) s → IfOk result (WakesAs codes unit.now s) }
     {
@@ -75,6 +76,7 @@ impl Live {
         requires weaves { Weaves unit.now }
         ensures awake { IfOk result (IsAwake unit.now) }
         ensures able { IfOk result (λ live. CanRun live.machine.standing) }
+        ensures took { IfOk result (TakesNext parts) }
         ensures source { (codes : _) (s : Source) → HasUnit codes s.code unit.now → parts ≡ parts_of codes s →
             Lawful (rules_of codes) s → IfOk result (WakesAs codes unit.now s) }
     {
@@ -101,6 +103,7 @@ impl Live {
         requires idle { IsEmptied parts }
         ensures awake { IfOk result (IsAwake unit.now) }
         ensures able { IfOk result (λ live. CanRun live.machine.standing) }
+        ensures took { IfOk result (TakesNext (resting_parts parts kept rests.Idle)) }
         ensures source { (codes : _) (s : Source) → HasUnit codes s.code unit.now →
             resting_parts parts kept rests.Idle ≡ parts_of codes s → Lawful (rules_of codes) s →
             IfOk result (WakesAs codes unit.now s) }
@@ -141,6 +144,7 @@ impl Live {
         requires weaves { Weaves unit.now }
         ensures awake { IfOk result (IsAwake unit.now) }
         ensures able { IfOk result (λ live. CanRun live.machine.standing) }
+        ensures took { IfOk result (TakesNext (resting_parts parts kept (rests.Saved event sack))) }
         ensures source { (codes : _) (s : Source) → HasUnit codes s.code unit.now →
             resting_parts parts kept (rests.Saved event sack) ≡ parts_of codes s → Lawful (rules_of codes) s →
             IfOk result (WakesAs codes unit.now s) }

@@ -7,10 +7,11 @@ use Rattle.lsl_post.specs.declared.events.Event.{Event}
 use Rattle.lsl_post.specs.declared.parts.ScriptParts.{ScriptParts}
 use Rattle.lsl_script.specs.Awake.{GoesOnAs}
 use Rattle.lsl_script.specs.Fitting.{FitsStates}
+use Rattle.lsl_script.specs.Waking.{queue_behind}
 use Rattle.lsl_script.proofs.Origins.{begun_goes, begun_runs}
 use Rattle.lsl_script.proofs.Running.{begun_runs_so}
 use Rattle.lsl_script.proofs.Units.{arguments_fit}
-use Rattle.lsl_script.proofs.Wakes.{begun_wakes, behind_fits, taken_handled}
+use Rattle.lsl_script.proofs.Wakes.{begun_wakes, behind_fits, emptied, taken_handled}
 use Rattle.lsl_script.proofs.live.Live.begin.Goals as goal
 
 pub handler_of-handler-requires : goal.handler_of-handler-requires
@@ -42,6 +43,18 @@ returns-clause-awake c =
           c.in_ok-copy.field-0 c.in_ok-machine.machine c.requires.fits.limit c.in_ok-machine.ensures.ready
           c.in_ok-machine.ensures.runs;
       begun = begun_runs_so c.in_ok-machine.machine.standing true c.in_ok-machine.ensures.ready;
+    }
+
+pub returns-clause-took : goal.returns-clause-took
+returns-clause-took c =
+    let parts = c.args.parts in
+    let first = c.next_event-event.ensures.event in
+    record {
+      took = sym first;
+      event = first;
+      fresh = refl;
+      beside = ap {A = List Event} {B = ScriptParts} (λ q. record parts { queue = q }) c.next_event-event.ensures.queue
+          ∙ emptied parts (queue_behind parts.leaving parts.queue) c.requires.idle;
     }
 
 pub returns-clause-source : goal.returns-clause-source

@@ -6,6 +6,7 @@ use Rattle.lsl_script.specs.Awake.{IsLeft}
 use Rattle.lsl_script.proofs.Origins.{parked_left, restored_runs}
 use Rattle.lsl_script.proofs.Running.{begun_so}
 use Rattle.lsl_script.proofs.TakesUp.{taken_up, taken_wakes}
+use Rattle.lsl_script.proofs.Wakes.{emptied}
 use Rattle.lsl_script.proofs.live.Live.take_up.Goals as goal
 
 pub returns-clause-awake : goal.returns-clause-awake
@@ -25,6 +26,14 @@ returns-clause-awake c =
           (parked_left c.args.kept.globals c.args.kept.limit c.args.sack c.requires.fits.limit rest.2.1));
       begun = begun_so c.in_ok-machine.machine.standing false refl;
     }
+
+pub returns-clause-took : goal.returns-clause-took
+returns-clause-took c = record {
+  took = refl;
+  event = refl;
+  fresh = refl;
+  beside = emptied c.args.parts c.args.parts.queue c.requires.idle;
+}
 
 pub returns-clause-source : goal.returns-clause-source
 returns-clause-source c codes s known is lawful =
