@@ -12,6 +12,11 @@ pub mod KindedLemmas
 pub mod LayoutLemmas
 pub mod LeadingLemmas
 pub mod ListenLemmas
+pub mod OneCallLemmas
+pub mod OneEventLemmas
+pub mod OneImageLemmas
+pub mod OneLemmas
+pub mod OnePartLemmas
 pub mod PairLemmas
 pub mod ReadingLemmas
 pub mod RestLemmas

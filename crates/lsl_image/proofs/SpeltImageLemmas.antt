@@ -126,12 +126,12 @@ world-spells library w size is fits small whole same =
     (spelt-as flat s).spells
 
 -- the size stands where it is looked for
-size-stands : (letters fields digest bytes : List ℕ) (size : ℕ) → length letters ≡ 4
-    → bytes ≡ (head_bytes letters 2 size ++ fields) ++ digest → StandsAt bytes 6 (u64_bytes size) 14
+pub size-stands : (letters fields digest bytes : List ℕ) (version size : ℕ) → length letters ≡ 4
+    → bytes ≡ (head_bytes letters version size ++ fields) ++ digest → StandsAt bytes 6 (u64_bytes size) 14
 unfolding head_bytes
-size-stands letters fields digest bytes size four same =
-    let front = letters ++ u16_bytes 2 in
-    let six : length front ≡ 6 = omega (arith, length-append letters (u16_bytes 2), length-u16 2, four) in
+size-stands letters fields digest bytes version size four same =
+    let front = letters ++ u16_bytes version in
+    let six : length front ≡ 6 = omega (arith, length-append letters (u16_bytes version), length-u16 version, four) in
     let fourteen : length (front ++ u64_bytes size) ≡ 14 =
     omega (arith, length-append front (u64_bytes size), length-u64 size, six) in
     let opened : bytes ≡ front ++ (u64_bytes size ++ (fields ++ digest)) =
@@ -181,7 +181,7 @@ image-spells {A} layout letters fields bytes a four same small spells =
     ap (λ (n : ℕ). drop n bytes) end ∙ ap (drop (length whole)) same ∙ drop_at whole (sha256 whole) (length whole) refl in
     let sized : StandsAt bytes 6 (u64_bytes (length bytes)) 14 =
     subst (λ (n : ℕ). StandsAt bytes 6 (u64_bytes n) 14) (sym all)
-    (size-stands letters fields (sha256 whole) bytes size four same) in
+    (size-stands letters fields (sha256 whole) bytes 2 size four same) in
     let intact : IsIntact bytes = ((omega (arith, all), (small, sized)), behind ∙ ap sha256 (sym before)) in
     let stands : StandsAt whole 0 whole (length whole) = record {
       parts = sym (ap (λ (t : List ℕ). whole ++ t) (drop_all (length whole) whole (omega arith)) ∙ append-nil whole);

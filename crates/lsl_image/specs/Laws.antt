@@ -2,12 +2,14 @@
 use Rattle.std.specs.Prelude.{◌≡◌, ◌⊎◌, List, ℕ, true}
 use Rattle.std.specs.List.{AllByRecursion}
 use Rattle.lsl_value.specs.Key.{is_valid_key}
-use Rattle.lsl_bytes.specs.Fields.{FitsU8}
+use Rattle.lsl_bytes.specs.Fields.{FitsU8, FitsU16, u16_bytes}
+use Rattle.lsl_bytes.specs.Places.{StandsAt}
 use Rattle.lsl_code.specs.declared.woven_units.Woven.{Woven as Code}
 use Rattle.lsl_image.specs.declared.faults.ImageFault.{ImageFault}
 use Rattle.lsl_image.specs.declared.parts.ObjectParts.{ObjectParts}
 use Rattle.lsl_image.specs.declared.parts.Shape.{Shape}
 use Rattle.lsl_image.specs.declared.parts.WorldParts.{WorldParts}
+use Rattle.lsl_image.specs.Bytes.{object_image, world_image}
 use Rattle.lsl_image.specs.Images.{ObjectFirst, ObjectImage, WorldFirst, WorldImage}
 use Rattle.lsl_image.specs.Valid.{IsObject, IsWorld}
 
@@ -68,3 +70,33 @@ WorldsOrFaults =
     (shapes : List Shape) (library : List Code) (bytes : List ℕ) → AllByRecursion FitsU8 bytes →
     ((a : WorldParts) × WorldImage shapes library a bytes)
     ⊎ ((fault : ImageFault) × WorldFirst shapes library bytes fault)
+
+-- an image is the bytes that its parts have in version 1 or in version 2
+abbrev pub ObjectsAreSpelled : Type 0
+ObjectsAreSpelled =
+    (region : List ℕ) (shape : Shape) (library : List Code) (bytes : List ℕ) (a : ObjectParts) →
+    ObjectImage region shape library a bytes →
+    (bytes ≡ object_image 1 region library a) ⊎ (bytes ≡ object_image 2 region library a)
+
+abbrev pub WorldsAreSpelled : Type 0
+WorldsAreSpelled =
+    (shapes : List Shape) (library : List Code) (bytes : List ℕ) (a : WorldParts) →
+    WorldImage shapes library a bytes →
+    (bytes ≡ world_image 1 library a) ⊎ (bytes ≡ world_image 2 library a)
+
+-- this number stands in the version field
+abbrev pub NamesVersion : List ℕ → ℕ → Type 0
+NamesVersion bytes version = FitsU16 version × StandsAt bytes 4 (u16_bytes version) 6
+
+-- images of one version that stand for the same are the same bytes
+abbrev pub ObjectsHaveOneSpelling : Type 0
+ObjectsHaveOneSpelling =
+    (region : List ℕ) (shape : Shape) (library : List Code) (version : ℕ) (x y : List ℕ) (a : ObjectParts) →
+    NamesVersion x version → NamesVersion y version → ObjectImage region shape library a x →
+    ObjectImage region shape library a y → x ≡ y
+
+abbrev pub WorldsHaveOneSpelling : Type 0
+WorldsHaveOneSpelling =
+    (shapes : List Shape) (library : List Code) (version : ℕ) (x y : List ℕ) (a : WorldParts) →
+    NamesVersion x version → NamesVersion y version → WorldImage shapes library a x →
+    WorldImage shapes library a y → x ≡ y

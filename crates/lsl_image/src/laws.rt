@@ -4,8 +4,10 @@ ghost use Rattle.lsl_image.specs.declared.parts.ObjectParts.{ObjectParts};
 ghost use Rattle.lsl_image.specs.declared.parts.WorldParts.{WorldParts};
 ghost use Rattle.lsl_image.specs.Layout.{Layout};
 ghost use Rattle.lsl_image.specs.SpellingLaws.{IsReadAsSpelled, IsSpelledAsRead};
-ghost use Rattle.lsl_image.specs.Laws.{ObjectFaultsAreOne, ObjectsAreOne, ObjectsAreValid, ObjectsHaveNoFault, ObjectsOrFaults};
-ghost use Rattle.lsl_image.specs.Laws.{WorldFaultsAreOne, WorldsAreOne, WorldsAreValid, WorldsHaveNoFault, WorldsOrFaults};
+ghost use Rattle.lsl_image.specs.Laws.{ObjectFaultsAreOne, ObjectsAreOne, ObjectsAreSpelled, ObjectsAreValid};
+ghost use Rattle.lsl_image.specs.Laws.{ObjectsHaveNoFault, ObjectsHaveOneSpelling, ObjectsOrFaults};
+ghost use Rattle.lsl_image.specs.Laws.{WorldFaultsAreOne, WorldsAreOne, WorldsAreSpelled, WorldsAreValid};
+ghost use Rattle.lsl_image.specs.Laws.{WorldsHaveNoFault, WorldsHaveOneSpelling, WorldsOrFaults};
 
 /// The bytes of an image stand for one thing.
 pub fn images_are_of_one()
@@ -41,4 +43,16 @@ pub fn spelled_and_read()
 pub fn images_are_valid()
     ensures objects { ObjectsAreValid }
     ensures worlds { WorldsAreValid }
+{}
+
+/// An image is the bytes that its parts have in version 1 or in version 2, and no others.
+pub fn images_are_spelled()
+    ensures objects { ObjectsAreSpelled }
+    ensures worlds { WorldsAreSpelled }
+{}
+
+/// In each version there is one image of the same parts.
+pub fn images_have_one_spelling()
+    ensures objects { ObjectsHaveOneSpelling }
+    ensures worlds { WorldsHaveOneSpelling }
 {}
