@@ -12,7 +12,9 @@ use Rattle.lsl_code.specs.Runs.{Halt}
 use Rattle.lsl_code.specs.Wholes.{told}
 use Rattle.lsl_machine.specs.Futures.{halt_from}
 use Rattle.lsl_machine.specs.State.{State, bodies_of}
+use Rattle.lsl_post.specs.declared.entries.Entry.{Entry}
 use Rattle.lsl_post.specs.Told.{Told, as_value, lead, next_to, quiet}
+use Rattle.lsl_post.proofs.Amid.{Amid}
 use Rattle.lsl_script.specs.declared.live.Live.{Live}
 use Rattle.lsl_script.specs.declared.live.Turn.{Turn}
 use Rattle.lsl_script.specs.declared.live.Turn.TheVariants as turn
@@ -20,7 +22,7 @@ use Rattle.lsl_script.specs.Awake.{StandsAfter}
 use Rattle.lsl_script.specs.Codes.{Meant, rules_of}
 use Rattle.lsl_script.specs.Handlers.{ended, failed, given, ticked, with_flight}
 use Rattle.lsl_script.specs.Lawful.{AsksAtMost, HasAsked, flight_whole}
-use Rattle.lsl_script.specs.Lives.{Waits, flight_run}
+use Rattle.lsl_script.specs.Lives.{Turns, Waits, flight_run}
 use Rattle.lsl_script.specs.Rules.{Rules}
 use Rattle.lsl_script.specs.Scripts.{Flight, Script}
 use Rattle.lsl_script.proofs.Comes.{flight_is}
@@ -28,7 +30,7 @@ use Rattle.lsl_script.proofs.Meant.{ended_same, failed_same, flight_same}
 use Rattle.lsl_region.specs.Answers.{answer}
 use Rattle.lsl_region.specs.Grids.{Contents, Lent}
 use Rattle.lsl_region.specs.Segments.{asked, came, whole_in_flight}
-use Rattle.lsl_region.specs.Turning.{InFlight, Paused, StandsAt, asks_left}
+use Rattle.lsl_region.specs.Turning.{GoesOn, InFlight, IsEnd, IsLast, IsOnWay, IsOut, Paused, StandsAt, asks_left}
 use Rattle.lsl_region.specs.Worlds.{Member, World, with_member}
 use Rattle.lsl_region.proofs.Placed.{at-member}
 
@@ -145,6 +147,29 @@ left-falls unit turn.Ended live n falls some = some
 left-falls unit (turn.Faulted fault) live n falls some = some
 left-falls unit turn.NoMemory live n falls some = some
 
+pub is-end : (t : Turn) → IsLast t → (t ≡ turn.AtTick → ⊥) → IsEnd t
+is-end (turn.Asks call) last other = last
+is-end turn.AtTick last other = other refl
+is-end turn.Ended last other = tt
+is-end (turn.Faulted fault) last other = tt
+is-end turn.NoMemory last other = tt
+
+-- the script that is out
+pub out-of : (o : Option Live) (P : Live → Type 0) (live : Live) → o ≡ Some live → IsOut o P → P live
+out-of o P live e out = subst (λ (x : Option Live). IsOut x P) e out
+
+-- it went on to a stop
+pub goes-to : (codes : List Code) (unit : Code) (clock place : ℕ) (grid : Contents) (live new : Live) (t : Turn)
+    (f : Flight) (most : ℕ) (w : World) (g : GoesOn codes unit clock place grid live f most w)
+    → Turns codes unit g.member.script f t new → Paused codes unit clock place grid new t f most w
+goes-to codes unit clock place grid live new t f most w g turns = record {
+  stands = g.stands;
+  member = g.member;
+  at = g.at;
+  turns = turns;
+  asks = g.asks;
+}
+
 -- the script that asked is lent
 abbrev pub paused-lent : (codes : List Code) (unit : Code) (clock place : ℕ) (grid : Contents) (live : Live) (call : Call)
     (f : Flight) (most : ℕ) (w : World) → Paused codes unit clock place grid live (turn.Asks call) f most w
@@ -165,6 +190,16 @@ answering r place call x =
 -- what is left to do then
 abbrev pub still_asked : Rules → ℕ → InFlight → Told World
 still_asked r place x = asked r (x.most + 1) place x.flight x.world
+
+pub way-amid : (r : Rules) (place : ℕ) (total : Told World) (old now : List Entry) (At : InFlight → Type 0)
+    → IsOnWay r place total old now At → Amid At total old now (still_asked r place)
+way-amid r place total old now At k =
+    record { value = k.there; rel = k.at; done = k.done; whole = k.whole; so_far = k.so_far }
+
+pub amid-way : (r : Rules) (place : ℕ) (total : Told World) (old now : List Entry) (At : InFlight → Type 0)
+    → Amid At total old now (still_asked r place) → IsOnWay r place total old now At
+amid-way r place total old now At a =
+    record { there = a.value; at = a.rel; done = a.done; whole = a.whole; so_far = a.so_far }
 
 pub goes-asking : (codes : List Code) (unit : Code) (clock place : ℕ) (grid : Contents) (live : Live) (m : Meant codes)
     (call : Call) (x : InFlight)

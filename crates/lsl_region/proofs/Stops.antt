@@ -1,5 +1,5 @@
 -- What becomes of the grid and the world where a segment begins and where it stops.
-use Rattle.std.proofs.Common.{◌≡◌, ℕ, ◌+◌, ◌<◌, ◌≤◌, List, [], ◌∷◌, ◌++◌, length, refl, ap, sym, ◌∙◌, subst, append-nil}
+use Rattle.std.proofs.Common.{◌≡◌, ℕ, ◌+◌, ◌<◌, ◌≤◌, List, [], ◌∷◌, ◌++◌, length, refl, ap, sym, ◌∙◌, subst, append_assoc, append-nil}
 use Rattle.std.specs.Prelude.{Bool, Option, Some, None, slice_get}
 use Rattle.lsl_running.specs.declared.ends.Fault.{Fault}
 use Rattle.lsl_running.specs.declared.ends.Outcome.{Outcome}
@@ -15,6 +15,7 @@ use Rattle.lsl_script.specs.declared.closing.Closed.{Closed}
 use Rattle.lsl_script.specs.declared.going.Going.{Going}
 use Rattle.lsl_script.specs.declared.going.Going.TheVariants.{Stays, Leaves, Enters, Restarts}
 use Rattle.lsl_script.specs.declared.live.Live.{Live}
+use Rattle.lsl_script.specs.declared.live.Turn.{Turn}
 use Rattle.lsl_script.specs.declared.live.Turn.TheVariants as turn
 use Rattle.lsl_script.specs.Awake.{taken_by}
 use Rattle.lsl_script.specs.Closing.{ClosesAs}
@@ -31,7 +32,7 @@ use Rattle.lsl_value.specs.declared.names.EventId.TheVariants as event
 use Rattle.lsl_region.specs.declared.grid.Seat.{Seat}
 use Rattle.lsl_region.specs.Grids.{Contents, Stands}
 use Rattle.lsl_region.specs.Segments.{asked, flown, flown_in, segment, taken}
-use Rattle.lsl_region.specs.Turning.{Begins, GoesOn, Held, Paused, with_seated}
+use Rattle.lsl_region.specs.Turning.{Begins, GoesOn, Held, InFlight, IsOnWay, Paused, with_seated}
 use Rattle.lsl_region.specs.Worlds.{Member, World, with_member}
 use Rattle.lsl_region.proofs.Away.{keeps-out, member-there, stands-away}
 use Rattle.lsl_region.proofs.Coming.{stands-back, stands-out}
@@ -148,6 +149,22 @@ module _ (codes : List Code) (unit : Code) (clock place : ℕ) (grid : Contents)
               (stands-back codes clock place grid w p.member failing.value seat p.at sits refl p.stands lawful),
           e,
         )
+
+-- on the way of a flight it came to a tick
+pub way-tick : (codes : List Code) (unit : Code) (clock place : ℕ) (grid : Contents) (live : Live) (last : Turn)
+    (m : Meant codes) (total : Told World) (old now : List Entry) → last ≡ turn.AtTick
+    → IsOnWay m.rules place total old now
+    (λ (x : InFlight). Paused codes unit clock place grid live last x.flight x.most x.world)
+    → Held codes unit clock place grid live total.value × (now ≡ old ++ total.entries)
+way-tick codes unit clock place grid live last m total old now e k =
+    let x = k.there in
+    let rest = asked m.rules (x.most + 1) place x.flight x.world in
+    let p = subst (λ (t : Turn). Paused codes unit clock place grid live t x.flight x.most x.world) e k.at in
+    let d = tick-told codes unit clock place grid live x.flight x.most x.world m p now in (
+      subst (λ (a : Told World). Held codes unit clock place grid live a.value) (sym k.whole) d.0,
+      d.1 ∙ ap (λ (es : List Entry). es ++ rest.entries) k.so_far ∙ append_assoc old k.done rest.entries
+          ∙ ap (λ (a : Told World). old ++ a.entries) (sym k.whole),
+    )
 
 -- a script that was at a tick comes back at the end of a turn
 pub stands-settled : (codes : List Code) (unit : Code) (clock place : ℕ) (grid : Contents) (live : Live) (w : World)

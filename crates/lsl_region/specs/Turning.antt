@@ -1,10 +1,12 @@
 -- What the grid and an awake script stand for within a turn.
-use Rattle.std.specs.Prelude.{◌≡◌, ℕ, ◌+◌, List, Option, Some, None, slice_get, slice_set, true}
+use Rattle.std.specs.Prelude.{◌≡◌, ℕ, ◌+◌, List, ◌++◌, Option, Some, None, slice_get, slice_set, true}
 use Rattle.lsl_code.specs.declared.woven_units.Woven.{Woven as Code}
 use Rattle.lsl_code.specs.Weaves.{Weaves}
 use Rattle.lsl_machine.specs.State.{asks_ahead, bodies_of}
 use Rattle.lsl_machine.specs.declared.standing.Standing.TheVariants as standing
+use Rattle.lsl_post.specs.declared.entries.Entry.{Entry}
 use Rattle.lsl_post.specs.declared.parts.ScriptParts.{ScriptParts}
+use Rattle.lsl_post.specs.Told.{Told, lead}
 use Rattle.lsl_script.specs.declared.live.Live.{Live}
 use Rattle.lsl_script.specs.declared.live.Turn.{Turn}
 use Rattle.lsl_script.specs.declared.live.Turn.TheVariants as turn
@@ -17,11 +19,17 @@ use Rattle.lsl_script.specs.Rules.{Rules}
 use Rattle.lsl_script.specs.Scripts.{Flight, Flying}
 use Rattle.lsl_region.specs.declared.grid.Seat.{Seat}
 use Rattle.lsl_region.specs.Grids.{Contents, Stands}
+use Rattle.lsl_region.specs.Segments.{asked}
 use Rattle.lsl_region.specs.Worlds.{Member, World}
 
 -- the grid with this script, or none, in the seat at a place
 abbrev pub with_seated : Contents → ℕ → Seat → Option ScriptParts → Contents
 with_seated grid place seat script = record grid { seats = slice_set grid.seats place (record seat { script = script }) }
+
+-- a script is awake, and so
+abbrev pub IsOut : Option Live → (Live → Type 0) → Type 0
+IsOut None P = ⊥
+IsOut (Some live) P = P live
 
 -- the script in a seat is there, and can run
 abbrev pub IsReady : ℕ → Option ScriptParts → Type 0
@@ -88,6 +96,12 @@ abbrev pub IsLast : Turn → Type 0
 IsLast (turn.Asks call) = ⊥
 IsLast t = Unit {0}
 
+-- nor does it stand at a tick
+abbrev pub IsEnd : Turn → Type 0
+IsEnd (turn.Asks call) = ⊥
+IsEnd turn.AtTick = ⊥
+IsEnd t = Unit {0}
+
 -- how often it asks at most from this stop on
 abbrev pub asks_left : Code → Turn → Live → ℕ
 asks_left unit (turn.Asks call) live = asks_ahead (bodies_of unit) live.machine + 1
@@ -98,6 +112,15 @@ pub record InFlight : Type 0 where
   pub world : World
   pub flight : Flight
   pub most : ℕ
+
+-- on the way of a flight these entries were added, and what is asked for from there gives the rest
+pub record IsOnWay (r : Rules) (place : ℕ) (total : Told World) (old now : List Entry) (At : InFlight → Type 0)
+    : Type 0 where
+  pub there : InFlight
+  pub at : At there
+  pub done : List Entry
+  pub whole : total ≡ lead done (asked r (there.most + 1) place there.flight there.world)
+  pub so_far : now ≡ old ++ done
 
 -- the script at a place is out, and stands at a tick of its flight
 pub record Held (codes : List Code) (unit : Code) (clock place : ℕ) (grid : Contents) (live : Live) (w : World)

@@ -1,10 +1,10 @@
 //! Segments of one script: from one tick to the next, or to its handler's end, with all host calls on the way.
 
-ghost use Rattle.std.specs.Prelude.{◌≡◌, ◌<◌, ◌≤◌, ◌-◌, ◌+◌, ℕ, None, true, length, map, IfOk, OnOk};
+ghost use Rattle.std.specs.Prelude.{◌≡◌, ◌<◌, ◌≤◌, ◌-◌, ◌+◌, ℕ, None, true, length, map, IfOk, MatchResult, OnOk};
 ghost use Rattle.lsl_code.specs.Weaves.{Weaves};
 ghost use Rattle.lsl_machine.specs.State.{CanRun};
 ghost use Rattle.lsl_machine.specs.declared.standing.Standing.TheVariants as standings;
-ghost use Rattle.lsl_post.specs.Journal.{Adds, Tells};
+ghost use Rattle.lsl_post.specs.Journal.{Adds, Part, Tells};
 ghost use Rattle.lsl_post.specs.Timing.{latest_clock};
 ghost use Rattle.lsl_script.specs.Awake.{IsAskedFor, IsAwake, taken_by};
 ghost use Rattle.lsl_script.specs.Codes.{HasUnit, Meant, rules_of};
@@ -18,7 +18,7 @@ ghost use Rattle.lsl_script.specs.Waking.{WakesAs};
 ghost use Rattle.lsl_region.specs.Answers.{answer};
 ghost use Rattle.lsl_region.specs.Grids.{AreSeated, Stands, unit_number};
 ghost use Rattle.lsl_region.specs.Segments.{asked, taken};
-ghost use Rattle.lsl_region.specs.Turning.{Begins, GoesOn, InTurn, IsHeld, IsLast, IsReadyInTurn, IsUnitAt, Paused, StandsAt, asks_left};
+ghost use Rattle.lsl_region.specs.Turning.{Begins, InTurn, IsEnd, IsHeld, IsLast, IsOnWay, IsOut, IsReadyInTurn, IsUnitAt, Paused, StandsAt, asks_left};
 ghost use Rattle.lsl_region.specs.Worlds.{World};
 
 use crate::grid::Grid;
@@ -62,40 +62,77 @@ impl Grid {
         Ok(live)
     }
 
-    /// Goes on to the next tick or the handler's end, and answers all host calls on the way.
+    /// Goes on from a stop to the next tick or the handler's end, and answers all host calls on the way.
+    #[inline(never)]
     pub(crate) fn go_on(
         &mut self,
         place: usize,
-        live: Live,
+        live: &mut Option<Live>,
+        turn: Turn,
         clock: u64,
         library: &Library,
         unit: &Woven,
         out: &mut Entries,
-    ) -> Result<Option<Live>, NoMemory>
+    ) -> Result<(), NoMemory>
         requires place { place < length self.old.seats }
         requires clock { clock ≤ latest_clock }
         requires seated { AreSeated library.now self.old.seats }
         requires unit { IsUnitAt library.now unit.now self.old.seats place }
-        requires awake { IsAwake unit.now live }
-        requires able { CanRun live.machine.standing }
+        requires awake { IsOut live.old (IsAwake unit.now) }
+        requires stands { IsOut live.old (StandsAt unit.now turn) }
         ensures does { (m : Meant library.now) (f : Flight) (most : ℕ) (w : World) →
-            GoesOn library.now unit.now clock place self.old live f most w →
-            Tells result (λ v live. InTurn library.now unit.now clock place self.new live v) out.old out.new
+            IsOut live.old (λ l. Paused library.now unit.now clock place self.old l turn f most w) →
+            Tells result (λ v _. InTurn library.now unit.now clock place self.new live.new v) out.old out.new
             (asked m.rules (most + 1) place f w) }
         ensures seated { OnOk result (AreSeated library.now self.new.seats) }
         ensures unit { OnOk result (IsUnitAt library.now unit.now self.new.seats place) }
-        ensures held { IfOk result (IsHeld unit.now) }
+        ensures held { OnOk result (IsHeld unit.now live.new) }
         ensures len { length self.new.seats ≡ length self.old.seats }
         ensures units { map unit_number self.new.seats ≡ map unit_number self.old.seats }
     {
-        let mut live = live;
-        let mut turn = live.go(unit);
+        let Some(awake) = live else {
+            unreachable!();
+        };
+        match self.answer_all(place, awake, turn, clock, library, unit, out)? {
+            Turn::AtTick => Ok(()),
+            last => self.finish(place, live, last, library, unit, out),
+        }
+    }
+
+    // Answers all host calls up to the next tick or the handler's end.
+    fn answer_all(
+        &mut self,
+        place: usize,
+        live: &mut Live,
+        turn: Turn,
+        clock: u64,
+        library: &Library,
+        unit: &Woven,
+        out: &mut Entries,
+    ) -> Result<Turn, NoMemory>
+        requires place { place < length self.old.seats }
+        requires clock { clock ≤ latest_clock }
+        requires seated { AreSeated library.now self.old.seats }
+        requires awake { IsAwake unit.now live.old }
+        requires stands { StandsAt unit.now turn live.old }
+        ensures does { (m : Meant library.now) (f : Flight) (most : ℕ) (w : World) →
+            Paused library.now unit.now clock place self.old live.old turn f most w →
+            MatchResult result
+            (λ last. IsOnWay m.rules place (asked m.rules (most + 1) place f w) out.old out.new
+            (λ x. Paused library.now unit.now clock place self.new live.new last x.flight x.most x.world))
+            (λ _. Part out.old out.new (asked m.rules (most + 1) place f w).entries) }
+        ensures awake { OnOk result (IsAwake unit.now live.new) }
+        ensures stands { IfOk result (λ last. StandsAt unit.now last live.new) }
+        ensures last { IfOk result IsLast }
+        ensures seated { OnOk result (AreSeated library.now self.new.seats) }
+        ensures len { length self.new.seats ≡ length self.old.seats }
+        ensures units { map unit_number self.new.seats ≡ map unit_number self.old.seats }
+    {
+        let mut turn = turn;
         'asks: loop {
             turn = match turn {
-                Turn::Asks(call) => {
-                    self.serve(place, &mut live, call, clock, library, unit, out)?
-                }
-                last => return self.finish(place, live, last, library, unit, out),
+                Turn::Asks(call) => self.serve(place, live, call, clock, library, unit, out)?,
+                last => return Ok(last),
             };
         }
     }
@@ -139,34 +176,36 @@ impl Grid {
         }
     }
 
-    // Ends a segment at its last stop: the script stays awake at a tick, else it comes back into the grid.
+    // Ends the handler of a script, which comes back into the grid.
     fn finish(
         &mut self,
         place: usize,
-        live: Live,
-        turn: Turn,
+        live: &mut Option<Live>,
+        end: Turn,
         library: &Library,
         unit: &Woven,
         out: &mut Entries,
-    ) -> Result<Option<Live>, NoMemory>
+    ) -> Result<(), NoMemory>
         requires place { place < length self.old.seats }
         requires seated { AreSeated library.now self.old.seats }
         requires unit { IsUnitAt library.now unit.now self.old.seats place }
-        requires awake { IsAwake unit.now live }
-        requires stands { StandsAt unit.now turn live }
-        requires last { IsLast turn }
+        requires awake { IsOut live.old (IsAwake unit.now) }
+        requires stands { IsOut live.old (StandsAt unit.now end) }
+        requires end { IsEnd end }
         ensures does { (m : Meant library.now) (clock : ℕ) (f : Flight) (most : ℕ) (w : World) →
-            Paused library.now unit.now clock place self.old live turn f most w →
-            Tells result (λ v live. InTurn library.now unit.now clock place self.new live v) out.old out.new
+            IsOut live.old (λ l. Paused library.now unit.now clock place self.old l end f most w) →
+            Tells result (λ v _. Stands library.now None clock self.new v) out.old out.new
             (asked m.rules (most + 1) place f w) }
+        ensures out { live.new ≡ None }
         ensures seated { OnOk result (AreSeated library.now self.new.seats) }
         ensures unit { OnOk result (IsUnitAt library.now unit.now self.new.seats place) }
-        ensures held { IfOk result (IsHeld unit.now) }
         ensures len { length self.new.seats ≡ length self.old.seats }
         ensures units { map unit_number self.new.seats ≡ map unit_number self.old.seats }
     {
-        match turn {
-            Turn::AtTick => Ok(Some(live)),
+        let Some(live) = live.take() else {
+            unreachable!();
+        };
+        match end {
             Turn::Ended => {
                 let Closed {
                     script,
@@ -175,16 +214,16 @@ impl Grid {
                 } = live.close(self.alloc, unit)?;
                 tell_closing(number(place), charge, cleared, out)?;
                 self.put_back(place, script);
-                Ok(None)
+                Ok(())
             }
             Turn::Faulted(fault) => {
                 let script = live.fail(self.alloc, unit, fault)?;
                 out.push(Entry::Stopped(number(place), fault))?;
                 self.put_back(place, script);
-                Ok(None)
+                Ok(())
             }
             Turn::NoMemory => Err(AllocError),
-            Turn::Asks(_) => unreachable!(),
+            Turn::AtTick | Turn::Asks(_) => unreachable!(),
         }
     }
 }

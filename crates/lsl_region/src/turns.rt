@@ -13,7 +13,7 @@ ghost use Rattle.lsl_region.specs.Worlds.{World};
 use crate::grid::Grid;
 use lsl_code::{Library, Woven};
 use lsl_post::Entries;
-use lsl_script::Live;
+use lsl_script::{Live, Turn};
 use lsl_text::NoMemory;
 
 impl Grid {
@@ -45,7 +45,7 @@ impl Grid {
                 self.settle(place, live, unit)?;
                 return Ok(spent);
             }
-            live = self.segment(place, live, clock, library, unit, out)?;
+            self.segment(place, &mut live, clock, library, unit, out)?;
         }
         self.settle(place, live, unit)?;
         Ok(ticks)
@@ -64,41 +64,74 @@ impl Grid {
         }
     }
 
-    // A segment of the script at this place, which can run.
+    // A segment of the script at this place, which can run. One that is awake at a tick stays where it is.
     fn segment(
         &mut self,
         place: usize,
-        live: Option<Live>,
+        live: &mut Option<Live>,
         clock: u64,
         library: &Library,
         unit: &Woven,
         out: &mut Entries,
-    ) -> Result<Option<Live>, NoMemory>
+    ) -> Result<(), NoMemory>
         requires place { place < length self.old.seats }
         requires clock { clock ≤ latest_clock }
         requires seated { AreSeated library.now self.old.seats }
         requires unit { IsUnitAt library.now unit.now self.old.seats place }
-        requires held { IsHeld unit.now live }
-        requires ready { IsReadyInTurn clock self.old.seats place live }
-        ensures does { (m : Meant library.now) (w : World) → InTurn library.now unit.now clock place self.old live w →
-            Tells result (λ v live. InTurn library.now unit.now clock place self.new live v) out.old out.new
+        requires held { IsHeld unit.now live.old }
+        requires ready { IsReadyInTurn clock self.old.seats place live.old }
+        ensures does { (m : Meant library.now) (w : World) →
+            InTurn library.now unit.now clock place self.old live.old w →
+            Tells result (λ v _. InTurn library.now unit.now clock place self.new live.new v) out.old out.new
             (segment m.rules place w) }
         ensures seated { OnOk result (AreSeated library.now self.new.seats) }
         ensures unit { OnOk result (IsUnitAt library.now unit.now self.new.seats place) }
-        ensures held { IfOk result (IsHeld unit.now) }
+        ensures held { OnOk result (IsHeld unit.now live.new) }
         ensures len { length self.new.seats ≡ length self.old.seats }
         ensures units { map unit_number self.new.seats ≡ map unit_number self.old.seats }
     {
         match live {
-            Some(live) => self.go_on(place, live, clock, library, unit, out),
-            None => {
-                let live = self.begin(place, clock, library, unit, out)?;
-                self.go_on(place, live, clock, library, unit, out)
-            }
+            Some(awake) => match awake.go(unit) {
+                Turn::AtTick => Ok(()),
+                turn => self.go_on(place, live, turn, clock, library, unit, out),
+            },
+            None => self.first_segment(place, live, clock, library, unit, out),
         }
     }
 
+    // A segment of a script that isn't awake yet.
+    #[inline(never)]
+    fn first_segment(
+        &mut self,
+        place: usize,
+        live: &mut Option<Live>,
+        clock: u64,
+        library: &Library,
+        unit: &Woven,
+        out: &mut Entries,
+    ) -> Result<(), NoMemory>
+        requires place { place < length self.old.seats }
+        requires clock { clock ≤ latest_clock }
+        requires seated { AreSeated library.now self.old.seats }
+        requires unit { IsUnitAt library.now unit.now self.old.seats place }
+        requires ready { IsReadyInTurn clock self.old.seats place None }
+        ensures does { (m : Meant library.now) (w : World) → Stands library.now None clock self.old w →
+            Tells result (λ v _. InTurn library.now unit.now clock place self.new live.new v) out.old out.new
+            (segment m.rules place w) }
+        ensures seated { OnOk result (AreSeated library.now self.new.seats) }
+        ensures unit { OnOk result (IsUnitAt library.now unit.now self.new.seats place) }
+        ensures held { OnOk result (IsHeld unit.now live.new) }
+        ensures len { length self.new.seats ≡ length self.old.seats }
+        ensures units { map unit_number self.new.seats ≡ map unit_number self.old.seats }
+    {
+        let mut awake = self.begin(place, clock, library, unit, out)?;
+        let turn = awake.go(unit);
+        *live = Some(awake);
+        self.go_on(place, live, turn, clock, library, unit, out)
+    }
+
     // At a turn's end the script comes to rest, and back into the grid.
+    #[inline(never)]
     fn settle(&mut self, place: usize, live: Option<Live>, unit: &Woven) -> Result<(), NoMemory>
         requires place { place < length self.old.seats }
         requires held { IsHeld unit.now live }

@@ -48,14 +48,14 @@ pub returns-then-not-is_ready_in_turn-clause-seated : goal.returns-then-not-is_r
 returns-then-not-is_ready_in_turn-clause-seated c =
     c.in_ok-settle.ensures.seated c.args.library.now c.loop-spent.invariant.unit c.loop-spent.invariant.seated
 
-pub returns-in_err-live-clause-does : goal.returns-in_err-live-clause-does
-returns-in_err-live-clause-does c = λ m w st.
+pub returns-in_err-segment-clause-does : goal.returns-in_err-segment-clause-does
+returns-in_err-segment-clause-does c = λ m w st.
     let codes = c.args.library.now in
     let unit = c.unit-unit.result.now in
-    MatchResult-from_err c.from_residual-in_err-live.result _ _ c.from_residual-in_err-live.ensures.0
+    MatchResult-from_err c.from_residual-in_err-segment.result _ _ c.from_residual-in_err-segment.ensures.0
     (λ y. again-err _ _ _ _ _ _ _ _ (c.loop-spent.invariant.again m w st) _ c.loop-spent-test.true
     (λ x r. ap not (sym (c.is_ready_in_turn.ensures.source codes unit x.0 r.0) ∙ c.if-not-is_ready_in_turn.false))
-    (λ x r. c.in_err-live.ensures.does m x.0 r.0))
+    (λ x r. c.in_err-segment.ensures.does m x.0 r.0))
 
 pub loop-spent-preserved : goal.loop-spent-preserved
 loop-spent-preserved c =
@@ -63,15 +63,15 @@ loop-spent-preserved c =
     let unit = c.unit-unit.result.now in
     let place : ℕ = c.args.script - 1 in
     record {
-      len = c.in_ok-live.ensures.len ∙ c.loop-spent.invariant.len;
-      seated = c.in_ok-live.ensures.seated;
-      unit = c.in_ok-live.ensures.unit;
-      held = c.in_ok-live.ensures.held;
+      len = c.in_ok-segment.ensures.len ∙ c.loop-spent.invariant.len;
+      seated = c.in_ok-segment.ensures.seated;
+      unit = c.in_ok-segment.ensures.unit;
+      held = c.in_ok-segment.ensures.held;
       again = λ m w st. again-ok _ _ _ _ _ _ _ _ (c.loop-spent.invariant.again m w st)
-          (λ (x : World × ℕ). InTurn codes unit c.args.clock place c.segment.new.self c.in_ok-live.live x.0
+          (λ (x : World × ℕ). InTurn codes unit c.args.clock place c.segment.new.self c.segment.new.live x.0
           × (c.loop-spent.spent + 1 ≡ x.1)) _ c.loop-spent-test.true
           (λ x r. ap not (sym (c.is_ready_in_turn.ensures.source codes unit x.0 r.0) ∙ c.if-not-is_ready_in_turn.false))
-          (λ x r. let d = c.in_ok-live.ensures.does m x.0 r.0 in ((d.0, ap (λ (n : ℕ). n + 1) r.1), d.1));
+          (λ x r. let d = c.in_ok-segment.ensures.does m x.0 r.0 in ((d.0, ap (λ (n : ℕ). n + 1) r.1), d.1));
     }
 
 pub returns-clause-does : goal.returns-clause-does

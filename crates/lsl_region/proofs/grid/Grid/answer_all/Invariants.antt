@@ -5,10 +5,10 @@ use Rattle.lsl_script.specs.Codes.{Meant}
 use Rattle.lsl_script.specs.Scripts.{Flight}
 use Rattle.lsl_region.specs.Grids.{AreSeated, unit_number}
 use Rattle.lsl_region.specs.Segments.{asked}
-use Rattle.lsl_region.specs.Turning.{GoesOn, InFlight, IsUnitAt, Paused, StandsAt, asks_left}
+use Rattle.lsl_region.specs.Turning.{InFlight, Paused, StandsAt, asks_left}
 use Rattle.lsl_region.specs.Worlds.{World}
 use Rattle.lsl_region.proofs.Flying.{still_asked}
-use Rattle.lsl_region.proofs.grid.Grid.go_on.Given as goal
+use Rattle.lsl_region.proofs.grid.Grid.answer_all.Given as goal
 
 abbrev pub invariant-asks : goal.invariant-asks
 invariant-asks l =
@@ -16,11 +16,10 @@ invariant-asks l =
       len : length l.self.seats ≡ length l.fn.self.seats;
       units : map unit_number l.self.seats ≡ map unit_number l.fn.self.seats;
       seated : AreSeated l.library l.self.seats;
-      unit : IsUnitAt l.library l.unit l.self.seats l.place;
       awake : IsAwake l.unit l.live;
       stands : StandsAt l.unit l.turn l.live;
       amid : (m : Meant l.library) (f : Flight) (most : ℕ) (w : World)
-          → GoesOn l.library l.unit l.clock l.place l.fn.self l.fn.live f most w →
+          → Paused l.library l.unit l.clock l.place l.fn.self l.fn.live l.fn.turn f most w →
           Amid (λ (x : InFlight). Paused l.library l.unit l.clock l.place l.self l.live l.turn x.flight x.most x.world)
           (asked m.rules (most + 1) l.place f w)
           l.fn.out l.out (still_asked m.rules l.place);
