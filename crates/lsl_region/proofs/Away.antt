@@ -1,6 +1,6 @@
 -- A script that is out of the grid and waits for an answer.
-use Rattle.std.proofs.Common.{◌≡◌, ◌≢◌, ℕ, ◌+◌, ◌<◌, Bool, true, false, List, [], ◌++◌, length, refl, ap, sym, ◌∙◌, subst, rules, arith}
-use Rattle.std.specs.Prelude.{Option, Some, None, if◌then◌else◌, nat_eq, slice_get, slice_set}
+use Rattle.std.proofs.Common.{◌≡◌, ◌≢◌, ℕ, ◌<◌, Bool, true, false, List, ◌++◌, length, refl, ap, sym, ◌∙◌, subst, rules, arith}
+use Rattle.std.specs.Prelude.{Option, Some, None, slice_get, slice_set}
 use Rattle.std.specs.Option.{option_map}
 use Rattle.std.specs.declared.result.Result.{Result}
 use Rattle.std.specs.declared.result.Result.TheVariants.{Ok, Err}
@@ -14,7 +14,6 @@ use Rattle.lsl_script.specs.declared.live.Live.{Live}
 use Rattle.lsl_script.specs.Lives.{Waits}
 use Rattle.lsl_script.specs.Scripts.{Flight, Script}
 use Rattle.lsl_region.specs.declared.audience.Audience.{Audience}
-use Rattle.lsl_region.specs.declared.grid.Seat.{Seat}
 use Rattle.lsl_region.specs.declared.objects.Linkset.{Linkset}
 use Rattle.lsl_region.specs.Grids.{Contents, IsScript, Lent, Stands, is_out, key_in, seat_of}
 use Rattle.lsl_region.specs.Posting.{admits, is_admitted}

@@ -1,12 +1,10 @@
 -- A script goes out of the grid, and comes back into it.
 use Rattle.std.proofs.Common.{◌≡◌, ℕ, zero, suc, ◌<◌, Bool, true, false, List, [], ◌∷◌, map, length, refl, ap, sym, ◌∙◌, subst}
 use Rattle.std.specs.Prelude.{Option, Some, None, slice_get, slice_set}
-use Rattle.std.specs.Option.{option_map}
 use Rattle.std.proofs.lemmas.Option.{slice_get_within}
 use Rattle.lsl_code.specs.declared.woven_units.Woven.{Woven as Code}
 use Rattle.lsl_post.specs.declared.parts.ScriptParts.{ScriptParts}
 use Rattle.lsl_script.specs.Codes.{HasUnit, rules_of}
-use Rattle.lsl_script.specs.Fitting.{FitsUnit}
 use Rattle.lsl_script.specs.Lawful.{Lawful}
 use Rattle.lsl_script.specs.Parts.{parts_of}
 use Rattle.lsl_script.specs.Scripts.{Script}
@@ -15,7 +13,7 @@ use Rattle.lsl_region.specs.Grids.{AreSeated, Contents, FitsSeat, IsLawful, Stan
 use Rattle.lsl_region.specs.Turning.{IsUnitAt, with_seated}
 use Rattle.lsl_region.specs.Worlds.{Member, World, with_member}
 use Rattle.lsl_region.proofs.Away.{away-seat, other-home, self-out}
-use Rattle.lsl_region.proofs.Placed.{seated-at, slice_get-set_same, stands-with}
+use Rattle.lsl_region.proofs.Placed.{seated-at, stands-with}
 use Rattle.lsl_region.proofs.Seats.{seated-set}
 
 module _ (codes : List Code) (clock place : ℕ) (grid : Contents) (w : World) (m : Member) (t : Script) (seat : Seat)

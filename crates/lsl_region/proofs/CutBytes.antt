@@ -1,5 +1,5 @@
 -- Texts that are cut, and their bytes.
-use Rattle.std.proofs.Common.{◌≡◌, ℕ, ◌+◌, ◌-◌, ◌<◌, ◌≤◌, Bool, true, false, List, [], ◌∷◌, ◌++◌, length, take, drop, get_or, refl, sym, ap, ap₂, ◌∙◌, ◌⊎◌, inl, inr, subst, arith, length-append}
+use Rattle.std.proofs.Common.{◌≡◌, ℕ, ◌+◌, ◌-◌, ◌<◌, ◌≤◌, Bool, true, false, List, [], ◌∷◌, ◌++◌, length, take, drop, get_or, refl, sym, ap, ap₂, ◌∙◌, inl, inr, subst, arith, length-append}
 use Rattle.std.specs.Prelude.{nat_le, if◌then◌else◌}
 use Rattle.std.specs.Char.{len_utf8, encode_utf8}
 use Rattle.std.specs.Str.{encode_utf8_all, all_scalars, chars, IsUtf8}
@@ -7,7 +7,6 @@ use Rattle.std.proofs.lemmas.Bool.Decides.{nat_tests}
 use Rattle.std.proofs.lemmas.List.{drop_all, drop_more}
 use Rattle.std.proofs.lemmas.Str.{chars-encodes, encodes-append, encodes-chars, length-encode}
 use Rattle.lsl_pure.proofs.ByteLemmas.{scalars-take, IsUtf8-spelled, chars-spelled}
-use Rattle.lsl_value.specs.Limits.{most_text_bytes}
 use Rattle.lsl_value.specs.Text.{IsNoText, IsTextOf}
 use Rattle.lsl_region.specs.Texts.{cut_to}
 use Rattle.lsl_region.proofs.Cuts.{cut_short}

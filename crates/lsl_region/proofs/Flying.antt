@@ -1,6 +1,6 @@
 -- What comes of a script that is out, for one tick more of its flight.
 use Rattle.std.proofs.Common.{◌≡◌, ℕ, zero, suc, ◌+◌, ◌-◌, ◌<◌, ◌≤◌, List, [], ◌∷◌, ◌++◌, length, refl, ap, sym, ◌∙◌, subst, append_assoc, append-nil, arith}
-use Rattle.std.specs.Prelude.{Option, Some, None, slice_get}
+use Rattle.std.specs.Prelude.{Option, Some, slice_get}
 use Rattle.lsl_value.specs.declared.names.BuiltinId.{BuiltinId}
 use Rattle.lsl_running.specs.declared.ends.Fault.{Fault}
 use Rattle.lsl_running.specs.declared.host.Call.{Call}
@@ -8,7 +8,6 @@ use Rattle.lsl_running.specs.declared.host.Reply.{Reply}
 use Rattle.lsl_running.specs.Results as whole
 use Rattle.lsl_running.specs.Results.{Whole}
 use Rattle.lsl_code.specs.declared.woven_units.Woven.{Woven as Code}
-use Rattle.lsl_code.specs.Runs.{Halt}
 use Rattle.lsl_code.specs.Wholes.{told}
 use Rattle.lsl_machine.specs.Futures.{halt_from}
 use Rattle.lsl_machine.specs.State.{State, bodies_of}

@@ -1,12 +1,9 @@
 -- What a call does to the script that is out.
-use Rattle.std.proofs.Common.{◌≡◌, ℕ, ◌<◌, List, ◌++◌, length, refl, ap, sym, ◌∙◌, subst, append-nil, true}
+use Rattle.std.proofs.Common.{◌≡◌, ℕ, List, refl, ap, sym, ◌∙◌, true}
 use Rattle.std.specs.Prelude.{ℤ, Option, Some, None, slice_get, slice_set}
-use Rattle.std.specs.declared.result.Result.{Result}
-use Rattle.std.proofs.lemmas.Option.{get_or_from_slice_get, slice_get_within}
 use Rattle.lsl_value.specs.declared.names.BuiltinId.{BuiltinId}
 use Rattle.lsl_value.specs.declared.names.BuiltinId.TheVariants.{Listen, ListenRemove, ListenControl, SetTimerEvent, Sleep}
 use Rattle.lsl_value.specs.declared.tagged.Value.{Value}
-use Rattle.lsl_running.specs.declared.host.Reply.{Reply}
 use Rattle.lsl_code.specs.declared.woven_units.Woven.{Woven as Code}
 use Rattle.lsl_post.specs.Listens.{Standing}
 use Rattle.lsl_script.specs.declared.live.Live.{Live}
@@ -14,10 +11,9 @@ use Rattle.lsl_script.specs.Lives.{Waits}
 use Rattle.lsl_script.specs.Scripts.{Flight, Script}
 use Rattle.lsl_region.specs.declared.grid.Seat.{Seat}
 use Rattle.lsl_region.specs.declared.objects.Linkset.{Linkset}
-use Rattle.lsl_region.specs.declared.objects.Primitive.{Primitive}
 use Rattle.lsl_region.specs.Answers.{listen_asked, listened_script, mailed, renamed, with_name}
-use Rattle.lsl_region.specs.Grids.{Contents, Lent, Stands, object_in, prim_in, renamed_grid, seat_of}
-use Rattle.lsl_region.specs.Worlds.{Member, World, object_of, prim_of, with_member}
+use Rattle.lsl_region.specs.Grids.{Contents, Lent, object_in, prim_in, renamed_grid, seat_of}
+use Rattle.lsl_region.specs.Worlds.{World, object_of, prim_of, with_member}
 use Rattle.lsl_region.proofs.Away.{away-seat, keeps-out, member-there, stands-away}
 
 listened-code : (o : Option (ℤ × Standing)) (s : Script) → (listened_script o s).code ≡ s.code

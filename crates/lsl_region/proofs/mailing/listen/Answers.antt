@@ -3,7 +3,6 @@ use Rattle.std.specs.Prelude.{ℤ, List, ℕ, Option, Some, None}
 use Rattle.std.specs.Int.{w32, cast_signed, cast_unsigned}
 use Rattle.std.proofs.lemmas.Int.{to_z-of_z}
 use Rattle.lsl_value.specs.declared.tagged.Value.TheVariants as value
-use Rattle.lsl_running.specs.declared.host.Reply.{Reply}
 use Rattle.lsl_running.specs.declared.host.Reply.TheVariants as reply
 use Rattle.lsl_running.specs.declared.ends.Fault.TheVariants.{TooManyListens}
 use Rattle.lsl_post.specs.declared.listen.ListenFault.TheVariants.{TooMany}
@@ -12,7 +11,7 @@ use Rattle.lsl_post.specs.Listens.{Standing, listened}
 use Rattle.lsl_script.specs.Lives.{Waits}
 use Rattle.lsl_script.specs.Mailing.{with_listens}
 use Rattle.lsl_script.proofs.Mail.{listens_are_its}
-use Rattle.lsl_region.specs.Answers.{gives, integer_at, listened_reply, listened_script, text_at}
+use Rattle.lsl_region.specs.Answers.{listened_reply, listened_script}
 use Rattle.lsl_region.proofs.mailing.listen.Goals as goal
 
 -- what was asked for is the listen with these values

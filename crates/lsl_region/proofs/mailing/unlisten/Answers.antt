@@ -1,4 +1,4 @@
-use Rattle.std.proofs.Common.{◌≡◌, ℤ, ap, ap₂, ◌∙◌, rules, subst, sym}
+use Rattle.std.proofs.Common.{◌≡◌, ℤ, ap, ap₂, ◌∙◌, rules, subst}
 use Rattle.std.specs.Int.{w32, cast_signed, cast_unsigned}
 use Rattle.std.proofs.lemmas.Int.{to_z-of_z}
 use Rattle.lsl_post.specs.Listens.{Standing, closed}

@@ -1,5 +1,4 @@
-use Rattle.std.proofs.Common.{◌≡◌, ◌≤◌, rules, take, length, List, ℕ, refl, sym, ap, ◌∙◌, subst, arith, Ok}
-use Rattle.std.specs.declared.option.Option.TheVariants.{Some, None}
+use Rattle.std.proofs.Common.{◌≤◌, rules, take, length, List, ℕ, refl, ap, subst, arith}
 use Rattle.std.specs.Prelude.{MatchOption}
 use Rattle.std.specs.Str.{encode_utf8_all}
 use Rattle.lsl_value.specs.Text.{IsNoText, IsTextOf}

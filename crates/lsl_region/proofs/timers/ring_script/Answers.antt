@@ -1,4 +1,4 @@
-use Rattle.std.proofs.Common.{◌≡◌, ◌∙◌, ℕ, Bool, List, ◌++◌, ap, sym, subst, append-nil}
+use Rattle.std.proofs.Common.{◌≡◌, ◌∙◌, Bool, ◌++◌, ap, sym, subst, append-nil}
 use Rattle.std.specs.Prelude.{if◌then◌else◌}
 use Rattle.lsl_post.specs.Journal.{Tells}
 use Rattle.lsl_post.specs.Timer.{timing_of}
@@ -9,7 +9,7 @@ use Rattle.lsl_script.specs.Codes.{rules_of}
 use Rattle.lsl_script.specs.Lending.{parts_with_timer}
 use Rattle.lsl_script.specs.Mailing.{ticking}
 use Rattle.lsl_script.specs.Parts.{parts_of}
-use Rattle.lsl_script.specs.Scripts.{Script, post_to, ring_to, timer_event}
+use Rattle.lsl_script.specs.Scripts.{Script, post_to, timer_event}
 use Rattle.lsl_script.proofs.Mail.{resting_timer_is_its}
 use Rattle.lsl_region.proofs.timers.ring_script.Goals as goal
 

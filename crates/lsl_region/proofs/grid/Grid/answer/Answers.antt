@@ -1,13 +1,11 @@
-use Rattle.std.proofs.Common.{◌≡◌, ◌<◌, ◌∙◌, ◌-◌, ℕ, List, length, ap, rules, sym, subst, true}
+use Rattle.std.proofs.Common.{◌≡◌, ◌<◌, ◌∙◌, ◌-◌, ℕ, length, ap, rules, sym, subst}
 use Rattle.std.specs.Prelude.{Option, Some, slice_get}
 use Rattle.std.proofs.lemmas.Option.{slice_get_within}
 use Rattle.lsl_code.specs.declared.woven_units.Woven.{Woven as Code}
 use Rattle.lsl_post.specs.Journal.{Tells}
-use Rattle.lsl_region.specs.declared.grid.Seat.{Seat}
 use Rattle.lsl_region.specs.Answers.{Answered, answer_in}
-use Rattle.lsl_region.specs.Grids.{Contents, Lent, seat_of}
+use Rattle.lsl_region.specs.Grids.{Contents, Lent}
 use Rattle.lsl_region.specs.Worlds.{Member}
-use Rattle.lsl_region.proofs.Away.{away-seat}
 use Rattle.lsl_region.proofs.Lending.{lent-unit}
 use Rattle.lsl_region.proofs.Seats.{read-at}
 use Rattle.lsl_region.proofs.grid.Grid.answer.Goals as goal

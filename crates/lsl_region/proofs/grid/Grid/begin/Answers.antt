@@ -1,7 +1,6 @@
-use Rattle.std.proofs.Common.{◌≡◌, ◌∙◌, ℕ, ◌+◌, List, ◌++◌, ap, arith, length, subst, sym}
+use Rattle.std.proofs.Common.{◌≡◌, ◌∙◌, ℕ, ◌++◌, ap, arith, length, subst, sym}
 use Rattle.std.specs.Prelude.{Option, Some, None}
 use Rattle.std.proofs.lemmas.Result.{MatchResult-from_err}
-use Rattle.lsl_post.specs.declared.entries.Entry.{Entry}
 use Rattle.lsl_post.specs.declared.parts.ScriptParts.{ScriptParts}
 use Rattle.lsl_post.specs.Journal.{Part}
 use Rattle.lsl_script.specs.Awake.{taken_by}

@@ -1,4 +1,4 @@
-use Rattle.std.proofs.Common.{◌≡◌, ◌∙◌, ℕ, ℤ, true, length, ap, rules}
+use Rattle.std.proofs.Common.{◌≡◌, ◌∙◌, true, length, ap, rules}
 use Rattle.std.specs.Prelude.{pos}
 use Rattle.std.specs.Int.{w32, cast_signed, cast_unsigned}
 use Rattle.std.proofs.lemmas.Int.{to_z-of_z}

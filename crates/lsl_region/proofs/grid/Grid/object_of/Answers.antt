@@ -1,7 +1,6 @@
-use Rattle.std.proofs.Common.{◌≡◌, ◌<◌, length, rules, ◌∙◌, ap, subst}
+use Rattle.std.proofs.Common.{◌<◌, length, rules, subst}
 use Rattle.std.proofs.lemmas.Option.{slice_get_within}
 use Rattle.lsl_region.specs.declared.grid.Seat.{Seat}
-use Rattle.lsl_region.specs.Grids.{Contents}
 use Rattle.lsl_region.proofs.Seats.{object-is, object-read, read-at}
 use Rattle.lsl_region.proofs.grid.Grid.object_of.Goals as goal
 

@@ -1,6 +1,5 @@
-use Rattle.std.proofs.Common.{◌≡◌, ◌<◌, ℕ, ◌+◌, Bool, List, ◌++◌, length, map, rules, refl, true, false, ap, sym, ◌∙◌, subst, append-nil, get_or}
-use Rattle.std.specs.Prelude.{Option, Some, slice_get, if◌then◌else◌}
-use Rattle.lsl_post.specs.declared.entries.Entry.{Entry}
+use Rattle.std.proofs.Common.{◌≡◌, ◌<◌, ℕ, ◌+◌, Bool, ◌++◌, length, map, rules, refl, false, ap, sym, ◌∙◌, subst, append-nil, get_or}
+use Rattle.std.specs.Prelude.{Some, slice_get, if◌then◌else◌}
 use Rattle.lsl_post.specs.Journal.{Tells}
 use Rattle.lsl_post.specs.Told.{Told, quiet}
 use Rattle.lsl_script.specs.Codes.{HasUnit, rules_of}

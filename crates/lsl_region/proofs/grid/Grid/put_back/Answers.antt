@@ -1,4 +1,4 @@
-use Rattle.std.proofs.Common.{◌≡◌, ◌<◌, ◌∙◌, ap, length, map, refl, rules, sym}
+use Rattle.std.proofs.Common.{◌<◌, ◌∙◌, ap, length, map, refl, rules}
 use Rattle.std.specs.Prelude.{Some}
 use Rattle.std.proofs.Math.ListN.{length-set}
 use Rattle.lsl_region.specs.declared.grid.Seat.{Seat}

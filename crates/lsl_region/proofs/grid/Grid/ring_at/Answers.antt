@@ -1,13 +1,13 @@
-use Rattle.std.proofs.Common.{◌≡◌, ◌<◌, ℕ, ◌+◌, List, length, rules, refl, ap, sym, ◌∙◌, subst, false}
+use Rattle.std.proofs.Common.{◌≡◌, ◌<◌, ℕ, ◌+◌, length, rules, refl, ap, sym, ◌∙◌, subst}
 use Rattle.std.specs.Prelude.{None, Some, slice_get, slice_set}
 use Rattle.std.proofs.lemmas.Option.{slice_get_within}
 use Rattle.lsl_post.specs.Journal.{Tells}
 use Rattle.lsl_post.specs.Told.{Told}
 use Rattle.lsl_script.specs.Codes.{HasUnit, rules_of}
 use Rattle.lsl_script.specs.Parts.{parts_of}
-use Rattle.lsl_script.specs.Scripts.{Script, ring_to}
+use Rattle.lsl_script.specs.Scripts.{ring_to}
 use Rattle.lsl_region.specs.declared.grid.Seat.{Seat}
-use Rattle.lsl_region.specs.Grids.{AreSeated, Contents, FitsSeat, Stands, seat_of}
+use Rattle.lsl_region.specs.Grids.{AreSeated, Contents, FitsSeat, Stands}
 use Rattle.lsl_region.specs.Worlds.{Member, World}
 use Rattle.lsl_region.proofs.Placed.{changed}
 use Rattle.lsl_region.proofs.Rings.{ring-script, rings-same}

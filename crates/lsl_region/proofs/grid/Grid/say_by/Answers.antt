@@ -1,4 +1,4 @@
-use Rattle.std.proofs.Common.{◌≡◌, ◌∙◌, ℤ, ℕ, ◌+◌, List, [], ◌∷◌, ◌++◌, true, ap, refl, rules, sym, subst}
+use Rattle.std.proofs.Common.{◌≡◌, ◌∙◌, ◌+◌, List, [], ◌∷◌, ◌++◌, true, ap, refl, rules, sym, subst}
 use Rattle.std.specs.Int.{w32, cast_signed, cast_unsigned}
 use Rattle.std.proofs.lemmas.Int.{to_z-of_z}
 use Rattle.std.proofs.lemmas.Result.{MatchResult-from_err}
@@ -8,12 +8,11 @@ use Rattle.lsl_post.specs.declared.events.Event.{Event}
 use Rattle.lsl_post.specs.declared.filters.Filter.{Filter}
 use Rattle.lsl_post.specs.Filters.{filter}
 use Rattle.lsl_post.specs.Journal.{Part, Tells}
-use Rattle.lsl_post.specs.Told.{lead}
 use Rattle.lsl_post.proofs.Amid.{part-none, tells-lead}
 use Rattle.lsl_region.specs.declared.objects.Primitive.{Primitive}
 use Rattle.lsl_region.specs.Answers.{said_by}
 use Rattle.lsl_region.specs.Grids.{Lent, seat_of}
-use Rattle.lsl_region.specs.Posting.{hears_said, listen_event, post_all, said_to_all}
+use Rattle.lsl_region.specs.Posting.{hears_said, post_all, said_to_all}
 use Rattle.lsl_region.specs.Worlds.{prim_of}
 use Rattle.lsl_region.proofs.Away.{away-seat}
 use Rattle.lsl_region.proofs.Lending.{lent-prim}

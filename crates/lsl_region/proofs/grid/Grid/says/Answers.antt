@@ -1,13 +1,11 @@
-use Rattle.std.proofs.Common.{◌≡◌, ◌∙◌, ℤ, List, ◌++◌, refl, rules, sym, subst}
+use Rattle.std.proofs.Common.{◌≡◌, ◌∙◌, ◌++◌, refl, rules, subst}
 use Rattle.std.specs.Int.{w32, cast_signed, cast_unsigned}
 use Rattle.std.proofs.lemmas.Int.{to_z-of_z}
 use Rattle.std.proofs.lemmas.Result.{MatchResult-from_err}
 use Rattle.lsl_post.specs.Journal.{Part}
 use Rattle.lsl_post.specs.Told.{Told}
-use Rattle.lsl_script.specs.Codes.{Meant}
-use Rattle.lsl_region.specs.Answers.{integer_at, said_by, text_at}
+use Rattle.lsl_region.specs.Answers.{said_by}
 use Rattle.lsl_region.specs.Grids.{Lent}
-use Rattle.lsl_region.specs.Texts.{cut_speech}
 use Rattle.lsl_region.specs.Worlds.{World, prim_of}
 use Rattle.lsl_region.proofs.grid.Grid.says.Goals as goal
 

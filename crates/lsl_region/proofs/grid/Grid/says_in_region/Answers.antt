@@ -1,4 +1,4 @@
-use Rattle.std.proofs.Common.{◌≡◌, ◌∙◌, Bool, List, sym, subst}
+use Rattle.std.proofs.Common.{◌≡◌, ◌∙◌, Bool, sym, subst}
 use Rattle.std.specs.Prelude.{if◌then◌else◌}
 use Rattle.lsl_post.specs.Journal.{Tells}
 use Rattle.lsl_post.specs.Told.{quiet}

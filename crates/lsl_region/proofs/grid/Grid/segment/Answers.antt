@@ -1,4 +1,4 @@
-use Rattle.std.proofs.Common.{◌≡◌, ◌+◌, ◌++◌, List, subst, sym}
+use Rattle.std.proofs.Common.{◌≡◌, ◌++◌, subst, sym}
 use Rattle.std.specs.Prelude.{Option}
 use Rattle.lsl_machine.specs.State.{CanRun}
 use Rattle.lsl_machine.specs.declared.standing.Standing.{Standing}

@@ -1,4 +1,4 @@
-use Rattle.std.proofs.Common.{◌≡◌, ◌∙◌, ◌<◌, List, length, ap, rules}
+use Rattle.std.proofs.Common.{◌∙◌, ◌<◌, List, length, ap, rules}
 use Rattle.std.proofs.Math.ListN.{length-set}
 use Rattle.std.proofs.lemmas.Option.{slice_get_within}
 use Rattle.lsl_region.specs.declared.objects.Primitive.{Primitive}

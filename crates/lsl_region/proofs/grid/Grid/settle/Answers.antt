@@ -1,4 +1,4 @@
-use Rattle.std.proofs.Common.{◌≡◌, subst, sym}
+use Rattle.std.proofs.Common.{subst, sym}
 use Rattle.std.specs.Prelude.{Option, Some, None}
 use Rattle.lsl_script.specs.declared.live.Live.{Live}
 use Rattle.lsl_region.specs.Grids.{AreSeated, Contents, Stands}

@@ -1,4 +1,4 @@
-use Rattle.std.proofs.Common.{◌≡◌, ◌<◌, ◌∙◌, ap, length, map, refl, rules, sym}
+use Rattle.std.proofs.Common.{◌<◌, ◌∙◌, ap, length, map, refl, rules}
 use Rattle.std.specs.Prelude.{Option, None}
 use Rattle.lsl_post.specs.declared.parts.ScriptParts.{ScriptParts}
 use Rattle.lsl_region.specs.declared.grid.Seat.{Seat}
