@@ -35,8 +35,12 @@ impl Audience {
         ensures { result ≡ is_admitted self.now object prim key.now listens.now }
     {
         match self {
-            Audience::Hearers(said) => *key != said.id
-                && listens.hears(said.channel, &said.name, &said.id, &said.message),
+            Audience::Hearers(said) => listens.hears(
+                said.channel,
+                &said.name,
+                &said.id,
+                &said.message,
+            ) && *key != said.id,
             Audience::Prim {
                 object: of,
                 prim: at,
