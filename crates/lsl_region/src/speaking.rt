@@ -138,16 +138,10 @@ impl Grid {
     {
         let said = self.heard_of(place, channel, &text)?;
         let event = listen_event(self.alloc, &said)?;
-        out.push(Entry::Chat(number(place), voice, channel, text))?;
-        self.post_all_with(
-            place,
-            live,
-            &Audience::Hearers(said),
-            &event,
-            library,
-            unit,
-            out,
-        )
+        let hearers = Audience::Hearers(said);
+        let line = Entry::Chat(number(place), voice, channel, text);
+        out.push(line)?;
+        self.post_all_with(place, live, &hearers, &event, library, unit, out)
     }
 
     /// The script's prim says the text at place 1 on the channel at place 0.
