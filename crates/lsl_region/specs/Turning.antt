@@ -26,7 +26,7 @@ use Rattle.lsl_region.specs.Worlds.{Member, World}
 abbrev pub with_seated : Contents → ℕ → Seat → Option ScriptParts → Contents
 with_seated grid place seat script = record grid { seats = slice_set grid.seats place (record seat { script = script }) }
 
--- a script is awake, and so
+-- a script is out of the grid, and this holds of it
 abbrev pub IsOut : Option Live → (Live → Type 0) → Type 0
 IsOut None P = ⊥
 IsOut (Some live) P = P live
@@ -113,7 +113,7 @@ pub record InFlight : Type 0 where
   pub flight : Flight
   pub most : ℕ
 
--- on the way of a flight these entries were added, and what is asked for from there gives the rest
+-- these entries were added on the way of a flight, and what it still comes to gives the rest
 pub record IsOnWay (r : Rules) (place : ℕ) (total : Told World) (old now : List Entry) (At : InFlight → Type 0)
     : Type 0 where
   pub there : InFlight

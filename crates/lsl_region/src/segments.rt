@@ -196,7 +196,7 @@ impl Grid {
             IsOut live.old (λ l. Paused library.now unit.now clock place self.old l end f most w) →
             Tells result (λ v _. Stands library.now None clock self.new v) out.old out.new
             (asked m.rules (most + 1) place f w) }
-        ensures out { live.new ≡ None }
+        ensures none { live.new ≡ None }
         ensures seated { OnOk result (AreSeated library.now self.new.seats) }
         ensures unit { OnOk result (IsUnitAt library.now unit.now self.new.seats place) }
         ensures len { length self.new.seats ≡ length self.old.seats }

@@ -58,12 +58,12 @@ returns-in_default-2 c =
           (λ v _. InTurn codes unit clock place c.finish.new.self c.finish.new.live v) _
           (λ x q. subst (λ (o : Option Live). Tells c.finish.result
           (λ v _. InTurn codes unit clock place c.finish.new.self o v) c.answer_all.new.out c.finish.new.out
-          (asked m.rules (x.most + 1) place x.flight x.world)) (sym c.finish.ensures.out)
+          (asked m.rules (x.most + 1) place x.flight x.world)) (sym c.finish.ensures.none)
           (c.finish.ensures.does m clock x.flight x.most x.world q));
       seated = c.finish.ensures.seated;
       unit = c.finish.ensures.unit;
       held = OnOk-any c.finish.result _
-          (subst (λ (o : Option Live). IsHeld unit o) (sym c.finish.ensures.out) tt);
+          (subst (λ (o : Option Live). IsHeld unit o) (sym c.finish.ensures.none) tt);
       len = c.finish.ensures.len ∙ c.in_ok-last.ensures.len;
       units = c.finish.ensures.units ∙ c.in_ok-last.ensures.units;
     }
