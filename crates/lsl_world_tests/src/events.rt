@@ -1,16 +1,26 @@
 //! Events and texts as tests need them.
 
+ghost use Rattle.std.specs.Prelude.{◌≡◌, false, IfOk};
+ghost use Rattle.lsl_script.specs.Fitting.{is_exit};
+
 use lsl_post::{Event, Toucher};
+use lsl_text::NoMemory;
 use lsl_value::{EventId, Text, Value, Values};
-use std::alloc::Global;
+use std::alloc::{AllocError, Global};
 use std::test::Fail;
 
-pub(crate) fn text(alloc: Global, characters: &str) -> Result<Text, Fail> {
-    Ok(Text::from_utf8(alloc, characters.as_bytes())?.ok_or("no text")?)
+/// A text of these characters.
+pub(crate) fn text(alloc: Global, characters: &str) -> Result<Text, NoMemory> {
+    match Text::from_utf8(alloc, characters.as_bytes())? {
+        Some(text) => Ok(text),
+        None => Err(AllocError),
+    }
 }
 
 /// A touch by Ann, of this number.
-pub(crate) fn touch(alloc: Global, number: i32) -> Result<Event, Fail> {
+pub(crate) fn touch(alloc: Global, number: i32) -> Result<Event, NoMemory>
+    ensures { IfOk result (λ event. is_exit event ≡ false) }
+{
     let args = Values::from_vec(vec![in alloc; Value::Int(number)]?);
     let toucher = Toucher {
         key: text(alloc, "00000000-0000-0000-0000-0000000000aa")?,
@@ -25,7 +35,9 @@ pub(crate) fn touch(alloc: Global, number: i32) -> Result<Event, Fail> {
 }
 
 /// An event that has no argument.
-pub(crate) fn timer(alloc: Global) -> Event {
+pub(crate) fn timer(alloc: Global) -> Event
+    ensures { is_exit result ≡ false }
+{
     Event {
         id: EventId::Timer,
         args: Values::new(alloc),

@@ -1,36 +1,79 @@
-//! Queues about their greatest length.
+//! Queues about their greatest length, and timer events in them.
 
-use crate::events::{number, touch};
+use crate::events::{number, timer, touch};
 use lsl_post::Queue;
+use lsl_text::NoMemory;
 use std::alloc::Global;
 use std::test::Fail;
 
 /// A queue of touches, numbered from 1.
-fn filled(alloc: Global, count: i32) -> Result<Queue, Fail> {
+fn filled(alloc: Global, count: i32) -> Result<Queue, NoMemory> {
     let mut queue = Queue::new(alloc)?;
     for at in 0..count {
-        if queue.put(touch(alloc, at + 1)?).is_some() {
-            return Err(Fail::from("no room"));
-        }
+        let _back = put(alloc, &mut queue, at + 1)?;
     }
     Ok(queue)
 }
 
+/// A touch is put: the number of what is given back, and 0 where nothing is.
+fn put(alloc: Global, queue: &mut Queue, at: i32) -> Result<i32, NoMemory> {
+    Ok(match queue.put(touch(alloc, at)?) {
+        Some(event) => number(&event),
+        None => 0,
+    })
+}
+
+/// The number of the event that is taken: 0 of a timer event, and -1 where none waits.
+fn take(queue: &mut Queue) -> i32 {
+    match queue.take() {
+        Some(event) => number(&event),
+        None => -1,
+    }
+}
+
 #[test]
 fn sixty_four_wait(rt: HostRuntime) -> Result<(), Fail> {
-    // how many wait, and what the next one that is put gives back
-    let rows = [(0, None), (1, None), (62, None), (63, None), (64, Some(99))];
-    for (count, back) in rows {
+    // how many wait; what the next one that is put gives back, how many wait then, and the first of them
+    let rows = [
+        (0, 0, 1, 99),
+        (1, 0, 2, 1),
+        (62, 0, 63, 1),
+        (63, 0, 64, 1),
+        (64, 99, 64, 1),
+    ];
+    for (count, back, then, first) in rows {
         let mut queue = filled(rt.alloc(), count)?;
-        assert_eq!(rt; queue.count() as i32, count);
-        let found = queue.put(touch(rt.alloc(), 99)?);
-        assert_eq!(rt; found.map(|event| number(&event)), back, "{count}");
-        assert_eq!(rt;
-            queue.count(),
-            if count < 64 { count as u32 + 1 } else { 64 }
-        );
-        let first = queue.take().ok_or("an event")?;
-        assert_eq!(rt; number(&first), if count == 0 { 99 } else { 1 }, "{count}");
+        assert_eq!(rt; put(rt.alloc(), &mut queue, 99)?, back, "{count}");
+        assert_eq!(rt; queue.count(), then, "{count}");
+        assert_eq!(rt; take(&mut queue), first, "{count}");
+    }
+    Ok(())
+}
+
+#[test]
+fn events_leave_in_order(rt: HostRuntime) -> Result<(), Fail> {
+    let mut queue = filled(rt.alloc(), 64)?;
+    for turn in 0..100 {
+        assert_eq!(rt; take(&mut queue), turn + 1);
+        assert_eq!(rt; put(rt.alloc(), &mut queue, turn + 65)?, 0);
+    }
+    let mut copy = queue.copy(rt.alloc())?;
+    assert_eq!(rt; copy.clear(), 64);
+    assert_eq!(rt; take(&mut copy), -1);
+    assert_eq!(rt; queue.count(), 64);
+    Ok(())
+}
+
+#[test]
+fn timer_events_are_seen(rt: HostRuntime) -> Result<(), Fail> {
+    let mut queue = filled(rt.alloc(), 2)?;
+    for _ in 0..2 {
+        assert!(rt; queue.put(timer(rt.alloc())).is_none());
+    }
+    // what is taken, and whether a timer event waits then
+    for (taken, waits) in [(1, true), (2, true), (0, true), (0, false), (-1, false)] {
+        assert_eq!(rt; take(&mut queue), taken);
+        assert_eq!(rt; queue.has_timer(), waits);
     }
     Ok(())
 }
