@@ -9,7 +9,7 @@ ghost use Rattle.lsl_ops.specs.Integers.{arithmetic_of};
 
 use crate::comparisons::{difference, equal};
 use crate::faults::OpFault;
-use crate::integers::{arithmetic, divides_by_zero};
+use crate::integers::checked_arithmetic;
 use crate::sums::sum;
 use lsl_value::{BinaryOp, Value};
 use std::alloc::Global;
@@ -43,8 +43,8 @@ fn integer_value(op: BinaryOp, left: Value, right: Value) -> Result<Value, OpFau
     let (Value::Int(left), Value::Int(right)) = (left, right) else {
         unreachable!();
     };
-    if divides_by_zero(op, right) {
-        return Err(OpFault::MathError);
+    match checked_arithmetic(op, left, right) {
+        Some(n) => Ok(Value::Int(n)),
+        None => Err(OpFault::MathError),
     }
-    Ok(Value::Int(arithmetic(op, left, right)))
 }

@@ -1,6 +1,6 @@
 //! Operators on integers, which are signed, have 32 bits, and wrap.
 
-ghost use Rattle.std.specs.Prelude.{◌≡◌, ◌≢◌, ◌^◌, ◌*ℤ◌, false, int_div, pos};
+ghost use Rattle.std.specs.Prelude.{◌≡◌, ◌≢◌, ◌↔◌, ◌^◌, ◌*ℤ◌, false, int_div, pos, IfSome, IsTrue, None};
 ghost use Rattle.lsl_ops.specs.Integers.{arithmetic_of, has_zero_divisor, shift_of, shifted_right_of, unary_of, wrapped};
 
 use crate::faults::OpFault;
@@ -17,15 +17,27 @@ pub fn unary(op: UnaryOp, n: i32) -> i32
     }
 }
 
+/// What the operator between two integers gives, or nothing where it divides by 0
+/// (<https://wiki.secondlife.com/wiki/LSL_Operators>). Takes no memory.
+pub fn checked_arithmetic(op: BinaryOp, left: i32, right: i32) -> Option<i32>
+    ensures value { IfSome result (λ n. n ≡ arithmetic_of op left right) }
+    ensures nothing { result ≡ None ↔ IsTrue (has_zero_divisor op right) }
+{
+    if divides_by_zero(op, right) {
+        return None;
+    }
+    Some(arithmetic(op, left, right))
+}
+
 /// Whether the operator divides by this integer, and it is 0.
-pub(crate) fn divides_by_zero(op: BinaryOp, right: i32) -> bool
+fn divides_by_zero(op: BinaryOp, right: i32) -> bool
     ensures { result ≡ has_zero_divisor op right }
 {
     matches!(op, BinaryOp::Div | BinaryOp::Rem) && right == 0
 }
 
 /// What the operator between two integers gives.
-pub(crate) fn arithmetic(op: BinaryOp, left: i32, right: i32) -> i32
+fn arithmetic(op: BinaryOp, left: i32, right: i32) -> i32
     requires { has_zero_divisor op right ≡ false }
     ensures { result ≡ arithmetic_of op left right }
 {

@@ -12,4 +12,4 @@ mod sums;
 pub use crate::binaries::binary;
 pub use crate::casts::cast;
 pub use crate::faults::OpFault;
-pub use crate::integers::unary;
+pub use crate::integers::{checked_arithmetic, unary};
