@@ -10,3 +10,4 @@ pub mod Scanned
 pub mod Spelled
 pub mod Top
 pub mod Unique
+pub mod WordLengths

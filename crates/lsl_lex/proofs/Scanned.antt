@@ -1,16 +1,14 @@
 -- What the code's steps read, over plain lists.
-use Rattle.std.proofs.Common.{◌≡◌, ℕ, ◌+◌, ◌<◌, ◌==◌, Bool, true, false, cond, ◌||◌, List, [], ◌∷◌, length, take, drop, Option, Some, None, unwrap_or, refl, sym, ap, ◌∙◌, arith}
+use Rattle.std.proofs.Common.{◌≡◌, ℕ, ◌+◌, ◌<◌, ◌==◌, Bool, true, false, cond, ◌||◌, List, [], ◌∷◌, length, take, drop, Option, Some, None, refl, sym, ap, ◌∙◌, arith}
 use Rattle.std.proofs.lemmas.List.Elements.{All-weaker}
 use Rattle.std.proofs.lemmas.List.Sums.{AllPass-from_list_all}
-use Rattle.std.proofs.lemmas.Str.{chars_from_encodes, encodes-IsAscii, IsUtf8-from_ascii}
+use Rattle.std.proofs.lemmas.Str.{chars_from_encodes, chars-IsAscii, IsUtf8-from_ascii}
 use Rattle.std.proofs.lemmas.Str.Ascii.{IsAscii-from_all}
 use Rattle.std.specs.Prelude.{slice_index}
 use Rattle.std.specs.List.{AllPass, prefix_len}
-use Rattle.std.specs.Str.{IsAscii, chars}
+use Rattle.std.specs.Str.{IsAscii, encode_utf8_all}
 use Rattle.lsl_lex.specs.Bytes.{is_letter, is_decimal, is_name_byte}
-use Rattle.lsl_lex.specs.Reading.{row_of, counted, close_of, quote_of, part_of}
-use Rattle.lsl_lex.specs.Tokens.{words}
-use Rattle.lsl_lex.specs.declared.token_types.Sort.TheVariants.{Name}
+use Rattle.lsl_lex.specs.Reading.{counted, close_of, quote_of, part_of}
 use Rattle.lsl_lex.proofs.ByteKinds.{letter_range, decimal_range, eq_false}
 use Rattle.lsl_lex.proofs.Runs.{list_all-prefix}
 
@@ -72,11 +70,9 @@ pub name_bytes : (text : List ℕ) (n : ℕ) → n ≡ prefix_len is_name_byte t
 name_bytes text n e = rw e (AllPass-from_list_all is_name_byte (take (prefix_len is_name_byte text) text)
     (list_all-prefix is_name_byte text))
 
-pub name_kept : (bytes text characters : List ℕ) → AllPass is_name_byte bytes → text ≡ bytes
-    → None ≡ row_of words text → characters ≡ chars bytes
-    → Name characters ≡ unwrap_or (row_of words bytes) (Name bytes)
-name_kept bytes text characters h e none f =
+-- a name that was held is this name
+pub name_held : (bytes characters : List ℕ) → AllPass is_name_byte bytes → encode_utf8_all characters ≡ bytes
+    → characters ≡ bytes
+name_held bytes characters h e =
     let ascii = name_ascii bytes h in
-    let same : bytes ≡ chars bytes = chars_from_encodes bytes bytes (IsUtf8-from_ascii bytes ascii)
-    (encodes-IsAscii bytes ascii) in
-    ap (λ l. Name l) (f ∙ sym same) ∙ ap (λ o. unwrap_or o (Name bytes)) (none ∙ ap (row_of words) e)
+    chars_from_encodes characters bytes (IsUtf8-from_ascii bytes ascii) e ∙ chars-IsAscii bytes ascii

@@ -1,5 +1,5 @@
 -- What the reading of one piece finds. No public clause cites these: they are proved to find the pieces.
-use Rattle.std.specs.Prelude.{◌≡◌, ℕ, ◌+◌, ◌==◌, cond, ◌&&◌, List, [], ◌∷◌, take, drop, bytes_eq, slice_index, Option, Some, None, unwrap_or, Result, Ok, Err}
+use Rattle.std.specs.Prelude.{◌≡◌, ℕ, ◌+◌, ◌==◌, cond, ◌&&◌, List, [], ◌∷◌, length, take, drop, bytes_eq, slice_index, Option, Some, None, unwrap_or, Result, Ok, Err}
 use Rattle.std.specs.List.{prefix_len}
 use Rattle.std.specs.Str.{chars}
 use Rattle.lsl_text.specs.Number.{is_blank, begins_hexadecimal, leading_integer_of}
@@ -23,6 +23,15 @@ Found = Result (Option Sort × ℕ) LexKind
 abbrev pub row_of : List (List ℕ × Sort) → List ℕ → Option Sort
 row_of [] bytes = None
 row_of (row ∷ rows) bytes = cond (bytes_eq bytes row.0) (Some row.1) (row_of rows bytes)
+
+-- the rows whose spellings have so many bytes
+abbrev pub rows_of : ℕ → List (List ℕ × Sort) → List (List ℕ × Sort)
+rows_of n [] = []
+rows_of n (row ∷ rows) = cond (length row.0 == n) (row ∷ rows_of n rows) (rows_of n rows)
+
+-- the words of so many bytes
+abbrev pub words_of : ℕ → List (List ℕ × Sort)
+words_of n = rows_of n words
 
 -- one byte more, and n more
 abbrev pub counted : ℕ → Option ℕ → Option ℕ

@@ -21,7 +21,7 @@ pub fn cut(alloc: Global, text: &[u8]) -> Result<Tokens, Refusal<LexFault>>
     ensures found { IfOk result (Lexes text.now) }
     ensures first { IfErr result (IsRefused text.now) }
 {
-    let mut list = Vec::new(alloc);
+    let mut list = Vec::with_capacity(alloc, text.len() / 4)?;
     let mut names = Names::new(alloc)?;
     let mut cursor = Cursor::new();
     let mut rest = text;

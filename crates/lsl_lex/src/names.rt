@@ -1,7 +1,8 @@
 //! Names that were read before: a name that stands again is shared.
 
 ghost use Rattle.std.specs.Prelude.{◌≡◌, ◌≤◌, length, IfOk};
-ghost use Rattle.std.specs.Str.{chars};
+ghost use Rattle.std.specs.List.{AllPass};
+ghost use Rattle.lsl_lex.specs.Bytes.{is_name_byte};
 ghost use Rattle.lsl_lex.specs.Limits.{source_bytes};
 
 use lsl_text::NoMemory;
@@ -28,26 +29,38 @@ impl Names {
     }
 
     /// The text of this name: shared where its place holds it. Takes memory where it doesn't.
-    pub fn text(&mut self, alloc: Global, name: &str) -> Result<Text, NoMemory>
-        requires { length name.now ≤ source_bytes }
-        ensures { IfOk result (λ text. text ≡ chars name.now) }
+    pub fn text(&mut self, alloc: Global, name: &[u8]) -> Result<Text, NoMemory>
+        requires short { length name.now ≤ source_bytes }
+        requires name { AllPass is_name_byte name.now }
+        ensures { IfOk result (λ text. text ≡ name.now) }
     {
         let Some(held) = self.held.get_mut(place_of(name)) else {
-            return Text::from_string(String::from_str(alloc, name)?);
+            return text_of_name(alloc, name);
         };
-        if held.as_str() == name {
+        if held.bytes() == name {
             return held.copy();
         }
-        let text = Text::from_string(String::from_str(alloc, name)?)?;
+        let text = text_of_name(alloc, name)?;
         *held = text.copy()?;
         Ok(text)
     }
 }
 
+// The text of a name that isn't held.
+fn text_of_name(alloc: Global, name: &[u8]) -> Result<Text, NoMemory>
+    requires short { length name.now ≤ source_bytes }
+    requires name { AllPass is_name_byte name.now }
+    ensures { IfOk result (λ text. text ≡ name.now) }
+{
+    let mut bytes = Vec::new(alloc);
+    bytes.extend_from_slice(name)?;
+    Text::from_ascii(bytes)
+}
+
 // The place of a name, by its bytes.
-fn place_of(name: &str) -> usize {
+fn place_of(name: &[u8]) -> usize {
     let mut place: usize = 0;
-    for b in name.as_bytes() {
+    for b in name {
         place = place.wrapping_mul(31).wrapping_add(usize::from(*b));
     }
     place % PLACES

@@ -88,11 +88,8 @@ fn word_or_name(alloc: Global, names: &mut Names, bytes: &[u8]) -> Result<Sort, 
     requires name { AllPass is_name_byte bytes.now }
     ensures { IfOk result (λ sort. sort ≡ unwrap_or (row_of words bytes.now) (Name bytes.now)) }
 {
-    match std::str::from_utf8(bytes) {
-        Ok(text) => match word(text) {
-            Some(sort) => Ok(sort),
-            None => Ok(Sort::Name(names.text(alloc, text)?)),
-        },
-        Err(_) => unreachable!(),
+    match word(bytes) {
+        Some(sort) => Ok(sort),
+        None => Ok(Sort::Name(names.text(alloc, bytes)?)),
     }
 }
