@@ -2,6 +2,7 @@ pub mod ByteKinds
 pub mod Escapes
 pub mod Found
 pub mod FoundPiece
+pub mod Lines
 pub mod Loop
 pub mod OneCut
 pub mod Rows

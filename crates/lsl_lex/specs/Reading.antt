@@ -1,5 +1,5 @@
 -- What the reading of one piece finds. No public clause cites these: they are proved to find the pieces.
-use Rattle.std.specs.Prelude.{◌≡◌, ℕ, ◌+◌, ◌==◌, cond, ◌&&◌, List, [], ◌∷◌, length, take, drop, bytes_eq, slice_index, Option, Some, None, unwrap_or, Result, Ok, Err}
+use Rattle.std.specs.Prelude.{◌≡◌, ℕ, ◌+◌, ◌==◌, Bool, true, false, cond, ◌&&◌, List, [], ◌∷◌, length, take, drop, bytes_eq, slice_index, Option, Some, None, unwrap_or, Result, Ok, Err}
 use Rattle.std.specs.List.{prefix_len}
 use Rattle.std.specs.Str.{chars}
 use Rattle.lsl_text.specs.Number.{is_blank, begins_hexadecimal, leading_integer_of}
@@ -104,6 +104,12 @@ piece text =
     (cond (is_letter b) (name text)
     (cond (is_decimal b) (number text)
     (cond (b == 34) (string text) (sign text))))))
+
+-- whether a piece that gives this has no line feed, whatever its bytes are
+abbrev pub keeps_line : Option Sort → Bool
+keeps_line None = false
+keeps_line (Some (Str text)) = false
+keeps_line (Some sort) = true
 
 -- a fault at the cursor, with an empty span
 abbrev pub fault_of : LexKind → Cursor → LexFault

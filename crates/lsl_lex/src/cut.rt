@@ -1,16 +1,18 @@
 //! A whole text cut into its pieces.
 
-ghost use Rattle.std.specs.Prelude.{◌≡◌, ◌+◌, ◌≤◌, ◌++◌, length, IfOk, IfErr, OnOk};
+ghost use Rattle.std.specs.Prelude.{◌≡◌, ◌+◌, ◌≤◌, ◌++◌, true, length, take, drop, IfOk, IfErr, OnOk};
+ghost use Rattle.std.specs.List.{AllPass};
 ghost use Rattle.lsl_text.specs.Place.{IsAt};
+ghost use Rattle.lsl_lex.specs.Bytes.{is_in_line};
 ghost use Rattle.lsl_lex.specs.Lexed.{IsSource, Lexes, IsRefused};
 ghost use Rattle.lsl_lex.specs.Limits.{source_bytes};
 ghost use Rattle.lsl_lex.specs.Pieces.{token_of};
-ghost use Rattle.lsl_lex.specs.Reading.{fault_of, refusal_of};
+ghost use Rattle.lsl_lex.specs.Reading.{fault_of, refusal_of, keeps_line};
 
 use crate::bytes::is_blank;
 use crate::faults::{LexFault, LexKind};
 use crate::names::Names;
-use crate::piece::next;
+use crate::piece::{Piece, next};
 use crate::token_types::{Sort, Token, TokenList, Tokens};
 use lsl_text::{Cursor, NoMemory, Refusal, Span};
 use std::alloc::Global;
@@ -36,7 +38,7 @@ pub fn cut(alloc: Global, text: &[u8]) -> Result<Tokens, Refusal<LexFault>>
             Ok(piece) => piece,
             Err(refusal) => return Err(refused_at(&from, refusal)),
         };
-        advance(&mut cursor, text, piece.length);
+        pass(&mut cursor, text, &piece);
         rest = &rest[piece.length..];
         push_token(&mut list, piece.gives, cursor.span(&from))?;
     }
@@ -44,6 +46,38 @@ pub fn cut(alloc: Global, text: &[u8]) -> Result<Tokens, Refusal<LexFault>>
         list: TokenList::from_vec(list),
         end: cursor.span(&cursor),
     })
+}
+
+// Moves the cursor behind a piece of the text that begins at it.
+fn pass(cursor: &mut Cursor, text: &[u8], piece: &Piece)
+    requires short { length text.now ≤ source_bytes }
+    requires within { cursor.old.offset + piece.now.length ≤ length text.now }
+    requires place { IsAt text.now cursor.old }
+    requires line { keeps_line piece.now.gives ≡ true
+        → AllPass is_in_line (take piece.now.length (drop cursor.old.offset text.now)) }
+    ensures next { cursor.new.offset ≡ cursor.old.offset + piece.now.length }
+    ensures place { IsAt text.now cursor.new }
+{
+    if piece.keeps_line() {
+        let behind = along(cursor, piece.length);
+        *cursor = behind;
+    } else {
+        advance(cursor, text, piece.length);
+    }
+}
+
+// The cursor behind so many bytes of its line.
+fn along(cursor: &Cursor, count: usize) -> Cursor
+    requires { cursor.now.offset + count ≤ source_bytes }
+    ensures offset { result.offset ≡ cursor.now.offset + count }
+    ensures line { result.line ≡ cursor.now.line }
+    ensures column { result.col ≡ cursor.now.col + count }
+{
+    Cursor {
+        offset: cursor.offset + count as u32,
+        line: cursor.line,
+        col: cursor.col + count as u32,
+    }
 }
 
 // A blank or a comment adds no token.

@@ -6,7 +6,7 @@ ghost use Rattle.std.specs.List.{AllPass};
 ghost use Rattle.lsl_lex.specs.Bytes.{is_name_byte};
 ghost use Rattle.lsl_lex.specs.Lexed.{EndsText};
 ghost use Rattle.lsl_lex.specs.Limits.{source_bytes};
-ghost use Rattle.lsl_lex.specs.Reading.{Finds, row_of, name, piece};
+ghost use Rattle.lsl_lex.specs.Reading.{Finds, row_of, keeps_line, name, piece};
 ghost use Rattle.lsl_lex.specs.Tokens.{words};
 ghost use Rattle.lsl_lex.specs.declared.token_types.Sort.TheVariants.{Name};
 
@@ -27,6 +27,15 @@ use std::alloc::Global;
 pub struct Piece {
     pub gives: Option<Sort>,
     pub length: usize,
+}
+
+impl Piece {
+    /// Whether it is known to have no line feed: a string and a comment may have some.
+    pub fn keeps_line(&self) -> bool
+        ensures { result ≡ keeps_line self.now.gives }
+    {
+        !matches!(self.gives, None | Some(Sort::Str(_)))
+    }
 }
 
 /// The piece at the front of a text that isn't empty.

@@ -4,6 +4,7 @@ use Rattle.lsl_text.specs.Number.{is_blank}
 use Rattle.std.proofs.lemmas.List.{take_rest}
 use Rattle.lsl_lex.specs.Lexed.{IsRefused}
 use Rattle.lsl_lex.specs.declared.token_types.Token.{Token}
+use Rattle.lsl_lex.proofs.Lines.{found_in_line}
 use Rattle.lsl_lex.proofs.Loop.{Cutting, rest_within, rest_valid, blank_right, cutting_more, found_right, refused_first, all_cut}
 use Rattle.lsl_lex.proofs.cut.cut.Goals as goal
 
@@ -18,8 +19,8 @@ returns-in-Err-clause-first c =
     (refused_first c.args.text.now c.pieces.rest.now c.pieces.list.items c.pieces.cursor c.in-Err.refusal
     c.requires some c.pieces.invariant c.in-Err.ensures)
 
-pub advance-requires-clause-within : goal.advance-requires-clause-within
-advance-requires-clause-within c =
+pub pass-requires-clause-within : goal.pass-requires-clause-within
+pass-requires-clause-within c =
     let some : 0 < length c.pieces.rest.now = search rules in
     let right = found_right c.pieces.rest.now c.in-Ok.piece some c.in-Ok.ensures in
     omega (
@@ -28,6 +29,14 @@ advance-requires-clause-within c =
       rest_within c.args.text.now c.pieces.rest.now c.pieces.list.items c.pieces.cursor
           c.pieces.invariant,
     )
+
+pub pass-requires-clause-line : goal.pass-requires-clause-line
+pass-requires-clause-line c =
+    let some : 0 < length c.pieces.rest.now = search rules in
+    let piece = c.in-Ok.piece in
+    let right = found_right c.pieces.rest.now piece some c.in-Ok.ensures in
+    found_in_line c.args.text.now c.pieces.rest.now piece.gives piece.length c.pieces.cursor.offset right
+    c.pieces.invariant.left
 
 pub pieces-smaller : goal.pieces-smaller
 pieces-smaller c =
@@ -60,8 +69,8 @@ pieces-preserved c =
     let rest = take (length c.pieces.rest.now - k) (drop k c.pieces.rest.now) in
     let tokens = rw c.span.ensures at c.in_ok-push_token.ensures in
     cutting_more c.args.text.now c.pieces.rest.now rest c.pieces.list.items c.push_token.new.list.items
-    c.pieces.cursor c.advance.new.cursor c.in-Ok.piece.gives k c.pieces.invariant right
-    c.advance.ensures.next c.advance.ensures.place (take_rest c.pieces.rest.now k) tokens
+    c.pieces.cursor c.pass.new.cursor c.in-Ok.piece.gives k c.pieces.invariant right
+    c.pass.ensures.next c.pass.ensures.place (take_rest c.pieces.rest.now k) tokens
 
 pub returns-clause-found : goal.returns-clause-found
 returns-clause-found c =
