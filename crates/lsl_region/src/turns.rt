@@ -42,12 +42,12 @@ impl Grid {
         let mut live = None;
         for spent in 0..ticks {
             if !self.is_ready_in_turn(place, &live, clock) {
-                self.settle(place, live, unit)?;
+                self.settle(place, &mut live, unit)?;
                 return Ok(spent);
             }
             self.segment(place, &mut live, clock, library, unit, out)?;
         }
-        self.settle(place, live, unit)?;
+        self.settle(place, &mut live, unit)?;
         Ok(ticks)
     }
 
@@ -132,16 +132,21 @@ impl Grid {
 
     // At a turn's end the script comes to rest, and back into the grid.
     #[inline(never)]
-    fn settle(&mut self, place: usize, live: Option<Live>, unit: &Woven) -> Result<(), NoMemory>
+    fn settle(
+        &mut self,
+        place: usize,
+        live: &mut Option<Live>,
+        unit: &Woven,
+    ) -> Result<(), NoMemory>
         requires place { place < length self.old.seats }
-        requires held { IsHeld unit.now live }
+        requires held { IsHeld unit.now live.old }
         requires unit { (codes : List Code) × IsUnitAt codes unit.now self.old.seats place }
         ensures does { (codes : List Code) (clock : ℕ) (w : World) → IsUnitAt codes unit.now self.old.seats place →
-            InTurn codes unit.now clock place self.old live w → OnOk result (Stands codes None clock self.new w) }
+            InTurn codes unit.now clock place self.old live.old w → OnOk result (Stands codes None clock self.new w) }
         ensures seated { (codes : List Code) → IsUnitAt codes unit.now self.old.seats place →
             AreSeated codes self.old.seats → OnOk result (AreSeated codes self.new.seats) }
     {
-        if let Some(live) = live {
+        if let Some(live) = live.take() {
             let script = live.rest(unit)?;
             self.put_back(place, script);
         }

@@ -1,4 +1,4 @@
-use Rattle.std.proofs.Common.{subst, sym}
+use Rattle.std.proofs.Common.{◌∙◌, subst, sym}
 use Rattle.std.specs.Prelude.{Option, Some, None}
 use Rattle.lsl_script.specs.declared.live.Live.{Live}
 use Rattle.lsl_region.specs.Grids.{AreSeated, Contents, Stands}
@@ -11,7 +11,8 @@ pub returns-in_ok-script-clause-does : goal.returns-in_ok-script-clause-does
 returns-in_ok-script-clause-does c = λ codes clock w k turn.
     let unit = c.args.unit.now in
     let place = c.args.place in
-    let h = subst (λ (l : Option Live). InTurn codes unit clock place c.args.self.now l w) c.in-Some.is turn in
+    let h = subst (λ (l : Option Live). InTurn codes unit clock place c.args.self.now l w)
+    (sym c.take.ensures.value ∙ c.in-Some.is) turn in
     subst (λ (g : Contents). Stands codes None clock g w) (sym (c.put_back.ensures.seats k.seat k.at))
     (stands-settled codes unit clock place c.args.self.now c.in-Some.live w h c.in_ok-script.script
     (c.in_ok-script.ensures.source codes h.member.script h.flight h.rests) k.seat k.at)
