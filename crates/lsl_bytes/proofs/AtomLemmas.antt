@@ -1,9 +1,9 @@
 -- Elements behind the tags of their kinds.
-use Rattle.std.proofs.Common.{◌≡◌, ◌∙◌, sym, ap, refl, subst, ℕ, ℤ, ◌<◌, arith, List, [], ◌∷◌, ◌++◌, Some, None}
+use Rattle.std.proofs.Common.{◌≡◌, ◌∙◌, sym, ap, refl, subst, ℕ, ℤ, ◌<◌, arith, List, [], ◌∷◌, ◌++◌, Option, Some, None}
 use Rattle.lsl_value.specs.Text.{IsText}
 use Rattle.lsl_value.specs.declared.list.Atom.{Atom}
 use Rattle.lsl_value.specs.declared.list.Atom.TheVariants.{Int, Str, Key}
-use Rattle.lsl_bytes.specs.Fields.{FitsU8, FitsI32, IsAtom, u8_bytes, i32_bytes, text_bytes, atom_bytes}
+use Rattle.lsl_bytes.specs.Fields.{FitsU8, FitsI32, IsAtom, u8_bytes, i32_bytes, int_bytes, text_bytes, atom_bytes}
 use Rattle.lsl_bytes.specs.Laws.{IsPrefixFree}
 use Rattle.lsl_bytes.specs.Places.{StandsAt, Takes}
 use Rattle.lsl_bytes.proofs.NumberLemmas.{i32-prefix_free}
@@ -138,3 +138,31 @@ atom-other_tag bytes p tag q tagged no_int no_str no_key = takes_none atom_bytes
         (taken-front u8_bytes FitsU8 bytes p tag q tagged 3 (text_bytes text) next (omega arith) stands).0
     never (Key text) next is stands = no_key
         (taken-front u8_bytes FitsU8 bytes p tag q tagged 4 (text_bytes text) next (omega arith) stands).0
+
+-- an integer behind its tag
+int-prefix_free : IsPrefixFree int_bytes FitsI32
+int-prefix_free v w a b fits_v fits_w same =
+    i32-prefix_free v w a b fits_v fits_w (same-tag 1 1 (i32_bytes v ++ a) (i32_bytes w ++ b) same).1
+
+pub int-behind : (bytes : List ℕ) (p q : ℕ) (answer : Option (ℤ × ℕ)) → Takes u8_bytes FitsU8 bytes p (Some (1, q))
+    → Takes i32_bytes FitsI32 bytes q answer → Takes int_bytes FitsI32 bytes p answer
+int-behind bytes p q (Some taken) tagged takes =
+    tagged-found i32_bytes FitsI32 int_bytes FitsI32 int-prefix_free bytes p 1 q taken.0 taken.0 taken.1 refl
+    takes.found.0 tagged takes
+int-behind bytes p q None tagged takes =
+    tagged-none i32_bytes FitsI32 int_bytes FitsI32 bytes p 1 q
+    (λ (n : ℤ) fits rest same. (n, fits, sym (same-tag 1 1 (i32_bytes n) rest same).1))
+    (λ (n : ℤ). (1, omega arith, i32_bytes n, refl)) tagged takes
+
+-- no integer without a tag, or behind another tag
+pub int-no_tag : (bytes : List ℕ) (p : ℕ) → Takes u8_bytes FitsU8 bytes p None → Takes int_bytes FitsI32 bytes p None
+unfolding u8_bytes
+int-no_tag bytes p takes = takes_no u8_bytes FitsU8 int_bytes FitsI32 bytes p
+    (λ (n : ℤ) fits. (1, omega arith, i32_bytes n, refl)) takes
+
+pub int-other_tag : (bytes : List ℕ) (p tag q : ℕ) → Takes u8_bytes FitsU8 bytes p (Some (tag, q))
+    → (tag ≡ 1 → ⊥) → Takes int_bytes FitsI32 bytes p None
+unfolding u8_bytes
+int-other_tag bytes p tag q tagged other = takes_none int_bytes FitsI32 bytes p
+    (λ (n : ℤ) (next : ℕ) fits stands.
+    other (taken-front u8_bytes FitsU8 bytes p tag q tagged 1 (i32_bytes n) next (omega arith) stands).0)

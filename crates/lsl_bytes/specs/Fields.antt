@@ -34,6 +34,10 @@ counted_bytes part = u32_bytes (length part) ++ part
 unfoldable pub text_bytes : List ℕ → List ℕ
 text_bytes text = counted_bytes (encode_utf8_all text)
 
+-- an integer behind its tag
+abbrev pub int_bytes : ℤ → List ℕ
+int_bytes n = 1 ∷ i32_bytes n
+
 -- a tag for the kind, and the value
 unfoldable pub atom_bytes : Atom → List ℕ
 atom_bytes (AtomInt n) = 1 ∷ i32_bytes n

@@ -21,7 +21,7 @@ pub use crate::numbers::{
     take_u32, take_u64,
 };
 pub use crate::texts::{push_text, take_text};
-pub use crate::values::{push_value, take_value};
+pub use crate::values::{push_value, take_int, take_value};
 
 /// What a call answers that reads a field and takes memory: the value and the place behind it, or none.
 pub type Taken<T> = Result<Option<(T, usize)>, NoMemory>;

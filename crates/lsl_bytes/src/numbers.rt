@@ -52,6 +52,7 @@ pub fn push_i32(out: &mut Vec<u8>, n: i32) -> Result<(), NoMemory>
 }
 
 /// Takes so many bytes as they are. Takes no memory.
+#[inline(always)]
 pub fn take_array<const N: usize>(bytes: &[u8], place: usize) -> Option<([u8; N], usize)>
     ensures { Takes (λ part. part) (λ part. length part ≡ N) bytes.now place result }
 {
@@ -60,6 +61,7 @@ pub fn take_array<const N: usize>(bytes: &[u8], place: usize) -> Option<([u8; N]
 }
 
 /// Takes a byte. Takes no memory.
+#[inline(always)]
 pub fn take_u8(bytes: &[u8], place: usize) -> Option<(u8, usize)>
     ensures { Takes u8_bytes FitsU8 bytes.now place result }
 {
@@ -68,6 +70,7 @@ pub fn take_u8(bytes: &[u8], place: usize) -> Option<(u8, usize)>
 }
 
 /// Takes two bytes. Takes no memory.
+#[inline(always)]
 pub fn take_u16(bytes: &[u8], place: usize) -> Option<(u16, usize)>
     ensures { Takes u16_bytes FitsU16 bytes.now place result }
 {
@@ -76,6 +79,7 @@ pub fn take_u16(bytes: &[u8], place: usize) -> Option<(u16, usize)>
 }
 
 /// Takes four bytes. Takes no memory.
+#[inline(always)]
 pub fn take_u32(bytes: &[u8], place: usize) -> Option<(u32, usize)>
     ensures { Takes u32_bytes FitsU32 bytes.now place result }
 {
@@ -92,6 +96,7 @@ pub fn take_u64(bytes: &[u8], place: usize) -> Option<(u64, usize)>
 }
 
 /// Takes four bytes, a negative number as its two's complement. Takes no memory.
+#[inline(always)]
 pub fn take_i32(bytes: &[u8], place: usize) -> Option<(i32, usize)>
     ensures { Takes i32_bytes FitsI32 bytes.now place result }
 {

@@ -2,14 +2,15 @@
 
 ghost use Rattle.std.specs.Prelude.{◌≡◌, ◌++◌, take, vec_len, IfOk, OnOk, OnErr};
 ghost use Rattle.lsl_value.specs.Values.{value_of_atom};
-ghost use Rattle.lsl_bytes.specs.Fields.{IsValue, value_bytes};
+ghost use Rattle.lsl_bytes.specs.Fields.{FitsI32, IsValue, int_bytes, value_bytes};
 ghost use Rattle.lsl_bytes.specs.Places.{Takes};
 
 use crate::Taken;
 use crate::elements::{
-    KEY_TAG, LIST_TAG, STR_TAG, append_int, append_items, append_tagged, take_atom, take_items,
+    INT_TAG, KEY_TAG, LIST_TAG, STR_TAG, append_int, append_items, append_tagged, take_atom,
+    take_items,
 };
-use crate::numbers::take_u8;
+use crate::numbers::{take_i32, take_u8};
 use lsl_text::NoMemory;
 use lsl_value::{Atom, Value};
 use std::alloc::Global;
@@ -47,6 +48,18 @@ pub fn take_value(alloc: Global, bytes: &[u8], place: usize) -> Taken<Value>
             None => Ok(None),
         },
     }
+}
+
+/// Takes the integer of an integer value, behind its tag. Takes no memory.
+#[inline(always)]
+pub fn take_int(bytes: &[u8], place: usize) -> Option<(i32, usize)>
+    ensures { Takes int_bytes FitsI32 bytes.now place result }
+{
+    let (tag, next) = take_u8(bytes, place)?;
+    if tag != INT_TAG {
+        return None;
+    }
+    take_i32(bytes, next)
 }
 
 // After an `Err` a front of the bytes may stand behind the old ones.
