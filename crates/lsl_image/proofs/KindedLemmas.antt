@@ -1,5 +1,5 @@
 -- Values of the kinds that are due, read one behind another.
-use Rattle.std.proofs.Common.{◌≡◌, ◌∙◌, refl, subst, sym, ap, inl, inr, ℕ, ◌+◌, ◌<◌, ◌≤◌, List, [], ◌∷◌, ◌++◌, length, drop, get_or, Bool, true, false, Result, Err, add-one, append_assoc, drop-cons}
+use Rattle.std.proofs.Common.{◌≡◌, ◌∙◌, refl, subst, sym, ap, inl, inr, ℕ, ◌+◌, ◌<◌, ◌≤◌, ℤ, List, [], ◌∷◌, ◌++◌, length, drop, get_or, Bool, true, false, Option, Some, None, IfSome, Result, Err, add-one, append_assoc, drop-cons}
 use Rattle.std.proofs.Math.Bool.{Bool-set}
 use Rattle.std.proofs.lemmas.Bool.{false≢true}
 use Rattle.std.proofs.lemmas.List.{append-nil, drop_all}
@@ -11,6 +11,9 @@ use Rattle.lsl_value.specs.Values.{kind_of}
 use Rattle.lsl_value.specs.declared.tagged.Kind.{Kind}
 use Rattle.lsl_value.specs.declared.tagged.Kind.TheVariants as kind
 use Rattle.lsl_value.specs.declared.tagged.Value.{Value}
+use Rattle.lsl_value.specs.declared.tagged.Value.TheVariants.{Int}
+use Rattle.lsl_bytes.specs.Fields.{FitsI32, int_bytes, value_bytes}
+use Rattle.lsl_bytes.specs.Places.{Takes}
 use Rattle.lsl_code.specs.Kinds.{kinds_of, same_kind, same_kinds}
 use Rattle.lsl_image.specs.declared.faults.ImageFault.{ImageFault}
 use Rattle.lsl_image.specs.declared.faults.ImageFault.TheVariants.{Body}
@@ -35,7 +38,7 @@ pub tested-faults : {A : Type 0} (bytes : List ℕ) (good : Bool) (place : ℕ) 
 tested-faults bytes true place a p fault g = absurd g
 tested-faults bytes false place a p fault g = (refl, g)
 
-value-given : (bytes : List ℕ) (due : Kind) (p : ℕ) (v : Value) (q : ℕ) → Gives bytes (value_of due) p v q
+pub value-given : (bytes : List ℕ) (due : Kind) (p : ℕ) (v : Value) (q : ℕ) → Gives bytes (value_of due) p v q
     → Stands bytes p ValueForm v q × (same_kind (kind_of v) due ≡ true)
 unfolding field_that
 value-given bytes due p v q g =
@@ -44,6 +47,16 @@ value-given bytes due p v q g =
       subst (λ (w : Value). Stands bytes p ValueForm w q) (sym t.same) at,
       subst (λ (w : Value). same_kind (kind_of w) due ≡ true) (sym t.same) t.holds,
     )
+
+-- an integer that was taken where one is due
+pub int-given : (bytes : List ℕ) (due : Kind) (p : ℕ) (answer : Option (ℤ × ℕ)) → due ≡ kind.Int
+    → Takes int_bytes FitsI32 bytes p answer
+    → IfSome answer (λ read. Gives bytes (value_of due) p (Int read.0) read.1)
+unfolding field_that here field ◌>>=◌ value_bytes
+int-given bytes due p (Some read) is takes =
+    subst (λ (k : Kind). Gives bytes (value_of k) p (Int read.0) read.1) (sym is)
+    (Int read.0, read.1, takes.found, (refl, refl))
+int-given bytes due p None is takes = tt
 
 module _ (bytes : List ℕ) (due : Kind) (kinds : List Kind) (place : ℕ) (value : Value)
     (others : Layout (Kinded kinds)) where

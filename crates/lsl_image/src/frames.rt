@@ -11,6 +11,9 @@ use crate::values::read_values;
 use lsl_code::{Frame, Sequence, Woven};
 use std::alloc::Global;
 
+// How many bytes a saved call has at least.
+const LEAST_FRAME_BYTES: usize = 4;
+
 /// So many saved calls, the innermost first: each is at a call of the function of the one before it, the innermost at a
 /// tick, and the last is of the handler's function.
 pub fn read_frames(
@@ -23,7 +26,8 @@ pub fn read_frames(
 ) -> Read<Sequence<Frame>>
     ensures { Reads bytes.now (grown count (frame_behind unit.now handler count) []) place result }
 {
-    let mut frames = Sequence::new(alloc);
+    let room = bytes.len().saturating_sub(place) / LEAST_FRAME_BYTES;
+    let mut frames = Vec::with_capacity(alloc, usize::from(count).min(room))?;
     let mut callee = None;
     let mut next = place;
     for i in 0..count {
@@ -33,7 +37,7 @@ pub fn read_frames(
         frames.push(frame)?;
         next = behind;
     }
-    Ok((frames, next))
+    Ok((Sequence::from_vec(frames), next))
 }
 
 // A saved call, which is at a call of this function, or at a tick.

@@ -51,7 +51,7 @@ pub fn images_are_spelled()
     ensures worlds { WorldsAreSpelled }
 {}
 
-/// In each version there is one image of the same parts.
+/// In each version there is at most one image of the same parts.
 pub fn images_have_one_spelling()
     ensures objects { ObjectsHaveOneSpelling }
     ensures worlds { WorldsHaveOneSpelling }

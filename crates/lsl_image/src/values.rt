@@ -1,17 +1,22 @@
 //! Values of the kinds that are due.
 
-ghost use Rattle.std.specs.Prelude.{◌≡◌, map, IfOk};
+ghost use Rattle.std.specs.Prelude.{◌≡◌, map, IfOk, IfSome};
 ghost use Rattle.lsl_value.specs.Values.{kind_of};
+ghost use Rattle.lsl_value.specs.declared.tagged.Value.TheVariants.{Int};
 ghost use Rattle.lsl_code.specs.Kinds.{kinds_of};
 ghost use Rattle.lsl_image.specs.Layout.{value_of, values_of};
-ghost use Rattle.lsl_image.specs.Reading.{Reads};
+ghost use Rattle.lsl_image.specs.Reading.{Gives, Reads};
 
 use crate::faults::wrong;
 use crate::fields::{Read, read_value};
+use lsl_bytes::take_int;
 use lsl_code::Woven;
 use lsl_text::NoMemory;
 use lsl_value::{Kind, Value, Values};
 use std::alloc::Global;
+
+// How many bytes a value has at least.
+const LEAST_VALUE_BYTES: usize = 5;
 
 /// A value of the kind of each global of the unit.
 pub fn read_globals(alloc: Global, bytes: &[u8], place: usize, unit: &Woven) -> Read<Values>
@@ -32,20 +37,40 @@ fn kinds_of(alloc: Global, values: &[Value]) -> Result<Vec<Kind>, NoMemory>
     Ok(kinds)
 }
 
-/// A value of each of these kinds.
+/// A value of each of these kinds. What is reserved is no more than can stand in the bytes that are left.
+#[inline(always)]
 pub fn read_values(alloc: Global, bytes: &[u8], place: usize, kinds: &[Kind]) -> Read<Values>
     ensures { Reads bytes.now (values_of kinds.now) place result }
 {
-    let mut values = Values::new(alloc);
+    let room = bytes.len().saturating_sub(place) / LEAST_VALUE_BYTES;
+    let mut values = Vec::with_capacity(alloc, kinds.len().min(room))?;
     let mut next = place;
     for kind in kinds {
-        let (value, behind) = read_value_of(alloc, bytes, next, *kind)?;
-        values.push(value)?;
-        next = behind;
+        if let Some((n, behind)) = int_of(bytes, next, *kind) {
+            values.push(Value::Int(n))?;
+            next = behind;
+        } else {
+            let (value, behind) = read_value_of(alloc, bytes, next, *kind)?;
+            values.push(value)?;
+            next = behind;
+        }
     }
-    Ok((values, next))
+    Ok((Values::from_vec(values), next))
 }
 
+// The integer of a value, where one is due and stands at the place.
+#[inline(always)]
+fn int_of(bytes: &[u8], place: usize, kind: Kind) -> Option<(i32, usize)>
+    ensures { IfSome result (λ read. Gives bytes.now (value_of kind) place (Int read.0) read.1) }
+{
+    match kind {
+        Kind::Int => take_int(bytes, place),
+        _ => None,
+    }
+}
+
+// A value of this kind.
+#[inline(never)]
 #[tactic(auto, unfolding(crate::specs::Layout::field, crate::specs::Layout::field_that))]
 fn read_value_of(alloc: Global, bytes: &[u8], place: usize, kind: Kind) -> Read<Value>
     ensures { Reads bytes.now (value_of kind) place result }

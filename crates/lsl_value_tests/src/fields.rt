@@ -3,7 +3,7 @@
 use crate::calls::value;
 use lsl_bytes::{
     push_i32, push_text, push_u8, push_u16, push_u32, push_u64, push_value, take_array, take_i32,
-    take_text, take_u8, take_u16, take_u32, take_u64, take_value,
+    take_int, take_text, take_u8, take_u16, take_u32, take_u64, take_value,
 };
 use lsl_value::Value;
 use std::alloc::Global;
@@ -101,6 +101,15 @@ fn numbers_end_within_the_bytes(rt: HostRuntime) {
     assert!(rt; take_u64(&NUMBERS, 12).is_none());
     assert!(rt; take_array::<20>(&NUMBERS, 0).is_none());
     assert_eq!(rt; take_array::<19>(&NUMBERS, 0), Some((NUMBERS, 19)));
+}
+
+#[test]
+fn integers_stand_behind_their_tag(rt: HostRuntime) {
+    let bytes = [9, 1, 255, 255, 255, 254, 3, 0, 0, 0, 0, 1, 0, 0, 0];
+    assert_eq!(rt; take_int(&bytes, 1), Some((-2, 6)));
+    for place in [0, 2, 6, 11, 14, 15, usize::MAX] {
+        assert!(rt; take_int(&bytes, place).is_none(), "{place}");
+    }
 }
 
 fn written(alloc: Global, value: &Value) -> Result<Vec<u8>, Fail> {

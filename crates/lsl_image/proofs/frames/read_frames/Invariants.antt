@@ -7,8 +7,8 @@ use Rattle.lsl_image.proofs.frames.read_frames.Given as goal
 -- so many frames are read
 abbrev pub invariant-loop-i : goal.invariant-loop-i
 invariant-loop-i l = record {
-  many : length l.frames ≡ l.i;
-  callee : l.callee ≡ callee_of l.frames;
-  leads : Leads l.bytes (grown (l.count - l.i) (frame_behind l.unit l.handler l.count) l.frames) l.next (λ list. list)
+  many : length l.frames.items ≡ l.i;
+  callee : l.callee ≡ callee_of l.frames.items;
+  leads : Leads l.bytes (grown (l.count - l.i) (frame_behind l.unit l.handler l.count) l.frames.items) l.next (λ list. list)
       (grown l.count (frame_behind l.unit l.handler l.count) []) l.place;
 }
