@@ -21,6 +21,7 @@ pub mod ListLemmas
 pub mod NameLemmas
 pub mod NameTable
 pub mod NodeShapes
+pub mod PlaceLemmas
 pub mod Prefixes
 pub mod ProgramKinds
 pub mod RoutineKinds

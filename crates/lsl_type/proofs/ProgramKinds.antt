@@ -17,7 +17,7 @@ use Rattle.lsl_type.specs.Known.{HeadersView, KnownView, no_headers, known_from}
 use Rattle.lsl_type.specs.Judgement.{at}
 use Rattle.lsl_type.specs.Verdict.{must_verdict, each_verdict}
 use Rattle.lsl_type.specs.HeaderVerdicts.{header_verdict, handler_verdict, state_verdict}
-use Rattle.lsl_type.specs.ScriptVerdicts.{handler_body_verdict, program_state_verdict, state_body_verdict}
+use Rattle.lsl_type.specs.ScriptVerdicts.{program_state_verdict, state_body_verdict}
 use Rattle.lsl_type.specs.ScriptVerdicts.{script_verdict}
 use Rattle.lsl_type.specs.ScriptRules.{default_name}
 use Rattle.lsl_type.proofs.Yielding.{Yields, gives_yields, then_yields, rest_yields, both_yield, each_keeps}

@@ -85,6 +85,11 @@ labelled_verdict f x = do
   number ← label_verdict f x
   Ok (action.Label number, with_passed f (spelled x))
 
+abbrev pub expression_verdict : KnownView → ScopeView → Expr → Verdict Action
+expression_verdict known s e = do
+  x ← effect_verdict known s e
+  Ok (action.Effect x)
+
 abbrev mutual
   pub statement_verdict : KnownView → Home → FrameView → Stmt → Verdict (Action × List Kind)
   statement_verdict known home f (stmt.Block es) = do

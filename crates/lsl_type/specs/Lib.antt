@@ -13,6 +13,7 @@ pub mod Judgement
 pub mod Known
 pub mod NameTable
 pub mod Names
+pub mod Places
 pub mod Sameness
 pub mod Scope
 pub mod ScriptRules

@@ -19,8 +19,8 @@ use crate::table::is_reserved;
 use lsl_tree::{Function, Global as GlobalHeader, Header, Name, Place};
 use std::alloc::Global;
 
-/// What the globals and functions of a script declare.
-pub(crate) fn headers(alloc: Global, list: &[Header]) -> Result<Headers, Refused>
+/// What the globals and functions of a script declare. The names of parameters are looked up in `seen`.
+pub(crate) fn headers(alloc: Global, seen: &mut Names, list: &[Header]) -> Result<Headers, Refused>
     ensures { Rules headers_of result (each_verdict header_verdict no_headers (map header_of list.now)) }
 {
     let mut headers = Headers {
@@ -33,19 +33,19 @@ pub(crate) fn headers(alloc: Global, list: &[Header]) -> Result<Headers, Refused
         signatures: Vec::new(alloc),
     };
     for header in list {
-        headers.add(alloc, header)?;
+        headers.add(alloc, seen, header)?;
     }
     Ok(headers)
 }
 
 impl Headers {
-    fn add(&mut self, alloc: Global, header: &Header) -> Result<(), Refused>
+    fn add(&mut self, alloc: Global, seen: &mut Names, header: &Header) -> Result<(), Refused>
         ensures { Rules (λ _. headers_of self.new) result
             (header_verdict (headers_of self.old) (header_of header.now)) }
     {
         match header {
             Header::Global { global } => self.add_global(alloc, global),
-            Header::Function { function } => self.add_function(alloc, function),
+            Header::Function { function } => self.add_function(alloc, seen, function),
         }
     }
 
@@ -73,13 +73,18 @@ impl Headers {
         Ok(())
     }
 
-    fn add_function(&mut self, alloc: Global, function: &Function) -> Result<(), Refused>
+    fn add_function(
+        &mut self,
+        alloc: Global,
+        seen: &mut Names,
+        function: &Function,
+    ) -> Result<(), Refused>
         ensures { Rules (λ _. headers_of self.new) result
             (header_verdict (headers_of self.old) (source.Function function.now.kind function.now.name
             function.now.params.items (items_of function.now.body.items))) }
     {
         self.unused(&function.name)?;
-        params(alloc, function.params.as_slice())?;
+        params(alloc, seen, function.params.as_slice())?;
         let signature = Signature {
             params: kinds(alloc, function.params.as_slice())?,
             result: function.kind,

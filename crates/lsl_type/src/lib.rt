@@ -32,6 +32,7 @@ mod leaving;
 mod names;
 mod operators;
 mod params;
+mod places;
 mod program;
 mod routine;
 mod scope;

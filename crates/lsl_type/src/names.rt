@@ -3,22 +3,23 @@
 ghost use Rattle.std.specs.Prelude.{◌≡◌, ◌<◌, ◌-◌, ◌∷◌, [], length, drop, OnOk, OnErr, IfSome};
 ghost use Rattle.lsl_type.specs.Names.{nearest};
 
+use crate::places::{note, set};
 use indexmap::IndexMap;
 use lsl_text::NoMemory;
 use std::alloc::Global;
 use std::marker::Model;
 
-/// A name, and the number of the earlier one that it hides.
+/// Where a name stands in the table, and the number of the earlier one that it hides.
 #[derive(Drop)]
 struct Entry {
-    name: String,
+    place: usize,
     hidden: Option<usize>,
 }
 
 /// Names, each with a number: how many were there before it.
 #[derive(Drop)]
 pub struct Names {
-    table: IndexMap<String, usize>,
+    table: IndexMap<String, Option<usize>>,
     entries: Vec<Entry>,
 }
 
@@ -28,8 +29,9 @@ impl Model for Names {
     ghost Value = { List (List ℕ) };
 
     ghost use Rattle.lsl_type.specs.NameTable.{names_of, IsTable};
+    ghost use Rattle.lsl_type.specs.Places.{texts_of};
 
-    ghost view = { λ n. names_of n.entries.items };
+    ghost view = { λ n. names_of (texts_of n.table) n.entries.items };
 
     ghost invariant = { λ n. IsTable n.table n.entries.items };
 }
@@ -57,7 +59,7 @@ impl Names {
         ensures found { result ≡ nearest name.now self.now }
         ensures within { IfSome result (λ number. number < usize.MAX) }
     {
-        self.table.get(name).copied()
+        self.table.get(name).copied().flatten()
     }
 
     /// Declares a name.
@@ -65,11 +67,10 @@ impl Names {
         ensures ok { OnOk result (self.new ≡ name.now ∷ self.old) }
         ensures unchanged { OnErr result (self.new ≡ self.old) }
     {
-        let key = String::from_str(alloc, name)?;
-        let name = String::from_str(alloc, name)?;
         self.entries.reserve(1)?;
-        let hidden = self.table.insert(key, self.entries.len())?;
-        match self.entries.push(Entry { name, hidden }) {
+        let number = self.entries.len();
+        let (place, hidden) = note(&mut self.table, alloc, name, number)?;
+        match self.entries.push(Entry { place, hidden }) {
             Ok(()) => Ok(()),
             Err(_) => unreachable!(),
         }
@@ -79,18 +80,16 @@ impl Names {
     pub fn pop(&mut self)
         ensures { self.new ≡ drop 1 self.old }
     {
-        let Some(Entry { name, hidden }) = self.entries.pop() else {
-            return;
-        };
-        match hidden {
-            None => {
-                let _ = self.table.swap_remove(name.as_str());
-            }
-            Some(number) => match self.table.insert(name, number) {
-                Ok(_) => {}
-                Err(_) => unreachable!(),
-            },
+        if let Some(Entry { place, hidden }) = self.entries.pop() {
+            set(&mut self.table, place, hidden);
         }
+    }
+
+    /// Forgets all names. Takes no memory, and keeps what it has for those to come.
+    pub fn clear(&mut self)
+        ensures { self.new ≡ [] }
+    {
+        self.truncate(0);
     }
 
     /// Forgets all names but the first `len`. Takes no memory.

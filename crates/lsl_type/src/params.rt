@@ -20,15 +20,15 @@ pub(crate) fn kinds(alloc: Global, params: &[Param]) -> Result<Vec<Kind>, NoMemo
     params.iter().map(|param| param.kind).collect(alloc)
 }
 
-/// Parameters: none has a reserved name, or that of another.
-pub(crate) fn params(alloc: Global, params: &[Param]) -> Result<Names, Refused>
-    ensures { Rules (λ n. n) result (each_verdict param_verdict [] params.now) }
+/// Parameters: none has a reserved name, or that of another. Their names stand in `names` then, and no others.
+pub(crate) fn params(alloc: Global, names: &mut Names, params: &[Param]) -> Result<(), Refused>
+    ensures { Rules (λ _. names.new) result (each_verdict param_verdict [] params.now) }
 {
-    let mut names = Names::new(alloc);
+    names.clear();
     for param in params {
-        add_param(alloc, &mut names, param)?;
+        add_param(alloc, names, param)?;
     }
-    Ok(names)
+    Ok(())
 }
 
 fn add_param(alloc: Global, names: &mut Names, param: &Param) -> Result<(), Refused>

@@ -20,9 +20,10 @@ use std::alloc::Global;
 pub(crate) fn program(alloc: Global, tree: &Tree) -> Result<Program, Refused>
     ensures { Rules program_of result (script_verdict (tree_of tree.now)) }
 {
-    let headers = headers(alloc, tree.headers.as_slice())?;
-    handlers(alloc, tree.default.as_slice())?;
-    let states = states(alloc, tree.states.as_slice())?;
+    let mut seen = Names::new(alloc);
+    let headers = headers(alloc, &mut seen, tree.headers.as_slice())?;
+    handlers(alloc, &mut seen, tree.default.as_slice())?;
+    let states = states(alloc, &mut seen, tree.states.as_slice())?;
     bodies(alloc, headers, states, tree)
 }
 

@@ -3,17 +3,19 @@
 ghost use Rattle.std.specs.Prelude.{◌≡◌, OnOk};
 ghost use Rattle.lsl_tree.specs.Statements as stmt;
 ghost use Rattle.lsl_tree.specs.Statements.{stmt_of, item_of, items_of};
+ghost use Rattle.lsl_tree.specs.Expressions.{expr_of, exprs_of};
 ghost use Rattle.lsl_tree.specs.Actions.{action_of, actions_of};
 ghost use Rattle.lsl_type.specs.Known.{known_of};
-ghost use Rattle.lsl_type.specs.Scope.{frame_of, with_slots};
+ghost use Rattle.lsl_type.specs.Scope.{frame_of, scope_of, with_slots};
 ghost use Rattle.lsl_type.specs.Verdict.{Rules};
-ghost use Rattle.lsl_type.specs.ActionVerdicts.{statement_verdict, items_verdict, item_verdict};
+ghost use Rattle.lsl_type.specs.ActionVerdicts.{expression_verdict, statement_verdict, items_verdict, item_verdict};
 
 use crate::checker::Checker;
 use crate::faults::Refused;
 use crate::forms::{after_effects, branch, branches, done_once, repeated};
-use crate::frame::Frame;
-use lsl_tree::{Action, Item, Stmt};
+use crate::frame::{Frame, Scope};
+use lsl_text::Span;
+use lsl_tree::{Action, Expr, Item, Stmt};
 
 impl Checker<'_> {
     /// A statement.
@@ -28,9 +30,7 @@ impl Checker<'_> {
             Stmt::Empty => Ok(Action::Block {
                 actions: Vec::new(self.alloc),
             }),
-            Stmt::Expression { value: expr } => Ok(Action::Effect {
-                effect: self.effect(&frame.scope, expr)?,
-            }),
+            Stmt::Expression { value: expr } => self.expression(&frame.scope, expr),
             Stmt::If { test, then, .. } => {
                 let test = self.value(&frame.scope, test)?;
                 let then = self.statement(frame, then)?;
@@ -47,37 +47,95 @@ impl Checker<'_> {
                 let otherwise = self.statement(frame, otherwise)?;
                 Ok(branches(self.alloc, test, then, otherwise)?)
             }
-            Stmt::While { span, test, body } => {
-                let test = self.value(&frame.scope, test)?;
-                let body = self.statement(frame, body)?;
-                Ok(repeated(self.alloc, *span, test, Vec::new(self.alloc), body)?)
-            }
-            Stmt::Do { span, body, test } => {
-                let body = self.statement(frame, body)?;
-                let test = self.value(&frame.scope, test)?;
-                Ok(done_once(self.alloc, *span, body, test)?)
-            }
+            Stmt::While { span, test, body } => self.while_loop(frame, *span, body, test),
+            Stmt::Do { span, body, test } => self.do_loop(frame, *span, body, test),
             Stmt::For {
                 span,
                 start,
                 test,
                 step,
                 body,
-            } => {
-                let start = self.effects(&frame.scope, start.as_slice())?;
-                let test = self.value(&frame.scope, test)?;
-                let steps = self.effects(&frame.scope, step.as_slice())?;
-                let body = self.statement(frame, body)?;
-                let repeated = repeated(self.alloc, *span, test, steps, body)?;
-                Ok(after_effects(self.alloc, start, repeated)?)
-            }
+            } => self.for_loop(frame, *span, body, start.as_slice(), test, step.as_slice()),
             Stmt::Jump { span, label } => frame.jump(*span, label),
             Stmt::Return { span, value } => self.returned(&frame.scope, *span, value),
             Stmt::State { span, state } => self.change(*span, state),
         }
     }
 
+    #[inline(never)]
+    fn expression(&self, scope: &Scope, expr: &Expr) -> Result<Action, Refused>
+        ensures { Rules action_of result
+            (expression_verdict (known_of self.now.known.now) (scope_of scope.now) (expr_of expr.now)) }
+    {
+        Ok(Action::Effect {
+            effect: self.effect(scope, expr)?,
+        })
+    }
+
+    #[inline(never)]
+    #[cycle(statement)]
+    fn while_loop(
+        &self,
+        frame: &mut Frame,
+        span: Span,
+        body: &Stmt,
+        test: &Expr,
+    ) -> Result<Action, Refused>
+        ensures found { Rules (λ a. (action_of a, frame.new.slots.items)) result
+            (statement_verdict (known_of self.now.known.now) self.now.home
+            (frame_of frame.old) (stmt.While span (expr_of test.now) (stmt_of body.now))) }
+        ensures unchanged { OnOk result (frame_of frame.new ≡ with_slots (frame_of frame.old) frame.new.slots.items) }
+    {
+        let test = self.value(&frame.scope, test)?;
+        let body = self.statement(frame, body)?;
+        Ok(repeated(self.alloc, span, test, Vec::new(self.alloc), body)?)
+    }
+
+    #[inline(never)]
+    #[cycle(statement)]
+    fn do_loop(
+        &self,
+        frame: &mut Frame,
+        span: Span,
+        body: &Stmt,
+        test: &Expr,
+    ) -> Result<Action, Refused>
+        ensures found { Rules (λ a. (action_of a, frame.new.slots.items)) result
+            (statement_verdict (known_of self.now.known.now) self.now.home
+            (frame_of frame.old) (stmt.Do span (stmt_of body.now) (expr_of test.now))) }
+        ensures unchanged { OnOk result (frame_of frame.new ≡ with_slots (frame_of frame.old) frame.new.slots.items) }
+    {
+        let body = self.statement(frame, body)?;
+        let test = self.value(&frame.scope, test)?;
+        Ok(done_once(self.alloc, span, body, test)?)
+    }
+
+    #[inline(never)]
+    #[cycle(statement)]
+    fn for_loop(
+        &self,
+        frame: &mut Frame,
+        span: Span,
+        body: &Stmt,
+        start: &[Expr],
+        test: &Expr,
+        step: &[Expr],
+    ) -> Result<Action, Refused>
+        ensures found { Rules (λ a. (action_of a, frame.new.slots.items)) result
+            (statement_verdict (known_of self.now.known.now) self.now.home (frame_of frame.old)
+            (stmt.For span (exprs_of start.now) (expr_of test.now) (exprs_of step.now) (stmt_of body.now))) }
+        ensures unchanged { OnOk result (frame_of frame.new ≡ with_slots (frame_of frame.old) frame.new.slots.items) }
+    {
+        let start = self.effects(&frame.scope, start)?;
+        let test = self.value(&frame.scope, test)?;
+        let steps = self.effects(&frame.scope, step)?;
+        let body = self.statement(frame, body)?;
+        let repeated = repeated(self.alloc, span, test, steps, body)?;
+        Ok(after_effects(self.alloc, start, repeated)?)
+    }
+
     /// A block, and what is visible behind it.
+    #[inline(never)]
     #[cycle(statement)]
     fn block(&self, frame: &mut Frame, items: &[Item]) -> Result<Action, Refused>
         ensures found { Rules (λ a. (action_of a, frame.new.slots.items)) result

@@ -1,6 +1,7 @@
 //! Expressions whose values are needed: what they stand for, or their first fault.
 
 ghost use Rattle.std.specs.Prelude.{◌≡◌, length, IfOk};
+ghost use Rattle.lsl_tree.specs.Expressions as expr;
 ghost use Rattle.lsl_tree.specs.Expressions.{expr_of, exprs_of};
 ghost use Rattle.lsl_tree.specs.Nodes.{node_of, nodes_of};
 ghost use Rattle.lsl_type.specs.Known.{known_of};
@@ -13,7 +14,9 @@ use crate::checker::Checker;
 use crate::faults::Refused;
 use crate::frame::Scope;
 use crate::operators::{converted, joined, listed, prefixed};
-use lsl_tree::{Expr, Node};
+use lsl_text::Span;
+use lsl_tree::{AssignOp, Expr, Name, Node};
+use lsl_value::{Kind, UnaryOp};
 
 impl Checker<'_> {
     /// An expression whose value is needed.
@@ -28,11 +31,7 @@ impl Checker<'_> {
             Expr::Variable { name } => scope.read(name),
             Expr::StepBehind { name, op } => scope.step_behind(name, *op),
             Expr::StepBefore { op, name, .. } => scope.step_before(self.alloc, name, *op),
-            Expr::Call { name, arguments } => {
-                let nodes = self.values(scope, arguments.as_slice())?;
-                let called = self.known.callable(name)?;
-                called.value(self.alloc, name, arguments.as_slice(), nodes)
-            }
+            Expr::Call { name, arguments } => self.call(scope, name, arguments.as_slice()),
             Expr::List { elements, .. } => {
                 let nodes = self.values(scope, elements.as_slice())?;
                 listed(elements.as_slice(), nodes)
@@ -42,14 +41,8 @@ impl Checker<'_> {
                 span,
                 kind,
                 operand,
-            } => {
-                let node = self.value(scope, operand)?;
-                converted(self.alloc, *span, *kind, node)
-            }
-            Expr::Unary { op, span, operand } => {
-                let node = self.value(scope, operand)?;
-                prefixed(self.alloc, *op, *span, node)
-            }
+            } => self.cast(scope, *span, *kind, operand),
+            Expr::Unary { op, span, operand } => self.unary(scope, *op, *span, operand),
             Expr::Binary {
                 op,
                 span,
@@ -65,12 +58,62 @@ impl Checker<'_> {
                 op,
                 span,
                 value: right,
-            } => {
-                let target = scope.target(name)?;
-                let node = self.value(scope, right)?;
-                stored(self.alloc, target, name, *op, *span, node, right)
-            }
+            } => self.assign(scope, name, *op, *span, right),
         }
+    }
+
+    /// A call whose value is needed.
+    #[inline(never)]
+    #[cycle(value)]
+    fn call(&self, scope: &Scope, name: &Name, arguments: &[Expr]) -> Result<Node, Refused>
+        ensures { Rules node_of result
+            (value_verdict (known_of self.now.known.now) (scope_of scope.now)
+            (expr.Call name.now (exprs_of arguments.now))) }
+    {
+        let nodes = self.values(scope, arguments)?;
+        let called = self.known.callable(name)?;
+        called.value(self.alloc, name, arguments, nodes)
+    }
+
+    #[inline(never)]
+    #[cycle(value)]
+    fn cast(&self, scope: &Scope, span: Span, kind: Kind, operand: &Expr) -> Result<Node, Refused>
+        ensures { Rules node_of result
+            (value_verdict (known_of self.now.known.now) (scope_of scope.now)
+            (expr.Cast span kind (expr_of operand.now))) }
+    {
+        let node = self.value(scope, operand)?;
+        converted(self.alloc, span, kind, node)
+    }
+
+    #[inline(never)]
+    #[cycle(value)]
+    fn unary(&self, scope: &Scope, op: UnaryOp, span: Span, operand: &Expr) -> Result<Node, Refused>
+        ensures { Rules node_of result
+            (value_verdict (known_of self.now.known.now) (scope_of scope.now)
+            (expr.Unary op span (expr_of operand.now))) }
+    {
+        let node = self.value(scope, operand)?;
+        prefixed(self.alloc, op, span, node)
+    }
+
+    #[inline(never)]
+    #[cycle(value)]
+    fn assign(
+        &self,
+        scope: &Scope,
+        name: &Name,
+        op: AssignOp,
+        span: Span,
+        right: &Expr,
+    ) -> Result<Node, Refused>
+        ensures { Rules node_of result
+            (value_verdict (known_of self.now.known.now) (scope_of scope.now)
+            (expr.Assign name.now op span (expr_of right.now))) }
+    {
+        let target = scope.target(name)?;
+        let node = self.value(scope, right)?;
+        stored(self.alloc, target, name, op, span, node, right)
     }
 
     /// Expressions whose values are needed, from left to right.

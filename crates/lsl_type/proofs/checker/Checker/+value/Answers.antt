@@ -11,24 +11,14 @@ use Rattle.lsl_tree.proofs.ProgramRows.{nodes_of-append}
 use Rattle.lsl_type.proofs.Walks.{values_of, value_next, each_next, each_stop, each_end, fails_as}
 use Rattle.lsl_type.proofs.checker.Checker.+value.Goals as goal
 
-pub value-returns-in_err-nodes-in-Call : goal.value-returns-in_err-nodes-in-Call
-value-returns-in_err-nodes-in-Call t c =
-    let e = ap expr_of c.in-Call.is ∙ expr_of-Call c.in-Call.name c.in-Call.arguments in
-    rw e (search rules)
-
-pub value-returns-in_err-called-in-Call : goal.value-returns-in_err-called-in-Call
-value-returns-in_err-called-in-Call t c =
+pub value-returns-in-Call : goal.value-returns-in-Call
+value-returns-in-Call t c =
     let e = ap expr_of c.in-Call.is ∙ expr_of-Call c.in-Call.name c.in-Call.arguments in
     rw e (search rules)
 
 pub value-returns-in_err-nodes-in-List : goal.value-returns-in_err-nodes-in-List
 value-returns-in_err-nodes-in-List t c =
     let e = ap expr_of c.in-List.is ∙ expr_of-List c.in-List.span c.in-List.elements in
-    rw e (search rules)
-
-pub value-returns-in_ok-called-in-Call : goal.value-returns-in_ok-called-in-Call
-value-returns-in_ok-called-in-Call t c =
-    let e = ap expr_of c.in-Call.is ∙ expr_of-Call c.in-Call.name c.in-Call.arguments in
     rw e (search rules)
 
 pub value-returns-in_ok-nodes-in-List : goal.value-returns-in_ok-nodes-in-List
