@@ -8,6 +8,8 @@ pub mod Leaving
 pub mod Remaining
 pub mod Viewing
 pub mod Storing
+pub mod Exchanging
+pub mod Advancing
 pub mod Moving
 pub mod Halting
 pub mod Ticking

@@ -2,6 +2,7 @@ pub mod CallsRestored
 pub mod CallsSaved
 pub mod Entry
 pub mod Futures
+pub mod Integers
 pub mod Laid
 pub mod Memory
 pub mod Parking

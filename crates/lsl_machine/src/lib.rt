@@ -30,6 +30,7 @@ use std::marker::Model;
 
 mod calls;
 mod entering;
+mod integers;
 mod jumps;
 mod operands;
 mod operating;
