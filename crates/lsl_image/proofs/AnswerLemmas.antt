@@ -43,7 +43,8 @@ object-ends bytes region shape library end p a q g =
     body version shape library >>= λ parts. ends_at end >>= λ last. Ends parts) p a q g in
     let second = gives-split bytes (sender first.0 region) (λ from.
     body first.0 shape library >>= λ parts. ends_at end >>= λ last. Ends parts) first.1 a q first.3 in
-    let third = gives-split bytes (body first.0 shape library) (λ parts. ends_at end >>= λ last. Ends parts) second.1 a q
+    let third = gives-split bytes (body first.0 shape library)
+    (λ parts. ends_at end >>= λ last. Ends parts) second.1 a q
     second.3 in
     last-told bytes end third.0 a third.1 q third.3
 
@@ -73,7 +74,8 @@ module _ {A : Type 0} (layout : ℕ → Layout A) (bytes : List ℕ) where
     ends-digested : length fields ≡ digested bytes
     ends-digested = ap length are ∙ omega (arith, length-take (digested bytes) bytes)
 
-    pub read-image : (a : A) (q : ℕ) → q ≡ length fields → Gives fields (layout (length fields)) 0 a q → IsImage layout bytes a
+    pub read-image : (a : A) (q : ℕ) → q ≡ length fields → Gives fields (layout (length fields)) 0 a q
+        → IsImage layout bytes a
     read-image a q last g =
         let at : Gives fields (layout (digested bytes)) 0 a (digested bytes) =
         subst (λ (n : ℕ). Gives fields (layout n) 0 a n) ends-digested
@@ -118,7 +120,8 @@ module _ {A : Type 0} (layout : ℕ → Layout A) (bytes : List ℕ) where
         let same = err_from_is_err_and r exit in
         rw (same.1, same.2) h
 
-    pub refused-only : IsRefusedBy (IsFirstFault layout bytes) e → (fault : ImageFault) → IsFirstFault layout bytes fault
+    pub refused-only : IsRefusedBy (IsFirstFault layout bytes) e → (fault : ImageFault)
+        → IsFirstFault layout bytes fault
         → RefusesWith r fault
     refused-only h fault first =
         let same = err_from_is_err_and r exit in

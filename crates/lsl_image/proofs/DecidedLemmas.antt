@@ -165,7 +165,8 @@ module _ {A : Type 0} (layout : ℕ → Layout A) (bytes : List ℕ) (are : (i :
           → (size ≡ length bytes) ⊎ (size ≡ length bytes → ⊥) → IsEither
       named enough size names (inl same) =
           let both = bytes_eq-Decides (sha256 (covered bytes)) (digest_in bytes) in
-          sized-decided (enough, subst (NamesSize bytes) same names) (bytes_eq (sha256 (covered bytes)) (digest_in bytes))
+          sized-decided (enough, subst (NamesSize bytes) same names)
+          (bytes_eq (sha256 (covered bytes)) (digest_in bytes))
           both.0 both.1
       named enough size names (inr differs) =
           inr (Size (length bytes) size, inl (refl, inr (enough, names, differs)))

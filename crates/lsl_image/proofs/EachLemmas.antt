@@ -29,7 +29,8 @@ each-left {X} bytes layout xs i p x before f whole start first leads =
 
 -- one more of them was read
 pub each-more : {X A C : Type 0} {bytes : List ℕ} (layout : X → Layout A) (xs : List X) (before after : List A)
-    (i : ℕ) (x : X) (a : A) {p : ℕ} {q : ℕ} {f : List A → C} {whole : Layout C} {start : ℕ} → drop i xs ≡ x ∷ drop (i + 1) xs
+    (i : ℕ) (x : X) (a : A) {p : ℕ} {q : ℕ} {f : List A → C} {whole : Layout C} {start : ℕ}
+    → drop i xs ≡ x ∷ drop (i + 1) xs
     → after ≡ before ++ a ∷ []
     → Leads bytes (each_behind layout (drop i xs) before) p f whole start → Gives bytes (layout x) p a q
     → Leads bytes (each_behind layout (drop (i + 1) xs) after) q f whole start

@@ -9,7 +9,8 @@ use Rattle.lsl_image.proofs.ReadingLemmas.{gives-split}
 pub record Given {A : Type 0} (bytes : List ℕ) (l : Layout A) (p : ℕ) (a : A) (q : ℕ) : Type 0 where
   pub gives : Gives bytes l p a q
 
-pub record Split {A B : Type 0} (bytes : List ℕ) (l : Layout A) (f : A → Layout B) (p : ℕ) (b : B) (q : ℕ) : Type 0 where
+pub record Split {A B : Type 0} (bytes : List ℕ) (l : Layout A) (f : A → Layout B) (p : ℕ) (b : B)
+    (q : ℕ) : Type 0 where
   pub value : A
   pub middle : ℕ
   pub first : Given bytes l p value middle

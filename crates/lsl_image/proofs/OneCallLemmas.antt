@@ -63,7 +63,8 @@ module _ (unit : Code) (handler : Option ℕ) where
       let list = parted count.others in
       let end = passed (nat_le (parked_charge globals list.value) most) p list.others in
       let g = grown-bytes (frame_behind unit handler count.value) frame_bytes
-      (λ before q f rest r. frame-only (nat_lt (length before + 1) count.value) (callee_of before) q f rest r) count.value
+      (λ before q f rest r. frame-only (nat_lt (length before + 1) count.value) (callee_of before) q f rest r)
+      count.value
       [] (p + length count.front) list.value list.front list.first in
       let many : count.value ≡ length list.value = sym (ap length g.same ∙ g.long) in
       both-parts count ((that-bytes U16 (λ n. nat_le 1 n) count.first).bytes ∙ ap u16_bytes many)

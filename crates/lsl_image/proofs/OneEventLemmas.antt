@@ -50,7 +50,8 @@ those-bytes [] k p part s =
 those-bytes (kind ∷ kinds) k p part s =
     let t = parted (behind-here _ s) in
     both-parts t (field-bytes ValueForm t.first) refl
-    ∙ kinded-bytes kind kinds p t.value (kinded_values kinds) (those-bytes kinds) (same_kind (kind_of t.value) kind) refl
+    ∙ kinded-bytes kind kinds p t.value (kinded_values kinds) (those-bytes kinds)
+    (same_kind (kind_of t.value) kind) refl
     (p + length t.front) k t.rest t.others
 
 pub values-only : (kinds : List Kind) (p : ℕ) (vs : List Value) (part : List ℕ) → Spelt (values_of kinds) p vs part
@@ -171,7 +172,8 @@ module _ (unit : Code) (state : ℕ) where
       let g = grown-bytes (λ before. event_in unit state false) event_bytes
       (λ before q e rest r. event-only false q e rest r) count.value [] (p + length count.front) events count.rest
       count.others in
-      both-parts count ((that-bytes U8 (λ n. nat_le n most_events) count.first).bytes ∙ ap u8_bytes (sym g.long)) g.bytes
+      both-parts count ((that-bytes U8 (λ n. nat_le n most_events) count.first).bytes
+      ∙ ap u8_bytes (sym g.long)) g.bytes
       ∙ ap (λ (es : List Event). u8_bytes (length es) ++ flat_map event_bytes es) (sym g.same)
 
   pub leaving-only : (p : ℕ) (left : Option ℕ) (part : List ℕ) → Spelt (leaving unit state) p left part
@@ -283,5 +285,6 @@ timer-only p t part s =
     let q = p + length period.front in
     let d = due-only q period.value due.value (fits_timer period.value due.value) refl (q + length due.front) t due.rest
     due.others in
-    both-parts period ((that-bytes U32 (λ n. nat_le n 2147483647) period.first).bytes ∙ ap u32_bytes (sym d.same_period))
+    both-parts period ((that-bytes U32 (λ n. nat_le n 2147483647) period.first).bytes
+    ∙ ap u32_bytes (sym d.same_period))
     (last-part due (field-bytes U64 due.first ∙ ap u64_bytes (sym d.same_due)) d.none)

@@ -76,7 +76,8 @@ head-only letters p version part s =
       size = size.value;
       known = subst (λ (n : ℕ). (n ≡ 1) ⊎ (n ≡ 2)) (sym end.same) v.known;
       bytes = both-parts magic (t.bytes ∙ (bytes_eq-Decides magic.value letters).0 t.holds)
-          (both-parts known (v.bytes ∙ ap u16_bytes (sym end.same)) (last-part size (field-bytes U64 size.first) end.none))
+          (both-parts known (v.bytes ∙ ap u16_bytes (sym end.same))
+          (last-part size (field-bytes U64 size.first) end.none))
           ∙ sym (append_assoc letters (u16_bytes version) (u64_bytes size.value));
     }
 
@@ -107,7 +108,8 @@ abbrev pub object_fields : List ℕ → List Code → ObjectParts → ℕ → Li
 object_fields region library o version = sender_bytes version region ++ body_bytes version library o
 
 object-only : (region : List ℕ) (shape : Shape) (library : List Code) (o : ObjectParts) (end : ℕ) (whole : List ℕ)
-    → Spelt (object region shape library end) 0 o whole → AreFields (codes "LSLO") (object_fields region library o) whole
+    → Spelt (object region shape library end) 0 o whole
+    → AreFields (codes "LSLO") (object_fields region library o) whole
 unfolding object
 object-only region shape library o end whole s =
     let front = parted s in
@@ -246,7 +248,8 @@ version-named letters fields bytes own version four fits same names =
     let digest = sha256 ((letters ++ u16_bytes own ++ size) ++ fields) in
     let opened : bytes ≡ letters ++ (u16_bytes own ++ (size ++ (fields ++ digest))) =
     same ∙ grouped letters (u16_bytes own) size fields digest in
-    (u16-prefix_free version own (drop 6 bytes) (size ++ (fields ++ digest)) names.0 fits (sym names.1.parts ∙ ap (drop 4) opened
+    (u16-prefix_free version own (drop 6 bytes) (size ++ (fields ++ digest)) names.0 fits
+    (sym names.1.parts ∙ ap (drop 4) opened
     ∙ drop_at letters (u16_bytes own ++ (size ++ (fields ++ digest))) 4 four)).0
   where
     grouped : (a b c d e : List ℕ) → ((a ++ b ++ c) ++ d) ++ e ≡ a ++ (b ++ (c ++ (d ++ e)))

@@ -115,7 +115,8 @@ pub that-bytes : (form : Form) (test : Content form → Bool) {p : ℕ} {v : Con
 unfolding field_that here ◌>>=◌
 that-bytes form test {p} {v} {part} s =
     let w = s.spells.0 in
-    let inner : Spelt (tested (test w) p w) (p + length (bytes_of form w)) v s.spells.1 = record { spells = s.spells.4 } in
+    let inner : Spelt (tested (test w) p w) (p + length (bytes_of form w)) v s.spells.1 = record { spells = s.spells.4 }
+    in
     let t = passed (test w) p inner in
     record {
       holds = ap test t.same ∙ t.holds;

@@ -34,7 +34,8 @@ limit-only : (version p most : ℕ) (part : List ℕ) → Spelt (limit version) 
 unfolding limit
 limit-only version p most part s = by (version == 1) s
   where
-    by : (first : Bool) → Spelt (cond first (Ends 65536) (field_that U32 (λ n. nat_le 1064 n && nat_le n 65536))) p most part
+    by : (first : Bool) → Spelt (cond first (Ends 65536) (field_that U32 (λ n. nat_le 1064 n && nat_le n 65536))) p most
+        part
         → part ≡ cond first [] (u32_bytes most)
     by true r = (ended r).none
     by false r = (that-bytes U32 (λ n. nat_le 1064 n && nat_le n 65536) r).bytes
@@ -151,7 +152,8 @@ body-only version shape library p o part s =
     let several = grown-bytes (λ before. field TextForm) text_bytes (λ before q t rest r. field-bytes TextForm r)
     shape.prims [] _ names.value names.front names.first in
     let all = each-bytes (λ number. script_of version number (slice_get library number))
-    (library_script_bytes version library) (λ number q x rest r. of-only version library number q x rest r) shape.units [] _
+    (library_script_bytes version library) (λ number q x rest r. of-only version library number q x rest r) shape.units
+    [] _
     scripts.value scripts.front scripts.first in
     let many : prims.value ≡ length names.value =
     grind (arith, nat_tests, is_prims.holds, ap length several.same, several.long) in

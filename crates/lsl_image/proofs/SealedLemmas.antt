@@ -17,7 +17,8 @@ put-more head old now i within enough is =
     let opened : now ≡ take i head ++ get_or old i 0 ∷ drop (i + 1) old =
     is ∙ ap (λ (t : List ℕ). take i head ++ t) (drop_more old i 0 (omega arith)) in
     ap (λ (t : List ℕ). set t i b) opened
-    ∙ subst (λ (n : ℕ). set (take i head ++ get_or old i 0 ∷ drop (i + 1) old) n b ≡ take i head ++ b ∷ drop (i + 1) old)
+    ∙ subst (λ (n : ℕ). set (take i head ++ get_or old i 0 ∷ drop (i + 1) old) n b ≡ take i head ++ b
+    ∷ drop (i + 1) old)
     long (set-append_seam (take i head) (get_or old i 0) (drop (i + 1) old) b)
     ∙ sym (ap (λ (t : List ℕ). t ++ drop (i + 1) old) (take_more head i 0 within)
     ∙ append_assoc (take i head) (b ∷ []) (drop (i + 1) old))
@@ -42,7 +43,8 @@ unfolding image_bytes
 sealed-is letters out head now digest new size four enough is_size is_head is_now is_digest is_new =
     let whole : size ≡ 14 + length (drop 14 out) + 32 = omega (arith, is_size, length-drop 14 out) in
     let long : length head ≡ 14 = ap length is_head ∙ length-head letters 2 size four in
-    let front : head ≡ head_bytes letters 2 (14 + length (drop 14 out) + 32) = is_head ∙ ap (head_bytes letters 2) whole in
+    let front : head ≡ head_bytes letters 2 (14 + length (drop 14 out) + 32) = is_head ∙ ap (head_bytes letters 2) whole
+    in
     let covered : now ≡ head_bytes letters 2 (14 + length (drop 14 out) + 32) ++ drop 14 out =
     is_now ∙ ap (λ (n : ℕ). head ++ drop n out) long ∙ ap (λ (t : List ℕ). t ++ drop 14 out) front in
     is_new ∙ ap (λ (t : List ℕ). now ++ t) is_digest ∙ ap digested_bytes covered

@@ -57,7 +57,8 @@ module _ (unit : Code) (handler : ℕ) where
   at-spells place number callee f point p is calls s =
       let same : same_callee point.calls callee ≡ true =
       subst (λ (c : Option ℕ). same_callee point.calls c ≡ true) calls (callee-itself point.calls) in
-      let made : Spelt (values_of point.kinds >>= λ slots. Ends (frame f.function number slots)) p f (values_bytes f.slots) =
+      let made : Spelt (values_of point.kinds >>= λ slots. Ends (frame f.function number slots)) p f
+      (values_bytes f.slots) =
       spelt-last _ s (spelt-ends (ap (λ (n : ℕ). frame f.function n f.slots) is)) in
       subst (λ (b : Bool). Spelt (cond b (values_of point.kinds >>= λ slots. Ends (frame f.function number slots))
       (Refused (Body place))) p f (values_bytes f.slots)) (sym same) made

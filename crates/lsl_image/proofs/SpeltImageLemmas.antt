@@ -85,7 +85,8 @@ placed-spells library o p good =
     (spelt-last _ (body-spells library o.object _ good.0 good.1.object) (spelt-ends refl))
 
 both-placed : (library : List Code) (objects : List Placed) → AllByRecursion (IsPlaced library) objects
-    → AllByRecursion (FitsPlaced library) objects → AllByRecursion (λ o. IsPlaced library o × FitsPlaced library o) objects
+    → AllByRecursion (FitsPlaced library) objects → AllByRecursion
+    (λ o. IsPlaced library o × FitsPlaced library o) objects
 both-placed library [] are fits = tt
 both-placed library (o ∷ objects) are fits = ((are.0, fits.0), both-placed library objects are.1 fits.1)
 
@@ -176,9 +177,11 @@ image-spells {A} layout letters fields bytes a four same small spells =
     ) in
     let end : digested bytes ≡ length whole = omega (arith, all, long) in
     let before : covered bytes ≡ whole =
-    ap (λ (n : ℕ). take n bytes) end ∙ ap (take (length whole)) same ∙ take_at whole (sha256 whole) (length whole) refl in
+    ap (λ (n : ℕ). take n bytes) end ∙ ap (take (length whole)) same ∙ take_at whole (sha256 whole) (length whole) refl
+    in
     let behind : digest_in bytes ≡ sha256 whole =
-    ap (λ (n : ℕ). drop n bytes) end ∙ ap (drop (length whole)) same ∙ drop_at whole (sha256 whole) (length whole) refl in
+    ap (λ (n : ℕ). drop n bytes) end ∙ ap (drop (length whole)) same ∙ drop_at whole (sha256 whole) (length whole) refl
+    in
     let sized : StandsAt bytes 6 (u64_bytes (length bytes)) 14 =
     subst (λ (n : ℕ). StandsAt bytes 6 (u64_bytes n) 14) (sym all)
     (size-stands letters fields (sha256 whole) bytes 2 size four same) in
@@ -188,7 +191,8 @@ image-spells {A} layout letters fields bytes a four same small spells =
       behind = omega arith;
       within = omega arith;
     } in
-    let gives = spelled-gives whole (layout (length whole)) 0 a whole (length whole) stands (spells whole (omega (arith, small, all)) refl) in (
+    let gives = spelled-gives whole (layout (length whole)) 0 a whole (length whole) stands
+    (spells whole (omega (arith, small, all)) refl) in (
       intact,
       subst (λ (t : List ℕ). Gives t (layout (digested bytes)) 0 a (digested bytes)) (sym before)
           (subst (λ (n : ℕ). Gives whole (layout n) 0 a n) (sym end) gives),

@@ -58,7 +58,8 @@ pub spelt-field : (form : Form) (v : Content form) {p : ℕ} → Fits form v →
 unfolding field
 spelt-field form v fits = record { spells = (v, [], fits, sym (append-nil (bytes_of form v)), (refl, refl)) }
 
-tested-spells : {A : Type 0} (good : Bool) (place : ℕ) (a : A) (p : ℕ) → good ≡ true → Spells (tested good place a) p a []
+tested-spells : {A : Type 0} (good : Bool) (place : ℕ) (a : A) (p : ℕ) → good ≡ true
+    → Spells (tested good place a) p a []
 tested-spells true place a p holds = (refl, refl)
 tested-spells false place a p holds = absurd (false≢true holds)
 
@@ -107,7 +108,8 @@ unfolding grown GoodBehind
 grown-spelt layout f Good each before [] p good = spelt-ends (append-nil before)
 grown-spelt {A} layout f Good each before (x ∷ xs) p good =
     let others = grown-spelt layout f Good each (before ++ x ∷ []) xs (p + length (f x)) good.1 in
-    let all : Spelt (grown (length xs) layout (before ++ x ∷ [])) (p + length (f x)) (before ++ x ∷ xs) (flat_map f xs) =
+    let all : Spelt (grown (length xs) layout (before ++ x ∷ [])) (p + length (f x)) (before ++ x ∷ xs)
+    (flat_map f xs) =
     subst (λ (l : List A). Spelt (grown (length xs) layout (before ++ x ∷ [])) (p + length (f x)) l (flat_map f xs))
     (append_assoc before (x ∷ []) xs) others in
     spelt-then (λ next. grown (length xs) layout (before ++ next ∷ [])) (each before x p good.0) all

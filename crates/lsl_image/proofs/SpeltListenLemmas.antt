@@ -27,7 +27,8 @@ left-six a b c d e f = simp append_assoc
 
 filter-spells : (before : List Listen) (f : Filter) (p : ℕ) → list_any (same_filter f) (map filter_of before) ≡ false
     → FitsI32 f.channel → IsText f.name → IsText f.id → IsText f.message
-    → Spelt (filter_behind before) p f (i32_bytes f.channel ++ (text_bytes f.name ++ (text_bytes f.id ++ text_bytes f.message)))
+    → Spelt (filter_behind before) p f (i32_bytes f.channel
+    ++ (text_bytes f.name ++ (text_bytes f.id ++ text_bytes f.message)))
 unfolding filter_behind
 filter-spells before f p new channel name id message =
     spelt-then _ (spelt-field I32 f.channel channel) (spelt-then _ (spelt-field TextForm f.name name)
@@ -54,11 +55,13 @@ listen-spells before l p own fits =
     (spelt-last _ (filter-spells before (filter_of l) _ own.new fits.channel fits.name fits.id fits.message)
     (spelt-ends (ap (λ (a : Bool). record l { active = a }) (sym (flag-back l.active)))))))
 
-none-any : {K : Type 0} (test : K → Bool) (xs : List K) → AllByRecursion (λ x. test x ≡ false) xs → list_any test xs ≡ false
+none-any : {K : Type 0} (test : K → Bool) (xs : List K) → AllByRecursion (λ x. test x ≡ false) xs
+    → list_any test xs ≡ false
 none-any test [] all = refl
 none-any test (x ∷ xs) all = ap (λ (b : Bool). b || list_any test xs) all.0 ∙ none-any test xs all.1
 
-own-last : (next : ℤ) (before : List Listen) (l : Listen) → IsStanding (standing next (before ++ l ∷ [])) → IsOwn before l
+own-last : (next : ℤ) (before : List Listen) (l : Listen) → IsStanding (standing next (before ++ l ∷ []))
+    → IsOwn before l
 own-last next before l s = record {
   number = each-last (λ n. is_number n ≡ true) (map number_of before) l.number
       (subst (AllByRecursion (λ n. is_number n ≡ true)) (map_push number_of before l) s.numbers);
@@ -88,5 +91,6 @@ listens-spells s p fits =
     (spelt-then _ (spelt-that I32 is_number s.next fits.next fits.stands.next)
     (spelt-then _ (spelt-that U8 (λ n. nat_le n most_listens) (length s.list) (omega (arith, fits.stands.few))
     (grind (arith, nat_tests, fits.stands.few)))
-    (spelt-last _ (spelt-grown listen_behind listen_bytes OwnFits (λ before l q good. listen-spells before l q good.0 good.1)
+    (spelt-last _ (spelt-grown listen_behind listen_bytes OwnFits
+    (λ before l q good. listen-spells before l q good.0 good.1)
     s.list _ (standing-good s.next [] s.list fits.stands fits.each)) (spelt-ends refl))))

@@ -39,14 +39,16 @@ code-spells : (unit : Code) (p : ℕ) → length unit.digest ≡ 32 → Spelt (c
 unfolding code_digest
 code-spells unit p whole =
     spelt-last _ (spelt-field (Bytes 32) unit.digest whole) (subst (λ (b : Bool).
-    Spelt (cond b (Ends unit.digest) (Refused (WrongCode unit.digest unit.digest))) (p + length unit.digest) unit.digest [])
+    Spelt (cond b (Ends unit.digest) (Refused (WrongCode unit.digest unit.digest)))
+    (p + length unit.digest) unit.digest [])
     (sym ((bytes_eq-Decides unit.digest unit.digest).1 refl)) (spelt-ends refl))
 
 limit-spells : (most p : ℕ) → 1064 ≤ most → most ≤ 65536 → Spelt (limit 2) p most (u32_bytes most)
 unfolding limit
 limit-spells most p least within =
     spelt-that U32 (λ n. nat_le 1064 n && nat_le n 65536) most (omega (arith, within))
-    (and_from (nat_le 1064 most) (nat_le most 65536) (grind (arith, nat_tests, least)) (grind (arith, nat_tests, within)))
+    (and_from (nat_le 1064 most) (nat_le most 65536) (grind (arith, nat_tests, least))
+    (grind (arith, nat_tests, within)))
 
 script-spells : (library : List Code) (s : ScriptParts) (unit : Code) (p : ℕ) → HasUnit library s
     → IsScript unit s → length unit.digest ≡ 32 → FitsScript s
@@ -94,12 +96,14 @@ record GoodPair (before : List Pair) (x : Pair) : Type 0 where
   room : finds_room (before ++ x ∷ []) ≡ true
   fits : FitsPair x
 
-pair-spells : (before : List Pair) (x : Pair) (p : ℕ) → GoodPair before x → Spelt (pair_behind before) p x (both_bytes x)
+pair-spells : (before : List Pair) (x : Pair) (p : ℕ) → GoodPair before x
+    → Spelt (pair_behind before) p x (both_bytes x)
 unfolding pair_behind both_bytes
 pair-spells before x p good =
     spelt-here _ (spelt-then _ (spelt-field TextForm x.name good.fits.name)
     (spelt-then _ (spelt-tested (nat_lt 0 (length x.name) && is_above x.name before) p x.name
-    (and_from (nat_lt 0 (length x.name)) (is_above x.name before) (grind (arith, nat_tests, good.pair.name)) good.above))
+    (and_from (nat_lt 0 (length x.name)) (is_above x.name before)
+    (grind (arith, nat_tests, good.pair.name)) good.above))
     (spelt-last _ (spelt-field TextForm x.value good.fits.value)
     (spelt-tested (nat_lt 0 (length x.value) && finds_room (before ++ x ∷ [])) p x
     (and_from (nat_lt 0 (length x.value)) (finds_room (before ++ x ∷ [])) (grind (arith, nat_tests, good.pair.value))
@@ -115,7 +119,13 @@ pairs-good before (x ∷ xs) ascend room are fits =
     let few : sum_by pair_bytes (before ++ x ∷ []) ≤ 65536 =
     omega (arith, total, sum_by-append pair_bytes (before ++ x ∷ []) xs) in
     good-cons GoodPair before x xs
-    (record { pair = are.0; above = ascend-above before x xs ascend; room = grind (arith, nat_tests, few); fits = fits.0 })
+    (record {
+      pair = are.0;
+      above = ascend-above before x xs ascend;
+      room = grind
+          (arith, nat_tests, few);
+      fits = fits.0;
+    })
     (pairs-good (before ++ x ∷ []) xs (subst Ascend (sym same) ascend) total are.1 fits.1)
 
 store-spells : (pairs : List Pair) (p : ℕ) → IsStore pairs → AllByRecursion FitsPair pairs
@@ -123,7 +133,8 @@ store-spells : (pairs : List Pair) (p : ℕ) → IsStore pairs → AllByRecursio
 unfolding store
 store-spells pairs p is fits =
     spelt-then _ (spelt-field U16 (length pairs) (omega (arith, is.few)))
-    (spelt-grown pair_behind both_bytes GoodPair pair-spells pairs _ (pairs-good [] pairs is.ascend is.room is.each fits))
+    (spelt-grown pair_behind both_bytes GoodPair pair-spells pairs _
+    (pairs-good [] pairs is.ascend is.room is.each fits))
 
 key-spells : (key : List ℕ) (p : ℕ) (fits : FitsKey key)
     → Spelt (field_that (Bytes 16) (are_these (key_bytes key))) p fits.0 (uuid_bytes (key_bytes key))
@@ -153,7 +164,8 @@ body-spells library o p is fits =
     (spelt-then _ (spelt-grown (λ before. field TextForm) text_bytes (λ before t. IsText t)
     (λ before t q text. spelt-field TextForm t text) o.names _ (good-all IsText [] o.names fits.names))
     (spelt-then _ (spelt-that U16 (λ n. n == length (map unit_number o.scripts)) (length o.scripts)
-    (omega (arith, is.count)) (eq-eqb (length o.scripts) (length (map unit_number o.scripts)) (sym (length-units o.scripts))))
+    (omega (arith, is.count)) (eq-eqb (length o.scripts) (length (map unit_number o.scripts))
+    (sym (length-units o.scripts))))
     (spelt-then _ (spelt-each (λ number. script_of 2 number (slice_get library number)) unit_number
     (library_script_bytes 2 library) (λ s. HasUnit library s × FitsIn library s)
     (λ s q good. of-spells library s q good.0 good.1) o.scripts _

@@ -42,7 +42,8 @@ array-answered bytes p n = of (cases_lt (length bytes) (p + n))
     of : (length bytes < p + n) ⊎ (p + n ≤ length bytes) → IsAnswered array_bytes (IsArray n) bytes p
     of (inl few) = answered (takes_none array_bytes (IsArray n) bytes p
         (λ (v : List ℕ) (next : ℕ) long stands. omega (arith, few, long, stands.behind, stands.within)))
-    of (inr enough) = answered (takes_some array_bytes (IsArray n) (same-fronts n) bytes p (take n (drop p bytes)) (p + n)
+    of (inr enough) = answered (takes_some array_bytes (IsArray n) (same-fronts n) bytes p (take n (drop p bytes))
+        (p + n)
         (length-part bytes p n enough) (bytes-stand bytes p n enough))
 
 module _ (bytes : List ℕ) (are : (i : ℕ) → get_or bytes i 0 < 256) where
@@ -56,8 +57,10 @@ module _ (bytes : List ℕ) (are : (i : ℕ) → get_or bytes i 0 < 256) where
       of : (answer : Option (List ℕ × ℕ)) → Takes array_bytes (IsArray 1) bytes p answer
           → IsAnswered u8_bytes FitsU8 bytes p
       of None takes = answered (array-none u8_bytes FitsU8 1 length-u8 bytes p takes)
-      of (Some (part, next)) takes = answered (takes_as array_bytes (IsArray 1) u8_bytes FitsU8 u8-prefix_free bytes p part
-          (get_or part 0 0) next (omega (arith, fits-part part p 1 next takes 0)) (u8-of_bytes part takes.found.0) takes)
+      of (Some (part, next)) takes = answered (takes_as array_bytes
+          (IsArray 1) u8_bytes FitsU8 u8-prefix_free bytes p part
+          (get_or part 0 0) next (omega (arith, fits-part part p 1 next takes 0))
+          (u8-of_bytes part takes.found.0) takes)
 
   pub u16-answered : (p : ℕ) → IsAnswered u16_bytes FitsU16 bytes p
   u16-answered p = of (array-answered bytes p 2).answer (array-answered bytes p 2).takes
@@ -250,7 +253,8 @@ module _ (bytes : List ℕ) (are : (i : ℕ) → get_or bytes i 0 < 256) where
       of (Some (atoms, next)) found = answered (value-list_found bytes p q atoms next seven found)
   value-of p tag q tagged (inr other) = of (atom-answered p).answer (atom-answered p).takes
     where
-      of : (answer : Option (Atom × ℕ)) → Takes atom_bytes IsAtom bytes p answer → IsAnswered value_bytes IsValue bytes p
+      of : (answer : Option (Atom × ℕ)) → Takes atom_bytes IsAtom bytes p answer
+          → IsAnswered value_bytes IsValue bytes p
       of None none = answered (value-atom_none bytes p tag q tagged other none)
       of (Some (a, next)) found = answered (value-atom_found bytes p a next found)
 

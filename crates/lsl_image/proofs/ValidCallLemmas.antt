@@ -59,7 +59,8 @@ module _ (bytes : List ℕ) (unit : Code) (handler : ℕ) where
       let test = that-told U16 (λ n. nat_lt n (length unit.functions) && ends_in (Some handler) more n) first.first in
       let ends = (and_parts (nat_lt first.value (length unit.functions)) (ends_in (Some handler) more first.value)
       test.holds).1 in
-      let told = at-point placed.value first.value numbered.value callee (points_of (bodies_of unit) first.value numbered.value)
+      let told = at-point placed.value first.value numbered.value callee
+      (points_of (bodies_of unit) first.value numbered.value)
       refl numbered.middle f q numbered.rest in (
         told.1,
         λ last. told.0 ∙ eqb-true first.value handler
@@ -80,7 +81,8 @@ module _ (bytes : List ℕ) (unit : Code) (handler : ℕ) where
       (omega (arith, all, length_push before s.value)) s.rest in
       let callee : callee_of (before ++ s.value ∷ []) ≡ Some s.value.function =
       sym (callee-after before (before ++ s.value ∷ []) s.value refl) in
-      let long = grown-long (frame_behind unit (Some handler) count) n (before ++ s.value ∷ []) s.middle frames q s.rest in
+      let long = grown-long (frame_behind unit (Some handler) count) n (before ++ s.value ∷ []) s.middle frames q s.rest
+      in
       let fit : FitFrames (points_of (bodies_of unit)) handler (Some s.value.function) others.0 =
       subst (λ (c : Option ℕ). FitFrames (points_of (bodies_of unit)) handler c others.0) callee others.2 in (
         s.value ∷ others.0,
@@ -110,7 +112,8 @@ module _ (bytes : List ℕ) (unit : Code) (handler : ℕ) where
       let read = split counted.rest in
       let some = leb-true 1 counted.value (that-told U16 (λ n. nat_le 1 n) counted.first).holds in
       let test = tested-told (nat_le (parked_charge globals read.value) most) placed.value read.rest in
-      let told = frames-told counted.value counted.value [] counted.middle read.value read.middle (omega arith) read.first in
+      let told = frames-told counted.value counted.value [] counted.middle read.value read.middle
+      (omega arith) read.first in
       let long = grown-long (frame_behind unit (Some handler) counted.value) counted.value [] counted.middle read.value
       read.middle read.first in
       let fit : FitFrames (points_of (bodies_of unit)) handler None read.value =

@@ -137,9 +137,11 @@ module _ (bytes : List ℕ) where
       let named = split placed.rest in
       let checked = split named.rest in
       let valued = split checked.rest in
-      let first = tested-told (nat_lt 0 (length named.value) && is_above named.value before) placed.value checked.first in
+      let first = tested-told (nat_lt 0 (length named.value) && is_above named.value before) placed.value checked.first
+      in
       let made = pair named.value valued.value in
-      let last = tested-told (nat_lt 0 (length valued.value) && finds_room (before ++ made ∷ [])) placed.value valued.rest in
+      let last = tested-told (nat_lt 0 (length valued.value) && finds_room (before ++ made ∷ [])) placed.value
+      valued.rest in
       let name = and_parts (nat_lt 0 (length named.value)) (is_above named.value before) first.holds in
       let value = and_parts (nat_lt 0 (length valued.value)) (finds_room (before ++ made ∷ [])) last.holds in
       let is_pair : IsPair made = record {
@@ -183,7 +185,8 @@ module _ (bytes : List ℕ) where
       none = record { few = omega arith; each = tt; ascend = tt; room = omega arith }
 
       by : (one : Bool)
-          → Given bytes (cond one (Ends []) (field U16 >>= λ count. grown count pair_behind [])) p pairs q → IsStore pairs
+          → Given bytes (cond one (Ends []) (field U16 >>= λ count. grown count pair_behind [])) p pairs q
+          → IsStore pairs
       by true g = subst IsStore (sym (ended g)) none
       by false g =
           let s = split g in
@@ -226,7 +229,8 @@ module _ (bytes : List ℕ) where
         count = omega (arith, count.fits, eqb-true numbered.value (length shape.units) count.holds, scripts_long);
         scripts = each-all (λ number. script_of version number (slice_get library number)) (λ number. Unit {0})
             (HasUnit library) (λ number any p s q h. unit-valid library version number (slice_get library number) refl p
-            s q h) shape.units (any-all shape.units) [] numbered.middle scripted.value scripted.middle scripted.first tt;
+            s q h) shape.units (any-all shape.units) [] numbered.middle scripted.value scripted.middle scripted.first
+            tt;
         store = store-valid version scripted.middle stored.value stored.middle stored.first;
       } in
       subst (IsObject library) (sym is) valid

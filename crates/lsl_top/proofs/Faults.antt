@@ -29,7 +29,8 @@ at-place place (Fault fault) refused e = record { fault = fault; was = refl; is 
     value NoMemory = refused
 at-place place NoMemory refused e = absurd (cc)
 
-pub refused-place : {T : Type 0} (place : ℕ) (refusal : Refusal BuildFault) (result : Refusal Refused) (refused : Refused)
+pub refused-place : {T : Type 0} (place : ℕ) (refusal : Refusal BuildFault) (result : Refusal Refused)
+    (refused : Refused)
     → result ≡ refused_at place refusal → IsErrOf {T = T} (Err result) (Fault refused) → IsAt place refusal refused
 refused-place {T = T} place refusal result refused e is =
     at-place place refusal refused (sym e ∙ err-one {T = T} result (Fault refused) is)

@@ -94,7 +94,8 @@ finish-memory IsAnswer a = record {
 
 -- what keeps to some answers keeps to answers that these are
 keeps-as : (IsOne IsOther : Answer → Type 0) (status : Status) (old new : Option (List ℕ))
-    → ((answer : Answer) → IsOne answer → IsOther answer) → KeepsTo IsOne status old new → KeepsTo IsOther status old new
+    → ((answer : Answer) → IsOne answer → IsOther answer) → KeepsTo IsOne status old new
+    → KeepsTo IsOther status old new
 keeps-as IsOne IsOther Ok old new f k = (k.0, f k.0 k.1, k.2, k.3)
 keeps-as IsOne IsOther BadWorld old new f k = (k.0, f k.0 k.1, k.2, k.3)
 keeps-as IsOne IsOther BadScript old new f k = (k.0, f k.0 k.1, k.2, k.3)
@@ -170,8 +171,12 @@ pub serve-later : (IsOne IsAnswer : Answer → Type 0) (IsOneName IsName : List 
 serve-later IsOne IsAnswer IsOneName IsName held later faults counted sunk writes new status same fell f g h = record {
   keeps = keeps-as IsOne IsAnswer status sunk new.log.sunk f h.keeps;
   nothing = h.nothing;
-  read_fault = λ e. let (name, is, rose) = h.read_fault e in
-      (name, g name is, rose-later (faults name) (counted name) (new.read_faults name) (fell name) (h.reads_counted name) rose);
+  read_fault = λ e. let (name, is, rose) = h.read_fault e in (
+    name,
+    g name is,
+    rose-later (faults name) (counted name) (new.read_faults name) (fell name)
+        (h.reads_counted name) rose,
+  );
   write_fault = h.write_fault;
   no_usage = h.no_usage;
   unchanged = h.unchanged ∙ same;

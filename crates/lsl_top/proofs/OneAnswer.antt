@@ -62,7 +62,8 @@ accepted-at (t ∷ texts) (p ∷ programs) zero text h e =
 accepted-at (t ∷ texts) (p ∷ programs) (suc place) text h e = accepted-at texts programs place text h.1 e
 
 -- the element at a place before another is among those before that
-get-take : (texts : List (List ℕ)) (place end : ℕ) → place < end → slice_get (take end texts) place ≡ slice_get texts place
+get-take : (texts : List (List ℕ)) (place end : ℕ) → place < end
+    → slice_get (take end texts) place ≡ slice_get texts place
 get-take texts place zero lt = absurd (omega arith)
 get-take [] place (suc end) lt = refl
 get-take (t ∷ texts) zero (suc end) lt = refl
@@ -80,7 +81,8 @@ not_before texts a b f g r s lt =
     let (p, accepted) = accepted-at (take b texts) s.before.0 a r.text s.before.1 (get-take texts a b lt ∙ r.text_is) in
     no_fault r.text p f accepted r.first
 
-places-one : (texts : List (List ℕ)) (a b : ℕ) (f g : BuildFault) → IsRefusedAt texts a f → IsRefusedAt texts b g → a ≡ b
+places-one : (texts : List (List ℕ)) (a b : ℕ) (f g : BuildFault) → IsRefusedAt texts a f → IsRefusedAt texts b g
+    → a ≡ b
 places-one texts a b f g r s = elim (cases_lt a b) [
   | inl lt ↦ absurd (not_before texts a b f g r s lt)
   | inr le ↦ elim (cases_lt b a) [

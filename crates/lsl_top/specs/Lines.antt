@@ -25,4 +25,5 @@ refusal_of file fault =
 -- the refusal of a world file for a fault
 abbrev pub world_refusal_of : List ℕ → FileFault → List ℕ
 world_refusal_of file fault =
-    codes "bad world " ++ (quoted file ++ (codes " line " ++ (decimal fault.line ++ fault_words (number_of_kind fault.kind))))
+    codes "bad world " ++ (quoted file ++ (codes " line "
+    ++ (decimal fault.line ++ fault_words (number_of_kind fault.kind))))

@@ -17,4 +17,5 @@ returns-clause-only c =
 
 pub returns-clause-asks : goal.returns-clause-asks
 returns-clause-asks c =
-    IfOk-weaker c.compiled.result _ _ (λ b h. few_asks (program_of b.program) b.code h.functions) c.compiled.ensures.code
+    IfOk-weaker c.compiled.result _ _ (λ b h. few_asks (program_of b.program) b.code h.functions)
+    c.compiled.ensures.code

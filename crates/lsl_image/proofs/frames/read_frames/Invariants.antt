@@ -9,6 +9,7 @@ abbrev pub invariant-loop-i : goal.invariant-loop-i
 invariant-loop-i l = record {
   many : length l.frames.items ≡ l.i;
   callee : l.callee ≡ callee_of l.frames.items;
-  leads : Leads l.bytes (grown (l.count - l.i) (frame_behind l.unit l.handler l.count) l.frames.items) l.next (λ list. list)
+  leads : Leads l.bytes (grown (l.count - l.i) (frame_behind l.unit l.handler l.count) l.frames.items) l.next
+      (λ list. list)
       (grown l.count (frame_behind l.unit l.handler l.count) []) l.place;
 }

@@ -6,33 +6,47 @@ use Rattle.lsl_image.proofs.images.read_world.Goals as goal
 
 pub returns-in_err-fields : goal.returns-in_err-fields
 returns-in_err-fields c =
-    let refused = outer-refused (world c.args.shapes.now c.args.library.now) c.args.bytes.now _ c.in_err-fields.ensures in
+    let refused = outer-refused (world c.args.shapes.now c.args.library.now) c.args.bytes.now _ c.in_err-fields.ensures
+    in
     record {
-      found = refused-found (world c.args.shapes.now c.args.library.now) c.args.bytes.now c.in_err-fields.field-0.0 _ c.from_residual.ensures.1;
-      every = λ parts h. refused-every (world c.args.shapes.now c.args.library.now) c.args.bytes.now c.in_err-fields.field-0.0 _ c.from_residual.ensures.1 refused parts h;
-      first = refused-first (world c.args.shapes.now c.args.library.now) c.args.bytes.now c.in_err-fields.field-0.0 _ c.from_residual.ensures.1 refused;
-      only = λ fault h. refused-only (world c.args.shapes.now c.args.library.now) c.args.bytes.now c.in_err-fields.field-0.0 _ c.from_residual.ensures.1 refused fault h;
+      found = refused-found (world c.args.shapes.now c.args.library.now) c.args.bytes.now c.in_err-fields.field-0.0 _
+          c.from_residual.ensures.1;
+      every = λ parts h. refused-every (world c.args.shapes.now c.args.library.now) c.args.bytes.now
+          c.in_err-fields.field-0.0 _ c.from_residual.ensures.1 refused parts h;
+      first = refused-first (world c.args.shapes.now c.args.library.now) c.args.bytes.now c.in_err-fields.field-0.0 _
+          c.from_residual.ensures.1 refused;
+      only = λ fault h. refused-only (world c.args.shapes.now c.args.library.now) c.args.bytes.now
+          c.in_err-fields.field-0.0 _ c.from_residual.ensures.1 refused fault h;
     }
 
 pub returns-in_err-parts : goal.returns-in_err-parts
 returns-in_err-parts c =
-    let refused = read-refused (world c.args.shapes.now c.args.library.now) c.args.bytes.now c.in_ok-fields.fields.now c.in_ok-fields.ensures.0
+    let refused = read-refused (world c.args.shapes.now c.args.library.now) c.args.bytes.now c.in_ok-fields.fields.now
+    c.in_ok-fields.ensures.0
     c.in_ok-fields.ensures.1 c.in_err-parts.field-0.0 c.in_err-parts.ensures in
     record {
-      found = refused-found (world c.args.shapes.now c.args.library.now) c.args.bytes.now c.in_err-parts.field-0.0 _ c.from_residual-in_err-parts.ensures.1;
-      every = λ parts h. refused-every (world c.args.shapes.now c.args.library.now) c.args.bytes.now c.in_err-parts.field-0.0 _ c.from_residual-in_err-parts.ensures.1 refused parts h;
-      first = refused-first (world c.args.shapes.now c.args.library.now) c.args.bytes.now c.in_err-parts.field-0.0 _ c.from_residual-in_err-parts.ensures.1 refused;
-      only = λ fault h. refused-only (world c.args.shapes.now c.args.library.now) c.args.bytes.now c.in_err-parts.field-0.0 _ c.from_residual-in_err-parts.ensures.1 refused fault h;
+      found = refused-found (world c.args.shapes.now c.args.library.now) c.args.bytes.now c.in_err-parts.field-0.0 _
+          c.from_residual-in_err-parts.ensures.1;
+      every = λ parts h. refused-every (world c.args.shapes.now c.args.library.now) c.args.bytes.now
+          c.in_err-parts.field-0.0 _ c.from_residual-in_err-parts.ensures.1 refused parts h;
+      first = refused-first (world c.args.shapes.now c.args.library.now) c.args.bytes.now c.in_err-parts.field-0.0 _
+          c.from_residual-in_err-parts.ensures.1 refused;
+      only = λ fault h. refused-only (world c.args.shapes.now c.args.library.now) c.args.bytes.now
+          c.in_err-parts.field-0.0 _ c.from_residual-in_err-parts.ensures.1 refused fault h;
     }
 
 pub returns : goal.returns
 returns c =
-    let image = read-image (world c.args.shapes.now c.args.library.now) c.args.bytes.now c.in_ok-fields.fields.now c.in_ok-fields.ensures.0 c.in_ok-fields.ensures.1
-    c.in_ok-parts.parts _ (world-ends c.in_ok-fields.fields.now c.args.shapes.now c.args.library.now (length c.in_ok-fields.fields.now) 0
+    let image = read-image (world c.args.shapes.now c.args.library.now) c.args.bytes.now c.in_ok-fields.fields.now
+    c.in_ok-fields.ensures.0 c.in_ok-fields.ensures.1
+    c.in_ok-parts.parts _ (world-ends c.in_ok-fields.fields.now c.args.shapes.now c.args.library.now
+    (length c.in_ok-fields.fields.now) 0
     c.in_ok-parts.parts _ c.in_ok-parts.ensures) c.in_ok-parts.ensures in
     record {
       found = image;
-      every = λ other h. image-one (world c.args.shapes.now c.args.library.now) c.args.bytes.now c.in_ok-parts.parts other image h;
+      every = λ other h. image-one (world c.args.shapes.now c.args.library.now) c.args.bytes.now c.in_ok-parts.parts
+          other image h;
       first = tt;
-      only = λ fault h. image-no_fault (world c.args.shapes.now c.args.library.now) c.args.bytes.now c.in_ok-parts.parts fault image h;
+      only = λ fault h. image-no_fault (world c.args.shapes.now c.args.library.now) c.args.bytes.now c.in_ok-parts.parts
+          fault image h;
     }

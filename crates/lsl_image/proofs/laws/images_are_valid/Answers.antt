@@ -8,5 +8,6 @@ returns c = record {
       object-valid (covered bytes) region shape library (digested bytes) key 0 a (digested bytes)
       (record { gives = image.1 });
   worlds = λ shapes library bytes a keys image.
-      world-valid (covered bytes) shapes library (digested bytes) keys 0 a (digested bytes) (record { gives = image.1 });
+      world-valid (covered bytes) shapes library (digested bytes) keys 0 a (digested bytes)
+      (record { gives = image.1 });
 }

@@ -18,7 +18,8 @@ loop-i-preserved c =
 pub returns-in_err-listen : goal.returns-in_err-listen
 returns-in_err-listen c =
     leads-stops listen_behind c.loop-i.list c.args.count c.loop-i.i _ _ c.loop-i-test.true c.loop-i.invariant
-    (subst (λ (ls : List Listen). Reads c.args.bytes.now (listen_behind ls) c.loop-i.next (Err c.in_err-listen.field-0.0))
+    (subst (λ (ls : List Listen). Reads c.args.bytes.now (listen_behind ls) c.loop-i.next
+    (Err c.in_err-listen.field-0.0))
     c.as_slice.ensures c.in_err-listen.ensures) c.from_residual.ensures.1
 
 pub returns : goal.returns

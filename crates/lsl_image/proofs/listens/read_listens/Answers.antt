@@ -14,17 +14,21 @@ use Rattle.lsl_image.proofs.listens.read_listens.Goals as goal
 pub returns-in_err-number : goal.returns-in_err-number
 unfolding listens
 returns-in_err-number c =
-    leads-exits _ _ _ _ (leads-all c.args.bytes.now (listens) c.args.place) c.in_err-number.ensures c.from_residual.ensures.1
+    leads-exits _ _ _ _ (leads-all c.args.bytes.now (listens) c.args.place) c.in_err-number.ensures
+    c.from_residual.ensures.1
 
 pub returns-in_err-count : goal.returns-in_err-count
 unfolding listens
 returns-in_err-count c =
-    leads-exits _ _ _ _ (leads-then _ _ (leads-all c.args.bytes.now (listens) c.args.place) c.in_ok-number.ensures) c.in_err-count.ensures.read c.from_residual-in_err-count.ensures.1
+    leads-exits _ _ _ _ (leads-then _ _ (leads-all c.args.bytes.now (listens) c.args.place) c.in_ok-number.ensures)
+    c.in_err-count.ensures.read c.from_residual-in_err-count.ensures.1
 
 pub returns-in_err-list : goal.returns-in_err-list
 unfolding listens
 returns-in_err-list c =
-    leads-exits _ _ _ _ (leads-then _ _ (leads-then _ _ (leads-all c.args.bytes.now (listens) c.args.place) c.in_ok-number.ensures) c.in_ok-count.ensures.read) c.in_err-list.ensures c.from_residual-in_err-list.ensures.1
+    leads-exits _ _ _ _ (leads-then _ _ (leads-then _ _
+    (leads-all c.args.bytes.now (listens) c.args.place) c.in_ok-number.ensures) c.in_ok-count.ensures.read)
+    c.in_err-list.ensures c.from_residual-in_err-list.ensures.1
 
 pub from_list-requires : goal.from_list-requires
 from_list-requires c =

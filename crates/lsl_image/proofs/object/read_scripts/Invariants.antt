@@ -7,5 +7,6 @@ use Rattle.lsl_image.proofs.object.read_scripts.Given as goal
 -- so many are read
 abbrev pub invariant-loop-number : goal.invariant-loop-number
 invariant-loop-number l = Leads l.bytes
-    (each_behind (λ number. script_of l.version number (slice_get l.library number)) (drop l.number-index l.units) l.scripts) l.next
+    (each_behind (λ number. script_of l.version number (slice_get l.library number))
+    (drop l.number-index l.units) l.scripts) l.next
     (λ list. list) (each (λ number. script_of l.version number (slice_get l.library number)) l.units) l.place

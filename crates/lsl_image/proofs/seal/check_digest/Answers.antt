@@ -22,6 +22,8 @@ returns-then-not-are_same c = (
 
 pub returns : goal.returns
 returns c =
-    sym (last-are c.args.bytes.now c.in_ok-wanted.wanted c.args.end 32 c.in_ok-wanted._next c.requires c.in_ok-wanted.ensures)
-    ∙ sym ((bytes_eq-Decides c.digest_of-found.result c.in_ok-wanted.wanted).0 (sym c.are_same.ensures ∙ c.if-not-are_same.false))
+    sym (last-are c.args.bytes.now c.in_ok-wanted.wanted c.args.end 32 c.in_ok-wanted._next c.requires
+    c.in_ok-wanted.ensures)
+    ∙ sym ((bytes_eq-Decides c.digest_of-found.result c.in_ok-wanted.wanted).0
+    (sym c.are_same.ensures ∙ c.if-not-are_same.false))
     ∙ c.digest_of-found.ensures

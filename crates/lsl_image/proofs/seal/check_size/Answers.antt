@@ -13,7 +13,11 @@ returns-then-wanted-bytes c =
     let named : NamesSize c.args.bytes.now c.from_be_bytes-wanted.result =
     size-named c.args.bytes.now c.in_ok-size.size c.from_be_bytes-wanted.result c.in_ok-size._next
     (λ i. omega (arith, c.type_inv.bytes i)) (omega arith) c.from_be_bytes-wanted.ensures c.in_ok-size.ensures in
-    rw c.other_size-then-wanted-bytes.ensures (refl, inr (c.if-bytes-lt-LEAST_BYTES.false, named, c.if-wanted-bytes.true))
+    rw c.other_size-then-wanted-bytes.ensures (
+      refl,
+      inr
+          (c.if-bytes-lt-LEAST_BYTES.false, named, c.if-wanted-bytes.true),
+    )
 
 pub returns : goal.returns
 returns c =

@@ -13,7 +13,8 @@ loop-i-init c = record {
 }
 
 pub read_pair-requires : goal.read_pair-requires
-read_pair-requires c = ap (λ pairs. sum_by pair_bytes pairs + c.loop-i.room) c.as_slice.ensures ∙ c.loop-i.invariant.left
+read_pair-requires c = ap (λ pairs. sum_by pair_bytes pairs + c.loop-i.room) c.as_slice.ensures
+    ∙ c.loop-i.invariant.left
 
 pub loop-i-preserved : goal.loop-i-preserved
 loop-i-preserved c =

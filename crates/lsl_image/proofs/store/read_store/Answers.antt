@@ -3,7 +3,8 @@ use Rattle.lsl_image.proofs.LeadingLemmas.{leads-exits, leads-reads, leads-then}
 use Rattle.lsl_image.proofs.store.read_store.Goals as goal
 
 pub returns-then-version-eq1 : goal.returns-then-version-eq1
-returns-then-version-eq1 c = store-none c.args.bytes.now c.args.version c.args.place _ c.if-version-eq1.true c.new.ensures
+returns-then-version-eq1 c = store-none c.args.bytes.now c.args.version c.args.place _ c.if-version-eq1.true
+    c.new.ensures
 
 pub returns-in_err-count : goal.returns-in_err-count
 returns-in_err-count c =

@@ -11,7 +11,8 @@ use Rattle.lsl_image.proofs.write_images.write_object.Goals as goal
 
 pub returns-clause-bytes : goal.returns-clause-bytes
 returns-clause-bytes c =
-    let fields = fields-are c.in_ok-out.out.items c.write_object_fields.new.out.items (text_bytes c.args.region.now ++ body_bytes 2 c.args.library.now c.args.parts.now) c.in_ok-out.ensures
+    let fields = fields-are c.in_ok-out.out.items c.write_object_fields.new.out.items
+    (text_bytes c.args.region.now ++ body_bytes 2 c.args.library.now c.args.parts.now) c.in_ok-out.ensures
     c.in_ok-write_object_fields.ensures.ok in
     IfOk-weaker c.sealed.result _ _ (λ image is. is ∙ ap (image_bytes (codes "LSLO") 2) fields) c.sealed.ensures.bytes
 
@@ -21,6 +22,9 @@ returns-clause-image c =
     let fields = fields-are c.in_ok-out.out.items c.write_object_fields.new.out.items parts c.in_ok-out.ensures
     c.in_ok-write_object_fields.ensures.ok in
     ok-both c.sealed.result _ _ _ (λ image is small.
-    image-spells (object c.args.region.now (shape_of c.args.parts.now) c.args.library.now) (codes "LSLO") parts image.items c.args.parts.now refl
+    image-spells (object c.args.region.now (shape_of c.args.parts.now) c.args.library.now)
+    (codes "LSLO") parts image.items c.args.parts.now refl
     (is ∙ ap (image_bytes (codes "LSLO") 2) fields) small (λ whole few same.
-    object-spells c.args.region.now c.args.library.now c.args.parts.now (14 + length parts + 32) c.requires c.in_ok-write_object_fields.ensures.fits c.in_ok-write_object_fields.ensures.region few whole same)) c.sealed.ensures.bytes c.sealed.ensures.small
+    object-spells c.args.region.now c.args.library.now c.args.parts.now
+    (14 + length parts + 32) c.requires c.in_ok-write_object_fields.ensures.fits
+    c.in_ok-write_object_fields.ensures.region few whole same)) c.sealed.ensures.bytes c.sealed.ensures.small

@@ -10,7 +10,8 @@ use Rattle.lsl_image.proofs.write_images.write_world.Goals as goal
 
 pub returns-clause-bytes : goal.returns-clause-bytes
 returns-clause-bytes c =
-    let fields = fields-are c.in_ok-out.out.items c.write_world_fields.new.out.items (objects_bytes 2 c.args.library.now c.args.parts.now) c.in_ok-out.ensures
+    let fields = fields-are c.in_ok-out.out.items c.write_world_fields.new.out.items
+    (objects_bytes 2 c.args.library.now c.args.parts.now) c.in_ok-out.ensures
     c.in_ok-write_world_fields.ensures.ok in
     IfOk-weaker c.sealed.result _ _ (λ image is. is ∙ ap (image_bytes (codes "LSLW") 2) fields) c.sealed.ensures.bytes
 
@@ -20,6 +21,8 @@ returns-clause-image c =
     let fields = fields-are c.in_ok-out.out.items c.write_world_fields.new.out.items parts c.in_ok-out.ensures
     c.in_ok-write_world_fields.ensures.ok in
     ok-both c.sealed.result _ _ _ (λ image is small.
-    image-spells (world (shapes_of c.args.parts.now) c.args.library.now) (codes "LSLW") parts image.items c.args.parts.now refl
+    image-spells (world (shapes_of c.args.parts.now) c.args.library.now)
+    (codes "LSLW") parts image.items c.args.parts.now refl
     (is ∙ ap (image_bytes (codes "LSLW") 2) fields) small (λ whole few same.
-    world-spells c.args.library.now c.args.parts.now (14 + length parts + 32) c.requires c.in_ok-write_world_fields.ensures.fits few whole same)) c.sealed.ensures.bytes c.sealed.ensures.small
+    world-spells c.args.library.now c.args.parts.now (14 + length parts + 32) c.requires
+    c.in_ok-write_world_fields.ensures.fits few whole same)) c.sealed.ensures.bytes c.sealed.ensures.small

@@ -25,7 +25,8 @@ returns-in-Ok g c =
     (g.K.Sink.sunk c.args.sink.now) (g.K.Sink.faults c.args.sink.now)
     (ports (g.S.Shelf.held c.play.new.shelf) (g.S.Shelf.faults c.play.new.shelf) (g.K.Sink.sunk c.play.new.sink)
     (g.K.Sink.faults c.play.new.sink)) c.play.result refl (λ n. omega arith)
-    (λ answer h. subst (λ (w : WorldFile). Plays held (record { names = name ∷ []; world = w }) answer) c.in-Ok.ensures h)
+    (λ answer h. subst (λ (w : WorldFile). Plays held (record { names = name ∷ []; world = w }) answer) c.in-Ok.ensures
+    h)
     (λ n h. only-name name n h) c.play.ensures
 
 pub returns-in-Err : goal.returns-in-Err

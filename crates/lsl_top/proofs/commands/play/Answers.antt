@@ -41,7 +41,8 @@ returns-in-Ok g c =
       texts,
       are,
       plays-read play bytes texts answer of
-          (subst (λ (z : List (Vec ℕ Global)). PlaysTexts play (map (λ t. t.items) z) answer) c.as_slice.ensures.value h),
+          (subst (λ (z : List (Vec ℕ Global)). PlaysTexts play (map (λ t. t.items) z) answer) c.as_slice.ensures.value
+          h),
     ))
     c.write_play.ensures
 

@@ -24,7 +24,8 @@ returns-in-Err-Fault g c =
     let text = c.args.text.now in
     let fault = c.in-Err-Fault.fault in
     let old = log (g.K.Sink.sunk c.args.sink.now) (g.K.Sink.faults c.args.sink.now) in
-    let new = log (g.K.Sink.sunk c.write_line-in-Err-Fault.new.sink) (g.K.Sink.faults c.write_line-in-Err-Fault.new.sink) in
+    let new = log (g.K.Sink.sunk c.write_line-in-Err-Fault.new.sink)
+    (g.K.Sink.faults c.write_line-in-Err-Fault.new.sink) in
     subst (λ (status : Status). Finishes (Checks name text) old new status) (sym c.status_after-in-Err-Fault.ensures)
     (finish-written (Checks name text) (script_refused name fault) old new c.write_line-in-Err-Fault.result tt
     (inr (fault, c.in-Err-Fault.ensures.first fault (ap (λ r. Err r) c.in-Err-Fault.field-0-is), refl))

@@ -58,7 +58,8 @@ returns-in-Err-Fault g c =
     let refused = c.in-Err-Fault.refused in
     let at = c.in-Err-Fault.ensures.refused refused (ap (λ r. Err r) c.in-Err-Fault.field-0-is) in
     let name = c.name_at.result.now in
-    subst (λ (status : Status). Finishes (PlaysTexts play texts) old new status) (sym c.status_after-in-Err-Fault.ensures)
+    subst (λ (status : Status). Finishes (PlaysTexts play texts) old new status)
+    (sym c.status_after-in-Err-Fault.ensures)
     (finish-written (PlaysTexts play texts) (script_refused name refused.fault) old new c.write_line.result tt
     (inr (name, refused.fault, record { place = refused.place; named = c.name_at.ensures; refused = at }, refl))
     (c.write_line.ensures (refusal_of name refused.fault) c.refusal.ensures))

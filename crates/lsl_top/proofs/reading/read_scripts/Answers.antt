@@ -13,7 +13,8 @@ loop-name-preserved g c =
     let now = c.in_ok-text.ensures in
     record {
       read = subst
-          (λ texts. AllZip (IsRead held) (take (c.loop-name.name-index + 1) (map (λ (n : Bor (List ℕ)). n.now) c.args.names.now))
+          (λ texts. AllZip (IsRead held) (take (c.loop-name.name-index + 1)
+          (map (λ (n : Bor (List ℕ)). n.now) c.args.names.now))
           (map (λ t. t.items) texts))
           (sym c.in_ok-push_text.ensures)
           (zip-more (IsRead held) (λ (n : Bor (List ℕ)). n.now) (λ t. t.items) c.args.names.now c.loop-name.texts.items

@@ -9,6 +9,7 @@ pub returns : goal.returns
 returns g c = λ programs w is.
     let entries = c.as_slice.ensures ∙ c.in_ok-homes.ensures programs w is
     ∙ ap (λ (es : List Entry). es ++ homes w) c.new-entries.ensures in
-    subst (λ (es : List Entry). Writes (lines_of es) (log (g.K.Sink.sunk c.args.sink.now) (g.K.Sink.faults c.args.sink.now))
+    subst (λ (es : List Entry). Writes (lines_of es) (log (g.K.Sink.sunk c.args.sink.now)
+    (g.K.Sink.faults c.args.sink.now))
     (log (g.K.Sink.sunk c.write_entries.new.sink) (g.K.Sink.faults c.write_entries.new.sink)) c.write_entries.result)
     entries c.write_entries.ensures

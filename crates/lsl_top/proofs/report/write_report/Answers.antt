@@ -16,7 +16,8 @@ use Rattle.lsl_top.proofs.report.write_report.Goals as goal
 
 pub returns-in_err-write_steps : goal.returns-in_err-write_steps
 returns-in_err-write_steps g c =
-    let p = err_from_is_err_and c.from_residual-in_err-write_steps.result c.from_residual-in_err-write_steps.ensures.1 in
+    let p = err_from_is_err_and c.from_residual-in_err-write_steps.result c.from_residual-in_err-write_steps.ensures.1
+    in
     rw (p.1, p.2)
     (λ programs run.
     let w = start (rules_of programs) c.args.file.now in

@@ -15,6 +15,7 @@ invariant-loop-step g l =
       size : size_of l.world ≡ size_of l.fn.world;
       stepping : (programs : List Program) (w : SourceWorld) → IsOf programs l.fn.world w →
           Stepping (IsOf programs l.world) (reference (rules_of programs) l.steps w)
-          (log (g.K.Sink.sunk l.fn.sink) (g.K.Sink.faults l.fn.sink)) (log (g.K.Sink.sunk l.sink) (g.K.Sink.faults l.sink))
+          (log (g.K.Sink.sunk l.fn.sink) (g.K.Sink.faults l.fn.sink))
+          (log (g.K.Sink.sunk l.sink) (g.K.Sink.faults l.sink))
           (each_of (next (rules_of programs)) (drop l.step-index l.steps));
     }
