@@ -7,5 +7,7 @@ pub mod Kept
 pub mod Seams
 pub mod Telling
 pub mod Walking
+pub mod Spans
+pub mod Alone
 pub mod Filling
 pub mod Beginning

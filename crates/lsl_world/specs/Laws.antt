@@ -1,13 +1,20 @@
--- What holds of every run of steps.
-use Rattle.std.specs.Prelude.{◌≡◌, List, ◌++◌}
+-- What holds of every run.
+use Rattle.std.specs.Prelude.{◌≡◌, ℕ, List, ◌++◌, length}
 use Rattle.lsl_lines.specs.declared.file.Step.{Step}
-use Rattle.lsl_post.specs.Told.{next_to}
+use Rattle.lsl_post.specs.Told.{as_value, next_to}
 use Rattle.lsl_script.specs.Rules.{Rules}
+use Rattle.lsl_region.specs.Segments.{turn}
 use Rattle.lsl_region.specs.Worlds.{World}
-use Rattle.lsl_world.specs.Steps.{reference}
+use Rattle.lsl_world.specs.Steps.{reference, rounds}
 
 -- a run of two lists of steps is the run of the first, and then the run of the second from where that ended
 abbrev pub TwoListsAreTwoRuns : Type 0
 TwoListsAreTwoRuns =
     (r : Rules) (first second : List Step) (w : World)
     → reference r (first ++ second) w ≡ next_to (reference r first w) (reference r second)
+
+-- where there is one script, rounds of at most so many segments are one turn of at most so many
+abbrev pub OneScriptHasOneTurn : Type 0
+OneScriptHasOneTurn =
+    (r : Rules) (most : ℕ) (w : World) → length w.members ≡ 1
+    → rounds r most w ≡ as_value (λ x. x.0) (turn r most 0 w)

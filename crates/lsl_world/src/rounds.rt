@@ -42,8 +42,22 @@ impl World {
         self.grid.read_timer(script, self.clock, &self.units, out)
     }
 
-    /// Rounds, until one finds no script ready or so many segments have run.
+    /// Rounds, until one finds no script ready or so many segments have run. Costs the segments, and in each round a
+    /// look at every script and one saving of each that ran; with one script, which has one turn, one saving in all.
     pub(crate) fn run(&mut self, most: u32, out: &mut Entries) -> Result<(), NoMemory>
+        requires some { (programs : List Program) × (w : SourceWorld) × IsOf programs self.old w }
+        ensures { (programs : List Program) (w : SourceWorld) → IsOf programs self.old w
+            → Tells result (λ v _. IsOf programs self.new v) out.old out.new (rounds (rules_of programs) most w) }
+    {
+        if self.grid.scripts() == 1 {
+            self.go(1, most, out)
+        } else {
+            self.rounds(most, out)
+        }
+    }
+
+    // The same however many scripts there are.
+    fn rounds(&mut self, most: u32, out: &mut Entries) -> Result<(), NoMemory>
         requires some { (programs : List Program) × (w : SourceWorld) × IsOf programs self.old w }
         ensures { (programs : List Program) (w : SourceWorld) → IsOf programs self.old w
             → Tells result (λ v _. IsOf programs self.new v) out.old out.new (rounds (rules_of programs) most w) }

@@ -108,8 +108,8 @@ impl World {
         self.read_timers(out)
     }
 
-    // Segments of a script, at most so many.
-    fn go(&mut self, script: u32, most: u32, out: &mut Entries) -> Result<(), NoMemory>
+    /// Segments of a script, at most so many.
+    pub(crate) fn go(&mut self, script: u32, most: u32, out: &mut Entries) -> Result<(), NoMemory>
         requires some { (programs : List Program) × (w : SourceWorld) × IsOf programs self.old w }
         requires script { HasNumber (length self.old.grid.seats) script }
         ensures { (programs : List Program) (w : SourceWorld) → IsOf programs self.old w
