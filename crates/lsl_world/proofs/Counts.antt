@@ -1,6 +1,6 @@
 -- No step changes how many objects, prims and scripts a world has.
 use Rattle.std.proofs.Common.{◌≡◌, ℕ, zero, suc, ◌+◌, ◌-◌, Bool, true, false, List, [], ◌∷◌, length, get_or, refl, ap, sym, ◌∙◌}
-use Rattle.std.specs.Prelude.{Option, Some, None, ℤ, if◌then◌else◌, not, max, min, map, pos, slice_get, slice_set, Result, Ok, Err, OnOk}
+use Rattle.std.specs.Prelude.{Option, Some, None, if◌then◌else◌, not, max, min, map, pos, slice_get, slice_set, Result, Ok, Err, OnOk}
 use Rattle.std.specs.Ordering.{int_eq}
 use Rattle.std.proofs.Math.ListN.{length-set}
 use Rattle.lsl_value.specs.declared.names.BuiltinId.{BuiltinId}
@@ -13,15 +13,13 @@ use Rattle.lsl_lines.specs.declared.file.Step.TheVariants.{Clock, Say, Touch, Ch
 use Rattle.lsl_post.specs.declared.entries.Entry.{Entry}
 use Rattle.lsl_post.specs.declared.entries.Voice.TheVariants as voice
 use Rattle.lsl_post.specs.declared.events.Event.{Event}
-use Rattle.lsl_post.specs.Filters.{filter}
 use Rattle.lsl_post.specs.Journal.{Tells}
-use Rattle.lsl_post.specs.Listens.{Standing, listened}
 use Rattle.lsl_post.specs.Told.{Told, as_value, each, next_to, quiet, until}
 use Rattle.lsl_script.specs.Handlers.{given}
 use Rattle.lsl_script.specs.Rules.{Rules}
 use Rattle.lsl_script.specs.Scripts.{Doing, Resting, Flying, Stopped, Flight, Script}
 use Rattle.lsl_region.specs.declared.objects.Linkset.{Linkset}
-use Rattle.lsl_region.specs.Answers.{answer, answer_in, answer_of, integer_at, nothing, says, text_at, mailed, with_mailed}
+use Rattle.lsl_region.specs.Answers.{answer, answer_in, answer_of, integer_at, nothing, says, mailed, with_mailed}
 use Rattle.lsl_region.specs.Arrivals.{touch, touch_prim}
 use Rattle.lsl_region.specs.Links.{prim_named}
 use Rattle.lsl_region.specs.Posting.{post_all, post_where, ring_at}
