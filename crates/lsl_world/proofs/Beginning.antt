@@ -63,7 +63,8 @@ module _ (codes : List Code) (m : Meant codes) where
   new-same code h =
       ap (λ (globals : List Value). made code globals ((rules_of codes).handler code 0 event.StateEntry))
       (sym (m.initial code h))
-      ∙ ap (λ (handler : Option ℕ). made code (m.rules.initial code) handler) (sym (m.handler code 0 event.StateEntry h))
+      ∙ ap (λ (handler : Option ℕ). made code (m.rules.initial code) handler)
+      (sym (m.handler code 0 event.StateEntry h))
 
   prim-same : (object prim : ℕ) (lines : List ScriptLine) → All (HasFile (length codes)) lines
       → members_of_prim (rules_of codes) object prim lines ≡ members_of_prim m.rules object prim lines

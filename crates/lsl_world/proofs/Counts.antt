@@ -140,7 +140,8 @@ segment-keeps r place w = go _ _ ∙ member-keeps place _ w where
 
 pub turn-keeps : (r : Rules) (most place : ℕ) (w : World) → sizes (turn r most place w).value.0 ≡ sizes w
 turn-keeps r most place w =
-    until-keeps {X = World × ℕ} (λ x. sizes x.0) (λ x. not (is_ready_at x.0 place)) (λ x. as_value (λ v. (v, x.1 + 1)) (segment r place x.0))
+    until-keeps {X = World × ℕ} (λ x. sizes x.0) (λ x. not (is_ready_at x.0 place))
+    (λ x. as_value (λ v. (v, x.1 + 1)) (segment r place x.0))
     (λ x. segment-keeps r place x.0) most (w, 0)
 
 pub ring_at-keeps : (r : Rules) (place : ℕ) (w : World) → sizes (ring_at r place w).value ≡ sizes w
@@ -155,7 +156,8 @@ touch-keeps r object link key name w = go (prim_named (length (object_at w objec
 
 round-keeps : (r : Rules) (x : World × ℕ) → sizes (round r x).value.0 ≡ sizes x.0
 round-keeps r x =
-    each-keeps {X = World × ℕ} (λ y. sizes y.0) (turn_in r) (λ n y. turn-keeps r (min 8 y.1) n y.0) (length x.0.members) 0 x
+    each-keeps {X = World × ℕ} (λ y. sizes y.0) (turn_in r) (λ n y. turn-keeps r (min 8 y.1) n y.0)
+    (length x.0.members) 0 x
 
 -- whatever the step
 pub next-keeps : (r : Rules) (step : Step) (w : World) → sizes (next r step w).value ≡ sizes w
@@ -167,7 +169,8 @@ next-keeps r (Changed object flags) w = post-keeps r _ _ w
 next-keeps r (Rez object n) w = post-keeps r _ _ w
 next-keeps r (Go script most) w = turn-keeps r most (script - 1) w
 next-keeps r (Run most) w =
-    until-keeps {X = World × (ℕ × Bool)} (λ x. sizes x.0) (λ x. x.1.1) (round_or_last r) (λ x. round-keeps r (x.0, x.1.0)) most (w, (most, false))
+    until-keeps {X = World × (ℕ × Bool)} (λ x. sizes x.0) (λ x. x.1.1) (round_or_last r)
+    (λ x. round-keeps r (x.0, x.1.0)) most (w, (most, false))
 next-keeps r (Pause gaps) w = refl
 next-keeps r (Cross object region) w = refl
 

@@ -21,7 +21,10 @@ module _ {T E : Type 0} (programs : List Program) (world : World) (w : SourceWor
   pub changed : (r : Result T E) (a : Told SourceWorld) → OnOk r (AreSeated world.units grid.seats)
       → Tells r (λ v _. Stands world.units None world.clock grid v) old now a
       → Tells r (λ v _. IsOf programs (with_grid world grid) v) old now a
-  changed (Ok t) a seated told = (record { runs = is.runs; seated = seated; timely = is.timely; stands = told.0 }, told.1)
+  changed (Ok t) a seated told = (
+    record { runs = is.runs; seated = seated; timely = is.timely; stands = told.0 },
+    told.1,
+  )
   changed (Err e) a seated told = told
 
 module _ {E : Type 0} (programs : List Program) (world : World) (w : SourceWorld) (is : IsOf programs world w)
@@ -35,7 +38,8 @@ module _ {E : Type 0} (programs : List Program) (world : World) (w : SourceWorld
 
 -- the clock is read
 pub later : (programs : List Program) (world : World) (w : SourceWorld) (clock : ℕ) → IsOf programs world w
-    → clock ≤ latest_clock → IsOf programs (record { clock = clock; grid = world.grid; units = world.units }) (record w { clock = clock })
+    → clock ≤ latest_clock → IsOf programs (record { clock = clock; grid = world.grid; units = world.units })
+    (record w { clock = clock })
 later programs world w clock is timely = record {
   runs = is.runs;
   seated = is.seated;

@@ -54,7 +54,8 @@ fits-none : (size : Size) (steps : List TheStep) → steps ≡ [] → All (IsSte
 fits-none size steps e = subst (λ (s : List TheStep). All (IsStepOf size) s) (sym e) (All-nil (IsStepOf size))
 
 -- more files
-file-later : (files more : ℕ) (scripts : List ScriptLine) → files ≤ more → All (HasFile files) scripts → All (HasFile more) scripts
+file-later : (files more : ℕ) (scripts : List ScriptLine) → files ≤ more → All (HasFile files) scripts
+    → All (HasFile more) scripts
 file-later files more scripts le h = λ k d lt. let it = h k d lt in omega arith
 
 object-later : (files more : ℕ) (o : ObjectLine) → files ≤ more → IsObjectOf files o → IsObjectOf more o
@@ -181,7 +182,8 @@ object-sound key name owner region r s =
     let o = new_object key name owner region in
     let lt = ltb-true (length r.objects) 64 few in
     objects-sound r (r.objects ++ o ∷ []) r.scripts r.files keys s part
-    (omega (arith, length-append r.objects (o ∷ []), lt)) (s.counted ∙ sym (scripts-more r.objects o ∙ add-zero (scripts_of r.objects)))
+    (omega (arith, length-append r.objects (o ∷ []), lt))
+    (s.counted ∙ sym (scripts-more r.objects o ∙ add-zero (scripts_of r.objects)))
     s.few_scripts
     (All-push (IsObjectOf (length r.files)) r.objects o s.objects_fit
     (new-fits (length r.files) key name owner region)))))
@@ -192,7 +194,8 @@ all-front P front x h = λ k d lt.
     subst P (get_or-append front (x ∷ []) d k lt) (h k d (omega (arith, lt, length-append front (x ∷ []))))
 
 all-last : {X : Type 0} (P : X → Type 0) (front : List X) (x : X) → All P (front ++ x ∷ []) → P x
-all-last P front x h = subst P (get_or-append_seam front x [] x) (h (length front) x (omega (arith, length-append front (x ∷ []))))
+all-last P front x h = subst P (get_or-append_seam front x [] x)
+    (h (length front) x (omega (arith, length-append front (x ∷ []))))
 
 -- the last object was changed, so that it has so many more scripts
 last-sound : (r : Reading) (change : ObjectLine → Result ObjectLine FileKind) (objects : List ObjectLine) (more : ℕ)
@@ -204,7 +207,8 @@ last-sound : (r : Reading) (change : ObjectLine → Result ObjectLine FileKind) 
 last-sound r change objects more files keys s part c few grown changes =
     let P = IsObjectOf (length files) in
     let were : All P (c.front ++ c.from ∷ []) =
-    subst (λ (os : List ObjectLine). All P os) c.old (objects-later (length r.files) (length files) r.objects grown s.objects_fit) in
+    subst (λ (os : List ObjectLine). All P os) c.old (objects-later (length r.files)
+    (length files) r.objects grown s.objects_fit) in
     let (fits, scripts) = changes c.from c.to c.made (all-last P c.front c.from were) in
     let all : All P objects = subst (λ (os : List ObjectLine). All P os) (sym c.new)
     (All-push P c.front c.to (all-front P c.front c.from were) fits) in
@@ -298,7 +302,8 @@ script-fits script files from to there e h =
     (with_script_at_last script from) to e
     (fit-then (λ (o : ObjectLine). IsObjectOf files o × (scripts_of_prims o.prims ≡ scripts_of_prims from.prims + 1))
     (at_last (with_script script) from.prims) _
-    (λ prims m. changed prims (fit-ok (Changed (with_script script) from.prims) (at_last (with_script script) from.prims)
+    (λ prims m. changed prims (fit-ok (Changed (with_script script) from.prims)
+    (at_last (with_script script) from.prims)
     prims m (at_last-fit (with_script script) from.prims))))
   where
     changed : (prims : List PrimLine) → Changed (with_script script) from.prims prims
@@ -306,7 +311,8 @@ script-fits script files from to there e h =
     changed prims c =
         let P : PrimLine → Type 0 = λ p. All (HasFile files) p.scripts in
         let were : All P (c.front ++ c.from ∷ []) = subst (λ (ps : List PrimLine). All P ps) c.old h.files_there in
-        let (fits, count) = script_of_prim-fits script files c.from c.to there c.made (all-last P c.front c.from were) in
+        let (fits, count) = script_of_prim-fits script files c.from c.to there c.made (all-last P c.front c.from were)
+        in
         let long : length prims ≡ length from.prims = omega (
           arith,
           ap length c.old,

@@ -116,7 +116,8 @@ module _ (programs : List Program) (world new : World) (left spare : ℕ) (old n
       × (spare ≡ (round (rules_of programs) (x.0, n)).value.1))
       × (now ≡ old ++ (round (rules_of programs) (x.0, n)).entries)
 
-  pub round-on : rounded left → (spare ≡ left → ⊥) → Going programs new spare (round_or_last (rules_of programs) x).value
+  pub round-on : rounded left → (spare ≡ left → ⊥) → Going programs new spare
+      (round_or_last (rules_of programs) x).value
       × (now ≡ old ++ (round_or_last (rules_of programs) x).entries)
   round-on told n =
       let d = subst rounded g.left_is told in (

@@ -15,5 +15,6 @@ returns c = λ programs w is.
     changed programs world w is c.post.new.self c.args.out.now c.post.new.out c.post.result
     (post_object (rules_of programs) (c.args.object - 1) (rez_event c.args.n) w) c.post.ensures.seated
     (subst (λ (n : ℤ). Tells c.post.result (λ v _. Stands world.units None world.clock c.post.new.self v)
-    c.args.out.now c.post.new.out (post_object (rules_of programs) (c.args.object - 1) (rez_event n) w)) (to_z-of_z c.ranges.n)
+    c.args.out.now c.post.new.out (post_object (rules_of programs) (c.args.object - 1) (rez_event n) w))
+    (to_z-of_z c.ranges.n)
     (c.post.ensures.rezzed refl (meant programs world.units is.runs) world.clock w is.stands))

@@ -15,5 +15,6 @@ returns c = λ programs w is.
     changed programs world w is c.say.new.self c.args.out.now c.say.new.out c.say.result
     (say (rules_of programs) c.args.channel c.args.name.now c.args.key.now c.args.text.now w) c.say.ensures.seated
     (subst (λ (n : ℤ). Tells c.say.result (λ v _. Stands world.units None world.clock c.say.new.self v)
-    c.args.out.now c.say.new.out (say (rules_of programs) n c.args.name.now c.args.key.now c.args.text.now w)) (to_z-of_z c.ranges.channel)
+    c.args.out.now c.say.new.out (say (rules_of programs) n c.args.name.now c.args.key.now c.args.text.now w))
+    (to_z-of_z c.ranges.channel)
     (c.say.ensures.does (meant programs world.units is.runs) world.clock w is.stands))
