@@ -1,9 +1,9 @@
 //! What stands next.
 
 ghost use Rattle.std.specs.Prelude.{◌≡◌, [], ◌∷◌};
-ghost use Rattle.lsl_lex.specs.declared.token_types.Sort.TheVariants.{StateWord, ElseWord, Assign, At, Minus, ParenOpen, ParenClose, BracketOpen, BracketClose, BraceOpen, Comma, Semicolon};
+ghost use Rattle.lsl_lex.specs.declared.token_types.Sort.TheVariants.{IfWord, ElseWord, WhileWord, DoWord, ForWord, JumpWord, ReturnWord, StateWord, DefaultWord, Assign, At, Minus, ParenOpen, ParenClose, BracketOpen, BracketClose, BraceOpen, BraceClose, Comma, Semicolon};
 ghost use Rattle.lsl_grammar.specs.Reading.{begins};
-ghost use Rattle.lsl_parse.specs.Kinds.{Name, Str, codes, token_code, not_end, types};
+ghost use Rattle.lsl_parse.specs.Kinds.{Name, Int, Str, codes, token_code, not_end, types};
 ghost use Rattle.lsl_parse.specs.Operators.{prefix_signs, step_signs, assign_signs};
 ghost use Rattle.lsl_parse.specs.StatementReading.{statement_heads};
 ghost use Rattle.lsl_parse.specs.ScriptReading.{header_heads};
@@ -151,6 +151,69 @@ pub fn is_state(tokens: &[Token]) -> bool
     ensures { result ≡ begins token_code (codes (StateWord ∷ [])) tokens.now }
 {
     stands!(tokens, Sort::StateWord)
+}
+
+/// Whether an INT stands next.
+pub fn is_int(tokens: &[Token]) -> bool
+    ensures { result ≡ begins token_code (codes (Int ∷ [])) tokens.now }
+{
+    stands!(tokens, Sort::Int(_))
+}
+
+/// Whether `}` stands next.
+pub fn is_brace_close(tokens: &[Token]) -> bool
+    ensures { result ≡ begins token_code (codes (BraceClose ∷ [])) tokens.now }
+{
+    stands!(tokens, Sort::BraceClose)
+}
+
+/// Whether `if` stands next.
+pub fn is_if(tokens: &[Token]) -> bool
+    ensures { result ≡ begins token_code (codes (IfWord ∷ [])) tokens.now }
+{
+    stands!(tokens, Sort::IfWord)
+}
+
+/// Whether `while` stands next.
+pub fn is_while(tokens: &[Token]) -> bool
+    ensures { result ≡ begins token_code (codes (WhileWord ∷ [])) tokens.now }
+{
+    stands!(tokens, Sort::WhileWord)
+}
+
+/// Whether `do` stands next.
+pub fn is_do(tokens: &[Token]) -> bool
+    ensures { result ≡ begins token_code (codes (DoWord ∷ [])) tokens.now }
+{
+    stands!(tokens, Sort::DoWord)
+}
+
+/// Whether `for` stands next.
+pub fn is_for(tokens: &[Token]) -> bool
+    ensures { result ≡ begins token_code (codes (ForWord ∷ [])) tokens.now }
+{
+    stands!(tokens, Sort::ForWord)
+}
+
+/// Whether `jump` stands next.
+pub fn is_jump(tokens: &[Token]) -> bool
+    ensures { result ≡ begins token_code (codes (JumpWord ∷ [])) tokens.now }
+{
+    stands!(tokens, Sort::JumpWord)
+}
+
+/// Whether `return` stands next.
+pub fn is_return(tokens: &[Token]) -> bool
+    ensures { result ≡ begins token_code (codes (ReturnWord ∷ [])) tokens.now }
+{
+    stands!(tokens, Sort::ReturnWord)
+}
+
+/// Whether `default` stands next.
+pub fn is_default(tokens: &[Token]) -> bool
+    ensures { result ≡ begins token_code (codes (DefaultWord ∷ [])) tokens.now }
+{
+    stands!(tokens, Sort::DefaultWord)
 }
 
 /// Whether a global or a function begins.
