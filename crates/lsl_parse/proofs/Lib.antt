@@ -1,6 +1,9 @@
 pub mod ExpressionRules
 pub mod ExpressionStarts
 pub mod Munches
+pub mod Wholes
+pub mod StatementStarts
+pub mod BlockRules
 pub mod StatementRules
 pub mod ScriptRules
 pub mod Top

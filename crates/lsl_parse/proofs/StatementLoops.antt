@@ -14,7 +14,9 @@ use Rattle.lsl_parse.specs.ExpressionGrammar.{expr}
 use Rattle.lsl_parse.specs.ExpressionReading.{expr_r}
 use Rattle.lsl_parse.specs.StatementGrammar.{statement_rule, item_rule, stmt_room_of}
 use Rattle.lsl_parse.specs.StatementReading.{Holds_r, next_item_r, item_rule_r, statement_rule_r, stmt_room_r, statement_r, item_r}
-use Rattle.lsl_parse.proofs.StatementRules.{item_heads, else_tail, next_solid, statement_is_read}
+use Rattle.lsl_parse.proofs.Wholes.{else_tail}
+use Rattle.lsl_parse.proofs.BlockRules.{item_heads, next_solid}
+use Rattle.lsl_parse.proofs.StatementRules.{statement_is_read}
 
 pub stmt_room_inside : (limit : Option ℕ) (d : ℕ) → 0 < d
     → stmt_room_r limit d ≡ Holds_r (item_r limit (d - 1)) (statement_r limit (d - 1))
