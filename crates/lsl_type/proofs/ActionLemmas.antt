@@ -1,5 +1,6 @@
 -- The verdicts on statements are those of the rules.
-use Rattle.std.proofs.Common.{◌≡◌, ℕ, ◌+◌, ◌≤◌, Bool, true, false, Option, Some, None, List, [], length, refl, sym, ap, ◌∙◌, ◌⊎◌, inl, inr, arith, not}
+use Rattle.std.proofs.Common.{◌≡◌, ℕ, ◌+◌, ◌≤◌, Bool, true, false, Option, Some, None, List, [], length, refl, sym, ap}
+use Rattle.std.proofs.Common.{◌∙◌, ◌⊎◌, inl, inr, arith, not}
 use Rattle.std.specs.Prelude.{◌||◌, is_some, nat_le}
 use Rattle.std.specs.Option.{option_map}
 use Rattle.std.proofs.lemmas.Bool.Decides.{nat_tests}
@@ -14,12 +15,14 @@ use Rattle.lsl_tree.specs.Statements.{Stmt, Item, Items, NoItem, AndItem}
 use Rattle.lsl_tree.specs.Nodes.{Node, node_kind_of}
 use Rattle.lsl_tree.specs.Actions as action
 use Rattle.lsl_tree.specs.Actions.{NoAction, AndAction}
-use Rattle.lsl_type.specs.declared.faults.TypeKind.TheVariants.{UnknownName, DoubleName, WrongKind, StateInFunction, UnknownLabel}
+use Rattle.lsl_type.specs.declared.faults.TypeKind.TheVariants.{UnknownName, DoubleName, WrongKind, StateInFunction}
+use Rattle.lsl_type.specs.declared.faults.TypeKind.TheVariants.{UnknownLabel}
 use Rattle.lsl_type.specs.declared.faults.TypeFault.{TypeFault}
 use Rattle.lsl_type.specs.declared.frame.Home.{Home}
 use Rattle.lsl_type.specs.declared.frame.Home.TheVariants.{Handler, Function}
 use Rattle.lsl_type.specs.Names.{nearest, IsNearest}
-use Rattle.lsl_type.specs.Scope.{ScopeView, FrameView, spelled, IsSince, is_since, is_since_number, with_local, with_slots, with_passed, opened}
+use Rattle.lsl_type.specs.Scope.{ScopeView, FrameView, spelled, IsSince, is_since, is_since_number, with_local}
+use Rattle.lsl_type.specs.Scope.{with_slots, with_passed, opened}
 use Rattle.lsl_type.specs.Known.{KnownView}
 use Rattle.lsl_type.specs.Table.{IsReserved, is_reserved, constant_of, event_of, builtin_of}
 use Rattle.lsl_type.specs.Conversions.{empty_node}
@@ -31,11 +34,16 @@ use Rattle.lsl_type.specs.VariableRules.{become}
 use Rattle.lsl_type.specs.ValueRules.{value, effect, effects}
 use Rattle.lsl_type.specs.VariableVerdicts.{become_verdict}
 use Rattle.lsl_type.specs.ValueVerdicts.{value_verdict, effect_verdict, effects_verdict}
-use Rattle.lsl_type.specs.ActionRules.{label, jump, IsState, named_state, change, returned_nothing, returned_value, returned, IsFresh, initialised, statement, items, item}
-use Rattle.lsl_type.specs.ActionVerdicts.{label_verdict, jump_verdict, named_state_verdict, change_verdict, is_fresh, returned_nothing_verdict, returned_value_verdict, returned_verdict, initialised_verdict, statement_verdict, items_verdict, item_verdict}
-use Rattle.lsl_type.proofs.Deciding.{Decides, gives_decides, faulty_decides, then_decides, the_one_decides, must_decides, must_not_decides, entry_decides}
+use Rattle.lsl_type.specs.ActionRules.{label, jump, IsState, named_state, change, returned_nothing, returned_value}
+use Rattle.lsl_type.specs.ActionRules.{returned, IsFresh, initialised, statement, items, item}
+use Rattle.lsl_type.specs.ActionVerdicts.{label_verdict, jump_verdict, named_state_verdict, change_verdict, is_fresh}
+use Rattle.lsl_type.specs.ActionVerdicts.{returned_nothing_verdict, returned_value_verdict, returned_verdict}
+use Rattle.lsl_type.specs.ActionVerdicts.{initialised_verdict, statement_verdict, items_verdict, item_verdict}
+use Rattle.lsl_type.proofs.Deciding.{Decides, gives_decides, faulty_decides, then_decides, the_one_decides}
+use Rattle.lsl_type.proofs.Deciding.{must_decides, must_not_decides, entry_decides}
 use Rattle.lsl_type.proofs.NameLemmas.{nearest_is, is_nearest}
-use Rattle.lsl_type.proofs.TableLemmas.{constant_of-some, constant_of-named, event_of-some, event_of-named, builtin_of-some, builtin_of-named}
+use Rattle.lsl_type.proofs.TableLemmas.{constant_of-some, constant_of-named, event_of-some, event_of-named}
+use Rattle.lsl_type.proofs.TableLemmas.{builtin_of-some, builtin_of-named}
 use Rattle.lsl_type.proofs.RuleLemmas.{become_decides, value_decides, effect_decides, effects_decides}
 
 -- tests

@@ -1,5 +1,6 @@
 -- A verdict that says of each part what its rule says.
-use Rattle.std.proofs.Common.{◌≡◌, Bool, true, false, Option, Some, None, List, [], ◌∷◌, refl, sym, ap, ◌∙◌, subst, inl, inr, not}
+use Rattle.std.proofs.Common.{◌≡◌, Bool, true, false, Option, Some, None, List, [], ◌∷◌, refl, sym, ap, ◌∙◌, subst, inl}
+use Rattle.std.proofs.Common.{inr, not}
 use Rattle.std.specs.Prelude.{Ok, Err}
 use Rattle.lsl_type.specs.declared.faults.TypeFault.{TypeFault}
 use Rattle.lsl_type.specs.Judgement.{Judgement, gives, the_one, must, entry, faulty, each}

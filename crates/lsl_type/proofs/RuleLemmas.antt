@@ -1,5 +1,6 @@
 -- The verdicts on names and values are those of the rules.
-use Rattle.std.proofs.Common.{◌≡◌, ℕ, true, Option, Some, None, List, [], ◌∷◌, ◌++◌, length, refl, sym, ap, ◌∙◌, subst, inl, inr, arith, nat_eq, eq-eqb}
+use Rattle.std.proofs.Common.{◌≡◌, ℕ, true, Option, Some, None, List, [], ◌∷◌, ◌++◌, length, refl, sym, ap, ◌∙◌, subst}
+use Rattle.std.proofs.Common.{inl, inr, arith, nat_eq, eq-eqb}
 use Rattle.std.proofs.lemmas.Bool.Decides.{nat_tests}
 use Rattle.std.specs.Prelude.{Ok, slice_get}
 use Rattle.std.specs.Option.{option_and_then, option_map}
@@ -20,7 +21,8 @@ use Rattle.lsl_tree.specs.Expressions.{Expr, Exprs, NoExpr, AndExpr}
 use Rattle.lsl_tree.specs.Nodes as node
 use Rattle.lsl_tree.specs.Nodes.{Node, Nodes, NoNode, AndNode, node_kind_of}
 use Rattle.lsl_tree.specs.Effects.{Value}
-use Rattle.lsl_type.specs.declared.faults.TypeKind.TheVariants.{UnknownName, WrongKind, NoOperator, NoCast, WrongCount, NotVariable, VoidUsed}
+use Rattle.lsl_type.specs.declared.faults.TypeKind.TheVariants.{UnknownName, WrongKind, NoOperator, NoCast, WrongCount}
+use Rattle.lsl_type.specs.declared.faults.TypeKind.TheVariants.{NotVariable, VoidUsed}
 use Rattle.lsl_type.specs.declared.frame.Variable.{Variable as VariableOf}
 use Rattle.lsl_type.specs.declared.frame.Target.{Target}
 use Rattle.lsl_type.specs.declared.frame.Target.TheVariants.{Kept, Fixed}
@@ -37,13 +39,18 @@ use Rattle.lsl_type.specs.Spans.{first_span}
 use Rattle.lsl_type.specs.Judgement.{at, Judgement, gives}
 use Rattle.lsl_type.specs.Judgement as rule
 use Rattle.lsl_type.specs.Verdict.{◌>>=◌, the_one_verdict, must_verdict}
-use Rattle.lsl_type.specs.VariableRules.{IsTarget, target, variable, KeepsVariable, counter, IsCounter, become, compound, assigned, stored}
+use Rattle.lsl_type.specs.VariableRules.{IsTarget, target, variable, KeepsVariable, counter, IsCounter, become}
+use Rattle.lsl_type.specs.VariableRules.{compound, assigned, stored}
 use Rattle.lsl_type.specs.CallRules.{callable, argument, arguments, counted, effect_of_call, call_value, call_effect}
 use Rattle.lsl_type.specs.ValueRules.{flat, value, values, effect, effects}
-use Rattle.lsl_type.specs.VariableVerdicts.{constant_target, target_by, target_verdict, variable_verdict, place_by, counter_verdict, become_verdict, compound_verdict, assigned_verdict, stored_verdict}
-use Rattle.lsl_type.specs.CallVerdicts.{callable_by, callable_verdict, argument_verdict, arguments_verdict, counted_verdict, call_value_verdict, call_effect_verdict}
+use Rattle.lsl_type.specs.VariableVerdicts.{constant_target, target_by, target_verdict, variable_verdict, place_by}
+use Rattle.lsl_type.specs.VariableVerdicts.{counter_verdict, become_verdict, compound_verdict, assigned_verdict}
+use Rattle.lsl_type.specs.VariableVerdicts.{stored_verdict}
+use Rattle.lsl_type.specs.CallVerdicts.{callable_by, callable_verdict, argument_verdict, arguments_verdict}
+use Rattle.lsl_type.specs.CallVerdicts.{counted_verdict, call_value_verdict, call_effect_verdict}
 use Rattle.lsl_type.specs.ValueVerdicts.{flat_verdict, value_verdict, values_verdict, effect_verdict, effects_verdict}
-use Rattle.lsl_type.proofs.Deciding.{Decides, gives_decides, then_decides, the_one_decides, must_decides, test_decides, entry_decides, decides_as}
+use Rattle.lsl_type.proofs.Deciding.{Decides, gives_decides, then_decides, the_one_decides, must_decides, test_decides}
+use Rattle.lsl_type.proofs.Deciding.{entry_decides, decides_as}
 use Rattle.lsl_type.proofs.NameLemmas.{nearest_is, is_nearest}
 use Rattle.lsl_type.proofs.TableLemmas.{constant_of-some, constant_of-named, builtin_of-some, builtin_of-named}
 

@@ -1,5 +1,6 @@
 -- The verdicts on scripts are those of the rules.
-use Rattle.std.proofs.Common.{◌≡◌, ℕ, Bool, true, false, Option, Some, None, List, [], ◌∷◌, ◌++◌, length, refl, sym, ap, ◌∙◌, subst, ◌⊎◌, inl, inr, arith, not, nat_eq, eq-eqb}
+use Rattle.std.proofs.Common.{◌≡◌, ℕ, Bool, true, false, Option, Some, None, List, [], ◌∷◌, ◌++◌, length, refl, sym, ap}
+use Rattle.std.proofs.Common.{◌∙◌, subst, ◌⊎◌, inl, inr, arith, not, nat_eq, eq-eqb}
 use Rattle.std.specs.Prelude.{Ok, ◌||◌, is_some, Contains, if◌then◌else◌, ◌&&◌}
 use Rattle.std.proofs.lemmas.Bool.Decides.{nat_tests}
 use Rattle.lsl_text.specs.declared.Span.{Span}
@@ -28,7 +29,8 @@ use Rattle.lsl_type.specs.declared.frame.Home.TheVariants.{Handler, Function}
 use Rattle.lsl_type.specs.Names.{nearest}
 use Rattle.lsl_type.specs.Scope.{ScopeView, spelled, entered, opened, IsVariable, variable_of}
 use Rattle.lsl_type.specs.Known.{KnownView, HeadersView, with_global, with_function, no_headers, known_from, kinds_of}
-use Rattle.lsl_type.specs.Table.{IsReserved, is_reserved, constant_of, IsEvent, event_of, event_params_of, constant_kind_of}
+use Rattle.lsl_type.specs.Table.{IsReserved, is_reserved, constant_of, IsEvent, event_of, event_params_of}
+use Rattle.lsl_type.specs.Table.{constant_kind_of}
 use Rattle.lsl_tree.specs.Initials.{initial_kind_of, part_kind_of}
 use Rattle.lsl_type.specs.Conversions.{initial_as_kind, empty_initial, is_no_list}
 use Rattle.lsl_type.specs.Sameness.{same_kind, same_kinds, event_code, same_event}
@@ -38,15 +40,25 @@ use Rattle.lsl_type.specs.Judgement.{at, the_one, must, each}
 use Rattle.lsl_type.specs.Verdict.{the_one_verdict, must_verdict, each_verdict}
 use Rattle.lsl_type.specs.ActionRules.{items}
 use Rattle.lsl_type.specs.ActionVerdicts.{items_verdict}
-use Rattle.lsl_type.specs.HeaderRules.{IsInitial, initial_part, next_part, flat_parts, initial, IsUnused, param, initial_become, header, handler, state}
-use Rattle.lsl_type.specs.ScriptRules.{body, function_routine, function_body, handler_routine, handler_body, program_state, state_body, default_name, script}
-use Rattle.lsl_type.specs.HeaderVerdicts.{constant_part, part_of, part_by, initial_part_verdict, next_part_verdict, flat_parts_verdict, initial_verdict, is_unused, param_verdict, initial_become_verdict, header_verdict, has_event, handler_verdict, state_verdict}
-use Rattle.lsl_type.specs.ScriptVerdicts.{body_verdict, function_routine_verdict, function_body_verdict, handler_routine_verdict, handler_body_verdict, program_state_verdict, state_body_verdict, script_verdict}
-use Rattle.lsl_type.proofs.Deciding.{Decides, gives_decides, then_decides, the_one_decides, must_decides, must_not_decides, test_decides, entry_decides, each_decides, decides_as}
-use Rattle.lsl_type.proofs.NameLemmas.{nearest_contains, contains_nearest, Contains-none, Contains-head, Contains-tail, Contains-cases}
+use Rattle.lsl_type.specs.HeaderRules.{IsInitial, initial_part, next_part, flat_parts, initial, IsUnused, param}
+use Rattle.lsl_type.specs.HeaderRules.{initial_become, header, handler, state}
+use Rattle.lsl_type.specs.ScriptRules.{body, function_routine, function_body, handler_routine, handler_body}
+use Rattle.lsl_type.specs.ScriptRules.{program_state, state_body, default_name, script}
+use Rattle.lsl_type.specs.HeaderVerdicts.{constant_part, part_of, part_by, initial_part_verdict, next_part_verdict}
+use Rattle.lsl_type.specs.HeaderVerdicts.{flat_parts_verdict, initial_verdict, is_unused, param_verdict}
+use Rattle.lsl_type.specs.HeaderVerdicts.{initial_become_verdict, header_verdict, has_event, handler_verdict}
+use Rattle.lsl_type.specs.HeaderVerdicts.{state_verdict}
+use Rattle.lsl_type.specs.ScriptVerdicts.{body_verdict, function_routine_verdict, function_body_verdict}
+use Rattle.lsl_type.specs.ScriptVerdicts.{handler_routine_verdict, handler_body_verdict, program_state_verdict}
+use Rattle.lsl_type.specs.ScriptVerdicts.{state_body_verdict, script_verdict}
+use Rattle.lsl_type.proofs.Deciding.{Decides, gives_decides, then_decides, the_one_decides, must_decides}
+use Rattle.lsl_type.proofs.Deciding.{must_not_decides, test_decides, entry_decides, each_decides, decides_as}
+use Rattle.lsl_type.proofs.NameLemmas.{nearest_contains, contains_nearest, Contains-none, Contains-head, Contains-tail}
+use Rattle.lsl_type.proofs.NameLemmas.{Contains-cases}
 use Rattle.lsl_type.proofs.TableLemmas.{constant_of-some, constant_of-named, event_of-some, event_of-named}
 use Rattle.lsl_type.proofs.RuleLemmas.{variable_of-some, is_variable-of, is_kind_true, is_kind_same}
-use Rattle.lsl_type.proofs.ActionLemmas.{or_left, or_right, or_cases, reserved_is, is_reserved-of, neither, items_decides}
+use Rattle.lsl_type.proofs.ActionLemmas.{or_left, or_right, or_cases, reserved_is, is_reserved-of, neither}
+use Rattle.lsl_type.proofs.ActionLemmas.{items_decides}
 
 -- what a name in a global's value stands for
 abbrev part_option : Option Variable → Option ConstantId → Option Part

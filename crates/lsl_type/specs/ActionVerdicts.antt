@@ -11,7 +11,8 @@ use Rattle.lsl_tree.specs.Statements.{Stmt, Item, Items, NoItem, AndItem}
 use Rattle.lsl_tree.specs.Nodes.{Node, node_kind_of}
 use Rattle.lsl_tree.specs.Actions as action
 use Rattle.lsl_tree.specs.Actions.{Action, Actions, NoAction, AndAction}
-use Rattle.lsl_type.specs.declared.faults.TypeKind.TheVariants.{UnknownName, DoubleName, WrongKind, StateInFunction, UnknownLabel}
+use Rattle.lsl_type.specs.declared.faults.TypeKind.TheVariants.{UnknownName, DoubleName, WrongKind, StateInFunction}
+use Rattle.lsl_type.specs.declared.faults.TypeKind.TheVariants.{UnknownLabel}
 use Rattle.lsl_type.specs.declared.frame.Home.{Home}
 use Rattle.lsl_type.specs.declared.frame.Home.TheVariants.{Handler, Function}
 use Rattle.lsl_type.specs.Names.{nearest}

@@ -1,7 +1,9 @@
 -- The numbers of faults of names and kinds.
 use Rattle.std.specs.Prelude.{ℕ}
 use Rattle.lsl_type.specs.declared.faults.TypeKind.{TypeKind}
-use Rattle.lsl_type.specs.declared.faults.TypeKind.TheVariants.{UnknownName, DoubleName, WrongKind, NoOperator, NoCast, WrongCount, NotVariable, NotConstant, StateInFunction, UnknownLabel, WrongHandler, VoidUsed}
+use Rattle.lsl_type.specs.declared.faults.TypeKind.TheVariants.{UnknownName, DoubleName, WrongKind, NoOperator, NoCast}
+use Rattle.lsl_type.specs.declared.faults.TypeKind.TheVariants.{WrongCount, NotVariable, NotConstant, StateInFunction}
+use Rattle.lsl_type.specs.declared.faults.TypeKind.TheVariants.{UnknownLabel, WrongHandler, VoidUsed}
 
 abbrev pub number_of : TypeKind → ℕ
 number_of UnknownName = 20

@@ -3,7 +3,9 @@ use Rattle.std.specs.Prelude.{ℕ, nat_eq, Bool, true, false, ◌&&◌, Option, 
 use Rattle.lsl_value.specs.declared.tagged.Kind.{Kind}
 use Rattle.lsl_value.specs.declared.tagged.Kind.TheVariants.{Int, Str, Key, List as ListKind}
 use Rattle.lsl_value.specs.declared.names.EventId.{EventId}
-use Rattle.lsl_value.specs.declared.names.EventId.TheVariants.{StateEntry, StateExit, TouchStart, Touch, TouchEnd, Listen, Timer, LinkMessage, Changed, OnRez, Dataserver, LinksetData}
+use Rattle.lsl_value.specs.declared.names.EventId.TheVariants.{StateEntry, StateExit, TouchStart, Touch, TouchEnd}
+use Rattle.lsl_value.specs.declared.names.EventId.TheVariants.{Listen, Timer, LinkMessage, Changed, OnRez, Dataserver}
+use Rattle.lsl_value.specs.declared.names.EventId.TheVariants.{LinksetData}
 
 abbrev pub kind_code : Kind → ℕ
 kind_code Int = 0

@@ -20,7 +20,8 @@ use Rattle.lsl_type.specs.Spans.{first_span}
 use Rattle.lsl_type.specs.Judgement.{at}
 use Rattle.std.specs.Prelude.{Ok}
 use Rattle.lsl_type.specs.Verdict.{Verdict, ◌>>=◌, the_one_verdict, must_verdict}
-use Rattle.lsl_type.specs.VariableVerdicts.{target_verdict, stored_verdict, read_verdict, step_behind_verdict, step_before_verdict}
+use Rattle.lsl_type.specs.VariableVerdicts.{target_verdict, stored_verdict, read_verdict, step_behind_verdict}
+use Rattle.lsl_type.specs.VariableVerdicts.{step_before_verdict}
 use Rattle.lsl_type.specs.CallVerdicts.{callable_verdict, call_value_verdict, call_effect_verdict}
 
 abbrev pub flat_verdict : Exprs → Nodes → Verdict (Unit {0})

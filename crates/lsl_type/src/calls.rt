@@ -11,7 +11,9 @@ ghost use Rattle.lsl_type.specs.Spans.{first_span};
 ghost use Rattle.lsl_type.specs.Known.{known_of, function_of};
 ghost use Rattle.lsl_type.specs.Calling.{calling_of, kinds_in};
 ghost use Rattle.lsl_type.specs.Verdict.{Rules};
-ghost use Rattle.lsl_type.specs.CallVerdicts.{callable_verdict, builtin_callable_verdict, counted_verdict, call_value_verdict, call_effect_verdict, arguments_verdict, argument_verdict};
+ghost use Rattle.lsl_type.specs.CallVerdicts.{callable_verdict, builtin_callable_verdict, counted_verdict};
+ghost use Rattle.lsl_type.specs.CallVerdicts.{call_value_verdict, call_effect_verdict, arguments_verdict};
+ghost use Rattle.lsl_type.specs.CallVerdicts.{argument_verdict};
 
 use crate::conversions::as_kind;
 use crate::faults::{Refused, TypeKind, fault};

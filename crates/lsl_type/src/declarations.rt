@@ -8,7 +8,8 @@ ghost use Rattle.lsl_type.specs.Known.{known_of};
 ghost use Rattle.lsl_type.specs.Scope.{frame_of, spelled, is_since, is_since_number};
 ghost use Rattle.lsl_type.specs.Judgement.{at};
 ghost use Rattle.lsl_type.specs.Verdict.{Rules, must_verdict};
-ghost use Rattle.lsl_type.specs.ActionVerdicts.{label_verdict, initialised_verdict, declared_verdict, labelled_verdict, is_fresh};
+ghost use Rattle.lsl_type.specs.ActionVerdicts.{label_verdict, initialised_verdict, declared_verdict, labelled_verdict};
+ghost use Rattle.lsl_type.specs.ActionVerdicts.{is_fresh};
 
 use crate::checker::Checker;
 use crate::conversions::{as_kind, empty_node};

@@ -9,7 +9,8 @@ ghost use Rattle.lsl_type.specs.Scope.{scope_of};
 ghost use Rattle.lsl_type.specs.Conversions.{empty_initial, cast_initial, is_no_list};
 ghost use Rattle.lsl_type.specs.Spans.{initial_span, atom_span};
 ghost use Rattle.lsl_type.specs.Verdict.{Rules, each_verdict, must_verdict};
-ghost use Rattle.lsl_type.specs.HeaderVerdicts.{initial_part_verdict, next_part_verdict, initial_verdict, flat_parts_verdict, constant_initial_verdict, initial_become_verdict};
+ghost use Rattle.lsl_type.specs.HeaderVerdicts.{initial_part_verdict, next_part_verdict, initial_verdict};
+ghost use Rattle.lsl_type.specs.HeaderVerdicts.{flat_parts_verdict, constant_initial_verdict, initial_become_verdict};
 
 use crate::faults::{Refused, TypeKind, fault};
 use crate::frame::{Scope, Variable};

@@ -10,7 +10,8 @@ ghost use Rattle.lsl_type.specs.Scope.{scope_of, frame_of};
 ghost use Rattle.lsl_type.specs.Spans.{first_span};
 ghost use Rattle.lsl_type.specs.Verdict.{Rules};
 ghost use Rattle.lsl_type.specs.ActionForms.{home_kind};
-ghost use Rattle.lsl_type.specs.ActionVerdicts.{jump_verdict, named_state_verdict, change_verdict, returned_verdict, returned_value_verdict, returned_nothing_verdict};
+ghost use Rattle.lsl_type.specs.ActionVerdicts.{jump_verdict, named_state_verdict, change_verdict, returned_verdict};
+ghost use Rattle.lsl_type.specs.ActionVerdicts.{returned_value_verdict, returned_nothing_verdict};
 
 use crate::checker::Checker;
 use crate::conversions::as_kind;

@@ -7,7 +7,8 @@ ghost use Rattle.lsl_type.specs.Spans.{first_span};
 ghost use Rattle.lsl_type.specs.Conversions.{is_no_list};
 ghost use Rattle.lsl_type.specs.Verdict.{Rules, must_verdict};
 ghost use Rattle.lsl_type.specs.Judgement.{at};
-ghost use Rattle.lsl_type.specs.ValueVerdicts.{listed_verdict, converted_verdict, prefixed_verdict, joined_verdict, flat_verdict};
+ghost use Rattle.lsl_type.specs.ValueVerdicts.{listed_verdict, converted_verdict, prefixed_verdict, joined_verdict};
+ghost use Rattle.lsl_type.specs.ValueVerdicts.{flat_verdict};
 
 use crate::conversions::cast;
 use crate::faults::{Refused, TypeKind, fault};

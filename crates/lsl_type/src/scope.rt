@@ -3,7 +3,8 @@
 ghost use Rattle.std.specs.Prelude.{◌≡◌, ◌↔◌, IsTrue, OnOk};
 ghost use Rattle.lsl_type.specs.Scope.{scope_of, frame_of, spelled, variable_of, declared};
 ghost use Rattle.lsl_type.specs.Verdict.{Rules};
-ghost use Rattle.lsl_type.specs.VariableVerdicts.{constant_target_verdict, target_verdict, variable_verdict, counter_verdict};
+ghost use Rattle.lsl_type.specs.VariableVerdicts.{constant_target_verdict, target_verdict, variable_verdict};
+ghost use Rattle.lsl_type.specs.VariableVerdicts.{counter_verdict};
 
 use crate::faults::{Refused, TypeKind, fault};
 use crate::frame::{Scope, Target, Variable};

@@ -1,7 +1,8 @@
 //! The names that no script declares.
 
 ghost use Rattle.std.specs.Prelude.{◌≡◌};
-ghost use Rattle.lsl_type.specs.Table.{builtin_of, params_of, result_of, event_of, event_params_of, constant_of, constant_kind_of, is_reserved};
+ghost use Rattle.lsl_type.specs.Table.{builtin_of, params_of, result_of, event_of, event_params_of, constant_of};
+ghost use Rattle.lsl_type.specs.Table.{constant_kind_of, is_reserved};
 
 use lsl_table::{BuiltinRow, Kinds};
 use lsl_value::{BuiltinId, ConstantId, EventId, Kind};
