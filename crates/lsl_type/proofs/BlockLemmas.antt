@@ -1,5 +1,6 @@
 -- What a block leaves when it ends.
-use Rattle.std.proofs.Common.{◌≡◌, ℕ, ◌-◌, List, [], ◌∷◌, ◌++◌, length, take, drop, refl, sym, ap, ◌∙◌, subst, arith, append_assoc, append-nil, not}
+use Rattle.std.proofs.Common.{◌≡◌, ℕ, ◌-◌, List, [], ◌∷◌, ◌++◌, length, take, drop, refl, sym, ap, ◌∙◌, subst, arith}
+use Rattle.std.proofs.Common.{append_assoc, append-nil, not}
 use Rattle.std.specs.Prelude.{Ok, Err}
 use Rattle.std.proofs.lemmas.Grind.{common_steps}
 use Rattle.lsl_value.specs.declared.tagged.Kind.{Kind}
@@ -18,7 +19,8 @@ use Rattle.lsl_type.specs.Judgement.{at}
 use Rattle.lsl_type.specs.Known.{KnownView}
 use Rattle.lsl_type.specs.Blocks.{IsOuter, closed, earliest}
 use Rattle.lsl_type.specs.Verdict.{Verdict, ◌>>=◌, must_verdict, Refuses}
-use Rattle.lsl_type.specs.ActionVerdicts.{statement_verdict, items_verdict, item_verdict, initialised_verdict, label_verdict}
+use Rattle.lsl_type.specs.ActionVerdicts.{statement_verdict, items_verdict, item_verdict, initialised_verdict}
+use Rattle.lsl_type.specs.ActionVerdicts.{label_verdict}
 use Rattle.lsl_type.proofs.Deciding.{ok_same, ok_not_err}
 use Rattle.lsl_type.proofs.Steps.{fails_first, ok_behind}
 
@@ -166,7 +168,7 @@ closed-opened f g es o was e =
     ∙ ap (λ z. frame_with f.scope.names f.scope.variables g.slots f.labels f.passed f.first_variable z)
     was.first_label))))
 
-abbrev acted : Action → List Kind → Verdict (Action × List Kind)
+abbrev pub acted : Action → List Kind → Verdict (Action × List Kind)
 acted a slots = Ok (a, slots)
 
 -- a block is in order where what stands in it is

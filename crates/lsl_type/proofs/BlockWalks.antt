@@ -1,16 +1,21 @@
 -- What is declared by a list, from the first to the last.
 use Rattle.std.proofs.Common.{◌≡◌, ℕ, ◌+◌, ◌<◌, ◌≤◌, List, [], ◌∷◌, ◌++◌, length, drop, get_or, refl, sym, ap, ◌∙◌}
+use Rattle.std.proofs.Common.{Vec, Global}
 use Rattle.std.specs.Prelude.{map}
 use Rattle.lsl_tree.specs.declared.script.Param.{Param}
 use Rattle.lsl_tree.specs.declared.statement.Item.{Item}
 use Rattle.lsl_tree.specs.declared.program_action.Effect.{Effect}
+use Rattle.lsl_tree.specs.declared.program_action.Action as declared
+use Rattle.lsl_tree.specs.declared.program_action.Action.TheVariants as variant
 use Rattle.lsl_tree.specs.Statements as stmt
 use Rattle.lsl_tree.specs.Statements.{Items, NoItem, AndItem, item_of, items_behind, items_of}
 use Rattle.lsl_tree.specs.Actions as action
-use Rattle.lsl_tree.specs.Actions.{Actions, AndAction}
+use Rattle.lsl_tree.specs.Actions.{Actions, AndAction, NoAction, action_of, actions_of}
+use Rattle.lsl_tree.specs.Effects as effect
 use Rattle.lsl_tree.specs.Effects.{effect_of}
 use Rattle.lsl_type.specs.Scope.{FrameView, with_local, with_locals, spelled, labels_with, labels_of}
-use Rattle.lsl_type.specs.ActionForms.{effects_after}
+use Rattle.lsl_type.specs.ActionForms.{effects_after, for_of}
+use Rattle.lsl_tree.proofs.ProgramRows.{action_of-Block, actions_of-append}
 use Rattle.lsl_type.proofs.Walks.{left, drop_all}
 
 -- one more parameter
@@ -56,3 +61,11 @@ pub effects_after-push : (acts : Actions) (xs : List Effect) (x : Effect)
     ≡ AndAction (effects_after acts (map effect_of xs)) (action.Effect (effect_of x))
 effects_after-push acts [] x = refl
 effects_after-push acts (y ∷ xs) x = effects_after-push (AndAction acts (action.Effect (effect_of y))) xs x
+
+-- a `for` is its first effects, and behind them its loop
+pub for_is : (v : Vec declared.Action Global) (acts : List declared.Action) (a : declared.Action)
+    (xs : List effect.Effect) (loop : action.Action) → v.items ≡ acts ++ a ∷ []
+    → actions_of acts ≡ effects_after NoAction xs → action_of a ≡ loop → action_of (variant.Block v) ≡ for_of xs loop
+for_is v acts a xs loop items begun is =
+    action_of-Block v ∙ ap action.Block (ap actions_of items ∙ (actions_of-append acts a
+    ∙ (ap (λ z. AndAction z (action_of a)) begun ∙ ap (λ z. AndAction (effects_after NoAction xs) z) is)))

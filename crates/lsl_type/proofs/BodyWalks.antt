@@ -1,6 +1,7 @@
 -- Bodies in a row, from the first to the last.
-use Rattle.std.proofs.Common.{◌≡◌, ℕ, ◌-◌, List, [], ◌∷◌, ◌++◌, length, take, drop, refl, sym, ap, ◌∙◌, subst, arith, append_assoc, append-nil}
-use Rattle.std.specs.Prelude.{Ok}
+use Rattle.std.proofs.Common.{◌≡◌, ℕ, ◌-◌, List, [], ◌∷◌, ◌++◌, length, take, drop, refl, sym, ap, ◌∙◌, subst, arith}
+use Rattle.std.proofs.Common.{append_assoc, append-nil}
+use Rattle.std.specs.Prelude.{Ok, Option}
 use Rattle.std.proofs.lemmas.Grind.{common_steps}
 use Rattle.lsl_value.specs.declared.tagged.Kind.{Kind}
 use Rattle.lsl_tree.specs.declared.script.Handler.{Handler}
@@ -10,17 +11,23 @@ use Rattle.lsl_tree.specs.declared.script.Param.{Param}
 use Rattle.lsl_tree.specs.Statements.{Items}
 use Rattle.lsl_tree.specs.Actions.{Actions}
 use Rattle.lsl_tree.specs.Scripts.{header_of, handler_of, state_of}
-use Rattle.lsl_tree.specs.Program.{NamedRoutine, EventRoutine, ProgramState}
+use Rattle.lsl_tree.specs.Program.{Routine, NamedRoutine, EventRoutine, ProgramState}
+use Rattle.lsl_tree.specs.declared.expression.Name.{Name}
+use Rattle.lsl_text.specs.declared.Refusal.{Refusal}
+use Rattle.lsl_type.specs.declared.faults.TypeFault.{TypeFault}
 use Rattle.lsl_type.specs.Known.{KnownView}
 use Rattle.lsl_type.specs.declared.blocks.Outer.{Outer}
 use Rattle.lsl_type.specs.declared.frame.Home.{Home}
 use Rattle.lsl_type.specs.declared.frame.Variable.{Variable}
 use Rattle.lsl_type.specs.Blocks.{IsOuter, closed, IsResting}
-use Rattle.lsl_type.specs.Scope.{ScopeView, FrameView, spelled, with_local, with_locals, with_slots, opened}
+use Rattle.lsl_type.specs.Scope.{ScopeView, FrameView, spelled, with_local, with_locals, with_slots, opened, entered}
 use Rattle.lsl_type.specs.ActionVerdicts.{items_verdict}
 use Rattle.lsl_type.proofs.BlockLemmas.{closed-opened, items_extend}
-use Rattle.lsl_type.specs.Verdict.{Verdict}
-use Rattle.lsl_type.specs.ScriptVerdicts.{function_body_verdict, handler_body_verdict, state_body_verdict}
+use Rattle.lsl_type.specs.Verdict.{Verdict, Refuses}
+use Rattle.lsl_type.specs.ActionForms.{ended}
+use Rattle.lsl_type.specs.ScriptVerdicts.{body_verdict, function_body_verdict, handler_body_verdict}
+use Rattle.lsl_type.specs.ScriptVerdicts.{state_body_verdict}
+use Rattle.lsl_type.proofs.Steps.{fails_first, ok_behind}
 
 abbrev pub function_next : KnownView → ScopeView → List NamedRoutine → Header → Verdict (List NamedRoutine)
 function_next known s before x = function_body_verdict known s before (header_of x)
@@ -133,3 +140,34 @@ body_leaves known home f begun inner g after ps es acts o names variables slots 
     (ap (λ z. z.passed) back ∙ grown.passed)
     (ap (λ z. z.first_variable) back ∙ grown.first_variable)
     (ap (λ z. z.first_label) back ∙ grown.first_label)
+
+-- where its items begin is where the rules have them begin
+begins_as : (f begun inner : FrameView) (ps : List Param) (es : Items) → IsResting f → begun ≡ with_locals f ps
+    → inner ≡ opened begun es → inner ≡ opened (entered f.scope ps) es
+begins_as f begun inner ps es resting begins opens =
+    opens ∙ ap (λ z. opened z es) (begins ∙ ap (λ z. with_locals z ps) resting)
+
+pub body_fails : (known : KnownView) (home : Home) (f begun inner : FrameView) (x : Name) (kind : Option Kind)
+    (ps : List Param) (es : Items) (e : Refusal TypeFault) → IsResting f → begun ≡ with_locals f ps
+    → inner ≡ opened begun es → Refuses e (items_verdict known home inner es)
+    → Refuses e (body_verdict known f.scope home x kind ps es)
+body_fails known home f begun inner x kind ps es e resting begins opens h =
+    fails_first e (items_verdict known home (opened (entered f.scope ps) es) es) _
+    (subst (λ z. Refuses e (items_verdict known home z es)) (begins_as f begun inner ps es resting begins opens) h)
+
+abbrev routine_with : ℕ → Option Kind → ℕ → List Kind → Actions → Verdict Routine
+routine_with line kind params slots body =
+    Ok (record { line = line; kind = kind; params = params; slots = slots; body = body })
+
+pub body_ok : (known : KnownView) (home : Home) (f begun inner g : FrameView) (x : Name) (kind kind' : Option Kind)
+    (ps : List Param) (es : Items) (acts body : Actions) (n : ℕ) (slots : List Kind) → IsResting f
+    → begun ≡ with_locals f ps → inner ≡ opened begun es → items_verdict known home inner es ≡ Ok (acts, g)
+    → kind' ≡ kind → n ≡ length ps → slots ≡ g.slots → body ≡ ended kind' acts
+    → body_verdict known f.scope home x kind ps es ≡ routine_with x.span.line kind' n slots body
+body_ok known home f begun inner g x kind kind' ps es acts body n slots resting begins opens h k count left ends =
+    ok_behind (items_verdict known home (opened (entered f.scope ps) es) es) (acts, g) _ _
+    (subst (λ z. items_verdict known home z es ≡ Ok (acts, g)) (begins_as f begun inner ps es resting begins opens) h)
+    (sym (ap (λ z. routine_with x.span.line kind' n slots z) (ends ∙ ap (λ z. ended z acts) k)
+    ∙ (ap (λ z. routine_with x.span.line z n slots (ended kind acts)) k
+    ∙ (ap (λ z. routine_with x.span.line kind z slots (ended kind acts)) count
+    ∙ ap (λ z. routine_with x.span.line kind (length ps) z (ended kind acts)) left))))

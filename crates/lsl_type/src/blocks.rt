@@ -2,7 +2,8 @@
 
 ghost use Rattle.std.specs.Prelude.{◌≡◌, length, OnOk, IfOk, [], ◌++◌, ◌∷◌};
 ghost use Rattle.lsl_tree.specs.Statements.{item_of, items_of};
-ghost use Rattle.lsl_type.specs.Scope.{frame_of, scope_of, spelled, with_local, with_locals, with_passed, opened, entered, labels_with, labels_of};
+ghost use Rattle.lsl_type.specs.Scope.{frame_of, scope_of, spelled, with_local, with_locals, with_passed, opened};
+ghost use Rattle.lsl_type.specs.Scope.{entered, labels_with, labels_of};
 ghost use Rattle.lsl_type.specs.Blocks.{IsOuter, closed};
 
 use crate::frame::{Frame, Scope, Variable};
@@ -14,7 +15,7 @@ use std::alloc::Global;
 
 /// What was visible where a block begins: how many variables, labels and passed labels, and the numbers of the block
 /// around.
-#[derive(Clone, Copy, Debug, PartialEq, Eq)]
+#[derive(Clone, Copy)]
 pub struct Outer {
     names: usize,
     variables: usize,

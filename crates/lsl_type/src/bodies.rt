@@ -9,7 +9,9 @@ ghost use Rattle.lsl_type.specs.Scope.{scope_of, frame_of};
 ghost use Rattle.lsl_type.specs.Known.{known_of};
 ghost use Rattle.lsl_type.specs.Blocks.{IsResting};
 ghost use Rattle.lsl_type.specs.Verdict.{Rules, each_verdict};
-ghost use Rattle.lsl_type.specs.ScriptVerdicts.{function_routine_verdict, function_body_verdict, handler_routine_verdict, handler_body_verdict, program_state_verdict, state_body_verdict};
+ghost use Rattle.lsl_type.specs.ScriptVerdicts.{function_routine_verdict, function_body_verdict};
+ghost use Rattle.lsl_type.specs.ScriptVerdicts.{handler_routine_verdict, handler_body_verdict, program_state_verdict};
+ghost use Rattle.lsl_type.specs.ScriptVerdicts.{state_body_verdict};
 ghost use Rattle.lsl_type.specs.ScriptRules.{default_name};
 
 use crate::checker::Checker;
@@ -78,9 +80,13 @@ impl Bodies<'_> {
             function.now.kind function.now.name function.now.params.items (items_of function.now.body.items)) }
         ensures unchanged { OnOk result (frame_of frame.new ≡ frame_of frame.old) }
     {
-        let checker = self.checker(Home::Function {
-            kind: function.kind,
-        });
+        let checker = Checker {
+            alloc: self.alloc,
+            known: self.known,
+            home: Home::Function {
+                kind: function.kind,
+            },
+        };
         let routine = checker.body(
             frame,
             &function.name,
@@ -122,7 +128,11 @@ impl Bodies<'_> {
         let Some(event) = event(handler.name.text.as_str()) else {
             return Err(fault(TypeKind::WrongHandler, handler.name.span));
         };
-        let checker = self.checker(Home::Handler);
+        let checker = Checker {
+            alloc: self.alloc,
+            known: self.known,
+            home: Home::Handler,
+        };
         let routine = checker.body(
             frame,
             &handler.name,
@@ -142,7 +152,8 @@ impl Bodies<'_> {
         requires { IsResting (frame_of frame.old) }
         ensures { Rules (λ v. map program.state_of v.items) result
             (each_verdict (state_body_verdict (known_of self.now.known.now) (scope_of frame.old.scope))
-            (record { name = default_name; handlers = map program.handler_of start.items } ∷ []) (map state_of list.now)) }
+            (record { name = default_name; handlers = map program.handler_of start.items } ∷ [])
+            (map state_of list.now)) }
     {
         let mut states = Vec::with_capacity(self.alloc, list.len())?;
         states.push(ProgramState {
@@ -166,17 +177,6 @@ impl Bodies<'_> {
             name: state.name.text.copy()?,
             handlers,
         })
-    }
-
-    fn checker(&self, home: Home) -> Checker<'_>
-        ensures known { known_of result.known.now ≡ known_of self.now.known.now }
-        ensures home { result.home ≡ home }
-    {
-        Checker {
-            alloc: self.alloc,
-            known: self.known,
-            home,
-        }
     }
 }
 

@@ -1,11 +1,11 @@
 //! Forms of checked statements.
 
-ghost use Rattle.std.specs.Prelude.{◌≡◌, map, OnOk, IfOk};
+ghost use Rattle.std.specs.Prelude.{◌≡◌, map, IfOk};
 ghost use Rattle.lsl_tree.specs.Nodes.{node_of};
 ghost use Rattle.lsl_tree.specs.Effects.{effect_of};
 ghost use Rattle.lsl_tree.specs.Actions as action;
-ghost use Rattle.lsl_tree.specs.Actions.{action_of, actions_of};
-ghost use Rattle.lsl_type.specs.ActionForms.{effects_after, for_of};
+ghost use Rattle.lsl_tree.specs.Actions.{action_of, actions_of, NoAction};
+ghost use Rattle.lsl_type.specs.ActionForms.{effects_after};
 
 use lsl_text::{NoMemory, Span};
 use lsl_tree::{Action, Effect, Node};
@@ -70,26 +70,14 @@ pub(crate) fn done_once(
     })
 }
 
-/// The effects, and behind them a statement.
-pub(crate) fn after_effects(
-    alloc: Global,
-    effects: Vec<Effect>,
-    action: Action,
-) -> Result<Action, NoMemory>
-    ensures { IfOk result (λ a. action_of a ≡ for_of (map effect_of effects.items) (action_of action)) }
+/// The effects, each as a statement.
+pub(crate) fn effect_actions(alloc: Global, effects: Vec<Effect>) -> Result<Vec<Action>, NoMemory>
+    ensures { IfOk result
+        (λ v. actions_of v.items ≡ effects_after NoAction (map effect_of effects.items)) }
 {
     let mut actions = Vec::with_capacity(alloc, effects.len())?;
-    push_effects(&mut actions, effects)?;
-    actions.push(action)?;
-    Ok(Action::Block { actions })
-}
-
-fn push_effects(actions: &mut Vec<Action>, effects: Vec<Effect>) -> Result<(), NoMemory>
-    ensures { OnOk result
-        (actions_of actions.new.items ≡ effects_after (actions_of actions.old.items) (map effect_of effects.items)) }
-{
     for effect in effects {
         actions.push(Action::Effect { effect })?;
     }
-    Ok(())
+    Ok(actions)
 }

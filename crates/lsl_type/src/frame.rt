@@ -5,7 +5,7 @@ use lsl_tree::Place;
 use lsl_value::{ConstantId, Kind};
 
 /// Where a variable is kept, and its kind.
-#[derive(Clone, Copy, Debug, PartialEq, Eq)]
+#[derive(Clone, Copy)]
 pub struct Variable {
     pub place: Place,
     pub kind: Kind,
@@ -33,14 +33,14 @@ pub struct Frame {
 }
 
 /// What a body belongs to: a `state` may stand in a handler, and a value may be returned from a function with a kind.
-#[derive(Clone, Copy, Debug, PartialEq, Eq)]
+#[derive(Clone, Copy)]
 pub enum Home {
     Handler,
     Function { kind: Option<Kind> },
 }
 
 /// What a name stands for where no call is meant.
-#[derive(Clone, Copy, Debug, PartialEq, Eq)]
+#[derive(Clone, Copy)]
 pub enum Target {
     Kept(Variable),
     Fixed(ConstantId),

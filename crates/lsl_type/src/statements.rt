@@ -12,7 +12,7 @@ ghost use Rattle.lsl_type.specs.ActionVerdicts.{expression_verdict, statement_ve
 
 use crate::checker::Checker;
 use crate::faults::Refused;
-use crate::forms::{after_effects, branch, branches, done_once, repeated};
+use crate::forms::{branch, branches, done_once, effect_actions, repeated};
 use crate::frame::{Frame, Scope};
 use lsl_text::Span;
 use lsl_tree::{Action, Expr, Item, Stmt};
@@ -127,11 +127,12 @@ impl Checker<'_> {
         ensures unchanged { OnOk result (frame_of frame.new ≡ with_slots (frame_of frame.old) frame.new.slots.items) }
     {
         let start = self.effects(&frame.scope, start)?;
+        let mut actions = effect_actions(self.alloc, start)?;
         let test = self.value(&frame.scope, test)?;
         let steps = self.effects(&frame.scope, step)?;
         let body = self.statement(frame, body)?;
-        let repeated = repeated(self.alloc, span, test, steps, body)?;
-        Ok(after_effects(self.alloc, start, repeated)?)
+        actions.push(repeated(self.alloc, span, test, steps, body)?)?;
+        Ok(Action::Block { actions })
     }
 
     /// A block, and what is visible behind it.

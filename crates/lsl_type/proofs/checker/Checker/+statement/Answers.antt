@@ -1,18 +1,23 @@
-use Rattle.std.proofs.Common.{◌≡◌, ◌<◌, ◌≤◌, ◌++◌, ◌∷◌, [], Ok, length, sym, ap, ◌∙◌, arith, rules}
+use Rattle.std.proofs.Common.{◌≡◌, ◌<◌, ◌≤◌, ◌++◌, ◌∷◌, [], Ok, length, sym, ap, ◌∙◌, subst, arith, rules}
+use Rattle.std.specs.Prelude.{map}
 use Rattle.std.proofs.lemmas.Result.{err_from_is_err_and}
 use Rattle.lsl_tree.specs.Statements.{stmt_of, item_of, items_of}
-use Rattle.lsl_tree.specs.Expressions.{expr_of}
+use Rattle.lsl_tree.specs.Expressions.{expr_of, exprs_of}
+use Rattle.lsl_tree.specs.Effects.{effect_of}
 use Rattle.lsl_tree.specs.Nodes.{node_of}
 use Rattle.lsl_tree.specs.Actions.{Action, Actions, AndAction, action_of, actions_of}
 use Rattle.lsl_type.specs.Known.{known_of}
-use Rattle.lsl_type.specs.Scope.{FrameView, frame_of}
-use Rattle.lsl_type.specs.Verdict.{Verdict, ◌>>=◌}
-use Rattle.lsl_type.specs.ActionVerdicts.{items_verdict, item_verdict}
+use Rattle.lsl_type.specs.Scope.{ScopeView, FrameView, frame_of}
+use Rattle.lsl_type.specs.Verdict.{Verdict, ◌>>=◌, Refuses}
+use Rattle.lsl_type.specs.ValueVerdicts.{value_verdict, effects_verdict}
+use Rattle.lsl_type.specs.ActionVerdicts.{items_verdict, item_verdict, statement_verdict}
 use Rattle.lsl_tree.proofs.ProgramRows.{action_of-Block, actions_of-append}
 use Rattle.lsl_tree.proofs.SyntaxRows.{stmt_of-Block}
 use Rattle.lsl_type.proofs.Walks.{items_walk, item_next, walked, each_next, each_stop, each_end, fails_as}
-use Rattle.lsl_type.proofs.BlockLemmas.{block_ok, block_leaves}
+use Rattle.lsl_type.proofs.BlockLemmas.{acted, block_ok, block_leaves}
+use Rattle.lsl_type.proofs.BlockWalks.{for_is}
 use Rattle.lsl_type.proofs.BranchLemmas.{otherwise_fails}
+use Rattle.lsl_type.proofs.Steps.{fails_first, fails_behind, ok_behind}
 use Rattle.lsl_type.proofs.checker.Checker.+statement.Goals as goal
 
 pub block-returns-clause-found : goal.block-returns-clause-found
@@ -83,7 +88,116 @@ statement-returns-in-Block-clause-found t c =
 pub statement-returns-in-Empty-clause-found : goal.statement-returns-in-Empty-clause-found
 statement-returns-in-Empty-clause-found t c = rw action_of-Block (search rules)
 
-pub statement-returns-in_err-otherwise-in-IfElse-clause-found : goal.statement-returns-in_err-otherwise-in-IfElse-clause-found
+pub while_loop-returns-in_err-test-clause-found : goal.while_loop-returns-in_err-test-clause-found
+while_loop-returns-in_err-test-clause-found t c =
+    let known = known_of c.args.self.now.known.now in
+    let f = frame_of c.args.frame.now in
+    let e = c.in_err-test.field-0.0 in
+    let p = err_from_is_err_and c.from_residual.result c.from_residual.ensures.1 in
+    let test = value_verdict known f.scope (expr_of c.args.test.now) in
+    rw (p.1, p.2) (fails_first e test _ c.in_err-test.ensures)
+
+pub while_loop-returns-in_err-body-clause-found : goal.while_loop-returns-in_err-body-clause-found
+while_loop-returns-in_err-body-clause-found t c =
+    let known = known_of c.args.self.now.known.now in
+    let home = c.args.self.now.home in
+    let f = frame_of c.args.frame.now in
+    let e = c.in_err-body.field-0.0 in
+    let p = err_from_is_err_and c.from_residual-in_err-body.result c.from_residual-in_err-body.ensures.1 in
+    let test = value_verdict known f.scope (expr_of c.args.test.now) in
+    let body = statement_verdict known home f (stmt_of c.args.body.now) in
+    rw (p.1, p.2) (fails_behind e test _ _ c.in_ok-test.ensures
+    (fails_first e body _ c.in_err-body.ensures.found))
+
+pub do_loop-returns-in_err-body-clause-found : goal.do_loop-returns-in_err-body-clause-found
+do_loop-returns-in_err-body-clause-found t c =
+    let known = known_of c.args.self.now.known.now in
+    let home = c.args.self.now.home in
+    let f = frame_of c.args.frame.now in
+    let e = c.in_err-body.field-0.0 in
+    let p = err_from_is_err_and c.from_residual.result c.from_residual.ensures.1 in
+    let body = statement_verdict known home f (stmt_of c.args.body.now) in
+    rw (p.1, p.2) (fails_first e body _ c.in_err-body.ensures.found)
+
+pub do_loop-returns-in_err-test-clause-found : goal.do_loop-returns-in_err-test-clause-found
+do_loop-returns-in_err-test-clause-found t c =
+    let known = known_of c.args.self.now.known.now in
+    let home = c.args.self.now.home in
+    let f = frame_of c.args.frame.now in
+    let e = c.in_err-test.field-0.0 in
+    let p = err_from_is_err_and c.from_residual-in_err-test.result c.from_residual-in_err-test.ensures.1 in
+    let body = statement_verdict known home f (stmt_of c.args.body.now) in
+    let test = λ (s : ScopeView). value_verdict known s (expr_of c.args.test.now) in
+    let same = ap (λ (g : FrameView). g.scope) c.in_ok-body.ensures.unchanged in
+    rw (p.1, p.2) (fails_behind e body _ _ c.in_ok-body.ensures.found
+    (fails_first e (test f.scope) _ (subst (λ s. Refuses e (test s)) same c.in_err-test.ensures)))
+
+pub for_loop-returns-in_err-start-clause-found : goal.for_loop-returns-in_err-start-clause-found
+for_loop-returns-in_err-start-clause-found t c =
+    let known = known_of c.args.self.now.known.now in
+    let f = frame_of c.args.frame.now in
+    let e = c.in_err-start.field-0.0 in
+    let p = err_from_is_err_and c.from_residual.result c.from_residual.ensures.1 in
+    let start = effects_verdict known f.scope (exprs_of c.args.start.now) in
+    rw (p.1, p.2) (fails_first e start _ c.in_err-start.ensures)
+
+pub for_loop-returns-in_err-test-clause-found : goal.for_loop-returns-in_err-test-clause-found
+for_loop-returns-in_err-test-clause-found t c =
+    let known = known_of c.args.self.now.known.now in
+    let f = frame_of c.args.frame.now in
+    let e = c.in_err-test.field-0.0 in
+    let p = err_from_is_err_and c.from_residual-in_err-test.result c.from_residual-in_err-test.ensures.1 in
+    let start = effects_verdict known f.scope (exprs_of c.args.start.now) in
+    let test = value_verdict known f.scope (expr_of c.args.test.now) in
+    rw (p.1, p.2) (fails_behind e start _ _ c.in_ok-start.ensures
+    (fails_first e test _ c.in_err-test.ensures))
+
+pub for_loop-returns-in_err-steps-clause-found : goal.for_loop-returns-in_err-steps-clause-found
+for_loop-returns-in_err-steps-clause-found t c =
+    let known = known_of c.args.self.now.known.now in
+    let f = frame_of c.args.frame.now in
+    let e = c.in_err-steps.field-0.0 in
+    let p = err_from_is_err_and c.from_residual-in_err-steps.result c.from_residual-in_err-steps.ensures.1 in
+    let start = effects_verdict known f.scope (exprs_of c.args.start.now) in
+    let test = value_verdict known f.scope (expr_of c.args.test.now) in
+    let steps = effects_verdict known f.scope (exprs_of c.args.step.now) in
+    rw (p.1, p.2) (fails_behind e start _ _ c.in_ok-start.ensures
+    (fails_behind e test _ _ c.in_ok-test.ensures (fails_first e steps _ c.in_err-steps.ensures)))
+
+pub for_loop-returns-in_err-body-clause-found : goal.for_loop-returns-in_err-body-clause-found
+for_loop-returns-in_err-body-clause-found t c =
+    let known = known_of c.args.self.now.known.now in
+    let home = c.args.self.now.home in
+    let f = frame_of c.args.frame.now in
+    let e = c.in_err-body.field-0.0 in
+    let p = err_from_is_err_and c.from_residual-in_err-body.result c.from_residual-in_err-body.ensures.1 in
+    let start = effects_verdict known f.scope (exprs_of c.args.start.now) in
+    let test = value_verdict known f.scope (expr_of c.args.test.now) in
+    let steps = effects_verdict known f.scope (exprs_of c.args.step.now) in
+    let body = statement_verdict known home f (stmt_of c.args.body.now) in
+    rw (p.1, p.2) (fails_behind e start _ _ c.in_ok-start.ensures
+    (fails_behind e test _ _ c.in_ok-test.ensures
+    (fails_behind e steps _ _ c.in_ok-steps.ensures (fails_first e body _ c.in_err-body.ensures.found))))
+
+pub for_loop-returns-clause-found : goal.for_loop-returns-clause-found
+for_loop-returns-clause-found t c =
+    let known = known_of c.args.self.now.known.now in
+    let f = frame_of c.args.frame.now in
+    let start = effects_verdict known f.scope (exprs_of c.args.start.now) in
+    let test = value_verdict known f.scope (expr_of c.args.test.now) in
+    let steps = effects_verdict known f.scope (exprs_of c.args.step.now) in
+    let body = statement_verdict known c.args.self.now.home f (stmt_of c.args.body.now) in
+    let is = for_is c.push.new.self c.in_ok-actions.actions.items c.in_ok-repeated.field-0
+    (map effect_of c.in_ok-start.start.items) _ c.in_ok-push.ensures.items c.in_ok-actions.ensures
+    c.in_ok-repeated.ensures in
+    ok_behind start _ _ _ c.in_ok-start.ensures
+    (ok_behind test _ _ _ c.in_ok-test.ensures
+    (ok_behind steps _ _ _ c.in_ok-steps.ensures
+    (ok_behind body _ _ _ c.in_ok-body.ensures.found
+    (ap (λ (a : Action). acted a c.statement.new.frame.slots.items) (sym is)))))
+
+pub statement-returns-in_err-otherwise-in-IfElse-clause-found :
+    goal.statement-returns-in_err-otherwise-in-IfElse-clause-found
 statement-returns-in_err-otherwise-in-IfElse-clause-found t c =
     let known = known_of c.args.self.now.known.now in
     let p = err_from_is_err_and c.from_residual-in_err-otherwise-in-IfElse.result
