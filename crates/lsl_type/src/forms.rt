@@ -70,12 +70,12 @@ pub(crate) fn done_once(
     })
 }
 
-/// The effects, each as a statement.
+/// The effects, each as a statement, with room for one more.
 pub(crate) fn effect_actions(alloc: Global, effects: Vec<Effect>) -> Result<Vec<Action>, NoMemory>
     ensures { IfOk result
         (λ v. actions_of v.items ≡ effects_after NoAction (map effect_of effects.items)) }
 {
-    let mut actions = Vec::with_capacity(alloc, effects.len())?;
+    let mut actions = Vec::with_capacity(alloc, effects.len().saturating_add(1))?;
     for effect in effects {
         actions.push(Action::Effect { effect })?;
     }
