@@ -3,7 +3,7 @@ use Rattle.std.proofs.Common.{◌≡◌, ℕ, zero, suc, ◌<◌, ◌≤◌, Lis
 use Rattle.std.specs.Prelude.{Some, slice_get}
 use Rattle.lsl_region.specs.declared.grid.Seat.{Seat}
 use Rattle.lsl_region.specs.declared.objects.Linkset.{Linkset}
-use Rattle.lsl_region.specs.Grids.{ArePlaced}
+use Rattle.lsl_region.specs.Grids.{ArePlaced, IsPlaced}
 
 -- what holds of all items and of one more
 pub all-more : {X : Type 0} (P : X → Type 0) (xs : List X) (y : X)
@@ -30,4 +30,14 @@ placed-more objects seats o p room prims = record {
   few_seats = p.few_seats;
   placed = λ n s e. let q = p.placed n s e in
       record { object = q.object; there = get-more objects o s.object q.object q.there; prim = q.prim };
+}
+
+-- one script more
+pub placed-seat : (objects : List Linkset) (seats : List Seat) (s : Seat) → ArePlaced objects seats
+    → length seats < 256 → IsPlaced objects s → ArePlaced objects (seats ++ s ∷ [])
+placed-seat objects seats s p room one = record {
+  few_objects = p.few_objects;
+  few_prims = p.few_prims;
+  few_seats = omega (arith, length-append seats (s ∷ []));
+  placed = λ n x e. all-more (λ (z : Seat). IsPlaced objects z) seats s p.placed one n x e;
 }

@@ -1,3 +1,4 @@
+pub mod Marks
 pub mod Cuts
 pub mod CutBytes
 pub mod Behind
@@ -5,6 +6,8 @@ pub mod Placed
 pub mod Results
 pub mod Seats
 pub mod Posts
+pub mod Marked
+pub mod Passing
 pub mod Away
 pub mod Calls
 pub mod Lending

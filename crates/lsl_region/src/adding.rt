@@ -4,6 +4,7 @@ ghost use Rattle.std.specs.Prelude.{◌≡◌, ◌<◌, ◌≤◌, [], ◌∷◌
 ghost use Rattle.lsl_region.specs.Grids.{IsPlaced};
 
 use crate::grid::{Grid, Seat};
+use crate::hearing::is_hearer;
 use crate::objects::Linkset;
 use lsl_text::NoMemory;
 
@@ -26,6 +27,10 @@ impl Grid {
         ensures added { OnOk result (self.new.seats ≡ self.old.seats ++ seat ∷ []) }
         ensures objects { self.new.objects ≡ self.old.objects }
     {
+        let place = self.seats.len();
+        let hears = is_hearer(&seat.script);
+        self.hearers.push()?;
+        self.hearers.tell(place, hears);
         self.seats.push(seat)?;
         Ok(())
     }

@@ -5,6 +5,7 @@ ghost use Rattle.lsl_code.specs.declared.woven_units.Woven.{Woven as Code};
 ghost use Rattle.lsl_region.specs.Grids.{Stands};
 ghost use Rattle.lsl_region.specs.Worlds.{no_object, empty_world};
 
+use crate::hearing::Hearers;
 use crate::objects::Linkset;
 use lsl_script::Script;
 use lsl_value::Text;
@@ -22,22 +23,24 @@ pub struct Seat {
     pub script: Option<Script>,
 }
 
-/// Objects and scripts, both numbered from 1 in the order in which they were added.
+/// Objects and scripts, both numbered from 1 in the order in which they were added, and which scripts have a listen.
 #[derive(Drop)]
 pub struct Grid {
     pub(crate) alloc: Global,
     pub(crate) objects: Vec<Linkset>,
     pub(crate) seats: Vec<Seat>,
+    pub(crate) hearers: Hearers,
 }
 
 impl Model for Grid {
     ghost use Rattle.lsl_region.specs.Grids.{Contents, ArePlaced};
+    ghost use Rattle.lsl_region.specs.Hearing.{AreMarked};
 
     ghost Value = { Contents };
 
     ghost view = { λ g. record { objects = g.objects.items; seats = g.seats.items } };
 
-    ghost invariant = { λ g. ArePlaced g.objects.items g.seats.items };
+    ghost invariant = { λ g. ArePlaced g.objects.items g.seats.items × AreMarked g.hearers g.seats.items };
 }
 
 impl Grid {
@@ -50,6 +53,7 @@ impl Grid {
             alloc,
             objects: Vec::new(alloc),
             seats: Vec::new(alloc),
+            hearers: Hearers::new(alloc),
         }
     }
 

@@ -6,6 +6,7 @@ ghost use Rattle.lsl_region.specs.Turning.{with_seated};
 ghost use Rattle.lsl_region.specs.declared.grid.Seat.{Seat as Place};
 
 use crate::grid::Grid;
+use crate::hearing::has_listens;
 use lsl_script::Script;
 
 impl Grid {
@@ -21,7 +22,8 @@ impl Grid {
         self.seats[place].script.take()
     }
 
-    /// A script comes into the seat at this place.
+    /// A script comes into the seat at this place. Takes no memory; where it has listens as before, or none as before,
+    /// that costs one comparison, and else the places up to this one are walked.
     pub(crate) fn put_back(&mut self, place: usize, script: Script)
         requires { place < length self.old.seats }
         ensures seats { (seat : Place) → slice_get self.old.seats place ≡ Some seat →
@@ -29,6 +31,8 @@ impl Grid {
         ensures len { length self.new.seats ≡ length self.old.seats }
         ensures units { map unit_number self.new.seats ≡ map unit_number self.old.seats }
     {
+        let hears = has_listens(&script);
+        self.hearers.tell(place, hears);
         self.seats[place].script = Some(script);
     }
 }

@@ -1,6 +1,6 @@
 //! Events that are posted while one script is out of the grid and waits for an answer.
 
-ghost use Rattle.std.specs.Prelude.{◌≡◌, ◌<◌, ℕ, List, false, length, map, OnOk};
+ghost use Rattle.std.specs.Prelude.{◌≡◌, ◌<◌, ◌≤◌, ℕ, List, false, length, map, OnOk};
 ghost use Rattle.lsl_value.specs.declared.names.BuiltinId.{BuiltinId};
 ghost use Rattle.lsl_code.specs.declared.woven_units.Woven.{Woven as Code};
 ghost use Rattle.lsl_post.specs.Journal.{Tells};
@@ -10,6 +10,7 @@ ghost use Rattle.lsl_script.specs.Fitting.{is_exit};
 ghost use Rattle.lsl_script.specs.Lives.{Waits};
 ghost use Rattle.lsl_script.specs.Scripts.{Flight, Script as Source, post_to};
 ghost use Rattle.lsl_region.specs.Grids.{AreSeated, Lent, unit_number};
+ghost use Rattle.lsl_region.specs.Hearing.{ArePassed};
 ghost use Rattle.lsl_region.specs.Posting.{admits, post_all, post_where};
 ghost use Rattle.lsl_region.specs.Worlds.{World};
 
@@ -115,7 +116,25 @@ impl Grid {
         self.post_at(to, audience, event, library, out)
     }
 
-    /// Posts an event to all scripts that are among them, where the one at this place is out and waits for an answer.
+    // The next place from this one on whose script may be one of them, where the one at a place is out, or the end.
+    fn next_with(&self, place: usize, audience: &Audience, from: usize) -> usize
+        requires place { place < length self.now.seats }
+        requires from { from ≤ length self.now.seats }
+        ensures onward { from ≤ result }
+        ensures within { result ≤ length self.now.seats }
+        ensures passed { ArePassed audience.now self.now.seats from result }
+        ensures own { from ≤ place → result ≤ place }
+    {
+        let next = self.next_of(audience, from);
+        if from <= place && place < next {
+            place
+        } else {
+            next
+        }
+    }
+
+    /// Posts an event to all scripts that are among them, where the one at this place is out and waits for an answer. Of
+    /// what is said only this one and the scripts with a listen are asked, else all are.
     pub(crate) fn post_all_with(
         &mut self,
         place: usize,
@@ -141,8 +160,11 @@ impl Grid {
         ensures awake { IsAwake unit.now live.new }
         ensures machine { live.new.machine ≡ live.old.machine }
     {
-        for to in 0..self.seats.len() {
+        let end = self.seats.len();
+        let mut to = self.next_with(place, audience, 0);
+        while to < end {
             self.post_with(place, live, to, audience, event, library, unit, out)?;
+            to = self.next_with(place, audience, to + 1);
         }
         Ok(())
     }

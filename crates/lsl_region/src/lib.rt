@@ -9,6 +9,7 @@ mod arrivals;
 mod audience;
 mod events;
 mod grid;
+mod hearing;
 pub mod laws;
 mod leaving;
 mod lent;

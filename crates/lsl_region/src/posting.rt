@@ -1,13 +1,15 @@
 //! Events that are posted to scripts, in the order of their numbers.
 
-ghost use Rattle.std.specs.Prelude.{◌≡◌, ◌<◌, ◌≤◌, ◌+◌, ℕ, List, Option, Some, None, false, length, map, slice_get, is_some, OnOk};
+ghost use Rattle.std.specs.Prelude.{◌≡◌, ◌<◌, ◌≤◌, ◌+◌, ℕ, Bool, List, Option, Some, None, false, length, map, slice_get, is_some, OnOk};
 ghost use Rattle.lsl_post.specs.Journal.{Adds, Tells};
+ghost use Rattle.lsl_post.specs.declared.parts.ScriptParts.{ScriptParts as Parts};
 ghost use Rattle.lsl_code.specs.declared.woven_units.Woven.{Woven as Code};
 ghost use Rattle.lsl_script.specs.Codes.{HasUnit, Meant, rules_of};
 ghost use Rattle.lsl_script.specs.Fitting.{FitsUnit, is_exit};
 ghost use Rattle.lsl_script.specs.Parts.{parts_of};
 ghost use Rattle.lsl_script.specs.Scripts.{Script as Source, entries_of_posting, post_to};
 ghost use Rattle.lsl_region.specs.Grids.{AreSeated, FitsSeat, Stands, is_out, key_in, unit_number};
+ghost use Rattle.lsl_region.specs.Hearing.{ArePassed, IsMarked, has_listens};
 ghost use Rattle.lsl_region.specs.Posting.{admits, is_admitted, post_all, post_where};
 ghost use Rattle.lsl_region.specs.Worlds.{Member, World};
 ghost use Rattle.lsl_region.specs.declared.grid.Seat.{Seat as Place};
@@ -53,6 +55,7 @@ pub(crate) fn post_script(
         Tells result (λ t _. script.new ≡ parts_of codes t) out.old out.new
         (post_to (rules_of codes) number event.now s) }
     ensures fits { OnOk result (FitsUnit unit.now script.new) }
+    ensures listens { script.new.listens ≡ script.old.listens }
 {
     let posted = script.post(unit, event.copy(alloc)?);
     tell_posted(number, posted, out)
@@ -74,6 +77,7 @@ fn post_seat(
         Tells result (λ t _. seat.new ≡ Some (parts_of codes t)) out.old out.new
         (post_to (rules_of codes) number event.now s) }
     ensures fits { OnOk result (FitsSeat unit.now seat.new) }
+    ensures marked { (mark : Bool) → IsMarked mark seat.old → IsMarked mark seat.new }
 {
     match seat {
         Some(script) => post_script(alloc, script, number, event, unit, out),
@@ -140,7 +144,33 @@ impl Grid {
             out,
         )
     }
-    /// Posts an event to all scripts that are among them.
+
+    // The next place from this one on whose script may hear something, or the end.
+    fn next_hearer(&self, from: usize) -> usize
+        requires { from ≤ length self.now.seats }
+        ensures onward { from ≤ result }
+        ensures within { result ≤ length self.now.seats }
+        ensures passed { (place : ℕ) (seat : Place) (parts : Parts) → from ≤ place → place < result →
+            slice_get self.now.seats place ≡ Some seat → seat.script ≡ Some parts → has_listens parts.listens ≡ false }
+    {
+        self.hearers.next(from).min(self.seats.len())
+    }
+
+    /// The next place from this one on whose script may be one of them, or the end. Takes no memory; asks no script.
+    pub(crate) fn next_of(&self, audience: &Audience, from: usize) -> usize
+        requires { from ≤ length self.now.seats }
+        ensures onward { from ≤ result }
+        ensures within { result ≤ length self.now.seats }
+        ensures passed { ArePassed audience.now self.now.seats from result }
+    {
+        match audience {
+            Audience::Hearers(_) => self.next_hearer(from),
+            _ => from,
+        }
+    }
+
+    /// Posts an event to all scripts that are among them. Of what is said only the scripts with a listen are asked, else
+    /// all are.
     pub(crate) fn post_all(
         &mut self,
         audience: &Audience,
@@ -158,8 +188,11 @@ impl Grid {
         ensures units { map unit_number self.new.seats ≡ map unit_number self.old.seats }
         ensures objects { self.new.objects ≡ self.old.objects }
     {
-        for place in 0..self.seats.len() {
+        let end = self.seats.len();
+        let mut place = self.next_of(audience, 0);
+        while place < end {
             self.post_at(place, audience, event, library, out)?;
+            place = self.next_of(audience, place + 1);
         }
         Ok(())
     }

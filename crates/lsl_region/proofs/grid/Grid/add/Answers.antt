@@ -8,6 +8,8 @@ pub invariant_of-self-2 : goal.invariant_of-self-2
 invariant_of-self-2 c =
     let inside = c.self.inside in
     let room : length inside.objects.items < 64 =
-    omega (arith, c.requires.room, ap (λ (g : Contents). length g.objects) c.self.view_is) in
-    subst (λ (xs : List Linkset). ArePlaced xs inside.seats.items) (sym c.in_ok-push.ensures.items)
-    (placed-more inside.objects.items inside.seats.items c.args.object c.self.invariant room c.requires.prims)
+    omega (arith, c.requires.room, ap (λ (g : Contents). length g.objects) c.self.view_is) in (
+      subst (λ (xs : List Linkset). ArePlaced xs inside.seats.items) (sym c.in_ok-push.ensures.items)
+          (placed-more inside.objects.items inside.seats.items c.args.object c.self.invariant.0 room c.requires.prims),
+      c.self.invariant.1,
+    )

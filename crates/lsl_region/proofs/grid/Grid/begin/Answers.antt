@@ -30,7 +30,7 @@ number-requires c =
       arith,
       c.requires.place,
       c.take_out.ensures.len,
-      c.self.invariant.few_seats,
+      c.self.invariant.0.few_seats,
       ap (λ (g : Contents). length g.seats) c.self.view_is,
     )
 

@@ -1,4 +1,4 @@
-use Rattle.std.proofs.Common.{◌≡◌, ℕ, length, map}
+use Rattle.std.proofs.Common.{◌≡◌, ◌≤◌, ◌-◌, ℕ, length, map}
 use Rattle.lsl_value.specs.declared.names.BuiltinId.{BuiltinId}
 use Rattle.lsl_post.proofs.Amid.{Walk}
 use Rattle.lsl_script.specs.Awake.{IsAwake}
@@ -12,7 +12,8 @@ use Rattle.lsl_region.proofs.grid.Grid.post_all_with.Given as goal
 abbrev pub invariant-loop-to : goal.invariant-loop-to
 invariant-loop-to l =
     record {
-      len : length l.self.seats ≡ l.to-end;
+      len : length l.self.seats ≡ l.end;
+      within : l.to ≤ l.end;
       same : length l.self.seats ≡ length l.fn.self.seats;
       units : map unit_number l.self.seats ≡ map unit_number l.fn.self.seats;
       objects : l.self.objects ≡ l.fn.self.objects;
@@ -23,5 +24,8 @@ invariant-loop-to l =
           → Lent l.library l.unit clock l.place l.fn.self l.fn.live id f w →
           Walk (λ v. Lent l.library l.unit clock l.place l.self l.live id f v)
           (post_all m.rules (admits l.audience) l.event w)
-          l.fn.out l.out (post_where m.rules (admits l.audience) l.event) l.to l.to-end;
+          l.fn.out l.out (post_where m.rules (admits l.audience) l.event) l.to l.end;
     }
+
+abbrev pub decreases-loop-to : goal.decreases-loop-to
+decreases-loop-to l = l.end - l.to

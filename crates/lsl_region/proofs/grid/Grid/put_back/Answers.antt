@@ -5,14 +5,18 @@ use Rattle.lsl_region.specs.declared.grid.Seat.{Seat}
 use Rattle.lsl_region.specs.Grids.{Contents, unit_number}
 use Rattle.lsl_region.specs.Turning.{with_seated}
 use Rattle.lsl_region.proofs.Coming.{seat-is}
+use Rattle.lsl_region.proofs.Marked.{marked-told}
 use Rattle.lsl_region.proofs.Seats.{placed-set, read-at, units-set}
 use Rattle.lsl_region.proofs.grid.Grid.put_back.Goals as goal
 
 pub invariant_of-self : goal.invariant_of-self
 invariant_of-self c =
-    let h : c.args.place < length c.self.inside.seats.items = search (rules, c.requires) in
-    placed-set c.self.inside.objects.items c.self.inside.seats.items c.args.place c.index_mut.result.now _
-    (read-at c.self.inside.seats.items c.args.place _ h c.index_mut.ensures.value) refl refl c.self.invariant
+    let h : c.args.place < length c.self.inside.seats.items = search (rules, c.requires) in (
+      placed-set c.self.inside.objects.items c.self.inside.seats.items c.args.place c.index_mut.result.now _
+          (read-at c.self.inside.seats.items c.args.place _ h c.index_mut.ensures.value) refl refl c.self.invariant.0,
+      marked-told c.self.inside.hearers c.tell.new.self c.self.inside.seats.items c.args.place _ c.has_listens-hears.result h
+          c.tell.ensures c.has_listens-hears.ensures c.self.invariant.1,
+    )
 
 pub returns : goal.returns
 returns c =

@@ -9,6 +9,7 @@ use Rattle.lsl_script.specs.Scripts.{ring_to}
 use Rattle.lsl_region.specs.declared.grid.Seat.{Seat}
 use Rattle.lsl_region.specs.Grids.{AreSeated, Contents, FitsSeat, Stands}
 use Rattle.lsl_region.specs.Worlds.{Member, World}
+use Rattle.lsl_region.proofs.Marked.{marked-kept}
 use Rattle.lsl_region.proofs.Placed.{changed}
 use Rattle.lsl_region.proofs.Rings.{ring-script, rings-same}
 use Rattle.lsl_region.proofs.Results.{OnOk-map}
@@ -36,8 +37,13 @@ ring_seat-requires-clause-fits c =
 pub invariant_of-self : goal.invariant_of-self
 invariant_of-self c =
     let h : c.args.place < length c.self.inside.seats.items = search (rules, c.requires.place) in
-    placed-set c.self.inside.objects.items c.self.inside.seats.items c.args.place c.index_mut-seat.result.now _
-    (read-at c.self.inside.seats.items c.args.place _ h c.index_mut-seat.ensures.value) refl refl c.self.invariant
+    let seat = c.index_mut-seat.result.now in
+    let at = read-at c.self.inside.seats.items c.args.place seat h c.index_mut-seat.ensures.value in (
+      placed-set c.self.inside.objects.items c.self.inside.seats.items c.args.place seat _ at refl refl
+          c.self.invariant.0,
+      marked-kept c.self.inside.hearers c.self.inside.seats.items c.args.place _ h
+          (c.ring_seat.ensures.marked _ (c.self.invariant.1.marked c.args.place seat at)) c.self.invariant.1,
+    )
 
 pub returns-clause-does : goal.returns-clause-does
 returns-clause-does c = λ m w old.

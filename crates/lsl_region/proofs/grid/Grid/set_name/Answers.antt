@@ -8,7 +8,7 @@ use Rattle.lsl_region.proofs.grid.Grid.set_name.Goals as goal
 pub index_mut-requires : goal.index_mut-requires
 index_mut-requires c =
     let h : c.args.place < length c.self.inside.seats.items = search (rules, c.requires) in
-    let q = c.self.invariant.placed c.args.place _
+    let q = c.self.invariant.0.placed c.args.place _
     (read-at c.self.inside.seats.items c.args.place _ h c.index-seat.ensures) in
     let k : c.index-seat.result.now.object < length c.self.inside.objects.items
     = slice_get_within c.self.inside.objects.items _ q.object q.there in
@@ -18,24 +18,27 @@ pub rename-requires : goal.rename-requires
 rename-requires c =
     let h : c.args.place < length c.self.inside.seats.items = search (rules, c.requires) in
     (object-read c.self.inside.objects.items c.self.inside.seats.items c.args.place _ c.index_mut.result.now
-    c.self.invariant (read-at c.self.inside.seats.items c.args.place _ h c.index-seat.ensures)
+    c.self.invariant.0 (read-at c.self.inside.seats.items c.args.place _ h c.index-seat.ensures)
     c.index_mut.ensures.value).1
 
 pub invariant_of-self : goal.invariant_of-self
 invariant_of-self c =
     let h : c.args.place < length c.self.inside.seats.items = search (rules, c.requires) in
     let o = object-read c.self.inside.objects.items c.self.inside.seats.items c.args.place _ c.index_mut.result.now
-    c.self.invariant (read-at c.self.inside.seats.items c.args.place _ h c.index-seat.ensures)
-    c.index_mut.ensures.value in
-    placed-named c.self.inside.objects.items c.self.inside.seats.items c.index-seat.result.now.object
-    c.index_mut.result.now _ o.0
-    (ap (λ (ps : List Primitive). length ps) c.rename.ensures ∙ length-set c.index_mut.result.now.prims _ _) c.self.invariant
+    c.self.invariant.0 (read-at c.self.inside.seats.items c.args.place _ h c.index-seat.ensures)
+    c.index_mut.ensures.value in (
+      placed-named c.self.inside.objects.items c.self.inside.seats.items c.index-seat.result.now.object
+          c.index_mut.result.now _ o.0
+          (ap (λ (ps : List Primitive). length ps) c.rename.ensures ∙ length-set c.index_mut.result.now.prims _ _)
+          c.self.invariant.0,
+      c.self.invariant.1,
+    )
 
 pub returns-clause-grid : goal.returns-clause-grid
 returns-clause-grid c = λ seat e.
     let h : c.args.place < length c.self.inside.seats.items = search (rules, c.requires) in
     let at = read-at c.self.inside.seats.items c.args.place _ h c.index-seat.ensures in
     let o = object-read c.self.inside.objects.items c.self.inside.seats.items c.args.place _ c.index_mut.result.now
-    c.self.invariant at c.index_mut.ensures.value in
+    c.self.invariant.0 at c.index_mut.ensures.value in
     named-is _ c.args.self.now c.args.place c.index-seat.result.now seat c.index_mut.result.now c.rename.new.self
     c.args.name c.self.view_is at e o.0 c.rename.ensures

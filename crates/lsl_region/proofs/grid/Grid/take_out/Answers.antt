@@ -1,18 +1,24 @@
-use Rattle.std.proofs.Common.{◌<◌, ◌∙◌, ap, length, map, refl, rules}
+use Rattle.std.proofs.Common.{◌<◌, ◌∙◌, ap, false, get_or, length, map, refl, rules, subst, sym}
 use Rattle.std.specs.Prelude.{Option, None}
 use Rattle.lsl_post.specs.declared.parts.ScriptParts.{ScriptParts}
 use Rattle.lsl_region.specs.declared.grid.Seat.{Seat}
 use Rattle.lsl_region.specs.Grids.{Contents, unit_number}
+use Rattle.lsl_region.specs.Hearing.{IsMarked}
 use Rattle.lsl_region.specs.Turning.{with_seated}
 use Rattle.lsl_region.proofs.Coming.{seat-is}
+use Rattle.lsl_region.proofs.Marked.{marked-kept}
 use Rattle.lsl_region.proofs.Seats.{placed-set, read-at, units-set}
 use Rattle.lsl_region.proofs.grid.Grid.take_out.Goals as goal
 
 pub invariant_of-self : goal.invariant_of-self
 invariant_of-self c =
-    let h : c.args.place < length c.self.inside.seats.items = search (rules, c.requires) in
-    placed-set c.self.inside.objects.items c.self.inside.seats.items c.args.place c.index_mut.result.now _
-    (read-at c.self.inside.seats.items c.args.place _ h c.index_mut.ensures.value) refl refl c.self.invariant
+    let h : c.args.place < length c.self.inside.seats.items = search (rules, c.requires) in (
+      placed-set c.self.inside.objects.items c.self.inside.seats.items c.args.place c.index_mut.result.now _
+          (read-at c.self.inside.seats.items c.args.place _ h c.index_mut.ensures.value) refl refl c.self.invariant.0,
+      marked-kept c.self.inside.hearers c.self.inside.seats.items c.args.place _ h
+          (subst (λ (script : Option ScriptParts). IsMarked (get_or c.self.inside.hearers c.args.place false) script)
+          (sym c.take.ensures.after) tt) c.self.invariant.1,
+    )
 
 pub returns-clause-taken : goal.returns-clause-taken
 returns-clause-taken c = λ seat sits.

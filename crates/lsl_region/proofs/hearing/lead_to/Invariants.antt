@@ -1,0 +1,11 @@
+use Rattle.std.proofs.Common.{◌≡◌, ◌<◌, ◌≤◌, ◌+◌, ℕ, length, get_or, min}
+use Rattle.lsl_region.proofs.hearing.lead_to.Given as goal
+
+abbrev pub invariant-loop-from : goal.invariant-loop-from
+invariant-loop-from l =
+    record {
+      len : length l.next.items ≡ length l.fn.next.items;
+      end : l.from-end ≡ l.place + 1;
+      before : (k : ℕ) → k < l.from → get_or l.next.items k 0 ≡ min (get_or l.fn.next.items k 0) l.place;
+      behind : (k : ℕ) → l.from ≤ k → get_or l.next.items k 0 ≡ get_or l.fn.next.items k 0;
+    }
