@@ -73,7 +73,8 @@ module _ {T E : Type 0} (codes : List Code) (unit : Code) (clock place : ℕ) (g
     (id : BuiltinId) (f : Flight) (w : World) (lent : Lent codes unit clock place grid live id f w)
     (thing : Member → Told Script) where
   -- a change of the script that is out
-  pub lent-self : (r : Result T E) (old now : List Entry) → KeepsScript codes true lent.member.script (thing lent.member).value
+  pub lent-self : (r : Result T E) (old now : List Entry)
+      → KeepsScript codes true lent.member.script (thing lent.member).value
       → Tells r (λ t _. Waits codes unit t f id new) old now (thing lent.member)
       → Tells r (λ v _. Lent codes unit clock place grid new id f v) old now (at_member place thing w)
   lent-self (Ok x) old now keeps d =
@@ -100,7 +101,8 @@ elsewhere place to thing w n = go (slice_get w.members to) where
   go (Some m) = slice_get-set_other w.members to place _ n
 
 -- a change of another script
-pub lent-other : {T E : Type 0} (codes : List Code) (unit : Code) (clock place to : ℕ) (grid new : Contents) (live : Live)
+pub lent-other : {T E : Type 0} (codes : List Code) (unit : Code) (clock place to : ℕ) (grid new : Contents)
+    (live : Live)
     (id : BuiltinId) (f : Flight) (w : World) (thing : Member → Told Script) (r : Result T E) (old now : List Entry)
     → place ≢ to → Lent codes unit clock place grid live id f w
     → Tells r (λ v _. Stands codes (Some place) clock new v) old now (at_member to thing w)

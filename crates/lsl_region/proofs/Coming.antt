@@ -42,7 +42,8 @@ module _ (codes : List Code) (clock place : ℕ) (grid : Contents) (w : World) (
       → Stands codes (Some place) clock (with_seated grid place seat None)
       (with_member w place (record m { script = t }))
   stands-out st =
-      let home : Some seat ≡ Some (seat_of codes false m) = sym sits ∙ seated-at codes None clock grid w st place m at in
+      let home : Some seat ≡ Some (seat_of codes false m) = sym sits ∙ seated-at codes None clock grid w st place m at
+      in
       let is : seat ≡ seat_of codes false m = cc in
       let same : record seat { script = None } ≡ seat_of codes (is_out (Some place) place) (record m { script = t })
       = ap (λ (z : Seat). record z { script = None }) is

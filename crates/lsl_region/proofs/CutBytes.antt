@@ -125,7 +125,8 @@ scalars_cut : (room : ℕ) (text : List ℕ) → all_scalars text ≡ true → a
 scalars_cut room text h =
     let r = behind_cut room text in
     subst (λ (t : List ℕ). all_scalars t ≡ true) (take-front (cut_to room text) r.0)
-    (scalars-take (length (cut_to room text)) (cut_to room text ++ r.0) (subst (λ (t : List ℕ). all_scalars t ≡ true) r.1 h))
+    (scalars-take (length (cut_to room text)) (cut_to room text ++ r.0)
+    (subst (λ (t : List ℕ). all_scalars t ≡ true) r.1 h))
 
 -- so its bytes are a text's
 pub cut_text : (room : ℕ) (text bytes : List ℕ) → room ≤ 1024 → all_scalars text ≡ true

@@ -69,7 +69,8 @@ module _ (codes : List Code) (unit : Code) (clock place : ℕ) (grid : Contents)
 
     -- it asked
     pub comes-asking : (call : Call)
-        → flight_whole (rules_of codes) script.code script.state f (f.ticks + 1) f.answers ≡ whole.Asks call.id call.args
+        → flight_whole (rules_of codes) script.code script.state f
+        (f.ticks + 1) f.answers ≡ whole.Asks call.id call.args
         → asked m.rules (most + 1) place f w
         ≡ next_to (answer m.rules place call.id call.args w) (λ x. asked m.rules most place (given x.1 f) x.0)
     comes-asking call e = comes (whole.Asks call.id call.args) e
@@ -139,7 +140,8 @@ asks-more r code state f n k le asks = λ replies enough. asks replies (omega ar
 
 -- from stop to stop fewer are left
 pub left-falls : (unit : Code) (t : Turn) (live : Live) (n : ℕ)
-    → ((call : Call) → t ≡ turn.Asks call → asks_left unit (turn.Asks call) live < n) → 0 < n → asks_left unit t live < n
+    → ((call : Call) → t ≡ turn.Asks call → asks_left unit (turn.Asks call) live < n) → 0 < n
+    → asks_left unit t live < n
 left-falls unit (turn.Asks call) live n falls some = falls call refl
 left-falls unit turn.AtTick live n falls some = some
 left-falls unit turn.Ended live n falls some = some
@@ -170,7 +172,8 @@ goes-to codes unit clock place grid live new t f most w g turns = record {
 }
 
 -- the script that asked is lent
-abbrev pub paused-lent : (codes : List Code) (unit : Code) (clock place : ℕ) (grid : Contents) (live : Live) (call : Call)
+abbrev pub paused-lent : (codes : List Code) (unit : Code) (clock place : ℕ) (grid : Contents) (live : Live)
+    (call : Call)
     (f : Flight) (most : ℕ) (w : World) → Paused codes unit clock place grid live (turn.Asks call) f most w
     → Lent codes unit clock place grid live call.id f w
 paused-lent codes unit clock place grid live call f most w p = record {

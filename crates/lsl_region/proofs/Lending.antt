@@ -63,7 +63,8 @@ module _ (codes : List Code) (unit : Code) (clock place : ℕ) (grid : Contents)
       time = lent.stands.time;
       objects = ap (λ (os : List Linkset).
           let o = object_in os (seat_of codes true lent.member) in
-          slice_set os lent.member.object (record o { prims = with_name o.prims lent.member.prim name })) lent.stands.objects;
+          slice_set os lent.member.object (record o { prims = with_name o.prims lent.member.prim name }))
+          lent.stands.objects;
       seats = lent.stands.seats;
       scripts = lent.stands.scripts;
     };

@@ -37,10 +37,12 @@ module _ (marks : List Bool) (place : ℕ) (there : place < length marks) where
     module _ (before : (from : ℕ) → from ≤ place → get_or new from 0 ≡ min (get_or old from 0) place) where
       onward-to : (from : ℕ) → ((leb from place ≡ true) × (from ≤ place)) ⊎ ((leb from place ≡ false) × (place < from))
           → from < length new → from ≤ get_or new from 0
-      onward-to from (inl e) h = let o = lead.onward from (omega (arith, h, len)) in omega (arith, o, before from e.1, e.1)
+      onward-to from (inl e) h = let o = lead.onward from (omega (arith, h, len))
+          in omega (arith, o, before from e.1, e.1)
       onward-to from (inr e) h = let o = lead.onward from (omega (arith, h, len)) in omega (arith, o, behind from e.1)
 
-      passed-to : (from n : ℕ) → ((leb from place ≡ true) × (from ≤ place)) ⊎ ((leb from place ≡ false) × (place < from))
+      passed-to : (from n : ℕ) → ((leb from place ≡ true) × (from ≤ place))
+          ⊎ ((leb from place ≡ false) × (place < from))
           → from ≤ n → n < get_or new from 0 → get_or (slice_set marks place true) n false ≡ false
       passed-to from n (inl e) h k =
           let b = before from e.1 in

@@ -139,11 +139,13 @@ module _ {T E : Type 0} (codes : List Code) (away : Option ℕ) (clock : ℕ) (g
       let is : seat ≡ seat_of codes false s.member = s.is ∙ ap (λ (b : Bool). seat_of codes b s.member) home in
       let d = told s.member s.at is in
       let t : Script = (thing s.member).value in
-      let k = keeps s.member (subst (λ (b : Bool). IsScript codes b s.member.script) home (st.scripts n s.member s.at)) in
+      let k = keeps s.member (subst (λ (b : Bool). IsScript codes b s.member.script) home (st.scripts n s.member s.at))
+      in
       let same : record seat { script = script } ≡ seat_of codes (is_out away n) (record s.member { script = t })
       = ap (λ (z : Seat). record z { script = script }) is
       ∙ ap (λ (p : Option ScriptParts). record (seat_of codes false s.member) { script = p }) d.0
-      ∙ ap (λ (c : ℕ). record (seat_of codes false s.member) { unit = c; script = Some (parts_of codes t) }) (sym k.code)
+      ∙ ap (λ (c : ℕ). record (seat_of codes false s.member) { unit = c; script = Some (parts_of codes t) })
+      (sym k.code)
       ∙ ap (λ (b : Bool). seat_of codes b (record s.member { script = t })) (sym home) in
       subst (λ (a : Told World). Stands codes away clock new a.value × (now ≡ old ++ a.entries))
       (sym (at-member n thing w s.member s.at)) (

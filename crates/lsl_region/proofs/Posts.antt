@@ -81,7 +81,8 @@ pub posts-same : (codes : List Code) (m : Meant codes) (away : Option ℕ) (cloc
     → post_where (rules_of codes) test e n w ≡ post_where m.rules test e n w
 posts-same codes m away clock grid w st test e n = go (slice_get w.members n) refl where
   go : (o : Option Member) → slice_get w.members n ≡ o
-      → changed_at n (λ (k : Member). if test w k then post_to (rules_of codes) (n + 1) e k.script else quiet k.script) w o
+      → changed_at n (λ (k : Member). if test w k then post_to (rules_of codes) (n + 1) e k.script else quiet k.script)
+      w o
       ≡ changed_at n (λ (k : Member). if test w k then post_to m.rules (n + 1) e k.script else quiet k.script) w o
   go None k = refl
   go (Some u) k =

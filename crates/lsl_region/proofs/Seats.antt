@@ -29,7 +29,8 @@ set-same xs n x e = subst (λ (y : _). slice_set xs n y ≡ xs) (get_or_from_sli
 
 module _ (objects : List Linkset) (seats : List Seat) (n : ℕ) (seat t : Seat)
     (at : slice_get seats n ≡ Some seat) (object : t.object ≡ seat.object) (prim : t.prim ≡ seat.prim) where
-  placed-at : ArePlaced objects seats → (k : ℕ) (s : Seat) → ((eqb k n ≡ true) × (k ≡ n)) ⊎ ((eqb k n ≡ false) × (k ≢ n))
+  placed-at : ArePlaced objects seats → (k : ℕ) (s : Seat) → ((eqb k n ≡ true) × (k ≡ n))
+      ⊎ ((eqb k n ≡ false) × (k ≢ n))
       → slice_get (slice_set seats n t) k ≡ Some s → IsPlaced objects s
   placed-at p k s (inl e) h =
       let here : slice_get (slice_set seats n t) n ≡ Some t
@@ -98,7 +99,8 @@ object-read objects seats n seat o p at e =
     let is : q.object ≡ o = cc in
     (r, subst (λ (z : Linkset). seat.prim < length z.prims) is q.prim)
 
-pub admitted : (a : Audience) (listens : Standing) (g h : Contents) (n : ℕ) (x seat : Seat) (o : Linkset) (p : Primitive)
+pub admitted : (a : Audience) (listens : Standing) (g h : Contents) (n : ℕ) (x seat : Seat) (o : Linkset)
+    (p : Primitive)
     → g ≡ h → slice_get g.seats n ≡ Some x → slice_get g.objects x.object ≡ Some o → p ≡ prim_at o.prims x.prim
     → slice_get h.seats n ≡ Some seat
     → is_admitted a x.object x.prim p.key listens
@@ -108,7 +110,8 @@ admitted a listens g h n x seat o p is at there prim e =
     let eq : x ≡ seat = cc in
     let key : p.key ≡ key_in h.objects x =
     ap (λ (z : Primitive). z.key) prim
-    ∙ ap (λ (z : Linkset). (prim_at z.prims x.prim).key) (sym (get_or_from_slice_get g.objects x.object o no_object there))
+    ∙ ap (λ (z : Linkset). (prim_at z.prims x.prim).key)
+    (sym (get_or_from_slice_get g.objects x.object o no_object there))
     ∙ ap (λ (z : Contents). key_in z.objects x) is in
     ap (λ (k : List ℕ). is_admitted a x.object x.prim k listens) key
     ∙ ap (λ (z : Seat). is_admitted a z.object z.prim (key_in h.objects z) listens) eq

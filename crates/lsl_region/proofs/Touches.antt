@@ -131,7 +131,8 @@ module _ (codes : List Code) (m : Meant codes) (clock object prim : ℕ) (t : To
   pub begins : Amid (At self) total old old (touched m.rules object prim t)
   begins = amid-start (At self) w old (touched m.rules object prim t) st
 
-  pub first-err : (now : List Entry) (e : Event) → e ≡ touch_start t → Breaks self old now e → Part old now total.entries
+  pub first-err : (now : List Entry) (e : Event) → e ≡ touch_start t → Breaks self old now e
+      → Part old now total.entries
   first-err now e is does =
       amid-err (At self) total old old (touched m.rules object prim t) begins behind_first (posts (touch_start t)) now
       (λ v r. refl) (subst (λ (z : Event). Breaks self old now z) is does)
@@ -143,7 +144,8 @@ module _ (codes : List Code) (m : Meant codes) (clock object prim : ℕ) (t : To
       (posts (touch_start t)) now (λ v r. refl) (subst (λ (z : Event). Goes self grid old now z) is does)
 
   module _ (one : Contents) (done : List Entry) (a : Amid (At one) total old done behind_first) where
-    pub second-err : (now : List Entry) (e : Event) → e ≡ touch_held t → Breaks one done now e → Part old now total.entries
+    pub second-err : (now : List Entry) (e : Event) → e ≡ touch_held t → Breaks one done now e
+        → Part old now total.entries
     second-err now e is does =
         amid-err (At one) total old done behind_first a (posts (touch_end t)) (posts (touch_held t)) now
         (λ v r. refl) (subst (λ (z : Event). Breaks one done now z) is does)

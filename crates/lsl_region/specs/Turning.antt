@@ -24,7 +24,10 @@ use Rattle.lsl_region.specs.Worlds.{Member, World}
 
 -- the grid with this script, or none, in the seat at a place
 abbrev pub with_seated : Contents → ℕ → Seat → Option ScriptParts → Contents
-with_seated grid place seat script = record grid { seats = slice_set grid.seats place (record seat { script = script }) }
+with_seated grid place seat script = record grid {
+  seats = slice_set grid.seats place
+      (record seat { script = script });
+}
 
 -- a script is out of the grid, and this holds of it
 abbrev pub IsOut : Option Live → (Live → Type 0) → Type 0

@@ -35,7 +35,8 @@ returns-in-Ok-clause-does c = λ codes unit s f id k.
     to_z-of_z w32 c.in-Ok.number (search rules) in
     subst (λ (o : Option (ℤ × Standing)). Waits codes unit (listened_script o s) f id
     (with_listens c.add.new.self c.args.live.now)
-    × (reply.Value (Some (value.Int (cast_signed w32 (cast_unsigned w32 c.in-Ok.number)))) ≡ listened_reply o)) (sym all)
+    × (reply.Value (Some (value.Int (cast_signed w32 (cast_unsigned w32 c.in-Ok.number)))) ≡ listened_reply o))
+    (sym all)
     (h.changed c.add.new.self, ap (λ (n : ℤ). reply.Value (Some (value.Int n))) z)
 
 pub returns-in-Err-TooMany-clause-does : goal.returns-in-Err-TooMany-clause-does

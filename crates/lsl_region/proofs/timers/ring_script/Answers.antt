@@ -22,10 +22,14 @@ returns-then-not-read-clause-told c = λ codes s has is lawful.
     let after : timing_of c.read.new.self ≡ s.mailbox.timing
     = c.read.ensures.after ∙ ap (timing_after c.args.clock) before
     ∙ ap (λ (b : Bool). if b then due_after s.mailbox.timing.period c.args.clock else s.mailbox.timing) due in
-    subst (λ (t : Told Script). (parts_with_timer c.read.new.self c.args.script.now ≡ parts_of codes t.value) × (c.args.out.now ≡ c.args.out.now ++ t.entries))
+    subst (λ (t : Told Script). (parts_with_timer c.read.new.self c.args.script.now ≡ parts_of codes t.value)
+    × (c.args.out.now ≡ c.args.out.now ++ t.entries))
     (sym (ap (λ (b : Bool). if b then post_to (rules_of codes) c.args.number timer_event
-    (ticking (timing_after c.args.clock s.mailbox.timing) s) else quiet s) due))
-    (h.changed c.read.new.self ∙ ap (λ (t : Timing). parts_of codes (ticking t s)) after, sym (append-nil c.args.out.now))
+    (ticking (timing_after c.args.clock s.mailbox.timing) s) else quiet s) due)) (
+      h.changed c.read.new.self ∙ ap (λ (t : Timing). parts_of codes (ticking t s)) after,
+      sym
+          (append-nil c.args.out.now),
+    )
 
 pub returns-clause-told : goal.returns-clause-told
 returns-clause-told c = λ codes s has is lawful.

@@ -8,5 +8,6 @@ pub returns-clause-value : goal.returns-clause-value
 returns-clause-value c = λ codes unit clock f id w lent.
     c.admits.ensures (seat_of codes true lent.member)
     (away-seat codes clock c.args.place c.args.self.now w lent.member lent.stands lent.at)
-    ∙ admits-away codes clock c.args.place c.args.self.now w c.args.audience.now lent.member c.listens.result.now lent.stands
+    ∙ admits-away codes clock c.args.place c.args.self.now w c.args.audience.now lent.member c.listens.result.now
+    lent.stands
     (c.listens.ensures.value ∙ ap (λ (p : ScriptParts). p.listens) lent.waits.carries.parts)

@@ -23,7 +23,8 @@ returns-in_err-turn-in-Asks-clause-does c = λ m f most w start.
     let codes = c.args.library.now in
     let unit = c.args.unit.now in
     let call = c.in-Asks.call in
-    let here = λ (x : InFlight) (p : Paused codes unit c.args.clock c.args.place c.asks.self c.asks.live c.asks.turn x.flight
+    let here = λ (x : InFlight) (p : Paused codes unit c.args.clock c.args.place c.asks.self c.asks.live c.asks.turn
+    x.flight
     x.most x.world).
     subst (λ (t : Turn). Paused codes unit c.args.clock c.args.place c.asks.self c.asks.live t x.flight x.most x.world)
     c.in-Asks.is p in
@@ -38,7 +39,8 @@ asks-preserved c =
     let codes = c.args.library.now in
     let unit = c.args.unit.now in
     let call = c.in-Asks.call in
-    let here = λ (x : InFlight) (p : Paused codes unit c.args.clock c.args.place c.asks.self c.asks.live c.asks.turn x.flight
+    let here = λ (x : InFlight) (p : Paused codes unit c.args.clock c.args.place c.asks.self c.asks.live c.asks.turn
+    x.flight
     x.most x.world).
     subst (λ (t : Turn). Paused codes unit c.args.clock c.args.place c.asks.self c.asks.live t x.flight x.most x.world)
     c.in-Asks.is p in

@@ -19,7 +19,8 @@ returns-then-not-does_more-clause-does c = λ m f of w lent.
     let e = told-is m.rules c.args.place lent.member c.args.args.now w c.args.id
     (sym c.does_more.ensures ∙ c.if-not-does_more.true) in
     subst (λ (a : Answered). Tells c.tell.result
-    (λ x given. Lent c.args.library.now c.args.unit.now c.args.clock c.args.place c.args.self.now c.args.live.now of f x.0
+    (λ x given. Lent c.args.library.now c.args.unit.now c.args.clock c.args.place c.args.self.now c.args.live.now of f
+    x.0
     × (given ≡ x.1)) c.args.out.now c.args.out.now a) (sym e)
     (tells-quiet c.tell.result
     (λ (x : World × Reply) given. Lent c.args.library.now c.args.unit.now c.args.clock c.args.place c.args.self.now
@@ -36,7 +37,8 @@ returns-then-is_mailing-clause-does c = λ m f of w lent.
     ∙ ap (λ (n : ℕ). with_mailed c.args.place lent.member (mailed c.args.id c.args.args.now n s) w) lent.stands.time in
     let done = mailed c.args.id c.args.args.now c.args.clock s in
     subst (λ (a : Answered). Tells c.mail.result
-    (λ x given. Lent c.args.library.now c.args.unit.now c.args.clock c.args.place c.args.self.now c.mail.new.live of f x.0
+    (λ x given. Lent c.args.library.now c.args.unit.now c.args.clock c.args.place c.args.self.now c.mail.new.live of f
+    x.0
     × (given ≡ x.1)) c.args.out.now c.args.out.now a) (sym e)
     (tells-quiet c.mail.result
     (λ (x : World × Reply) given. Lent c.args.library.now c.args.unit.now c.args.clock c.args.place c.args.self.now
@@ -44,7 +46,8 @@ returns-then-is_mailing-clause-does c = λ m f of w lent.
     (with_member w c.args.place (record lent.member { script = done.0 }), done.1) c.args.out.now
     (IfOk-map c.mail.result _ _
     (λ given d. let k = d c.args.library.now c.args.unit.now s f of lent.waits in (
-      lent-mailed c.args.library.now c.args.unit.now c.args.clock c.args.place c.args.self.now c.args.live.now of f w lent
+      lent-mailed c.args.library.now c.args.unit.now c.args.clock c.args.place c.args.self.now c.args.live.now of f w
+          lent
           c.mail.new.live c.args.id c.args.args.now k.0,
       k.1,
     )) c.mail.ensures.does))

@@ -45,7 +45,8 @@ returns-in_err-tell_taken-clause-does c = λ m w st.
     let is : c.in-Some.script ≡ parts_of codes s.member.script = cc in
     let has : HasUnit codes s.member.script.code unit
     = subst (λ (n : ℕ). HasUnit codes n unit) (ap (λ (z : Seat). z.unit) s.is) k.has in
-    let wakes = c.in_ok-live.ensures.source codes s.member.script has is (st.scripts c.args.place s.member s.at).lawful in
+    let wakes = c.in_ok-live.ensures.source codes s.member.script has is (st.scripts c.args.place s.member s.at).lawful
+    in
     MatchResult-from_err c.from_residual-in_err-tell_taken.result _ _ c.from_residual-in_err-tell_taken.ensures.0
     (λ y. taken-part codes unit c.args.clock c.args.place c.args.self.now w s.member k.seat st s.at k.at
     c.in_ok-live.live wakes c.args.out.now c.tell_taken.new.out
@@ -63,8 +64,10 @@ returns-clause-does c = λ m w st.
     let is : c.in-Some.script ≡ parts_of codes s.member.script = cc in
     let has : HasUnit codes s.member.script.code unit
     = subst (λ (n : ℕ). HasUnit codes n unit) (ap (λ (z : Seat). z.unit) s.is) k.has in
-    let wakes = c.in_ok-live.ensures.source codes s.member.script has is (st.scripts c.args.place s.member s.at).lawful in
-    subst (λ (g : Contents). Begins codes unit c.args.clock c.args.place g c.in_ok-live.live (taken c.args.place w).value
+    let wakes = c.in_ok-live.ensures.source codes s.member.script has is (st.scripts c.args.place s.member s.at).lawful
+    in
+    subst (λ (g : Contents). Begins codes unit c.args.clock c.args.place g c.in_ok-live.live
+    (taken c.args.place w).value
     × (c.tell_taken.new.out ≡ c.args.out.now ++ (taken c.args.place w).entries))
     (sym (c.take_out.ensures.seats k.seat k.at))
     (taken-told codes unit c.args.clock c.args.place c.args.self.now w s.member k.seat st s.at k.at
@@ -76,7 +79,8 @@ pub returns-clause-seated : goal.returns-clause-seated
 returns-clause-seated c =
     let k = c.requires.unit in
     subst (λ (g : Contents). AreSeated c.args.library.now g.seats) (sym (c.take_out.ensures.seats k.seat k.at))
-    (seated-with c.args.library.now c.args.unit.now c.args.self.now c.args.place k.seat None c.requires.seated k.at k.has
+    (seated-with c.args.library.now c.args.unit.now c.args.self.now c.args.place k.seat None c.requires.seated k.at
+    k.has
     tt)
 
 pub returns-clause-unit : goal.returns-clause-unit

@@ -14,5 +14,6 @@ returns c = λ codes clock w m st at.
     let both : Some k.member ≡ Some m = sym k.at ∙ at in
     let same : k.member ≡ m = cc in
     c.due_at.ensures k.seat (parts_of codes k.member.script) k.sits k.script
-    ∙ ap next_due (timing_is k.member.script.mailbox.timing (st.scripts (c.args.script - 1) k.member k.at).lawful.timing)
+    ∙ ap next_due (timing_is k.member.script.mailbox.timing
+    (st.scripts (c.args.script - 1) k.member k.at).lawful.timing)
     ∙ ap (λ (z : Member). next_due z.script.mailbox.timing) same

@@ -22,7 +22,8 @@ returns-in_err-tell_closing-in-Ended-clause-does c = λ m clock f most w out.
     let unit = c.args.unit.now in
     let place = c.args.place in
     let q = subst (λ (t : Turn). Paused codes unit clock place c.args.self.now c.in-Some.live t f most w)
-    c.in-Ended.is (out-of c.args.live.now (λ (l : Live). Paused codes unit clock place c.args.self.now l c.args.end f most w)
+    c.in-Ended.is (out-of c.args.live.now (λ (l : Live). Paused codes unit clock place c.args.self.now l c.args.end f
+    most w)
     c.in-Some.live (sym c.take.ensures.value ∙ c.in-Some.is) out) in
     let closed = c.in_ok-script-in-Ended.field-0 in
     let closes = c.in_ok-script-in-Ended.ensures.source codes q.member.script f (place + 1) q.turns in
@@ -40,14 +41,16 @@ returns-in_ok-tell_closing-in-Ended-clause-does c = λ m clock f most w out.
     let place = c.args.place in
     let k = c.requires.unit in
     let q = subst (λ (t : Turn). Paused codes unit clock place c.args.self.now c.in-Some.live t f most w)
-    c.in-Ended.is (out-of c.args.live.now (λ (l : Live). Paused codes unit clock place c.args.self.now l c.args.end f most w)
+    c.in-Ended.is (out-of c.args.live.now (λ (l : Live). Paused codes unit clock place c.args.self.now l c.args.end f
+    most w)
     c.in-Some.live (sym c.take.ensures.value ∙ c.in-Some.is) out) in
     let closed = c.in_ok-script-in-Ended.field-0 in
     let closes = c.in_ok-script-in-Ended.ensures.source codes q.member.script f (place + 1) q.turns in
     subst (λ (g : Contents). Stands codes None clock g (asked m.rules (most + 1) place f w).value
     × (c.tell_closing.new.out ≡ c.args.out.now ++ (asked m.rules (most + 1) place f w).entries))
     (sym (c.put_back.ensures.seats k.seat k.at))
-    (ended-told codes unit clock place c.args.self.now c.in-Some.live f most w m q closed closes k.seat k.at c.args.out.now
+    (ended-told codes unit clock place c.args.self.now c.in-Some.live f most w m q closed closes k.seat k.at
+    c.args.out.now
     c.tell_closing.new.out
     (subst (λ (n : ℕ). c.tell_closing.new.out ≡ c.args.out.now ++ entries_of_closing n closed.charge closed.cleared)
     c.number.ensures c.in_ok-tell_closing-in-Ended.ensures))
@@ -80,12 +83,14 @@ returns-in_ok-push-in-Faulted-clause-does c = λ m clock f most w out.
     let k = c.requires.unit in
     let fault = c.in-Faulted.fault in
     let q = subst (λ (t : Turn). Paused codes unit clock place c.args.self.now c.in-Some.live t f most w)
-    c.in-Faulted.is (out-of c.args.live.now (λ (l : Live). Paused codes unit clock place c.args.self.now l c.args.end f most w)
+    c.in-Faulted.is (out-of c.args.live.now (λ (l : Live). Paused codes unit clock place c.args.self.now l c.args.end f
+    most w)
     c.in-Some.live (sym c.take.ensures.value ∙ c.in-Some.is) out) in
     subst (λ (g : Contents). Stands codes None clock g (asked m.rules (most + 1) place f w).value
     × (c.push.new.self ≡ c.args.out.now ++ (asked m.rules (most + 1) place f w).entries))
     (sym (c.put_back-in-Faulted.ensures.seats k.seat k.at))
-    (failed-told codes unit clock place c.args.self.now c.in-Some.live f most w m fault q c.in_ok-script-in-Faulted.script
+    (failed-told codes unit clock place c.args.self.now c.in-Some.live f most w m fault q
+    c.in_ok-script-in-Faulted.script
     (c.in_ok-script-in-Faulted.ensures.source codes q.member.script (place + 1) q.turns.1)
     (c.in_ok-script-in-Faulted.ensures.lawful codes q.member.script (place + 1) q.turns.1) k.seat k.at c.args.out.now
     c.push.new.self

@@ -29,10 +29,12 @@ loop-place-preserved c =
     record {
       end = c.loop-place.invariant.end;
       none = λ m clock w st.
-          let k = found-at codes m clock self w place c.args.object c.args.prim c.handles_touch_at.result st c.requires h
+          let k = found-at codes m clock self w place c.args.object c.args.prim c.handles_touch_at.result st c.requires
+          h
           c.handles_touch_at.ensures in
           c.loop-place.invariant.none m clock w st
-          ∙ any-on (λ n. is_in_prim c.args.object c.args.prim w n && handles_touch m.rules n) w.members place k.member k.at
+          ∙ any-on (λ n. is_in_prim c.args.object c.args.prim w n && handles_touch m.rules n) w.members place k.member
+          k.at
           (sym k.is ∙ c.if-handles_touch_at.false);
     }
 

@@ -31,7 +31,8 @@ loop-to-init c =
           (sym e ∙ stands-length c.args.library.now (Some c.args.place) clock c.args.self.now w lent.stands))
           c.next_with-to.ensures.onward within
           (λ v k to first last. post-passed c.args.library.now (Some c.args.place) clock c.args.self.now v
-          c.args.audience.now 0 c.next_with-to.result k.stands c.next_with-to.ensures.passed m.rules c.args.event.now to first
+          c.args.audience.now 0 c.next_with-to.result k.stands c.next_with-to.ensures.passed m.rules c.args.event.now to
+          first
           last (passed-home c.args.place 0 c.next_with-to.result to c.next_with-to.ensures.own first last));
     }
 
@@ -60,7 +61,8 @@ loop-to-preserved c =
       walk = λ m clock f id w lent.
           walk-later _ _ _ _ _ (c.loop-to.to + 1) next.result c.len-end.result
           (walk-ok _ _ _ _ _ _ _ (c.loop-to.invariant.walk m clock f id w lent)
-          (λ v. Lent c.args.library.now c.args.unit.now clock c.args.place c.post_with.new.self c.post_with.new.live id f v)
+          (λ v. Lent c.args.library.now c.args.unit.now clock c.args.place c.post_with.new.self c.post_with.new.live id
+          f v)
           _ c.loop-to-test.true
           (λ v k. subst (λ (a : Told World). Lent c.args.library.now c.args.unit.now clock c.args.place
           c.post_with.new.self c.post_with.new.live id f a.value × (c.post_with.new.out ≡ c.loop-to.out ++ a.entries))

@@ -30,10 +30,13 @@ returns-clause-does c = λ codes clock f id w lent.
     let event = c.args.event.now in
     let place = c.args.place in
     let s = lent.member.script in
-    let waits = subst (λ (l : Live). Waits codes c.args.unit.now s f id l) (sym c.admits_live.ensures.same) lent.waits in
-    let meant = sym (c.admits_live.ensures.value codes c.args.unit.now clock f id w lent) ∙ c.if-not-admits_live.false in
+    let waits = subst (λ (l : Live). Waits codes c.args.unit.now s f id l) (sym c.admits_live.ensures.same) lent.waits
+    in
+    let meant = sym (c.admits_live.ensures.value codes c.args.unit.now clock f id w lent) ∙ c.if-not-admits_live.false
+    in
     lent-self codes c.args.unit.now clock place c.args.self.now c.args.live.now c.post_live.new.live id f w lent
-    (λ (m : Member). if admits audience w m then post_to (rules_of codes) (place + 1) event m.script else quiet m.script)
+    (λ (m : Member). if admits audience w m then post_to (rules_of codes)
+    (place + 1) event m.script else quiet m.script)
     c.post_live.result _ _
     (keeps-out codes _ s _ (lent.stands.scripts place lent.member lent.at)
     (post-code (rules_of codes) (place + 1) event s (admits audience w lent.member)))

@@ -14,7 +14,8 @@ invariant_of-self c =
     let h : c.args.place < length c.self.inside.seats.items = search (rules, c.requires) in (
       placed-set c.self.inside.objects.items c.self.inside.seats.items c.args.place c.index_mut.result.now _
           (read-at c.self.inside.seats.items c.args.place _ h c.index_mut.ensures.value) refl refl c.self.invariant.0,
-      marked-told c.self.inside.hearers c.tell.new.self c.self.inside.seats.items c.args.place _ c.has_listens-hears.result h
+      marked-told c.self.inside.hearers c.tell.new.self c.self.inside.seats.items c.args.place _
+          c.has_listens-hears.result h
           c.tell.ensures c.has_listens-hears.ensures c.self.invariant.1,
     )
 

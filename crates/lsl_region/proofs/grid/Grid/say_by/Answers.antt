@@ -21,7 +21,8 @@ use Rattle.lsl_region.proofs.grid.Grid.say_by.Goals as goal
 pub returns-in_err-push-clause-does : goal.returns-in_err-push-clause-does
 returns-in_err-push-clause-does c = λ m clock f of w lent.
     MatchResult-from_err c.from_residual-in_err-push.result _ _ c.from_residual-in_err-push.ensures.0
-    (λ y. subst (λ (z : List Entry). Part c.args.out.now z (said_by m.rules c.args.place c.args.voice (prim_of w lent.member)
+    (λ y. subst (λ (z : List Entry). Part c.args.out.now z
+    (said_by m.rules c.args.place c.args.voice (prim_of w lent.member)
     c.args.channel c.args.text w).entries) (sym c.in_err-push.ensures.unchanged)
     (part-none c.args.out.now _))
 
@@ -41,15 +42,18 @@ returns-clause-does c = λ m clock f of w lent.
     ≡ Chat (c.args.place + 1) c.args.voice c.args.channel c.args.text
     = λ i. Chat (c.number.ensures i) c.args.voice (same i) c.args.text in
     tells-lead c.post_all_with.result
-    (λ v _. Lent c.args.library.now c.args.unit.now clock c.args.place c.post_all_with.new.self c.post_all_with.new.live of f v)
+    (λ v _. Lent c.args.library.now c.args.unit.now clock c.args.place c.post_all_with.new.self c.post_all_with.new.live
+    of f v)
     c.args.out.now c.push.new.self _ (Chat (c.args.place + 1) c.args.voice c.args.channel c.args.text ∷ [])
     (said_by m.rules c.args.place c.args.voice p c.args.channel c.args.text w)
     (said_to_all m.rules (filter c.args.channel p.name p.key c.args.text) w) refl
     (c.in_ok-push.ensures.ok ∙ ap (λ (e : Entry). c.args.out.now ++ e ∷ []) chat)
     (subst (λ (z : Filter). Tells c.post_all_with.result
-    (λ v _. Lent c.args.library.now c.args.unit.now clock c.args.place c.post_all_with.new.self c.post_all_with.new.live of f v)
+    (λ v _. Lent c.args.library.now c.args.unit.now clock c.args.place c.post_all_with.new.self c.post_all_with.new.live
+    of f v)
     c.push.new.self c.post_all_with.new.out (said_to_all m.rules z w)) s
     (subst (λ (e : Event). Tells c.post_all_with.result
-    (λ v _. Lent c.args.library.now c.args.unit.now clock c.args.place c.post_all_with.new.self c.post_all_with.new.live of f v)
+    (λ v _. Lent c.args.library.now c.args.unit.now clock c.args.place c.post_all_with.new.self c.post_all_with.new.live
+    of f v)
     c.push.new.self c.post_all_with.new.out (post_all m.rules (hears_said c.in_ok-said.said) e w)) c.in_ok-event.ensures
     (c.post_all_with.ensures.does m clock f of w lent)))

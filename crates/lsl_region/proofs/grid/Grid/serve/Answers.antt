@@ -35,7 +35,8 @@ returns-in-Value-clause-does c = λ m f most w p.
     let d = c.in_ok-value.ensures.does m f call.id w lent in
     let l = d.0.0 in
     let r : Reply = reply.Value c.in-Value.value in
-    subst (λ (a : Answered). Paused codes unit clock place c.answer_at.new.self c.go.new.self c.go.result (given a.value.1 f)
+    subst (λ (a : Answered). Paused codes unit clock place c.answer_at.new.self c.go.new.self c.go.result
+    (given a.value.1 f)
     (most - 1) a.value.0 × (c.answer_at.new.out ≡ c.args.out.now ++ a.entries))
     (ap (λ (o : Option Member). answer_in m.rules place o call.id call.args w) (sym p.at)) (
       subst (λ (x : Reply). Paused codes unit clock place c.answer_at.new.self c.go.new.self c.go.result (given x f)
@@ -66,7 +67,8 @@ returns-clause-does c = λ m f most w p.
     let fault = c.in-Stop.fault in
     let stop : Turn = turn.Faulted fault in
     let r : Reply = reply.Stop fault in
-    subst (λ (a : Answered). Paused codes unit clock place c.answer_at.new.self c.answer_at.new.live stop (given a.value.1 f)
+    subst (λ (a : Answered). Paused codes unit clock place c.answer_at.new.self c.answer_at.new.live stop
+    (given a.value.1 f)
     (most - 1) a.value.0 × (c.answer_at.new.out ≡ c.args.out.now ++ a.entries))
     (ap (λ (o : Option Member). answer_in m.rules place o call.id call.args w) (sym p.at)) (
       subst (λ (x : Reply). Paused codes unit clock place c.answer_at.new.self c.answer_at.new.live stop (given x f)

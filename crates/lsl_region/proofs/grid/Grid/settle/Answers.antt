@@ -20,5 +20,6 @@ returns-in_ok-script-clause-does c = λ codes clock w k turn.
 pub returns-in_ok-script-clause-seated : goal.returns-in_ok-script-clause-seated
 returns-in_ok-script-clause-seated c = λ codes k seated.
     subst (λ (g : Contents). AreSeated codes g.seats) (sym (c.put_back.ensures.seats k.seat k.at))
-    (seated-with codes c.args.unit.now c.args.self.now c.args.place k.seat (Some c.in_ok-script.script) seated k.at k.has
+    (seated-with codes c.args.unit.now c.args.self.now c.args.place k.seat
+    (Some c.in_ok-script.script) seated k.at k.has
     c.in_ok-script.ensures.fits)
