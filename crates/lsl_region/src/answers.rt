@@ -29,7 +29,7 @@ use lsl_value::{BuiltinId, Values};
 impl Grid {
     /// Answers a host call of the script of this number, which is out of the grid and waits for the answer. The script
     /// stops where it asks for a listen more than 65. After want of memory the entries are the first of the call's, and the
-    /// grid is only to be dropped. Chat and messages walk the scripts.
+    /// grid is only to be dropped. Chat asks the scripts that have a listen; messages walk all of them.
     pub fn answer(
         &mut self,
         live: &mut Live,
