@@ -107,29 +107,34 @@ fn joined_texts_and_pieces(rt: HostRuntime) -> Result<(), Fail> {
     check(&rt, ParseStringKeepNulls, pieces::PARSE_STRING_KEEPING)
 }
 
+/// A text of so many letters `a`, and the end.
+fn letters(alloc: Global, count: usize, end: &str) -> Result<Value, Fail> {
+    let mut letters = String::from_utf8(vec![in alloc; b'a'; count]?)?;
+    letters.push_str(end)?;
+    Ok(Value::Str(text(alloc, letters.as_str())?))
+}
+
+/// What comes of a text inserted into one that is charged the most.
+fn inserted(alloc: Global, piece: &str) -> Result<Result<Value, PureFault>, Fail> {
+    let whole = letters(alloc, 65_520, "")?;
+    let piece = Value::Str(text(alloc, piece)?);
+    let args = vec![in alloc; whole, Value::Int(0), piece]?;
+    Ok(answer(alloc, InsertString, Values::from_vec(args)))
+}
+
 #[test]
 fn limits(rt: HostRuntime) -> Result<(), Fail> {
-    let alloc = rt.alloc();
-    let letters = String::from_utf8(vec![in alloc; b'a'; 65_520]?)?;
-    let whole = Value::Str(text(alloc, letters.as_str())?);
-    let longest = vec![in alloc; whole, Value::Int(0), Value::Str(Text::new())]?;
-    let given = answer(alloc, InsertString, Values::from_vec(longest));
+    let given = inserted(rt.alloc(), "")?;
     assert_eq!(rt; given.map(|value| charge(&value)), Ok(65_536));
-
-    let whole = Value::Str(text(alloc, letters.as_str())?);
-    let longer = vec![in alloc; whole, Value::Int(0), Value::Str(text(alloc, "b")?)]?;
-    assert!(rt; answer(alloc, InsertString, Values::from_vec(longer)) == Err(PureFault::TooBig));
+    assert!(rt; inserted(rt.alloc(), "b")? == Err(PureFault::TooBig));
     Ok(())
 }
 
 #[test]
 fn long_searches(rt: HostRuntime) -> Result<(), Fail> {
     let alloc = rt.alloc();
-    let whole = vec![in alloc; b'a'; 65_520]?;
-    let mut sought = vec![in alloc; b'a'; 32_760]?;
-    sought.push(b'b')?;
-    let whole = Value::Str(Text::from_utf8(alloc, whole.as_slice())?.ok_or("no text")?);
-    let sought = Value::Str(Text::from_utf8(alloc, sought.as_slice())?.ok_or("no text")?);
+    let whole = letters(alloc, 65_520, "")?;
+    let sought = letters(alloc, 32_760, "b")?;
     let args = Values::from_vec(vec![in alloc; whole, sought]?);
     assert!(rt; answer(alloc, SubStringIndex, args) == Ok(Value::Int(-1)));
     Ok(())
