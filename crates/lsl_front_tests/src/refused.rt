@@ -2,6 +2,7 @@
 
 use crate::texts::fault;
 use lsl_lex::lex;
+use std::process::Abort;
 use std::test::Fail;
 
 #[test]
@@ -108,25 +109,28 @@ fn expressions_are_refused_at_their_first_fault(rt: HostRuntime) -> Result<(), F
     Ok(())
 }
 
+const STATEMENTS: &str = "integer a = 1; list l = [1, \"x\"]; integer f(key k) { @l; jump l; \
+    return (integer)a + f(k) * -2; } default { e(integer n) { if (n) while (n) { n -= 1; } else do ; while (++n); \
+    for (n = 0; n < 3; n++) [n]; state s; } }";
+
+const STATES: &str = "default { e() { } } state s { e() { state default; } }";
+
+/// What stands before a token is no script, from a byte on.
+fn ends_early(rt: &(impl Abort + AllocGlobal), text: &str, from: usize) -> Result<(), Fail> {
+    let tokens = lex(rt.alloc(), text.as_bytes()).ok().ok_or("tokens")?;
+    for token in tokens.list.as_slice() {
+        let start = token.span.start as usize;
+        assert!(rt; start <= text.len());
+        let front = String::from_utf8_lossy(rt.alloc(), &text.as_bytes()[..start])?;
+        let want = if start < from && start > 18 { 0 } else { 11 };
+        assert_eq!(rt; fault(rt.alloc(), front.as_str()).0, want, "up to {start}");
+    }
+    assert_eq!(rt; fault(rt.alloc(), text), (0, 0, 0));
+    Ok(())
+}
+
 #[test]
 fn a_text_that_ends_early_is_refused_at_its_end(rt: HostRuntime) -> Result<(), Fail> {
-    // each text, and from which byte on what stands before a token is no script
-    for (text, from) in [
-        (
-            "integer a = 1; list l = [1, \"x\"]; integer f(key k) { @l; jump l; return (integer)a + f(k) * -2; } default { e(integer n) { if (n) while (n) { n -= 1; } else do ; while (++n); for (n = 0; n < 3; n++) [n]; state s; } }",
-            0,
-        ),
-        ("default { e() { } } state s { e() { state default; } }", 21),
-    ] {
-        let tokens = lex(rt.alloc(), text.as_bytes()).ok().ok_or("tokens")?;
-        for token in tokens.list.as_slice() {
-            let start = token.span.start as usize;
-            assert!(rt; start <= text.len());
-            let front = String::from_utf8_lossy(rt.alloc(), &text.as_bytes()[..start])?;
-            let want = if start < from && start > 18 { 0 } else { 11 };
-            assert_eq!(rt; fault(rt.alloc(), front.as_str()).0, want, "up to {start}");
-        }
-        assert_eq!(rt; fault(rt.alloc(), text), (0, 0, 0));
-    }
-    Ok(())
+    ends_early(&rt, STATEMENTS, 0)?;
+    ends_early(&rt, STATES, 21)
 }
