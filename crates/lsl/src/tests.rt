@@ -88,7 +88,8 @@ fn each_status_is_said(rt: HostRuntime) -> Result<(), Fail> {
             Case::of(&["check", "s.lsl"], b""),
             3,
             b"bad script \"s.lsl\" 1:1 fault 11\n".as_slice(),
-            "\"s.lsl\": a script isn't accepted; standard output has the fault, tools/explain says it in words (lsl: status 3)\n",
+            "\"s.lsl\": a script isn't accepted; standard output has the fault, tools/explain says it in words (lsl: \
+                status 3)\n",
         ),
         (
             Case::of(&["once", "a\nb"], LITERAL),

@@ -27,7 +27,8 @@ pub fn has_values(
 /// instructions bring them back at most.
 const SAVED: [(&str, u32, &[&[i32]], u64); 3] = [
     (
-        "integer f(integer n) { integer i; integer s; for (i = 0; i < n; ++i) s += i; return s; } integer g(integer n) { return n * 10; } default { touch_start(integer n) { llOwnerSay((string)(f(4) + g(1))); } }",
+        "integer f(integer n) { integer i; integer s; for (i = 0; i < n; ++i) s += i; return s; } integer g(integer n) \
+            { return n * 10; } default { touch_start(integer n) { llOwnerSay((string)(f(4) + g(1))); } }",
         4,
         &[&[4, 2, 1], &[1, 10]],
         52,
@@ -36,7 +37,8 @@ const SAVED: [(&str, u32, &[&[i32]], u64); 3] = [
     ("default { touch_start(integer n) { } }", 0, &[&[1]], 28),
     // Operands of three calls wait.
     (
-        "integer f(integer n) { if (n == 0) return 5; return f(n - 1) - 7; } default { touch_start(integer n) { n = 9 - f(2); } }",
+        "integer f(integer n) { if (n == 0) return 5; return f(n - 1) - 7; } default { touch_start(integer n) { n = 9 \
+            - f(2); } }",
         3,
         &[&[0], &[1, 7], &[2, 7], &[1]],
         72,
@@ -66,7 +68,8 @@ fn frames_are_saved(rt: HostRuntime) -> Result<(), Fail> {
 
 /// A recursion of 500 calls.
 const CALLS: &str =
-    "integer d(integer n) { if (n == 0) return 0; return d(n - 1) + 1; } default { touch_start(integer t) { llOwnerSay((string)d(500)); } }";
+    "integer d(integer n) { if (n == 0) return 0; return d(n - 1) + 1; } default { touch_start(integer t) { \
+        llOwnerSay((string)d(500)); } }";
 
 #[test]
 fn five_hundred_calls_are_restored(rt: HostRuntime) -> Result<(), Fail> {

@@ -53,8 +53,10 @@ static PROGRAMS: [(&str, &str); 23] = [
     ),
     // Globals: a sign, a cast, constants, earlier globals, empty values.
     (
-        "integer a = -5; string b; key c = \"x\"; list d = [a, TRUE, \"y\", -1]; string e = c; key f; list g; default { timer() { } }",
-        "g0 = -5\ng1 = \"\"\ng2 = (k)\"x\"\ng3 = [g0:i TRUE:i \"y\" -1 ]\ng4 = (s)g2:k\ng5 = (k)\"\"\ng6 = []\ndefault timer@1 0/ { }\n",
+        "integer a = -5; string b; key c = \"x\"; list d = [a, TRUE, \"y\", -1]; string e = c; key f; list g; default \
+            { timer() { } }",
+        "g0 = -5\ng1 = \"\"\ng2 = (k)\"x\"\ng3 = [g0:i TRUE:i \"y\" -1 ]\ng4 = (s)g2:k\ng5 = (k)\"\"\ng6 = []\ndefault \
+            timer@1 0/ { }\n",
     ),
     // Parameters are the first slots, and no slot is used again.
     (
@@ -84,7 +86,8 @@ static PROGRAMS: [(&str, &str); 23] = [
     // What is returned becomes the function's kind.
     (
         "key f() { return \"a\"; } string g() { return f(); } default { timer() { return; } }",
-        "f0 f@1:k 0/ { return (k)\"a\"; return (k)\"\"; }\nf1 g@1:s 0/ { return (s)f0@1():k; return \"\"; }\ndefault timer@1 0/ { return; }\n",
+        "f0 f@1:k 0/ { return (k)\"a\"; return (k)\"\"; }\nf1 g@1:s 0/ { return (s)f0@1():k; return \"\"; }\ndefault \
+            timer@1 0/ { return; }\n",
     ),
     // Later functions, and a call in parentheses.
     (
@@ -99,7 +102,8 @@ static PROGRAMS: [(&str, &str); 23] = [
     // `for`: a block of its first list and its loop.
     (
         "f() { } default { timer() { integer i; for (i = 0, f(); i < 3; ++i, llSleep(1)) ; } }",
-        "f0 f@1 0/ { }\ndefault timer@1 0/i { s0:=0; { (s0:i=0); f0@1(); loop@1 (s0:i<3):i (s0:i=(s0:i+1):i) llSleep@1(1 ) { }; }; }\n",
+        "f0 f@1 0/ { }\ndefault timer@1 0/i { s0:=0; { (s0:i=0); f0@1(); loop@1 (s0:i<3):i (s0:i=(s0:i+1):i) \
+            llSleep@1(1 ) { }; }; }\n",
     ),
     // Lines of loops.
     (
@@ -123,13 +127,15 @@ static PROGRAMS: [(&str, &str); 23] = [
     ),
     // States by number, `default` first.
     (
-        "default { timer() { state b; } } state a { timer() { state default; } } state b { state_entry() { state b; } }",
+        "default { timer() { state b; } } state a { timer() { state default; } } state b { state_entry() { state b; } \
+            }",
         "default timer@1 0/ { state 2; }\na timer@1 0/ { state 0; }\nb state_entry@1 0/ { state 2; }\n",
     ),
     // Operators and their kinds.
     (
         "default { timer() { \"a\" + \"b\"; [1] + 2; \"a\" + [1]; \"a\" == (key)\"b\"; [1] != [2]; 1 || 0 && 2; } }",
-        "default timer@1 0/ { (\"a\"+\"b\"):s; ([1 ]+2):l; (\"a\"+[1 ]):l; (\"a\"==(k)\"b\"):i; ([1 ]!=[2 ]):i; ((1||0):i&&2):i; }\n",
+        "default timer@1 0/ { (\"a\"+\"b\"):s; ([1 ]+2):l; (\"a\"+[1 ]):l; (\"a\"==(k)\"b\"):i; ([1 ]!=[2 ]):i; \
+            ((1||0):i&&2):i; }\n",
     ),
     // Casts and signs.
     (
@@ -148,7 +154,11 @@ static PROGRAMS: [(&str, &str); 23] = [
     ),
     // `examples/bell.lsl`.
     (
-        "integer rings;\n\nstring times(integer count) {\n    if (count == 1) return \"once\";\n    return (string)count + \" times\";\n}\n\ndefault {\n    touch_start(integer touches) {\n        rings += touches;\n        llOwnerSay(\"Rung \" + times(rings) + \".\");\n    }\n}\n",
-        "g0 = 0\nf0 times@3:s 1/i { if (s0:i==1):i return \"once\"; return ((s)s0:i+\" times\"):s; return \"\"; }\ndefault touch_start@9 1/i { (g0:i=(g0:i+s0:i):i); llOwnerSay@11(((\"Rung \"+f0@11(g0:i ):s):s+\".\"):s ); }\n",
+        "integer rings;\n\nstring times(integer count) {\n    if (count == 1) return \"once\";\n    return \
+            (string)count + \" times\";\n}\n\ndefault {\n    touch_start(integer touches) {\n        rings += \
+            touches;\n        llOwnerSay(\"Rung \" + times(rings) + \".\");\n    }\n}\n",
+        "g0 = 0\nf0 times@3:s 1/i { if (s0:i==1):i return \"once\"; return ((s)s0:i+\" times\"):s; return \"\"; }\n\
+            default touch_start@9 1/i { (g0:i=(g0:i+s0:i):i); llOwnerSay@11(((\"Rung \"+f0@11(g0:i ):s):s+\".\"):s ); \
+            }\n",
     ),
 ];

@@ -9,32 +9,41 @@ use std::test::Fail;
 const RUNS: [(&str, &str, &str); 22] = [
     (
         "both operands of and",
-        "integer a() { llOwnerSay(\"a\"); return 1; } integer b() { llOwnerSay(\"b\"); return 0; } default { state_entry() { if (a() && b()) llOwnerSay(\"yes\"); else llOwnerSay(\"no\"); } }",
+        "integer a() { llOwnerSay(\"a\"); return 1; } integer b() { llOwnerSay(\"b\"); return 0; } default { \
+            state_entry() { if (a() && b()) llOwnerSay(\"yes\"); else llOwnerSay(\"no\"); } }",
         "owner 1 \"b\"\nowner 1 \"a\"\nowner 1 \"no\"\ndone 1 1024\n",
     ),
     (
         "right operand first",
-        "integer x = 5; default { state_entry() { llOwnerSay((string)(x + (x = 3))); llOwnerSay((string)(1 || 0 && 0)); } }",
+        "integer x = 5; default { state_entry() { llOwnerSay((string)(x + (x = 3))); llOwnerSay((string)(1 || 0 && \
+            0)); } }",
         "owner 1 \"6\"\nowner 1 \"0\"\ndone 1 1032\n",
     ),
     (
         "numbers and texts",
-        "default { state_entry() { llOwnerSay((string)((integer)\"0x1F\")); llOwnerSay((string)((integer)\" -4 apples\")); llOwnerSay((string)((integer)\"4294967296\")); llOwnerSay((string)((integer)\"\")); llOwnerSay((string)(-2147483648 / -1)); llOwnerSay((string)(-2147483648 % -1)); } }",
-        "owner 1 \"31\"\nowner 1 \"-4\"\nowner 1 \"-1\"\nowner 1 \"0\"\nowner 1 \"-2147483648\"\nowner 1 \"0\"\ndone 1 1024\n",
+        "default { state_entry() { llOwnerSay((string)((integer)\"0x1F\")); llOwnerSay((string)((integer)\" -4 \
+            apples\")); llOwnerSay((string)((integer)\"4294967296\")); llOwnerSay((string)((integer)\"\")); \
+            llOwnerSay((string)(-2147483648 / -1)); llOwnerSay((string)(-2147483648 % -1)); } }",
+        "owner 1 \"31\"\nowner 1 \"-4\"\nowner 1 \"-1\"\nowner 1 \"0\"\nowner 1 \"-2147483648\"\nowner 1 \"0\"\ndone 1 \
+            1024\n",
     ),
     (
         "lists compared",
-        "default { state_entry() { llOwnerSay((string)([1, 2, 3] != [])); llOwnerSay((string)([1] != [1, 2])); llOwnerSay((string)([1] == [\"a\"])); } }",
+        "default { state_entry() { llOwnerSay((string)([1, 2, 3] != [])); llOwnerSay((string)([1] != [1, 2])); \
+            llOwnerSay((string)([1] == [\"a\"])); } }",
         "owner 1 \"3\"\nowner 1 \"-1\"\nowner 1 \"1\"\ndone 1 1024\n",
     ),
     (
         "doubling string",
         "default { state_entry() { string s = \"x\"; while (1) { s += s; llOwnerSay((string)llStringLength(s)); } } }",
-        "owner 1 \"2\"\nowner 1 \"4\"\nowner 1 \"8\"\nowner 1 \"16\"\nowner 1 \"32\"\nowner 1 \"64\"\nowner 1 \"128\"\nowner 1 \"256\"\nowner 1 \"512\"\nowner 1 \"1024\"\nowner 1 \"2048\"\nowner 1 \"4096\"\nowner 1 \"8192\"\nowner 1 \"16384\"\nfault 1 \"Stack-Heap Collision\"\n",
+        "owner 1 \"2\"\nowner 1 \"4\"\nowner 1 \"8\"\nowner 1 \"16\"\nowner 1 \"32\"\nowner 1 \"64\"\nowner 1 \"128\"\n\
+            owner 1 \"256\"\nowner 1 \"512\"\nowner 1 \"1024\"\nowner 1 \"2048\"\nowner 1 \"4096\"\nowner 1 \"8192\"\n\
+            owner 1 \"16384\"\nfault 1 \"Stack-Heap Collision\"\n",
     ),
     (
         "used memory",
-        "integer f() { return llGetUsedMemory(); } default { state_entry() { string s = \"abc\"; llOwnerSay((string)(f() + 1)); } }",
+        "integer f() { return llGetUsedMemory(); } default { state_entry() { string s = \"abc\"; \
+            llOwnerSay((string)(f() + 1)); } }",
         "owner 1 \"1116\"\ndone 1 1024\n",
     ),
     (
@@ -44,23 +53,35 @@ const RUNS: [(&str, &str, &str); 22] = [
     ),
     (
         "pure calls on texts",
-        "default { state_entry() { llOwnerSay(llGetSubString(\"abcdef\", 1, 3)); llOwnerSay(llGetSubString(\"abcdef\", 4, 1)); llOwnerSay(llGetSubString(\"abcdef\", -2, -1)); llOwnerSay(llDeleteSubString(\"abcdef\", 4, 1)); } }",
+        "default { state_entry() { llOwnerSay(llGetSubString(\"abcdef\", 1, 3)); llOwnerSay(llGetSubString(\"abcdef\", \
+            4, 1)); llOwnerSay(llGetSubString(\"abcdef\", -2, -1)); llOwnerSay(llDeleteSubString(\"abcdef\", 4, 1)); } \
+            }",
         "owner 1 \"bcd\"\nowner 1 \"abef\"\nowner 1 \"ef\"\nowner 1 \"cd\"\ndone 1 1024\n",
     ),
     (
         "pure calls on lists",
-        "default { state_entry() { llOwnerSay(llDumpList2String([1, \"a\", 2], \"-\")); llOwnerSay((string)llListFindList([1, \"1\", 2], [\"1\"])); llOwnerSay(llList2CSV(llParseString2List(\"a,b;;c\", [\",\"], [\";\"]))); llOwnerSay(llList2CSV(llParseStringKeepNulls(\"a,b;;c\", [\",\"], [\";\"]))); llOwnerSay((string)llGetListLength(llCSV2List(\"1, <2,3>, x\"))); llOwnerSay((string)llList2Integer([7], 1)); } }",
-        "owner 1 \"1-a-2\"\nowner 1 \"1\"\nowner 1 \"a, b, ;, ;, c\"\nowner 1 \"a, b, ;, , ;, c\"\nowner 1 \"3\"\nowner 1 \"0\"\ndone 1 1024\n",
+        "default { state_entry() { llOwnerSay(llDumpList2String([1, \"a\", 2], \"-\")); \
+            llOwnerSay((string)llListFindList([1, \"1\", 2], [\"1\"])); \
+            llOwnerSay(llList2CSV(llParseString2List(\"a,b;;c\", [\",\"], [\";\"]))); \
+            llOwnerSay(llList2CSV(llParseStringKeepNulls(\"a,b;;c\", [\",\"], [\";\"]))); \
+            llOwnerSay((string)llGetListLength(llCSV2List(\"1, <2,3>, x\"))); llOwnerSay((string)llList2Integer([7], \
+            1)); } }",
+        "owner 1 \"1-a-2\"\nowner 1 \"1\"\nowner 1 \"a, b, ;, ;, c\"\nowner 1 \"a, b, ;, , ;, c\"\nowner 1 \"3\"\n\
+            owner 1 \"0\"\ndone 1 1024\n",
     ),
     (
         "edges of pure calls",
-        "default { state_entry() { llOwnerSay(llGetSubString(\"abc\", 5, 9)); llOwnerSay((string)llListReplaceList([1, 2, 3], [\"x\"], 1, 1)); llOwnerSay(llInsertString(\"ab\", 9, \"c\")); llOwnerSay(llStringTrim(\" a \", STRING_TRIM_HEAD)); } }",
+        "default { state_entry() { llOwnerSay(llGetSubString(\"abc\", 5, 9)); llOwnerSay((string)llListReplaceList([1, \
+            2, 3], [\"x\"], 1, 1)); llOwnerSay(llInsertString(\"ab\", 9, \"c\")); llOwnerSay(llStringTrim(\" a \", \
+            STRING_TRIM_HEAD)); } }",
         "owner 1 \"\"\nowner 1 \"1x3\"\nowner 1 \"abc\"\nowner 1 \"a \"\ndone 1 1024\n",
     ),
     (
         "counted doubling",
         "default { state_entry() { string s = \"x\"; integer n; while (1) { s += s; llOwnerSay((string)++n); } } }",
-        "owner 1 \"1\"\nowner 1 \"2\"\nowner 1 \"3\"\nowner 1 \"4\"\nowner 1 \"5\"\nowner 1 \"6\"\nowner 1 \"7\"\nowner 1 \"8\"\nowner 1 \"9\"\nowner 1 \"10\"\nowner 1 \"11\"\nowner 1 \"12\"\nowner 1 \"13\"\nowner 1 \"14\"\nfault 1 \"Stack-Heap Collision\"\n",
+        "owner 1 \"1\"\nowner 1 \"2\"\nowner 1 \"3\"\nowner 1 \"4\"\nowner 1 \"5\"\nowner 1 \"6\"\nowner 1 \"7\"\n\
+            owner 1 \"8\"\nowner 1 \"9\"\nowner 1 \"10\"\nowner 1 \"11\"\nowner 1 \"12\"\nowner 1 \"13\"\nowner 1 \
+            \"14\"\nfault 1 \"Stack-Heap Collision\"\n",
     ),
     (
         "divided by zero in text",
@@ -74,7 +95,8 @@ const RUNS: [(&str, &str, &str); 22] = [
     ),
     (
         "five hundred calls",
-        "integer d(integer n) { if (n == 0) return 0; return d(n - 1) + 1; } default { state_entry() { llOwnerSay((string)d(500)); } }",
+        "integer d(integer n) { if (n == 0) return 0; return d(n - 1) + 1; } default { state_entry() { \
+            llOwnerSay((string)d(500)); } }",
         "owner 1 \"500\"\ndone 1 1024\n",
     ),
     (
@@ -89,19 +111,26 @@ const RUNS: [(&str, &str, &str); 22] = [
     ),
     (
         "zero divisor in a nested call",
-        "integer f(integer n) { llOwnerSay(\"f\"); return 1 / n; } integer g(integer n) { return f(n) + 1; } default { state_entry() { llOwnerSay((string)g(1)); llOwnerSay((string)g(0)); } }",
+        "integer f(integer n) { llOwnerSay(\"f\"); return 1 / n; } integer g(integer n) { return f(n) + 1; } default { \
+            state_entry() { llOwnerSay((string)g(1)); llOwnerSay((string)g(0)); } }",
         "owner 1 \"f\"\nowner 1 \"2\"\nowner 1 \"f\"\nfault 1 \"Math Error\"\n",
     ),
     (
         // a list of 2^n integers is charged 16 and 16 times 2^n
         "doubling list",
         "default { state_entry() { list l = [1]; while (1) { l += l; llOwnerSay((string)llGetListLength(l)); } } }",
-        "owner 1 \"2\"\nowner 1 \"4\"\nowner 1 \"8\"\nowner 1 \"16\"\nowner 1 \"32\"\nowner 1 \"64\"\nowner 1 \"128\"\nowner 1 \"256\"\nowner 1 \"512\"\nowner 1 \"1024\"\nfault 1 \"Stack-Heap Collision\"\n",
+        "owner 1 \"2\"\nowner 1 \"4\"\nowner 1 \"8\"\nowner 1 \"16\"\nowner 1 \"32\"\nowner 1 \"64\"\nowner 1 \"128\"\n\
+            owner 1 \"256\"\nowner 1 \"512\"\nowner 1 \"1024\"\nfault 1 \"Stack-Heap Collision\"\n",
     ),
     (
         // 65 times 1,024 and more, before the handler's first tick
         "great globals",
-        "string a = \"xxxxxxxxxxxxxxxxxxxxxxxxxxxxxxxxxxxxxxxxxxxxxxxxxxxxxxxxxxxxxxxxxxxxxxxxxxxxxxxxxxxxxxxxxxxxxxxxxxxx\"; list b = [a,a,a,a,a,a,a,a,a,a,a,a,a,a,a,a,a,a,a,a,a,a,a,a,a,a,a,a,a,a,a,a,a,a,a,a,a,a,a,a,a,a,a,a,a,a,a,a,a,a]; list c = b; list d = b; list e = b; list f = b; list g = b; list h = b; list i = b; list j = b; list k = b; list l = b; list m = b; default { state_entry() { llOwnerSay(\"no\"); } }",
+        "string a = \
+            \"xxxxxxxxxxxxxxxxxxxxxxxxxxxxxxxxxxxxxxxxxxxxxxxxxxxxxxxxxxxxxxxxxxxxxxxxxxxxxxxxxxxxxxxxxxxxxxxxxxxx\"; \
+            list b = \
+            [a,a,a,a,a,a,a,a,a,a,a,a,a,a,a,a,a,a,a,a,a,a,a,a,a,a,a,a,a,a,a,a,a,a,a,a,a,a,a,a,a,a,a,a,a,a,a,a,a,a]; \
+            list c = b; list d = b; list e = b; list f = b; list g = b; list h = b; list i = b; list j = b; list k = \
+            b; list l = b; list m = b; default { state_entry() { llOwnerSay(\"no\"); } }",
         "fault 1 \"Stack-Heap Collision\"\n",
     ),
     (

@@ -15,33 +15,60 @@ fn keyed(alloc: Global, text: &str) -> Result<String, AllocError> {
 const LONE: [(&str, &str, &str, &str); 8] = [
     (
         "zero divisor",
-        "default { state_entry() { llOwnerSay(\"go\"); integer z = 0; llOwnerSay((string)(1 / z)); } touch_start(integer n) { llOwnerSay(\"t\"); } }",
+        "default { state_entry() { llOwnerSay(\"go\"); integer z = 0; llOwnerSay((string)(1 / z)); } \
+            touch_start(integer n) { llOwnerSay(\"t\"); } }",
         "run 10\ntouch 1 0 K:aa \"Ann\"\nrun 10\n",
         "took 1 state_entry\nowner 1 \"go\"\nfault 1 \"Math Error\"\nhome 1 \"A\"\n",
     ),
     (
         "crossing under a call, without its crossing",
-        "integer f(integer n) { integer i; integer s; for (i = 0; i < n; ++i) s += i; return s; } integer g(integer n) { return n * 10; } default { touch_start(integer n) { llOwnerSay((string)(f(4) + g(1))); } }",
+        "integer f(integer n) { integer i; integer s; for (i = 0; i < n; ++i) s += i; return s; } integer g(integer n) \
+            { return n * 10; } default { touch_start(integer n) { llOwnerSay((string)(f(4) + g(1))); } }",
         "touch 1 0 K:aa \"Ann\"\ngo 1 4\nrun 100\n",
         "took 1 touch_start 1\nowner 1 \"16\"\ndone 1 1024\nhome 1 \"A\"\n",
     ),
     (
         "full queue",
         "default { touch_start(integer n) { integer i; for (i = 0; i < 100; ++i) ; } }",
-        "touch 1 0 K:aa \"Ann\"\ngo 1 1\ntouch 1 0 K:aa \"Ann\"\ntouch 1 0 K:aa \"Ann\"\ntouch 1 0 K:aa \"Ann\"\ntouch 1 0 K:aa \"Ann\"\ntouch 1 0 K:aa \"Ann\"\ntouch 1 0 K:aa \"Ann\"\ntouch 1 0 K:aa \"Ann\"\ntouch 1 0 K:aa \"Ann\"\ntouch 1 0 K:aa \"Ann\"\ntouch 1 0 K:aa \"Ann\"\ntouch 1 0 K:aa \"Ann\"\ntouch 1 0 K:aa \"Ann\"\ntouch 1 0 K:aa \"Ann\"\ntouch 1 0 K:aa \"Ann\"\ntouch 1 0 K:aa \"Ann\"\ntouch 1 0 K:aa \"Ann\"\ntouch 1 0 K:aa \"Ann\"\ntouch 1 0 K:aa \"Ann\"\ntouch 1 0 K:aa \"Ann\"\ntouch 1 0 K:aa \"Ann\"\ntouch 1 0 K:aa \"Ann\"\ntouch 1 0 K:aa \"Ann\"\ntouch 1 0 K:aa \"Ann\"\ntouch 1 0 K:aa \"Ann\"\ntouch 1 0 K:aa \"Ann\"\ntouch 1 0 K:aa \"Ann\"\ntouch 1 0 K:aa \"Ann\"\ntouch 1 0 K:aa \"Ann\"\ntouch 1 0 K:aa \"Ann\"\ntouch 1 0 K:aa \"Ann\"\ntouch 1 0 K:aa \"Ann\"\ntouch 1 0 K:aa \"Ann\"\ntouch 1 0 K:aa \"Ann\"\ntouch 1 0 K:aa \"Ann\"\ntouch 1 0 K:aa \"Ann\"\ntouch 1 0 K:aa \"Ann\"\ntouch 1 0 K:aa \"Ann\"\ntouch 1 0 K:aa \"Ann\"\ntouch 1 0 K:aa \"Ann\"\ntouch 1 0 K:aa \"Ann\"\ntouch 1 0 K:aa \"Ann\"\ntouch 1 0 K:aa \"Ann\"\ntouch 1 0 K:aa \"Ann\"\ntouch 1 0 K:aa \"Ann\"\ntouch 1 0 K:aa \"Ann\"\ntouch 1 0 K:aa \"Ann\"\ntouch 1 0 K:aa \"Ann\"\ntouch 1 0 K:aa \"Ann\"\ntouch 1 0 K:aa \"Ann\"\ntouch 1 0 K:aa \"Ann\"\ntouch 1 0 K:aa \"Ann\"\ntouch 1 0 K:aa \"Ann\"\ntouch 1 0 K:aa \"Ann\"\ntouch 1 0 K:aa \"Ann\"\ntouch 1 0 K:aa \"Ann\"\ntouch 1 0 K:aa \"Ann\"\ntouch 1 0 K:aa \"Ann\"\ntouch 1 0 K:aa \"Ann\"\ntouch 1 0 K:aa \"Ann\"\ntouch 1 0 K:aa \"Ann\"\ntouch 1 0 K:aa \"Ann\"\ntouch 1 0 K:aa \"Ann\"\ntouch 1 0 K:aa \"Ann\"\ntouch 1 0 K:aa \"Ann\"\ntouch 1 0 K:aa \"Ann\"\ntouch 1 0 K:aa \"Ann\"\ntouch 1 0 K:aa \"Ann\"\ntouch 1 0 K:aa \"Ann\"\ntouch 1 0 K:aa \"Ann\"\ntouch 1 0 K:aa \"Ann\"\ngo 1 100\n",
-        "took 1 touch_start 1\ndrop 1 touch_start 1\ndrop 1 touch_start 1\ndrop 1 touch_start 1\ndrop 1 touch_start 1\ndrop 1 touch_start 1\ndrop 1 touch_start 1\ndone 1 1024\nhome 1 \"A\"\n",
+        "touch 1 0 K:aa \"Ann\"\ngo 1 1\ntouch 1 0 K:aa \"Ann\"\ntouch 1 0 K:aa \"Ann\"\ntouch 1 0 K:aa \"Ann\"\ntouch \
+            1 0 K:aa \"Ann\"\ntouch 1 0 K:aa \"Ann\"\ntouch 1 0 K:aa \"Ann\"\ntouch 1 0 K:aa \"Ann\"\ntouch 1 0 K:aa \
+            \"Ann\"\ntouch 1 0 K:aa \"Ann\"\ntouch 1 0 K:aa \"Ann\"\ntouch 1 0 K:aa \"Ann\"\ntouch 1 0 K:aa \"Ann\"\n\
+            touch 1 0 K:aa \"Ann\"\ntouch 1 0 K:aa \"Ann\"\ntouch 1 0 K:aa \"Ann\"\ntouch 1 0 K:aa \"Ann\"\ntouch 1 0 \
+            K:aa \"Ann\"\ntouch 1 0 K:aa \"Ann\"\ntouch 1 0 K:aa \"Ann\"\ntouch 1 0 K:aa \"Ann\"\ntouch 1 0 K:aa \
+            \"Ann\"\ntouch 1 0 K:aa \"Ann\"\ntouch 1 0 K:aa \"Ann\"\ntouch 1 0 K:aa \"Ann\"\ntouch 1 0 K:aa \"Ann\"\n\
+            touch 1 0 K:aa \"Ann\"\ntouch 1 0 K:aa \"Ann\"\ntouch 1 0 K:aa \"Ann\"\ntouch 1 0 K:aa \"Ann\"\ntouch 1 0 \
+            K:aa \"Ann\"\ntouch 1 0 K:aa \"Ann\"\ntouch 1 0 K:aa \"Ann\"\ntouch 1 0 K:aa \"Ann\"\ntouch 1 0 K:aa \
+            \"Ann\"\ntouch 1 0 K:aa \"Ann\"\ntouch 1 0 K:aa \"Ann\"\ntouch 1 0 K:aa \"Ann\"\ntouch 1 0 K:aa \"Ann\"\n\
+            touch 1 0 K:aa \"Ann\"\ntouch 1 0 K:aa \"Ann\"\ntouch 1 0 K:aa \"Ann\"\ntouch 1 0 K:aa \"Ann\"\ntouch 1 0 \
+            K:aa \"Ann\"\ntouch 1 0 K:aa \"Ann\"\ntouch 1 0 K:aa \"Ann\"\ntouch 1 0 K:aa \"Ann\"\ntouch 1 0 K:aa \
+            \"Ann\"\ntouch 1 0 K:aa \"Ann\"\ntouch 1 0 K:aa \"Ann\"\ntouch 1 0 K:aa \"Ann\"\ntouch 1 0 K:aa \"Ann\"\n\
+            touch 1 0 K:aa \"Ann\"\ntouch 1 0 K:aa \"Ann\"\ntouch 1 0 K:aa \"Ann\"\ntouch 1 0 K:aa \"Ann\"\ntouch 1 0 \
+            K:aa \"Ann\"\ntouch 1 0 K:aa \"Ann\"\ntouch 1 0 K:aa \"Ann\"\ntouch 1 0 K:aa \"Ann\"\ntouch 1 0 K:aa \
+            \"Ann\"\ntouch 1 0 K:aa \"Ann\"\ntouch 1 0 K:aa \"Ann\"\ntouch 1 0 K:aa \"Ann\"\ntouch 1 0 K:aa \"Ann\"\n\
+            touch 1 0 K:aa \"Ann\"\ntouch 1 0 K:aa \"Ann\"\ntouch 1 0 K:aa \"Ann\"\ntouch 1 0 K:aa \"Ann\"\ntouch 1 0 \
+            K:aa \"Ann\"\ntouch 1 0 K:aa \"Ann\"\ngo 1 100\n",
+        "took 1 touch_start 1\ndrop 1 touch_start 1\ndrop 1 touch_start 1\ndrop 1 touch_start 1\ndrop 1 touch_start 1\n\
+            drop 1 touch_start 1\ndrop 1 touch_start 1\ndone 1 1024\nhome 1 \"A\"\n",
     ),
     (
         "two states",
-        "default { state_entry() { llSetTimerEvent(5); } state_exit() { llOwnerSay(\"bye\"); } touch_start(integer n) { state wide; } } state wide { state_entry() { llOwnerSay(\"wide\"); } timer() { llOwnerSay(\"tick\"); state wide; } }",
-        "run 10\ntouch 1 0 K:aa \"Ann\"\ntouch 1 0 K:aa \"Ann\"\ntouch 1 0 K:aa \"Ann\"\ntouch 1 0 K:aa \"Ann\"\ntouch 1 0 K:aa \"Ann\"\ntouch 1 0 K:aa \"Ann\"\ntouch 1 0 K:aa \"Ann\"\ntouch 1 0 K:aa \"Ann\"\ntouch 1 0 K:aa \"Ann\"\ntouch 1 0 K:aa \"Ann\"\ntouch 1 0 K:aa \"Ann\"\nrun 100\nclock 5000\nrun 10\n",
-        "took 1 state_entry\ndone 1 1024\ntook 1 touch_start 1\ndone 1 1024\ntook 1 state_exit\nowner 1 \"bye\"\ndone 1 1024\nclear 1 10\ntook 1 state_entry\nowner 1 \"wide\"\ndone 1 1024\ntook 1 timer\nowner 1 \"tick\"\ndone 1 1024\nhome 1 \"A\"\n",
+        "default { state_entry() { llSetTimerEvent(5); } state_exit() { llOwnerSay(\"bye\"); } touch_start(integer n) \
+            { state wide; } } state wide { state_entry() { llOwnerSay(\"wide\"); } timer() { llOwnerSay(\"tick\"); \
+            state wide; } }",
+        "run 10\ntouch 1 0 K:aa \"Ann\"\ntouch 1 0 K:aa \"Ann\"\ntouch 1 0 K:aa \"Ann\"\ntouch 1 0 K:aa \"Ann\"\ntouch \
+            1 0 K:aa \"Ann\"\ntouch 1 0 K:aa \"Ann\"\ntouch 1 0 K:aa \"Ann\"\ntouch 1 0 K:aa \"Ann\"\ntouch 1 0 K:aa \
+            \"Ann\"\ntouch 1 0 K:aa \"Ann\"\ntouch 1 0 K:aa \"Ann\"\nrun 100\nclock 5000\nrun 10\n",
+        "took 1 state_entry\ndone 1 1024\ntook 1 touch_start 1\ndone 1 1024\ntook 1 state_exit\nowner 1 \"bye\"\ndone \
+            1 1024\nclear 1 10\ntook 1 state_entry\nowner 1 \"wide\"\ndone 1 1024\ntook 1 timer\nowner 1 \"tick\"\n\
+            done 1 1024\nhome 1 \"A\"\n",
     ),
     (
         "sleeper hears",
-        "default { state_entry() { llListen(5, \"\", \"\", \"\"); llSleep(1); llOwnerSay(\"ready\"); } listen(integer c, string n, key k, string m) { llOwnerSay(n + \":\" + m); } }",
+        "default { state_entry() { llListen(5, \"\", \"\", \"\"); llSleep(1); llOwnerSay(\"ready\"); } listen(integer \
+            c, string n, key k, string m) { llOwnerSay(n + \":\" + m); } }",
         "say 5 \"Ann\" K:aa \"early\"\ngo 1 1\nsay 5 \"Ann\" K:aa \"late\"\nclock 1000\nrun 10\n",
-        "took 1 state_entry\nowner 1 \"ready\"\ndone 1 1024\ntook 1 listen 5 \"Ann\" \"K:aa\" \"late\"\nowner 1 \"Ann:late\"\ndone 1 1024\nhome 1 \"A\"\n",
+        "took 1 state_entry\nowner 1 \"ready\"\ndone 1 1024\ntook 1 listen 5 \"Ann\" \"K:aa\" \"late\"\nowner 1 \
+            \"Ann:late\"\ndone 1 1024\nhome 1 \"A\"\n",
     ),
     (
         "waiting for the clock",
@@ -51,15 +78,18 @@ const LONE: [(&str, &str, &str, &str); 8] = [
     ),
     (
         "five hundred calls",
-        "integer d(integer n) { if (n == 0) return 0; return d(n - 1) + 1; } default { touch_start(integer t) { llOwnerSay((string)d(500)); } }",
+        "integer d(integer n) { if (n == 0) return 0; return d(n - 1) + 1; } default { touch_start(integer t) { \
+            llOwnerSay((string)d(500)); } }",
         "touch 1 0 K:aa \"Ann\"\ngo 1 500\nrun 1000\n",
         "took 1 touch_start 1\nowner 1 \"500\"\ndone 1 1024\nhome 1 \"A\"\n",
     ),
     (
         "reset",
-        "integer n = 1; default { state_entry() { ++n; llOwnerSay((string)n); } touch_start(integer t) { n = 9; llResetScript(); llOwnerSay(\"never\"); } }",
+        "integer n = 1; default { state_entry() { ++n; llOwnerSay((string)n); } touch_start(integer t) { n = 9; \
+            llResetScript(); llOwnerSay(\"never\"); } }",
         "run 10\ntouch 1 0 K:aa \"Ann\"\ntouch 1 0 K:aa \"Ann\"\nrun 10\n",
-        "took 1 state_entry\nowner 1 \"2\"\ndone 1 1032\ntook 1 touch_start 1\ndone 1 1032\nclear 1 1\ntook 1 state_entry\nowner 1 \"2\"\ndone 1 1032\nhome 1 \"A\"\n",
+        "took 1 state_entry\nowner 1 \"2\"\ndone 1 1032\ntook 1 touch_start 1\ndone 1 1032\nclear 1 1\ntook 1 \
+            state_entry\nowner 1 \"2\"\ndone 1 1032\nhome 1 \"A\"\n",
     ),
 ];
 
@@ -86,16 +116,21 @@ const WORLDS: [(&str, &[(&str, &str)], &str, &str); 6] = [
             "default { state_entry() { while (1) llOwnerSay(\"x\"); } }",
         )],
         "object K:01 \"Box\" K:02 \"A\"\nscript \"s\" \"s.lsl\"\nscript \"t\" \"s.lsl\"\nbegin\nrun 12\nend\n",
-        "took 1 state_entry\nowner 1 \"x\"\nowner 1 \"x\"\nowner 1 \"x\"\nowner 1 \"x\"\nowner 1 \"x\"\nowner 1 \"x\"\nowner 1 \"x\"\nowner 1 \"x\"\ntook 2 state_entry\nowner 2 \"x\"\nowner 2 \"x\"\nowner 2 \"x\"\nowner 2 \"x\"\nhome 1 \"A\"\n",
+        "took 1 state_entry\nowner 1 \"x\"\nowner 1 \"x\"\nowner 1 \"x\"\nowner 1 \"x\"\nowner 1 \"x\"\nowner 1 \"x\"\n\
+            owner 1 \"x\"\nowner 1 \"x\"\ntook 2 state_entry\nowner 2 \"x\"\nowner 2 \"x\"\nowner 2 \"x\"\nowner 2 \
+            \"x\"\nhome 1 \"A\"\n",
     ),
     (
         "two listeners",
         &[(
             "s.lsl",
-            "default { listen(integer c, string n, key k, string m) { llOwnerSay(m); } state_entry() { llListen(3, \"\", \"\", \"\"); llSay(3, \"hi\"); } }",
+            "default { listen(integer c, string n, key k, string m) { llOwnerSay(m); } state_entry() { llListen(3, \
+                \"\", \"\", \"\"); llSay(3, \"hi\"); } }",
         )],
-        "object K:01 \"P\" K:0f \"A\"\nscript \"s\" \"s.lsl\"\nobject K:02 \"Q\" K:0f \"A\"\nscript \"s\" \"s.lsl\"\nbegin\nrun 20\nend\n",
-        "took 1 state_entry\nchat 1 say 3 \"hi\"\ndone 1 1024\ntook 2 state_entry\nchat 2 say 3 \"hi\"\ndone 2 1024\ntook 1 listen 3 \"Q\" \"K:02\" \"hi\"\nowner 1 \"hi\"\ndone 1 1024\nhome 1 \"A\"\nhome 2 \"A\"\n",
+        "object K:01 \"P\" K:0f \"A\"\nscript \"s\" \"s.lsl\"\nobject K:02 \"Q\" K:0f \"A\"\nscript \"s\" \"s.lsl\"\n\
+            begin\nrun 20\nend\n",
+        "took 1 state_entry\nchat 1 say 3 \"hi\"\ndone 1 1024\ntook 2 state_entry\nchat 2 say 3 \"hi\"\ndone 2 1024\n\
+            took 1 listen 3 \"Q\" \"K:02\" \"hi\"\nowner 1 \"hi\"\ndone 1 1024\nhome 1 \"A\"\nhome 2 \"A\"\n",
     ),
     (
         "two timers",
@@ -109,8 +144,10 @@ const WORLDS: [(&str, &[(&str, &str)], &str, &str); 6] = [
                 "default { state_entry() { llSetTimerEvent(3); } timer() { llOwnerSay(\"b\"); } }",
             ),
         ],
-        "object K:01 \"Box\" K:02 \"A\"\nscript \"s\" \"a.lsl\"\nscript \"t\" \"b.lsl\"\nbegin\nrun 10\nclock 5000\nrun 10\nend\n",
-        "took 1 state_entry\ndone 1 1024\ntook 2 state_entry\ndone 2 1024\ntook 1 timer\nowner 1 \"a\"\ndone 1 1024\ntook 2 timer\nowner 2 \"b\"\ndone 2 1024\nhome 1 \"A\"\n",
+        "object K:01 \"Box\" K:02 \"A\"\nscript \"s\" \"a.lsl\"\nscript \"t\" \"b.lsl\"\nbegin\nrun 10\nclock 5000\n\
+            run 10\nend\n",
+        "took 1 state_entry\ndone 1 1024\ntook 2 state_entry\ndone 2 1024\ntook 1 timer\nowner 1 \"a\"\ndone 1 1024\n\
+            took 2 timer\nowner 2 \"b\"\ndone 2 1024\nhome 1 \"A\"\n",
     ),
     (
         "a touch that falls back",
@@ -121,7 +158,8 @@ const WORLDS: [(&str, &[(&str, &str)], &str, &str); 6] = [
             ),
             ("b.lsl", "default { timer() { } }"),
         ],
-        "object K:01 \"Box\" K:02 \"A\"\nscript \"s\" \"a.lsl\"\nprim K:03 \"Lid\"\nscript \"t\" \"b.lsl\"\nbegin\ntouch 1 2 K:aa \"Ann\"\nrun 10\nend\n",
+        "object K:01 \"Box\" K:02 \"A\"\nscript \"s\" \"a.lsl\"\nprim K:03 \"Lid\"\nscript \"t\" \"b.lsl\"\nbegin\n\
+            touch 1 2 K:aa \"Ann\"\nrun 10\nend\n",
         "took 1 touch_start 1\nowner 1 \"2\"\ndone 1 1024\nhome 1 \"A\"\n",
     ),
     (
@@ -130,8 +168,10 @@ const WORLDS: [(&str, &[(&str, &str)], &str, &str); 6] = [
             "s.lsl",
             "default { changed(integer f) { llOwnerSay((string)f); } on_rez(integer n) { llOwnerSay((string)n); } }",
         )],
-        "object K:01 \"Box\" K:02 \"A\"\nscript \"s\" \"s.lsl\"\nprim K:03 \"Lid\"\nscript \"t\" \"s.lsl\"\nbegin\nchanged 1 32\nrez 1 7\nrun 10\nend\n",
-        "took 1 changed 32\nowner 1 \"32\"\ndone 1 1024\ntook 1 on_rez 7\nowner 1 \"7\"\ndone 1 1024\ntook 2 changed 32\nowner 2 \"32\"\ndone 2 1024\ntook 2 on_rez 7\nowner 2 \"7\"\ndone 2 1024\nhome 1 \"A\"\n",
+        "object K:01 \"Box\" K:02 \"A\"\nscript \"s\" \"s.lsl\"\nprim K:03 \"Lid\"\nscript \"t\" \"s.lsl\"\nbegin\n\
+            changed 1 32\nrez 1 7\nrun 10\nend\n",
+        "took 1 changed 32\nowner 1 \"32\"\ndone 1 1024\ntook 1 on_rez 7\nowner 1 \"7\"\ndone 1 1024\ntook 2 changed \
+            32\nowner 2 \"32\"\ndone 2 1024\ntook 2 on_rez 7\nowner 2 \"7\"\ndone 2 1024\nhome 1 \"A\"\n",
     ),
     ("no objects", &[], "begin\nend\n", ""),
 ];
@@ -148,12 +188,14 @@ fn worlds_of_several_scripts(rt: HostRuntime) -> Result<(), Fail> {
 const ONCE: [(&str, &str, &str); 2] = [
     (
         "sixty-six listens",
-        "default { state_entry() { integer i; for (i = 0; i < 65; ++i) llListen(i, \"\", \"\", \"\"); llOwnerSay((string)llListen(3, \"\", \"\", \"\")); llListen(65, \"\", \"\", \"\"); llOwnerSay(\"no\"); } }",
+        "default { state_entry() { integer i; for (i = 0; i < 65; ++i) llListen(i, \"\", \"\", \"\"); \
+            llOwnerSay((string)llListen(3, \"\", \"\", \"\")); llListen(65, \"\", \"\", \"\"); llOwnerSay(\"no\"); } }",
         "took 1 state_entry\nowner 1 \"4\"\nfault 1 \"Too Many Listens\"\nhome 1 \"here\"\n",
     ),
     (
         "state, then sleep",
-        "default { state_entry() { state b; } } state b { state_entry() { llOwnerSay(\"b\"); llSleep(3); llOwnerSay(\"no\"); } }",
+        "default { state_entry() { state b; } } state b { state_entry() { llOwnerSay(\"b\"); llSleep(3); \
+            llOwnerSay(\"no\"); } }",
         "took 1 state_entry\ndone 1 1024\nclear 1 0\ntook 1 state_entry\nowner 1 \"b\"\nhome 1 \"here\"\n",
     ),
 ];
@@ -208,7 +250,8 @@ fn bad_world_files(rt: HostRuntime) -> Result<(), Fail> {
 }
 
 const TWO_SCRIPTS: &str =
-    "object K:01 \"Box\" K:02 \"A\"\nscript \"s\" \"a.lsl\"\nscript \"t\" \"b.lsl\"\nscript \"u\" \"a.lsl\"\nbegin\nend\n";
+    "object K:01 \"Box\" K:02 \"A\"\nscript \"s\" \"a.lsl\"\nscript \"t\" \"b.lsl\"\nscript \"u\" \"a.lsl\"\nbegin\n\
+        end\n";
 
 const GOOD: &str = "default { timer() { } }";
 
