@@ -6,7 +6,8 @@ use Rattle.lsl_text.specs.declared.Refusal.{Refusal}
 use Rattle.lsl_image.specs.declared.faults.ImageFault.{ImageFault}
 use Rattle.lsl_image.specs.Layout.{Layout, ◌>>=◌, each, each_behind}
 use Rattle.lsl_image.specs.Reading.{Gives, Reads}
-use Rattle.lsl_image.proofs.LeadingLemmas.{Leads, leads-all, leads-exits, leads-then}
+use Rattle.lsl_image.specs.Leading.{Leads}
+use Rattle.lsl_image.proofs.LeadingLemmas.{leads-all, leads-exits, leads-then}
 
 pub each-start : {X A : Type 0} (bytes : List ℕ) (layout : X → Layout A) (xs : List X) (p : ℕ) (list : List A)
     → list ≡ [] → Leads bytes (each_behind layout xs list) p (λ all. all) (each layout xs) p

@@ -19,7 +19,8 @@ use Rattle.lsl_image.specs.Layout.{Kinded, Layout, Ends, ◌>>=◌, kinded_value
 use Rattle.lsl_image.specs.Reading.{Faults, Gives, Reads}
 use Rattle.lsl_image.specs.Script.{event_numbered, event_of, event_that_may, event_with, may_stand, toucher}
 use Rattle.lsl_image.proofs.KindedLemmas.{HaveKinds, kinded-err, values-fit, values-kinds}
-use Rattle.lsl_image.proofs.LeadingLemmas.{Leads, leads-all, leads-ends, leads-exits, leads-then}
+use Rattle.lsl_image.specs.Leading.{Leads}
+use Rattle.lsl_image.proofs.LeadingLemmas.{leads-all, leads-ends, leads-exits, leads-then}
 
 pub numbered_as : (n d : ℕ) → d + 1 ≡ n → event_numbered n ≡ slice_get events d
 numbered_as zero d same = absurd (omega (arith, same))

@@ -10,7 +10,8 @@ use Rattle.lsl_image.specs.declared.faults.ImageFault.{ImageFault}
 use Rattle.lsl_image.specs.declared.faults.ImageFault.TheVariants.{Body}
 use Rattle.lsl_image.specs.Layout.{Content, Form, I32, Layout, ◌>>=◌, field, field_that, here, tested}
 use Rattle.lsl_image.specs.Reading.{Faults, Gives, Reads, Stands}
-use Rattle.lsl_image.proofs.LeadingLemmas.{Leads, leads-then}
+use Rattle.lsl_image.specs.Leading.{Leads}
+use Rattle.lsl_image.proofs.LeadingLemmas.{leads-then}
 use Rattle.lsl_image.proofs.ReadingLemmas.{faults-first}
 
 module _ (bytes : List ℕ) (form : Form) (p : ℕ) where

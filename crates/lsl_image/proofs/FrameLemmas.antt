@@ -9,7 +9,7 @@ use Rattle.lsl_image.specs.declared.faults.ImageFault.TheVariants.{Body}
 use Rattle.lsl_image.specs.Layout.{Layout, Ends, ◌>>=◌, values_of}
 use Rattle.lsl_image.specs.Reading.{Faults, Reads}
 use Rattle.lsl_image.specs.Rest.{callee_of, frame, frame_at, frame_behind, frame_in, same_callee}
-use Rattle.lsl_image.proofs.LeadingLemmas.{Leads}
+use Rattle.lsl_image.specs.Leading.{Leads}
 
 module _ (bytes : List ℕ) (place function number : ℕ) (callee : Option ℕ) (found : Option Point) (q : ℕ)
     (whole : Layout Frame) (start : ℕ) (leads : Leads bytes (frame_at place function number callee found) q

@@ -19,7 +19,7 @@ use Rattle.lsl_image.specs.declared.faults.ImageFault.{ImageFault}
 use Rattle.lsl_image.specs.declared.faults.ImageFault.TheVariants.{Body}
 use Rattle.lsl_image.specs.Layout.{Kinded, Layout, Ends, ValueForm, ◌>>=◌, field, field_that, here, kinded, kinded_values, no_values, one_more, tested, value_of, values_in, values_of}
 use Rattle.lsl_image.specs.Reading.{Faults, Gives, Reads, Stands}
-use Rattle.lsl_image.proofs.LeadingLemmas.{Leads}
+use Rattle.lsl_image.specs.Leading.{LeadsBehind}
 use Rattle.lsl_image.proofs.ReadingLemmas.{faults-first, faults-split, gives-split, gives-then}
 
 -- what a test lets through
@@ -84,10 +84,6 @@ module _ (bytes : List ℕ) (due : Kind) (kinds : List Kind) (place : ℕ) (valu
       → Faults bytes (kinded due kinds place value same e others) p (Body place)
   kinded-refused true e differs p = absurd (false≢true (sym differs ∙ e))
   kinded-refused false e differs p = refl
-
--- these values were read, and others follow
-abbrev pub LeadsBehind : List ℕ → List Kind → ℕ → List Value → Layout (List Value) → ℕ → Type 0
-LeadsBehind bytes kinds p before whole start = Leads bytes (kinded_values kinds) p (λ k. before ++ k.values) whole start
 
 pub values-start : (bytes : List ℕ) (kinds : List Kind) (p : ℕ) (before : List Value) → before ≡ []
     → LeadsBehind bytes kinds p before (values_of kinds) p

@@ -7,14 +7,9 @@ use Rattle.lsl_text.specs.declared.Refusal.TheVariants.{Fault, NoMemory}
 use Rattle.lsl_bytes.specs.Fields.{FitsI32}
 use Rattle.lsl_image.specs.declared.faults.ImageFault.{ImageFault}
 use Rattle.lsl_image.specs.Layout.{Layout, Ends, I32, Refused, ◌>>=◌, field, grown, here}
+use Rattle.lsl_image.specs.Leading.{Leads}
 use Rattle.lsl_image.specs.Reading.{Faults, Gives, Reads}
 use Rattle.lsl_image.proofs.ReadingLemmas.{faults-first, faults-then, gives-then}
-
--- what the layout gives at the place is what the whole gives from its start, as this tells; and so are its faults
-pub record Leads {A B : Type 0} (bytes : List ℕ) (l : Layout A) (p : ℕ) (f : A → B) (whole : Layout B)
-    (start : ℕ) : Type 0 where
-  pub gives : (a : A) (q : ℕ) → Gives bytes l p a q → Gives bytes whole start (f a) q
-  pub faults : (fault : ImageFault) → Faults bytes l p fault → Faults bytes whole start fault
 
 pub leads-all : {A : Type 0} (bytes : List ℕ) (l : Layout A) (p : ℕ) → Leads bytes l p (λ a. a) l p
 leads-all bytes l p = record { gives = λ a q h. h; faults = λ fault h. h }

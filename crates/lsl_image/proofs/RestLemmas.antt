@@ -12,7 +12,8 @@ use Rattle.lsl_image.specs.Layout.{Layout, tested}
 use Rattle.lsl_image.specs.Reading.{Faults, Gives}
 use Rattle.lsl_image.specs.Rest.{dead_rest, fault_numbered, rest_of, saved_rest}
 use Rattle.lsl_image.proofs.FieldLemmas.{test-fails, test-passes}
-use Rattle.lsl_image.proofs.LeadingLemmas.{Leads, leads-ends}
+use Rattle.lsl_image.specs.Leading.{Leads}
+use Rattle.lsl_image.proofs.LeadingLemmas.{leads-ends}
 
 pub fault_first : (n : ℕ) → n < 2 → fault_numbered n ≡ MathError
 fault_first zero few = refl

@@ -4,7 +4,8 @@ use Rattle.lsl_post.specs.declared.parts.Pair.{Pair}
 use Rattle.lsl_image.specs.Layout.{Layout, Ends, U16, ◌>>=◌, field, grown}
 use Rattle.lsl_image.specs.Object.{pair_behind, store}
 use Rattle.lsl_image.specs.Reading.{Gives}
-use Rattle.lsl_image.proofs.LeadingLemmas.{Leads, leads-all}
+use Rattle.lsl_image.specs.Leading.{Leads}
+use Rattle.lsl_image.proofs.LeadingLemmas.{leads-all}
 
 abbrev counted : Layout (List Pair)
 counted = field U16 >>= λ count. grown count pair_behind []

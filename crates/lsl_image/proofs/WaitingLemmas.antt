@@ -10,7 +10,8 @@ use Rattle.lsl_image.specs.declared.faults.ImageFault.TheVariants.{Body}
 use Rattle.lsl_image.specs.Layout.{Layout, Ends, ◌>>=◌}
 use Rattle.lsl_image.specs.Reading.{Faults, Gives}
 use Rattle.lsl_image.specs.Script.{due_timer, flagged_leaving, handles, other_state}
-use Rattle.lsl_image.proofs.LeadingLemmas.{Leads, leads-ends}
+use Rattle.lsl_image.specs.Leading.{Leads}
+use Rattle.lsl_image.proofs.LeadingLemmas.{leads-ends}
 
 module _ (bytes : List ℕ) (place period due q : ℕ) where
   due-refused : (good : Bool) (e : fits_timer period due ≡ good) → fits_timer period due ≡ false

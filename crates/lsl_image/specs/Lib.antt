@@ -5,6 +5,7 @@ pub mod Fits
 pub mod Images
 pub mod Laws
 pub mod Layout
+pub mod Leading
 pub mod Object
 pub mod Reading
 pub mod Rest

@@ -1,10 +1,11 @@
 //! Values of the kinds that are due.
 
-ghost use Rattle.std.specs.Prelude.{◌≡◌, map, IfOk, IfSome};
+ghost use Rattle.std.specs.Prelude.{◌≡◌, ℕ, [], map, drop, length, IfOk, IfSome};
 ghost use Rattle.lsl_value.specs.Values.{kind_of};
 ghost use Rattle.lsl_value.specs.declared.tagged.Value.TheVariants.{Int};
 ghost use Rattle.lsl_code.specs.Kinds.{kinds_of};
 ghost use Rattle.lsl_image.specs.Layout.{value_of, values_of};
+ghost use Rattle.lsl_image.specs.Leading.{LeadsBehind};
 ghost use Rattle.lsl_image.specs.Reading.{Gives, Reads};
 
 use crate::faults::wrong;
@@ -44,16 +45,54 @@ pub fn read_values(alloc: Global, bytes: &[u8], place: usize, kinds: &[Kind]) ->
 {
     let room = bytes.len().saturating_sub(place) / LEAST_VALUE_BYTES;
     let mut values = Vec::with_capacity(alloc, kinds.len().min(room))?;
+    let next = read_integers(bytes, place, kinds, &mut values)?;
+    if values.len() < kinds.len() {
+        return read_others(alloc, bytes, next, kinds, values);
+    }
+    Ok((Values::from_vec(values), next))
+}
+
+// The integers at the front, up to the first value that is none or can't be read, and the place behind them.
+#[inline(always)]
+fn read_integers(
+    bytes: &[u8],
+    place: usize,
+    kinds: &[Kind],
+    values: &mut Vec<Value>,
+) -> Result<usize, NoMemory>
+    requires { values.old.items ≡ [] }
+    ensures { IfOk result (λ next. LeadsBehind bytes.now (drop (length values.new.items) kinds.now) next
+        values.new.items (values_of kinds.now) place) }
+{
     let mut next = place;
     for kind in kinds {
-        if let Some((n, behind)) = int_of(bytes, next, *kind) {
-            values.push(Value::Int(n))?;
-            next = behind;
-        } else {
-            let (value, behind) = read_value_of(alloc, bytes, next, *kind)?;
-            values.push(value)?;
-            next = behind;
-        }
+        let Some((n, behind)) = int_of(bytes, next, *kind) else {
+            return Ok(next);
+        };
+        values.push(Value::Int(n))?;
+        next = behind;
+    }
+    Ok(next)
+}
+
+// The values behind those that are read.
+#[inline(never)]
+fn read_others(
+    alloc: Global,
+    bytes: &[u8],
+    place: usize,
+    kinds: &[Kind],
+    values: Vec<Value>,
+) -> Read<Values>
+    ensures { (start : ℕ) → LeadsBehind bytes.now (drop (length values.items) kinds.now) place values.items
+        (values_of kinds.now) start → Reads bytes.now (values_of kinds.now) start result }
+{
+    let mut values = values;
+    let mut next = place;
+    for at in values.len()..kinds.len() {
+        let (value, behind) = read_value_of(alloc, bytes, next, kinds[at])?;
+        values.push(value)?;
+        next = behind;
     }
     Ok((Values::from_vec(values), next))
 }

@@ -1,7 +1,7 @@
 use Rattle.std.proofs.Common.{◌≡◌, ◌-◌, [], length}
 use Rattle.lsl_image.specs.Layout.{grown}
 use Rattle.lsl_image.specs.Rest.{callee_of, frame_behind}
-use Rattle.lsl_image.proofs.LeadingLemmas.{Leads}
+use Rattle.lsl_image.specs.Leading.{Leads}
 use Rattle.lsl_image.proofs.frames.read_frames.Given as goal
 
 -- so many frames are read

@@ -1,7 +1,7 @@
 use Rattle.std.proofs.Common.{◌-◌, []}
 use Rattle.lsl_image.specs.Layout.{grown}
 use Rattle.lsl_image.specs.Script.{listen_behind}
-use Rattle.lsl_image.proofs.LeadingLemmas.{Leads}
+use Rattle.lsl_image.specs.Leading.{Leads}
 use Rattle.lsl_image.proofs.listens.read_list.Given as goal
 
 -- so many listens are read

@@ -1,6 +1,6 @@
 use Rattle.std.proofs.Common.{◌-◌}
 use Rattle.lsl_image.specs.Layout.{TextForm, field, grown, repeated}
-use Rattle.lsl_image.proofs.LeadingLemmas.{Leads}
+use Rattle.lsl_image.specs.Leading.{Leads}
 use Rattle.lsl_image.proofs.object.read_names.Given as goal
 
 -- so many names are read

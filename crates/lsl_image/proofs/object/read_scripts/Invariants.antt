@@ -1,7 +1,7 @@
 use Rattle.std.proofs.Common.{drop, slice_get}
 use Rattle.lsl_image.specs.Layout.{each, each_behind}
 use Rattle.lsl_image.specs.Object.{script_of}
-use Rattle.lsl_image.proofs.LeadingLemmas.{Leads}
+use Rattle.lsl_image.specs.Leading.{Leads}
 use Rattle.lsl_image.proofs.object.read_scripts.Given as goal
 
 -- so many are read

@@ -1,7 +1,7 @@
 use Rattle.std.proofs.Common.{◌≡◌, ◌-◌, false, length}
 use Rattle.lsl_image.specs.Layout.{grown, repeated}
 use Rattle.lsl_image.specs.Script.{event_in}
-use Rattle.lsl_image.proofs.LeadingLemmas.{Leads}
+use Rattle.lsl_image.specs.Leading.{Leads}
 use Rattle.lsl_image.proofs.queue.read_events.Given as goal
 
 -- so many events are read

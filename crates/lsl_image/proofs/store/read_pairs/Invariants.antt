@@ -1,7 +1,7 @@
 use Rattle.std.proofs.Common.{◌≡◌, ◌+◌, ◌-◌, [], sum_by}
 use Rattle.lsl_image.specs.Layout.{grown}
 use Rattle.lsl_image.specs.Object.{pair_behind, pair_bytes}
-use Rattle.lsl_image.proofs.LeadingLemmas.{Leads}
+use Rattle.lsl_image.specs.Leading.{Leads}
 use Rattle.lsl_image.proofs.store.read_pairs.Given as goal
 
 -- so many pairs are read, and leave so much room

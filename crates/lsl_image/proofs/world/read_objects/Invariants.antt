@@ -1,7 +1,7 @@
 use Rattle.std.proofs.Common.{drop}
 use Rattle.lsl_image.specs.Layout.{each, each_behind}
 use Rattle.lsl_image.specs.World.{placed}
-use Rattle.lsl_image.proofs.LeadingLemmas.{Leads}
+use Rattle.lsl_image.specs.Leading.{Leads}
 use Rattle.lsl_image.proofs.world.read_objects.Given as goal
 
 -- so many are read

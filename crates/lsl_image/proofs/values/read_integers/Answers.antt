@@ -1,0 +1,29 @@
+use Rattle.std.proofs.Common.{◌≡◌, ◌∙◌, ap, arith, ℤ, [], ◌∷◌, ◌++◌, length}
+use Rattle.std.specs.Int.{w32, cast_signed, cast_unsigned}
+use Rattle.std.proofs.lemmas.Int.{to_z-of_z}
+use Rattle.std.proofs.lemmas.List.{length-append}
+use Rattle.lsl_value.specs.declared.tagged.Value.TheVariants.{Int}
+use Rattle.lsl_bytes.specs.Fields.{FitsI32}
+use Rattle.lsl_image.proofs.KindedLemmas.{value-given, values-next, values-start}
+use Rattle.lsl_image.proofs.values.read_integers.Goals as goal
+
+pub loop-kind-init : goal.loop-kind-init
+loop-kind-init c = (
+  ap length c.requires,
+  values-start c.args.bytes.now c.args.kinds.now c.args.place c.args.values.now.items c.requires,
+)
+
+pub loop-kind-preserved : goal.loop-kind-preserved
+loop-kind-preserved c =
+    let before = c.loop-kind.values.items in
+    let fits : FitsI32 c.in-Some.n =
+    (value-given c.args.bytes.now _ c.loop-kind.next (Int c.in-Some.n) c.in-Some.behind c.in-Some.ensures).0.0 in
+    let same : cast_signed w32 (cast_unsigned w32 c.in-Some.n) ≡ c.in-Some.n = to_z-of_z w32 c.in-Some.n fits in
+    let items = c.in_ok-push.ensures.items ∙ ap (λ (n : ℤ). before ++ Int n ∷ []) same in
+    let one = ap length items in
+    let many = length-append before (Int c.in-Some.n ∷ []) in
+    let so = c.loop-kind.invariant.0 in (
+      omega (arith, one, many, so),
+      values-next c.args.bytes.now c.args.kinds.now c.loop-kind.kind-index c.loop-kind.next before c.args.place
+          (Int c.in-Some.n) c.in-Some.behind _ c.loop-kind-test.true items c.loop-kind.invariant.1 c.in-Some.ensures,
+    )

@@ -1,0 +1,10 @@
+use Rattle.std.proofs.Common.{ℕ, drop, length}
+use Rattle.lsl_image.specs.Layout.{values_of}
+use Rattle.lsl_image.specs.Leading.{LeadsBehind}
+use Rattle.lsl_image.proofs.values.read_others.Given as goal
+
+-- the values of the kinds so far are read
+abbrev pub invariant-loop-at : goal.invariant-loop-at
+invariant-loop-at l = (start : ℕ)
+    → LeadsBehind l.bytes (drop (length l.fn.values.items) l.kinds) l.place l.fn.values.items (values_of l.kinds) start
+    → LeadsBehind l.bytes (drop l.at l.kinds) l.next l.values.items (values_of l.kinds) start
