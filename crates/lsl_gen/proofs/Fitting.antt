@@ -27,7 +27,8 @@ use Rattle.lsl_gen.proofs.Routes.{routine_fits, each_body, kinded_at, all_plain}
 -- the events by their numbers
 abbrev events : List EventId
 events =
-    event.StateEntry ∷ event.StateEntry ∷ event.StateExit ∷ event.TouchStart ∷ event.Touch ∷ event.TouchEnd ∷ event.Listen
+    event.StateEntry ∷ event.StateEntry ∷ event.StateExit ∷ event.TouchStart ∷ event.Touch ∷ event.TouchEnd
+    ∷ event.Listen
     ∷ event.Timer ∷ event.LinkMessage ∷ event.Changed ∷ event.OnRez ∷ event.Dataserver ∷ event.LinksetData ∷ []
 
 event_at : (e : EventId) → slice_get events (event_number e) ≡ Some e

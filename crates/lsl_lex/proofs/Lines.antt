@@ -94,7 +94,8 @@ column_along text place (suc count) within h =
     let before : place + count + 1 - 1 ≡ place + count = omega arith in
     let byte : is_in_line (get_or text (place + count + 1 - 1) 0) ≡ true =
     ap (λ n. is_in_line (get_or text n 0)) before ∙ h count (omega arith) in
-    let more = suffix_len-take_yes (λ b. not (is_line_feed b)) text (place + count + 1) 0 (omega arith) (omega arith) byte in
+    let more = suffix_len-take_yes (λ b. not (is_line_feed b)) text (place + count + 1) 0 (omega arith)
+    (omega arith) byte in
     let rest = column_along text place count (omega arith) (λ i lt. h i (omega arith)) in
     ap (λ n. column_behind (take n text)) next
     ∙ omega (arith, more, ap (λ n. column_behind (take n text)) before, rest)

@@ -142,7 +142,8 @@ tick_stands bs g answers (c ∷ outer) tick = (
 module _ (unit : Woven) (h : ℕ) (frames : List Frame) (kept : Kept)
     (fit : AreFrames (points_of (bodies_of unit)) h frames) (kinds : kinds_of kept.globals ≡ kinds_of unit.globals)
     (r : Running) (n : ℕ) (restored : IsRestored (bodies_of unit) h frames kept r n) where
-  restored_calls : AreKindedCalls (bodies_of unit) (machine_of r).calls × IsChain (bodies_of unit) h (machine_of r).calls
+  restored_calls : AreKindedCalls (bodies_of unit) (machine_of r).calls
+      × IsChain (bodies_of unit) h (machine_of r).calls
       × IsAtTick (bodies_of unit) (machine_of r).calls
   restored_calls =
       resting_calls_are_kinded unit.globals unit.states (bodies_of unit) unit.woven h (machine_of r).calls

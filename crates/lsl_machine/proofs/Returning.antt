@@ -285,7 +285,8 @@ module _ (unit : Woven) (handler : ℕ) (frames : List Frame) (kept : Kept)
 
       -- the calls lie on the stack
       pub ends_within : (t : Restorer) → Backs bodies i r true t → t.active.base ≤ length t.stack.items
-      ends_within t backs = let y = came t true backs in by_calls y.state.calls y.state.point y.state.hand y.state.sack y.has
+      ends_within t backs = let y = came t true backs
+          in by_calls y.state.calls y.state.point y.state.hand y.state.sack y.has
         where
           by_calls : (calls : List MachineCall) → (p : ℕ) (hand : List Value) (sack : List Frame)
               → HasCalls bodies t calls p hand sack → t.active.base ≤ length t.stack.items

@@ -23,7 +23,8 @@ use Rattle.lsl_machine.proofs.Leaving.{take_front}
 pub low_is : (s : Saver) (low : List Value) (c : MachineCall) (hand : List Value) → HasCall s low c hand
     → low_of s ≡ low
 low_is s low c hand h =
-    ap (λ n. take n s.stack.items) h.base ∙ ap (take (length low)) (h.stack ∙ append_assoc low c.slots (reverse c.operands))
+    ap (λ n. take n s.stack.items) h.base
+    ∙ ap (take (length low)) (h.stack ∙ append_assoc low c.slots (reverse c.operands))
     ∙ take_front low (c.slots ++ reverse c.operands)
 
 pub low_within : (s : Saver) (low : List Value) (c : MachineCall) (hand : List Value) → HasCall s low c hand

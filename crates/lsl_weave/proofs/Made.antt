@@ -103,7 +103,8 @@ module _ (globals : List Value) (states : List StateCode) (bodies : List Body)
       let x = woven_from bodies f w found in
       let b = x.0 in
       let plain = all_at (fits_function names) bodies f b (both_true _ _ (both_true _ _ fits).0).0 x.1 in
-      let running = subst (λ y. fits_running names y ≡ true) x.2 (running_made names b (both_true _ _ (both_true _ _ plain).0).1) in
+      let running = subst (λ y. fits_running names y ≡ true) x.2
+      (running_made names b (both_true _ _ (both_true _ _ plain).0).1) in
       let kept = subst (λ y. is_kept y ≡ true) x.2 (kept_made f b x.1) in
       let brief = all_at (λ f w. is_short w) (all_woven bodies) f w short found in
       both _ _ (both _ _ (both _ _ (woven_forward globals states bodies fits f w found) running) brief) kept

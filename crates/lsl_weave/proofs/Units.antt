@@ -20,7 +20,8 @@ units_save globals states bodies fits h m kinded chain tick =
 
 pub units_move : UnitsMove
 units_move globals states bodies fits h m kinded chain tick =
-    machine_restored bodies h m (frames_of bodies m.calls) (one_placed globals states bodies (fits_tells globals states bodies fits).0)
+    machine_restored bodies h m (frames_of bodies m.calls)
+    (one_placed globals states bodies (fits_tells globals states bodies fits).0)
     (ticks_have_frames globals states bodies (fits_tells globals states bodies fits).0 h m kinded chain tick)
 
 abbrev pub machine_with : List MachineCall → Beside → Machine
@@ -36,7 +37,8 @@ units_restore globals states bodies fits h frames x fit =
       c.2,
       c.3,
       c.4,
-      machine_restored bodies h m frames (one_placed globals states bodies (fits_tells globals states bodies fits).0) c.1,
+      machine_restored bodies h m frames
+          (one_placed globals states bodies (fits_tells globals states bodies fits).0) c.1,
     )
 
 pub units_come_to_same : UnitsComeToSame

@@ -21,14 +21,16 @@ returns-in_err-running-clause-lacking c =
 pub returns-clause-of : goal.returns-clause-of
 returns-clause-of c =
     let run = subst (λ l. IsRestored (bodies_of c.args.unit.now) c.args.handler l c.args.parked.kept
-    c.in_ok-running.running (c.restore.new.steps - c.args.steps.now)) c.into_vec.ensures c.in_ok-running.ensures.restored in
+    c.in_ok-running.running
+    (c.restore.new.steps - c.args.steps.now)) c.into_vec.ensures c.in_ok-running.ensures.restored in
     restored_of c.args.unit.now c.args.handler c.args.parked.sack c.args.parked.kept c.requires.valid.0
     c.requires.globals c.in_ok-running.running (c.restore.new.steps - c.args.steps.now) run
 
 pub returns-clause-chained : goal.returns-clause-chained
 returns-clause-chained c =
     let run = subst (λ l. IsRestored (bodies_of c.args.unit.now) c.args.handler l c.args.parked.kept
-    c.in_ok-running.running (c.restore.new.steps - c.args.steps.now)) c.into_vec.ensures c.in_ok-running.ensures.restored in
+    c.in_ok-running.running
+    (c.restore.new.steps - c.args.steps.now)) c.into_vec.ensures c.in_ok-running.ensures.restored in
     restored_chained c.args.unit.now c.args.handler c.args.parked.sack c.args.parked.kept c.requires.valid.0
     c.requires.globals c.in_ok-running.running (c.restore.new.steps - c.args.steps.now) run
 
@@ -38,21 +40,24 @@ returns-clause-charged c = laid_charge c.in_ok-running.running standing.AtTick c
 pub returns-clause-kept : goal.returns-clause-kept
 returns-clause-kept c =
     let run = subst (λ l. IsRestored (bodies_of c.args.unit.now) c.args.handler l c.args.parked.kept
-    c.in_ok-running.running (c.restore.new.steps - c.args.steps.now)) c.into_vec.ensures c.in_ok-running.ensures.restored in
+    c.in_ok-running.running
+    (c.restore.new.steps - c.args.steps.now)) c.into_vec.ensures c.in_ok-running.ensures.restored in
     restored_kept c.args.unit.now c.args.handler c.args.parked.sack c.args.parked.kept c.requires.valid.0
     c.requires.globals c.in_ok-running.running (c.restore.new.steps - c.args.steps.now) run
 
 pub returns-clause-same : goal.returns-clause-same
 returns-clause-same c weaves calls has =
     let run = subst (λ l. IsRestored (bodies_of c.args.unit.now) c.args.handler l c.args.parked.kept
-    c.in_ok-running.running (c.restore.new.steps - c.args.steps.now)) c.into_vec.ensures c.in_ok-running.ensures.restored in
+    c.in_ok-running.running
+    (c.restore.new.steps - c.args.steps.now)) c.into_vec.ensures c.in_ok-running.ensures.restored in
     same_calls c.args.unit.now weaves c.args.handler c.args.parked.sack c.args.parked.kept c.requires.valid.0
     (machine_of c.in_ok-running.running) (c.restore.new.steps - c.args.steps.now) run.ran calls has
 
 pub returns-clause-moved : goal.returns-clause-moved
 returns-clause-moved c weaves saved parked =
     let run = subst (λ l. IsRestored (bodies_of c.args.unit.now) c.args.handler l c.args.parked.kept
-    c.in_ok-running.running (c.restore.new.steps - c.args.steps.now)) c.into_vec.ensures c.in_ok-running.ensures.restored in (
+    c.in_ok-running.running
+    (c.restore.new.steps - c.args.steps.now)) c.into_vec.ensures c.in_ok-running.ensures.restored in (
       same_machine c.args.unit.now weaves c.args.handler c.args.parked.sack c.args.parked.kept c.requires.valid.0
           (machine_of c.in_ok-running.running) (c.restore.new.steps - c.args.steps.now) run.ran saved parked,
       sym parked.stands,
@@ -61,6 +66,7 @@ returns-clause-moved c weaves saved parked =
 pub returns-clause-bound : goal.returns-clause-bound
 returns-clause-bound c weaves =
     let run = subst (λ l. IsRestored (bodies_of c.args.unit.now) c.args.handler l c.args.parked.kept
-    c.in_ok-running.running (c.restore.new.steps - c.args.steps.now)) c.into_vec.ensures c.in_ok-running.ensures.restored in
+    c.in_ok-running.running
+    (c.restore.new.steps - c.args.steps.now)) c.into_vec.ensures c.in_ok-running.ensures.restored in
     few_steps c.args.unit.now weaves c.args.handler c.args.parked.sack c.args.parked.kept c.requires.valid.0
     (machine_of c.in_ok-running.running) (c.restore.new.steps - c.args.steps.now) run.ran
