@@ -37,7 +37,8 @@ impl Sack {
     ) -> Result<Sack, FrameFault>
         requires { length frames.items < 4294967296 }
         ensures same { IfOk result (λ sack. sack ≡ frames.items) }
-        ensures valid { IfOk result (λ sack. AreValid (points_of (map woven_body unit.now.functions)) handler globals.now limit sack) }
+        ensures valid { IfOk result (λ sack.
+            AreValid (points_of (map woven_body unit.now.functions)) handler globals.now limit sack) }
         ensures first { IfErr result (λ fault.
             IsFrameFault (points_of (map woven_body unit.now.functions)) handler globals.now limit frames.items fault) }
     {
@@ -73,7 +74,8 @@ fn first_unfit(unit: &Woven, handler: u16, frames: &[Frame]) -> Option<u32>
 
 // Whether the frame that calls this function, or none, fits before these outer ones.
 fn fits(unit: &Woven, handler: u16, callee: Option<u16>, frame: &Frame, outer: &[Frame]) -> bool
-    ensures { IsTrue result ↔ FitsFrame (points_of (map woven_body unit.now.functions)) handler callee frame.now outer.now }
+    ensures { IsTrue result ↔
+        FitsFrame (points_of (map woven_body unit.now.functions)) handler callee frame.now outer.now }
 {
     is_at_point(unit, callee, frame) && (!outer.is_empty() || frame.function == handler)
 }

@@ -12,4 +12,5 @@ loop-i-preserved c =
     ∙ ap (λ code. marked c.loop-i.stacks.items (stops_behind f.slots f.points code c.loop-i.i c.index-instrs-i.result))
     c.as_slice-instrs.ensures in
     marks_more (stops_behind f.slots f.points c.args.code.now) instrs c.loop-i.i c.index-instrs-i.result
-    c.loop-i.stacks.items c.push_behind.new.stacks.items _ c.loop-i-test.true c.index-instrs-i.is marked_here c.loop-i.invariant
+    c.loop-i.stacks.items c.push_behind.new.stacks.items _ c.loop-i-test.true
+    c.index-instrs-i.is marked_here c.loop-i.invariant
