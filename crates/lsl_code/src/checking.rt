@@ -9,12 +9,8 @@ ghost use Rattle.lsl_code.specs.WovenBodies.{woven_body};
 
 use crate::frames::{Frame, Sack};
 use crate::woven_units::Woven;
+use lsl_running::{CALL_CHARGE, SCRIPT_CHARGE};
 use lsl_value::{Kind, Value, Values, charge};
-
-// What a script is charged beside its globals and calls, and what a call is beside its slots.
-const SCRIPT_CHARGE: u64 = 1024;
-
-const CALL_CHARGE: u64 = 32;
 
 /// What is wrong with frames.
 #[derive(Clone, Copy, Debug, PartialEq, Eq)]

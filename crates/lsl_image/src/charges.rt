@@ -5,13 +5,8 @@ ghost use Rattle.lsl_running.specs.Charging.{charges_of};
 ghost use Rattle.lsl_code.specs.Frames.{frame_charge, parked_charge};
 
 use lsl_code::Frame;
+use lsl_running::{CALL_CHARGE, SCRIPT_CHARGE};
 use lsl_value::{Value, Values, charge};
-
-/// What a script is charged beside its globals and calls.
-const SCRIPT_CHARGE: u64 = 1024;
-
-/// What a call is charged beside its slots.
-const CALL_CHARGE: u64 = 32;
 
 /// Whether the globals and the saved calls are charged no more than the limit. Takes no memory; walks the values.
 #[tactic(auto, using(std::proofs::lemmas::Bool::Decides::nat_tests))]

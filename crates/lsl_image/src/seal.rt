@@ -20,7 +20,7 @@ const LEAST_BYTES: usize = 46;
 const SIZE_PLACE: usize = 6;
 
 /// How many bytes the digest has.
-const DIGEST_BYTES: usize = 32;
+pub const DIGEST_BYTES: usize = 32;
 
 /// The bytes before the digest, where the size is that of the bytes and the digest is theirs.
 pub fn open(bytes: &[u8]) -> Result<&[u8], Refusal<ImageFault>>

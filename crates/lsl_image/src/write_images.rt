@@ -9,7 +9,7 @@ ghost use Rattle.lsl_image.specs.Images.{ObjectImage, WorldImage};
 ghost use Rattle.lsl_image.specs.Valid.{IsObject, IsWorld, shape_of, shapes_of};
 
 use crate::parts::{ObjectParts, WorldParts};
-use crate::seal::digest_of;
+use crate::seal::{DIGEST_BYTES, digest_of};
 use crate::write_body::{write_body, write_objects};
 use crate::write_script::write_digest;
 use lsl_bytes::{push_text, push_u8, push_u16, push_u64};
@@ -23,9 +23,6 @@ const VERSION: u16 = 2;
 
 /// How many bytes stand before the fields: the letters, the version and the size.
 const HEAD_BYTES: usize = 14;
-
-/// How many bytes a digest has.
-const DIGEST_BYTES: usize = 32;
 
 /// The image of an object that is sent from this region. Walks the parts once, and the image once for its digest.
 pub fn write_object(

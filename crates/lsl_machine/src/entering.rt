@@ -11,17 +11,14 @@ ghost use Rattle.lsl_machine.specs.State.{AreArguments, bodies_of, replied_to};
 ghost use Rattle.lsl_machine.specs.Reservations.{HasEntered, KeepsRoom};
 ghost use Rattle.lsl_running.specs.declared.host.Reply.{Reply};
 
-use crate::calls::{CALL_CHARGE, behind, push_empties};
+use crate::calls::{behind, push_empties};
 use crate::running::{Activation, Running, Step};
 use crate::standing::Standing;
 use lsl_code::Woven;
-use lsl_running::Kept;
+use lsl_running::{CALL_CHARGE, Kept, SCRIPT_CHARGE};
 use lsl_text::NoMemory;
 use lsl_value::{Value, Values, charge};
 use std::alloc::Global;
-
-/// What a script is charged with no globals and no call.
-pub const SCRIPT_CHARGE: u64 = 1_024;
 
 /// A function before its first tick, where it stands: it may be charged more than the limit.
 pub fn enter(

@@ -15,11 +15,11 @@ ghost use Rattle.lsl_code.specs.ModeRuns.{BackRun};
 ghost use Rattle.lsl_machine.specs.CallsRestored.{Backs, CanBack, IsRestored, IsRestoring, beside};
 ghost use Rattle.lsl_machine.specs.Laid.{Lays};
 
-use crate::calls::{CALL_CHARGE, above, push_empties};
-use crate::entering::{SCRIPT_CHARGE, charge_from};
+use crate::calls::{above, push_empties};
+use crate::entering::charge_from;
 use crate::running::{Activation, Running};
 use lsl_code::{Frame, Instr, Woven};
-use lsl_running::Kept;
+use lsl_running::{CALL_CHARGE, Kept, SCRIPT_CHARGE};
 use lsl_text::NoMemory;
 use lsl_value::Value;
 use std::alloc::Global;

@@ -3,10 +3,12 @@
 //! script.
 #![tactic(auto)]
 
+mod charges;
 mod ends;
 mod host;
 mod kept;
 
+pub use crate::charges::{CALL_CHARGE, SCRIPT_CHARGE};
 pub use crate::ends::{Fault, Outcome};
 pub use crate::host::{Call, Reply};
 pub use crate::kept::Kept;
