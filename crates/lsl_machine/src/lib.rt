@@ -108,6 +108,7 @@ impl Machine {
     /// none. After `NoMemory` or `Faulted` the machine is only to be dropped.
     ///
     /// Takes no memory on integers, but to enter a function and to ask.
+    #[inline(always)]
     pub fn run(&mut self, unit: &Woven) -> Halt
         requires able { CanRun self.old.standing }
         requires of { IsOf unit.now self.old }

@@ -81,6 +81,7 @@ impl Live {
 
     /// Goes on to the next tick, ask or end. A handler that was just begun passes its first tick too. After `NoMemory`
     /// the script is only to be dropped.
+    #[inline(always)]
     pub fn go(&mut self, unit: &Woven) -> Turn
         requires able { CanRun self.old.machine.standing }
         requires awake { IsAwake unit.now self.old }
@@ -102,6 +103,7 @@ impl Live {
     }
 
     // From the handler's start: to its first tick, and then on.
+    #[inline(always)]
     fn go_first(&mut self, unit: &Woven) -> Turn
         requires fresh { self.old.fresh ≡ true }
         requires able { CanRun self.old.machine.standing }
@@ -120,6 +122,7 @@ impl Live {
     }
 
     // From a tick or an answer.
+    #[inline(always)]
     fn go_on(&mut self, unit: &Woven) -> Turn
         requires fresh { self.old.fresh ≡ false }
         requires able { CanRun self.old.machine.standing }
