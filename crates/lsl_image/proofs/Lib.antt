@@ -1,5 +1,6 @@
 pub mod AnswerLemmas
 pub mod AnyLemmas
+pub mod ChargeLemmas
 pub mod DecidedLemmas
 pub mod EachLemmas
 pub mod EventLemmas

@@ -1,5 +1,6 @@
 pub mod Answers
 pub mod Bytes
+pub mod Charges
 pub mod Examples
 pub mod Fits
 pub mod Images

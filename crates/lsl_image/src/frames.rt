@@ -1,21 +1,24 @@
 //! Saved calls.
 
-ghost use Rattle.std.specs.Prelude.{◌≡◌, ◌&&◌, [], nat_lt, length};
+ghost use Rattle.std.specs.Prelude.{◌≡◌, ◌&&◌, [], nat_lt, length, sum_by, IfOk};
+ghost use Rattle.lsl_code.specs.Frames.{frame_charge};
+ghost use Rattle.lsl_image.specs.Charges.{charged_with};
 ghost use Rattle.lsl_image.specs.Layout.{U16, field_that, grown};
 ghost use Rattle.lsl_image.specs.Reading.{Reads};
 ghost use Rattle.lsl_image.specs.Rest.{ends_in, frame_behind, frame_in, same_callee};
 
 use crate::faults::wrong;
 use crate::fields::{Read, read_u16};
-use crate::values::read_values;
+use crate::values::read_charged_values;
 use lsl_code::{Frame, Sequence, Woven};
+use lsl_running::CALL_CHARGE;
 use std::alloc::Global;
 
 // How many bytes a saved call has at least.
 const LEAST_FRAME_BYTES: usize = 4;
 
 /// So many saved calls, the innermost first: each is at a call of the function of the one before it, the innermost at a
-/// tick, and the last is of the handler's function.
+/// tick, and the last is of the handler's function. With what they are charged beside what is charged so far.
 pub fn read_frames(
     alloc: Global,
     bytes: &[u8],
@@ -23,24 +26,30 @@ pub fn read_frames(
     unit: &Woven,
     handler: Option<u16>,
     count: u16,
+    charged: &mut u64,
 ) -> Read<Sequence<Frame>>
-    ensures { Reads bytes.now (grown count (frame_behind unit.now handler count) []) place result }
+    ensures reads { Reads bytes.now (grown count (frame_behind unit.now handler count) []) place result }
+    ensures charged { IfOk result (λ read. charged.new ≡ charged_with charged.old (sum_by frame_charge read.0)) }
 {
     let room = bytes.len().saturating_sub(place) / LEAST_FRAME_BYTES;
     let mut frames = Vec::with_capacity(alloc, usize::from(count).min(room))?;
     let mut callee = None;
+    let mut sum = 0;
     let mut next = place;
     for i in 0..count {
         let more = i + 1 < count;
-        let (frame, behind) = read_frame(alloc, bytes, next, unit, handler, more, callee)?;
+        let (frame, behind) = read_frame(
+            alloc, bytes, next, unit, handler, more, callee, &mut sum,
+        )?;
         callee = Some(frame.function);
         frames.push(frame)?;
         next = behind;
     }
+    *charged = charged.saturating_add(sum);
     Ok((Sequence::from_vec(frames), next))
 }
 
-// A saved call, which is at a call of this function, or at a tick.
+// A saved call, which is at a call of this function, or at a tick. With what it is charged beside what is charged so far.
 fn read_frame(
     alloc: Global,
     bytes: &[u8],
@@ -49,8 +58,10 @@ fn read_frame(
     handler: Option<u16>,
     more: bool,
     callee: Option<u16>,
+    charged: &mut u64,
 ) -> Read<Frame>
-    ensures { Reads bytes.now (frame_in unit.now handler more callee) place result }
+    ensures reads { Reads bytes.now (frame_in unit.now handler more callee) place result }
+    ensures charged { IfOk result (λ read. charged.new ≡ charged_with charged.old (frame_charge read.0)) }
 {
     let (function, middle) = read_function(bytes, place, unit, handler, more)?;
     let (number, behind) = read_u16(bytes, middle)?;
@@ -60,7 +71,8 @@ fn read_frame(
     if !same_callee(point.calls, callee) {
         return Err(wrong(middle));
     }
-    let (slots, next) = read_values(alloc, bytes, behind, point.kinds.as_slice())?;
+    *charged = charged.saturating_add(CALL_CHARGE);
+    let (slots, next) = read_charged_values(alloc, bytes, behind, point.kinds.as_slice(), charged)?;
     let frame = Frame {
         function,
         point: number,

@@ -3,17 +3,20 @@
 ghost use Rattle.std.specs.Prelude.{◌≡◌, ℕ, [], map, drop, length, IfOk, IfSome};
 ghost use Rattle.lsl_value.specs.Values.{kind_of};
 ghost use Rattle.lsl_value.specs.declared.tagged.Value.TheVariants.{Int};
+ghost use Rattle.lsl_running.specs.Charging.{charges_of};
 ghost use Rattle.lsl_code.specs.Kinds.{kinds_of};
+ghost use Rattle.lsl_image.specs.Charges.{charged_with, integers_charge};
 ghost use Rattle.lsl_image.specs.Layout.{value_of, values_of};
 ghost use Rattle.lsl_image.specs.Leading.{LeadsBehind};
 ghost use Rattle.lsl_image.specs.Reading.{Gives, Reads};
 
+use crate::charges::with_integers;
 use crate::faults::wrong;
 use crate::fields::{Read, read_value};
 use lsl_bytes::take_int;
 use lsl_code::Woven;
 use lsl_text::NoMemory;
-use lsl_value::{Kind, Value, Values};
+use lsl_value::{Kind, Value, Values, charge};
 use std::alloc::Global;
 
 // How many bytes a value has at least.
@@ -39,15 +42,31 @@ fn kinds_of(alloc: Global, values: &[Value]) -> Result<Vec<Kind>, NoMemory>
 }
 
 /// A value of each of these kinds. What is reserved is no more than can stand in the bytes that are left.
-#[inline(always)]
 pub fn read_values(alloc: Global, bytes: &[u8], place: usize, kinds: &[Kind]) -> Read<Values>
     ensures { Reads bytes.now (values_of kinds.now) place result }
+{
+    let mut charged = 0;
+    read_charged_values(alloc, bytes, place, kinds, &mut charged)
+}
+
+/// The same, and what they are charged beside what is charged so far.
+#[inline(always)]
+pub fn read_charged_values(
+    alloc: Global,
+    bytes: &[u8],
+    place: usize,
+    kinds: &[Kind],
+    charged: &mut u64,
+) -> Read<Values>
+    ensures reads { Reads bytes.now (values_of kinds.now) place result }
+    ensures charged { IfOk result (λ read. charged.new ≡ charged_with charged.old (charges_of read.0)) }
 {
     let room = bytes.len().saturating_sub(place) / LEAST_VALUE_BYTES;
     let mut values = Vec::with_capacity(alloc, kinds.len().min(room))?;
     let next = read_integers(bytes, place, kinds, &mut values)?;
+    *charged = with_integers(*charged, values.len());
     if values.len() < kinds.len() {
-        return read_others(alloc, bytes, next, kinds, values);
+        return read_others(alloc, bytes, next, kinds, values, charged);
     }
     Ok((Values::from_vec(values), next))
 }
@@ -61,8 +80,9 @@ fn read_integers(
     values: &mut Vec<Value>,
 ) -> Result<usize, NoMemory>
     requires { values.old.items ≡ [] }
-    ensures { IfOk result (λ next. LeadsBehind bytes.now (drop (length values.new.items) kinds.now) next
+    ensures leads { IfOk result (λ next. LeadsBehind bytes.now (drop (length values.new.items) kinds.now) next
         values.new.items (values_of kinds.now) place) }
+    ensures charged { IfOk result (λ _. charges_of values.new.items ≡ integers_charge (length values.new.items)) }
 {
     let mut next = place;
     for kind in kinds {
@@ -75,7 +95,7 @@ fn read_integers(
     Ok(next)
 }
 
-// The values behind those that are read.
+// The values behind those that are read, and charged.
 #[inline(never)]
 fn read_others(
     alloc: Global,
@@ -83,14 +103,18 @@ fn read_others(
     place: usize,
     kinds: &[Kind],
     values: Vec<Value>,
+    charged: &mut u64,
 ) -> Read<Values>
-    ensures { (start : ℕ) → LeadsBehind bytes.now (drop (length values.items) kinds.now) place values.items
+    ensures reads { (start : ℕ) → LeadsBehind bytes.now (drop (length values.items) kinds.now) place values.items
         (values_of kinds.now) start → Reads bytes.now (values_of kinds.now) start result }
+    ensures charged { (before : ℕ) → charged.old ≡ charged_with before (charges_of values.items) →
+        IfOk result (λ read. charged.new ≡ charged_with before (charges_of read.0)) }
 {
     let mut values = values;
     let mut next = place;
     for at in values.len()..kinds.len() {
         let (value, behind) = read_value_of(alloc, bytes, next, kinds[at])?;
+        *charged = charged.saturating_add(charge(&value));
         values.push(value)?;
         next = behind;
     }

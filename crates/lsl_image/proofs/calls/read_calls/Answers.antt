@@ -1,5 +1,6 @@
-use Rattle.std.proofs.Common.{◌∙◌}
+use Rattle.std.proofs.Common.{◌∙◌, refl}
 use Rattle.lsl_image.specs.Rest.{saved_calls}
+use Rattle.lsl_image.proofs.ChargeLemmas.{charged-all}
 use Rattle.lsl_image.proofs.LeadingLemmas.{leads-all, leads-exits, leads-here, leads-then}
 use Rattle.lsl_image.proofs.RestLemmas.{calls-given, calls-refused}
 use Rattle.lsl_image.proofs.calls.read_calls.Goals as goal
@@ -16,7 +17,7 @@ unfolding saved_calls
 returns-in_err-frames c =
     leads-exits _ _ _ _ (leads-then _ _ (leads-here _
     (leads-all c.args.bytes.now (saved_calls c.args.unit.now c.args.globals.now c.args.limit c.args.handler)
-    c.args.place)) c.in_ok-count.ensures) c.in_err-frames.ensures c.from_residual-in_err-frames.ensures.1
+    c.args.place)) c.in_ok-count.ensures) c.in_err-frames.ensures.reads c.from_residual-in_err-frames.ensures.1
 
 pub returns-then-not-is_within : goal.returns-then-not-is_within
 unfolding saved_calls
@@ -24,9 +25,10 @@ returns-then-not-is_within c =
     let leads = leads-then _ _ (leads-then _ _
     (leads-here _ (leads-all c.args.bytes.now
     (saved_calls c.args.unit.now c.args.globals.now c.args.limit c.args.handler) c.args.place))
-    c.in_ok-count.ensures) c.in_ok-frames.ensures in
+    c.in_ok-count.ensures) c.in_ok-frames.ensures.reads in
     rw c.wrong.ensures (calls-refused c.args.bytes.now c.args.globals.now c.args.limit c.args.place
-    c.in_ok-frames.frames _ c.as_slice.ensures _ c.is_within.ensures _ _ _ leads c.if-not-is_within.true)
+    c.in_ok-frames.frames _ refl _ (c.is_within.ensures _
+    (charged-all c.args.globals.now _ c.in_ok-frames.frames _ _ c.as_slice.ensures c.with_values-charged.ensures c.in_ok-frames.ensures.charged)) _ _ _ leads c.if-not-is_within.true)
 
 pub returns : goal.returns
 unfolding saved_calls
@@ -34,7 +36,8 @@ returns c =
     let leads = leads-then _ _ (leads-then _ _
     (leads-here _ (leads-all c.args.bytes.now
     (saved_calls c.args.unit.now c.args.globals.now c.args.limit c.args.handler) c.args.place))
-    c.in_ok-count.ensures) c.in_ok-frames.ensures in
+    c.in_ok-count.ensures) c.in_ok-frames.ensures.reads in
     rw (c.from_vec.ensures ∙ c.into_vec.ensures)
-    (calls-given c.args.bytes.now c.args.globals.now c.args.limit c.args.place c.in_ok-frames.frames _
-    c.as_slice.ensures _ c.is_within.ensures _ _ _ leads c.if-not-is_within.false)
+    (calls-given c.args.bytes.now c.args.globals.now c.args.limit c.args.place c.in_ok-frames.frames _ refl _
+    (c.is_within.ensures _
+    (charged-all c.args.globals.now _ c.in_ok-frames.frames _ _ c.as_slice.ensures c.with_values-charged.ensures c.in_ok-frames.ensures.charged)) _ _ _ leads c.if-not-is_within.false)

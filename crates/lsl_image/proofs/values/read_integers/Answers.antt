@@ -1,17 +1,23 @@
-use Rattle.std.proofs.Common.{◌≡◌, ◌∙◌, ap, arith, ℤ, [], ◌∷◌, ◌++◌, length}
+use Rattle.std.proofs.Common.{◌≡◌, ◌∙◌, refl, ap, sym, subst, arith, ◌+◌, ℤ, List, [], ◌∷◌, ◌++◌, length}
 use Rattle.std.specs.Int.{w32, cast_signed, cast_unsigned}
 use Rattle.std.proofs.lemmas.Int.{to_z-of_z}
 use Rattle.std.proofs.lemmas.List.{length-append}
+use Rattle.std.proofs.lemmas.List.Sums.{sum_by_push}
+use Rattle.lsl_value.specs.Values.{charge_of}
+use Rattle.lsl_value.specs.declared.tagged.Value.{Value}
 use Rattle.lsl_value.specs.declared.tagged.Value.TheVariants.{Int}
 use Rattle.lsl_bytes.specs.Fields.{FitsI32}
+use Rattle.lsl_running.specs.Charging.{charges_of}
+use Rattle.lsl_image.specs.Charges.{integers_charge}
 use Rattle.lsl_image.proofs.KindedLemmas.{value-given, values-next, values-start}
 use Rattle.lsl_image.proofs.values.read_integers.Goals as goal
 
 pub loop-kind-init : goal.loop-kind-init
-loop-kind-init c = (
-  ap length c.requires,
-  values-start c.args.bytes.now c.args.kinds.now c.args.place c.args.values.now.items c.requires,
-)
+loop-kind-init c = record {
+  many = ap length c.requires;
+  leads = values-start c.args.bytes.now c.args.kinds.now c.args.place c.args.values.now.items c.requires;
+  charged = subst (λ (vs : List Value). charges_of vs ≡ integers_charge (length vs)) (sym c.requires) refl;
+}
 
 pub loop-kind-preserved : goal.loop-kind-preserved
 loop-kind-preserved c =
@@ -22,8 +28,14 @@ loop-kind-preserved c =
     let items = c.in_ok-push.ensures.items ∙ ap (λ (n : ℤ). before ++ Int n ∷ []) same in
     let one = ap length items in
     let many = length-append before (Int c.in-Some.n ∷ []) in
-    let so = c.loop-kind.invariant.0 in (
-      omega (arith, one, many, so),
-      values-next c.args.bytes.now c.args.kinds.now c.loop-kind.kind-index c.loop-kind.next before c.args.place
-          (Int c.in-Some.n) c.in-Some.behind _ c.loop-kind-test.true items c.loop-kind.invariant.1 c.in-Some.ensures,
-    )
+    let so = c.loop-kind.invariant.many in
+    let more : charges_of (before ++ Int c.in-Some.n ∷ []) ≡ charges_of before + 8 =
+    sum_by_push charge_of before (Int c.in-Some.n) in
+    let charges = ap charges_of items in
+    record {
+      many = omega (arith, one, many, so);
+      leads = values-next c.args.bytes.now c.args.kinds.now c.loop-kind.kind-index c.loop-kind.next before
+          c.args.place (Int c.in-Some.n) c.in-Some.behind _ c.loop-kind-test.true items c.loop-kind.invariant.leads
+          c.in-Some.ensures;
+      charged = omega (arith, charges, more, one, many, c.loop-kind.invariant.charged);
+    }
