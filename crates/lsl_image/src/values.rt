@@ -63,7 +63,7 @@ pub fn read_charged_values(
 {
     let room = bytes.len().saturating_sub(place) / LEAST_VALUE_BYTES;
     let mut values = Vec::with_capacity(alloc, kinds.len().min(room))?;
-    let next = read_integers(bytes, place, kinds, &mut values)?;
+    let next = read_integers(bytes, place, kinds, &mut values);
     *charged = with_integers(*charged, values.len());
     if values.len() < kinds.len() {
         return read_others(alloc, bytes, next, kinds, values, charged);
@@ -71,28 +71,27 @@ pub fn read_charged_values(
     Ok((Values::from_vec(values), next))
 }
 
-// The integers at the front, up to the first value that is none or can't be read, and the place behind them.
+// The integers at the front, up to the first value that is none, can't be read or has no room, and the place behind
+// them.
 #[inline(always)]
-fn read_integers(
-    bytes: &[u8],
-    place: usize,
-    kinds: &[Kind],
-    values: &mut Vec<Value>,
-) -> Result<usize, NoMemory>
+fn read_integers(bytes: &[u8], place: usize, kinds: &[Kind], values: &mut Vec<Value>) -> usize
     requires { values.old.items ≡ [] }
-    ensures leads { IfOk result (λ next. LeadsBehind bytes.now (drop (length values.new.items) kinds.now) next
-        values.new.items (values_of kinds.now) place) }
-    ensures charged { IfOk result (λ _. charges_of values.new.items ≡ integers_charge (length values.new.items)) }
+    ensures leads { LeadsBehind bytes.now (drop (length values.new.items) kinds.now) result values.new.items
+        (values_of kinds.now) place }
+    ensures charged { charges_of values.new.items ≡ integers_charge (length values.new.items) }
 {
     let mut next = place;
     for kind in kinds {
         let Some((n, behind)) = int_of(bytes, next, *kind) else {
-            return Ok(next);
+            return next;
         };
-        values.push(Value::Int(n))?;
+        if values.len() >= values.capacity() {
+            return next;
+        }
+        values.push_reserved(Value::Int(n));
         next = behind;
     }
-    Ok(next)
+    next
 }
 
 // The values behind those that are read, and charged.

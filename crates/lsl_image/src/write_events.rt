@@ -1,4 +1,5 @@
-//! Events, appended to an image. After an `Err` of a call that appends, some of its bytes may stand behind the old ones.
+//! Events, appended to an image. After an `Err` of a call that appends, some of its bytes may stand behind
+//! the old ones.
 
 ghost use Rattle.std.specs.Prelude.{◌≡◌, ◌++◌, OnOk};
 ghost use Rattle.std.specs.List.{flat_map, AllByRecursion};

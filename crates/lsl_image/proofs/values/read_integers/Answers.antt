@@ -25,7 +25,7 @@ loop-kind-preserved c =
     let fits : FitsI32 c.in-Some.n =
     (value-given c.args.bytes.now _ c.loop-kind.next (Int c.in-Some.n) c.in-Some.behind c.in-Some.ensures).0.0 in
     let same : cast_signed w32 (cast_unsigned w32 c.in-Some.n) ≡ c.in-Some.n = to_z-of_z w32 c.in-Some.n fits in
-    let items = c.in_ok-push.ensures.items ∙ ap (λ (n : ℤ). before ++ Int n ∷ []) same in
+    let items = c.push_reserved.ensures.items ∙ ap (λ (n : ℤ). before ++ Int n ∷ []) same in
     let one = ap length items in
     let many = length-append before (Int c.in-Some.n ∷ []) in
     let so = c.loop-kind.invariant.many in
