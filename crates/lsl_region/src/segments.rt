@@ -156,8 +156,9 @@ impl Grid {
         requires asked { IsAskedFor call }
         ensures does { (m : Meant library.now) (f : Flight) (most : ℕ) (w : World) →
             Paused library.now unit.now clock place self.old live.old (Turn.Asks call) f most w →
-            Tells result (λ x turn. Paused library.now unit.now clock place self.new live.new turn (given x.1 f) (most - 1)
-            x.0) out.old out.new (answer m.rules place call.id call.args w) }
+            Tells result
+            (λ x turn. Paused library.now unit.now clock place self.new live.new turn (given x.1 f) (most - 1) x.0)
+            out.old out.new (answer m.rules place call.id call.args w) }
         ensures awake { OnOk result (IsAwake unit.now live.new) }
         ensures stands { IfOk result (λ turn. StandsAt unit.now turn live.new) }
         ensures left { IfOk result (λ turn. asks_left unit.now turn live.new

@@ -233,8 +233,8 @@ impl Grid {
     // The message of these arguments.
     fn message(&self, place: usize, args: &Values) -> Result<Event, NoMemory>
         requires { place < length self.now.seats }
-        ensures value { (codes : List Code) (unit : Code) (clock : ℕ) (live : Awake) (of : Id) (f : Flight) (w : World) →
-            (lent : Lent codes unit clock place self.now live of f w) →
+        ensures value { (codes : List Code) (unit : Code) (clock : ℕ) (live : Awake) (of : Id) (f : Flight)
+            (w : World) → (lent : Lent codes unit clock place self.now live of f w) →
             IfOk result (λ event. event ≡ message_of w lent.member args.now) }
         ensures other { IfOk result (λ event. is_exit event ≡ false) }
     {

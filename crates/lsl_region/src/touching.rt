@@ -25,8 +25,8 @@ use lsl_value::{EventId, Text};
 impl Grid {
     /// Someone of this key and name touches the prim of this link number of the object of this number: the three events
     /// of a touch go, one after another, to all scripts of the prim, or of the root where no script of the prim has a
-    /// handler for any of them. Nothing where no prim has that number. After want of memory the entries are the first of
-    /// the call's, and the grid is only to be dropped. Walks the scripts four times.
+    /// handler for any of them. Nothing where no prim has that number. After want of memory the entries are the first
+    /// of the call's, and the grid is only to be dropped. Walks the scripts four times.
     pub fn touch(
         &mut self,
         object: u32,

@@ -17,9 +17,9 @@ use lsl_script::{Live, Turn};
 use lsl_text::NoMemory;
 
 impl Grid {
-    /// Segments of the script of this number while it is ready, at most so many, and how many they were. The script stays
-    /// awake from one to the next, and is saved once, at the end. After want of memory the entries are the first of the
-    /// call's, and the grid is only to be dropped.
+    /// Segments of the script of this number while it is ready, at most so many, and how many they were. The script
+    /// stays awake from one to the next, and is saved once, at the end. After want of memory the entries are the first
+    /// of the call's, and the grid is only to be dropped.
     pub fn turn(
         &mut self,
         script: u32,
