@@ -1,4 +1,9 @@
+pub mod Columns
 pub mod Marks
+pub mod ByClass
+pub mod Rows
+pub mod Listening
+pub mod Heard
 pub mod Cuts
 pub mod CutBytes
 pub mod Behind

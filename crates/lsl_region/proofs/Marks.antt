@@ -157,7 +157,7 @@ module _ (marks : List Bool) (place : ℕ) (there : place < length marks) where
       }
 
 -- One place more.
-pub read-false : (marks : List Bool) (n : ℕ) → get_or (marks ++ false ∷ []) n false ≡ get_or marks n false
+read-false : (marks : List Bool) (n : ℕ) → get_or (marks ++ false ∷ []) n false ≡ get_or marks n false
 read-false [] zero = refl
 read-false [] (suc n) = refl
 read-false (x ∷ xs) zero = refl

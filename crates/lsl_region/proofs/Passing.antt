@@ -1,29 +1,24 @@
 -- Places that are passed over, since no script there is one of those to whom an event is posted.
-use Rattle.std.proofs.Common.{◌≡◌, ℕ, zero, suc, ◌+◌, ◌-◌, ◌<◌, ◌≤◌, Bool, true, false, List, [], ◌∷◌, length, get_or, refl, ap, sym, ◌∙◌, subst, arith}
-use Rattle.std.specs.Prelude.{not, ◌&&◌, nat_lt, if◌then◌else◌, Option, Some, None, slice_get}
-use Rattle.std.specs.List.{list_any}
-use Rattle.std.specs.Str.{bytes_eq}
-use Rattle.std.proofs.lemmas.Bool.Decides.{nat_tests}
+use Rattle.std.proofs.Common.{◌≡◌, ℕ, zero, suc, ◌+◌, ◌-◌, ◌<◌, ◌≤◌, Bool, false, List, [], get_or, refl, ap, sym, ◌∙◌, subst, arith}
+use Rattle.std.specs.Prelude.{if◌then◌else◌, Option, Some, None, slice_get}
 use Rattle.lsl_code.specs.declared.woven_units.Woven.{Woven as Code}
 use Rattle.lsl_post.specs.declared.entries.Entry.{Entry}
 use Rattle.lsl_post.specs.declared.events.Event.{Event}
-use Rattle.lsl_post.specs.declared.filters.Filter.{Filter}
-use Rattle.lsl_post.specs.declared.listen.Listen.{Listen}
 use Rattle.lsl_post.specs.declared.parts.ScriptParts.{ScriptParts}
-use Rattle.lsl_post.specs.Listens.{Standing, hears, is_heard}
 use Rattle.lsl_post.specs.Told.{Told, each, next_to, lead, quiet}
 use Rattle.lsl_post.proofs.Amid.{Walk}
 use Rattle.lsl_script.specs.Parts.{parts_of}
 use Rattle.lsl_script.specs.Rules.{Rules}
 use Rattle.lsl_script.specs.Scripts.{post_to}
 use Rattle.lsl_region.specs.declared.audience.Audience.{Audience}
-use Rattle.lsl_region.specs.declared.audience.Audience.TheVariants.{Hearers}
 use Rattle.lsl_region.specs.declared.grid.Seat.{Seat}
 use Rattle.lsl_region.specs.Grids.{Contents, Stands, is_out, seat_of}
-use Rattle.lsl_region.specs.Hearing.{AreMarked, ArePassed, IsMarked, has_listens}
-use Rattle.lsl_region.specs.Posting.{admits, is_admitted, post_where}
+use Rattle.lsl_region.specs.Classes.{listens_on}
+use Rattle.lsl_region.specs.Hearing.{AreMarked, ArePassed, IsMarked, column}
+use Rattle.lsl_region.specs.Posting.{admits, post_where}
 use Rattle.lsl_region.specs.Worlds.{Member, World, changed_at, prim_of}
 use Rattle.lsl_region.proofs.Away.{other-home}
+use Rattle.lsl_region.proofs.Columns.{column-get}
 use Rattle.lsl_region.proofs.Placed.{seated-at}
 use Rattle.lsl_region.proofs.Posts.{post-none}
 
@@ -70,29 +65,14 @@ walk-later {X = X} Rel total old now thing from to end walk h l none =
       };
     }
 
--- Without a listen nothing is heard.
-hears-none : (said : Filter) (list : List Listen) → nat_lt 0 (length list) ≡ false
-    → list_any (is_heard said) list ≡ false
-hears-none said [] e = refl
-hears-none said (l ∷ ls) e = absurd (grind (arith, nat_tests))
-
-and-false : (a b : Bool) → b ≡ false → (a && b) ≡ false
-and-false true b e = e
-and-false false b e = refl
-
-pub hearers-none : (said : Filter) (listens : Standing) → has_listens listens ≡ false → (object prim : ℕ) (key : List ℕ)
-    → is_admitted (Hearers said) object prim key listens ≡ false
-hearers-none said listens e object prim key =
-    and-false (not (bytes_eq key said.id)) (hears said listens) (hears-none said listens.list e)
-
--- a script whose place isn't marked has no listen
-pub no-listens : (marks : List Bool) (seats : List Seat) (place : ℕ) (seat : Seat) (parts : ScriptParts)
-    → AreMarked marks seats → slice_get seats place ≡ Some seat → seat.script ≡ Some parts
-    → get_or marks place false ≡ false → has_listens parts.listens ≡ false
-no-listens marks seats place seat parts m at is e =
-    let k : IsMarked (get_or marks place false) (Some parts)
-    = subst (λ (o : Option ScriptParts). IsMarked (get_or marks place false) o) is (m.marked place seat at) in
-    sym k ∙ e
+-- a script whose place isn't marked for a class listens on no channel of it
+pub not-listening : (marks : List (List Bool)) (seats : List Seat) (class place : ℕ) (seat : Seat) (parts : ScriptParts)
+    → AreMarked marks seats → class < 16 → slice_get seats place ≡ Some seat → seat.script ≡ Some parts
+    → get_or (column false class marks) place false ≡ false → listens_on class parts.listens ≡ false
+not-listening marks seats class place seat parts m one at is e =
+    let k : IsMarked (get_or marks place []) (Some parts)
+    = subst (λ (o : Option ScriptParts). IsMarked (get_or marks place []) o) is (m.marked place seat at) in
+    sym (k class one) ∙ sym (column-get false marks class place) ∙ e
 
 -- Nothing is posted to the scripts that are passed over.
 module _ (codes : List Code) (away : Option ℕ) (clock : ℕ) (grid : Contents) (w : World) (a : Audience) (from to : ℕ)

@@ -1,7 +1,7 @@
 -- Which scripts may hear what is said, and the next of them from a place on.
-use Rattle.std.specs.Prelude.{◌≡◌, ℕ, ◌<◌, ◌≤◌, ◌⊎◌, nat_eq, nat_lt, if◌then◌else◌, Bool, true, false, List, length, Option, Some, None, get_or, slice_get}
+use Rattle.std.specs.Prelude.{◌≡◌, ℕ, ◌<◌, ◌≤◌, ◌⊎◌, nat_eq, if◌then◌else◌, Bool, true, false, List, [], length, map, replicate, Option, Some, None, get_or, slice_get, slice_set}
 use Rattle.lsl_post.specs.declared.parts.ScriptParts.{ScriptParts}
-use Rattle.lsl_post.specs.Listens.{Standing}
+use Rattle.lsl_region.specs.Classes.{listens_on}
 use Rattle.lsl_region.specs.declared.audience.Audience.{Audience}
 use Rattle.lsl_region.specs.declared.grid.Seat.{Seat}
 use Rattle.lsl_region.specs.Posting.{is_admitted}
@@ -25,19 +25,37 @@ pub record LeadOn (marks : List Bool) (next : List ℕ) : Type 0 where
   pub passed : (from place : ℕ) → from ≤ place → place < get_or next from 0 → get_or marks place false ≡ false
   pub found : (from : ℕ) → from < length next → IsFound marks (get_or next from 0)
 
--- a listen stands, active or not
-abbrev pub has_listens : Standing → Bool
-has_listens listens = nat_lt 0 (length listens.list)
+-- what the rows have at this place
+abbrev pub column : {A : Type 0} → A → ℕ → List (List A) → List A
+column default class rows = map (λ row. get_or row class default) rows
 
--- a script that isn't out is marked where it has a listen
-abbrev pub IsMarked : Bool → Option ScriptParts → Type 0
-IsMarked mark None = Unit {0}
-IsMarked mark (Some parts) = mark ≡ has_listens parts.listens
+-- there are sixteen in each row
+abbrev pub AreWide : {A : Type 0} → List (List A) → Type 0
+AreWide rows = (place : ℕ) → place < length rows → length (get_or rows place []) ≡ 16
 
-pub record AreMarked (marks : List Bool) (seats : List Seat) : Type 0 where
+-- a row for each place, and a column for each class: in each column the next place is the first that is marked
+pub record LeadOnByClass (marks : List (List Bool)) (next : List (List ℕ)) : Type 0 where
+  pub marks_wide : AreWide marks
+  pub next_wide : AreWide next
+  pub leads : (class : ℕ) → class < 16 → LeadOn (column false class marks) (column 0 class next)
+
+-- a row of a place that hears nothing
+abbrev pub silent : List Bool
+silent = replicate 16 false
+
+-- the rows, with this mark at this place for this class
+abbrev pub with_mark : List (List Bool) → (place class : ℕ) → Bool → List (List Bool)
+with_mark rows place class mark = slice_set rows place (slice_set (get_or rows place []) class mark)
+
+-- a script that isn't out has a mark for each class: whether it listens on a channel of it
+abbrev pub IsMarked : List Bool → Option ScriptParts → Type 0
+IsMarked row None = Unit {0}
+IsMarked row (Some parts) = (class : ℕ) → class < 16 → get_or row class false ≡ listens_on class parts.listens
+
+pub record AreMarked (marks : List (List Bool)) (seats : List Seat) : Type 0 where
   pub count : length seats ≤ length marks
   pub marked : (place : ℕ) (seat : Seat) → slice_get seats place ≡ Some seat
-      → IsMarked (get_or marks place false) seat.script
+      → IsMarked (get_or marks place []) seat.script
 
 -- from a place up to another no script that isn't out is one of them
 abbrev pub ArePassed : Audience → List Seat → ℕ → ℕ → Type 0

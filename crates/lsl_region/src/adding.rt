@@ -3,8 +3,8 @@
 ghost use Rattle.std.specs.Prelude.{◌≡◌, ◌<◌, ◌≤◌, [], ◌∷◌, ◌++◌, length, OnOk};
 ghost use Rattle.lsl_region.specs.Grids.{IsPlaced};
 
+use crate::classes::script_classes;
 use crate::grid::{Grid, Seat};
-use crate::hearing::is_hearer;
 use crate::objects::Linkset;
 use lsl_text::NoMemory;
 
@@ -28,9 +28,9 @@ impl Grid {
         ensures objects { self.new.objects ≡ self.old.objects }
     {
         let place = self.seats.len();
-        let hears = is_hearer(&seat.script);
+        let classes = script_classes(&seat.script);
         self.hearers.push()?;
-        self.hearers.tell(place, hears);
+        self.hearers.tell(place, &classes);
         self.seats.push(seat)?;
         Ok(())
     }

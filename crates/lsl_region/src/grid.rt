@@ -23,7 +23,8 @@ pub struct Seat {
     pub script: Option<Script>,
 }
 
-/// Objects and scripts, both numbered from 1 in the order in which they were added, and which scripts have a listen.
+/// Objects and scripts, both numbered from 1 in the order in which they were added, and on which channels scripts may
+/// hear something.
 #[derive(Drop)]
 pub struct Grid {
     pub(crate) alloc: Global,

@@ -1,9 +1,8 @@
-//! The places of the scripts that may hear what is said, and the next of them from a place on.
+//! The places of the scripts that may hear what is said on a channel, and the next of them from a place on.
 
-ghost use Rattle.std.specs.Prelude.{◌≡◌, ◌<◌, ◌≤◌, ◌∷◌, [], ◌++◌, ℕ, true, false, length, get_or, min, slice_set, OnErr, OnOk};
-ghost use Rattle.lsl_region.specs.Hearing.{IsFound, IsMarked, has_listens, past};
+ghost use Rattle.std.specs.Prelude.{◌≡◌, ◌≢◌, ◌<◌, ◌≤◌, ◌∷◌, [], ◌++◌, ℕ, true, false, length, get_or, min, slice_set, OnErr, OnOk};
+ghost use Rattle.lsl_region.specs.Hearing.{AreWide, IsFound, column, past, silent, with_mark};
 
-use lsl_script::Script;
 use lsl_text::NoMemory;
 use std::alloc::Global;
 use std::marker::Model;
@@ -11,22 +10,23 @@ use std::marker::Model;
 /// No script has so great a place.
 const NO_PLACE: usize = usize::MAX;
 
-/// For each place whether its script may hear something. The next place that may is found in one look-up.
+/// For each place and each class of channels whether the place's script may hear something there. The next place that
+/// may is found in one look-up.
 #[derive(Drop)]
 pub(crate) struct Hearers {
-    marks: Vec<bool>,
-    next: Vec<usize>,
+    marks: Vec<[bool; 16]>,
+    next: Vec<[usize; 16]>,
 }
 
 impl Model for Hearers {
     ghost use Rattle.std.specs.Prelude.{Bool, List};
-    ghost use Rattle.lsl_region.specs.Hearing.{LeadOn};
+    ghost use Rattle.lsl_region.specs.Hearing.{LeadOnByClass};
 
-    ghost Value = { List Bool };
+    ghost Value = { List (List Bool) };
 
     ghost view = { λ h. h.marks.items };
 
-    ghost invariant = { λ h. LeadOn h.marks.items h.next.items };
+    ghost invariant = { λ h. LeadOnByClass h.marks.items h.next.items };
 }
 
 impl Hearers {
@@ -42,104 +42,115 @@ impl Hearers {
 
     /// One place more, which hears nothing.
     pub(crate) fn push(&mut self) -> Result<(), NoMemory>
-        ensures pushed { OnOk result (self.new ≡ self.old ++ false ∷ []) }
+        ensures pushed { OnOk result (self.new ≡ self.old ++ silent ∷ []) }
         ensures unchanged { OnErr result (self.new ≡ self.old) }
     {
-        self.next.push(NO_PLACE)?;
-        self.marks.push(false)?;
+        self.next.push([NO_PLACE; 16])?;
+        self.marks.push([false; 16])?;
         Ok(())
     }
 
-    /// The script at this place may hear something, or hears nothing. Takes no memory; where this is no news it
-    /// compares, and else walks the places up to this one.
-    pub(crate) fn tell(&mut self, place: usize, hears: bool)
+    /// The script at this place may hear something on channels of these classes, and of no others. Takes no memory;
+    /// walks the places up to this one for each class where this is news.
+    pub(crate) fn tell(&mut self, place: usize, classes: &[bool; 16])
         requires { place < length self.old }
-        ensures { self.new ≡ slice_set self.old place hears }
+        ensures { self.new ≡ slice_set self.old place classes.now }
     {
-        if self.marks[place] == hears {
+        for class in 0..16 {
+            self.set(place, class, classes[class]);
+        }
+    }
+
+    // It may hear something on channels of this class, or hears nothing there.
+    fn set(&mut self, place: usize, class: usize, mark: bool)
+        requires class { class < 16 }
+        requires place { place < length self.old }
+        ensures marked { self.new ≡ with_mark self.old place class mark }
+        ensures wide { length (get_or self.new place []) ≡ 16 }
+    {
+        if self.marks[place][class] == mark {
             return;
         }
-        if hears {
-            self.mark(place);
+        if mark {
+            self.mark(place, class);
         } else {
-            self.unmark(place);
+            self.unmark(place, class);
         }
     }
 
     // It may hear something: the next place from one before it is this one at most.
-    fn mark(&mut self, place: usize)
-        requires { place < length self.old }
-        ensures { self.new ≡ slice_set self.old place true }
+    fn mark(&mut self, place: usize, class: usize)
+        requires class { class < 16 }
+        requires place { place < length self.old }
+        ensures { self.new ≡ with_mark self.old place class true }
     {
-        lead_to(&mut self.next, place);
-        self.marks[place] = true;
+        lead_to(&mut self.next, class, place);
+        self.marks[place][class] = true;
     }
 
     // It hears nothing: where it was the next place the one after it is.
-    fn unmark(&mut self, place: usize)
-        requires { place < length self.old }
-        ensures { self.new ≡ slice_set self.old place false }
+    fn unmark(&mut self, place: usize, class: usize)
+        requires class { class < 16 }
+        requires place { place < length self.old }
+        ensures { self.new ≡ with_mark self.old place class false }
     {
-        let after = self.next(place + 1);
-        lead_past(&mut self.next, place, after);
-        self.marks[place] = false;
+        let after = self.next(class, place + 1);
+        lead_past(&mut self.next, class, place, after);
+        self.marks[place][class] = false;
     }
 
-    /// The next place from this one on that may hear something: none between them does. Takes no memory.
-    pub(crate) fn next(&self, from: usize) -> usize
+    /// The next place from this one on that may hear something on channels of this class: none between them does. Takes
+    /// no memory.
+    pub(crate) fn next(&self, class: usize, from: usize) -> usize
+        requires { class < 16 }
         ensures onward { from ≤ result }
-        ensures passed { (place : ℕ) → from ≤ place → place < result → get_or self.now place false ≡ false }
-        ensures found { IsFound self.now result }
+        ensures passed { (place : ℕ) → from ≤ place → place < result →
+            get_or (column false class self.now) place false ≡ false }
+        ensures found { IsFound (column false class self.now) result }
     {
         match self.next.get(from) {
-            Some(next) => *next,
+            Some(row) => row[class],
             None => NO_PLACE,
         }
     }
 }
 
-/// Whether a listen of the script stands, active or not. Takes no memory.
-pub(crate) fn has_listens(script: &Script) -> bool
-    ensures { result ≡ has_listens script.now.listens }
-{
-    script.parts().listens.count() > 0
-}
-
-/// The same, unless the script is out. Takes no memory.
-pub(crate) fn is_hearer(script: &Option<Script>) -> bool
-    ensures { IsMarked result script.now }
-{
-    match script {
-        Some(script) => has_listens(script),
-        None => false,
-    }
-}
-
 // From the places up to this one the next is at most this one.
-fn lead_to(next: &mut Vec<usize>, place: usize)
-    requires { place < length next.old.items }
+fn lead_to(next: &mut Vec<[usize; 16]>, class: usize, place: usize)
+    requires class { class < 16 }
+    requires place { place < length next.old.items }
+    requires wide { AreWide next.old.items }
     ensures len { length next.new.items ≡ length next.old.items }
+    ensures wide { AreWide next.new.items }
     ensures before { (from : ℕ) → from ≤ place →
-        get_or next.new.items from 0 ≡ min (get_or next.old.items from 0) place }
-    ensures behind { (from : ℕ) → place < from → get_or next.new.items from 0 ≡ get_or next.old.items from 0 }
+        get_or (column 0 class next.new.items) from 0 ≡ min (get_or (column 0 class next.old.items) from 0) place }
+    ensures behind { (from : ℕ) → place < from →
+        get_or (column 0 class next.new.items) from 0 ≡ get_or (column 0 class next.old.items) from 0 }
+    ensures others { (other : ℕ) → other ≢ class → column 0 other next.new.items ≡ column 0 other next.old.items }
 {
     for from in 0..place + 1 {
-        let old = next[from];
-        next[from] = old.min(place);
+        let old = next[from][class];
+        next[from][class] = old.min(place);
     }
 }
 
 // Where this place was the next one another is.
-fn lead_past(next: &mut Vec<usize>, place: usize, after: usize)
-    requires { place < length next.old.items }
+fn lead_past(next: &mut Vec<[usize; 16]>, class: usize, place: usize, after: usize)
+    requires class { class < 16 }
+    requires place { place < length next.old.items }
+    requires wide { AreWide next.old.items }
     ensures len { length next.new.items ≡ length next.old.items }
+    ensures wide { AreWide next.new.items }
     ensures before { (from : ℕ) → from ≤ place →
-        get_or next.new.items from 0 ≡ past place after (get_or next.old.items from 0) }
-    ensures behind { (from : ℕ) → place < from → get_or next.new.items from 0 ≡ get_or next.old.items from 0 }
+        get_or (column 0 class next.new.items) from 0 ≡
+        past place after (get_or (column 0 class next.old.items) from 0) }
+    ensures behind { (from : ℕ) → place < from →
+        get_or (column 0 class next.new.items) from 0 ≡ get_or (column 0 class next.old.items) from 0 }
+    ensures others { (other : ℕ) → other ≢ class → column 0 other next.new.items ≡ column 0 other next.old.items }
 {
     for from in 0..place + 1 {
-        let old = next[from];
-        next[from] = past(place, after, old);
+        let old = next[from][class];
+        next[from][class] = past(place, after, old);
     }
 }
 

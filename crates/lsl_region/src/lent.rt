@@ -34,7 +34,8 @@ fn post_live(
 ) -> Result<(), NoMemory>
     requires awake { IsAwake unit.now live.old }
     requires other { is_exit event.now ≡ false }
-    ensures told { (codes : List Code) (s : Source) (f : Flight) (id : BuiltinId) → Waits codes unit.now s f id live.old →
+    ensures told { (codes : List Code) (s : Source) (f : Flight) (id : BuiltinId) →
+        Waits codes unit.now s f id live.old →
         Tells result (λ t _. Waits codes unit.now t f id live.new) out.old out.new
         (post_to (rules_of codes) number event.now s) }
     ensures awake { IsAwake unit.now live.new }
@@ -133,8 +134,9 @@ impl Grid {
         }
     }
 
-    /// Posts an event to all scripts that are among them, where the one at this place is out and waits for an answer. Of
-    /// what is said only this one and the scripts with a listen are asked, else all are.
+    /// Posts an event to all scripts that are among them, where the one at this place is out and waits for an answer.
+    /// Of what is said only this one and the scripts with an active listen on a channel of its class are asked, else
+    /// all are.
     pub(crate) fn post_all_with(
         &mut self,
         place: usize,

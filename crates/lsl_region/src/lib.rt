@@ -7,6 +7,7 @@ mod answers;
 mod arguments;
 mod arrivals;
 mod audience;
+mod classes;
 mod events;
 mod grid;
 mod hearing;

@@ -8,13 +8,15 @@ ghost use Rattle.lsl_script.specs.Codes.{HasUnit, Meant, rules_of};
 ghost use Rattle.lsl_script.specs.Fitting.{FitsUnit, is_exit};
 ghost use Rattle.lsl_script.specs.Parts.{parts_of};
 ghost use Rattle.lsl_script.specs.Scripts.{Script as Source, entries_of_posting, post_to};
+ghost use Rattle.lsl_region.specs.Classes.{class_of, listens_on};
 ghost use Rattle.lsl_region.specs.Grids.{AreSeated, FitsSeat, Stands, is_out, key_in, unit_number};
-ghost use Rattle.lsl_region.specs.Hearing.{ArePassed, IsMarked, has_listens};
+ghost use Rattle.lsl_region.specs.Hearing.{ArePassed, IsMarked};
 ghost use Rattle.lsl_region.specs.Posting.{admits, is_admitted, post_all, post_where};
 ghost use Rattle.lsl_region.specs.Worlds.{Member, World};
 ghost use Rattle.lsl_region.specs.declared.grid.Seat.{Seat as Place};
 
 use crate::audience::Audience;
+use crate::classes::class_of;
 use crate::grid::Grid;
 use lsl_code::{Library, Woven};
 use lsl_post::{Entries, Entry, Event, Listens, Posted};
@@ -77,7 +79,7 @@ fn post_seat(
         Tells result (λ t _. seat.new ≡ Some (parts_of codes t)) out.old out.new
         (post_to (rules_of codes) number event.now s) }
     ensures fits { OnOk result (FitsSeat unit.now seat.new) }
-    ensures marked { (mark : Bool) → IsMarked mark seat.old → IsMarked mark seat.new }
+    ensures marked { (row : List Bool) → IsMarked row seat.old → IsMarked row seat.new }
 {
     match seat {
         Some(script) => post_script(alloc, script, number, event, unit, out),
@@ -145,15 +147,18 @@ impl Grid {
         )
     }
 
-    // The next place from this one on whose script may hear something, or the end.
-    fn next_hearer(&self, from: usize) -> usize
+    // The next place from this one on whose script may hear what is said on this channel, or the end.
+    fn next_hearer(&self, channel: i32, from: usize) -> usize
         requires { from ≤ length self.now.seats }
         ensures onward { from ≤ result }
         ensures within { result ≤ length self.now.seats }
         ensures passed { (place : ℕ) (seat : Place) (parts : Parts) → from ≤ place → place < result →
-            slice_get self.now.seats place ≡ Some seat → seat.script ≡ Some parts → has_listens parts.listens ≡ false }
+            slice_get self.now.seats place ≡ Some seat → seat.script ≡ Some parts →
+            listens_on (class_of channel) parts.listens ≡ false }
     {
-        self.hearers.next(from).min(self.seats.len())
+        self.hearers
+            .next(class_of(channel), from)
+            .min(self.seats.len())
     }
 
     /// The next place from this one on whose script may be one of them, or the end. Takes no memory; asks no script.
@@ -164,13 +169,13 @@ impl Grid {
         ensures passed { ArePassed audience.now self.now.seats from result }
     {
         match audience {
-            Audience::Hearers(_) => self.next_hearer(from),
+            Audience::Hearers(said) => self.next_hearer(said.channel, from),
             _ => from,
         }
     }
 
-    /// Posts an event to all scripts that are among them. Of what is said only the scripts with a listen are asked, else
-    /// all are.
+    /// Posts an event to all scripts that are among them. Of what is said only the scripts with an active listen on a
+    /// channel of its class are asked, else all are.
     pub(crate) fn post_all(
         &mut self,
         audience: &Audience,

@@ -68,7 +68,7 @@ fn ring_seat(
         Tells result (λ t _. seat.new ≡ Some (parts_of codes t)) out.old out.new
         (ring_to (rules_of codes) number clock s) }
     ensures fits { OnOk result (FitsSeat unit.now seat.new) }
-    ensures marked { (mark : Bool) → IsMarked mark seat.old → IsMarked mark seat.new }
+    ensures marked { (row : List Bool) → IsMarked row seat.old → IsMarked row seat.new }
 {
     match seat {
         Some(script) => ring_script(alloc, script, number, clock, unit, out),
@@ -149,8 +149,8 @@ impl Grid {
         }
     }
 
-    /// When the timer of the script of this number is next due, in milliseconds of the clock; none where it doesn't run.
-    /// Takes no memory.
+    /// When the timer of the script of this number is next due, in milliseconds of the clock; none where it doesn't
+    /// run. Takes no memory.
     pub fn due(&self, script: u32) -> Option<u64>
         requires first { 0 < script }
         requires last { script ≤ length self.now.seats }

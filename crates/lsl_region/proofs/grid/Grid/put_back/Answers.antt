@@ -1,6 +1,8 @@
 use Rattle.std.proofs.Common.{◌<◌, ◌∙◌, ap, length, map, refl, rules}
 use Rattle.std.specs.Prelude.{Some}
 use Rattle.std.proofs.Math.ListN.{length-set}
+use Rattle.lsl_post.specs.declared.parts.ScriptParts.{ScriptParts}
+use Rattle.lsl_region.specs.Classes.{listens_on}
 use Rattle.lsl_region.specs.declared.grid.Seat.{Seat}
 use Rattle.lsl_region.specs.Grids.{Contents, unit_number}
 use Rattle.lsl_region.specs.Turning.{with_seated}
@@ -15,8 +17,10 @@ invariant_of-self c =
       placed-set c.self.inside.objects.items c.self.inside.seats.items c.args.place c.index_mut.result.now _
           (read-at c.self.inside.seats.items c.args.place _ h c.index_mut.ensures.value) refl refl c.self.invariant.0,
       marked-told c.self.inside.hearers c.tell.new.self c.self.inside.seats.items c.args.place _
-          c.has_listens-hears.result h
-          c.tell.ensures c.has_listens-hears.ensures c.self.invariant.1,
+          c.classes_of-classes.result h
+          c.tell.ensures
+          (λ class h. c.classes_of-classes.ensures class h
+          ∙ ap (λ (parts : ScriptParts). listens_on class parts.listens) c.parts.ensures) c.self.invariant.1,
     )
 
 pub returns : goal.returns

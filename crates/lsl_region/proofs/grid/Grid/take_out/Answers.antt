@@ -1,4 +1,4 @@
-use Rattle.std.proofs.Common.{◌<◌, ◌∙◌, ap, false, get_or, length, map, refl, rules, subst, sym}
+use Rattle.std.proofs.Common.{◌<◌, ◌∙◌, ap, [], get_or, length, map, refl, rules, subst, sym}
 use Rattle.std.specs.Prelude.{Option, None}
 use Rattle.lsl_post.specs.declared.parts.ScriptParts.{ScriptParts}
 use Rattle.lsl_region.specs.declared.grid.Seat.{Seat}
@@ -16,7 +16,7 @@ invariant_of-self c =
       placed-set c.self.inside.objects.items c.self.inside.seats.items c.args.place c.index_mut.result.now _
           (read-at c.self.inside.seats.items c.args.place _ h c.index_mut.ensures.value) refl refl c.self.invariant.0,
       marked-kept c.self.inside.hearers c.self.inside.seats.items c.args.place _ h
-          (subst (λ (script : Option ScriptParts). IsMarked (get_or c.self.inside.hearers c.args.place false) script)
+          (subst (λ (script : Option ScriptParts). IsMarked (get_or c.self.inside.hearers c.args.place []) script)
           (sym c.take.ensures.after) tt) c.self.invariant.1,
     )
 
