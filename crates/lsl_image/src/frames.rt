@@ -49,7 +49,8 @@ pub fn read_frames(
     Ok((Sequence::from_vec(frames), next))
 }
 
-// A saved call, which is at a call of this function, or at a tick. With what it is charged beside what is charged so far.
+// A saved call, which is at a call of this function, or at a tick. With what it is charged beside what is charged so
+// far.
 fn read_frame(
     alloc: Global,
     bytes: &[u8],

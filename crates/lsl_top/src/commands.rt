@@ -32,7 +32,8 @@ pub fn serve<S: Shelf, K: Sink>(
     shelf: &mut S,
     sink: &mut K,
 ) -> Status
-    ensures { Serves (Answers (S.held shelf.old) (asked_by command.entry)) (IsNamed (S.held shelf.old) (asked_by command.entry))
+    ensures { Serves (Answers (S.held shelf.old) (asked_by command.entry))
+        (IsNamed (S.held shelf.old) (asked_by command.entry))
         (ports (S.held shelf.old) (S.faults shelf.old) (K.sunk sink.old) (K.faults sink.old))
         (ports (S.held shelf.new) (S.faults shelf.new) (K.sunk sink.new) (K.faults sink.new)) result }
 {

@@ -26,9 +26,10 @@ returns-then-not-is_within c =
     (leads-here _ (leads-all c.args.bytes.now
     (saved_calls c.args.unit.now c.args.globals.now c.args.limit c.args.handler) c.args.place))
     c.in_ok-count.ensures) c.in_ok-frames.ensures.reads in
+    let within = c.is_within.ensures _ (charged-all c.args.globals.now _ c.in_ok-frames.frames _ _
+    c.as_slice.ensures c.with_values-charged.ensures c.in_ok-frames.ensures.charged) in
     rw c.wrong.ensures (calls-refused c.args.bytes.now c.args.globals.now c.args.limit c.args.place
-    c.in_ok-frames.frames _ refl _ (c.is_within.ensures _
-    (charged-all c.args.globals.now _ c.in_ok-frames.frames _ _ c.as_slice.ensures c.with_values-charged.ensures c.in_ok-frames.ensures.charged)) _ _ _ leads c.if-not-is_within.true)
+    c.in_ok-frames.frames _ refl _ within _ _ _ leads c.if-not-is_within.true)
 
 pub returns : goal.returns
 unfolding saved_calls
@@ -37,7 +38,8 @@ returns c =
     (leads-here _ (leads-all c.args.bytes.now
     (saved_calls c.args.unit.now c.args.globals.now c.args.limit c.args.handler) c.args.place))
     c.in_ok-count.ensures) c.in_ok-frames.ensures.reads in
+    let within = c.is_within.ensures _ (charged-all c.args.globals.now _ c.in_ok-frames.frames _ _
+    c.as_slice.ensures c.with_values-charged.ensures c.in_ok-frames.ensures.charged) in
     rw (c.from_vec.ensures ∙ c.into_vec.ensures)
     (calls-given c.args.bytes.now c.args.globals.now c.args.limit c.args.place c.in_ok-frames.frames _ refl _
-    (c.is_within.ensures _
-    (charged-all c.args.globals.now _ c.in_ok-frames.frames _ _ c.as_slice.ensures c.with_values-charged.ensures c.in_ok-frames.ensures.charged)) _ _ _ leads c.if-not-is_within.false)
+    within _ _ _ leads c.if-not-is_within.false)
