@@ -8,6 +8,7 @@ pub mod Seams
 pub mod Telling
 pub mod Walking
 pub mod Spans
+pub mod Still
 pub mod Alone
 pub mod Filling
 pub mod Beginning

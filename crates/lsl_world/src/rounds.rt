@@ -43,7 +43,8 @@ impl World {
     }
 
     /// Rounds, until one finds no script ready or so many segments have run. Costs the segments, and in each round a
-    /// look at every script and one saving of each that ran; with one script, which has one turn, one saving in all.
+    /// look at every script, as long as segments are left, and one saving of each that ran; with one script, which has
+    /// one turn, one saving in all.
     pub(crate) fn run(&mut self, most: u32, out: &mut Entries) -> Result<(), NoMemory>
         requires some { (programs : List Program) × (w : SourceWorld) × IsOf programs self.old w }
         ensures { (programs : List Program) (w : SourceWorld) → IsOf programs self.old w
@@ -88,7 +89,8 @@ impl World {
         Ok(spare)
     }
 
-    /// Segments of the script of this number while it is ready, at most so many, and how many they were.
+    /// Segments of the script of this number while it is ready, at most so many, and how many they were. A script that
+    /// isn't ready costs a look at it, and none at all where no segment is left.
     pub(crate) fn turn(
         &mut self,
         script: u32,
@@ -102,6 +104,12 @@ impl World {
             (turn (rules_of programs) most (script - 1) w) }
         ensures within { IfOk result (λ n. n ≤ most) }
     {
+        if most == 0 {
+            return Ok(0);
+        }
+        if !self.grid.ready(script, self.clock) {
+            return Ok(0);
+        }
         self.grid.turn(script, most, self.clock, &self.units, out)
     }
 }

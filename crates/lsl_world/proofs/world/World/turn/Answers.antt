@@ -4,6 +4,7 @@ use Rattle.lsl_world.specs.Programs.{rules_of}
 use Rattle.lsl_region.specs.Grids.{Stands}
 use Rattle.lsl_world.proofs.Kept.{turned, turns-within}
 use Rattle.lsl_world.proofs.Meanings.{meant}
+use Rattle.lsl_world.proofs.Still.{still, turn-none, turn-waits}
 use Rattle.lsl_world.proofs.world.World.turn.Goals as goal
 
 pub returns-clause-tells : goal.returns-clause-tells
@@ -21,3 +22,14 @@ returns-clause-within c =
     turns-within c.turn.result (λ v. Stands world.units None world.clock c.turn.new.self v) m.rules c.args.most
     (c.args.script - 1) some.1 c.args.out.now c.turn.new.out
     (c.turn.ensures.does m some.1 some.2.stands)
+
+pub returns-then-most-eq0-clause-tells : goal.returns-then-most-eq0-clause-tells
+returns-then-most-eq0-clause-tells c = λ programs w is.
+    still programs c.args.self.now w c.args.out.now _ is
+    (turn-none (rules_of programs) c.args.most (c.args.script - 1) w c.if-most-eq0.true)
+
+pub returns-then-not-ready-clause-tells : goal.returns-then-not-ready-clause-tells
+returns-then-not-ready-clause-tells c = λ programs w is.
+    still programs c.args.self.now w c.args.out.now _ is
+    (turn-waits (rules_of programs) c.args.most (c.args.script - 1) w c.ready.result
+    (c.ready.ensures _ w is.stands) c.if-not-ready.true)
