@@ -3,10 +3,9 @@ use Rattle.std.proofs.Common.{◌≡◌, refl, ap, sym, subst, arith, ℕ, ◌+�
 use Rattle.std.proofs.lemmas.List.Sums.{sum_by_push}
 use Rattle.lsl_value.specs.Values.{charge_of}
 use Rattle.lsl_value.specs.declared.tagged.Value.{Value}
-use Rattle.lsl_running.specs.Charging.{charges_of}
+use Rattle.lsl_running.specs.Charging.{charged_with, charges_of}
 use Rattle.lsl_code.specs.declared.frames.Frame.{Frame}
 use Rattle.lsl_code.specs.Frames.{frame_charge, parked_charge}
-use Rattle.lsl_image.specs.Charges.{charged_with}
 
 -- one value more is charged
 pub charged-more : (before charged : ℕ) (values more : List Value) (value : Value) (charge sum : ℕ)

@@ -5,12 +5,12 @@ ghost use Rattle.lsl_image.specs.Layout.{U16, field_that};
 ghost use Rattle.lsl_image.specs.Reading.{Reads};
 ghost use Rattle.lsl_image.specs.Rest.{saved_calls};
 
-use crate::charges::{is_within, with_values};
+use crate::charges::is_within;
 use crate::faults::wrong;
 use crate::fields::{Read, read_u16};
 use crate::frames::read_frames;
 use lsl_code::{Sack, Woven};
-use lsl_running::SCRIPT_CHARGE;
+use lsl_running::{SCRIPT_CHARGE, charged_with_values};
 use lsl_value::Values;
 use std::alloc::Global;
 
@@ -30,7 +30,7 @@ pub fn read_calls(
     ensures { Reads bytes.now (saved_calls unit.now globals.now limit handler) place result }
 {
     let (count, middle) = read_count(bytes, place)?;
-    let mut charged = with_values(SCRIPT_CHARGE, globals.as_slice());
+    let mut charged = charged_with_values(SCRIPT_CHARGE, globals.as_slice());
     let (frames, next) = read_frames(alloc, bytes, middle, unit, handler, count, &mut charged)?;
     if !is_within(limit, charged) {
         return Err(wrong(place));

@@ -1,21 +1,10 @@
 //! What saved calls are charged.
 
 ghost use Rattle.std.specs.Prelude.{◌≡◌, ℕ, nat_le};
-ghost use Rattle.lsl_running.specs.Charging.{charges_of};
-ghost use Rattle.lsl_image.specs.Charges.{charged_with, integers_charge};
+ghost use Rattle.lsl_running.specs.Charging.{charged_with};
+ghost use Rattle.lsl_image.specs.Charges.{integers_charge};
 
-use lsl_value::{INT_CHARGE, Value, charge};
-
-/// What is charged so far, and these values beside it, as far as 64 bits go. Takes no memory; walks the values.
-pub fn with_values(charged: u64, values: &[Value]) -> u64
-    ensures { result ≡ charged_with charged (charges_of values.now) }
-{
-    let mut charged = charged;
-    for value in values {
-        charged = charged.saturating_add(charge(value));
-    }
-    charged
-}
+use lsl_value::INT_CHARGE;
 
 /// What is charged so far, and so many integers beside it, as far as 64 bits go. Takes no memory.
 #[inline(always)]

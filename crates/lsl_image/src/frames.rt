@@ -2,7 +2,7 @@
 
 ghost use Rattle.std.specs.Prelude.{◌≡◌, ◌&&◌, [], nat_lt, length, sum_by, IfOk};
 ghost use Rattle.lsl_code.specs.Frames.{frame_charge};
-ghost use Rattle.lsl_image.specs.Charges.{charged_with};
+ghost use Rattle.lsl_running.specs.Charging.{charged_with};
 ghost use Rattle.lsl_image.specs.Layout.{U16, field_that, grown};
 ghost use Rattle.lsl_image.specs.Reading.{Reads};
 ghost use Rattle.lsl_image.specs.Rest.{ends_in, frame_behind, frame_in, same_callee};

@@ -3,9 +3,9 @@
 ghost use Rattle.std.specs.Prelude.{◌≡◌, ℕ, [], map, drop, length, IfOk, IfSome};
 ghost use Rattle.lsl_value.specs.Values.{kind_of};
 ghost use Rattle.lsl_value.specs.declared.tagged.Value.TheVariants.{Int};
-ghost use Rattle.lsl_running.specs.Charging.{charges_of};
+ghost use Rattle.lsl_running.specs.Charging.{charged_with, charges_of};
 ghost use Rattle.lsl_code.specs.Kinds.{kinds_of};
-ghost use Rattle.lsl_image.specs.Charges.{charged_with, integers_charge};
+ghost use Rattle.lsl_image.specs.Charges.{integers_charge};
 ghost use Rattle.lsl_image.specs.Layout.{value_of, values_of};
 ghost use Rattle.lsl_image.specs.Leading.{LeadsBehind};
 ghost use Rattle.lsl_image.specs.Reading.{Gives, Reads};

@@ -1,7 +1,7 @@
 //! The beginning of a handler, and answers to it.
 
-ghost use Rattle.std.specs.Prelude.{◌≡◌, ◌+◌, ◌≤◌, ◌<◌, List, cond, min, nat_le, length, slice_get, IfOk, Some, vec_capacity};
-ghost use Rattle.lsl_running.specs.Charging.{charges_of, default_limit};
+ghost use Rattle.std.specs.Prelude.{◌≡◌, ◌+◌, ◌≤◌, ◌<◌, List, cond, nat_le, length, slice_get, IfOk, Some, vec_capacity};
+ghost use Rattle.lsl_running.specs.Charging.{default_limit};
 ghost use Rattle.lsl_running.specs.declared.host.Reply.TheVariants as reply;
 ghost use Rattle.lsl_code.specs.Acts.{first_slots};
 ghost use Rattle.lsl_code.specs.Bodies.{Body};
@@ -15,9 +15,9 @@ use crate::calls::{behind, push_empties};
 use crate::running::{Activation, Running, Step};
 use crate::standing::Standing;
 use lsl_code::Woven;
-use lsl_running::{CALL_CHARGE, Kept, SCRIPT_CHARGE};
+use lsl_running::{CALL_CHARGE, Kept, SCRIPT_CHARGE, charged_with_values};
 use lsl_text::NoMemory;
-use lsl_value::{Value, Values, charge};
+use lsl_value::{Value, Values};
 use std::alloc::Global;
 
 /// A function before its first tick, where it stands: it may be charged more than the limit.
@@ -40,8 +40,8 @@ pub fn enter(
     let mut stack = args.into_vec();
     push_empties(alloc, &mut stack, kinds, function.most)?;
     let globals = globals.into_vec();
-    let charge = charge_from(SCRIPT_CHARGE + CALL_CHARGE, stack.as_slice());
-    let global_charge = charge_from(0, globals.as_slice());
+    let charge = charged_with_values(SCRIPT_CHARGE + CALL_CHARGE, stack.as_slice());
+    let global_charge = charged_with_values(0, globals.as_slice());
     let running = Running {
         alloc,
         globals,
@@ -69,18 +69,6 @@ fn standing_within(charge: u64, global_charge: u64, limit: u32) -> Standing
         return Standing::Ready;
     }
     Standing::Full
-}
-
-/// The values' charges beside this one, and the greatest number where they are more.
-#[tactic(auto, using(crate::proofs::Charges::charges_step))]
-pub fn charge_from(held: u64, values: &[Value]) -> u64
-    ensures { result ≡ min (held + charges_of values.now) 18446744073709551615 }
-{
-    let mut sum = held;
-    for value in values {
-        sum = sum.saturating_add(charge(value));
-    }
-    sum
 }
 
 impl Running {

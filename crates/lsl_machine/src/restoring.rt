@@ -16,10 +16,9 @@ ghost use Rattle.lsl_machine.specs.CallsRestored.{Backs, CanBack, IsRestored, Is
 ghost use Rattle.lsl_machine.specs.Laid.{Lays};
 
 use crate::calls::{above, push_empties};
-use crate::entering::charge_from;
 use crate::running::{Activation, Running};
 use lsl_code::{Frame, Instr, Woven};
-use lsl_running::{CALL_CHARGE, Kept, SCRIPT_CHARGE};
+use lsl_running::{CALL_CHARGE, Kept, SCRIPT_CHARGE, charged_with_values};
 use lsl_text::NoMemory;
 use lsl_value::Value;
 use std::alloc::Global;
@@ -208,7 +207,7 @@ impl Restorer {
             → result ≡ min (base (c ∷ outer)) 18446744073709551615 }
     {
         let held = self.active.charge.saturating_add(CALL_CHARGE);
-        charge_from(held, above(self.stack.as_slice(), self.active.base))
+        charged_with_values(held, above(self.stack.as_slice(), self.active.base))
     }
 
     /// The machine that runs on from there, beside these globals and this limit. Takes no memory.
@@ -229,7 +228,7 @@ impl Restorer {
         } = self;
         let Kept { globals, limit } = kept;
         let globals = globals.into_vec();
-        let global_charge = charge_from(0, globals.as_slice());
+        let global_charge = charged_with_values(0, globals.as_slice());
         Running {
             alloc,
             globals,

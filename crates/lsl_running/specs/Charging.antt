@@ -1,5 +1,5 @@
 -- What a script is charged while a handler runs, and the limit of it.
-use Rattle.std.specs.Prelude.{ℕ, ◌+◌, Bool, nat_le, List, [], ◌∷◌, sum_by, slice_set}
+use Rattle.std.specs.Prelude.{ℕ, ◌+◌, min, Bool, nat_le, List, [], ◌∷◌, sum_by, slice_set}
 use Rattle.lsl_value.specs.Values.{charge_of}
 use Rattle.lsl_value.specs.declared.tagged.Value.{Value}
 use Rattle.lsl_running.specs.declared.kept.Kept.{Kept}
@@ -18,6 +18,14 @@ default_limit = 65536
 
 abbrev pub charges_of : List Value → ℕ
 charges_of values = sum_by charge_of values
+
+-- the greatest number of 64 bits
+abbrev pub most_charged : ℕ
+most_charged = 18446744073709551615
+
+-- so much is charged, and more beside it, as far as 64 bits go
+abbrev pub charged_with : ℕ → ℕ → ℕ
+charged_with charged more = min (charged + more) most_charged
 
 -- what is held, and these waiting values, the last one pushed first
 abbrev pub hold_all : ℕ → List Value → ℕ

@@ -8,7 +8,7 @@ mod ends;
 mod host;
 mod kept;
 
-pub use crate::charges::{CALL_CHARGE, SCRIPT_CHARGE};
+pub use crate::charges::{CALL_CHARGE, SCRIPT_CHARGE, charged_with_values};
 pub use crate::ends::{Fault, Outcome};
 pub use crate::host::{Call, Reply};
 pub use crate::kept::Kept;

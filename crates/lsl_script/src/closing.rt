@@ -1,8 +1,7 @@
 //! A handler ends.
 
-ghost use Rattle.std.specs.Prelude.{◌≡◌, ◌+◌, ℕ, List, min, length, IfOk};
+ghost use Rattle.std.specs.Prelude.{◌≡◌, ℕ, List, length, IfOk};
 ghost use Rattle.lsl_code.specs.declared.woven_units.Woven.{Woven as Code};
-ghost use Rattle.lsl_running.specs.Charging.{charges_of};
 ghost use Rattle.lsl_script.specs.Awake.{HasEnded, IsAwake};
 ghost use Rattle.lsl_script.specs.Closing.{ClosesAs, begun_again, count_gone, entering, forgotten, gone_parts, initial_of};
 ghost use Rattle.lsl_script.specs.Fitting.{FitsUnit};
@@ -15,9 +14,9 @@ use crate::resting::keep;
 use crate::scripts::{DEFAULT_LIMIT, Script, entry};
 use lsl_code::Woven;
 use lsl_post::{Listens, ScriptParts, Timer};
-use lsl_running::Kept;
+use lsl_running::{Kept, SCRIPT_CHARGE, charged_with_values};
 use lsl_text::NoMemory;
-use lsl_value::{EventId, Values, charge};
+use lsl_value::EventId;
 use std::alloc::Global;
 
 /// What a handler's end comes to: the script at rest, its charge then, and how many events went where it changed its
@@ -49,7 +48,7 @@ impl Live {
             unreachable!();
         };
         let kept = machine.finish();
-        let charge = resting_charge(&kept.globals);
+        let charge = charged_with_values(SCRIPT_CHARGE, kept.globals.as_slice());
         keep(&mut parts, kept);
         let exits = unit.handler(parts.state, EventId::StateExit).is_some();
         let going = Going::of(parts.leaving, parts.state, exits, outcome);
@@ -126,16 +125,4 @@ pub fn initial(alloc: Global, unit: &Woven) -> Result<Kept, NoMemory>
         globals: unit.globals().copy(alloc)?,
         limit: DEFAULT_LIMIT,
     })
-}
-
-// What a script with these globals is charged between handlers, and the greatest number where it is more.
-#[tactic(auto, using(lsl_machine::proofs::Charges::charges_step))]
-fn resting_charge(globals: &Values) -> u64
-    ensures { result ≡ min (1024 + charges_of globals.now) 18446744073709551615 }
-{
-    let mut sum: u64 = 1_024;
-    for value in globals.as_slice() {
-        sum = sum.saturating_add(charge(value));
-    }
-    sum
 }

@@ -27,7 +27,7 @@ returns-then-not-is_within c =
     (saved_calls c.args.unit.now c.args.globals.now c.args.limit c.args.handler) c.args.place))
     c.in_ok-count.ensures) c.in_ok-frames.ensures.reads in
     let within = c.is_within.ensures _ (charged-all c.args.globals.now _ c.in_ok-frames.frames _ _
-    c.as_slice.ensures c.with_values-charged.ensures c.in_ok-frames.ensures.charged) in
+    c.as_slice.ensures c.charged_with_values-charged.ensures c.in_ok-frames.ensures.charged) in
     rw c.wrong.ensures (calls-refused c.args.bytes.now c.args.globals.now c.args.limit c.args.place
     c.in_ok-frames.frames _ refl _ within _ _ _ leads c.if-not-is_within.true)
 
@@ -39,7 +39,7 @@ returns c =
     (saved_calls c.args.unit.now c.args.globals.now c.args.limit c.args.handler) c.args.place))
     c.in_ok-count.ensures) c.in_ok-frames.ensures.reads in
     let within = c.is_within.ensures _ (charged-all c.args.globals.now _ c.in_ok-frames.frames _ _
-    c.as_slice.ensures c.with_values-charged.ensures c.in_ok-frames.ensures.charged) in
+    c.as_slice.ensures c.charged_with_values-charged.ensures c.in_ok-frames.ensures.charged) in
     rw (c.from_vec.ensures ∙ c.into_vec.ensures)
     (calls-given c.args.bytes.now c.args.globals.now c.args.limit c.args.place c.in_ok-frames.frames _ refl _
     within _ _ _ leads c.if-not-is_within.false)

@@ -1,6 +1,6 @@
 use Rattle.std.proofs.Common.{◌≡◌, ◌-◌, [], length, sum_by}
 use Rattle.lsl_code.specs.Frames.{frame_charge}
-use Rattle.lsl_image.specs.Charges.{charged_with}
+use Rattle.lsl_running.specs.Charging.{charged_with}
 use Rattle.lsl_image.specs.Layout.{grown}
 use Rattle.lsl_image.specs.Rest.{callee_of, frame_behind}
 use Rattle.lsl_image.specs.Leading.{Leads}

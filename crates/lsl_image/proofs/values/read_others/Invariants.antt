@@ -1,6 +1,5 @@
 use Rattle.std.proofs.Common.{◌≡◌, ℕ, drop, length}
-use Rattle.lsl_running.specs.Charging.{charges_of}
-use Rattle.lsl_image.specs.Charges.{charged_with}
+use Rattle.lsl_running.specs.Charging.{charged_with, charges_of}
 use Rattle.lsl_image.specs.Layout.{values_of}
 use Rattle.lsl_image.specs.Leading.{LeadsBehind}
 use Rattle.lsl_image.proofs.values.read_others.Given as goal

@@ -20,7 +20,7 @@ returns-clause-begun c body there =
       alloc = c.args.alloc;
       globals = c.into_vec-globals.result;
       global_charge =
-          c.charge_from-global_charge.result;
+          c.charged_with_values-global_charge.result;
       limit = c.args.limit;
       active =
           record {
@@ -29,7 +29,7 @@ returns-clause-begun c body there =
             base = 0;
             floor = c.len-2.result;
             charge =
-                c.charge_from-charge.result;
+                c.charged_with_values-charge.result;
           };
       callers = c.new.result;
       stack = c.push_empties.new.stack;
@@ -40,17 +40,17 @@ returns-clause-begun c body there =
     let slots : c.push_empties.new.stack.items ≡ first_slots body args =
     c.in_ok-push_empties.ensures.pushed ∙ ap (λ l. l ++ map empty_of c.behind-kinds.result.now) c.into_vec-stack.ensures
     ∙ ap (λ l. args ++ map empty_of l) kinds ∙ ap (λ b. first_slots b args) same in
-    let c1 = c.charge_from-charge.ensures
+    let c1 = c.charged_with_values-charge.ensures
     ∙ ap {A = ℕ} (λ x. min (1056 + x) 18446744073709551615)
     (ap charges_of (c.as_slice-3.ensures.value ∙ slots)) in
-    let c2 = c.charge_from-global_charge.ensures
+    let c2 = c.charged_with_values-global_charge.ensures
     ∙ ap {A = ℕ} (λ x. min (0 + x) 18446744073709551615)
     (ap charges_of (c.as_slice-4.ensures.value ∙ c.into_vec-globals.ensures)) in
     let floor : c.len-2.result ≡ length (first_slots body args) = c.len-2.ensures ∙ c.push_empties.new.stack.ok.0
     ∙ ap length slots in
     subst (λ s. Begins c.args.handler c.args.globals c.args.limit (first_slots body args) r s)
     (sym c.standing_within.ensures)
-    (begins r c.args.handler c.args.limit c.charge_from-charge.result c.charge_from-global_charge.result
+    (begins r c.args.handler c.args.limit c.charged_with_values-charge.result c.charged_with_values-global_charge.result
     c.args.globals (first_slots body args) c.requires.limit c1 c2 slots c.new.ensures.items
     c.into_vec-globals.ensures refl refl
     (ap {A = ℕ} {B = Activation}
@@ -60,5 +60,5 @@ returns-clause-begun c body there =
       base = 0;
       floor = x;
       charge =
-          c.charge_from-charge.result;
+          c.charged_with_values-charge.result;
     }) floor))

@@ -1,5 +1,6 @@
 use Rattle.std.proofs.Common.{◌≡◌, sym, ap, ◌∙◌, subst}
 use Rattle.std.specs.Prelude.{is_some}
+use Rattle.lsl_running.specs.Charging.{charged_with, charges_of}
 use Rattle.lsl_script.specs.Closing.{count_gone, gone_parts}
 use Rattle.lsl_script.specs.Fitting.{FitsUnit}
 use Rattle.lsl_script.proofs.Closes.{closes_fits, closing_is}
@@ -47,4 +48,5 @@ returns-clause-source c codes s f number ends =
       exits_are = c.is_some-exits.ensures ∙ ap is_some c.handler.ensures;
       going_is = c.of-going.ensures;
       new_is = gone.0;
-    }) ends.carries ends.ended c.from_parts.ensures c.resting_charge-charge.ensures gone.1
+    }) ends.carries ends.ended c.from_parts.ensures
+    (c.charged_with_values-charge.ensures ∙ ap (λ vs. charged_with 1024 (charges_of vs)) c.as_slice.ensures) gone.1

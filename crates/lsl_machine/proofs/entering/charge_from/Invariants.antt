@@ -1,7 +1,0 @@
-use Rattle.std.proofs.Common.{◌≡◌, ◌+◌, take}
-use Rattle.std.specs.Prelude.{min}
-use Rattle.lsl_running.specs.Charging.{charges_of}
-use Rattle.lsl_machine.proofs.entering.charge_from.Given as goal
-
-abbrev pub invariant-loop-value : goal.invariant-loop-value
-invariant-loop-value l = l.sum ≡ min (l.held + charges_of (take l.value-index l.values)) 18446744073709551615
