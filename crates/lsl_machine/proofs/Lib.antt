@@ -33,3 +33,5 @@ pub mod Vacating
 pub mod PutCharges
 pub mod Reaching
 pub mod Carried
+pub mod Following
+pub mod Fusing

@@ -1,6 +1,7 @@
 pub mod CallsRestored
 pub mod CallsSaved
 pub mod Entry
+pub mod Fused
 pub mod Futures
 pub mod Integers
 pub mod Laid

@@ -30,6 +30,7 @@ use std::marker::Model;
 
 mod calls;
 mod entering;
+mod fused;
 mod integers;
 mod jumps;
 mod operands;
