@@ -1,9 +1,9 @@
-pub mod Columns
-pub mod Marks
-pub mod ByClass
+pub mod Ordered
+pub mod Table
+pub mod Changes
 pub mod Rows
 pub mod Listening
-pub mod Heard
+pub mod Unheard
 pub mod Cuts
 pub mod CutBytes
 pub mod Behind
@@ -11,7 +11,7 @@ pub mod Placed
 pub mod Results
 pub mod Seats
 pub mod Posts
-pub mod Marked
+pub mod Told
 pub mod Passing
 pub mod Away
 pub mod Calls

@@ -1,5 +1,5 @@
 -- Places that are passed over, since no script there is one of those to whom an event is posted.
-use Rattle.std.proofs.Common.{◌≡◌, ℕ, zero, suc, ◌+◌, ◌-◌, ◌<◌, ◌≤◌, Bool, false, List, [], get_or, refl, ap, sym, ◌∙◌, subst, arith}
+use Rattle.std.proofs.Common.{◌≡◌, ℕ, zero, suc, ◌+◌, ◌-◌, ◌<◌, ◌≤◌, Bool, false, List, [], get_or, ℤ, refl, ap, sym, ◌∙◌, subst, arith}
 use Rattle.std.specs.Prelude.{if◌then◌else◌, Option, Some, None, slice_get}
 use Rattle.lsl_code.specs.declared.woven_units.Woven.{Woven as Code}
 use Rattle.lsl_post.specs.declared.entries.Entry.{Entry}
@@ -13,12 +13,10 @@ use Rattle.lsl_script.specs.Scripts.{post_to}
 use Rattle.lsl_region.specs.declared.audience.Audience.{Audience}
 use Rattle.lsl_region.specs.declared.grid.Seat.{Seat}
 use Rattle.lsl_region.specs.Grids.{Contents, Stands, is_out, seat_of}
-use Rattle.lsl_region.specs.Classes.{listens_on}
-use Rattle.lsl_region.specs.Hearing.{AreMarked, ArePassed, IsMarked, column}
+use Rattle.lsl_region.specs.Hearing.{ArePassed, HasRow, HaveRows, is_in_row, listens_on}
 use Rattle.lsl_region.specs.Posting.{admits, post_where}
 use Rattle.lsl_region.specs.Worlds.{Member, World, changed_at, prim_of}
 use Rattle.lsl_region.proofs.Away.{other-home}
-use Rattle.lsl_region.proofs.Columns.{column-get}
 use Rattle.lsl_region.proofs.Placed.{seated-at}
 use Rattle.lsl_region.proofs.Posts.{post-none}
 
@@ -65,14 +63,14 @@ walk-later {X = X} Rel total old now thing from to end walk h l none =
       };
     }
 
--- a script whose place isn't marked for a class listens on no channel of it
-pub not-listening : (marks : List (List Bool)) (seats : List Seat) (class place : ℕ) (seat : Seat) (parts : ScriptParts)
-    → AreMarked marks seats → class < 16 → slice_get seats place ≡ Some seat → seat.script ≡ Some parts
-    → get_or (column false class marks) place false ≡ false → listens_on class parts.listens ≡ false
-not-listening marks seats class place seat parts m one at is e =
-    let k : IsMarked (get_or marks place []) (Some parts)
-    = subst (λ (o : Option ScriptParts). IsMarked (get_or marks place []) o) is (m.marked place seat at) in
-    sym (k class one) ∙ sym (column-get false marks class place) ∙ e
+-- a script that isn't out listens on the channels of its row
+pub listening : (rows : List (List ℤ)) (seats : List Seat) (channel : ℤ) (place : ℕ) (seat : Seat) (parts : ScriptParts)
+    → HaveRows rows seats → slice_get seats place ≡ Some seat → seat.script ≡ Some parts
+    → listens_on channel parts.listens ≡ is_in_row rows channel place
+listening rows seats channel place seat parts h at is =
+    let k : HasRow (get_or rows place []) (Some parts)
+    = subst (λ (o : Option ScriptParts). HasRow (get_or rows place []) o) is (h.each place seat at) in
+    sym (k channel)
 
 -- Nothing is posted to the scripts that are passed over.
 module _ (codes : List Code) (away : Option ℕ) (clock : ℕ) (grid : Contents) (w : World) (a : Audience) (from to : ℕ)

@@ -1,55 +1,134 @@
--- A row of marks that is written one mark after another.
-use Rattle.std.proofs.Common.{◌≡◌, ◌≢◌, ℕ, ◌+◌, ◌<◌, ◌⊎◌, inl, inr, Bool, true, false, eqb, List, [], length, get_or, ap, sym, ◌∙◌, arith, below_more}
-use Rattle.std.specs.Prelude.{slice_set}
+-- The table of what is heard has the channels of the rows: how many they are, and when a row is another.
+use Rattle.std.proofs.Common.{◌≡◌, ◌≢◌, ℕ, zero, suc, ◌+◌, ◌*◌, ◌<◌, ◌≤◌, ◌⊎◌, inl, inr, Bool, true, false, eqb, List, [], ◌∷◌, ◌++◌, get_or, length, map, ℤ, refl, ap, sym, ◌∙◌, subst, arith, add-zero, zero-add, length-append}
+use Rattle.std.specs.Prelude.{◌&&◌, ◌||◌, not, slice_set}
+use Rattle.std.specs.List.Sorted.{IsStrictlySortedBy}
+use Rattle.std.specs.Ordering.{int_eq}
 use Rattle.std.proofs.Math.ListN.{length-set}
 use Rattle.std.proofs.lemmas.Bool.Decides.{eqb_tells}
-use Rattle.std.proofs.lemmas.List.{ext_get_or, get_or-set_other, get_or-set_same}
-use Rattle.lsl_region.specs.Hearing.{with_mark}
+use Rattle.std.proofs.lemmas.Cmp.{eq_by_cmp_equiv}
+use Rattle.std.proofs.lemmas.List.{get_or-set_other, get_or-set_same, length-map}
+use Rattle.std.proofs.lemmas.List.Folds.{list_any-append}
+use Rattle.std.proofs.lemmas.Map.Keys.{IsDistinct-from_sorted}
+use Rattle.std.proofs.lemmas.Map.Made.{length-le_from_is_member}
+use Rattle.lsl_region.specs.declared.heard.Heard.{Heard}
+use Rattle.lsl_region.specs.Hearing.{IsTable, has_channel, is_in_row, most_channels}
+use Rattle.lsl_region.specs.Table.{IsOrdered, has_entry, heard, heard_order, is_heard, same_heard}
+use Rattle.lsl_region.proofs.Table.{order-total, same-place}
 
--- one mark is written
-module _ (old new : List (List Bool)) (n class : ℕ) (mark : Bool) (is : new ≡ with_mark old n class mark) where
-  pub row-length : length new ≡ length old
-  row-length = ap (λ (r : List (List Bool)). length r) is
-      ∙ length-set old n (slice_set (get_or old n []) class mark)
+-- all that the rows have, from this place on
+entries : ℕ → List (List ℤ) → List Heard
+entries n [] = []
+entries n (r ∷ rs) = map (λ c. heard c n) r ++ entries (n + 1) rs
 
-  pub row-others : (k : ℕ) → k ≢ n → get_or new k [] ≡ get_or old k []
-  row-others k e = ap (λ (r : List (List Bool)). get_or r k []) is
-      ∙ get_or-set_other old n k (slice_set (get_or old n []) class mark) [] e
+entries-few : (n : ℕ) (rows : List (List ℤ)) → ((k : ℕ) → length (get_or rows k []) ≤ most_channels)
+    → length (entries n rows) ≤ most_channels * length rows
+unfolding entries
+entries-few n [] few = omega arith
+entries-few n (r ∷ rs) few =
+    let one : length r ≤ most_channels = few 0 in
+    let more : length (entries (n + 1) rs) ≤ most_channels * length rs = entries-few (n + 1) rs (λ k. few (suc k)) in
+    omega (arith, one, more, length-append (map (λ c. heard c n) r) (entries (n + 1) rs), length-map r (λ c. heard c n))
 
-  module _ (there : n < length old) (one : class < 16) (wide : length (get_or new n []) ≡ 16)
-      (classes : List Bool) (told : mark ≡ get_or classes class false)
-      (before : (k : ℕ) → k < class → get_or (get_or old n []) k false ≡ get_or classes k false) where
-    row-now : get_or new n [] ≡ slice_set (get_or old n []) class mark
-    row-now = ap (λ (r : List (List Bool)). get_or r n []) is
-        ∙ get_or-set_same old n (slice_set (get_or old n []) class mark) [] there
+row-has : (r : List ℤ) (n : ℕ) (c : ℤ) → has_entry (map (λ d. heard d n) r) (heard c n) ≡ has_channel r c
+row-has [] n c = refl
+row-has (d ∷ r) n c = ap (λ (b : Bool). b || has_entry (map (λ d. heard d n) r) (heard c n)) (same-place c d n)
+    ∙ ap (λ (b : Bool). int_eq c d || b) (row-has r n c)
 
-    width : length (get_or old n []) ≡ 16
-    width = sym (length-set (get_or old n []) class mark)
-        ∙ sym (ap (λ (r : List Bool). length r) row-now) ∙ wide
+or-true : (a b : Bool) → b ≡ true → (a || b) ≡ true
+or-true true b e = refl
+or-true false b e = e
 
-    pub row-more : (k : ℕ) → k < class + 1 → get_or (get_or new n []) k false ≡ get_or classes k false
-    row-more k h = ap (λ (r : List Bool). get_or r k false) row-now
-        ∙ below_more (λ (j : ℕ). get_or (slice_set (get_or old n []) class mark) j false ≡ get_or classes j false)
-        class
-        (λ j l. get_or-set_other (get_or old n []) class j mark false (λ e. omega (arith, e, l)) ∙ before j l)
-        (get_or-set_same (get_or old n []) class mark false (omega (arith, width, one)) ∙ told) k h
+entries-have : (n : ℕ) (rows : List (List ℤ)) (c : ℤ) (k : ℕ) → is_in_row rows c k ≡ true
+    → has_entry (entries n rows) (heard c (n + k)) ≡ true
+unfolding entries
+entries-have n [] c k e = absurd cc
+entries-have n (r ∷ rs) c zero e =
+    ap (λ (p : ℕ). has_entry (map (λ d. heard d n) r ++ entries (n + 1) rs) (heard c p)) (add-zero n)
+    ∙ list_any-append (same_heard (heard c n)) (map (λ d. heard d n) r) (entries (n + 1) rs)
+    ∙ ap (λ (b : Bool). b || has_entry (entries (n + 1) rs) (heard c n)) (row-has r n c ∙ e)
+entries-have n (r ∷ rs) c (suc k) e =
+    let at : n + suc k ≡ (n + 1) + k = omega arith in
+    ap (λ (p : ℕ). has_entry (map (λ d. heard d n) r ++ entries (n + 1) rs) (heard c p)) at
+    ∙ list_any-append (same_heard (heard c ((n + 1) + k))) (map (λ d. heard d n) r) (entries (n + 1) rs)
+    ∙ or-true (has_entry (map (λ d. heard d n) r) (heard c ((n + 1) + k)))
+    (has_entry (entries (n + 1) rs) (heard c ((n + 1) + k))) (entries-have (n + 1) rs c k e)
 
--- all its marks are written
-module _ (old new : List (List Bool)) (place : ℕ) (there : place < length old) (classes : List Bool)
-    (count : length new ≡ length old) (sixteen : length classes ≡ 16) (wide : length (get_or new place []) ≡ 16)
-    (told : (k : ℕ) → k < 16 → get_or (get_or new place []) k false ≡ get_or classes k false)
-    (others : (k : ℕ) → k ≢ place → get_or new k [] ≡ get_or old k []) where
-  row-is : get_or new place [] ≡ classes
-  row-is = ext_get_or false (get_or new place []) classes (wide ∙ sym sixteen)
-      (λ k h. told k (omega (arith, h, wide)))
+-- there are no more than so many for each row
+pub table-few : (rows : List (List ℤ)) (table : List Heard) (capacity : ℕ) → IsTable rows table capacity
+    → length table ≤ most_channels * length rows
+table-few rows table capacity t =
+    let fewer : length table ≤ length (entries 0 rows)
+    = length-le_from_is_member (eq_by_cmp_equiv order-total) table (entries 0 rows)
+    (IsDistinct-from_sorted heard_order table t.ordered)
+    (λ q e. sym (ap (λ (p : ℕ). has_entry (entries 0 rows) (heard q.channel p)) (zero-add q.place))
+    ∙ entries-have 0 rows q.channel q.place (sym (t.exact q.channel q.place) ∙ e)) in
+    let few : length (entries 0 rows) ≤ most_channels * length rows = entries-few 0 rows t.few in
+    omega (arith, fewer, few)
 
-  row-at : (k : ℕ) → ((eqb k place ≡ true) × (k ≡ place)) ⊎ ((eqb k place ≡ false) × (k ≢ place))
-      → get_or new k [] ≡ get_or (slice_set old place classes) k []
-  row-at k (inl e) = ap (λ (n : ℕ). get_or new n []) e.1 ∙ row-is
-      ∙ sym (ap (λ (n : ℕ). get_or (slice_set old place classes) n []) e.1
-      ∙ get_or-set_same old place classes [] there)
-  row-at k (inr e) = others k e.1 ∙ sym (get_or-set_other old place k classes [] e.1)
+-- what stayed and what came are what is there
+now-there : (o n : Bool) → ((o && (n || not o)) || (n && not o)) ≡ n
+now-there true true = refl
+now-there true false = refl
+now-there false true = refl
+now-there false false = refl
 
-  pub row-told : new ≡ slice_set old place classes
-  row-told = ext_get_or [] new (slice_set old place classes) (count ∙ sym (length-set old place classes))
-      (λ k h. row-at k (eqb_tells k place))
+-- a row is another
+module _ (rows : List (List ℤ)) (old between new : List Heard) (before after : ℕ) (place : ℕ) (row channels : List ℤ)
+    (table : IsTable rows old before) (there : place < length rows) (at : row ≡ get_or rows place [])
+    (few : length channels ≤ most_channels) (room : before ≤ after) (ordered : IsOrdered new)
+    (out-here : (c : ℤ) → is_heard between c place
+    ≡ (is_heard old c place && (has_channel channels c || not (has_channel row c))))
+    (out-there : (c : ℤ) (p : ℕ) → p ≢ place → is_heard between c p ≡ is_heard old c p)
+    (in-here : (c : ℤ) → is_heard new c place
+    ≡ (is_heard between c place || (has_channel channels c && not (has_channel row c))))
+    (in-there : (c : ℤ) (p : ℕ) → p ≢ place → is_heard new c p ≡ is_heard between c p) where
+  abbrev told : List (List ℤ)
+  told = slice_set rows place channels
+
+  told-here : get_or told place [] ≡ channels
+  told-here = get_or-set_same rows place channels [] there
+
+  told-there : (p : ℕ) → p ≢ place → get_or told p [] ≡ get_or rows p []
+  told-there p n = get_or-set_other rows place p channels [] n
+
+  before-here : (c : ℤ) → is_heard old c place ≡ has_channel row c
+  before-here c = table.exact c place ∙ ap (λ (r : List ℤ). has_channel r c) (sym at)
+
+  exact-here : (c : ℤ) → is_heard new c place ≡ is_in_row told c place
+  exact-here c = in-here c
+      ∙ ap (λ (b : Bool). b || (has_channel channels c && not (has_channel row c)))
+      (out-here c ∙ ap (λ (b : Bool). b && (has_channel channels c || not (has_channel row c))) (before-here c))
+      ∙ now-there (has_channel row c) (has_channel channels c)
+      ∙ ap (λ (r : List ℤ). has_channel r c) (sym told-here)
+
+  exact-there : (c : ℤ) (p : ℕ) → p ≢ place → is_heard new c p ≡ is_in_row told c p
+  exact-there c p n = in-there c p n ∙ out-there c p n ∙ table.exact c p
+      ∙ ap (λ (r : List ℤ). has_channel r c) (sym (told-there p n))
+
+  exact-at : (c : ℤ) (p : ℕ) → ((eqb p place ≡ true) × (p ≡ place)) ⊎ ((eqb p place ≡ false) × (p ≢ place))
+      → is_heard new c p ≡ is_in_row told c p
+  exact-at c p (inl e) = subst (λ (z : ℕ). is_heard new c z ≡ is_in_row told c z) (sym e.1) (exact-here c)
+  exact-at c p (inr e) = exact-there c p e.1
+
+  few-at : (p : ℕ) → ((eqb p place ≡ true) × (p ≡ place)) ⊎ ((eqb p place ≡ false) × (p ≢ place))
+      → length (get_or told p []) ≤ most_channels
+  few-at p (inl e) = subst (λ (r : List ℤ). length r ≤ most_channels)
+      (sym (ap (λ (z : ℕ). get_or told z []) e.1 ∙ told-here)) few
+  few-at p (inr e) = subst (λ (r : List ℤ). length r ≤ most_channels) (sym (told-there p e.1)) (table.few p)
+
+  pub table-told : IsTable told new after
+  table-told = record {
+    ordered = ordered;
+    exact = λ c p. exact-at c p (eqb_tells p place);
+    few = λ p. few-at p (eqb_tells p place);
+    room = λ h. let k = table.room (omega arith) in omega (arith, k, room, length-set rows place channels);
+  }
+
+-- no row at all
+pub table-none : (rows : List (List ℤ)) (table : List Heard) (capacity : ℕ) → rows ≡ [] → table ≡ []
+    → IsTable rows table capacity
+unfolding IsStrictlySortedBy
+table-none rows table capacity e f =
+    subst (λ (r : List (List ℤ)). IsTable r table capacity) (sym e)
+    (subst (λ (t : List Heard). IsTable [] t capacity) (sym f)
+    (record { ordered = tt; exact = λ c p. refl; few = λ p. omega arith; room = λ h. absurd (omega arith) }))

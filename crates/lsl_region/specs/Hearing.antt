@@ -1,61 +1,57 @@
--- Which scripts may hear what is said, and the next of them from a place on.
-use Rattle.std.specs.Prelude.{◌≡◌, ℕ, ◌<◌, ◌≤◌, ◌⊎◌, nat_eq, if◌then◌else◌, Bool, true, false, List, [], length, map, replicate, Option, Some, None, get_or, slice_get, slice_set}
+-- Which scripts listen on a channel, and the next of them from a place on.
+use Rattle.std.specs.Prelude.{◌≡◌, ℕ, ◌+◌, ◌*◌, ◌<◌, ◌≤◌, ◌⊎◌, ◌&&◌, ℤ, Bool, true, false, List, [], length, Option, Some, None, get_or, slice_get}
+use Rattle.std.specs.List.{list_any}
+use Rattle.std.specs.Ordering.{int_eq}
+use Rattle.std.specs.Set.{is_member}
+use Rattle.lsl_post.specs.declared.listen.Listen.{Listen}
 use Rattle.lsl_post.specs.declared.parts.ScriptParts.{ScriptParts}
-use Rattle.lsl_region.specs.Classes.{listens_on}
+use Rattle.lsl_post.specs.Listens.{Standing}
 use Rattle.lsl_region.specs.declared.audience.Audience.{Audience}
 use Rattle.lsl_region.specs.declared.grid.Seat.{Seat}
+use Rattle.lsl_region.specs.declared.heard.Heard.{Heard}
 use Rattle.lsl_region.specs.Posting.{is_admitted}
+use Rattle.lsl_region.specs.Table.{IsOrdered, is_heard, no_place}
 
--- no script has so great a place
-abbrev pub no_place : ℕ
-no_place = 18446744073709551615
+-- a listen is active, on this channel
+abbrev pub is_on : ℤ → Listen → Bool
+is_on channel l = l.active && int_eq channel l.channel
 
--- where this place was the next one, another is
-abbrev pub past : ℕ → ℕ → ℕ → ℕ
-past place after next = if nat_eq next place then after else next
+-- one of them is
+abbrev pub listens_on : ℤ → Standing → Bool
+listens_on channel listens = list_any (is_on channel) listens.list
 
--- the next place is marked, or there is none
-abbrev pub IsFound : List Bool → ℕ → Type 0
-IsFound marks next = (next ≡ no_place) ⊎ (get_or marks next false ≡ true)
+-- on how many channels a script listens at most
+abbrev pub most_channels : ℕ
+most_channels = 65
 
--- from each place on the next one is the first that is marked
-pub record LeadOn (marks : List Bool) (next : List ℕ) : Type 0 where
-  pub count : length marks ≤ length next
-  pub onward : (from : ℕ) → from < length next → from ≤ get_or next from 0
-  pub passed : (from place : ℕ) → from ≤ place → place < get_or next from 0 → get_or marks place false ≡ false
-  pub found : (from : ℕ) → from < length next → IsFound marks (get_or next from 0)
+-- the channel is one of a row of channels
+abbrev pub has_channel : List ℤ → ℤ → Bool
+has_channel row channel = is_member int_eq row channel
 
--- what the rows have at this place
-abbrev pub column : {A : Type 0} → A → ℕ → List (List A) → List A
-column default class rows = map (λ row. get_or row class default) rows
+-- the row at this place has it
+abbrev pub is_in_row : List (List ℤ) → ℤ → ℕ → Bool
+is_in_row rows channel place = has_channel (get_or rows place []) channel
 
--- there are sixteen in each row
-abbrev pub AreWide : {A : Type 0} → List (List A) → Type 0
-AreWide rows = (place : ℕ) → place < length rows → length (get_or rows place []) ≡ 16
+-- the table has exactly what the rows have, a row for each place; there is room for as much as rows can have
+pub record IsTable (rows : List (List ℤ)) (table : List Heard) (capacity : ℕ) : Type 0 where
+  pub ordered : IsOrdered table
+  pub exact : (channel : ℤ) (place : ℕ) → is_heard table channel place ≡ is_in_row rows channel place
+  pub few : (place : ℕ) → length (get_or rows place []) ≤ most_channels
+  pub room : 0 < length rows → most_channels * (length rows + 1) ≤ capacity
 
--- a row for each place, and a column for each class: in each column the next place is the first that is marked
-pub record LeadOnByClass (marks : List (List Bool)) (next : List (List ℕ)) : Type 0 where
-  pub marks_wide : AreWide marks
-  pub next_wide : AreWide next
-  pub leads : (class : ℕ) → class < 16 → LeadOn (column false class marks) (column 0 class next)
+-- the next place is that of a row with the channel, or there is none
+abbrev pub IsFound : List (List ℤ) → ℤ → ℕ → Type 0
+IsFound rows channel next = (next ≡ no_place) ⊎ (is_in_row rows channel next ≡ true)
 
--- a row of a place that hears nothing
-abbrev pub silent : List Bool
-silent = replicate 16 false
+-- a script that isn't out has a row of exactly the channels on which one of its listens is active
+abbrev pub HasRow : List ℤ → Option ScriptParts → Type 0
+HasRow row None = Unit {0}
+HasRow row (Some parts) = (channel : ℤ) → has_channel row channel ≡ listens_on channel parts.listens
 
--- the rows, with this mark at this place for this class
-abbrev pub with_mark : List (List Bool) → (place class : ℕ) → Bool → List (List Bool)
-with_mark rows place class mark = slice_set rows place (slice_set (get_or rows place []) class mark)
-
--- a script that isn't out has a mark for each class: whether it listens on a channel of it
-abbrev pub IsMarked : List Bool → Option ScriptParts → Type 0
-IsMarked row None = Unit {0}
-IsMarked row (Some parts) = (class : ℕ) → class < 16 → get_or row class false ≡ listens_on class parts.listens
-
-pub record AreMarked (marks : List (List Bool)) (seats : List Seat) : Type 0 where
-  pub count : length seats ≤ length marks
-  pub marked : (place : ℕ) (seat : Seat) → slice_get seats place ≡ Some seat
-      → IsMarked (get_or marks place []) seat.script
+-- each of them
+pub record HaveRows (rows : List (List ℤ)) (seats : List Seat) : Type 0 where
+  pub count : length seats ≤ length rows
+  pub each : (place : ℕ) (seat : Seat) → slice_get seats place ≡ Some seat → HasRow (get_or rows place []) seat.script
 
 -- from a place up to another no script that isn't out is one of them
 abbrev pub ArePassed : Audience → List Seat → ℕ → ℕ → Type 0

@@ -5,7 +5,7 @@ pub mod Posting
 pub mod Mailing
 pub mod Answers
 pub mod Grids
-pub mod Classes
+pub mod Table
 pub mod Hearing
 pub mod Timers
 pub mod Segments

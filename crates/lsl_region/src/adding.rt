@@ -3,7 +3,7 @@
 ghost use Rattle.std.specs.Prelude.{◌≡◌, ◌<◌, ◌≤◌, [], ◌∷◌, ◌++◌, length, OnOk};
 ghost use Rattle.lsl_region.specs.Grids.{IsPlaced};
 
-use crate::classes::script_classes;
+use crate::channels::script_channels;
 use crate::grid::{Grid, Seat};
 use crate::objects::Linkset;
 use lsl_text::NoMemory;
@@ -28,9 +28,9 @@ impl Grid {
         ensures objects { self.new.objects ≡ self.old.objects }
     {
         let place = self.seats.len();
-        let classes = script_classes(&seat.script);
+        let channels = script_channels(&seat.script);
         self.hearers.push()?;
-        self.hearers.tell(place, &classes);
+        self.hearers.tell(place, channels);
         self.seats.push(seat)?;
         Ok(())
     }

@@ -29,8 +29,8 @@ use lsl_value::{BuiltinId, Values};
 impl Grid {
     /// Answers a host call of the script of this number, which is out of the grid and waits for the answer. The script
     /// stops where it asks for a listen more than 65. After want of memory the entries are the first of the call's, and
-    /// the grid is only to be dropped. Chat asks the scripts with an active listen on a channel of the same class, of
-    /// sixteen; messages walk all of them.
+    /// the grid is only to be dropped. Chat asks exactly the scripts with an active listen on its channel, and the
+    /// one that asks; messages walk all of them.
     pub fn answer(
         &mut self,
         live: &mut Live,

@@ -25,8 +25,8 @@ use std::alloc::Global;
 impl Grid {
     /// Someone of this name and key says a text on this channel: its first 1,024 bytes are heard by every script that
     /// listens to them, but for the prim of this key. After want of memory the entries are the first of the call's, and
-    /// the grid is only to be dropped. Asks the scripts with an active listen on a channel of the same class, of
-    /// sixteen, and walks their listens.
+    /// the grid is only to be dropped. Asks exactly the scripts with an active listen on the channel, and walks
+    /// their listens.
     pub fn say(
         &mut self,
         channel: i32,

@@ -23,8 +23,8 @@ pub struct Seat {
     pub script: Option<Script>,
 }
 
-/// Objects and scripts, both numbered from 1 in the order in which they were added, and on which channels scripts may
-/// hear something.
+/// Objects and scripts, both numbered from 1 in the order in which they were added, and on which channels scripts
+/// listen.
 #[derive(Drop)]
 pub struct Grid {
     pub(crate) alloc: Global,
@@ -35,13 +35,13 @@ pub struct Grid {
 
 impl Model for Grid {
     ghost use Rattle.lsl_region.specs.Grids.{Contents, ArePlaced};
-    ghost use Rattle.lsl_region.specs.Hearing.{AreMarked};
+    ghost use Rattle.lsl_region.specs.Hearing.{HaveRows};
 
     ghost Value = { Contents };
 
     ghost view = { λ g. record { objects = g.objects.items; seats = g.seats.items } };
 
-    ghost invariant = { λ g. ArePlaced g.objects.items g.seats.items × AreMarked g.hearers g.seats.items };
+    ghost invariant = { λ g. ArePlaced g.objects.items g.seats.items × HaveRows g.hearers g.seats.items };
 }
 
 impl Grid {

@@ -5,7 +5,7 @@ ghost use Rattle.lsl_region.specs.Grids.{unit_number};
 ghost use Rattle.lsl_region.specs.Turning.{with_seated};
 ghost use Rattle.lsl_region.specs.declared.grid.Seat.{Seat as Place};
 
-use crate::classes::classes_of;
+use crate::channels::channels_of;
 use crate::grid::Grid;
 use lsl_script::Script;
 
@@ -22,8 +22,8 @@ impl Grid {
         self.seats[place].script.take()
     }
 
-    /// A script comes into the seat at this place. Takes no memory. Walks its listens, and, for each class of channels
-    /// on which it began or ceased to listen, the places up to this one.
+    /// A script comes into the seat at this place. Takes no memory. Walks its listens; each channel on which it began
+    /// or ceased to listen costs a binary search.
     pub(crate) fn put_back(&mut self, place: usize, script: Script)
         requires { place < length self.old.seats }
         ensures seats { (seat : Place) → slice_get self.old.seats place ≡ Some seat →
@@ -31,8 +31,8 @@ impl Grid {
         ensures len { length self.new.seats ≡ length self.old.seats }
         ensures units { map unit_number self.new.seats ≡ map unit_number self.old.seats }
     {
-        let classes = classes_of(&script.parts().listens);
-        self.hearers.tell(place, &classes);
+        let channels = channels_of(&script.parts().listens);
+        self.hearers.tell(place, channels);
         self.seats[place].script = Some(script);
     }
 }

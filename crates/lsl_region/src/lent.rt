@@ -135,8 +135,7 @@ impl Grid {
     }
 
     /// Posts an event to all scripts that are among them, where the one at this place is out and waits for an answer.
-    /// Of what is said only this one and the scripts with an active listen on a channel of its class are asked, else
-    /// all are.
+    /// Of what is said only this one and the scripts with an active listen on its channel are asked, else all are.
     pub(crate) fn post_all_with(
         &mut self,
         place: usize,

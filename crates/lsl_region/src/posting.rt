@@ -1,6 +1,6 @@
 //! Events that are posted to scripts, in the order of their numbers.
 
-ghost use Rattle.std.specs.Prelude.{◌≡◌, ◌<◌, ◌≤◌, ◌+◌, ℕ, Bool, List, Option, Some, None, false, length, map, slice_get, is_some, OnOk};
+ghost use Rattle.std.specs.Prelude.{◌≡◌, ◌<◌, ◌≤◌, ◌+◌, ℕ, ℤ, List, Option, Some, None, true, false, length, map, slice_get, is_some, OnOk};
 ghost use Rattle.lsl_post.specs.Journal.{Adds, Tells};
 ghost use Rattle.lsl_post.specs.declared.parts.ScriptParts.{ScriptParts as Parts};
 ghost use Rattle.lsl_code.specs.declared.woven_units.Woven.{Woven as Code};
@@ -8,15 +8,13 @@ ghost use Rattle.lsl_script.specs.Codes.{HasUnit, Meant, rules_of};
 ghost use Rattle.lsl_script.specs.Fitting.{FitsUnit, is_exit};
 ghost use Rattle.lsl_script.specs.Parts.{parts_of};
 ghost use Rattle.lsl_script.specs.Scripts.{Script as Source, entries_of_posting, post_to};
-ghost use Rattle.lsl_region.specs.Classes.{class_of, listens_on};
 ghost use Rattle.lsl_region.specs.Grids.{AreSeated, FitsSeat, Stands, is_out, key_in, unit_number};
-ghost use Rattle.lsl_region.specs.Hearing.{ArePassed, IsMarked};
+ghost use Rattle.lsl_region.specs.Hearing.{ArePassed, HasRow, listens_on};
 ghost use Rattle.lsl_region.specs.Posting.{admits, is_admitted, post_all, post_where};
 ghost use Rattle.lsl_region.specs.Worlds.{Member, World};
 ghost use Rattle.lsl_region.specs.declared.grid.Seat.{Seat as Place};
 
 use crate::audience::Audience;
-use crate::classes::class_of;
 use crate::grid::Grid;
 use lsl_code::{Library, Woven};
 use lsl_post::{Entries, Entry, Event, Listens, Posted};
@@ -79,7 +77,7 @@ fn post_seat(
         Tells result (λ t _. seat.new ≡ Some (parts_of codes t)) out.old out.new
         (post_to (rules_of codes) number event.now s) }
     ensures fits { OnOk result (FitsSeat unit.now seat.new) }
-    ensures marked { (row : List Bool) → IsMarked row seat.old → IsMarked row seat.new }
+    ensures row { (row : List ℤ) → HasRow row seat.old → HasRow row seat.new }
 {
     match seat {
         Some(script) => post_script(alloc, script, number, event, unit, out),
@@ -147,18 +145,18 @@ impl Grid {
         )
     }
 
-    // The next place from this one on whose script may hear what is said on this channel, or the end.
+    // The next place from this one on whose script listens on this channel, or is out, or the end.
     fn next_hearer(&self, channel: i32, from: usize) -> usize
         requires { from ≤ length self.now.seats }
         ensures onward { from ≤ result }
         ensures within { result ≤ length self.now.seats }
         ensures passed { (place : ℕ) (seat : Place) (parts : Parts) → from ≤ place → place < result →
             slice_get self.now.seats place ≡ Some seat → seat.script ≡ Some parts →
-            listens_on (class_of channel) parts.listens ≡ false }
+            listens_on channel parts.listens ≡ false }
+        ensures found { (seat : Place) (parts : Parts) → slice_get self.now.seats result ≡ Some seat →
+            seat.script ≡ Some parts → listens_on channel parts.listens ≡ true }
     {
-        self.hearers
-            .next(class_of(channel), from)
-            .min(self.seats.len())
+        self.hearers.next(channel, from).min(self.seats.len())
     }
 
     /// The next place from this one on whose script may be one of them, or the end. Takes no memory; asks no script.
@@ -174,8 +172,8 @@ impl Grid {
         }
     }
 
-    /// Posts an event to all scripts that are among them. Of what is said only the scripts with an active listen on a
-    /// channel of its class are asked, else all are.
+    /// Posts an event to all scripts that are among them. Of what is said only the scripts with an active listen on its
+    /// channel are asked, else all are.
     pub(crate) fn post_all(
         &mut self,
         audience: &Audience,

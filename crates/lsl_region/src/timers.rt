@@ -1,6 +1,6 @@
 //! Timers, and which scripts can run.
 
-ghost use Rattle.std.specs.Prelude.{◌≡◌, ◌<◌, ◌≤◌, ◌-◌, ◌+◌, ℕ, Bool, List, Option, Some, None, IsTrue, false, length, slice_get, OnOk};
+ghost use Rattle.std.specs.Prelude.{◌≡◌, ◌<◌, ◌≤◌, ◌-◌, ◌+◌, ℕ, ℤ, List, Option, Some, None, IsTrue, false, length, slice_get, OnOk};
 ghost use Rattle.lsl_code.specs.declared.woven_units.Woven.{Woven as Code};
 ghost use Rattle.lsl_post.specs.Journal.{Tells};
 ghost use Rattle.lsl_post.specs.Timer.{timing_of};
@@ -13,7 +13,7 @@ ghost use Rattle.lsl_script.specs.Scripts.{Script as Source, ring_to};
 ghost use Rattle.lsl_post.specs.declared.parts.ScriptParts.{ScriptParts as Parts};
 ghost use Rattle.lsl_region.specs.declared.grid.Seat.{Seat as Place};
 ghost use Rattle.lsl_region.specs.Grids.{AreSeated, FitsSeat, Stands, is_out};
-ghost use Rattle.lsl_region.specs.Hearing.{IsMarked};
+ghost use Rattle.lsl_region.specs.Hearing.{HasRow};
 ghost use Rattle.lsl_region.specs.Posting.{ring_at};
 ghost use Rattle.lsl_region.specs.Segments.{is_ready_at};
 ghost use Rattle.lsl_region.specs.Timers.{next_due};
@@ -68,7 +68,7 @@ fn ring_seat(
         Tells result (λ t _. seat.new ≡ Some (parts_of codes t)) out.old out.new
         (ring_to (rules_of codes) number clock s) }
     ensures fits { OnOk result (FitsSeat unit.now seat.new) }
-    ensures marked { (row : List Bool) → IsMarked row seat.old → IsMarked row seat.new }
+    ensures row { (row : List ℤ) → HasRow row seat.old → HasRow row seat.new }
 {
     match seat {
         Some(script) => ring_script(alloc, script, number, clock, unit, out),

@@ -9,7 +9,7 @@ use Rattle.lsl_region.specs.declared.grid.Seat.{Seat}
 use Rattle.lsl_region.specs.Grids.{Contents, AreSeated, FitsSeat, Stands, seat_of, unit_number}
 use Rattle.lsl_region.specs.Posting.{admits}
 use Rattle.lsl_region.specs.Worlds.{Member, World}
-use Rattle.lsl_region.proofs.Marked.{marked-kept}
+use Rattle.lsl_region.proofs.Told.{row-kept}
 use Rattle.lsl_region.proofs.Placed.{changed, sits}
 use Rattle.lsl_region.proofs.Posts.{admits-is, if-script, post-none, post-script, same-script, thing-meant}
 use Rattle.std.proofs.lemmas.Option.{slice_get-get_or, slice_get_within}
@@ -59,8 +59,8 @@ invariant_of-self c =
     let at = read-at c.self.inside.seats.items c.args.place seat h c.index_mut-seat.ensures.value in (
       placed-set c.self.inside.objects.items c.self.inside.seats.items c.args.place seat _ at refl refl
           c.self.invariant.0,
-      marked-kept c.self.inside.hearers c.self.inside.seats.items c.args.place _ h
-          (c.post_seat.ensures.marked _ (c.self.invariant.1.marked c.args.place seat at)) c.self.invariant.1,
+      row-kept c.self.inside.hearers c.self.inside.seats.items c.args.place _ h
+          (c.post_seat.ensures.row _ (c.self.invariant.1.each c.args.place seat at)) c.self.invariant.1,
     )
 
 pub returns-clause-does : goal.returns-clause-does

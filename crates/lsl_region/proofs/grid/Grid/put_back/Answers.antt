@@ -2,12 +2,12 @@ use Rattle.std.proofs.Common.{◌<◌, ◌∙◌, ap, length, map, refl, rules}
 use Rattle.std.specs.Prelude.{Some}
 use Rattle.std.proofs.Math.ListN.{length-set}
 use Rattle.lsl_post.specs.declared.parts.ScriptParts.{ScriptParts}
-use Rattle.lsl_region.specs.Classes.{listens_on}
+use Rattle.lsl_region.specs.Hearing.{listens_on}
 use Rattle.lsl_region.specs.declared.grid.Seat.{Seat}
 use Rattle.lsl_region.specs.Grids.{Contents, unit_number}
 use Rattle.lsl_region.specs.Turning.{with_seated}
 use Rattle.lsl_region.proofs.Coming.{seat-is}
-use Rattle.lsl_region.proofs.Marked.{marked-told}
+use Rattle.lsl_region.proofs.Told.{row-told}
 use Rattle.lsl_region.proofs.Seats.{placed-set, read-at, units-set}
 use Rattle.lsl_region.proofs.grid.Grid.put_back.Goals as goal
 
@@ -16,11 +16,11 @@ invariant_of-self c =
     let h : c.args.place < length c.self.inside.seats.items = search (rules, c.requires) in (
       placed-set c.self.inside.objects.items c.self.inside.seats.items c.args.place c.index_mut.result.now _
           (read-at c.self.inside.seats.items c.args.place _ h c.index_mut.ensures.value) refl refl c.self.invariant.0,
-      marked-told c.self.inside.hearers c.tell.new.self c.self.inside.seats.items c.args.place _
-          c.classes_of-classes.result h
+      row-told c.self.inside.hearers c.tell.new.self c.self.inside.seats.items c.args.place _
+          c.channels_of-channels.result h
           c.tell.ensures
-          (λ class h. c.classes_of-classes.ensures class h
-          ∙ ap (λ (parts : ScriptParts). listens_on class parts.listens) c.parts.ensures) c.self.invariant.1,
+          (λ channel. c.channels_of-channels.ensures.told channel
+          ∙ ap (λ (parts : ScriptParts). listens_on channel parts.listens) c.parts.ensures) c.self.invariant.1,
     )
 
 pub returns : goal.returns

@@ -9,7 +9,7 @@ use Rattle.lsl_script.specs.Scripts.{ring_to}
 use Rattle.lsl_region.specs.declared.grid.Seat.{Seat}
 use Rattle.lsl_region.specs.Grids.{AreSeated, Contents, FitsSeat, Stands}
 use Rattle.lsl_region.specs.Worlds.{Member, World}
-use Rattle.lsl_region.proofs.Marked.{marked-kept}
+use Rattle.lsl_region.proofs.Told.{row-kept}
 use Rattle.lsl_region.proofs.Placed.{changed}
 use Rattle.lsl_region.proofs.Rings.{ring-script, rings-same}
 use Rattle.lsl_region.proofs.Results.{OnOk-map}
@@ -41,8 +41,8 @@ invariant_of-self c =
     let at = read-at c.self.inside.seats.items c.args.place seat h c.index_mut-seat.ensures.value in (
       placed-set c.self.inside.objects.items c.self.inside.seats.items c.args.place seat _ at refl refl
           c.self.invariant.0,
-      marked-kept c.self.inside.hearers c.self.inside.seats.items c.args.place _ h
-          (c.ring_seat.ensures.marked _ (c.self.invariant.1.marked c.args.place seat at)) c.self.invariant.1,
+      row-kept c.self.inside.hearers c.self.inside.seats.items c.args.place _ h
+          (c.ring_seat.ensures.row _ (c.self.invariant.1.each c.args.place seat at)) c.self.invariant.1,
     )
 
 pub returns-clause-does : goal.returns-clause-does

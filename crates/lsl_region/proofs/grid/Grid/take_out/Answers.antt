@@ -3,10 +3,10 @@ use Rattle.std.specs.Prelude.{Option, None}
 use Rattle.lsl_post.specs.declared.parts.ScriptParts.{ScriptParts}
 use Rattle.lsl_region.specs.declared.grid.Seat.{Seat}
 use Rattle.lsl_region.specs.Grids.{Contents, unit_number}
-use Rattle.lsl_region.specs.Hearing.{IsMarked}
+use Rattle.lsl_region.specs.Hearing.{HasRow}
 use Rattle.lsl_region.specs.Turning.{with_seated}
 use Rattle.lsl_region.proofs.Coming.{seat-is}
-use Rattle.lsl_region.proofs.Marked.{marked-kept}
+use Rattle.lsl_region.proofs.Told.{row-kept}
 use Rattle.lsl_region.proofs.Seats.{placed-set, read-at, units-set}
 use Rattle.lsl_region.proofs.grid.Grid.take_out.Goals as goal
 
@@ -15,8 +15,8 @@ invariant_of-self c =
     let h : c.args.place < length c.self.inside.seats.items = search (rules, c.requires) in (
       placed-set c.self.inside.objects.items c.self.inside.seats.items c.args.place c.index_mut.result.now _
           (read-at c.self.inside.seats.items c.args.place _ h c.index_mut.ensures.value) refl refl c.self.invariant.0,
-      marked-kept c.self.inside.hearers c.self.inside.seats.items c.args.place _ h
-          (subst (λ (script : Option ScriptParts). IsMarked (get_or c.self.inside.hearers c.args.place []) script)
+      row-kept c.self.inside.hearers c.self.inside.seats.items c.args.place _ h
+          (subst (λ (script : Option ScriptParts). HasRow (get_or c.self.inside.hearers c.args.place []) script)
           (sym c.take.ensures.after) tt) c.self.invariant.1,
     )
 
