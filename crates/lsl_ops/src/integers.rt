@@ -19,6 +19,7 @@ pub fn unary(op: UnaryOp, n: i32) -> i32
 
 /// What the operator between two integers gives, or nothing where it divides by 0
 /// (<https://wiki.secondlife.com/wiki/LSL_Operators>). Takes no memory.
+#[inline(always)]
 pub fn checked_arithmetic(op: BinaryOp, left: i32, right: i32) -> Option<i32>
     ensures value { IfSome result (λ n. n ≡ arithmetic_of op left right) }
     ensures nothing { result ≡ None ↔ IsTrue (has_zero_divisor op right) }
@@ -30,6 +31,7 @@ pub fn checked_arithmetic(op: BinaryOp, left: i32, right: i32) -> Option<i32>
 }
 
 /// Whether the operator divides by this integer, and it is 0.
+#[inline(always)]
 fn divides_by_zero(op: BinaryOp, right: i32) -> bool
     ensures { result ≡ has_zero_divisor op right }
 {
@@ -37,6 +39,7 @@ fn divides_by_zero(op: BinaryOp, right: i32) -> bool
 }
 
 /// What the operator between two integers gives.
+#[inline(always)]
 fn arithmetic(op: BinaryOp, left: i32, right: i32) -> i32
     requires { has_zero_divisor op right ≡ false }
     ensures { result ≡ arithmetic_of op left right }
