@@ -2,7 +2,7 @@
 //! definition comes to, and looks at nothing but the unit.
 #![tactic(auto)]
 
-ghost use Rattle.std.specs.Prelude.{◌≡◌, ◌≢◌, ◌<◌, ◌≤◌, [], ◌∷◌, ◌-◌, ℕ, List, length, slice_get, IfOk, OnErr};
+ghost use Rattle.std.specs.Prelude.{◌≡◌, ◌≢◌, ◌<◌, ◌≤◌, [], ◌∷◌, ◌-◌, ◌+◌, ℕ, true, false, List, length, slice_get, IfOk, OnErr};
 ghost use Rattle.lsl_value.specs.declared.tagged.Value.{Value as Tagged};
 ghost use Rattle.lsl_running.specs.Charging.{default_limit};
 ghost use Rattle.lsl_running.specs.declared.host.Reply.{Reply};
@@ -134,6 +134,31 @@ impl Machine {
         let halt = self.running.halt(self.standing, unit);
         self.standing = standing_at(&halt);
         halt
+    }
+
+    /// Passes the tick before which the machine stands, and goes on while it meets nothing but integers and calls of
+    /// functions: whether it stands before a tick again then. Else it can run on from where it came to.
+    #[inline(always)]
+    pub fn pass_tick(&mut self, unit: &Woven) -> bool
+        requires stands { self.old.standing ≡ Standing.AtTick }
+        requires of { IsOf unit.now self.old }
+        ensures runs { (ticks : ℕ) (answers : List Reply) →
+            halt_from self.old.standing (bodies_of unit.now) self.old.machine (1 + ticks) answers
+            ≡ halt_from self.new.standing (bodies_of unit.now) self.new.machine ticks answers }
+        ensures ticks { result ≡ true → self.new.standing ≡ Standing.AtTick }
+        ensures cut { result ≡ true → StandsCut (bodies_of unit.now) self.new }
+        ensures ready { result ≡ false → self.new.standing ≡ Standing.Ready }
+        ensures silent { self.new.machine.answers ≡ [] }
+        ensures of { IsOf unit.now self.new }
+        ensures chained { (handler : ℕ) → IsChained (bodies_of unit.now) handler self.old →
+            IsChained (bodies_of unit.now) handler self.new }
+        ensures charged { IsCharged self.new }
+    {
+        if self.running.goes_to_tick(unit) {
+            return true;
+        }
+        self.standing = Standing::Ready;
+        false
     }
 
     /// Gives the answer to what was asked for: a value of the call's result, or none where it has none. Takes

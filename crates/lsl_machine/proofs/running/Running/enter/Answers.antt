@@ -1,4 +1,4 @@
-use Rattle.std.proofs.Common.{map, ◌≡◌, ◌∙◌, refl, ap, arith, ℕ, ◌+◌, ◌-◌, ◌++◌, length, take, drop}
+use Rattle.std.proofs.Common.{map, ◌≡◌, ◌∙◌, refl, ap, arith, ℕ, ◌+◌, ◌-◌, List, [], ◌∷◌, ◌++◌, length, take, drop}
 use Rattle.lsl_running.specs.Charging.{charges_of}
 use Rattle.lsl_running.specs.Values.{empty_of}
 use Rattle.lsl_code.specs.WovenBodies.{woven_body}
@@ -108,8 +108,8 @@ returns-then-more-free-clause-done c point g f place sl ops outer h =
     (ap {A = ℕ} (λ k. 32 + k) (c.empties_charge-more.ensures.value ∙ ap (λ l. charges_of (map empty_of l)) kd))
     (omega arith)
 
-pub returns-in-Ok-push-clause-done : goal.returns-in-Ok-push-clause-done
-returns-in-Ok-push-clause-done c point g f place sl ops outer h =
+pub returns-clause-done : goal.returns-clause-done
+returns-clause-done c point g f place sl ops outer h =
     let fn = woven_body c.index-functions-callee.result in
     let st = c.args.self.now.stack in
     let lenis : c.len.result ≡ length st.items = c.len.ensures ∙ st.ok.0 in
@@ -131,7 +131,10 @@ returns-in-Ok-push-clause-done c point g f place sl ops outer h =
     (body_at c.args.functions.now c.args.callee c.index-functions-callee.result c.if-callee-functions.false
     c.index-functions-callee.is)
     (ap {A = ℕ} (λ k. 32 + k) (c.empties_charge-more.ensures.value ∙ ap (λ l. charges_of (map empty_of l)) kd))
-    (omega arith) n (c.in-Ok.ensures.pushed ∙ ap (λ l. st.items ++ map empty_of l) kd) c.in-Ok-push.ensures.items refl
+    (omega arith) n (c.in-Ok-push_empties.ensures.pushed ∙ ap (λ l. st.items ++ map empty_of l) kd) (c.push_reserved.ensures.items ∙ ap (λ (l : List Activation). l ++ record c.args.self.now.active {
+      place = c.args.self.now.active.place + 1;
+      charge = c.args.self.now.active.charge - c.charges_of-given.result;
+    } ∷ []) c.reserve.ensures.items) refl
     (c.charges_of-given.ensures ∙ ap charges_of above)
     (ap {A = ℕ} {B = Activation}
     (λ x. record {
@@ -139,7 +142,7 @@ returns-in-Ok-push-clause-done c point g f place sl ops outer h =
       place = 0;
       base = x - c.least.result;
       floor =
-          c.len-in-Ok-push.result;
+          c.len-5.result;
       charge = c.args.self.now.active.charge + (32 + c.empties_charge-more.result);
     })
     len2 ∙ ap {A = ℕ} {B = Activation}
@@ -151,4 +154,4 @@ returns-in-Ok-push-clause-done c point g f place sl ops outer h =
           x;
       charge = c.args.self.now.active.charge + (32 + c.empties_charge-more.result);
     })
-    (c.len-in-Ok-push.ensures ∙ c.push_empties.new.stack.ok.0)) refl refl refl
+    (c.len-5.ensures ∙ c.push_empties.new.stack.ok.0)) refl refl refl
