@@ -22,7 +22,7 @@ use Rattle.lsl_script.specs.Closing.{ClosesAs}
 use Rattle.lsl_script.specs.Codes.{Meant, rules_of}
 use Rattle.lsl_script.specs.Handlers.{ended, event_due, failed, going_of, gone, take_next, ticked, with_event_due, with_flight}
 use Rattle.lsl_script.specs.Lawful.{AsksAtMost, Lawful}
-use Rattle.lsl_script.specs.Lives.{entries_of_closing, entries_of_taking}
+use Rattle.lsl_script.specs.Lives.{Rests, entries_of_closing, entries_of_taking}
 use Rattle.lsl_script.specs.Parts.{parts_of}
 use Rattle.lsl_script.specs.Rules.{Rules}
 use Rattle.lsl_script.specs.Scripts.{Doing, Flight, Flying, Resting, Script, Stopped, handles}
@@ -217,6 +217,10 @@ module _ (codes : List Code) (unit : Code) (clock place : ℕ) (grid : Contents)
               (m.most s.code (h.stands.scripts place h.member h.at).known)
               (rests_asks codes unit s h.flight live h.rests);
         }
+
+    pub held-rests : Rests codes unit held-goes.member.script h.flight live
+    unfolding held-goes
+    held-rests = h.rests
 
   -- one that began has a flight
   module _ (b : Begins codes unit clock place grid live w) where

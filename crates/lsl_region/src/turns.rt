@@ -13,7 +13,7 @@ ghost use Rattle.lsl_region.specs.Worlds.{World};
 use crate::grid::Grid;
 use lsl_code::{Library, Woven};
 use lsl_post::Entries;
-use lsl_script::{Live, Turn};
+use lsl_script::Live;
 use lsl_text::NoMemory;
 
 impl Grid {
@@ -91,10 +91,13 @@ impl Grid {
         ensures units { map unit_number self.new.seats ≡ map unit_number self.old.seats }
     {
         match live {
-            Some(awake) => match awake.go(unit) {
-                Turn::AtTick => Ok(()),
-                turn => self.go_on(place, live, turn, clock, library, unit, out),
-            },
+            Some(awake) => {
+                if awake.pass_tick(unit) {
+                    return Ok(());
+                }
+                let turn = awake.go(unit);
+                self.go_on(place, live, turn, clock, library, unit, out)
+            }
             None => self.first_segment(place, live, clock, library, unit, out),
         }
     }

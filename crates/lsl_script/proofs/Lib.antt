@@ -23,3 +23,4 @@ pub mod Firsts
 pub mod Meant
 pub mod Readies
 pub mod News
+pub mod Passing

@@ -7,6 +7,7 @@ ghost use Rattle.lsl_running.specs.declared.host.Reply.TheVariants as reply;
 ghost use Rattle.lsl_code.specs.Bodies.{Body};
 ghost use Rattle.lsl_code.specs.declared.woven_units.Woven.{Woven as Code};
 ghost use Rattle.lsl_machine.specs.Futures.{ticks_passed};
+ghost use Rattle.lsl_machine.specs.declared.standing.Standing.TheVariants as standings;
 ghost use Rattle.lsl_machine.specs.State.{CanRun, Wants, asks_ahead, bodies_of};
 ghost use Rattle.lsl_post.specs.declared.timer.Timer.{Timer as Ticking};
 ghost use Rattle.lsl_post.specs.Listens.{Standing};
@@ -100,6 +101,24 @@ impl Live {
         } else {
             self.go_on(unit)
         }
+    }
+
+    /// Passes the tick at which the script stands, and goes on while its machine meets nothing but integers and calls of
+    /// functions: whether it stands at a tick again then. Else it can go on from where it came to.
+    #[inline(always)]
+    pub fn pass_tick(&mut self, unit: &Woven) -> bool
+        requires stands { self.old.machine.standing ≡ standings.AtTick }
+        requires awake { IsAwake unit.now self.old }
+        ensures awake { IsAwake unit.now self.new }
+        ensures ticks { result ≡ true → self.new.machine.standing ≡ standings.AtTick }
+        ensures able { CanRun self.new.machine.standing }
+        ensures beside { IsBeside self.old self.new }
+        ensures source { result ≡ true → (codes : List Code) (s : Source) (f : Flight) →
+            Rests codes unit.now s f self.old → Turns codes unit.now s f Turn.AtTick self.new }
+        ensures goes { result ≡ false → (codes : List Code) (s : Source) (f : Flight) →
+            Rests codes unit.now s f self.old → Lives codes unit.now s f self.new }
+    {
+        self.machine.pass_tick(unit)
     }
 
     // From the handler's start: to its first tick, and then on.
