@@ -138,6 +138,8 @@ impl Machine {
 
     /// Passes the tick before which the machine stands, and goes on while it meets nothing but integers and calls of
     /// functions: whether it stands before a tick again then. Else it can run on from where it came to.
+    ///
+    /// Takes memory only to enter a function, and where that is wanting it stops before it.
     #[inline(always)]
     pub fn pass_tick(&mut self, unit: &Woven) -> bool
         requires stands { self.old.standing ≡ Standing.AtTick }

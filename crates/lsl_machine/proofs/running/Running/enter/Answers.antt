@@ -1,4 +1,4 @@
-use Rattle.std.proofs.Common.{map, ◌≡◌, ◌∙◌, refl, ap, arith, ℕ, ◌+◌, ◌-◌, List, [], ◌∷◌, ◌++◌, length, take, drop}
+use Rattle.std.proofs.Common.{map, ◌≡◌, ◌∙◌, refl, ap, arith, ℕ, ◌+◌, ◌-◌, [], ◌∷◌, ◌++◌, length, take, drop}
 use Rattle.lsl_running.specs.Charging.{charges_of}
 use Rattle.lsl_running.specs.Values.{empty_of}
 use Rattle.lsl_code.specs.WovenBodies.{woven_body}
@@ -126,15 +126,17 @@ returns-clause-done c point g f place sl ops outer h =
     ∙ ap (drop (length fn.params)) c.as_slice-2.ensures in
     let lt = c.if-more-free.false in
     let free = c.free-free.ensures in
+    let caller : Activation = record c.args.self.now.active {
+      place = c.args.self.now.active.place + 1;
+      charge = c.args.self.now.active.charge - c.charges_of-given.result;
+    } in
+    let pushed = c.push_reserved.ensures.items ∙ ap (λ l. l ++ caller ∷ []) c.reserve.ensures.items in
     entered_in c.args.self.now _ (map woven_body c.args.functions.now) fn c.args.callee
     (32 + c.empties_charge-more.result) c.charges_of-given.result c.least.result _ g f place sl ops outer h
     (body_at c.args.functions.now c.args.callee c.index-functions-callee.result c.if-callee-functions.false
     c.index-functions-callee.is)
     (ap {A = ℕ} (λ k. 32 + k) (c.empties_charge-more.ensures.value ∙ ap (λ l. charges_of (map empty_of l)) kd))
-    (omega arith) n (c.in-Ok-push_empties.ensures.pushed ∙ ap (λ l. st.items ++ map empty_of l) kd) (c.push_reserved.ensures.items ∙ ap (λ (l : List Activation). l ++ record c.args.self.now.active {
-      place = c.args.self.now.active.place + 1;
-      charge = c.args.self.now.active.charge - c.charges_of-given.result;
-    } ∷ []) c.reserve.ensures.items) refl
+    (omega arith) n (c.in-Ok-push_empties.ensures.pushed ∙ ap (λ l. st.items ++ map empty_of l) kd) pushed refl
     (c.charges_of-given.ensures ∙ ap charges_of above)
     (ap {A = ℕ} {B = Activation}
     (λ x. record {
