@@ -1,6 +1,6 @@
-//! The lists that code is made of.
+//! The lists that code and world files are made of.
 
-ghost use Rattle.std.specs.Prelude.{◌≡◌, [], ◌∷◌, ◌++◌, length, take, slice_get, option_copied, IfOk, OnOk, OnErr};
+ghost use Rattle.std.specs.Prelude.{◌≡◌, ◌==◌, ◌<◌, ◌↔◌, [], ◌∷◌, ◌++◌, length, take, slice_get, option_copied, option_to_list, IfOk, IsSome, OnOk, OnErr};
 
 use lsl_text::NoMemory;
 use std::alloc::Global;
@@ -59,11 +59,26 @@ impl<T> Sequence<T> {
         self.list.len()
     }
 
+    /// Whether there is no element.
+    pub fn is_empty(&self) -> bool
+        ensures { result ≡ (length self.now == 0) }
+    {
+        self.list.is_empty()
+    }
+
     /// The element at this place, if there is one. Takes no memory.
     pub fn get(&self, place: usize) -> Option<&T>
         ensures { option_copied result ≡ slice_get self.now place }
     {
         self.list.get(place)
+    }
+
+    /// Takes the last element off, if there is one. Takes no memory.
+    pub fn pop(&mut self) -> Option<T>
+        ensures items { self.old ≡ self.new ++ option_to_list result }
+        ensures some { IsSome result ↔ (0 < length self.old) }
+    {
+        self.list.pop()
     }
 }
 

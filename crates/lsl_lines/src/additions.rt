@@ -10,7 +10,7 @@ use crate::faults::FileKind;
 use crate::fields::Field;
 use crate::file::PrimLine;
 use crate::keys::Keys;
-use crate::sequence::Sequence;
+use lsl_code::Sequence;
 use lsl_text::{NoMemory, Refusal};
 use lsl_value::Text;
 use std::alloc::{AllocError, Global};

@@ -1,6 +1,6 @@
 //! What a world file says: objects with their prims and scripts, files and steps.
 
-use crate::sequence::Sequence;
+use lsl_code::Sequence;
 use lsl_value::Text;
 
 /// A world file. Objects and scripts are numbered from 1 in the file's order.

@@ -7,7 +7,7 @@ use crate::additions::must;
 use crate::faults::FileKind;
 use crate::fields::{BAD_LINE, Field};
 use crate::file::{ObjectLine, PrimLine, ScriptLine};
-use crate::sequence::Sequence;
+use lsl_code::Sequence;
 
 /// How many prims an object has at most.
 const MAX_PRIMS: usize = 255;

@@ -30,7 +30,6 @@ pub mod laws;
 mod lines;
 mod not_yet;
 mod reading;
-mod sequence;
 mod steps;
 mod words;
 mod world;
@@ -39,7 +38,6 @@ pub use crate::faults::{FileFault, FileKind};
 pub use crate::file::{Gaps, ObjectLine, PrimLine, ScriptLine, Step, WorldFile};
 pub use crate::frozen::{NotFrozen, push_frozen, take_frozen};
 pub use crate::journal::{push_line, push_lines};
-pub use crate::sequence::Sequence;
 
 /// The world that a file tells, or the file's first fault.
 ///

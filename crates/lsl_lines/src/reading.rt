@@ -7,8 +7,8 @@ use crate::file::{ObjectLine, ScriptLine, Step};
 use crate::forms::{Line, parse_line};
 use crate::keys::Keys;
 use crate::lasts::{add_last_prim, add_last_script};
-use crate::sequence::Sequence;
 use crate::words::is_skipped;
+use lsl_code::Sequence;
 use lsl_value::Text;
 use std::alloc::Global;
 

@@ -6,8 +6,8 @@ ghost use Rattle.lsl_lines.specs.Reads.{Gives};
 
 use crate::fields::{BAD_LINE, Field, free, integer, key, name, natural, short};
 use crate::file::{Gaps, Step};
-use crate::sequence::Sequence;
 use crate::words::Word;
+use lsl_code::Sequence;
 use std::alloc::Global;
 
 /// The greatest clock, in milliseconds.

@@ -5,7 +5,7 @@ ghost use Rattle.lsl_lines.specs.Reads.{Gives, GivesBy, GivesWord, behind_of};
 ghost use Rattle.lsl_lines.specs.Words.{is_blank, is_skipped, escape_of, text_of, words_of, plain_words, quoted_words};
 
 use crate::faults::FileKind;
-use crate::sequence::Sequence;
+use lsl_code::Sequence;
 use lsl_text::Refusal;
 use lsl_value::Text;
 use std::alloc::Global;

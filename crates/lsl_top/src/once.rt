@@ -4,7 +4,8 @@ ghost use Rattle.std.specs.Str.{IsAscii};
 ghost use Rattle.lsl_value.specs.Limits.{most_text_bytes};
 ghost use Rattle.lsl_top.specs.Plays.{once_prim as the_prim, once_world as the_world};
 
-use lsl_lines::{ObjectLine, PrimLine, ScriptLine, Sequence, Step, WorldFile};
+use lsl_code::Sequence;
+use lsl_lines::{ObjectLine, PrimLine, ScriptLine, Step, WorldFile};
 use lsl_text::NoMemory;
 use lsl_value::Text;
 use std::alloc::Global;
