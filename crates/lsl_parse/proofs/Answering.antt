@@ -6,11 +6,11 @@ use Rattle.lsl_text.specs.declared.Span.{Span}
 use Rattle.lsl_lex.specs.declared.token_types.Token.{Token}
 use Rattle.lsl_tree.specs.Scripts.{Tree}
 use Rattle.lsl_grammar.specs.declared.Why.{Why}
-use Rattle.lsl_parse.specs.Limits.{most_constructs, most_tokens}
+use Rattle.lsl_signs.specs.Limits.{most_constructs, most_tokens}
 use Rattle.lsl_parse.specs.declared.fault.ParseKind.{ParseKind}
 use Rattle.lsl_parse.specs.declared.fault.ParseFault.{ParseFault}
-use Rattle.lsl_parse.specs.ScriptGrammar.{script}
-use Rattle.lsl_parse.specs.ScriptReading.{all_r}
+use Rattle.lsl_read.specs.ScriptGrammar.{script}
+use Rattle.lsl_read.specs.ScriptReading.{all_r}
 use Rattle.lsl_parse.specs.Faults.{Derives, ParseFirst, IsFirst, IsFaultAt, span_at}
 use Rattle.lsl_parse.specs.FaultReading.{fault_kind, large_fault, stop_fault, answer_to, answer_of}
 use Rattle.lsl_parse.proofs.Top.{Narrow, Reading, take_length}

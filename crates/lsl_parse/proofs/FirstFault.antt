@@ -9,15 +9,15 @@ use Rattle.lsl_grammar.specs.declared.Why.TheVariants as why
 use Rattle.lsl_grammar.specs.Reading.{◌>>=◌}
 use Rattle.lsl_grammar.proofs.ReadsLanguage.{ok_parts, err_parts}
 use Rattle.lsl_grammar.proofs.Rule.{no_ends}
-use Rattle.lsl_parse.specs.Limits.{most_constructs, most_tokens}
+use Rattle.lsl_signs.specs.Limits.{most_constructs, most_tokens}
 use Rattle.lsl_parse.specs.declared.fault.ParseKind.{ParseKind}
 use Rattle.lsl_parse.specs.declared.fault.ParseKind.TheVariants.{Unexpected, EndOfText, FloatType, TooDeep, TooLarge}
-use Rattle.lsl_parse.specs.Kinds.{token_code}
-use Rattle.lsl_parse.specs.ScriptGrammar.{script}
-use Rattle.lsl_parse.specs.ScriptReading.{script_r, end_r, all_r}
+use Rattle.lsl_signs.specs.Kinds.{token_code}
+use Rattle.lsl_read.specs.ScriptGrammar.{script}
+use Rattle.lsl_read.specs.ScriptReading.{script_r, end_r, all_r}
 use Rattle.lsl_parse.specs.Faults.{Derives, Shallow, Within, Breaks, ParseFirst, span_at}
 use Rattle.lsl_parse.specs.FaultReading.{fault_kind}
-use Rattle.lsl_parse.proofs.ExpressionRules.{probe}
+use Rattle.lsl_read.proofs.ExpressionRules.{probe}
 use Rattle.lsl_parse.proofs.Top.{Narrow, Reading, wide_rule, wide_same, not_open, foreign_behind, foreign_breaks, front, first_at, too_many, Stopped, stop_of, shallow_open, span-at, length_take_all}
 
 narrow : (u : List Token) (x : Tree) → (script Narrow most_constructs).whole u x → Shallow u

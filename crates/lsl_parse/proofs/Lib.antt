@@ -1,16 +1,3 @@
-pub mod ExpressionRules
-pub mod ExpressionStarts
-pub mod Munches
-pub mod Wholes
-pub mod StatementStarts
-pub mod BlockRules
-pub mod StatementRules
-pub mod ScriptRules
 pub mod Top
 pub mod FirstFault
-pub mod ExpressionLoops
-pub mod StatementLoops
-pub mod ScriptLoops
 pub mod Answering
-pub mod ExpressionLevels
-pub mod Dispatch

@@ -16,17 +16,17 @@ use Rattle.lsl_grammar.proofs.ReadsLanguage.{Past}
 use Rattle.lsl_grammar.proofs.Widening.{Sinks}
 use Rattle.lsl_grammar.proofs.Hints.{Hint}
 use Rattle.lsl_grammar.proofs.Rule.{Rule, no_ends, or_cases}
-use Rattle.lsl_parse.specs.Limits.{most_constructs, height_limit, most_tokens}
+use Rattle.lsl_signs.specs.Limits.{most_constructs, height_limit, most_tokens}
 use Rattle.lsl_lex.specs.declared.token_types.Sort.{Sort}
 use Rattle.lsl_parse.specs.declared.fault.ParseKind.{ParseKind}
 use Rattle.lsl_parse.specs.declared.fault.ParseKind.TheVariants.{Unexpected, FloatType, TooLarge}
-use Rattle.lsl_parse.specs.Kinds.{codes, token_code}
-use Rattle.lsl_parse.specs.ScriptGrammar.{script}
-use Rattle.lsl_parse.specs.ScriptReading.{header_heads, script_r}
+use Rattle.lsl_signs.specs.Kinds.{codes, token_code}
+use Rattle.lsl_read.specs.ScriptGrammar.{script}
+use Rattle.lsl_read.specs.ScriptReading.{header_heads, script_r}
 use Rattle.lsl_parse.specs.Faults.{Derives, Shallow, Open, WantsOperand, refused_words, IsFloatType, IsFloatTypeAt, Breaks, ParseFirst, span_at}
 use Rattle.lsl_parse.specs.FaultReading.{fault_kind}
-use Rattle.lsl_parse.proofs.ExpressionRules.{probe}
-use Rattle.lsl_parse.proofs.ScriptRules.{script_is_read}
+use Rattle.lsl_read.proofs.ExpressionRules.{probe}
+use Rattle.lsl_read.proofs.ScriptRules.{script_is_read}
 
 -- Lists
 

@@ -7,13 +7,13 @@ use Rattle.lsl_grammar.specs.declared.Why.{Why}
 use Rattle.lsl_grammar.specs.declared.Why.TheVariants as why
 use Rattle.lsl_grammar.specs.Language.{among}
 use Rattle.lsl_grammar.specs.Reading.{Read}
-use Rattle.lsl_parse.specs.Limits.{most_constructs, height_limit, most_tokens}
+use Rattle.lsl_signs.specs.Limits.{most_constructs, height_limit, most_tokens}
 use Rattle.lsl_lex.specs.declared.token_types.Sort.TheVariants.{Less}
 use Rattle.lsl_parse.specs.declared.fault.ParseKind.{ParseKind}
 use Rattle.lsl_parse.specs.declared.fault.ParseKind.TheVariants.{Unexpected, EndOfText, FloatType, TooDeep, TooLarge}
 use Rattle.lsl_parse.specs.declared.fault.ParseFault.{ParseFault}
-use Rattle.lsl_parse.specs.Kinds.{codes, token_code}
-use Rattle.lsl_parse.specs.ScriptReading.{all_r}
+use Rattle.lsl_signs.specs.Kinds.{codes, token_code}
+use Rattle.lsl_read.specs.ScriptReading.{all_r}
 use Rattle.lsl_parse.specs.Faults.{refused_words, span_at}
 
 -- by why the reader stopped, and the tokens from there on

@@ -6,14 +6,14 @@ use Rattle.lsl_text.specs.declared.Refusal.TheVariants as refusal
 use Rattle.lsl_lex.specs.declared.token_types.Token.{Token}
 use Rattle.lsl_tree.specs.Scripts.{Tree}
 use Rattle.lsl_grammar.specs.Language.{among}
-use Rattle.lsl_parse.specs.Limits.{most_constructs, height_limit, most_tokens}
+use Rattle.lsl_signs.specs.Limits.{most_constructs, height_limit, most_tokens}
 use Rattle.lsl_lex.specs.declared.token_types.Sort.{Sort}
 use Rattle.lsl_lex.specs.declared.token_types.Sort.TheVariants.{Int, FloatWord, VectorWord, RotationWord, QuaternionWord, Less}
 use Rattle.lsl_parse.specs.declared.fault.ParseKind.{ParseKind}
 use Rattle.lsl_parse.specs.declared.fault.ParseKind.TheVariants.{Unexpected, EndOfText, FloatType, TooDeep, TooLarge}
 use Rattle.lsl_parse.specs.declared.fault.ParseFault.{ParseFault}
-use Rattle.lsl_parse.specs.Kinds.{codes, token_code}
-use Rattle.lsl_parse.specs.ScriptGrammar.{script}
+use Rattle.lsl_signs.specs.Kinds.{codes, token_code}
+use Rattle.lsl_read.specs.ScriptGrammar.{script}
 
 -- the tokens are a script with this tree, within the limits
 pub record Derives (tokens : List Token) (tree : Tree) : Type 0 where

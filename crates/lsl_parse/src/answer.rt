@@ -4,18 +4,18 @@ ghost use Rattle.std.specs.Prelude.{◌≡◌, ◌<◌, ℕ, [], length, ◌∷�
 ghost use Rattle.lsl_tree.specs.Scripts as tree;
 ghost use Rattle.lsl_tree.specs.Scripts.{tree_of};
 ghost use Rattle.lsl_parse.specs.declared.fault.ParseKind.{ParseKind};
-ghost use Rattle.lsl_parse.specs.Limits.{height_limit, most_constructs, most_tokens};
-ghost use Rattle.lsl_parse.specs.ScriptReading.{all_r, end_r};
+ghost use Rattle.lsl_signs.specs.Limits.{height_limit, most_constructs, most_tokens};
+ghost use Rattle.lsl_read.specs.ScriptReading.{all_r, end_r};
 ghost use Rattle.lsl_parse.specs.Faults.{Derives, ParseFirst, IsFirst, IsFaultAt, IfFault, span_at};
 ghost use Rattle.lsl_parse.specs.FaultReading.{fault_kind, stop_fault, large_fault};
-ghost use Rattle.lsl_parse.specs.Parses.{Parses};
+ghost use Rattle.lsl_read.specs.Parses.{Parses};
 
 use crate::fault::{ParseFault, ParseKind};
-use crate::limits::{DEPTH, TOKENS};
-use crate::script::script;
-use crate::stop::Stop;
 use lsl_grammar::Why;
 use lsl_lex::{Sort, Token, Tokens};
+use lsl_read::script::script;
+use lsl_read::stop::Stop;
+use lsl_signs::{DEPTH, TOKENS};
 use lsl_text::{Refusal, Span};
 use lsl_tree::Tree;
 use std::alloc::Global;

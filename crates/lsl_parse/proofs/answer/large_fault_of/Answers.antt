@@ -1,6 +1,6 @@
 use Rattle.std.proofs.Common.{◌≡◌, ◌-◌, take, drop, length, ap, ◌∙◌}
 use Rattle.lsl_text.specs.declared.Span.{Span}
-use Rattle.lsl_parse.specs.Limits.{most_tokens}
+use Rattle.lsl_signs.specs.Limits.{most_tokens}
 use Rattle.lsl_parse.specs.declared.fault.ParseFault.{ParseFault}
 use Rattle.lsl_parse.specs.declared.fault.ParseKind.TheVariants.{TooLarge}
 use Rattle.lsl_parse.specs.Faults.{span_at}

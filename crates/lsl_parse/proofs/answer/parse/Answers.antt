@@ -1,7 +1,7 @@
 use Rattle.std.proofs.Common.{◌≡◌, ◌<◌, ◌≤◌, Some, [], length, Ok, Err, sym, ap, ◌∙◌, subst, rules}
-use Rattle.lsl_parse.specs.Limits.{most_constructs, height_limit, most_tokens}
+use Rattle.lsl_signs.specs.Limits.{most_constructs, height_limit, most_tokens}
 use Rattle.lsl_tree.specs.Scripts.{tree_of}
-use Rattle.lsl_parse.specs.ScriptReading.{all_r}
+use Rattle.lsl_read.specs.ScriptReading.{all_r}
 use Rattle.lsl_parse.specs.Faults.{IsFirst}
 use Rattle.lsl_parse.specs.FaultReading.{large_fault, stop_fault}
 use Rattle.lsl_parse.proofs.FirstFault.{every_same, every_none, no_first}

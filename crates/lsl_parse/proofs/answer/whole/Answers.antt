@@ -1,5 +1,5 @@
 use Rattle.std.proofs.Common.{rules}
-use Rattle.lsl_parse.specs.ScriptReading.{all_r}
+use Rattle.lsl_read.specs.ScriptReading.{all_r}
 use Rattle.lsl_parse.proofs.answer.whole.Goals as goal
 
 pub returns-in_err-tree : goal.returns-in_err-tree

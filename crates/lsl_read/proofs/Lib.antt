@@ -1,0 +1,13 @@
+pub mod ExpressionRules
+pub mod ExpressionStarts
+pub mod Munches
+pub mod Wholes
+pub mod StatementStarts
+pub mod BlockRules
+pub mod StatementRules
+pub mod ScriptRules
+pub mod ExpressionLoops
+pub mod StatementLoops
+pub mod ScriptLoops
+pub mod ExpressionLevels
+pub mod Dispatch

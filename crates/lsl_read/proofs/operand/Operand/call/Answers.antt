@@ -1,0 +1,16 @@
+use Rattle.std.proofs.Common.{◌≡◌, min, sym, subst, arith}
+use Rattle.lsl_tree.specs.Expressions.{Expr, height}
+use Rattle.lsl_signs.specs.Limits.{height_limit}
+use Rattle.lsl_tree.proofs.SyntaxRows.{expr_of-Call}
+use Rattle.lsl_read.proofs.operand.Operand.call.Goals as goal
+
+pub invariant_of-result : goal.invariant_of-result
+invariant_of-result c =
+    let P : Expr → Type 0 = λ x. c.raised.result ≡ min (height x) height_limit in
+    record {
+      capped = subst P (sym (expr_of-Call c.args.name c.args.arguments.exprs))
+          (omega (arith, c.raised.ensures, c.args.arguments.capped));
+    }
+
+pub returns : goal.returns
+returns c = expr_of-Call c.args.name c.args.arguments.exprs

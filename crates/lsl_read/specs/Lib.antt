@@ -1,0 +1,10 @@
+pub mod ExpressionGrammar
+pub mod ExpressionReading
+pub mod StatementGrammar
+pub mod StatementReading
+pub mod ScriptGrammar
+pub mod ScriptReading
+pub mod Parses
+pub use Rattle.lsl_signs.specs.Kinds
+pub use Rattle.lsl_signs.specs.Limits
+pub use Rattle.lsl_signs.specs.Operators

@@ -1,0 +1,8 @@
+//! The limits of a script, and the signs of its grammar with what they stand for.
+#![tactic(auto)]
+
+mod limits;
+mod signs;
+
+pub use crate::limits::{DEPTH, HEIGHT, TOKENS, grammar_limits};
+pub use crate::signs::{LEVELS, assign_op, binary_op, level_of, prefix_op, step_op, type_kind};
