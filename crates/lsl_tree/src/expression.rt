@@ -30,7 +30,6 @@ pub enum AssignOp {
 
 /// An expression. A span is that of the first token, of an operator's sign between operands, or of an
 /// assignment's sign.
-#[derive(Drop)]
 pub enum Expr {
     /// INT
     Int {
@@ -98,4 +97,51 @@ pub enum Expr {
         span: Span,
         value: Box<Expr>,
     },
+}
+
+impl Drop for Expr {
+    fn drop(self) {
+        match self {
+            Expr::Int { value: _, span: _ } => {}
+            Expr::Str { text: _, span: _ } => {}
+            Expr::Variable { name: _ } => {}
+            Expr::StepBehind { name: _, op: _ } => {}
+            Expr::StepBefore {
+                op: _,
+                span: _,
+                name: _,
+            } => {}
+            Expr::Call {
+                name: _,
+                arguments: _,
+            } => {}
+            Expr::List {
+                span: _,
+                elements: _,
+            } => {}
+            Expr::Parens { span: _, inner: _ } => {}
+            Expr::Cast {
+                span: _,
+                kind: _,
+                operand: _,
+            } => {}
+            Expr::Unary {
+                op: _,
+                span: _,
+                operand: _,
+            } => {}
+            Expr::Binary {
+                op: _,
+                span: _,
+                left: _,
+                right: _,
+            } => {}
+            Expr::Assign {
+                name: _,
+                op: _,
+                span: _,
+                value: _,
+            } => {}
+        }
+    }
 }

@@ -4,7 +4,6 @@ use crate::program_node::{Callee, Node};
 use lsl_value::Kind;
 
 /// An expression that stands as a statement: its value is dropped, or there is none.
-#[derive(Drop)]
 pub enum Effect {
     Value {
         node: Node,
@@ -18,7 +17,6 @@ pub enum Effect {
 }
 
 /// A statement. Lines are those of the text, at which a script may wait.
-#[derive(Drop)]
 pub enum Action {
     /// Statements of one block. The labels that stand directly in it are visible in all of it.
     Block {
@@ -85,4 +83,49 @@ pub struct Routine {
     /// The kinds of parameters and local variables, in the order of declaration.
     pub slots: Vec<Kind>,
     pub body: Vec<Action>,
+}
+
+impl Drop for Effect {
+    fn drop(self) {
+        match self {
+            Effect::Value { node: _ } => {}
+            Effect::Call {
+                callee: _,
+                line: _,
+                arguments: _,
+            } => {}
+        }
+    }
+}
+
+impl Drop for Action {
+    fn drop(self) {
+        match self {
+            Action::Block { actions: _ } => {}
+            Action::Effect { effect: _ } => {}
+            Action::Declare { slot: _, value: _ } => {}
+            Action::Label { label: _ } => {}
+            Action::If { test: _, then: _ } => {}
+            Action::IfElse {
+                test: _,
+                then: _,
+                otherwise: _,
+            } => {}
+            Action::Loop {
+                line: _,
+                test: _,
+                steps: _,
+                body: _,
+            } => {}
+            Action::Do {
+                line: _,
+                body: _,
+                test: _,
+            } => {}
+            Action::Jump { line: _, label: _ } => {}
+            Action::Return => {}
+            Action::ReturnValue { value: _ } => {}
+            Action::State { state: _ } => {}
+        }
+    }
 }

@@ -18,7 +18,6 @@ pub enum Callee {
 }
 
 /// An expression. Where its form doesn't tell its kind, it holds it; a cast that nobody wrote is a node like any other.
-#[derive(Drop)]
 pub enum Node {
     Int {
         value: i32,
@@ -87,6 +86,41 @@ impl Node {
             Node::Constant { kind, .. } | Node::Variable { kind, .. } => *kind,
             Node::Call { kind, .. } | Node::Cast { kind, .. } => *kind,
             Node::Binary { kind, .. } | Node::Assign { kind, .. } => *kind,
+        }
+    }
+}
+
+impl Drop for Node {
+    fn drop(self) {
+        match self {
+            Node::Int { value: _ } => {}
+            Node::Str { text: _ } => {}
+            Node::Constant { id: _, kind: _ } => {}
+            Node::Variable { place: _, kind: _ } => {}
+            Node::Call {
+                callee: _,
+                kind: _,
+                line: _,
+                arguments: _,
+            } => {}
+            Node::List { elements: _ } => {}
+            Node::Cast {
+                kind: _,
+                operand: _,
+            } => {}
+            Node::Unary { op: _, operand: _ } => {}
+            Node::Binary {
+                op: _,
+                kind: _,
+                left: _,
+                right: _,
+            } => {}
+            Node::Assign {
+                place: _,
+                kind: _,
+                value: _,
+            } => {}
+            Node::StepBehind { place: _, op: _ } => {}
         }
     }
 }

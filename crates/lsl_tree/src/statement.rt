@@ -13,7 +13,6 @@ pub enum StateName {
 
 /// What stands in a block.
 #[cycle(statement)]
-#[derive(Drop)]
 pub enum Item {
     /// TYPE NAME [ `=` expression ] `;`
     Declaration {
@@ -33,7 +32,6 @@ pub enum Item {
 
 /// A statement. The span is that of its first token.
 #[cycle(statement)]
-#[derive(Drop)]
 pub enum Stmt {
     /// `{` .. `}`
     Block {
@@ -93,4 +91,61 @@ pub enum Stmt {
         span: Span,
         state: StateName,
     },
+}
+
+impl Drop for Item {
+    #[cycle(drops)]
+    fn drop(self) {
+        match self {
+            Item::Declaration {
+                kind: _,
+                name: _,
+                value: _,
+            } => {}
+            Item::Label { name: _ } => {}
+            Item::Statement { statement: _ } => {}
+        }
+    }
+}
+
+impl Drop for Stmt {
+    #[cycle(drops)]
+    fn drop(self) {
+        match self {
+            Stmt::Block { items: _ } => {}
+            Stmt::Empty => {}
+            Stmt::Expression { value: _ } => {}
+            Stmt::If {
+                span: _,
+                test: _,
+                then: _,
+            } => {}
+            Stmt::IfElse {
+                span: _,
+                test: _,
+                then: _,
+                otherwise: _,
+            } => {}
+            Stmt::While {
+                span: _,
+                test: _,
+                body: _,
+            } => {}
+            Stmt::Do {
+                span: _,
+                body: _,
+                test: _,
+            } => {}
+            Stmt::For {
+                span: _,
+                start: _,
+                test: _,
+                step: _,
+                body: _,
+            } => {}
+            Stmt::Jump { span: _, label: _ } => {}
+            Stmt::Return { span: _, value: _ } => {}
+            Stmt::State { span: _, state: _ } => {}
+        }
+    }
 }
