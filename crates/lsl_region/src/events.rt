@@ -15,11 +15,12 @@ use std::alloc::Global;
 pub(crate) fn listen_event(alloc: Global, said: &Filter) -> Result<Event, NoMemory>
     ensures { IfOk result (λ event. event ≡ listen_event said.now) }
 {
+    let (name, id, message) = (said.name.copy()?, said.id.copy()?, said.message.copy()?);
     let args = vec![in alloc;
         Value::Int(said.channel),
-        Value::Str(said.name.copy()?),
-        Value::Key(said.id.copy()?),
-        Value::Str(said.message.copy()?),
+        Value::Str(name),
+        Value::Key(id),
+        Value::Str(message),
     ]?;
     Ok(Event {
         id: EventId::Listen,

@@ -1,13 +1,15 @@
 //! Touches: whose scripts they are for, and the events that they post.
 
-ghost use Rattle.std.specs.Prelude.{◌≡◌, ◌<◌, ◌≤◌, ◌-◌, ◌&&◌, ℕ, nat_eq, Some, None, length, get_or, slice_get, IfOk, OnOk};
+ghost use Rattle.std.specs.Prelude.{◌≡◌, ◌<◌, ◌≤◌, ◌-◌, ◌&&◌, ℕ, nat_eq, Some, None, false, length, get_or, slice_get, IfOk, OnOk};
 ghost use Rattle.std.specs.List.{list_any};
 ghost use Rattle.lsl_code.specs.declared.woven_units.Woven.{Woven as Code};
 ghost use Rattle.lsl_post.specs.Journal.{Tells};
 ghost use Rattle.lsl_post.specs.declared.parts.ScriptParts.{ScriptParts as Parts};
 ghost use Rattle.lsl_script.specs.Codes.{HasUnit, Meant};
+ghost use Rattle.lsl_script.specs.Fitting.{is_exit};
 ghost use Rattle.lsl_region.specs.Arrivals.{handles_touch, is_in_prim, touch, touch_prim, touched, touched_prim, toucher_of};
 ghost use Rattle.lsl_region.specs.Grids.{AreSeated, Stands};
+ghost use Rattle.lsl_region.specs.Posting.{admits, post_all};
 ghost use Rattle.lsl_region.specs.Touching.{has_touch};
 ghost use Rattle.lsl_region.specs.Worlds.{World, no_object};
 ghost use Rattle.lsl_region.specs.declared.grid.Seat.{Seat as Place};
@@ -17,7 +19,7 @@ use crate::events::{touch_end, touch_held, touch_start};
 use crate::grid::{Grid, Seat};
 use crate::links::{link_of, prim_numbered};
 use lsl_code::{Library, Woven};
-use lsl_post::{Entries, Toucher};
+use lsl_post::{Entries, Event, Toucher};
 use lsl_script::Script;
 use lsl_text::NoMemory;
 use lsl_value::{EventId, Text};
@@ -100,11 +102,29 @@ impl Grid {
     {
         let audience = Audience::Prim { object, prim };
         let start = touch_start(self.alloc, toucher)?;
-        self.post_all(&audience, &start, library, out)?;
+        self.post_one(&audience, start, library, out)?;
         let held = touch_held(self.alloc, toucher)?;
-        self.post_all(&audience, &held, library, out)?;
+        self.post_one(&audience, held, library, out)?;
         let end = touch_end(self.alloc, toucher)?;
-        self.post_all(&audience, &end, library, out)
+        self.post_one(&audience, end, library, out)
+    }
+
+    // Posts an event that is at hand for this alone.
+    fn post_one(
+        &mut self,
+        audience: &Audience,
+        event: Event,
+        library: &Library,
+        out: &mut Entries,
+    ) -> Result<(), NoMemory>
+        requires seated { AreSeated library.now self.old.seats }
+        requires other { is_exit event ≡ false }
+        ensures does { (m : Meant library.now) (clock : ℕ) (w : World) → Stands library.now None clock self.old w →
+            Tells result (λ v _. Stands library.now None clock self.new v) out.old out.new
+            (post_all m.rules (admits audience.now) event w) }
+        ensures seated { OnOk result (AreSeated library.now self.new.seats) }
+    {
+        self.post_all(audience, &event, library, out)
     }
 
     // The prim whose scripts a touch is for: the root where no script of the touched prim handles a touch.

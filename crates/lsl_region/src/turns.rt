@@ -37,17 +37,39 @@ impl Grid {
             (turn m.rules ticks (script - 1) w) }
         ensures seated { OnOk result (AreSeated library.now self.new.seats) }
     {
-        let place = script as usize - 1;
-        let unit = library.unit(self.seats[place].unit);
         let mut live = None;
+        self.turn_with(script as usize - 1, &mut live, ticks, clock, library, out)
+    }
+
+    // The same at this place, with room for the script while it is awake.
+    #[inline(never)]
+    fn turn_with(
+        &mut self,
+        place: usize,
+        live: &mut Option<Live>,
+        ticks: u32,
+        clock: u64,
+        library: &Library,
+        out: &mut Entries,
+    ) -> Result<u32, NoMemory>
+        requires place { place < length self.old.seats }
+        requires none { live.old ≡ None }
+        requires clock { clock ≤ latest_clock }
+        requires seated { AreSeated library.now self.old.seats }
+        ensures does { (m : Meant library.now) (w : World) → Stands library.now None clock self.old w →
+            Tells result (λ x n. Stands library.now None clock self.new x.0 × (n ≡ x.1)) out.old out.new
+            (turn m.rules ticks place w) }
+        ensures seated { OnOk result (AreSeated library.now self.new.seats) }
+    {
+        let unit = library.unit(self.seats[place].unit);
         for spent in 0..ticks {
-            if !self.is_ready_in_turn(place, &live, clock) {
-                self.settle(place, &mut live, unit)?;
+            if !self.is_ready_in_turn(place, live, clock) {
+                self.settle(place, live, unit)?;
                 return Ok(spent);
             }
-            self.segment(place, &mut live, clock, library, unit, out)?;
+            self.segment(place, live, clock, library, unit, out)?;
         }
-        self.settle(place, &mut live, unit)?;
+        self.settle(place, live, unit)?;
         Ok(ticks)
     }
 

@@ -1,18 +1,19 @@
-use Rattle.std.proofs.Common.{◌≡◌, ◌<◌, ◌∙◌, ◌-◌, ◌+◌, ℕ, length, ap, arith, refl, rules, sym}
-use Rattle.std.specs.Prelude.{not, slice_get}
+use Rattle.std.proofs.Common.{◌≡◌, ◌<◌, ◌∙◌, ◌-◌, ◌+◌, ℕ, length, ap, arith, refl, rules, subst, sym}
+use Rattle.std.specs.Prelude.{Option, not, slice_get}
 use Rattle.std.proofs.lemmas.Option.{slice_get_within}
 use Rattle.std.proofs.lemmas.Result.{MatchResult-from_err}
 use Rattle.lsl_post.proofs.Amid.{again-end, again-err, again-ok, again-start, again-stops}
+use Rattle.lsl_script.specs.declared.live.Live.{Live}
 use Rattle.lsl_region.specs.Grids.{Contents}
-use Rattle.lsl_region.specs.Turning.{InTurn}
+use Rattle.lsl_region.specs.Turning.{InTurn, IsHeld}
 use Rattle.lsl_region.specs.Worlds.{World}
 use Rattle.lsl_region.proofs.Seats.{read-at}
-use Rattle.lsl_region.proofs.grid.Grid.turn.Goals as goal
+use Rattle.lsl_region.proofs.grid.Grid.turn_with.Goals as goal
 
 pub unit-unit-requires : goal.unit-unit-requires
 unit-unit-requires c =
-    let place : ℕ = c.args.script - 1 in
-    let h : place < length c.self.inside.seats.items = search (rules, c.requires.first, c.requires.last) in
+    let place : ℕ = c.args.place in
+    let h : place < length c.self.inside.seats.items = search (rules, c.requires.place) in
     let k = c.requires.seated place c.index.result.now
     (ap (λ (g : Contents). slice_get g.seats place) (sym c.self.view_is)
     ∙ read-at c.self.inside.seats.items place _ h c.index.ensures) in
@@ -20,8 +21,8 @@ unit-unit-requires c =
 
 pub loop-spent-init : goal.loop-spent-init
 loop-spent-init c =
-    let place : ℕ = c.args.script - 1 in
-    let h : place < length c.self.inside.seats.items = search (rules, c.requires.first, c.requires.last) in
+    let place : ℕ = c.args.place in
+    let h : place < length c.self.inside.seats.items = search (rules, c.requires.place) in
     record {
       len = refl;
       seated = c.requires.seated;
@@ -32,8 +33,10 @@ loop-spent-init c =
         has = sym c.unit-unit.ensures.unit;
         weaves = c.unit-unit.ensures.weaves;
       };
-      held = tt;
-      again = λ m w st. again-start _ (w, 0) _ _ _ _ (st, refl);
+      held = subst (IsHeld c.unit-unit.result.now) (sym c.requires.none) tt;
+      again = λ m w st. again-start _ (w, 0) _ _ _ _
+          (subst (λ (l : Option Live). InTurn c.args.library.now c.unit-unit.result.now c.args.clock place c.args.self.now l w)
+          (sym c.requires.none) st, refl);
     }
 
 pub returns-then-not-is_ready_in_turn-clause-does : goal.returns-then-not-is_ready_in_turn-clause-does
@@ -61,7 +64,7 @@ pub loop-spent-preserved : goal.loop-spent-preserved
 loop-spent-preserved c =
     let codes = c.args.library.now in
     let unit = c.unit-unit.result.now in
-    let place : ℕ = c.args.script - 1 in
+    let place : ℕ = c.args.place in
     record {
       len = c.in_ok-segment.ensures.len ∙ c.loop-spent.invariant.len;
       seated = c.in_ok-segment.ensures.seated;

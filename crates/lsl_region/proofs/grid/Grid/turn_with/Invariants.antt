@@ -7,7 +7,7 @@ use Rattle.lsl_region.specs.Grids.{AreSeated, Stands}
 use Rattle.lsl_region.specs.Segments.{is_ready_at, segment, turn}
 use Rattle.lsl_region.specs.Turning.{InTurn, IsHeld, IsUnitAt}
 use Rattle.lsl_region.specs.Worlds.{World}
-use Rattle.lsl_region.proofs.grid.Grid.turn.Given as goal
+use Rattle.lsl_region.proofs.grid.Grid.turn_with.Given as goal
 
 abbrev pub invariant-loop-spent : goal.invariant-loop-spent
 invariant-loop-spent l =
