@@ -11,7 +11,7 @@ use std::marker::Model;
 
 /// A draft, which contracts see as its instructions with lines in place of points. Points are numbered in the order of
 /// the code, and there are at most 65,536.
-#[derive(Debug, Drop)]
+#[derive(Drop)]
 pub struct Draft {
     code: Vec<Instr>,
     lines: Vec<u32>,

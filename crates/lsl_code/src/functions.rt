@@ -15,7 +15,7 @@ pub struct Point {
 /// A function's code. `slots` begins with the parameters, `most` is the greatest count of operands, `lines` has each
 /// point's line in the text, and `stacks` has, per instruction, the kinds of the operands that stand before it, from
 /// the first pushed.
-#[derive(Debug, Drop)]
+#[derive(Drop)]
 pub struct FunctionCode {
     pub name: Text,
     pub params: Sequence<Kind>,

@@ -5,7 +5,7 @@ use lsl_value::{BinaryOp, BuiltinId, Kind, Text, UnaryOp};
 
 /// An instruction. Places are counted in instructions from the function's first, at 0; slots, globals, functions,
 /// states and resume points are named by their numbers, from 0.
-#[derive(Debug, Drop)]
+#[derive(Drop)]
 pub enum Instr {
     /// Pushes an integer.
     Int(i32),

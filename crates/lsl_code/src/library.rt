@@ -9,7 +9,7 @@ use std::alloc::Global;
 use std::marker::Model;
 
 /// A list of units that weave, numbered from 0.
-#[derive(Debug, Drop)]
+#[derive(Drop)]
 pub struct Library {
     units: Vec<Woven>,
 }

@@ -10,7 +10,7 @@ use lsl_value::Values;
 
 /// A script's code: the digest of its text, the initial globals, its states, the first of which it begins in, and its
 /// functions. Every instruction finds the operands, slots, globals, functions, states and points that it needs.
-#[derive(Debug, Drop)]
+#[derive(Drop)]
 pub struct Unit {
     pub digest: [u8; 32],
     pub globals: Values,

@@ -8,7 +8,7 @@ use lsl_value::{Kind, Text};
 /// A function's code with code that saves and restores its calls. `running`, `saving` and `restoring` have, per
 /// instruction, the kinds of the operands that stand before it, from the first pushed, while the machine runs, saves
 /// and restores, and none where it never stands before it then. The others are as in `FunctionCode`.
-#[derive(Debug, Drop)]
+#[derive(Drop)]
 pub struct WovenCode {
     pub name: Text,
     pub params: Sequence<Kind>,

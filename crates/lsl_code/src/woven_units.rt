@@ -18,7 +18,7 @@ use lsl_value::{EventId, Values};
 /// points that it needs. From each tick and each call the code saves the call there, with each slot and each waiting
 /// operand once, and from its start it restores a call at each point, each value to one of its kind. Which of two
 /// values of one kind goes where is the code's affair.
-#[derive(Debug, Drop)]
+#[derive(Drop)]
 pub struct Woven {
     pub digest: [u8; 32],
     pub globals: Values,
