@@ -17,7 +17,7 @@ use Rattle.lsl_code.specs.Laws.{after_ticks, with_answers, after_answers, hosts,
 use Rattle.lsl_code.specs.Wholes.{begun, started}
 use Rattle.lsl_code.proofs.Acts.{act_by}
 use Rattle.lsl_code.proofs.Asked.{by_due}
-use Rattle.lsl_code.specs.Asking.{code_of, due_of, due_at, due_in}
+use Rattle.lsl_code.specs.Asking.{code_of, due_of, due_in}
 use Rattle.lsl_code.proofs.Due.{due_any}
 use Rattle.lsl_code.proofs.FewCalls.{Few, FewNext, step_few}
 use Rattle.lsl_code.proofs.Further.{Same, step_in_same, answers_law}
