@@ -57,7 +57,7 @@ pub struct Parked {
 }
 
 /// A handler that runs. A contract sees the definition's machine, and where it stands.
-#[derive(Debug, Drop)]
+#[derive(Drop)]
 pub struct Machine {
     running: Running,
     standing: Standing,

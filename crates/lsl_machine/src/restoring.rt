@@ -25,7 +25,7 @@ use std::alloc::Global;
 
 /// The calls that are restored so far, the point and the values of the frame in hand, of which the next stands last,
 /// and the frames that are left. Of the innermost call the charge is kept that the calls around it have.
-#[derive(Debug, Drop)]
+#[derive(Drop)]
 pub struct Restorer {
     pub alloc: Global,
     pub active: Activation,

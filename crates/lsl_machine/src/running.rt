@@ -5,7 +5,7 @@ use lsl_value::Value;
 use std::alloc::Global;
 
 /// A call: where its slots and its operands begin in the one vector, and what is charged of all up to it.
-#[derive(Clone, Copy, Debug)]
+#[derive(Clone, Copy)]
 pub struct Activation {
     pub function: u16,
     pub place: usize,
@@ -16,7 +16,7 @@ pub struct Activation {
 
 /// The globals with their charge, the limit, the call in hand, the calls around it from the outermost, and what all of
 /// them hold.
-#[derive(Debug, Drop)]
+#[derive(Drop)]
 pub struct Running {
     pub alloc: Global,
     pub globals: Vec<Value>,
@@ -28,7 +28,7 @@ pub struct Running {
 }
 
 /// What one instruction comes to.
-#[derive(Debug, Drop)]
+#[derive(Drop)]
 pub enum Step {
     Goes,
     Ticks,

@@ -20,7 +20,7 @@ use std::mem::replace;
 
 /// A call on its way to a frame, above the calls that wait for it. The values that are kept so far stand in hand, the
 /// one kept first at the front.
-#[derive(Debug, Drop)]
+#[derive(Drop)]
 pub struct Saver {
     pub alloc: Global,
     pub active: Activation,

@@ -9,7 +9,7 @@ use lsl_running::{Call, Fault, Outcome};
 use lsl_value::BuiltinId;
 
 /// Where a machine stands between calls.
-#[derive(Clone, Copy, Debug, PartialEq, Eq)]
+#[derive(Clone, Copy)]
 pub enum Standing {
     /// It was begun or answered, and can run.
     Ready,
