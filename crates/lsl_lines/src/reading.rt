@@ -27,6 +27,29 @@ pub enum Part {
     Ended,
 }
 
+impl Part {
+    ghost use Rattle.std.specs.Prelude.{◌≡◌};
+    ghost use Rattle.lsl_lines.specs.Reading.{is_objects, is_steps};
+
+    fn is_objects(self) -> bool
+        ensures { result ≡ is_objects self }
+    {
+        match self {
+            Part::Objects => true,
+            Part::Steps | Part::Ended => false,
+        }
+    }
+
+    fn is_steps(self) -> bool
+        ensures { result ≡ is_steps self }
+    {
+        match self {
+            Part::Steps => true,
+            Part::Objects | Part::Ended => false,
+        }
+    }
+}
+
 /// What was read so far.
 #[derive(Drop)]
 pub struct Reading {
@@ -42,8 +65,8 @@ pub struct Reading {
 }
 
 impl Reading {
-    ghost use Rattle.std.specs.Prelude.{◌≡◌};
-    ghost use Rattle.lsl_lines.specs.Reading.{begun, is_objects, is_steps, object_added, prim_added, script_added, step_added, line_added, read_line};
+    ghost use Rattle.std.specs.Prelude.{◌≡◌, ◌++◌, ◌∷◌, []};
+    ghost use Rattle.lsl_lines.specs.Reading.{begun, clock_behind, object_added, prim_added, script_added, step_added, line_added, read_line};
     ghost use Rattle.lsl_lines.specs.Reads.{Makes};
 
     /// Nothing yet. Takes no memory.
@@ -91,7 +114,7 @@ impl Reading {
     fn begin(&mut self) -> Field<()>
         ensures { Makes result self.new (line_added Line.Begin self.old) }
     {
-        must(self.in_objects(), FileKind::BadLine)?;
+        must(self.part.is_objects(), FileKind::BadLine)?;
         self.part = Part::Steps;
         Ok(())
     }
@@ -99,21 +122,9 @@ impl Reading {
     fn end(&mut self) -> Field<()>
         ensures { Makes result self.new (line_added Line.End self.old) }
     {
-        must(self.in_steps(), FileKind::BadLine)?;
+        must(self.part.is_steps(), FileKind::BadLine)?;
         self.part = Part::Ended;
         Ok(())
-    }
-
-    fn in_objects(&self) -> bool
-        ensures { result ≡ is_objects self.now.part }
-    {
-        matches!(self.part, Part::Objects)
-    }
-
-    fn in_steps(&self) -> bool
-        ensures { result ≡ is_steps self.now.part }
-    {
-        matches!(self.part, Part::Steps)
     }
 
     fn add_object(
@@ -126,7 +137,7 @@ impl Reading {
     ) -> Field<()>
         ensures { Makes result self.new (object_added key name owner region self.old) }
     {
-        must(self.in_objects(), FileKind::BadLine)?;
+        must(self.part.is_objects(), FileKind::BadLine)?;
         must(self.objects.len() < MAX_OBJECTS, FileKind::TooMany)?;
         add_key(alloc, &mut self.keys, &key)?;
         let mut prims = Sequence::new(alloc);
@@ -142,7 +153,7 @@ impl Reading {
     fn add_prim(&mut self, alloc: Global, key: Text, name: Text) -> Field<()>
         ensures { Makes result self.new (prim_added key name self.old) }
     {
-        must(self.in_objects(), FileKind::BadLine)?;
+        must(self.part.is_objects(), FileKind::BadLine)?;
         add_last_prim(&mut self.objects, new_prim(alloc, key.copy()?, name))?;
         add_key(alloc, &mut self.keys, &key)?;
         Ok(())
@@ -152,7 +163,7 @@ impl Reading {
         ensures { Makes result self.new (script_added name file self.old) }
     {
         must(
-            self.in_objects() && !self.objects.is_empty(),
+            self.part.is_objects() && !self.objects.is_empty(),
             FileKind::BadLine,
         )?;
         must(self.scripts < MAX_SCRIPTS, FileKind::TooMany)?;
@@ -165,13 +176,25 @@ impl Reading {
     fn add_step(&mut self, step: Step) -> Field<()>
         ensures { Makes result self.new (step_added step self.old) }
     {
-        must(self.in_steps(), FileKind::BadLine)?;
-        must(self.steps.len() < MAX_STEPS, FileKind::TooMany)?;
-        must(self.knows(&step), FileKind::Unknown)?;
-        let clock = self.clock_behind(&step);
-        must(self.clock <= clock, FileKind::ClockBack)?;
+        self.admits(&step)?;
+        self.clock = self.clock_behind(&step);
         self.steps.push(step)?;
-        self.clock = clock;
         Ok(())
+    }
+
+    // Whether the step can be added, or the fault that it has.
+    fn admits(&self, step: &Step) -> Field<()>
+        ensures { Makes result
+            (record self.now {
+              steps = self.now.steps ++ step.now ∷ [];
+              clock = clock_behind self.now.clock step.now;
+            })
+            (step_added step.now self.now) }
+    {
+        must(self.part.is_steps(), FileKind::BadLine)?;
+        must(self.steps.len() < MAX_STEPS, FileKind::TooMany)?;
+        must(self.knows(step), FileKind::Unknown)?;
+        let clock = self.clock_behind(step);
+        must(self.clock <= clock, FileKind::ClockBack)
     }
 }
