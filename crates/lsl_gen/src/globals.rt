@@ -1,7 +1,7 @@
 //! The values that globals begin with.
 
 ghost use Rattle.std.specs.Prelude.{◌≡◌, [], ◌∷◌, ◌++◌, IfOk, OnOk, true, map, flat_map};
-ghost use Rattle.lsl_value.specs.OperatorRows.{casts_of};
+ghost use Rattle.lsl_value.specs.OperatorRows.{casts_implicitly_of};
 ghost use Rattle.lsl_value.specs.Values.{kind_of};
 ghost use Rattle.lsl_table.specs.Constants.{constant_value_of};
 ghost use Rattle.lsl_ops.specs.Operations.{atoms_of, cast_of};
@@ -10,15 +10,12 @@ ghost use Rattle.lsl_tree.specs.Program.{initial_of};
 ghost use Rattle.lsl_meaning.specs.Globals.{part_value_of, initial_value_of, globals_behind};
 
 use crate::texts::{ascii_text, copy_text};
-use lsl_ops::{cast, unary};
+use lsl_ops::unary;
 use lsl_table::{ConstantValue, constant_value};
 use lsl_text::NoMemory;
 use lsl_tree::{Initial, Part};
-use lsl_value::{Atom, ConstantId, Items, Kind, MAX_ITEMS, UnaryOp, Value, Values, charge, copy};
+use lsl_value::{Atom, ConstantId, Items, Kind, MAX_ITEMS, UnaryOp, Value, Values, copy};
 use std::alloc::{AllocError, Global};
-
-/// What a value may be charged that is cast.
-const MAX_CAST_CHARGE: u64 = 65_536;
 
 /// The values of globals, in order: an initial value may name earlier globals.
 pub fn initial_values(alloc: Global, initials: &[Initial]) -> Result<Values, NoMemory>
@@ -45,8 +42,7 @@ fn initial_value(alloc: Global, before: &[Value], initial: &Initial) -> Result<V
         }
         Initial::Cast { kind, part } => {
             let value = part_value(alloc, before, part)?;
-            let casted = casted(alloc, value, *kind)?;
-            Ok(casted)
+            Ok(casted(value, *kind))
         }
         Initial::List { parts } => {
             let items = items_of(alloc, before, parts)?;
@@ -93,21 +89,15 @@ fn constant(alloc: Global, id: ConstantId) -> Result<Value, NoMemory>
     }
 }
 
-// The value as one of this kind. A string as a key is the same text; any other value that is charged more than
-// a cast may take is want of memory.
-fn casted(alloc: Global, value: Value, kind: Kind) -> Result<Value, NoMemory>
-    requires { casts_of (kind_of value) kind ≡ true }
-    ensures { IfOk result (λ v. v ≡ cast_of value kind) }
+// The string as a key, or the key as a string: the same text, so it takes no memory.
+fn casted(value: Value, kind: Kind) -> Value
+    requires { casts_implicitly_of (kind_of value) kind ≡ true }
+    ensures { result ≡ cast_of value kind }
 {
     match (value, kind) {
-        (Value::Str(text), Kind::Key) => Ok(Value::Key(text)),
-        (value, kind) => {
-            if charge(&value) > MAX_CAST_CHARGE {
-                return Err(AllocError);
-            }
-            let casted = cast(alloc, value, kind)?;
-            Ok(casted)
-        }
+        (Value::Str(text), Kind::Key) => Value::Key(text),
+        (Value::Key(text), Kind::Str) => Value::Str(text),
+        _ => unreachable!(),
     }
 }
 

@@ -27,8 +27,8 @@ const MAX_STATES: usize = 65_535;
 /// Takes memory for all of it. A statement is walked once, and once more for each statement and block around
 /// it, for the length of its code; labels, points and functions are found without a search. Want of memory also
 /// where a number is too large for its field: from 65,536 slots, functions or points, 65,536 states, or
-/// 4,294,967,296 instructions of a function on, and where a list of a global has more than 65,536 elements or a
-/// value is cast that is charged more than 65,536.
+/// 4,294,967,296 instructions of a function on, and where a list of a global has more than 65,536 elements. A text
+/// that is parsed has too few tokens for any of these.
 pub fn generate(alloc: Global, program: &Program, digest: [u8; 32]) -> Result<Unit, NoMemory>
     requires kinded { IsKinded (program_of program.now) }
     requires shaped { IsShaped (program_of program.now) }

@@ -1,6 +1,6 @@
 -- What globals begin with: a global's initial value names only constants and earlier globals.
 use Rattle.std.specs.Prelude.{◌≡◌, ◌≢◌, List, [], ◌∷◌, ◌++◌, Some, true, map, slice_get, All}
-use Rattle.lsl_value.specs.OperatorRows.{casts_of}
+use Rattle.lsl_value.specs.OperatorRows.{casts_implicitly_of}
 use Rattle.lsl_value.specs.Values.{kind_of}
 use Rattle.lsl_value.specs.declared.tagged.Kind.{Kind}
 use Rattle.lsl_value.specs.declared.tagged.Kind.TheVariants as kind
@@ -38,9 +38,10 @@ module _ (before : List Kind) where
   abbrev pub IsKindedElement : Part → Type 0
   IsKindedElement p = (part_kind_of p ≢ kind.List) × IsKindedPart p
 
+  -- nobody writes a cast there: a string stands for a key, or a key for a string
   abbrev pub IsKindedInitial : Initial → Type 0
   IsKindedInitial (Single p) = IsKindedPart p
-  IsKindedInitial (Cast k p) = (casts_of (part_kind_of p) k ≡ true) × IsKindedPart p
+  IsKindedInitial (Cast k p) = (casts_implicitly_of (part_kind_of p) k ≡ true) × IsKindedPart p
   IsKindedInitial (ListLiteral ps) = All IsKindedElement ps
 
 -- each behind the ones before it

@@ -3,13 +3,13 @@ use Rattle.std.proofs.Common.{◌≡◌, true, refl, sym, ap, ◌∙◌}
 use Rattle.std.specs.Prelude.{◌≢◌}
 use Rattle.lsl_value.specs.declared.tagged.Kind.{Kind}
 use Rattle.lsl_value.specs.declared.tagged.Kind.TheVariants.{Int, Str, Key, List as ListKind}
-use Rattle.lsl_value.specs.OperatorRows.{casts_of}
+use Rattle.lsl_value.specs.OperatorRows.{casts_of, casts_implicitly_of}
 use Rattle.lsl_type.specs.Conversions.{Fit, Same, ByCast, Not, fit_of, is_int, is_no_list}
 
--- a value fits where it has the wanted kind, or where a cast may be written and it is no list
+-- a value fits where it has the wanted kind, or where a cast stands that nobody wrote and it is no list
 abbrev pub Fits : Fit → Kind → Kind → Type 0
 Fits Same found wanted = found ≡ wanted
-Fits ByCast found wanted = (casts_of found wanted ≡ true) × (found ≢ ListKind)
+Fits ByCast found wanted = (casts_of found wanted ≡ true) × (casts_implicitly_of found wanted ≡ true) × (found ≢ ListKind)
 Fits Not found wanted = Unit {0}
 
 pub fit_fits : (found wanted : Kind) → Fits (fit_of found wanted) found wanted
@@ -19,10 +19,10 @@ fit_fits Int Key = tt
 fit_fits Int ListKind = tt
 fit_fits Str Int = tt
 fit_fits Str Str = refl
-fit_fits Str Key = (refl, λ e. absurd (cc))
+fit_fits Str Key = (refl, refl, λ e. absurd (cc))
 fit_fits Str ListKind = tt
 fit_fits Key Int = tt
-fit_fits Key Str = (refl, λ e. absurd (cc))
+fit_fits Key Str = (refl, refl, λ e. absurd (cc))
 fit_fits Key Key = refl
 fit_fits Key ListKind = tt
 fit_fits ListKind Int = tt

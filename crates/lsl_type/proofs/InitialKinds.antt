@@ -135,9 +135,9 @@ module _ (globals : List Kind) (s : ScopeView) (have : AreGlobals globals s.vari
       → fitted_initial f k v ≡ Some w → InitialOf k w
   fitted_kind Same k v w fits h e = let same : v ≡ w = cc in subst (InitialOf k) same (fits, h.0)
   fitted_kind ByCast k (program.Single p) w fits h e = let same : program.Cast k p ≡ w =
-      cc in subst (InitialOf k) same (refl, (fits.0, h.0))
+      cc in subst (InitialOf k) same (refl, (fits.1, h.0))
   fitted_kind ByCast k (program.Cast from p) w fits h e = absurd h.1
-  fitted_kind ByCast k (program.ListLiteral ps) w fits h e = absurd (fits.1 refl)
+  fitted_kind ByCast k (program.ListLiteral ps) w fits h e = absurd (fits.2 refl)
   fitted_kind Not k v w fits h e = absurd (cc)
 
   pub become_yields : (k : Kind) (v : Initial) (span : Span) → IsWritten v
