@@ -8,7 +8,7 @@ use Rattle.lsl_tree.specs.Program.{Program}
 use Rattle.lsl_parse.specs.Faults.{Derives}
 use Rattle.lsl_parse.proofs.FirstFault.{unambiguous, no_first}
 use Rattle.lsl_type.specs.Typed.{Typed}
-use Rattle.lsl_type.proofs.Deciding.{ok_same}
+use Rattle.lsl_bodies.proofs.Deciding.{ok_same}
 use Rattle.lsl_type.proofs.ScriptLemmas.{script_decides}
 use Rattle.lsl_type.proofs.Top.{no_breach}
 use Rattle.lsl_build.specs.declared.faults.BuildFault.{BuildFault}

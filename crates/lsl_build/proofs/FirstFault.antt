@@ -8,8 +8,8 @@ use Rattle.lsl_parse.specs.Faults.{IsFirst, span_at}
 use Rattle.lsl_parse.specs.declared.fault.ParseFault.{ParseFault}
 use Rattle.lsl_parse.proofs.FirstFault.{no_first, one_first}
 use Rattle.lsl_type.specs.Typed.{TypeFirst}
-use Rattle.lsl_type.specs.declared.faults.TypeFault.{TypeFault}
-use Rattle.lsl_type.proofs.Deciding.{err_same}
+use Rattle.lsl_bodies.specs.declared.faults.TypeFault.{TypeFault}
+use Rattle.lsl_bodies.proofs.Deciding.{err_same}
 use Rattle.lsl_type.proofs.ScriptLemmas.{script_decides}
 use Rattle.lsl_build.specs.declared.faults.BuildFault.{BuildFault}
 use Rattle.lsl_build.specs.Faults.{FirstFault, IsLexical, IsSyntactic, IsSemantic, lexical_fault_of, syntax_fault_of, semantic_fault_of}

@@ -12,8 +12,8 @@ use Rattle.lsl_parse.specs.Faults.{Derives, IsFirst}
 use Rattle.lsl_parse.specs.FaultNumbers.{number_of}
 use Rattle.lsl_parse.specs.declared.fault.ParseFault.{ParseFault}
 use Rattle.lsl_type.specs.Typed.{TypeFirst}
-use Rattle.lsl_type.specs.FaultNumbers.{number_of as semantic_number_of}
-use Rattle.lsl_type.specs.declared.faults.TypeFault.{TypeFault}
+use Rattle.lsl_bodies.specs.FaultNumbers.{number_of as semantic_number_of}
+use Rattle.lsl_bodies.specs.declared.faults.TypeFault.{TypeFault}
 use Rattle.lsl_build.specs.declared.faults.BuildFault.{BuildFault}
 
 abbrev pub lexical_number_of : LexKind → ℕ

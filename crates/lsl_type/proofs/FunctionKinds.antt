@@ -11,19 +11,20 @@ use Rattle.lsl_tree.specs.Scripts as source
 use Rattle.lsl_tree.specs.Scripts.{Header, State, Tree}
 use Rattle.lsl_tree.specs.Program.{NamedRoutine}
 use Rattle.lsl_tree.specs.Signatures.{Signature, signature_of_routine}
-use Rattle.lsl_type.specs.declared.faults.TypeKind.TheVariants.{DoubleName}
-use Rattle.lsl_type.specs.declared.frame.Home.TheVariants as home
-use Rattle.lsl_type.specs.Scope.{ScopeView}
-use Rattle.lsl_type.specs.Known.{HeadersView, KnownView, kinds_of}
-use Rattle.lsl_type.specs.Spans.{initial_span}
-use Rattle.lsl_type.specs.Judgement.{at}
-use Rattle.lsl_type.specs.Verdict.{must_verdict, each_verdict}
+use Rattle.lsl_bodies.specs.declared.faults.TypeKind.TheVariants.{DoubleName}
+use Rattle.lsl_bodies.specs.declared.frame.Home.TheVariants as home
+use Rattle.lsl_bodies.specs.Scope.{ScopeView}
+use Rattle.lsl_bodies.specs.Known.{KnownView, kinds_of}
+use Rattle.lsl_type.specs.Headers.{HeadersView}
+use Rattle.lsl_bodies.specs.Spans.{initial_span}
+use Rattle.lsl_bodies.specs.Judgement.{at}
+use Rattle.lsl_bodies.specs.Verdict.{must_verdict, each_verdict}
 use Rattle.lsl_type.specs.HeaderVerdicts.{header_verdict, is_unused, initial_verdict, initial_become_verdict}
 use Rattle.lsl_type.specs.HeaderVerdicts.{param_verdict}
 use Rattle.lsl_type.specs.ScriptVerdicts.{function_routine_verdict, function_body_verdict}
-use Rattle.lsl_type.proofs.Yielding.{Yields, gives_yields, then_yields, rest_yields, both_yield, weaker_yields}
-use Rattle.lsl_type.proofs.Yielding.{each_yields, gathered, each_gathers}
-use Rattle.lsl_type.proofs.RoutineKinds.{RoutineIn, RoutineOf, GlobalsHave, body_yields}
+use Rattle.lsl_bodies.proofs.Yielding.{Yields, gives_yields, then_yields, rest_yields, both_yield, weaker_yields}
+use Rattle.lsl_bodies.proofs.Yielding.{each_yields, gathered, each_gathers}
+use Rattle.lsl_bodies.proofs.RoutineKinds.{RoutineIn, RoutineOf, GlobalsHave, body_yields}
 
 -- what functions are called with
 abbrev pub signatures_in : Header → List Signature

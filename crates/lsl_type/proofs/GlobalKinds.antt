@@ -9,17 +9,17 @@ use Rattle.lsl_tree.specs.Scripts as source
 use Rattle.lsl_tree.specs.Scripts.{Simple, Header}
 use Rattle.lsl_tree.specs.Program.{Initial}
 use Rattle.lsl_tree.specs.Initials.{initial_kind_of, IsKindedInitial, AreKindedInitials}
-use Rattle.lsl_type.specs.declared.faults.TypeKind.TheVariants.{DoubleName}
-use Rattle.lsl_type.specs.declared.frame.Variable.{Variable}
-use Rattle.lsl_type.specs.Scope.{spelled}
-use Rattle.lsl_type.specs.Known.{HeadersView, with_global, no_headers}
-use Rattle.lsl_type.specs.Conversions.{empty_initial}
-use Rattle.lsl_type.specs.Spans.{initial_span}
-use Rattle.lsl_type.specs.Judgement.{at}
-use Rattle.lsl_type.specs.Verdict.{must_verdict, each_verdict}
+use Rattle.lsl_bodies.specs.declared.faults.TypeKind.TheVariants.{DoubleName}
+use Rattle.lsl_bodies.specs.declared.frame.Variable.{Variable}
+use Rattle.lsl_bodies.specs.Scope.{spelled}
+use Rattle.lsl_type.specs.Headers.{HeadersView, with_global, no_headers}
+use Rattle.lsl_bodies.specs.Conversions.{empty_initial}
+use Rattle.lsl_bodies.specs.Spans.{initial_span}
+use Rattle.lsl_bodies.specs.Judgement.{at}
+use Rattle.lsl_bodies.specs.Verdict.{must_verdict, each_verdict}
 use Rattle.lsl_type.specs.HeaderVerdicts.{is_unused, param_verdict, header_verdict}
-use Rattle.lsl_type.proofs.Yielding.{Yields, gives_yields, then_yields, rest_yields, each_yields}
-use Rattle.lsl_type.proofs.Prefixes.{prefix_push, prefix_get, get_last}
+use Rattle.lsl_bodies.proofs.Yielding.{Yields, gives_yields, then_yields, rest_yields, each_yields}
+use Rattle.lsl_bodies.proofs.Prefixes.{prefix_push, prefix_get, get_last}
 use Rattle.lsl_type.proofs.InitialKinds.{GlobalAt, AreGlobals, initial_yields, become_yields, empty_kind}
 
 -- the globals so far

@@ -10,23 +10,23 @@ use Rattle.lsl_table.specs.Events.{signature_of}
 use Rattle.lsl_tree.specs.Scripts.{Handler, State}
 use Rattle.lsl_tree.specs.Program.{EventRoutine, ProgramState}
 use Rattle.lsl_tree.specs.Kinded.{IsHandler, EventsDiffer}
-use Rattle.lsl_type.specs.declared.faults.TypeKind.TheVariants.{DoubleName, WrongHandler}
-use Rattle.lsl_type.specs.declared.frame.Home.TheVariants as home
-use Rattle.lsl_type.specs.Names.{nearest}
-use Rattle.lsl_type.specs.Scope.{ScopeView, spelled}
-use Rattle.lsl_type.specs.Known.{KnownView, kinds_of}
-use Rattle.lsl_type.specs.Table.{event_of, event_params_of}
-use Rattle.lsl_type.specs.Sameness.{same_kinds}
-use Rattle.lsl_type.specs.Judgement.{at}
-use Rattle.lsl_type.specs.Verdict.{must_verdict, each_verdict}
+use Rattle.lsl_bodies.specs.declared.faults.TypeKind.TheVariants.{DoubleName, WrongHandler}
+use Rattle.lsl_bodies.specs.declared.frame.Home.TheVariants as home
+use Rattle.lsl_bodies.specs.Names.{nearest}
+use Rattle.lsl_bodies.specs.Scope.{ScopeView, spelled}
+use Rattle.lsl_bodies.specs.Known.{KnownView, kinds_of}
+use Rattle.lsl_bodies.specs.Table.{event_of, event_params_of}
+use Rattle.lsl_bodies.specs.Sameness.{same_kinds}
+use Rattle.lsl_bodies.specs.Judgement.{at}
+use Rattle.lsl_bodies.specs.Verdict.{must_verdict, each_verdict}
 use Rattle.lsl_type.specs.HeaderVerdicts.{param_verdict, has_event, handler_verdict, state_verdict}
 use Rattle.lsl_type.specs.ScriptVerdicts.{handler_routine_verdict, handler_body_verdict, program_state_verdict}
-use Rattle.lsl_type.proofs.Yielding.{Yields, gives_yields, then_yields, rest_yields, weaker_yields, entry_yields}
-use Rattle.lsl_type.proofs.Yielding.{must_yields, each_yields, each_keeps, each_shows, gathered, each_gathers}
-use Rattle.lsl_type.proofs.NameLemmas.{Contains-none, Contains-cases}
+use Rattle.lsl_bodies.proofs.Yielding.{Yields, gives_yields, then_yields, rest_yields, weaker_yields, entry_yields}
+use Rattle.lsl_bodies.proofs.Yielding.{must_yields, each_yields, each_keeps, each_shows, gathered, each_gathers}
+use Rattle.lsl_bodies.proofs.NameLemmas.{Contains-none, Contains-cases}
 use Rattle.lsl_type.proofs.ScriptLemmas.{kinds_is, is_has}
-use Rattle.lsl_type.proofs.ListLemmas.{AreApart, apart_append, apart_pairs_by}
-use Rattle.lsl_type.proofs.RoutineKinds.{RoutineIn, GlobalsHave, body_yields}
+use Rattle.lsl_bodies.proofs.ListLemmas.{AreApart, apart_append, apart_pairs_by}
+use Rattle.lsl_bodies.proofs.RoutineKinds.{RoutineIn, GlobalsHave, body_yields}
 
 -- the events of handlers, in their order
 abbrev event_in : Handler → List (Option EventId)

@@ -15,17 +15,17 @@ use Rattle.lsl_tree.specs.declared.script.Header.{Header}
 use Rattle.lsl_tree.specs.declared.script.State.{State}
 use Rattle.lsl_tree.specs.Scripts.{header_of, handler_of, state_of}
 use Rattle.lsl_tree.specs.declared.program.Part.{Part}
-use Rattle.lsl_type.specs.declared.faults.TypeKind.TheVariants.{WrongKind}
-use Rattle.lsl_type.specs.Known.{HeadersView}
-use Rattle.lsl_type.specs.Sameness.{same_event, same_kind, same_kinds}
+use Rattle.lsl_bodies.specs.declared.faults.TypeKind.TheVariants.{WrongKind}
+use Rattle.lsl_type.specs.Headers.{HeadersView}
+use Rattle.lsl_bodies.specs.Sameness.{same_event, same_kind, same_kinds}
 use Rattle.lsl_tree.specs.Initials.{part_kind_of}
-use Rattle.lsl_type.specs.Conversions.{is_no_list}
-use Rattle.lsl_type.specs.Spans.{atom_span}
-use Rattle.lsl_type.specs.Judgement.{at}
-use Rattle.lsl_type.specs.Verdict.{Verdict, ◌>>=◌, must_verdict}
+use Rattle.lsl_bodies.specs.Conversions.{is_no_list}
+use Rattle.lsl_bodies.specs.Spans.{atom_span}
+use Rattle.lsl_bodies.specs.Judgement.{at}
+use Rattle.lsl_bodies.specs.Verdict.{Verdict, ◌>>=◌, must_verdict}
 use Rattle.lsl_type.specs.HeaderVerdicts.{flat_parts_verdict, header_verdict, state_verdict, handler_verdict, has_event}
 use Rattle.lsl_type.proofs.ScriptLemmas.{event_same, same_event-same}
-use Rattle.lsl_type.proofs.Walks.{left, drop_all}
+use Rattle.lsl_bodies.proofs.Walks.{left, drop_all}
 
 abbrev pub part_flat_r : Part → Atom → Verdict (Unit {0})
 part_flat_r p a = must_verdict (is_no_list (part_kind_of p)) (at (WrongKind None (Some ListKind)) (atom_span a))

@@ -19,22 +19,22 @@ use Rattle.lsl_tree.specs.Scripts.{Simple, Header}
 use Rattle.lsl_tree.specs.Program as program
 use Rattle.lsl_tree.specs.Program.{Initial}
 use Rattle.lsl_tree.specs.Initials.{part_kind_of, initial_kind_of, IsKindedPart, IsKindedElement, IsKindedInitial}
-use Rattle.lsl_type.specs.declared.faults.TypeKind.TheVariants.{WrongKind, NotConstant}
-use Rattle.lsl_type.specs.declared.frame.Variable.{Variable}
-use Rattle.lsl_type.specs.Names.{nearest}
-use Rattle.lsl_type.specs.Scope.{ScopeView, spelled, variable_of}
-use Rattle.lsl_type.specs.Table.{constant_of, constant_kind_of}
-use Rattle.lsl_type.specs.Conversions.{Fit, Same, ByCast, Not, fit_of, fitted_initial, initial_as_kind}
-use Rattle.lsl_type.specs.Conversions.{empty_initial, is_no_list}
-use Rattle.lsl_type.specs.Spans.{atom_span}
-use Rattle.lsl_type.specs.Judgement.{at}
-use Rattle.lsl_type.specs.Verdict.{each_verdict}
+use Rattle.lsl_bodies.specs.declared.faults.TypeKind.TheVariants.{WrongKind, NotConstant}
+use Rattle.lsl_bodies.specs.declared.frame.Variable.{Variable}
+use Rattle.lsl_bodies.specs.Names.{nearest}
+use Rattle.lsl_bodies.specs.Scope.{ScopeView, spelled, variable_of}
+use Rattle.lsl_bodies.specs.Table.{constant_of, constant_kind_of}
+use Rattle.lsl_bodies.specs.Conversions.{Fit, Same, ByCast, Not, fit_of, fitted_initial, initial_as_kind}
+use Rattle.lsl_bodies.specs.Conversions.{empty_initial, is_no_list}
+use Rattle.lsl_bodies.specs.Spans.{atom_span}
+use Rattle.lsl_bodies.specs.Judgement.{at}
+use Rattle.lsl_bodies.specs.Verdict.{each_verdict}
 use Rattle.lsl_type.specs.HeaderVerdicts.{constant_part, part_of, part_by, initial_part_verdict, next_part_verdict}
 use Rattle.lsl_type.specs.HeaderVerdicts.{flat_parts_verdict, initial_verdict, initial_become_verdict}
-use Rattle.lsl_type.proofs.Yielding.{Yields, gives_yields, then_yields, rest_yields, both_yield, weaker_yields}
-use Rattle.lsl_type.proofs.Yielding.{the_one_yields, must_yields, each_yields, each_counts}
-use Rattle.lsl_type.proofs.FitLemmas.{Fits, fit_fits, is_no_list-apart}
-use Rattle.lsl_type.proofs.KindSettings.{Setting, HasKind, HaveKinds}
+use Rattle.lsl_bodies.proofs.Yielding.{Yields, gives_yields, then_yields, rest_yields, both_yield, weaker_yields}
+use Rattle.lsl_bodies.proofs.Yielding.{the_one_yields, must_yields, each_yields, each_counts}
+use Rattle.lsl_bodies.proofs.FitLemmas.{Fits, fit_fits, is_no_list-apart}
+use Rattle.lsl_bodies.proofs.KindSettings.{Setting, HasKind, HaveKinds}
 
 -- a global of this kind
 abbrev pub GlobalAt : List Kind → Place → Kind → Type 0

@@ -10,22 +10,23 @@ use Rattle.lsl_tree.specs.Signatures.{Signature, signature_of_routine, function_
 use Rattle.lsl_tree.specs.Initials.{initial_kind_of}
 use Rattle.lsl_tree.specs.Shape.{IsShapedRoutine, IsShaped}
 use Rattle.lsl_tree.specs.Kinded.{Scope, AreKindedActions, IsKindedRoutine, IsHandler, EventsDiffer, IsKinded}
-use Rattle.lsl_type.specs.declared.faults.TypeKind.TheVariants.{DoubleName}
-use Rattle.lsl_type.specs.Names.{nearest}
-use Rattle.lsl_type.specs.Scope.{ScopeView, spelled}
-use Rattle.lsl_type.specs.Known.{HeadersView, KnownView, no_headers, known_from}
-use Rattle.lsl_type.specs.Judgement.{at}
-use Rattle.lsl_type.specs.Verdict.{must_verdict, each_verdict}
+use Rattle.lsl_bodies.specs.declared.faults.TypeKind.TheVariants.{DoubleName}
+use Rattle.lsl_bodies.specs.Names.{nearest}
+use Rattle.lsl_bodies.specs.Scope.{ScopeView, spelled}
+use Rattle.lsl_bodies.specs.Known.{KnownView}
+use Rattle.lsl_type.specs.Headers.{HeadersView, no_headers, known_from}
+use Rattle.lsl_bodies.specs.Judgement.{at}
+use Rattle.lsl_bodies.specs.Verdict.{must_verdict, each_verdict}
 use Rattle.lsl_type.specs.HeaderVerdicts.{header_verdict, handler_verdict, state_verdict}
 use Rattle.lsl_type.specs.ScriptVerdicts.{program_state_verdict, state_body_verdict}
 use Rattle.lsl_type.specs.ScriptVerdicts.{script_verdict}
 use Rattle.lsl_type.specs.ScriptRules.{default_name}
-use Rattle.lsl_type.proofs.Yielding.{Yields, gives_yields, then_yields, rest_yields, both_yield, each_keeps}
-use Rattle.lsl_type.proofs.Yielding.{each_shows, each_gathers, each_counts}
-use Rattle.lsl_type.proofs.KindSettings.{setting}
+use Rattle.lsl_bodies.proofs.Yielding.{Yields, gives_yields, then_yields, rest_yields, both_yield, each_keeps}
+use Rattle.lsl_bodies.proofs.Yielding.{each_shows, each_gathers, each_counts}
+use Rattle.lsl_bodies.proofs.KindSettings.{setting}
 use Rattle.lsl_type.proofs.InitialKinds.{globals_have}
 use Rattle.lsl_type.proofs.GlobalKinds.{GlobalsIn, headers_yield}
-use Rattle.lsl_type.proofs.RoutineKinds.{RoutineIn, GlobalsHave}
+use Rattle.lsl_bodies.proofs.RoutineKinds.{RoutineIn, GlobalsHave}
 use Rattle.lsl_type.proofs.HandlerKinds.{AreStateHandlers, handlers_agree, state_agrees, HandlerIn, StateIn}
 use Rattle.lsl_type.proofs.HandlerKinds.{handlers_made, state_made}
 use Rattle.lsl_type.proofs.FunctionKinds.{signatures_in, header_declares, functions_yield}

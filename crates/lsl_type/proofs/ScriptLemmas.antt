@@ -22,43 +22,46 @@ use Rattle.lsl_tree.specs.Scripts as source
 use Rattle.lsl_tree.specs.Scripts.{Simple, Header, State, Tree}
 use Rattle.lsl_tree.specs.Program as program
 use Rattle.lsl_tree.specs.Program.{Initial, NamedRoutine, EventRoutine, ProgramState}
-use Rattle.lsl_type.specs.declared.faults.TypeKind.TheVariants.{DoubleName, WrongKind, NotConstant, WrongHandler}
-use Rattle.lsl_type.specs.declared.frame.Variable.{Variable}
-use Rattle.lsl_type.specs.declared.frame.Home.{Home}
-use Rattle.lsl_type.specs.declared.frame.Home.TheVariants.{Handler, Function}
-use Rattle.lsl_type.specs.Names.{nearest}
-use Rattle.lsl_type.specs.Scope.{ScopeView, spelled, entered, opened, IsVariable, variable_of}
-use Rattle.lsl_type.specs.Known.{KnownView, HeadersView, with_global, with_function, no_headers, known_from, kinds_of}
-use Rattle.lsl_type.specs.Table.{IsReserved, is_reserved, constant_of, IsEvent, event_of, event_params_of}
-use Rattle.lsl_type.specs.Table.{constant_kind_of}
+use Rattle.lsl_bodies.specs.declared.faults.TypeKind.TheVariants.{DoubleName, WrongKind, NotConstant, WrongHandler}
+use Rattle.lsl_bodies.specs.declared.frame.Variable.{Variable}
+use Rattle.lsl_bodies.specs.declared.frame.Home.{Home}
+use Rattle.lsl_bodies.specs.declared.frame.Home.TheVariants.{Handler, Function}
+use Rattle.lsl_bodies.specs.Names.{nearest}
+use Rattle.lsl_bodies.specs.Scope.{ScopeView, spelled, entered, opened, IsVariable, variable_of}
+use Rattle.lsl_bodies.specs.Known.{KnownView, kinds_of}
+use Rattle.lsl_type.specs.Headers.{HeadersView, with_global, with_function, no_headers, known_from}
+use Rattle.lsl_bodies.specs.Table.{IsReserved, is_reserved, constant_of, IsEvent, event_of, event_params_of}
+use Rattle.lsl_bodies.specs.Table.{constant_kind_of}
 use Rattle.lsl_tree.specs.Initials.{initial_kind_of, part_kind_of}
-use Rattle.lsl_type.specs.Conversions.{initial_as_kind, empty_initial, is_no_list}
-use Rattle.lsl_type.specs.Sameness.{same_kind, same_kinds, event_code, same_event}
-use Rattle.lsl_type.specs.Spans.{atom_span, initial_span}
-use Rattle.lsl_type.specs.ActionForms.{ended}
-use Rattle.lsl_type.specs.Judgement.{at, the_one, must, each}
-use Rattle.lsl_type.specs.Verdict.{the_one_verdict, must_verdict, each_verdict}
-use Rattle.lsl_type.specs.ActionRules.{items}
-use Rattle.lsl_type.specs.ActionVerdicts.{items_verdict}
+use Rattle.lsl_bodies.specs.Conversions.{initial_as_kind, empty_initial, is_no_list}
+use Rattle.lsl_bodies.specs.Sameness.{same_kind, same_kinds, event_code, same_event}
+use Rattle.lsl_bodies.specs.Spans.{atom_span, initial_span}
+use Rattle.lsl_bodies.specs.ActionForms.{ended}
+use Rattle.lsl_bodies.specs.Judgement.{at, the_one, must, each}
+use Rattle.lsl_bodies.specs.Verdict.{the_one_verdict, must_verdict, each_verdict}
+use Rattle.lsl_bodies.specs.ActionRules.{items}
+use Rattle.lsl_bodies.specs.ActionVerdicts.{items_verdict}
 use Rattle.lsl_type.specs.HeaderRules.{IsInitial, initial_part, next_part, flat_parts, initial, IsUnused, param}
 use Rattle.lsl_type.specs.HeaderRules.{initial_become, header, handler, state}
-use Rattle.lsl_type.specs.ScriptRules.{body, function_routine, function_body, handler_routine, handler_body}
+use Rattle.lsl_bodies.specs.BodyRules.{body}
+use Rattle.lsl_type.specs.ScriptRules.{function_routine, function_body, handler_routine, handler_body}
 use Rattle.lsl_type.specs.ScriptRules.{program_state, state_body, default_name, script}
 use Rattle.lsl_type.specs.HeaderVerdicts.{constant_part, part_of, part_by, initial_part_verdict, next_part_verdict}
 use Rattle.lsl_type.specs.HeaderVerdicts.{flat_parts_verdict, initial_verdict, is_unused, param_verdict}
 use Rattle.lsl_type.specs.HeaderVerdicts.{initial_become_verdict, header_verdict, has_event, handler_verdict}
 use Rattle.lsl_type.specs.HeaderVerdicts.{state_verdict}
-use Rattle.lsl_type.specs.ScriptVerdicts.{body_verdict, function_routine_verdict, function_body_verdict}
+use Rattle.lsl_bodies.specs.BodyVerdicts.{body_verdict}
+use Rattle.lsl_type.specs.ScriptVerdicts.{function_routine_verdict, function_body_verdict}
 use Rattle.lsl_type.specs.ScriptVerdicts.{handler_routine_verdict, handler_body_verdict, program_state_verdict}
 use Rattle.lsl_type.specs.ScriptVerdicts.{state_body_verdict, script_verdict}
-use Rattle.lsl_type.proofs.Deciding.{Decides, gives_decides, then_decides, the_one_decides, must_decides}
-use Rattle.lsl_type.proofs.Deciding.{must_not_decides, test_decides, entry_decides, each_decides, decides_as}
-use Rattle.lsl_type.proofs.NameLemmas.{nearest_contains, contains_nearest, Contains-none, Contains-head, Contains-tail}
-use Rattle.lsl_type.proofs.NameLemmas.{Contains-cases}
-use Rattle.lsl_type.proofs.TableLemmas.{constant_of-some, constant_of-named, event_of-some, event_of-named}
-use Rattle.lsl_type.proofs.RuleLemmas.{variable_of-some, is_variable-of, is_kind_true, is_kind_same}
-use Rattle.lsl_type.proofs.ActionLemmas.{or_left, or_right, or_cases, reserved_is, is_reserved-of, neither}
-use Rattle.lsl_type.proofs.ActionLemmas.{items_decides}
+use Rattle.lsl_bodies.proofs.Deciding.{Decides, gives_decides, then_decides, the_one_decides, must_decides}
+use Rattle.lsl_bodies.proofs.Deciding.{must_not_decides, test_decides, entry_decides, each_decides, decides_as}
+use Rattle.lsl_bodies.proofs.NameLemmas.{nearest_contains, contains_nearest, Contains-none, Contains-head, Contains-tail}
+use Rattle.lsl_bodies.proofs.NameLemmas.{Contains-cases}
+use Rattle.lsl_bodies.proofs.TableLemmas.{constant_of-some, constant_of-named, event_of-some, event_of-named}
+use Rattle.lsl_bodies.proofs.RuleLemmas.{variable_of-some, is_variable-of, is_kind_true, is_kind_same}
+use Rattle.lsl_bodies.proofs.ActionLemmas.{or_left, or_right, or_cases, reserved_is, is_reserved-of, neither}
+use Rattle.lsl_bodies.proofs.ActionLemmas.{items_decides}
 
 -- what a name in a global's value stands for
 abbrev part_option : Option Variable → Option ConstantId → Option Part

@@ -8,11 +8,11 @@ use Rattle.lsl_tree.specs.declared.program.Program.{Program}
 use Rattle.lsl_tree.specs.Scripts.{Tree}
 use Rattle.lsl_tree.specs.Program as program
 use Rattle.lsl_tree.specs.Program.{program_of}
-use Rattle.lsl_type.specs.declared.faults.TypeFault.{TypeFault}
-use Rattle.lsl_type.specs.Verdict.{Rules}
+use Rattle.lsl_bodies.specs.declared.faults.TypeFault.{TypeFault}
+use Rattle.lsl_bodies.specs.Verdict.{Rules}
 use Rattle.lsl_type.specs.ScriptVerdicts.{script_verdict}
 use Rattle.lsl_type.specs.Typed.{Typed, TypeFirst, IsTypeRefusal, IsThat}
-use Rattle.lsl_type.proofs.Deciding.{ok_same, err_same, ok_not_err}
+use Rattle.lsl_bodies.proofs.Deciding.{ok_same, err_same, ok_not_err}
 use Rattle.lsl_tree.specs.Shape.{IsShaped}
 use Rattle.lsl_tree.specs.Kinded.{IsKinded}
 use Rattle.lsl_type.proofs.ProgramKinds.{script_sound}

@@ -15,15 +15,16 @@ use Rattle.lsl_tree.specs.Scripts as source
 use Rattle.lsl_tree.specs.Scripts.{Simple, Header, Handler, State}
 use Rattle.lsl_tree.specs.Program as program
 use Rattle.lsl_tree.specs.Program.{Initial}
-use Rattle.lsl_type.specs.declared.faults.TypeKind.TheVariants.{DoubleName, WrongKind, NotConstant, WrongHandler}
-use Rattle.lsl_type.specs.declared.frame.Variable.{Variable}
-use Rattle.lsl_type.specs.Scope.{ScopeView, spelled, IsVariable}
-use Rattle.lsl_type.specs.Known.{HeadersView, with_global, with_function, kinds_of}
-use Rattle.lsl_type.specs.Table.{IsReserved, IsConstant, IsEvent, event_params_of, constant_kind_of}
+use Rattle.lsl_bodies.specs.declared.faults.TypeKind.TheVariants.{DoubleName, WrongKind, NotConstant, WrongHandler}
+use Rattle.lsl_bodies.specs.declared.frame.Variable.{Variable}
+use Rattle.lsl_bodies.specs.Scope.{ScopeView, spelled, IsVariable}
+use Rattle.lsl_bodies.specs.Known.{kinds_of}
+use Rattle.lsl_type.specs.Headers.{HeadersView, with_global, with_function}
+use Rattle.lsl_bodies.specs.Table.{IsReserved, IsConstant, IsEvent, event_params_of, constant_kind_of}
 use Rattle.lsl_tree.specs.Initials.{initial_kind_of, part_kind_of}
-use Rattle.lsl_type.specs.Conversions.{initial_as_kind, empty_initial, is_no_list}
-use Rattle.lsl_type.specs.Spans.{atom_span, initial_span}
-use Rattle.lsl_type.specs.Judgement.{at, Judgement, gives, ◌>>=◌, the_one, must, entry, each}
+use Rattle.lsl_bodies.specs.Conversions.{initial_as_kind, empty_initial, is_no_list}
+use Rattle.lsl_bodies.specs.Spans.{atom_span, initial_span}
+use Rattle.lsl_bodies.specs.Judgement.{at, Judgement, gives, ◌>>=◌, the_one, must, entry, each}
 
 -- in a global's value a name stands for an earlier global, else for a constant
 abbrev pub IsInitial : ScopeView → Name → Part → Type 0

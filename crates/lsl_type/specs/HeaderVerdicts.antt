@@ -17,18 +17,19 @@ use Rattle.lsl_tree.specs.Scripts as source
 use Rattle.lsl_tree.specs.Scripts.{Simple, Header, Handler, State}
 use Rattle.lsl_tree.specs.Program as program
 use Rattle.lsl_tree.specs.Program.{Initial}
-use Rattle.lsl_type.specs.declared.faults.TypeKind.TheVariants.{DoubleName, WrongKind, NotConstant, WrongHandler}
-use Rattle.lsl_type.specs.declared.frame.Variable.{Variable}
-use Rattle.lsl_type.specs.Scope.{ScopeView, spelled, variable_of}
-use Rattle.lsl_type.specs.Known.{HeadersView, with_global, with_function, kinds_of}
-use Rattle.lsl_type.specs.Table.{is_reserved, constant_of, event_of, event_params_of, constant_kind_of}
+use Rattle.lsl_bodies.specs.declared.faults.TypeKind.TheVariants.{DoubleName, WrongKind, NotConstant, WrongHandler}
+use Rattle.lsl_bodies.specs.declared.frame.Variable.{Variable}
+use Rattle.lsl_bodies.specs.Scope.{ScopeView, spelled, variable_of}
+use Rattle.lsl_bodies.specs.Known.{kinds_of}
+use Rattle.lsl_type.specs.Headers.{HeadersView, with_global, with_function}
+use Rattle.lsl_bodies.specs.Table.{is_reserved, constant_of, event_of, event_params_of, constant_kind_of}
 use Rattle.lsl_tree.specs.Initials.{initial_kind_of, part_kind_of}
-use Rattle.lsl_type.specs.Conversions.{initial_as_kind, empty_initial, is_no_list}
-use Rattle.lsl_type.specs.Spans.{atom_span, initial_span}
-use Rattle.lsl_type.specs.Judgement.{at}
-use Rattle.lsl_type.specs.Names.{nearest}
-use Rattle.lsl_type.specs.Verdict.{Verdict, ◌>>=◌, the_one_verdict, must_verdict, each_verdict}
-use Rattle.lsl_type.specs.Sameness.{same_event, same_kinds}
+use Rattle.lsl_bodies.specs.Conversions.{initial_as_kind, empty_initial, is_no_list}
+use Rattle.lsl_bodies.specs.Spans.{atom_span, initial_span}
+use Rattle.lsl_bodies.specs.Judgement.{at}
+use Rattle.lsl_bodies.specs.Names.{nearest}
+use Rattle.lsl_bodies.specs.Verdict.{Verdict, ◌>>=◌, the_one_verdict, must_verdict, each_verdict}
+use Rattle.lsl_bodies.specs.Sameness.{same_event, same_kinds}
 use Rattle.std.specs.List.{list_any}
 
 abbrev pub constant_part : Option ConstantId → Option Part

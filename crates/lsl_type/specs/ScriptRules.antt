@@ -1,35 +1,21 @@
 -- What scripts stand for, and their first faults: headers in text order, then bodies.
-use Rattle.std.specs.Prelude.{ℕ, Option, None, List, [], ◌∷◌, ◌++◌, length, codes}
+use Rattle.std.specs.Prelude.{ℕ, Option, None, List, [], ◌∷◌, ◌++◌, codes}
 use Rattle.lsl_value.specs.declared.tagged.Kind.{Kind}
 use Rattle.lsl_tree.specs.declared.expression.Name.{Name}
 use Rattle.lsl_tree.specs.declared.script.Param.{Param}
 use Rattle.lsl_tree.specs.Statements.{Items}
 use Rattle.lsl_tree.specs.Scripts as source
 use Rattle.lsl_tree.specs.Scripts.{Header, State, Tree}
-use Rattle.lsl_tree.specs.Program.{Routine, NamedRoutine, EventRoutine, ProgramState, Program}
-use Rattle.lsl_type.specs.declared.faults.TypeKind.TheVariants.{WrongHandler}
-use Rattle.lsl_type.specs.declared.frame.Home.{Home}
-use Rattle.lsl_type.specs.declared.frame.Home.TheVariants.{Handler, Function}
-use Rattle.lsl_type.specs.Scope.{ScopeView, spelled, entered, opened}
-use Rattle.lsl_type.specs.Known.{KnownView, no_headers, known_from}
-use Rattle.lsl_type.specs.Table.{IsEvent}
-use Rattle.lsl_type.specs.ActionForms.{ended}
-use Rattle.lsl_type.specs.Judgement.{at, Judgement, gives, ◌>>=◌, the_one, each}
-use Rattle.lsl_type.specs.ActionRules.{items}
+use Rattle.lsl_tree.specs.Program.{NamedRoutine, EventRoutine, ProgramState, Program}
+use Rattle.lsl_bodies.specs.declared.faults.TypeKind.TheVariants.{WrongHandler}
+use Rattle.lsl_bodies.specs.declared.frame.Home.TheVariants.{Handler, Function}
+use Rattle.lsl_bodies.specs.Scope.{ScopeView, spelled}
+use Rattle.lsl_bodies.specs.Known.{KnownView}
+use Rattle.lsl_bodies.specs.BodyRules.{body}
+use Rattle.lsl_type.specs.Headers.{no_headers, known_from}
+use Rattle.lsl_bodies.specs.Table.{IsEvent}
+use Rattle.lsl_bodies.specs.Judgement.{at, Judgement, gives, ◌>>=◌, the_one, each}
 use Rattle.lsl_type.specs.HeaderRules.{header, handler, state}
-
--- a body, with the parameters around it
-abbrev pub body : KnownView → ScopeView → Home → Name → Option Kind → List Param → Items → Judgement Routine
-body known s home x kind params es = do
-  inner ← items known home (opened (entered s params) es) es
-  gives (record {
-    line = x.span.line;
-    kind = kind;
-    params = length params;
-    slots = inner.1.slots;
-    body =
-        ended kind inner.0;
-  })
 
 abbrev pub function_routine : KnownView → ScopeView → Option Kind → Name → List Param → Items → Judgement NamedRoutine
 function_routine known s k x params es = do

@@ -1,36 +1,24 @@
 -- What scripts stand for, and their first faults, as functions.
-use Rattle.std.specs.Prelude.{ℕ, Option, None, List, [], ◌∷◌, ◌++◌, length, Ok}
+use Rattle.std.specs.Prelude.{ℕ, Option, None, List, [], ◌∷◌, ◌++◌, Ok}
 use Rattle.lsl_value.specs.declared.tagged.Kind.{Kind}
 use Rattle.lsl_tree.specs.declared.expression.Name.{Name}
 use Rattle.lsl_tree.specs.declared.script.Param.{Param}
 use Rattle.lsl_tree.specs.Statements.{Items}
+use Rattle.lsl_tree.specs.Statements.{Items}
 use Rattle.lsl_tree.specs.Scripts as source
 use Rattle.lsl_tree.specs.Scripts.{Header, State, Tree}
-use Rattle.lsl_tree.specs.Program.{Routine, NamedRoutine, EventRoutine, ProgramState, Program}
-use Rattle.lsl_type.specs.declared.faults.TypeKind.TheVariants.{WrongHandler}
-use Rattle.lsl_type.specs.declared.frame.Home.{Home}
-use Rattle.lsl_type.specs.declared.frame.Home.TheVariants.{Handler, Function}
-use Rattle.lsl_type.specs.Scope.{ScopeView, spelled, entered, opened}
-use Rattle.lsl_type.specs.Known.{KnownView, HeadersView, no_headers, known_from}
-use Rattle.lsl_type.specs.Table.{event_of}
-use Rattle.lsl_type.specs.ActionForms.{ended}
-use Rattle.lsl_type.specs.Judgement.{at}
-use Rattle.lsl_type.specs.Verdict.{Verdict, ◌>>=◌, the_one_verdict, each_verdict}
-use Rattle.lsl_type.specs.ActionVerdicts.{items_verdict}
+use Rattle.lsl_tree.specs.Program.{NamedRoutine, EventRoutine, ProgramState, Program}
+use Rattle.lsl_bodies.specs.declared.faults.TypeKind.TheVariants.{WrongHandler}
+use Rattle.lsl_bodies.specs.declared.frame.Home.TheVariants.{Handler, Function}
+use Rattle.lsl_bodies.specs.Scope.{ScopeView, spelled}
+use Rattle.lsl_bodies.specs.Known.{KnownView}
+use Rattle.lsl_bodies.specs.BodyVerdicts.{body_verdict}
+use Rattle.lsl_type.specs.Headers.{HeadersView, no_headers, known_from}
+use Rattle.lsl_bodies.specs.Table.{event_of}
+use Rattle.lsl_bodies.specs.Judgement.{at}
+use Rattle.lsl_bodies.specs.Verdict.{Verdict, ◌>>=◌, the_one_verdict, each_verdict}
 use Rattle.lsl_type.specs.ScriptRules.{default_name}
 use Rattle.lsl_type.specs.HeaderVerdicts.{header_verdict, handler_verdict, state_verdict}
-
-abbrev pub body_verdict : KnownView → ScopeView → Home → Name → Option Kind → List Param → Items → Verdict Routine
-body_verdict known s home x kind params es = do
-  inner ← items_verdict known home (opened (entered s params) es) es
-  Ok (record {
-    line = x.span.line;
-    kind = kind;
-    params = length params;
-    slots = inner.1.slots;
-    body =
-        ended kind inner.0;
-  })
 
 abbrev pub function_routine_verdict :
     KnownView → ScopeView → Option Kind → Name → List Param → Items → Verdict NamedRoutine

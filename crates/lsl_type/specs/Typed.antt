@@ -4,7 +4,7 @@ use Rattle.lsl_text.specs.declared.Refusal.{Refusal}
 use Rattle.lsl_text.specs.declared.Refusal.TheVariants.{NoMemory, Fault}
 use Rattle.lsl_tree.specs.Scripts.{Tree}
 use Rattle.lsl_tree.specs.Program.{Program}
-use Rattle.lsl_type.specs.declared.faults.TypeFault.{TypeFault}
+use Rattle.lsl_bodies.specs.declared.faults.TypeFault.{TypeFault}
 use Rattle.lsl_type.specs.ScriptRules.{script}
 
 -- the script is this program

@@ -4,18 +4,15 @@ ghost use Rattle.std.specs.Prelude.{◌≡◌, map};
 ghost use Rattle.lsl_tree.specs.Scripts as source;
 ghost use Rattle.lsl_tree.specs.Scripts.{header_of, initial_value_of};
 ghost use Rattle.lsl_tree.specs.Statements.{items_of};
-ghost use Rattle.lsl_type.specs.Judgement.{at};
-ghost use Rattle.lsl_type.specs.Known.{headers_of, no_headers};
-ghost use Rattle.lsl_type.specs.Verdict.{Rules, each_verdict, must_verdict};
+ghost use Rattle.lsl_bodies.specs.Judgement.{at};
+ghost use Rattle.lsl_type.specs.Headers.{headers_of, no_headers};
+ghost use Rattle.lsl_bodies.specs.Verdict.{Rules, each_verdict, must_verdict};
 ghost use Rattle.lsl_type.specs.HeaderVerdicts.{header_verdict, is_unused};
 
-use crate::faults::{Refused, TypeKind, fault};
-use crate::frame::{Scope, Variable};
 use crate::initials::{empty_initial, initial, initial_as_kind};
-use crate::known::{Headers, Signature};
-use crate::names::Names;
+use crate::known::Headers;
 use crate::params::{kinds, params};
-use crate::table::is_reserved;
+use lsl_bodies::{Names, Refused, Scope, Signature, TypeKind, Variable, fault, is_reserved};
 use lsl_tree::{Function, Global as GlobalHeader, Header, Name, Place};
 use std::alloc::Global;
 

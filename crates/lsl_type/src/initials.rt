@@ -4,18 +4,17 @@ ghost use Rattle.std.specs.Prelude.{◌≡◌, [], length, IfOk, Some, None};
 ghost use Rattle.lsl_tree.specs.Scripts.{simple_of};
 ghost use Rattle.lsl_tree.specs.Program.{initial_of};
 ghost use Rattle.lsl_tree.specs.Initials.{part_kind_of, initial_kind_of};
-ghost use Rattle.lsl_type.specs.Judgement.{at};
-ghost use Rattle.lsl_type.specs.Scope.{scope_of};
-ghost use Rattle.lsl_type.specs.Conversions.{empty_initial, cast_initial, is_no_list};
-ghost use Rattle.lsl_type.specs.Spans.{initial_span, atom_span};
-ghost use Rattle.lsl_type.specs.Verdict.{Rules, each_verdict, must_verdict};
+ghost use Rattle.lsl_bodies.specs.Judgement.{at};
+ghost use Rattle.lsl_bodies.specs.Scope.{scope_of};
+ghost use Rattle.lsl_bodies.specs.Conversions.{empty_initial, cast_initial, is_no_list};
+ghost use Rattle.lsl_bodies.specs.Spans.{initial_span, atom_span};
+ghost use Rattle.lsl_bodies.specs.Verdict.{Rules, each_verdict, must_verdict};
 ghost use Rattle.lsl_type.specs.HeaderVerdicts.{initial_part_verdict, next_part_verdict, initial_verdict};
 ghost use Rattle.lsl_type.specs.HeaderVerdicts.{flat_parts_verdict, constant_initial_verdict, initial_become_verdict};
 
-use crate::faults::{Refused, TypeKind, fault};
-use crate::frame::{Scope, Variable};
-use crate::spans::{atom_span, initial_span};
-use crate::table::{constant, constant_kind};
+use lsl_bodies::{
+    Refused, Scope, TypeKind, Variable, atom_span, constant, constant_kind, fault, initial_span,
+};
 use lsl_tree::{Atom, Initial, Name, Part, Place, Simple};
 use lsl_value::{Kind, Text};
 use std::alloc::Global;

@@ -8,42 +8,21 @@ ghost use Rattle.lsl_tree.specs.Program as program;
 ghost use Rattle.lsl_tree.specs.Program.{program_of};
 ghost use Rattle.lsl_tree.specs.Shape.{IsShaped};
 ghost use Rattle.lsl_tree.specs.Kinded.{IsKinded};
-ghost use Rattle.lsl_type.specs.declared.faults.TypeFault.{TypeFault};
+ghost use Rattle.lsl_bodies.specs.declared.faults.TypeFault.{TypeFault};
 ghost use Rattle.lsl_type.specs.Typed.{Typed, TypeFirst, IsTypeRefusal, IsThat};
 
 use lsl_tree::{Program, Tree};
 use std::alloc::Global;
 
-mod assignments;
-mod blocks;
 mod bodies;
-mod calls;
-mod checker;
-mod conversions;
-mod declarations;
-mod effects;
-mod faults;
-mod forms;
-mod frame;
 mod headers;
 mod initials;
 mod known;
-mod leaving;
-mod names;
-mod operators;
 mod params;
-mod places;
 mod program;
-mod routine;
-mod scope;
-mod spans;
-mod statements;
 mod states;
-mod table;
-mod values;
-mod variables;
 
-pub use crate::faults::{Refused, TypeFault, TypeKind};
+pub use lsl_bodies::{Refused, TypeFault, TypeKind};
 
 /// The checked program of a script, or the first fault of its names and kinds: headers come first, in text order, and
 /// then bodies; in each part what stands in it comes before the part itself, from left to right. Takes memory for the

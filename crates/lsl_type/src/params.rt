@@ -1,14 +1,12 @@
 //! Parameters.
 
 ghost use Rattle.std.specs.Prelude.{◌≡◌, [], IfOk};
-ghost use Rattle.lsl_type.specs.Known.{kinds_of};
-ghost use Rattle.lsl_type.specs.Verdict.{Rules, each_verdict};
-ghost use Rattle.lsl_type.specs.Sameness.{same_kinds};
+ghost use Rattle.lsl_bodies.specs.Known.{kinds_of};
+ghost use Rattle.lsl_bodies.specs.Verdict.{Rules, each_verdict};
+ghost use Rattle.lsl_bodies.specs.Sameness.{same_kinds};
 ghost use Rattle.lsl_type.specs.HeaderVerdicts.{param_verdict};
 
-use crate::faults::{Refused, TypeKind, fault};
-use crate::names::Names;
-use crate::table::is_reserved;
+use lsl_bodies::{Names, Refused, TypeKind, fault, is_reserved};
 use lsl_text::NoMemory;
 use lsl_tree::Param;
 use lsl_value::Kind;

@@ -2,17 +2,15 @@
 
 ghost use Rattle.lsl_tree.specs.Scripts.{tree_of};
 ghost use Rattle.lsl_tree.specs.Program.{program_of};
-ghost use Rattle.lsl_type.specs.Known.{headers_of};
-ghost use Rattle.lsl_type.specs.Verdict.{Rules};
+ghost use Rattle.lsl_type.specs.Headers.{headers_of};
+ghost use Rattle.lsl_bodies.specs.Verdict.{Rules};
 ghost use Rattle.lsl_type.specs.ScriptVerdicts.{bodies_verdict, script_verdict};
 
 use crate::bodies::Bodies;
-use crate::faults::Refused;
-use crate::frame::Frame;
 use crate::headers::headers;
-use crate::known::{Headers, Known};
-use crate::names::Names;
+use crate::known::Headers;
 use crate::states::{handlers, states};
+use lsl_bodies::{Frame, Known, Names, Refused};
 use lsl_tree::{Program, Tree};
 use std::alloc::Global;
 

@@ -2,13 +2,11 @@
 
 ghost use Rattle.std.specs.Prelude.{◌≡◌, map, [], ◌∷◌, ◌++◌};
 ghost use Rattle.lsl_tree.specs.Scripts.{handler_of, state_of};
-ghost use Rattle.lsl_type.specs.Verdict.{Rules, each_verdict};
+ghost use Rattle.lsl_bodies.specs.Verdict.{Rules, each_verdict};
 ghost use Rattle.lsl_type.specs.HeaderVerdicts.{handler_verdict, state_verdict, has_event};
 
-use crate::faults::{Refused, TypeKind, fault};
-use crate::names::Names;
 use crate::params::{has_kinds, params};
-use crate::table::{event, event_params};
+use lsl_bodies::{Names, Refused, TypeKind, event, event_params, fault};
 use lsl_tree::{Handler, State};
 use lsl_value::EventId;
 use std::alloc::Global;

@@ -2,10 +2,10 @@ use Rattle.std.proofs.Common.{◌<◌, ◌≤◌, length, ◌∙◌, arith}
 use Rattle.std.specs.Prelude.{map}
 use Rattle.std.proofs.lemmas.Result.{err_from_is_err_and}
 use Rattle.lsl_tree.specs.Scripts.{header_of}
-use Rattle.lsl_type.specs.Known.{headers_of, no_headers}
-use Rattle.lsl_type.specs.Verdict.{each_verdict}
+use Rattle.lsl_type.specs.Headers.{headers_of, no_headers}
+use Rattle.lsl_bodies.specs.Verdict.{each_verdict}
 use Rattle.lsl_type.specs.HeaderVerdicts.{header_verdict}
-use Rattle.lsl_type.proofs.Walks.{each_next, each_stop, each_end, each_map, fails_as}
+use Rattle.lsl_bodies.proofs.Walks.{each_next, each_stop, each_end, each_map, fails_as}
 use Rattle.lsl_type.proofs.HeaderWalks.{header_next}
 use Rattle.lsl_type.proofs.headers.headers.Goals as goal
 

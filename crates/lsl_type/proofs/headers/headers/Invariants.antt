@@ -1,6 +1,6 @@
 use Rattle.std.proofs.Common.{◌≡◌, drop}
-use Rattle.lsl_type.specs.Known.{headers_of, no_headers}
-use Rattle.lsl_type.specs.Verdict.{each_verdict}
+use Rattle.lsl_type.specs.Headers.{headers_of, no_headers}
+use Rattle.lsl_bodies.specs.Verdict.{each_verdict}
 use Rattle.lsl_type.proofs.HeaderWalks.{header_next}
 use Rattle.lsl_type.proofs.headers.headers.Given as goal
 

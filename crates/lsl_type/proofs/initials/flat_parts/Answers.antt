@@ -1,9 +1,9 @@
 use Rattle.std.proofs.Common.{◌<◌, ◌≤◌, ◌+◌, length, drop, sym, ap, ◌∙◌, arith}
 use Rattle.std.proofs.lemmas.Result.{err_from_is_err_and}
-use Rattle.lsl_type.specs.Verdict.{Verdict, ◌>>=◌}
+use Rattle.lsl_bodies.specs.Verdict.{Verdict, ◌>>=◌}
 use Rattle.lsl_type.specs.HeaderVerdicts.{flat_parts_verdict}
 use Rattle.lsl_type.proofs.HeaderWalks.{part_flat_r, parts_next, parts_end}
-use Rattle.lsl_type.proofs.Walks.{fails_as}
+use Rattle.lsl_bodies.proofs.Walks.{fails_as}
 use Rattle.lsl_type.proofs.initials.flat_parts.Goals as goal
 
 pub returns-in_err-flat_part : goal.returns-in_err-flat_part

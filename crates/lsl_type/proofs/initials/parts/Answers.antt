@@ -1,10 +1,10 @@
 use Rattle.std.proofs.Common.{◌≡◌, ◌<◌, ◌≤◌, [], ◌∷◌, ◌++◌, length, sym, ap, ◌∙◌, arith, Ok, length-append}
 use Rattle.std.proofs.lemmas.Result.{err_from_is_err_and}
 use Rattle.lsl_tree.specs.declared.program.Part.{Part}
-use Rattle.lsl_type.specs.Scope.{scope_of}
-use Rattle.lsl_type.specs.Verdict.{Verdict, ◌>>=◌, each_verdict}
+use Rattle.lsl_bodies.specs.Scope.{scope_of}
+use Rattle.lsl_bodies.specs.Verdict.{Verdict, ◌>>=◌, each_verdict}
 use Rattle.lsl_type.specs.HeaderVerdicts.{initial_part_verdict, next_part_verdict}
-use Rattle.lsl_type.proofs.Walks.{each_next, each_stop, each_end, fails_as}
+use Rattle.lsl_bodies.proofs.Walks.{each_next, each_stop, each_end, fails_as}
 use Rattle.lsl_type.proofs.initials.parts.Goals as goal
 
 pub returns-in_err-part-clause-found : goal.returns-in_err-part-clause-found

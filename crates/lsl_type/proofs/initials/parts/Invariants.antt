@@ -1,6 +1,6 @@
 use Rattle.std.proofs.Common.{◌≡◌, [], length, drop}
-use Rattle.lsl_type.specs.Scope.{scope_of}
-use Rattle.lsl_type.specs.Verdict.{each_verdict}
+use Rattle.lsl_bodies.specs.Scope.{scope_of}
+use Rattle.lsl_bodies.specs.Verdict.{each_verdict}
 use Rattle.lsl_type.specs.HeaderVerdicts.{next_part_verdict}
 use Rattle.lsl_type.proofs.initials.parts.Given as goal
 

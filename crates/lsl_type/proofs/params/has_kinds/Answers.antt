@@ -1,6 +1,6 @@
 use Rattle.std.proofs.Common.{◌≡◌, length, sym, ◌∙◌}
 use Rattle.std.proofs.lemmas.List.{length-map}
-use Rattle.lsl_type.specs.Known.{kinds_of}
+use Rattle.lsl_bodies.specs.Known.{kinds_of}
 use Rattle.lsl_type.proofs.HeaderWalks.{same_kinds-counts}
 use Rattle.lsl_type.proofs.params.has_kinds.Goals as goal
 

@@ -1,6 +1,6 @@
 use Rattle.std.proofs.Common.{◌≡◌, length, drop}
-use Rattle.lsl_type.specs.Known.{kinds_of}
-use Rattle.lsl_type.specs.Sameness.{same_kinds}
+use Rattle.lsl_bodies.specs.Known.{kinds_of}
+use Rattle.lsl_bodies.specs.Sameness.{same_kinds}
 use Rattle.lsl_type.proofs.params.has_kinds.Given as goal
 
 abbrev pub invariant-loop-i : goal.invariant-loop-i

@@ -1,8 +1,8 @@
 use Rattle.std.proofs.Common.{◌<◌, ◌≤◌, [], length, arith}
 use Rattle.std.proofs.lemmas.Result.{err_from_is_err_and}
-use Rattle.lsl_type.specs.Verdict.{each_verdict}
+use Rattle.lsl_bodies.specs.Verdict.{each_verdict}
 use Rattle.lsl_type.specs.HeaderVerdicts.{param_verdict}
-use Rattle.lsl_type.proofs.Walks.{each_next, each_stop, each_end, fails_as}
+use Rattle.lsl_bodies.proofs.Walks.{each_next, each_stop, each_end, fails_as}
 use Rattle.lsl_type.proofs.params.params.Goals as goal
 
 pub returns-in_err-add_param : goal.returns-in_err-add_param

@@ -1,5 +1,5 @@
 use Rattle.std.proofs.Common.{◌≡◌, [], drop}
-use Rattle.lsl_type.specs.Verdict.{each_verdict}
+use Rattle.lsl_bodies.specs.Verdict.{each_verdict}
 use Rattle.lsl_type.specs.HeaderVerdicts.{param_verdict}
 use Rattle.lsl_type.proofs.params.params.Given as goal
 

@@ -2,9 +2,9 @@ use Rattle.std.proofs.Common.{◌≡◌, ◌<◌, ◌≤◌, [], ◌∷◌, ◌+
 use Rattle.std.specs.Prelude.{map}
 use Rattle.std.proofs.lemmas.Result.{err_from_is_err_and}
 use Rattle.lsl_tree.specs.Scripts.{handler_of}
-use Rattle.lsl_type.specs.Verdict.{each_verdict, Refuses}
+use Rattle.lsl_bodies.specs.Verdict.{each_verdict, Refuses}
 use Rattle.lsl_type.specs.HeaderVerdicts.{handler_verdict}
-use Rattle.lsl_type.proofs.Walks.{each_next, each_stop, each_end, each_map, fails_as}
+use Rattle.lsl_bodies.proofs.Walks.{each_next, each_stop, each_end, each_map, fails_as}
 use Rattle.lsl_type.proofs.HeaderWalks.{handler_next}
 use Rattle.lsl_type.proofs.states.handlers.Goals as goal
 

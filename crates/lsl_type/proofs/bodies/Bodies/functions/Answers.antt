@@ -3,12 +3,12 @@ use Rattle.std.specs.Prelude.{map}
 use Rattle.std.proofs.lemmas.Result.{err_from_is_err_and}
 use Rattle.lsl_tree.specs.Scripts.{header_of}
 use Rattle.lsl_tree.specs.Program.{function_of}
-use Rattle.lsl_type.specs.Known.{known_of}
-use Rattle.lsl_type.specs.Scope.{scope_of}
-use Rattle.lsl_type.specs.Verdict.{Refuses, each_verdict}
+use Rattle.lsl_bodies.specs.Known.{known_of}
+use Rattle.lsl_bodies.specs.Scope.{scope_of}
+use Rattle.lsl_bodies.specs.Verdict.{Refuses, each_verdict}
 use Rattle.lsl_type.specs.ScriptVerdicts.{function_body_verdict}
-use Rattle.lsl_type.proofs.BodyWalks.{function_next}
-use Rattle.lsl_type.proofs.Walks.{each_stop, each_end, each_map, fails_as}
+use Rattle.lsl_type.proofs.BodyRounds.{function_next}
+use Rattle.lsl_bodies.proofs.Walks.{each_stop, each_end, each_map, fails_as}
 use Rattle.lsl_type.proofs.bodies.Bodies.functions.Goals as goal
 
 pub returns-in_err-add_function-clause-found : goal.returns-in_err-add_function-clause-found

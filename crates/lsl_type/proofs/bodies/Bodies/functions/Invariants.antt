@@ -1,10 +1,10 @@
 use Rattle.std.proofs.Common.{◌≡◌, [], drop}
 use Rattle.std.specs.Prelude.{map}
 use Rattle.lsl_tree.specs.Program.{function_of}
-use Rattle.lsl_type.specs.Known.{known_of}
-use Rattle.lsl_type.specs.Scope.{scope_of, frame_of}
-use Rattle.lsl_type.specs.Verdict.{each_verdict}
-use Rattle.lsl_type.proofs.BodyWalks.{function_next}
+use Rattle.lsl_bodies.specs.Known.{known_of}
+use Rattle.lsl_bodies.specs.Scope.{scope_of, frame_of}
+use Rattle.lsl_bodies.specs.Verdict.{each_verdict}
+use Rattle.lsl_type.proofs.BodyRounds.{function_next}
 use Rattle.lsl_type.proofs.bodies.Bodies.functions.Given as goal
 
 abbrev pub invariant-loop-header : goal.invariant-loop-header

@@ -4,12 +4,12 @@ use Rattle.std.proofs.lemmas.Result.{err_from_is_err_and}
 use Rattle.lsl_tree.specs.Scripts.{handler_of}
 use Rattle.lsl_tree.specs.Program as program
 use Rattle.lsl_tree.specs.Program.{EventRoutine}
-use Rattle.lsl_type.specs.Known.{known_of}
-use Rattle.lsl_type.specs.Scope.{scope_of}
-use Rattle.lsl_type.specs.Verdict.{Verdict, ◌>>=◌, Refuses, each_verdict}
+use Rattle.lsl_bodies.specs.Known.{known_of}
+use Rattle.lsl_bodies.specs.Scope.{scope_of}
+use Rattle.lsl_bodies.specs.Verdict.{Verdict, ◌>>=◌, Refuses, each_verdict}
 use Rattle.lsl_type.specs.ScriptVerdicts.{handler_routine_verdict, handler_body_verdict}
-use Rattle.lsl_type.proofs.BodyWalks.{handler_next}
-use Rattle.lsl_type.proofs.Walks.{each_stop, each_end, each_map, fails_as}
+use Rattle.lsl_type.proofs.BodyRounds.{handler_next}
+use Rattle.lsl_bodies.proofs.Walks.{each_stop, each_end, each_map, fails_as}
 use Rattle.lsl_type.proofs.bodies.Bodies.handlers.Goals as goal
 
 pub returns-in_err-handler-clause-found : goal.returns-in_err-handler-clause-found

@@ -4,13 +4,13 @@ use Rattle.std.proofs.lemmas.Result.{err_from_is_err_and}
 use Rattle.lsl_tree.specs.Scripts.{state_of}
 use Rattle.lsl_tree.specs.Program as program
 use Rattle.lsl_tree.specs.Program.{ProgramState, handler_of}
-use Rattle.lsl_type.specs.Known.{known_of}
-use Rattle.lsl_type.specs.Scope.{scope_of}
-use Rattle.lsl_type.specs.Verdict.{Verdict, ◌>>=◌, Refuses, each_verdict}
+use Rattle.lsl_bodies.specs.Known.{known_of}
+use Rattle.lsl_bodies.specs.Scope.{scope_of}
+use Rattle.lsl_bodies.specs.Verdict.{Verdict, ◌>>=◌, Refuses, each_verdict}
 use Rattle.lsl_type.specs.ScriptVerdicts.{program_state_verdict, state_body_verdict}
 use Rattle.lsl_type.specs.ScriptRules.{default_name}
-use Rattle.lsl_type.proofs.BodyWalks.{state_next}
-use Rattle.lsl_type.proofs.Walks.{each_stop, each_end, each_map, fails_as}
+use Rattle.lsl_type.proofs.BodyRounds.{state_next}
+use Rattle.lsl_bodies.proofs.Walks.{each_stop, each_end, each_map, fails_as}
 use Rattle.lsl_type.proofs.bodies.Bodies.states.Goals as goal
 
 pub returns-in_err-state : goal.returns-in_err-state

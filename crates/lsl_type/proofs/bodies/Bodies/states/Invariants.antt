@@ -1,11 +1,11 @@
 use Rattle.std.proofs.Common.{◌≡◌, [], ◌∷◌, drop}
 use Rattle.std.specs.Prelude.{map}
 use Rattle.lsl_tree.specs.Program.{handler_of, state_of}
-use Rattle.lsl_type.specs.Known.{known_of}
-use Rattle.lsl_type.specs.Scope.{scope_of, frame_of}
-use Rattle.lsl_type.specs.Verdict.{each_verdict}
+use Rattle.lsl_bodies.specs.Known.{known_of}
+use Rattle.lsl_bodies.specs.Scope.{scope_of, frame_of}
+use Rattle.lsl_bodies.specs.Verdict.{each_verdict}
 use Rattle.lsl_type.specs.ScriptRules.{default_name}
-use Rattle.lsl_type.proofs.BodyWalks.{state_next}
+use Rattle.lsl_type.proofs.BodyRounds.{state_next}
 use Rattle.lsl_type.proofs.bodies.Bodies.states.Given as goal
 
 abbrev pub invariant-loop-state : goal.invariant-loop-state

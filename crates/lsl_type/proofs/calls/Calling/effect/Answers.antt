@@ -1,6 +1,0 @@
-use Rattle.std.proofs.Common.{rules}
-use Rattle.lsl_tree.proofs.ProgramRows.{node_of-Call}
-use Rattle.lsl_type.proofs.calls.Calling.effect.Goals as goal
-
-pub returns-in-Some : goal.returns-in-Some
-returns-in-Some c = rw node_of-Call (search rules)

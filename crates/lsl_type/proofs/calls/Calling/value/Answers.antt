@@ -1,6 +1,0 @@
-use Rattle.std.proofs.Common.{rules}
-use Rattle.lsl_tree.proofs.ProgramRows.{node_of-Call}
-use Rattle.lsl_type.proofs.calls.Calling.value.Goals as goal
-
-pub returns : goal.returns
-returns c = rw node_of-Call (search rules)

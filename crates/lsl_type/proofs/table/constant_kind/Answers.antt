@@ -1,7 +1,0 @@
-use Rattle.std.proofs.Common.{rules}
-use Rattle.lsl_type.specs.Table.{constant_kind_of}
-use Rattle.lsl_type.proofs.table.constant_kind.Goals as goal
-
-pub returns : goal.returns
-unfolding constant_kind_of
-returns c = search rules

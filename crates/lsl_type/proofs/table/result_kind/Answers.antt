@@ -1,7 +1,0 @@
-use Rattle.std.proofs.Common.{rules}
-use Rattle.lsl_type.specs.Table.{result_of}
-use Rattle.lsl_type.proofs.table.result_kind.Goals as goal
-
-pub returns : goal.returns
-unfolding result_of
-returns c = search rules
