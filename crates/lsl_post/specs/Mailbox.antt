@@ -1,5 +1,5 @@
 -- A script's mailbox: the events that wait for it, its listens and its timer, and what is done to them.
-use Rattle.std.specs.Prelude.{ℕ, ℤ, Bool, true, false, not, ◌&&◌, if◌then◌else◌, List, [], drop, Option, slice_get, is_some}
+use Rattle.std.specs.Prelude.{ℕ, Bool, true, false, not, ◌&&◌, if◌then◌else◌, List, [], drop, Option, slice_get, is_some}
 use Rattle.lsl_code.specs.declared.functions.StateCode.{StateCode}
 use Rattle.lsl_code.specs.Units.{handler_of}
 use Rattle.lsl_post.specs.declared.events.Event.{Event}
@@ -11,8 +11,7 @@ use Rattle.lsl_post.specs.declared.parts.Rest.TheVariants.{Idle, Saved, Dead}
 use Rattle.lsl_post.specs.declared.parts.ScriptParts.{ScriptParts}
 use Rattle.lsl_post.specs.Listens.{hears, no_listens, Standing}
 use Rattle.lsl_post.specs.Queue.{has_room, has_timer, is_timer, with_event}
-use Rattle.lsl_post.specs.Timer.{timing_of}
-use Rattle.lsl_post.specs.Timing.{is_due, stopped, timing_after, timing_set, Timing}
+use Rattle.lsl_post.specs.Timing.{is_due, stopped, timing_after, Timing}
 
 pub record Mailbox : Type 0 where
   pub queue : List Event
@@ -52,9 +51,6 @@ cleared box = record box { queue = [] }
 abbrev pub mailbox_hears : Filter → Mailbox → Bool
 mailbox_hears said box = hears said box.listens
 
-abbrev pub timer_set : ℤ → ℕ → Mailbox → Mailbox
-timer_set seconds clock box = record box { timing = timing_set seconds clock }
-
 abbrev pub timer_due : ℕ → Mailbox → Bool
 timer_due clock box = is_due clock box.timing
 
@@ -66,9 +62,6 @@ abbrev pub is_alive : Rest → Bool
 is_alive Idle = true
 is_alive (Saved event sack) = true
 is_alive (Dead fault) = false
-
-abbrev pub mailbox_of : ScriptParts → Mailbox
-mailbox_of parts = record { queue = parts.queue; listens = parts.listens; timing = timing_of parts.timer }
 
 -- the script is alive, and its state has a handler for the event
 abbrev pub takes : List StateCode → ScriptParts → Event → Bool

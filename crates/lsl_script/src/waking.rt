@@ -8,7 +8,6 @@ ghost use Rattle.lsl_post.specs.declared.parts.Rest.TheVariants as rests;
 ghost use Rattle.lsl_running.specs.Charging.{default_limit};
 ghost use Rattle.lsl_machine.specs.State.{CanRun, bodies_of};
 ghost use Rattle.lsl_code.specs.Weaves.{Weaves};
-ghost use Rattle.lsl_post.specs.Mailbox.{is_alive, mailbox_of};
 ghost use Rattle.lsl_script.specs.Awake.{IsAwake, taken_by};
 ghost use Rattle.lsl_script.specs.Codes.{HasUnit, rules_of};
 ghost use Rattle.lsl_script.specs.Fitting.{FitsUnit, FitsStates, IsInHand, are_ready, has_handler};
