@@ -30,6 +30,7 @@ pub mod SpeltImageLemmas
 pub mod SpeltLemmas
 pub mod SpeltListenLemmas
 pub mod SpeltPartLemmas
+pub mod StandLemmas
 pub mod StoreLemmas
 pub mod TakenLemmas
 pub mod ValidCallLemmas

@@ -5,10 +5,12 @@ use Rattle.std.proofs.lemmas.Bool.Decides.{nat_tests}
 use Rattle.std.proofs.lemmas.Slice.Eq.{bytes_eq-Decides}
 use Rattle.std.specs.List.{flat_map}
 use Rattle.std.specs.Str.{bytes_eq}
+use Rattle.lsl_running.specs.Charging.{default_limit}
 use Rattle.lsl_code.specs.declared.woven_units.Woven.{Woven as Code}
 use Rattle.lsl_code.specs.Kinds.{kinds_of}
 use Rattle.lsl_post.specs.declared.parts.Pair.{Pair}
 use Rattle.lsl_post.specs.declared.parts.ScriptParts.{ScriptParts}
+use Rattle.lsl_post.specs.Fitting.{least_limit}
 use Rattle.lsl_bytes.specs.Fields.{text_bytes, u8_bytes, u16_bytes, u32_bytes, u64_bytes}
 use Rattle.lsl_image.specs.declared.parts.ObjectParts.{ObjectParts}
 use Rattle.lsl_image.specs.declared.parts.Shape.{Shape}
@@ -34,11 +36,12 @@ limit-only : (version p most : ℕ) (part : List ℕ) → Spelt (limit version) 
 unfolding limit
 limit-only version p most part s = by (version == 1) s
   where
-    by : (first : Bool) → Spelt (cond first (Ends 65536) (field_that U32 (λ n. nat_le 1064 n && nat_le n 65536))) p most
+    by : (first : Bool) → Spelt (cond first (Ends default_limit)
+        (field_that U32 (λ n. nat_le least_limit n && nat_le n default_limit))) p most
         part
         → part ≡ cond first [] (u32_bytes most)
     by true r = (ended r).none
-    by false r = (that-bytes U32 (λ n. nat_le 1064 n && nat_le n 65536) r).bytes
+    by false r = (that-bytes U32 (λ n. nat_le least_limit n && nat_le n default_limit) r).bytes
 
 -- what a script of a unit is spelled by
 record IsScriptOf (version number : ℕ) (unit : Code) (s : ScriptParts) (part : List ℕ) : Type 0 where

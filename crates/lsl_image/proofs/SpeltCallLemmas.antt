@@ -19,15 +19,17 @@ use Rattle.lsl_code.specs.Units.{handler_of}
 use Rattle.lsl_post.specs.declared.parts.Rest.{Rest}
 use Rattle.lsl_post.specs.declared.parts.Rest.TheVariants.{Idle, Saved, Dead}
 use Rattle.lsl_post.specs.declared.parts.ScriptParts.{ScriptParts}
+use Rattle.lsl_post.specs.Fitting.{CanRest}
 use Rattle.lsl_bytes.specs.Fields.{u8_bytes, u16_bytes}
 use Rattle.lsl_image.specs.declared.faults.ImageFault.TheVariants.{Body}
 use Rattle.lsl_image.specs.Bytes.{calls_bytes, event_bytes, fault_number, frame_bytes, rest_bytes, values_bytes}
 use Rattle.lsl_image.specs.Fits.{FitsFrame, FitsRest}
 use Rattle.lsl_image.specs.Layout.{Ends, Refused, U16, U8, ◌>>=◌, values_of}
 use Rattle.lsl_image.specs.Rest.{callee_of, dead_rest, ends_in, fault_numbered, frame, frame_at, frame_behind, frame_in, rest, same_callee, saved_calls, saved_rest}
-use Rattle.lsl_image.specs.Valid.{HasFewCalls, MayRest}
+use Rattle.lsl_image.specs.Valid.{HasFewCalls}
 use Rattle.lsl_image.proofs.FrameLemmas.{callee-after}
 use Rattle.lsl_image.proofs.SpeltEventLemmas.{event-spells, values-spells}
+use Rattle.lsl_image.proofs.StandLemmas.{handled-stands}
 use Rattle.lsl_image.proofs.SpeltLemmas.{GoodBehind, Spelt, good-cons, good-nil, spelt-as, spelt-ends, spelt-field, spelt-grown, spelt-here, spelt-last, spelt-tested, spelt-that, spelt-then}
 
 callee-itself : (o : Option ℕ) → same_callee o o ≡ true
@@ -131,7 +133,7 @@ fault-small StackHeap = (omega arith, omega arith)
 fault-small TooManyListens = (omega arith, omega arith)
 
 module _ (unit : Code) (s : ScriptParts) where
-  pub rest-spells : (r : Rest) (p : ℕ) → MayRest unit s r → HasFewCalls r → FitsRest r
+  pub rest-spells : (r : Rest) (p : ℕ) → CanRest unit s.state s.leaving s.globals s.limit r → HasFewCalls r → FitsRest r
       → Spelt (rest unit s.state (is_some s.leaving) s.globals s.limit) p r (rest_bytes r)
   unfolding rest saved_rest dead_rest
   rest-spells Idle p may few fits =
@@ -142,10 +144,11 @@ module _ (unit : Code) (s : ScriptParts) where
       let calls : Spelt (saved_calls unit s.globals s.limit (handler_of unit.states s.state e.id)) r frames
       (calls_bytes frames) =
       subst (λ (h : Option ℕ). Spelt (saved_calls unit s.globals s.limit h) r frames (calls_bytes frames))
-      (sym may.handled) (calls-spells unit may.handler s.globals s.limit frames r may.calls few fits.1) in
+      (sym may.1.handled) (calls-spells unit may.0 s.globals s.limit frames r may.2 few fits.1) in
       spelt-as (sym (append_assoc (u8_bytes 1) (event_bytes e) (calls_bytes frames)))
       (spelt-then _ (spelt-that U8 (λ n. nat_le n 2) 1 (omega arith) refl)
-      (spelt-then _ (event-spells unit s.state (is_some s.leaving) e q fits.0 may.stands)
+      (spelt-then _ (event-spells unit s.state (is_some s.leaving) e q fits.0
+      (handled-stands unit s.state (is_some s.leaving) e (ap is_some may.1.handled) may.1.exit))
       (spelt-last _ calls (spelt-ends refl))))
   rest-spells (Dead fault) p may few fits =
       let small = fault-small fault in

@@ -3,7 +3,9 @@ use Rattle.std.proofs.Common.{◌≡◌, ◌≢◌, ◌∙◌, refl, sym, ap, su
 use Rattle.std.proofs.Math.Bool.{Bool-set}
 use Rattle.std.proofs.lemmas.Bool.{and_from, and_parts, false≢true}
 use Rattle.std.proofs.lemmas.Bool.Decides.{nat_tests}
+use Rattle.std.proofs.lemmas.List.Elements.{recursion_from_All}
 use Rattle.std.specs.List.{AllByRecursion}
+use Rattle.std.specs.Prelude.{All}
 use Rattle.lsl_value.specs.Values.{kind_of}
 use Rattle.lsl_value.specs.declared.names.EventId.{EventId}
 use Rattle.lsl_value.specs.declared.names.EventId.TheVariants as event
@@ -18,6 +20,7 @@ use Rattle.lsl_code.proofs.Tested.{sames}
 use Rattle.lsl_post.specs.declared.events.Event.{Event}
 use Rattle.lsl_post.specs.declared.events.Toucher.{Toucher}
 use Rattle.lsl_post.specs.declared.timer.Timer.{Timer}
+use Rattle.lsl_post.specs.Fitting.{CanLeave, CanWait}
 use Rattle.lsl_post.specs.Queue.{most_events}
 use Rattle.lsl_post.specs.Timing.{fits_timer}
 use Rattle.lsl_bytes.specs.Fields.{FitsU16, i32_bytes, text_bytes, u8_bytes, u16_bytes, u32_bytes, u64_bytes, value_bytes}
@@ -26,7 +29,7 @@ use Rattle.lsl_image.specs.Bytes.{event_bytes, leaving_bytes, queue_bytes, timer
 use Rattle.lsl_image.specs.Fits.{AreValues, FitsEvent, FitsLeaving, FitsQueue, FitsTimer, FitsTold, FitsToucher}
 use Rattle.lsl_image.specs.Layout.{Kinded, Layout, Ends, both, Refused, I32, TextForm, U16, U32, U64, U8, ValueForm, ◌>>=◌, kinded, kinded_values, one_more, values_of}
 use Rattle.lsl_image.specs.Script.{due_timer, event_in, event_numbered, event_of, event_that_may, flag, flagged_leaving, leaving, may_stand, other_state, queue, timer, told_toucher, toucher}
-use Rattle.lsl_image.specs.Valid.{MayLeave, MayWait}
+use Rattle.lsl_image.proofs.StandLemmas.{waits-stands}
 use Rattle.lsl_image.proofs.SpeltLemmas.{Spelt, good-all, spelt-as, spelt-ends, spelt-field, spelt-grown, spelt-here, spelt-last, spelt-that, spelt-then}
 
 abbrev pub those : (kinds : List Kind) (vs : List Value) → same_kinds (kinds_of vs) kinds ≡ true → Kinded kinds
@@ -138,21 +141,22 @@ module _ (unit : Code) (state : ℕ) where
         spelt-as (sym (append_assoc (u8_bytes (event_number e.id)) (values_bytes e.args) (toucher_bytes e.toucher)))
         (spelt-here _ (spelt-then _ (spelt-field U8 (event_number e.id) (number-fits e.id)) known))
 
-  both-all : (events : List Event) → AllByRecursion FitsEvent events → AllByRecursion (MayWait unit state) events
-      → AllByRecursion (λ e. FitsEvent e × MayWait unit state e) events
+  both-all : (events : List Event) → AllByRecursion FitsEvent events → AllByRecursion (CanWait unit.states state) events
+      → AllByRecursion (λ e. FitsEvent e × CanWait unit.states state e) events
   both-all [] fits may = tt
   both-all (e ∷ events) fits may = ((fits.0, may.0), both-all events fits.1 may.1)
 
-  pub queue-spells : (events : List Event) (p : ℕ) → FitsQueue events → AllByRecursion (MayWait unit state) events
+  pub queue-spells : (events : List Event) (p : ℕ) → FitsQueue events → All (CanWait unit.states state) events
       → Spelt (queue unit state) p events (queue_bytes events)
   unfolding queue queue_bytes
   queue-spells events p fits may =
-      let Good : List Event → Event → Type 0 = λ before e. FitsEvent e × MayWait unit state e in
+      let Good : List Event → Event → Type 0 = λ before e. FitsEvent e × CanWait unit.states state e in
       spelt-then _ (spelt-that U8 (λ n. nat_le n most_events) (length events) (omega (arith, fits.few))
       (grind (arith, nat_tests, fits.few)))
       (spelt-grown (λ before. event_in unit state false) event_bytes Good
-      (λ before e q good. event-spells false e q good.0 good.1) events (p + length (u8_bytes (length events)))
-      (good-all (λ e. FitsEvent e × MayWait unit state e) [] events (both-all events fits.each may)))
+      (λ before e q good. event-spells false e q good.0 (waits-stands unit state e good.1)) events (p + length (u8_bytes (length events)))
+      (good-all (λ e. FitsEvent e × CanWait unit.states state e) [] events (both-all events fits.each
+      (recursion_from_All (CanWait unit.states state) events may))))
 
   other-spells : (to p : ℕ) → to < length unit.states → to ≢ state → FitsU16 to
       → Spelt (other_state unit state) p to (u16_bytes to)
@@ -161,7 +165,7 @@ module _ (unit : Code) (state : ℕ) where
       (and_from (nat_lt to (length unit.states)) (not (to == state)) (grind (arith, nat_tests, there))
       (ap not (ne_eqb to state other)))
 
-  pub leaving-spells : (left : Option ℕ) (p : ℕ) → MayLeave unit state left → FitsLeaving left
+  pub leaving-spells : (left : Option ℕ) (p : ℕ) → CanLeave unit.states state left → FitsLeaving left
       → Spelt (leaving unit state) p left (leaving_bytes left)
   unfolding leaving
   leaving-spells None p may fits = spelt-here _ (spelt-last _ (flag-spells 0 p (omega arith)) (spelt-ends refl))

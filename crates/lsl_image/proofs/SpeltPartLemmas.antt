@@ -6,10 +6,12 @@ use Rattle.std.proofs.lemmas.List.Sums.{sum_by-append}
 use Rattle.std.proofs.lemmas.Slice.Eq.{bytes_eq-Decides}
 use Rattle.std.specs.List.{flat_map, AllByRecursion}
 use Rattle.lsl_value.specs.Text.{IsText}
+use Rattle.lsl_running.specs.Charging.{default_limit}
 use Rattle.lsl_code.specs.declared.woven_units.Woven.{Woven as Code}
 use Rattle.lsl_code.specs.Kinds.{kinds_of}
 use Rattle.lsl_post.specs.declared.parts.Pair.{Pair}
 use Rattle.lsl_post.specs.declared.parts.ScriptParts.{ScriptParts}
+use Rattle.lsl_post.specs.Fitting.{FitsUnit, least_limit}
 use Rattle.lsl_bytes.specs.Fields.{text_bytes, u8_bytes, u16_bytes, u32_bytes, u64_bytes}
 use Rattle.lsl_image.specs.declared.faults.ImageFault.TheVariants.{WrongCode}
 use Rattle.lsl_image.specs.declared.parts.ObjectParts.{ObjectParts}
@@ -19,7 +21,7 @@ use Rattle.lsl_image.specs.Layout.{Bytes, Ends, Refused, TextForm, U16, U32, U64
 use Rattle.lsl_image.specs.Object.{are_these, body, finds_room, is_above, key_bytes, pair_behind, pair_bytes, script_of, store}
 use Rattle.lsl_image.specs.Rest.{code_digest, script}
 use Rattle.lsl_image.specs.Script.{limit}
-use Rattle.lsl_image.specs.Valid.{Ascend, HasUnit, IsObject, IsPair, IsScript, IsStore, shape_of, unit_number}
+use Rattle.lsl_image.specs.Valid.{Ascend, HasUnit, IsObject, IsPair, IsStore, shape_of, unit_number}
 use Rattle.lsl_image.proofs.SpeltCallLemmas.{rest-spells}
 use Rattle.lsl_image.proofs.SpeltEventLemmas.{leaving-spells, queue-spells, timer-spells, values-spells}
 use Rattle.lsl_image.proofs.SpeltListenLemmas.{listens-spells}
@@ -43,15 +45,15 @@ code-spells unit p whole =
     (p + length unit.digest) unit.digest [])
     (sym ((bytes_eq-Decides unit.digest unit.digest).1 refl)) (spelt-ends refl))
 
-limit-spells : (most p : ℕ) → 1064 ≤ most → most ≤ 65536 → Spelt (limit 2) p most (u32_bytes most)
+limit-spells : (most p : ℕ) → least_limit ≤ most → most ≤ default_limit → Spelt (limit 2) p most (u32_bytes most)
 unfolding limit
 limit-spells most p least within =
-    spelt-that U32 (λ n. nat_le 1064 n && nat_le n 65536) most (omega (arith, within))
-    (and_from (nat_le 1064 most) (nat_le most 65536) (grind (arith, nat_tests, least))
+    spelt-that U32 (λ n. nat_le least_limit n && nat_le n default_limit) most (omega (arith, within))
+    (and_from (nat_le least_limit most) (nat_le most default_limit) (grind (arith, nat_tests, least))
     (grind (arith, nat_tests, within)))
 
 script-spells : (library : List Code) (s : ScriptParts) (unit : Code) (p : ℕ) → HasUnit library s
-    → IsScript unit s → length unit.digest ≡ 32 → FitsScript s
+    → FitsUnit unit s → length unit.digest ≡ 32 → FitsScript s
     → Spelt (script 2 s.unit unit) p s (script_bytes 2 unit.digest s)
 unfolding script script_bytes waiting_bytes
 script-spells library s unit p has is whole fits =
@@ -65,14 +67,14 @@ script-spells library s unit p has is whole fits =
     ++ rest_bytes s.rest))
     (spelt-then _ (code-spells unit p whole)
     (spelt-then _ (spelt-that U16 (λ n. nat_lt n (length unit.states)) s.state fits.state
-    (grind (arith, nat_tests, is.state)))
-    (spelt-then _ (leaving-spells unit s.state s.leaving _ is.leaving fits.leaving)
+    (grind (arith, nat_tests, is.states.stands)))
+    (spelt-then _ (leaving-spells unit s.state s.leaving _ is.states.leaves fits.leaving)
     (spelt-then _ (values-spells (kinds_of unit.globals) s.globals _ is.globals fits.globals)
-    (spelt-then _ (queue-spells unit s.state s.queue _ w.queue is.queue)
+    (spelt-then _ (queue-spells unit s.state s.queue _ w.queue is.states.waits)
     (spelt-then _ (listens-spells s.listens _ w.listens)
     (spelt-then _ (timer-spells s.timer _ w.timer)
     (spelt-then _ (spelt-field U64 s.wake w.wake)
-    (spelt-then _ (limit-spells s.limit _ is.least is.most)
+    (spelt-then _ (limit-spells s.limit _ is.least is.limit)
     (spelt-last _ (rest-spells unit s s.rest _ is.rest (script-few library s has) w.rest) (spelt-ends refl)))))))))))
 
 -- a script of the library

@@ -1,7 +1,8 @@
 -- Parts that are read are valid: events, and the states that a script is leaving for.
 use Rattle.std.proofs.Common.{◌≡◌, ◌≢◌, ◌∙◌, refl, sym, ap, subst, ℕ, zero, suc, ◌<◌, ◌==◌, ◌&&◌, nat_lt, not, cond, eq-eqb, List, [], length, Bool, true, false, Option, Some, None}
 use Rattle.std.proofs.lemmas.Bool.{and_parts, false≢true, ltb-true, not-true}
-use Rattle.std.specs.List.{AllByRecursion}
+use Rattle.std.proofs.lemmas.List.Elements.{All-from_recursion}
+use Rattle.std.specs.Prelude.{All}
 use Rattle.lsl_value.specs.declared.names.EventId.{EventId}
 use Rattle.lsl_value.specs.declared.names.EventId.TheVariants.{StateExit}
 use Rattle.lsl_value.specs.declared.tagged.Kind.{Kind}
@@ -10,12 +11,13 @@ use Rattle.lsl_code.specs.declared.woven_units.Woven.{Woven as Code}
 use Rattle.lsl_code.specs.Kinds.{kinds_of}
 use Rattle.lsl_code.proofs.Sames.{sames_are}
 use Rattle.lsl_post.specs.declared.events.Event.{Event}
+use Rattle.lsl_post.specs.Fitting.{CanLeave, CanLeaveFor, CanWait}
 use Rattle.lsl_image.specs.Layout.{Ends, Refused, U16, ◌>>=◌, values_of}
 use Rattle.lsl_image.specs.Script.{event_in, event_numbered, event_of, event_that_may, flagged_leaving, handles, leaving, may_stand, other_state, queue}
-use Rattle.lsl_image.specs.Valid.{MayLeave, MayLeaveFor, MayWait}
 use Rattle.lsl_image.specs.declared.faults.ImageFault.TheVariants.{Body}
 use Rattle.lsl_image.proofs.GivenLemmas.{Given, ended, grown-all, split, that-told}
 use Rattle.lsl_image.proofs.KindedLemmas.{values-fit}
+use Rattle.lsl_image.proofs.StandLemmas.{stands-waits}
 
 pub values-kinds_are : (bytes : List ℕ) (kinds : List Kind) (p : ℕ) (vs : List Value) (q : ℕ)
     → Given bytes (values_of kinds) p vs q → kinds_of vs ≡ kinds
@@ -33,21 +35,21 @@ module _ (bytes : List ℕ) (unit : Code) (state : ℕ) where
 
   exit-may : (place : ℕ) (b : Bool) → handles unit state StateExit ≡ b → (p : ℕ) (left : Option ℕ) (q : ℕ)
       → Given bytes (cond b (other_state unit state >>= λ to. Ends (Some to)) (Refused (Body place))) p left q
-      → MayLeave unit state left
+      → CanLeave unit.states state left
   exit-may place true e p left q g =
       let s = split g in
       let told = other-told p s.value s.middle s.first in
-      let may : MayLeaveFor unit state s.value = record { exit = e; there = told.0; other = told.1 } in
-      subst (MayLeave unit state) (sym (ended s.rest)) may
+      let can : CanLeaveFor unit.states state s.value = record { there = told.0; other = told.1; exit = e } in
+      subst (CanLeave unit.states state) (sym (ended s.rest)) can
   exit-may place false e p left q g = absurd g.gives
 
   flagged-may : (place flagged p : ℕ) (left : Option ℕ) (q : ℕ)
-      → Given bytes (flagged_leaving unit state place flagged) p left q → MayLeave unit state left
-  flagged-may place zero p left q g = subst (MayLeave unit state) (sym (ended g)) tt
+      → Given bytes (flagged_leaving unit state place flagged) p left q → CanLeave unit.states state left
+  flagged-may place zero p left q g = subst (CanLeave unit.states state) (sym (ended g)) tt
   flagged-may place (suc n) p left q g = exit-may place (handles unit state StateExit) refl p left q g
 
   pub leaving-may : (p : ℕ) (left : Option ℕ) (q : ℕ) → Given bytes (leaving unit state) p left q
-      → MayLeave unit state left
+      → CanLeave unit.states state left
   unfolding leaving
   leaving-may p left q g =
       let placed = split g in
@@ -78,9 +80,10 @@ module _ (bytes : List ℕ) (unit : Code) (state : ℕ) where
         found-told placed.value (event_numbered numbered.value) numbered.middle e q numbered.rest
 
   pub queue-may : (p : ℕ) (events : List Event) (q : ℕ) → Given bytes (queue unit state) p events q
-      → AllByRecursion (MayWait unit state) events
+      → All (CanWait unit.states state) events
   unfolding queue
   queue-may p events q g =
       let s = split g in
-      grown-all (λ before. event_in unit state false) (MayWait unit state)
-      (λ before p e q h. event-stands false p e q h) s.value [] s.middle events q s.rest tt
+      All-from_recursion (CanWait unit.states state) events
+      (grown-all (λ before. event_in unit state false) (CanWait unit.states state)
+      (λ before p e q h. stands-waits unit state e (event-stands false p e q h)) s.value [] s.middle events q s.rest tt)

@@ -1,16 +1,17 @@
 -- Scripts, stores, objects and worlds that are read are valid.
-use Rattle.std.proofs.Common.{◌≡◌, ◌∙◌, refl, sym, ap, subst, arith, eqb-true, ℕ, zero, suc, ◌≤◌, ◌==◌, ◌&&◌, nat_lt, nat_le, not, cond, List, [], ◌∷◌, ◌++◌, length, Bool, true, false, Option, Some, None, is_some, slice_get, sum_by}
+use Rattle.std.proofs.Common.{◌≡◌, ◌∙◌, refl, sym, ap, subst, arith, eqb-true, ℕ, zero, suc, ◌≤◌, ◌==◌, ◌&&◌, nat_lt, nat_le, cond, List, [], ◌∷◌, ◌++◌, length, Bool, true, false, Option, Some, None, is_some, slice_get, sum_by}
 use Rattle.std.proofs.lemmas.Bool.{and_parts, false≢true, leb-true, ltb-true}
 use Rattle.std.specs.List.{AllByRecursion}
 use Rattle.lsl_value.specs.Key.{is_valid_key}
-use Rattle.lsl_value.specs.declared.names.EventId.TheVariants.{StateExit}
+use Rattle.lsl_running.specs.Charging.{default_limit}
 use Rattle.lsl_code.specs.declared.woven_units.Woven.{Woven as Code}
 use Rattle.lsl_code.specs.Kinds.{kinds_of}
-use Rattle.lsl_code.specs.Units.{handler_of, same_event}
-use Rattle.lsl_post.specs.declared.events.Event.{Event}
+use Rattle.lsl_code.specs.Units.{handler_of}
 use Rattle.lsl_post.specs.declared.parts.Pair.{Pair}
 use Rattle.lsl_post.specs.declared.parts.Rest.{Rest}
+use Rattle.lsl_post.specs.declared.parts.Rest.TheVariants.{Saved}
 use Rattle.lsl_post.specs.declared.parts.ScriptParts.{ScriptParts}
+use Rattle.lsl_post.specs.Fitting.{CanRest, FitsStates, FitsUnit, IsInHand, least_limit}
 use Rattle.lsl_image.specs.declared.parts.ObjectParts.{ObjectParts}
 use Rattle.lsl_image.specs.declared.parts.Placed.{Placed}
 use Rattle.lsl_image.specs.declared.parts.Shape.{Shape}
@@ -18,69 +19,70 @@ use Rattle.lsl_image.specs.declared.parts.WorldParts.{WorldParts}
 use Rattle.lsl_image.specs.Layout.{Ends, U8, U16, U32, U64, TextForm, ◌>>=◌, field, field_that, grown}
 use Rattle.lsl_image.specs.Object.{body, finds_room, is_above, object, pair, pair_behind, pair_bytes, script_of, store}
 use Rattle.lsl_image.specs.Rest.{dead_rest, rest, rest_of, saved_calls, saved_rest, script}
-use Rattle.lsl_image.specs.Script.{handles, limit, may_stand}
-use Rattle.lsl_image.specs.Valid.{Ascend, HasUnit, IsObject, IsPair, IsPlaced, IsSaved, IsScript, IsStore, IsWorld, MayRest}
+use Rattle.lsl_image.specs.Script.{limit}
+use Rattle.lsl_image.specs.Valid.{Ascend, HasUnit, IsObject, IsPair, IsPlaced, IsStore, IsWorld}
 use Rattle.lsl_image.specs.World.{most_clock, placed, world}
 use Rattle.lsl_image.proofs.GivenLemmas.{Given, each-all, each-long, each-push, ended, field-told, grown-long, split, tested-told, that-told}
 use Rattle.lsl_image.proofs.ValidLemmas.{event-stands, leaving-may, queue-may, values-kinds_are}
 use Rattle.lsl_image.proofs.ValidCallLemmas.{calls-valid}
+use Rattle.lsl_image.proofs.StandLemmas.{stands-exit, stands-handled}
 
 module _ (bytes : List ℕ) where
-  limit-told : (version p most q : ℕ) → Given bytes (limit version) p most q → (1064 ≤ most) × (most ≤ 65536)
+  limit-told : (version p most q : ℕ) → Given bytes (limit version) p most q
+      → (least_limit ≤ most) × (most ≤ default_limit)
   unfolding limit
   limit-told version p most q g = by (version == 1) p most q g
     where
       by : (one : Bool) (p most q : ℕ)
-          → Given bytes (cond one (Ends 65536) (field_that U32 (λ n. nat_le 1064 n && nat_le n 65536))) p most q
-          → (1064 ≤ most) × (most ≤ 65536)
+          → Given bytes (cond one (Ends default_limit)
+          (field_that U32 (λ n. nat_le least_limit n && nat_le n default_limit))) p most q
+          → (least_limit ≤ most) × (most ≤ default_limit)
       by true p most q g = (omega (arith, ended g), omega (arith, ended g))
       by false p most q g =
-          let t = that-told U32 (λ n. nat_le 1064 n && nat_le n 65536) g in
-          let parts = and_parts (nat_le 1064 most) (nat_le most 65536) t.holds in
-          (leb-true 1064 most parts.0, leb-true most 65536 parts.1)
+          let t = that-told U32 (λ n. nat_le least_limit n && nat_le n default_limit) g in
+          let parts = and_parts (nat_le least_limit most) (nat_le most default_limit) t.holds in
+          (leb-true least_limit most parts.0, leb-true most default_limit parts.1)
 
   module _ (unit : Code) where
     handler-some : (o : Option ℕ) → is_some o ≡ true → (h : ℕ) × (o ≡ Some h)
     handler-some None some = absurd (false≢true some)
     handler-some (Some h) some = (h, refl)
 
-    stands-handled : (state : ℕ) (exits : Bool) (e : Event) → may_stand unit state exits e.id ≡ true
-        → is_some (handler_of unit.states state e.id) ≡ true
-    stands-handled state exits e stands =
-        (and_parts (handles unit state e.id) (cond exits (same_event e.id StateExit) (not (same_event e.id StateExit)))
-        stands).0
-
     saved-may : (s : ScriptParts) (p : ℕ) (r : Rest) (q : ℕ)
-        → Given bytes (saved_rest unit s.state (is_some s.leaving) s.globals s.limit) p r q → MayRest unit s r
+        → Given bytes (saved_rest unit s.state (is_some s.leaving) s.globals s.limit) p r q
+        → CanRest unit s.state s.leaving s.globals s.limit r
     unfolding saved_rest
     saved-may s p r q g =
         let first = split g in
         let second = split first.rest in
         let stands = event-stands bytes unit s.state (is_some s.leaving) p first.value first.middle first.first in
         let handled = handler-some (handler_of unit.states s.state first.value.id)
-        (stands-handled s.state (is_some s.leaving) first.value stands) in
+        (stands-handled unit s.state (is_some s.leaving) first.value stands) in
         let calls : Given bytes (saved_calls unit s.globals s.limit (Some handled.0)) first.middle second.value
         second.middle =
         subst (λ (o : Option ℕ). Given bytes (saved_calls unit s.globals s.limit o) first.middle second.value
         second.middle) handled.1 second.first in
-        let saved : IsSaved unit s first.value second.value = record {
-          stands = stands;
-          handler = handled.0;
-          handled = handled.1;
-          calls = calls-valid bytes unit handled.0 s.globals s.limit first.middle second.value second.middle calls;
-        } in
-        subst (MayRest unit s) (sym (ended second.rest)) saved
+        let hand : IsInHand unit.states s.state s.leaving first.value handled.0 =
+        record { handled = handled.1; exit = stands-exit unit s.state (is_some s.leaving) first.value stands } in
+        let saved : CanRest unit s.state s.leaving s.globals s.limit (Saved first.value second.value) = (
+          handled.0,
+          hand,
+          calls-valid bytes unit handled.0 s.globals s.limit first.middle second.value second.middle calls,
+        ) in
+        subst (CanRest unit s.state s.leaving s.globals s.limit) (sym (ended second.rest)) saved
 
     -- what a script rests in, whatever its other parts are
     rest-may : (s : ScriptParts) (kind p : ℕ) (r : Rest) (q : ℕ)
-        → Given bytes (rest_of unit s.state (is_some s.leaving) s.globals s.limit kind) p r q → MayRest unit s r
+        → Given bytes (rest_of unit s.state (is_some s.leaving) s.globals s.limit kind) p r q
+        → CanRest unit s.state s.leaving s.globals s.limit r
     unfolding dead_rest
-    rest-may s zero p r q g = subst (MayRest unit s) (sym (ended g)) tt
+    rest-may s zero p r q g = subst (CanRest unit s.state s.leaving s.globals s.limit) (sym (ended g)) tt
     rest-may s (suc zero) p r q g = saved-may s p r q g
-    rest-may s (suc (suc n)) p r q g = subst (MayRest unit s) (sym (ended (split g).rest)) tt
+    rest-may s (suc (suc n)) p r q g =
+        subst (CanRest unit s.state s.leaving s.globals s.limit) (sym (ended (split g).rest)) tt
 
     script-valid : (version number p : ℕ) (s : ScriptParts) (q : ℕ) → Given bytes (script version number unit) p s q
-        → (s.unit ≡ number) × IsScript unit s
+        → (s.unit ≡ number) × FitsUnit unit s
     unfolding script rest
     script-valid version number p s q g =
         let coded = split g in
@@ -108,17 +110,20 @@ module _ (bytes : List ℕ) where
         } in
         let is : s ≡ made = ended resting.rest in
         let limits = limit-told version awake.middle most.value most.middle most.first in
-        let valid : IsScript unit made = record {
-          state = ltb-true stated.value (length unit.states)
+        let states : FitsStates unit.states stated.value left.value waiting.value = record {
+          stands = ltb-true stated.value (length unit.states)
               (that-told U16 (λ n. nat_lt n (length unit.states)) stated.first).holds;
-          leaving = leaving-may bytes unit stated.value stated.middle left.value left.middle left.first;
+          leaves = leaving-may bytes unit stated.value stated.middle left.value left.middle left.first;
+          waits = queue-may bytes unit stated.value kept.middle waiting.value waiting.middle waiting.first;
+        } in
+        let valid : FitsUnit unit made = record {
+          states = states;
           globals = values-kinds_are bytes (kinds_of unit.globals) left.middle kept.value kept.middle kept.first;
-          queue = queue-may bytes unit stated.value kept.middle waiting.value waiting.middle waiting.first;
           least = limits.0;
-          most = limits.1;
+          limit = limits.1;
           rest = rest-may made kind.value kind.middle resting.value resting.middle kind.rest;
         } in
-        (ap (λ (x : ScriptParts). x.unit) is, subst (IsScript unit) (sym is) valid)
+        (ap (λ (x : ScriptParts). x.unit) is, subst (FitsUnit unit) (sym is) valid)
 
   module _ (library : List Code) (version number : ℕ) where
     unit-valid : (found : Option Code) → found ≡ slice_get library number → (p : ℕ) (s : ScriptParts) (q : ℕ)

@@ -6,14 +6,16 @@ use Rattle.std.proofs.lemmas.List.{append-nil}
 use Rattle.std.proofs.lemmas.List.Sums.{sum_by-cons}
 use Rattle.std.proofs.lemmas.Grind.{flat_map-append}
 use Rattle.lsl_value.specs.declared.tagged.Value.{Value}
+use Rattle.lsl_running.specs.Charging.{default_limit}
 use Rattle.lsl_code.specs.declared.frames.Frame.{Frame}
 use Rattle.lsl_code.specs.declared.woven_units.Woven.{Woven as Code}
 use Rattle.lsl_code.specs.Frames.{frame_charge, parked_charge}
 use Rattle.lsl_post.specs.declared.parts.Rest.{Rest}
 use Rattle.lsl_post.specs.declared.parts.Rest.TheVariants.{Idle, Saved, Dead}
 use Rattle.lsl_post.specs.declared.parts.ScriptParts.{ScriptParts}
+use Rattle.lsl_post.specs.Fitting.{CanRest}
 use Rattle.lsl_post.proofs.Places.{take-at}
-use Rattle.lsl_image.specs.Valid.{HasFewCalls, HasUnit, MayRest}
+use Rattle.lsl_image.specs.Valid.{HasFewCalls, HasUnit}
 
 appended : (old mid new a b : List ℕ) → mid ≡ old ++ a → new ≡ mid ++ b → new ≡ old ++ (a ++ b)
 appended old mid new a b first then =
@@ -76,10 +78,11 @@ calls-few : (globals : List Value) (frames : List Frame) (limit : ℕ) → parke
     → limit ≤ 65536 → length frames < 65536
 calls-few globals frames limit within most = omega (arith, frames-charged frames)
 
-rest-few : (unit : Code) (s : ScriptParts) (rest : Rest) → s.limit ≤ 65536 → MayRest unit s rest → HasFewCalls rest
+rest-few : (unit : Code) (s : ScriptParts) (rest : Rest) → s.limit ≤ default_limit
+    → CanRest unit s.state s.leaving s.globals s.limit rest → HasFewCalls rest
 rest-few unit s Idle most may = tt
-rest-few unit s (Saved e frames) most may = calls-few s.globals frames s.limit may.calls.1 most
+rest-few unit s (Saved e frames) most may = calls-few s.globals frames s.limit may.2.1 most
 rest-few unit s (Dead fault) most may = tt
 
 pub script-few : (library : List Code) (s : ScriptParts) → HasUnit library s → HasFewCalls s.rest
-script-few library s has = rest-few has.unit s s.rest has.script.most has.script.rest
+script-few library s has = rest-few has.unit s s.rest has.script.limit has.script.rest

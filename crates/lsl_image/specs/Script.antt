@@ -1,17 +1,19 @@
 -- The layout of a script's parts.
-use Rattle.std.specs.Prelude.{◌≡◌, refl, ℕ, ℤ, zero, suc, ◌==◌, Bool, true, false, not, ◌&&◌, nat_le, nat_lt, if◌then◌else◌, List, [], length, map, Option, Some, None, is_some, slice_get}
+use Rattle.std.specs.Prelude.{◌≡◌, refl, ℕ, ℤ, zero, suc, ◌==◌, Bool, true, false, not, ◌&&◌, nat_le, nat_lt, if◌then◌else◌, List, [], length, map, Option, Some, None, slice_get}
 use Rattle.std.specs.List.{list_any}
 use Rattle.lsl_value.specs.declared.names.EventId.{EventId}
 use Rattle.lsl_value.specs.declared.names.EventId.TheVariants.{StateExit}
 use Rattle.lsl_table.specs.Events.{events, signature_of}
+use Rattle.lsl_running.specs.Charging.{default_limit}
 use Rattle.lsl_code.specs.declared.woven_units.Woven.{Woven as Code}
-use Rattle.lsl_code.specs.Units.{handler_of, same_event}
+use Rattle.lsl_code.specs.Units.{same_event}
 use Rattle.lsl_post.specs.declared.events.Event.{Event}
 use Rattle.lsl_post.specs.declared.events.Toucher.{Toucher}
 use Rattle.lsl_post.specs.declared.filters.Filter.{Filter}
 use Rattle.lsl_post.specs.declared.listen.Listen.{Listen}
 use Rattle.lsl_post.specs.declared.timer.Timer.{Timer}
 use Rattle.lsl_post.specs.Filters.{filter, same_filter}
+use Rattle.lsl_post.specs.Fitting.{has_handler, least_limit}
 use Rattle.lsl_post.specs.Listens.{Standing, filter_of, has_number, is_number, listen_of, most_listens, standing}
 use Rattle.lsl_post.specs.Queue.{most_events}
 use Rattle.lsl_post.specs.Timing.{fits_timer}
@@ -23,7 +25,7 @@ unfoldable pub flag : Layout ℕ
 flag = field_that U8 (λ n. nat_le n 1)
 
 abbrev pub handles : Code → ℕ → EventId → Bool
-handles unit state id = is_some (handler_of unit.states state id)
+handles unit state id = has_handler unit.states state id
 
 -- a toucher's key, name and prim
 unfoldable pub told_toucher : Layout (Option Toucher)
@@ -140,4 +142,7 @@ timer = do
 
 -- version 1 has no limit: it is the greatest
 unfoldable pub limit : ℕ → Layout ℕ
-limit version = if version == 1 then Ends 65536 else field_that U32 (λ n. nat_le 1064 n && nat_le n 65536)
+limit version =
+    if version == 1
+    then Ends default_limit
+    else field_that U32 (λ n. nat_le least_limit n && nat_le n default_limit)

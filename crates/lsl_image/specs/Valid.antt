@@ -1,55 +1,22 @@
 -- Which parts have an image: those in whose fields the tests find no fault.
-use Rattle.std.specs.Prelude.{◌≡◌, ◌≢◌, ℕ, ◌≤◌, ◌<◌, true, false, List, [], ◌∷◌, length, map, Option, Some, None, is_some, slice_get, sum_by, ⊤}
+use Rattle.std.specs.Prelude.{◌≡◌, ℕ, ◌≤◌, ◌<◌, true, List, [], ◌∷◌, length, map, Some, slice_get, sum_by, ⊤}
 use Rattle.std.specs.Cmp.Lexicographic.{slice_cmp}
 use Rattle.std.specs.List.{AllByRecursion}
 use Rattle.std.specs.Ordering.{is_lt, nat_cmp}
 use Rattle.std.specs.Str.{encode_utf8_all}
 use Rattle.lsl_value.specs.Key.{is_valid_key}
-use Rattle.lsl_value.specs.declared.names.EventId.TheVariants.{StateExit}
-use Rattle.lsl_code.specs.declared.frames.Frame.{Frame}
 use Rattle.lsl_code.specs.declared.woven_units.Woven.{Woven as Code}
-use Rattle.lsl_code.specs.Weaves.{bodies_of}
-use Rattle.lsl_code.specs.Frames.{AreValid, points_of}
-use Rattle.lsl_code.specs.Kinds.{kinds_of}
-use Rattle.lsl_code.specs.Units.{handler_of}
-use Rattle.lsl_post.specs.declared.events.Event.{Event}
 use Rattle.lsl_post.specs.declared.parts.Pair.{Pair}
 use Rattle.lsl_post.specs.declared.parts.Rest.{Rest}
 use Rattle.lsl_post.specs.declared.parts.Rest.TheVariants.{Idle, Saved, Dead}
 use Rattle.lsl_post.specs.declared.parts.ScriptParts.{ScriptParts}
+use Rattle.lsl_post.specs.Fitting.{FitsUnit}
 use Rattle.lsl_image.specs.declared.parts.ObjectParts.{ObjectParts}
 use Rattle.lsl_image.specs.declared.parts.Placed.{Placed}
 use Rattle.lsl_image.specs.declared.parts.Shape.{Shape}
 use Rattle.lsl_image.specs.declared.parts.WorldParts.{WorldParts}
 use Rattle.lsl_image.specs.Object.{most_store_bytes, pair_bytes}
-use Rattle.lsl_image.specs.Script.{handles, may_stand}
 use Rattle.lsl_image.specs.World.{most_clock}
-
--- the state has an exit, and is left for another one
-pub record MayLeaveFor (unit : Code) (state to : ℕ) : Type 0 where
-  pub exit : handles unit state StateExit ≡ true
-  pub there : to < length unit.states
-  pub other : to ≢ state
-
-abbrev pub MayLeave : Code → ℕ → Option ℕ → Type 0
-MayLeave unit state None = ⊤
-MayLeave unit state (Some to) = MayLeaveFor unit state to
-
--- an event that waits: no exit, and the state has a handler for it
-abbrev pub MayWait : Code → ℕ → Event → Type 0
-MayWait unit state e = may_stand unit state false e.id ≡ true
-
--- an event in hand with the saved calls of its handler: an exit exactly where the script is leaving its state
-pub record IsSaved (unit : Code) (s : ScriptParts) (e : Event) (frames : List Frame) : Type 0 where
-  pub stands : may_stand unit s.state (is_some s.leaving) e.id ≡ true
-  pub handler : ℕ
-  pub handled : handler_of unit.states s.state e.id ≡ Some handler
-  pub calls : AreValid (points_of (bodies_of unit)) handler s.globals s.limit frames
-
-abbrev pub MayRest : Code → ScriptParts → Rest → Type 0
-MayRest unit s Idle = ⊤
-MayRest unit s (Saved e frames) = IsSaved unit s e frames
-MayRest unit s (Dead fault) = ⊤
 
 -- the calls of a handler in hand can be counted in their field
 abbrev pub HasFewCalls : Rest → Type 0
@@ -57,21 +24,11 @@ HasFewCalls Idle = ⊤
 HasFewCalls (Saved e frames) = length frames < 65536
 HasFewCalls (Dead fault) = ⊤
 
--- parts of a script of this unit
-pub record IsScript (unit : Code) (s : ScriptParts) : Type 0 where
-  pub state : s.state < length unit.states
-  pub leaving : MayLeave unit s.state s.leaving
-  pub globals : kinds_of s.globals ≡ kinds_of unit.globals
-  pub queue : AllByRecursion (MayWait unit s.state) s.queue
-  pub least : 1064 ≤ s.limit
-  pub most : s.limit ≤ 65536
-  pub rest : MayRest unit s s.rest
-
--- of the unit that it names
+-- parts of a script that are valid for the unit that they name, as those of a script at rest are
 pub record HasUnit (library : List Code) (s : ScriptParts) : Type 0 where
   pub unit : Code
   pub named : slice_get library s.unit ≡ Some unit
-  pub script : IsScript unit s
+  pub script : FitsUnit unit s
 
 -- both texts are there
 pub record IsPair (p : Pair) : Type 0 where

@@ -1,6 +1,7 @@
 pub mod Adding
 pub mod FilterLaws
 pub mod Filters
+pub mod Fitting
 pub mod Journal
 pub mod Listens
 pub mod Mailbox

@@ -133,7 +133,7 @@ closes_fits unit live kept mid new outcome exits going a ended c =
     (sym (c.new_is ∙ ap (gone_parts unit going) c.mid_is
     ∙ ap (λ g. gone_parts unit g (left_parts live.parts kept)) (closing_goes unit live kept mid new outcome exits
     going c)))
-    (gone_fits unit live.parts kept a.idle a.states left.kinds left.left.limit outcome left.outcome)
+    (gone_fits unit live.parts kept a.idle a.states left.kinds left.left.least left.left.limit outcome left.outcome)
 
 pub closing_is : (codes : List Code) (unit : Code) (s : Script) (live : Live) (kept : Kept) (mid new : ScriptParts)
     (outcome way : Outcome) (exits : Bool) (going : Going) (number : ℕ) (closed : Closed) → HasEnded unit live

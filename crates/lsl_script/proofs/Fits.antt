@@ -58,6 +58,7 @@ pub posted_fits_unit : (unit : Code) (parts : ScriptParts) (e : Event) → is_ex
 posted_fits_unit unit parts e other fits = record {
   states = posted_fits unit.states parts e other fits.states;
   globals = fits.globals;
+  least = fits.least;
   limit = fits.limit;
   rest = fits.rest;
 }

@@ -1,5 +1,6 @@
 -- Where a script goes whose handler ended.
-use Rattle.std.proofs.Common.{◌≡◌, ℕ, ◌+◌, ◌<◌, ◌≤◌, List, [], Bool, true, false, Option, None, Some, length, min, refl, sym, ap, ◌∙◌, subst, arith}
+use Rattle.std.proofs.Common.{◌≡◌, ◌≢◌, ℕ, ◌+◌, ◌<◌, ◌≤◌, List, [], Bool, true, false, Option, None, Some, length, min, refl, sym, ap, ◌∙◌, subst, eq-eqb, arith}
+use Rattle.std.proofs.lemmas.Bool.{false≢true}
 use Rattle.std.specs.Prelude.{if◌then◌else◌, is_some, nat_eq}
 use Rattle.lsl_value.specs.declared.names.EventId.TheVariants as event
 use Rattle.lsl_value.specs.declared.tagged.Value.{Value}
@@ -21,7 +22,7 @@ use Rattle.lsl_script.specs.declared.going.Going.TheVariants.{Stays, Leaves, Ent
 use Rattle.lsl_script.specs.Awake.{IsLeft}
 use Rattle.lsl_script.specs.Closing.{begun_again, count_gone, gone_parts}
 use Rattle.lsl_script.specs.Codes.{HasUnit, globals_in, rules_of}
-use Rattle.lsl_script.specs.Fitting.{CanLeave, CanRest, FitsStates, FitsUnit, has_handler}
+use Rattle.lsl_script.specs.Fitting.{CanLeave, CanRest, FitsStates, FitsUnit, has_handler, least_limit}
 use Rattle.lsl_script.specs.Handlers.{going_from, going_of, going_on, gone, resting_charge}
 use Rattle.lsl_script.specs.Lawful.{IsTiming, Lawful}
 use Rattle.lsl_script.specs.Lives.{entries_of_clearing}
@@ -37,7 +38,8 @@ left_parts parts kept = record parts { globals = kept.globals; limit = kept.limi
 
 module _ (unit : Code) (parts : ScriptParts) (kept : Kept) (idle : parts.rest ≡ Idle)
     (fits : FitsStates unit.states parts.state parts.leaving parts.queue)
-    (kinds : kinds_of kept.globals ≡ kinds_of unit.globals) (small : kept.limit ≤ default_limit)
+    (kinds : kinds_of kept.globals ≡ kinds_of unit.globals) (least : least_limit ≤ kept.limit)
+    (small : kept.limit ≤ default_limit)
   where
     idle_rests : (state : ℕ) (leaving : Option ℕ) (globals : List Value) (limit : ℕ)
         → CanRest unit state leaving globals limit parts.rest
@@ -47,16 +49,18 @@ module _ (unit : Code) (parts : ScriptParts) (kept : Kept) (idle : parts.rest �
     stays_fits = record {
       states = fits;
       globals = kinds;
+      least = least;
       limit = small;
       rest = idle_rests parts.state parts.leaving kept.globals kept.limit;
     }
 
-    leaves_fits : (to : ℕ) → to < length unit.states → nat_eq to parts.state ≡ false
+    leaves_fits : (to : ℕ) → to < length unit.states → to ≢ parts.state
         → has_handler unit.states parts.state event.StateExit ≡ true
         → FitsUnit unit (gone_parts unit (Leaves to) (left_parts parts kept))
     leaves_fits to there other exits = record {
-      states = record { stands = fits.stands; leaves = (there, other, exits); waits = fits.waits };
+      states = record { stands = fits.stands; leaves = record { there = there; other = other; exit = exits }; waits = fits.waits };
       globals = kinds;
+      least = least;
       limit = small;
       rest = idle_rests parts.state (Some to) kept.globals kept.limit;
     }
@@ -71,6 +75,7 @@ module _ (unit : Code) (parts : ScriptParts) (kept : Kept) (idle : parts.rest �
         queue = [];
       }) there refl refl;
       globals = kinds;
+      least = least;
       limit = small;
       rest = idle_rests to None kept.globals kept.limit;
     }
@@ -87,6 +92,7 @@ module _ (unit : Code) (parts : ScriptParts) (kept : Kept) (idle : parts.rest �
         timer = timer_of stopped;
       }) (sound unit).some_state refl refl;
       globals = refl;
+      least = omega arith;
       limit = omega arith;
       rest = idle_rests 0 None unit.globals default_limit;
     }
@@ -105,7 +111,8 @@ module _ (unit : Code) (parts : ScriptParts) (kept : Kept) (idle : parts.rest �
             → FitsUnit unit (gone_parts unit (if same then Stays else (if exits then Leaves to else Enters to))
             (left_parts parts kept))
         by_test true exits is has = stays_fits
-        by_test false true is has = leaves_fits to there is has
+        by_test false true is has =
+            leaves_fits to there (λ same. false≢true (sym is ∙ eq-eqb to parts.state same)) has
         by_test false false is has = enters_fits to there
 
     on_fits : (to : ℕ) (way : Outcome) → to < length unit.states
@@ -120,7 +127,7 @@ module _ (unit : Code) (parts : ScriptParts) (kept : Kept) (idle : parts.rest �
         event.StateExit) way)
         (left_parts parts kept))
     of_fits None way leaves there = from_fits way there
-    of_fits (Some to) way leaves there = on_fits to way leaves.0
+    of_fits (Some to) way leaves there = on_fits to way leaves.there
 
     -- wherever it goes
     pub gone_fits : (way : Outcome) → IsOutcome (length unit.states) way

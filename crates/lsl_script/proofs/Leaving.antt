@@ -24,6 +24,7 @@ use Rattle.lsl_code.specs.Runs.{run}
 use Rattle.lsl_code.specs.Standing.{IsChain, IsChainedNext}
 use Rattle.lsl_code.proofs.Chaining.{stays_chained}
 use Rattle.lsl_script.specs.Awake.{IsLeft}
+use Rattle.lsl_script.specs.Fitting.{least_limit}
 use Rattle.lsl_script.proofs.RunKeeps.{Kept as KeptBy, KeptAt, run_keeps}
 
 abbrev pub IsLeftIn : Machine → Type 0
@@ -54,13 +55,14 @@ gives_left held sl ops g h =
     [ true ↦ h | false ↦ tt ]
 
 -- what is charged within the limit has its globals within it
-gives_anew : (held : ℕ) (sl ops : List Value) (g : Kept) → g.limit ≤ default_limit → Left (gives held sl ops g)
-gives_anew held sl ops g small = go (is_within g (used (hold_all held ops) sl g)) refl where
+gives_anew : (held : ℕ) (sl ops : List Value) (g : Kept) → least_limit ≤ g.limit → g.limit ≤ default_limit
+    → Left (gives held sl ops g)
+gives_anew held sl ops g least small = go (is_within g (used (hold_all held ops) sl g)) refl where
   go : (b : Bool) → is_within g (used (hold_all held ops) sl g) ≡ b → Left (cond b (Goes sl ops g) (Fails StackHeap))
   go true e =
       let within : hold_all held ops + 32 + charges_of sl + charges_of g.globals < suc g.limit = grind
       (arith, nat_tests) in
-      record { limit = small; charge = omega arith }
+      record { least = least; limit = small; charge = omega arith }
   go false e = tt
 
 top_left : (ops : List Value) (go : Value → List Value → Did) → ((v : Value) (rest : List Value) → Left (go v rest))
@@ -94,7 +96,7 @@ act_left bodies (Some (LoadGlobal n)) g held sl ops h = gives_left held sl (get_
 act_left bodies (Some (Store n)) g held sl ops h =
     top_left ops _ (λ v rest. gives_left held (slice_set sl n v) (v ∷ rest) g h)
 act_left bodies (Some (StoreGlobal n)) g held sl ops h =
-    top_left ops _ (λ v rest. gives_anew held sl (v ∷ rest) (with_global g n v) h.limit)
+    top_left ops _ (λ v rest. gives_anew held sl (v ∷ rest) (with_global g n v) h.least h.limit)
 act_left bodies (Some (Set n)) g held sl ops h = top_left ops _ (λ v rest. h)
 act_left bodies (Some Drop) g held sl ops h = top_left ops _ (λ v rest. h)
 act_left bodies (Some (Unary op)) g held sl ops h =

@@ -124,7 +124,7 @@ resting_timer_is_its codes s parts is lawful =
 
 pub stays_fitting : StaysFitting
 stays_fitting unit parts timer f =
-    record { states = f.states; globals = f.globals; limit = f.limit; rest = f.rest }
+    record { states = f.states; globals = f.globals; least = f.least; limit = f.limit; rest = f.rest }
 
 pub napped_waits : (codes : List Code) (unit : Code) (s : Script) (f : Flight) (id : BuiltinId) (live : Live) (wake : ℕ)
     → Waits codes unit s f id live → Waits codes unit (napped wake s) f id (with_wake wake live)

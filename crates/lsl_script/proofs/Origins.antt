@@ -22,6 +22,7 @@ use Rattle.lsl_machine.specs.declared.standing.Standing.TheVariants as standing
 use Rattle.lsl_machine.specs.Futures.{halt_from}
 use Rattle.lsl_machine.specs.State.{CanRun, State, bodies_of, kept_with}
 use Rattle.lsl_script.specs.Awake.{GoesOnAs, IsLeft, IsRunOf, IsRunning, Run}
+use Rattle.lsl_script.specs.Fitting.{least_limit}
 use Rattle.lsl_script.proofs.Leaving.{chain_keeps, left_keeps, IsLeftIn, IsLeftAt, IsChainIn, Anyhow}
 use Rattle.lsl_script.proofs.RunKeeps.{KeptAt}
 use Rattle.lsl_script.proofs.Staying.{goes_way}
@@ -51,37 +52,54 @@ module _ (bodies : List Body) (forward : Forward bodies) where
   }
 
   -- from a handler's start
-  abbrev StartsAs : Halt → ℕ → Type 0
-  StartsAs h handler =
-      ((m : Machine) → h ≡ CutAt m → IsChain bodies handler m.calls × IsLeft m.kept)
+  within_chain : (handler t : ℕ) (kept : Kept) (slots : List Value) (answers : List Reply) (b : Bool) (m : Machine)
+      → cond b (run bodies t (begun handler kept slots answers)) (Over (Faulted StackHeap)) ≡ CutAt m
+      → IsChain bodies handler m.calls
+  within_chain handler t kept slots answers true m e = cut_chain handler t (begun handler kept slots answers) m refl e
+  within_chain handler t kept slots answers false m e = absurd cc
+
+  started_chain : (o : Option Body) (handler t : ℕ) (kept : Kept) (args : List Value) (answers : List Reply)
+      (m : Machine) → started o bodies handler kept args t answers ≡ CutAt m → IsChain bodies handler m.calls
+  started_chain None handler t kept args answers m e = absurd cc
+  started_chain (Some body) handler t kept args answers m e =
+      within_chain handler t kept (first_slots body args) answers
+      (is_within kept (used script_charge (first_slots body args) kept)) m e
+
+  pub chain_begun : (handler : ℕ) (kept : Kept) (args : List Value) (t : ℕ) (answers : List Reply) (m : Machine)
+      → run_of bodies handler kept args t answers ≡ CutAt m → IsChain bodies handler m.calls
+  chain_begun handler kept args t answers m e = started_chain (slice_get bodies handler) handler t kept args answers m e
+
+  abbrev LeavesAs : Halt → Type 0
+  LeavesAs h =
+      ((m : Machine) → h ≡ CutAt m → IsLeft m.kept)
       × ((way : Outcome) (kept : Kept) → h ≡ Over (Ended way kept) → IsLeft kept)
 
-  within_starts : (handler t : ℕ) (kept : Kept) (slots : List Value) (answers : List Reply) → kept.limit ≤ default_limit
-      → (b : Bool) → is_within kept (used script_charge slots kept) ≡ b
-      → StartsAs (cond b (run bodies t (begun handler kept slots answers)) (Over (Faulted StackHeap))) handler
-  within_starts handler t kept slots answers small true within =
+  within_leaves : (handler t : ℕ) (kept : Kept) (slots : List Value) (answers : List Reply) → least_limit ≤ kept.limit
+      → kept.limit ≤ default_limit → (b : Bool) → is_within kept (used script_charge slots kept) ≡ b
+      → LeavesAs (cond b (run bodies t (begun handler kept slots answers)) (Over (Faulted StackHeap)))
+  within_leaves handler t kept slots answers least small true within =
       let le : 1024 + 32 + charges_of slots + charges_of kept.globals < suc kept.limit = grind (arith, nat_tests) in
-      let left : IsLeft kept = record { limit = small; charge = omega arith } in (
-        λ m e. (
-          cut_chain handler t (begun handler kept slots answers) m refl e,
-          cut_left t (begun handler kept slots answers) m left e,
-        ),
+      let left : IsLeft kept = record { least = least; limit = small; charge = omega arith } in (
+        λ m e. cut_left t (begun handler kept slots answers) m left e,
         λ way left_kept e. end_left t (begun handler kept slots answers) way left_kept left e,
       )
-  within_starts handler t kept slots answers small false within = (λ m e. absurd cc, λ way left e. absurd cc)
+  within_leaves handler t kept slots answers least small false within = (λ m e. absurd cc, λ way left e. absurd cc)
 
-  started_starts : (o : Option Body) (handler t : ℕ) (kept : Kept) (args : List Value) (answers : List Reply)
-      → kept.limit ≤ default_limit → StartsAs (started o bodies handler kept args t answers) handler
-  started_starts None handler t kept args answers small = (λ m e. absurd cc, λ way left e. absurd cc)
-  started_starts (Some body) handler t kept args answers small =
-      within_starts handler t kept (first_slots body args) answers small
+  started_leaves : (o : Option Body) (handler t : ℕ) (kept : Kept) (args : List Value) (answers : List Reply)
+      → least_limit ≤ kept.limit → kept.limit ≤ default_limit → LeavesAs (started o bodies handler kept args t answers)
+  started_leaves None handler t kept args answers least small = (λ m e. absurd cc, λ way left e. absurd cc)
+  started_leaves (Some body) handler t kept args answers least small =
+      within_leaves handler t kept (first_slots body args) answers least small
       (is_within kept (used script_charge (first_slots body args) kept)) refl
 
-  pub run_begun : (handler : ℕ) (kept : Kept) (args : List Value) → kept.limit ≤ default_limit
-      → IsRunOf bodies handler (run_of bodies handler kept args)
-  run_begun handler kept args small = record {
-    cut = λ t answers. (started_starts (slice_get bodies handler) handler t kept args answers small).0;
-    ended = λ t answers. (started_starts (slice_get bodies handler) handler t kept args answers small).1;
+  pub run_begun : (handler : ℕ) (kept : Kept) (args : List Value) → least_limit ≤ kept.limit
+      → kept.limit ≤ default_limit → IsRunOf bodies handler (run_of bodies handler kept args)
+  run_begun handler kept args least small = record {
+    cut = λ t answers m e. (
+      chain_begun handler kept args t answers m e,
+      (started_leaves (slice_get bodies handler) handler t kept args answers least small).0 m e,
+    );
+    ended = λ t answers. (started_leaves (slice_get bodies handler) handler t kept args answers least small).1;
   }
 
 none_before : (comes : Run) (more : ℕ) (answers : List Reply) → comes (0 + more) ([] ++ answers) ≡ comes more answers
@@ -96,14 +114,14 @@ begun_goes unit handler kept args s runs = record {
   same = λ more answers. none_before (run_of (bodies_of unit) handler kept args) more answers ∙ runs more answers;
 }
 
-pub begun_runs : (unit : Code) (handler : ℕ) (kept : Kept) (args : List Value) (s : State) → kept.limit ≤ default_limit
-    → CanRun s.standing
+pub begun_runs : (unit : Code) (handler : ℕ) (kept : Kept) (args : List Value) (s : State) → least_limit ≤ kept.limit
+    → kept.limit ≤ default_limit → CanRun s.standing
     → ((ticks : ℕ) (answers : List Reply) → run_of (bodies_of unit) handler kept args ticks answers
     ≡ halt_from s.standing (bodies_of unit) s.machine ticks answers)
     → IsRunning (bodies_of unit) handler s
-begun_runs unit handler kept args s small can runs = record {
+begun_runs unit handler kept args s least small can runs = record {
   run = run_of (bodies_of unit) handler kept args;
-  of = run_begun (bodies_of unit) (sound unit).forward handler kept args small;
+  of = run_begun (bodies_of unit) (sound unit).forward handler kept args least small;
   ticks = 0;
   given = [];
   on_way = goes_way s.standing (bodies_of unit) (run_of (bodies_of unit) handler kept args) 0 [] s can
@@ -127,6 +145,7 @@ restored_runs unit handler s stands chain left =
     }
 
 -- frames that are charged within the limit leave globals that are
-pub parked_left : (globals : List Value) (limit : ℕ) (frames : List Frame) → limit ≤ default_limit
+pub parked_left : (globals : List Value) (limit : ℕ) (frames : List Frame) → least_limit ≤ limit → limit ≤ default_limit
     → parked_charge globals frames ≤ limit → IsLeft (kept_with globals limit)
-parked_left globals limit frames small within = record { limit = small; charge = omega arith }
+parked_left globals limit frames least small within =
+    record { least = least; limit = small; charge = omega arith }

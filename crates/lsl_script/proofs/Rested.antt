@@ -23,7 +23,7 @@ use Rattle.lsl_post.specs.declared.parts.ScriptParts.{ScriptParts}
 use Rattle.lsl_script.specs.declared.live.Live.{Live}
 use Rattle.lsl_script.specs.Awake.{IsAwake, IsLeft}
 use Rattle.lsl_script.specs.Codes.{bodies_in}
-use Rattle.lsl_script.specs.Fitting.{FitsUnit}
+use Rattle.lsl_script.specs.Fitting.{FitsUnit, least_limit}
 use Rattle.lsl_script.specs.Lives.{Rests, awake_parts}
 use Rattle.lsl_script.specs.Parts.{kept_of, machine_at, parts_of, rest_of}
 use Rattle.lsl_script.specs.Scripts.{Flight, Script}
@@ -78,6 +78,7 @@ rested_fits unit live kept frames a stands same valid =
     record {
       states = a.states;
       globals = ap (λ (k : Kept). kinds_of k.globals) same ∙ here.0.kept;
+      least = subst (λ (k : Kept). least_limit ≤ k.limit) (sym same) left.least;
       limit = subst (λ (k : Kept). k.limit ≤ default_limit) (sym same) left.limit;
       rest = (live.handler, a.event, valid);
     }

@@ -37,7 +37,7 @@ use Rattle.lsl_script.specs.Scripts.{Flight, Doing, Resting, Flying, Stopped, Sc
 use Rattle.lsl_script.specs.Waking.{IsEmptied, WakesAs, resting_parts}
 use Rattle.lsl_script.proofs.Comes.{cut_machine, flight_is, flights_ask_so_often, given_as}
 use Rattle.lsl_script.proofs.Flights.{Quiet, QuietEnd, given_keeps}
-use Rattle.lsl_script.proofs.Origins.{run_begun}
+use Rattle.lsl_script.proofs.Origins.{chain_begun}
 use Rattle.lsl_script.proofs.RunKeeps.{KeptAt}
 use Rattle.lsl_script.proofs.Ticks.{at_tick, resumes}
 use Rattle.lsl_script.proofs.Units.{arguments_fit, sound}
@@ -121,9 +121,7 @@ flight_saved codes code state unit f handler m known found lawful cut =
     (given_as (flight_whole (rules_of codes) code state f f.ticks)
     (λ a. told (bodies_of unit) (flight_run unit handler f f.ticks a))
     (flight_is codes code state f unit handler known found f.ticks) f.answers lawful.given)
-    ((run_begun (bodies_of unit) (sound unit).forward handler f.kept f.event.args lawful.kept.limit).cut f.ticks
-    f.answers
-    m cut).0
+    (chain_begun (bodies_of unit) (sound unit).forward handler f.kept f.event.args f.ticks f.answers m cut)
 
 -- it is the machine that was saved
 pub record IsTakenUp (codes : List Code) (unit : Code) (s : Script) (e : Event) (handler : ℕ) (kept : Kept)

@@ -51,7 +51,7 @@ taken_handled states state None queue e fits first =
     let w = first_waits states state queue e fits.waits first in (w.handled, w.other)
 taken_handled states state (Some to) queue e fits first =
     let same : state_exit ≡ e = cc in
-    (ap (λ (x : Event). has_handler states state x.id) (sym same) ∙ fits.leaves.2, ap is_exit (sym same))
+    (ap (λ (x : Event). has_handler states state x.id) (sym same) ∙ fits.leaves.exit, ap is_exit (sym same))
 
 drop_waits : (states : List StateCode) (state : ℕ) (queue : List Event) → All (CanWait states state) queue
     → All (CanWait states state) (drop 1 queue)

@@ -25,7 +25,7 @@ use Rattle.lsl_post.specs.declared.parts.Rest.TheVariants.{Idle}
 use Rattle.lsl_script.specs.declared.live.Live.{Live}
 use Rattle.lsl_script.specs.declared.live.Turn.{Turn}
 use Rattle.lsl_script.specs.declared.live.Turn.TheVariants as turn
-use Rattle.lsl_script.specs.Fitting.{FitsStates, IsInHand}
+use Rattle.lsl_script.specs.Fitting.{FitsStates, IsInHand, least_limit}
 
 -- how a handler's run halts, for a number of ticks and a list of answers
 abbrev pub Run : Type 0
@@ -36,8 +36,9 @@ pub record GoesOnAs (bodies : List Body) (comes : Run) (ticks : ℕ) (given : Li
   pub same : (more : ℕ) (answers : List Reply)
       → comes (ticks + more) (given ++ answers) ≡ halt_from s.standing bodies s.machine more answers
 
--- what a handler leaves is charged within its limit
+-- what a handler leaves is charged within its limit, which is one that a script may have
 pub record IsLeft (kept : Kept) : Type 0 where
+  pub least : least_limit ≤ kept.limit
   pub limit : kept.limit ≤ default_limit
   pub charge : charges_of kept.globals ≤ kept.limit
 

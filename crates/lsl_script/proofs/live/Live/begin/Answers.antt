@@ -40,7 +40,8 @@ returns-clause-awake c =
       machine = c.in_ok-machine.ensures.of;
       silent = c.in_ok-machine.ensures.silent;
       running = begun_runs unit c.handler_of-handler.result (kept_with c.args.kept.globals c.args.kept.limit)
-          c.in_ok-copy.field-0 c.in_ok-machine.machine c.requires.fits.limit c.in_ok-machine.ensures.ready
+          c.in_ok-copy.field-0 c.in_ok-machine.machine c.requires.fits.least c.requires.fits.limit
+          c.in_ok-machine.ensures.ready
           c.in_ok-machine.ensures.runs;
       begun = begun_runs_so c.in_ok-machine.machine.standing true c.in_ok-machine.ensures.ready;
     }

@@ -23,7 +23,8 @@ returns-clause-awake c =
           (subst (λ z. IsChainedAt (bodies_of unit) c.handler_of-handler.result z c.in_ok-machine.machine.machine)
           c.in_ok-machine.ensures.stands c.in_ok-machine.ensures.chained)
           (subst IsLeft (sym c.in_ok-machine.ensures.kept)
-          (parked_left c.args.kept.globals c.args.kept.limit c.args.sack c.requires.fits.limit rest.2.1));
+          (parked_left c.args.kept.globals c.args.kept.limit c.args.sack c.requires.fits.least c.requires.fits.limit
+          rest.2.1));
       begun = begun_so c.in_ok-machine.machine.standing false refl;
     }
 
