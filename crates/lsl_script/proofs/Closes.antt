@@ -1,30 +1,28 @@
 -- A handler ended, or its script stops for good.
-use Rattle.std.proofs.Common.{◌≡◌, ℕ, ◌+◌, List, [], ◌∷◌, Bool, Option, None, Some, min, refl, sym, ap, ◌∙◌, subst}
+use Rattle.std.proofs.Common.{◌≡◌, ℕ, ◌+◌, List, ◌∷◌, Bool, Option, Some, min, refl, sym, ap, ◌∙◌, subst}
 use Rattle.std.specs.Prelude.{is_some}
 use Rattle.lsl_value.specs.declared.names.EventId.TheVariants as event
 use Rattle.lsl_value.specs.declared.tagged.Value.{Value}
 use Rattle.lsl_running.specs.declared.ends.Fault.{Fault}
 use Rattle.lsl_running.specs.declared.ends.Outcome.{Outcome}
 use Rattle.lsl_running.specs.declared.kept.Kept.{Kept}
-use Rattle.lsl_running.specs.Charging.{charges_of, default_limit}
+use Rattle.lsl_running.specs.Charging.{charges_of}
 use Rattle.lsl_code.specs.declared.woven_units.Woven.{Woven as Code}
 use Rattle.lsl_machine.specs.declared.standing.Standing.{Standing}
 use Rattle.lsl_machine.specs.declared.standing.Standing.TheVariants as standing
 use Rattle.lsl_post.specs.declared.entries.Entry.TheVariants as entry
-use Rattle.lsl_post.specs.declared.parts.Rest.TheVariants.{Dead}
 use Rattle.lsl_post.specs.declared.parts.ScriptParts.{ScriptParts}
-use Rattle.lsl_post.specs.Listens.{no_listens}
-use Rattle.lsl_post.specs.Timing.{stopped}
 use Rattle.lsl_script.specs.declared.closing.Closed.{Closed}
 use Rattle.lsl_script.specs.declared.going.Going.{Going}
 use Rattle.lsl_script.specs.declared.live.Live.{Live}
 use Rattle.lsl_script.specs.Awake.{HasEnded, HasEndedAs, HasLeft, IsAwake, IsLeft}
-use Rattle.lsl_script.specs.Closing.{ClosesAs, count_gone, gone_parts}
+use Rattle.lsl_script.specs.Closing.{ClosesAs, count_gone, going_after, gone_parts}
 use Rattle.lsl_script.specs.Codes.{globals_in, rules_of}
 use Rattle.lsl_script.specs.Fitting.{FitsUnit, has_handler}
-use Rattle.lsl_script.specs.Handlers.{ended, failed, going_of, gone}
+use Rattle.lsl_script.specs.Handlers.{ended, failed, going_of, gone, resting_charge}
 use Rattle.lsl_script.specs.Lives.{Carries, entries_of_clearing}
-use Rattle.lsl_script.specs.Parts.{parts_of, timer_of}
+use Rattle.lsl_script.specs.Parts.{parts_of}
+use Rattle.lsl_script.specs.Resting.{failed_parts, keeping}
 use Rattle.lsl_script.specs.Scripts.{Script, handles}
 use Rattle.lsl_script.proofs.Goes.{charge_is, gone_fits, gone_is, gone_lawful, gone_told, left_parts, left_script}
 use Rattle.lsl_script.proofs.Posting.{handler_is}
@@ -77,25 +75,9 @@ closes_as codes unit s live kept way number going closed c left is script charge
 -- a script that stops for good
 pub fails_as : (codes : List Code) (unit : Code) (s : Script) (live : Live) (fault : Fault) (number : ℕ)
     → Carries codes unit s live
-    → record live.parts {
-      globals = unit.globals;
-      limit = default_limit;
-      leaving = None;
-      queue = [];
-      listens = no_listens;
-      timer = timer_of stopped;
-      rest = Dead fault;
-    } ≡ parts_of codes (failed (rules_of codes) number s fault).value
+    → failed_parts unit fault live.parts ≡ parts_of codes (failed (rules_of codes) number s fault).value
 fails_as codes unit s live fault number c =
-    ap {A = ScriptParts} {B = ScriptParts} (λ p. record p {
-      globals = unit.globals;
-      limit = default_limit;
-      leaving = None;
-      queue = [];
-      listens = no_listens;
-      timer = timer_of stopped;
-      rest = Dead fault;
-    }) c.parts
+    ap {A = ScriptParts} {B = ScriptParts} (failed_parts unit fault) c.parts
     ∙ ap {A = List Value} {B = ScriptParts}
     (λ globals. record (parts_of codes (failed (rules_of codes) number s fault).value) { globals = globals })
     (ap (λ (o : Option Code). globals_in o) (sym c.known))
@@ -119,6 +101,38 @@ closing_goes unit live kept mid new outcome exits going c =
     c.going_is ∙ ap (λ b. going_of mid.leaving mid.state b outcome) c.exits_are
     ∙ ap (λ (p : ScriptParts). going_of p.leaving p.state (has_handler unit.states p.state event.StateExit)
     outcome) c.mid_is
+
+-- the charge is that of what the machine has
+pub closing_charge : (unit : Code) (live : Live) (kept : Kept) (charge : ℕ) → HasEnded unit live
+    → kept ≡ live.machine.machine.kept → charge ≡ min (1024 + charges_of kept.globals) 18446744073709551615
+    → charge ≡ resting_charge live.machine.machine.kept
+closing_charge unit live kept charge ended has is =
+    let w = ended_way unit live.outcome live.machine.standing live.machine.machine.kept ended in
+    is ∙ ap (λ (k : Kept). min (1024 + charges_of k.globals) 18446744073709551615) has
+    ∙ charge_is live.machine.machine.kept w.3.left
+
+module _ (unit : Code) (live : Live) (kept : Kept) (mid new : ScriptParts) (outcome : Outcome) (exits : Bool)
+    (going : Going) (closing : IsClosing unit live kept mid new outcome exits going) (way : Outcome)
+    (so : live.outcome ≡ Some way)
+  where
+    goes_so : going ≡ going_after unit live.parts way
+    goes_so =
+        let some : Some outcome ≡ Some way = sym closing.ended ∙ so in
+        let one : outcome ≡ way = cc in
+        closing_goes unit live kept mid new outcome exits going closing ∙ ap (going_after unit live.parts) one
+
+    pub closing_parts : new ≡ gone_parts unit (going_after unit live.parts way)
+        (keeping live.machine.machine.kept live.parts)
+    closing_parts =
+        closing.new_is ∙ ap (gone_parts unit going) closing.mid_is
+        ∙ ap {A = Kept} {B = ScriptParts} (λ k. gone_parts unit going (keeping k live.parts)) closing.has
+        ∙ ap {A = Going} {B = ScriptParts} (λ g. gone_parts unit g (keeping live.machine.machine.kept live.parts)) goes_so
+
+    pub closing_cleared : (cleared : Option ℕ) → cleared ≡ count_gone going mid.queue
+        → cleared ≡ count_gone (going_after unit live.parts way) live.parts.queue
+    closing_cleared cleared is =
+        is ∙ ap (λ (p : ScriptParts). count_gone going p.queue) closing.mid_is
+        ∙ ap (λ (g : Going). count_gone g live.parts.queue) goes_so
 
 pub closes_fits : (unit : Code) (live : Live) (kept : Kept) (mid new : ScriptParts) (outcome : Outcome) (exits : Bool)
     (going : Going) → IsAwake unit live → HasEnded unit live → IsClosing unit live kept mid new outcome exits going

@@ -27,6 +27,7 @@ use Rattle.lsl_script.specs.Handlers.{going_from, going_of, going_on, gone, rest
 use Rattle.lsl_script.specs.Lawful.{IsTiming, Lawful}
 use Rattle.lsl_script.specs.Lives.{entries_of_clearing}
 use Rattle.lsl_script.specs.Parts.{parts_of, timer_of}
+use Rattle.lsl_script.specs.Resting.{keeping}
 use Rattle.lsl_script.specs.Scripts.{Script, Resting, fresh, handles, state_entry}
 use Rattle.lsl_script.proofs.Fits.{entered_fits}
 use Rattle.lsl_script.proofs.Posting.{handler_is}
@@ -34,7 +35,7 @@ use Rattle.lsl_script.proofs.Units.{sound}
 
 -- parts with what a handler left
 abbrev pub left_parts : ScriptParts → Kept → ScriptParts
-left_parts parts kept = record parts { globals = kept.globals; limit = kept.limit }
+left_parts parts kept = keeping kept parts
 
 module _ (unit : Code) (parts : ScriptParts) (kept : Kept) (idle : parts.rest ≡ Idle)
     (fits : FitsStates unit.states parts.state parts.leaving parts.queue)

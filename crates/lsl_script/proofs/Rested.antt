@@ -26,6 +26,7 @@ use Rattle.lsl_script.specs.Codes.{bodies_in}
 use Rattle.lsl_script.specs.Fitting.{FitsUnit, least_limit}
 use Rattle.lsl_script.specs.Lives.{Rests, awake_parts}
 use Rattle.lsl_script.specs.Parts.{kept_of, machine_at, parts_of, rest_of}
+use Rattle.lsl_script.specs.Resting.{saved_parts}
 use Rattle.lsl_script.specs.Scripts.{Flight, Script}
 use Rattle.lsl_script.proofs.Staying.{on_way_goes}
 use Rattle.lsl_script.proofs.TakesUp.{machine_is}
@@ -57,10 +58,6 @@ tick_cut unit live a stands =
     (subst CanRun (sym stands) tt) r.on_way in
     r.of.cut (r.ticks + 0) (r.given ++ []) m
     (goes.same 0 [] ∙ ap (λ z. halt_from z (bodies_of unit) m 0 []) stands ∙ cut_here unit m here.1.0 a.silent here.1.1)
-
--- the parts of a script whose calls were saved so
-abbrev pub saved_parts : ScriptParts → Kept → Event → List Frame → ScriptParts
-saved_parts parts kept e frames = record parts { globals = kept.globals; limit = kept.limit; rest = Saved e frames }
 
 pub rested_chained : (unit : Code) (live : Live) → IsAwake unit live → live.machine.standing ≡ standing.AtTick
     → IsChained (bodies_of unit) live.handler live.machine

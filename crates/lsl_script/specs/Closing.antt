@@ -1,5 +1,6 @@
 -- What a handler's end does to a script's parts, and what it comes to.
 use Rattle.std.specs.Prelude.{◌≡◌, ℕ, List, [], length, Option, Some, None}
+use Rattle.lsl_value.specs.declared.names.EventId.TheVariants as event
 use Rattle.lsl_running.specs.declared.ends.Outcome.{Outcome}
 use Rattle.lsl_running.specs.declared.kept.Kept.{Kept}
 use Rattle.lsl_running.specs.Charging.{default_limit}
@@ -14,7 +15,8 @@ use Rattle.lsl_script.specs.declared.closing.Closed.{Closed}
 use Rattle.lsl_script.specs.declared.going.Going.{Going}
 use Rattle.lsl_script.specs.declared.going.Going.TheVariants.{Stays, Leaves, Enters, Restarts}
 use Rattle.lsl_script.specs.Codes.{rules_of}
-use Rattle.lsl_script.specs.Handlers.{ended}
+use Rattle.lsl_script.specs.Fitting.{has_handler}
+use Rattle.lsl_script.specs.Handlers.{ended, going_of}
 use Rattle.lsl_script.specs.Lawful.{Lawful}
 use Rattle.lsl_script.specs.Lives.{entries_of_closing}
 use Rattle.lsl_script.specs.Parts.{parts_of, timer_of}
@@ -54,7 +56,12 @@ gone_parts unit (Leaves to) parts = record parts { leaving = Some to }
 gone_parts unit (Enters to) parts = entering unit.states to parts
 gone_parts unit Restarts parts = begun_again unit parts
 
--- how many events went, where they went
+-- where a script goes whose handler ended so
+abbrev pub going_after : Code → ScriptParts → Outcome → Going
+going_after unit parts way =
+    going_of parts.leaving parts.state (has_handler unit.states parts.state event.StateExit) way
+
+-- how many events went, where they went: where the script stands in a new state, or began again
 abbrev pub count_gone : Going → List Event → Option ℕ
 count_gone Stays queue = None
 count_gone (Leaves to) queue = None

@@ -4,6 +4,7 @@ pub mod Handlers
 pub mod Codes
 pub mod Lawful
 pub mod Parts
+pub mod Resting
 pub mod Fitting
 pub mod Awake
 pub mod Lives

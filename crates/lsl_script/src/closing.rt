@@ -1,11 +1,14 @@
 //! A handler ends.
 
-ghost use Rattle.std.specs.Prelude.{◌≡◌, ℕ, List, length, IfOk};
+ghost use Rattle.std.specs.Prelude.{◌≡◌, ℕ, List, length, Some, IfOk};
+ghost use Rattle.lsl_running.specs.declared.ends.Outcome.{Outcome};
 ghost use Rattle.lsl_code.specs.declared.woven_units.Woven.{Woven as Code};
 ghost use Rattle.lsl_script.specs.Awake.{HasEnded, IsAwake};
-ghost use Rattle.lsl_script.specs.Closing.{ClosesAs, begun_again, count_gone, entering, forgotten, gone_parts, initial_of};
+ghost use Rattle.lsl_script.specs.Closing.{ClosesAs, begun_again, count_gone, entering, forgotten, going_after, gone_parts, initial_of};
 ghost use Rattle.lsl_script.specs.Fitting.{FitsUnit};
+ghost use Rattle.lsl_script.specs.Handlers.{resting_charge};
 ghost use Rattle.lsl_script.specs.Lives.{Ends};
+ghost use Rattle.lsl_script.specs.Resting.{keeping};
 ghost use Rattle.lsl_script.specs.Scripts.{Flight, Script as Source};
 
 use crate::going::Going;
@@ -34,6 +37,11 @@ impl Live {
         requires awake { IsAwake unit.now self }
         requires ended { HasEnded unit.now self }
         ensures fits { IfOk result (λ closed. FitsUnit unit.now closed.script) }
+        ensures charge { IfOk result (λ closed. closed.charge ≡ resting_charge self.machine.machine.kept) }
+        ensures parts { (way : Outcome) → self.outcome ≡ Some way → IfOk result (λ closed. closed.script
+            ≡ gone_parts unit.now (going_after unit.now self.parts way) (keeping self.machine.machine.kept self.parts)) }
+        ensures cleared { (way : Outcome) → self.outcome ≡ Some way → IfOk result (λ closed. closed.cleared
+            ≡ count_gone (going_after unit.now self.parts way) self.parts.queue) }
         ensures source { (codes : List Code) (s : Source) (f : Flight) (number : ℕ) →
             (ends : Ends codes unit.now s f self) →
             IfOk result (ClosesAs codes number s self.machine.machine.kept ends.way) }

@@ -9,6 +9,7 @@ ghost use Rattle.lsl_script.specs.Handlers.{failed};
 ghost use Rattle.lsl_script.specs.Lawful.{Lawful};
 ghost use Rattle.lsl_script.specs.Lives.{Carries};
 ghost use Rattle.lsl_script.specs.Parts.{parts_of};
+ghost use Rattle.lsl_script.specs.Resting.{failed_parts};
 ghost use Rattle.lsl_script.specs.Scripts.{Script as Source};
 
 use crate::closing::{forget, initial};
@@ -26,6 +27,7 @@ impl Live {
     pub fn fail(self, alloc: Global, unit: &Woven, fault: Fault) -> Result<Script, NoMemory>
         requires awake { IsAwake unit.now self }
         ensures fits { IfOk result (FitsUnit unit.now) }
+        ensures parts { IfOk result (λ script. script ≡ failed_parts unit.now fault self.parts) }
         ensures source { (codes : List Code) (s : Source) (number : ℕ) → Carries codes unit.now s self →
             IfOk result (λ script. script ≡ parts_of codes (failed (rules_of codes) number s fault).value) }
         ensures lawful { (codes : List Code) (s : Source) (number : ℕ) → Carries codes unit.now s self →

@@ -2,7 +2,8 @@
 
 ghost use Rattle.std.specs.Prelude.{◌≡◌, List, IfOk};
 ghost use Rattle.lsl_code.specs.declared.woven_units.Woven.{Woven as Code};
-ghost use Rattle.lsl_code.specs.Weaves.{Weaves};
+ghost use Rattle.lsl_code.specs.Frames.{frames_of};
+ghost use Rattle.lsl_code.specs.Weaves.{Weaves, bodies_of};
 ghost use Rattle.lsl_machine.specs.declared.standing.Standing.TheVariants as standings;
 ghost use Rattle.lsl_script.specs.Awake.{IsAwake};
 ghost use Rattle.lsl_script.specs.Codes.{rules_of};
@@ -10,6 +11,7 @@ ghost use Rattle.lsl_script.specs.Fitting.{FitsUnit};
 ghost use Rattle.lsl_script.specs.Lawful.{Lawful};
 ghost use Rattle.lsl_script.specs.Lives.{Rests};
 ghost use Rattle.lsl_script.specs.Parts.{parts_of};
+ghost use Rattle.lsl_script.specs.Resting.{keeping, saved_parts};
 ghost use Rattle.lsl_script.specs.Scripts.{Flight, Script as Source};
 
 use crate::live::Live;
@@ -27,6 +29,8 @@ impl Live {
         requires stands { self.machine.standing ≡ standings.AtTick }
         requires weaves { Weaves unit.now }
         ensures fits { IfOk result (FitsUnit unit.now) }
+        ensures parts { IfOk result (λ script. script ≡ saved_parts self.parts self.machine.machine.kept self.event
+            (frames_of (bodies_of unit.now) self.machine.machine.calls)) }
         ensures source { (codes : List Code) (s : Source) (f : Flight) → Rests codes unit.now s f self →
             IfOk result (λ script. script ≡ parts_of codes s) }
         ensures lawful { (codes : List Code) (s : Source) (f : Flight) → Rests codes unit.now s f self →
@@ -47,7 +51,7 @@ impl Live {
 
 /// The script keeps these globals and this limit.
 pub fn keep(parts: &mut ScriptParts, kept: Kept)
-    ensures { parts.new ≡ record parts.old { globals = kept.globals; limit = kept.limit } }
+    ensures { parts.new ≡ keeping kept parts.old }
 {
     let Kept { globals, limit } = kept;
     parts.globals = globals;

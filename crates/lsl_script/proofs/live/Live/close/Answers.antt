@@ -3,7 +3,7 @@ use Rattle.std.specs.Prelude.{is_some}
 use Rattle.lsl_running.specs.Charging.{charged_with, charges_of}
 use Rattle.lsl_script.specs.Closing.{count_gone, gone_parts}
 use Rattle.lsl_script.specs.Fitting.{FitsUnit}
-use Rattle.lsl_script.proofs.Closes.{closes_fits, closing_is}
+use Rattle.lsl_script.proofs.Closes.{closes_fits, closing_charge, closing_cleared, closing_is, closing_parts}
 use Rattle.lsl_script.proofs.live.Live.close.Goals as goal
 
 pub from_parts-requires : goal.from_parts-requires
@@ -34,6 +34,40 @@ returns-clause-fits c =
       going_is = c.of-going.ensures;
       new_is = gone.0;
     }))
+
+pub returns-clause-charge : goal.returns-clause-charge
+returns-clause-charge c =
+    closing_charge c.args.unit.now c.args.self c.finish-kept.result _ c.requires.ended c.finish-kept.ensures
+    (c.charged_with_values-charge.ensures ∙ ap (λ vs. charged_with 1024 (charges_of vs)) c.as_slice.ensures)
+
+pub returns-clause-parts : goal.returns-clause-parts
+returns-clause-parts c way so =
+    let gone : (c.go.new.parts ≡ gone_parts c.args.unit.now c.of-going.result c.keep.new.parts)
+    × (c.in_ok-cleared.cleared ≡ count_gone c.of-going.result c.keep.new.parts.queue) = c.in_ok-cleared.ensures in
+    c.from_parts.ensures
+    ∙ closing_parts c.args.unit.now c.args.self c.finish-kept.result c.keep.new.parts c.go.new.parts c.in-Some.outcome
+    c.is_some-exits.result c.of-going.result (record {
+      has = c.finish-kept.ensures;
+      mid_is = c.keep.ensures;
+      ended = c.in-Some.is;
+      exits_are = c.is_some-exits.ensures ∙ ap is_some c.handler.ensures;
+      going_is = c.of-going.ensures;
+      new_is = gone.0;
+    }) way so
+
+pub returns-clause-cleared : goal.returns-clause-cleared
+returns-clause-cleared c way so =
+    let gone : (c.go.new.parts ≡ gone_parts c.args.unit.now c.of-going.result c.keep.new.parts)
+    × (c.in_ok-cleared.cleared ≡ count_gone c.of-going.result c.keep.new.parts.queue) = c.in_ok-cleared.ensures in
+    closing_cleared c.args.unit.now c.args.self c.finish-kept.result c.keep.new.parts c.go.new.parts c.in-Some.outcome
+    c.is_some-exits.result c.of-going.result (record {
+      has = c.finish-kept.ensures;
+      mid_is = c.keep.ensures;
+      ended = c.in-Some.is;
+      exits_are = c.is_some-exits.ensures ∙ ap is_some c.handler.ensures;
+      going_is = c.of-going.ensures;
+      new_is = gone.0;
+    }) way so _ gone.1
 
 pub returns-clause-source : goal.returns-clause-source
 returns-clause-source c codes s f number ends =

@@ -6,8 +6,8 @@ use Rattle.lsl_script.specs.Closing.{forgotten, initial_of}
 use Rattle.lsl_script.proofs.Closes.{fails_as}
 use Rattle.lsl_script.proofs.live.Live.fail.Goals as goal
 
-pub returns-clause-source : goal.returns-clause-source
-returns-clause-source c codes s number carries =
+pub returns-clause-parts : goal.returns-clause-parts
+returns-clause-parts c =
     let kept : c.in_ok-initial.field-0 ≡ initial_of c.args.unit.now = c.in_ok-initial.ensures in
     c.from_parts.ensures
     ∙ ap {A = ScriptParts} {B = ScriptParts} (λ p. record p { rest = Dead c.args.fault }) c.forget-count.ensures.parts
@@ -17,4 +17,7 @@ returns-clause-source c codes s number carries =
     (λ k. record (forgotten (record c.args.self.parts { globals = k.globals; limit = k.limit; leaving = None })) {
       rest = Dead c.args.fault;
     }) kept
-    ∙ fails_as codes c.args.unit.now s c.args.self c.args.fault number carries
+
+pub returns-clause-source : goal.returns-clause-source
+returns-clause-source c codes s number carries =
+    returns-clause-parts c ∙ fails_as codes c.args.unit.now s c.args.self c.args.fault number carries
