@@ -2,6 +2,8 @@
 use Rattle.std.specs.Prelude.{◌≡◌, ℕ, true, false, List, [], drop, Option, Some, None, is_some, slice_get}
 use Rattle.lsl_running.specs.declared.kept.Kept.{Kept}
 use Rattle.lsl_code.specs.declared.woven_units.Woven.{Woven as Code}
+use Rattle.lsl_code.specs.Wholes.{run_of}
+use Rattle.lsl_machine.specs.State.{bodies_of, kept_with}
 use Rattle.lsl_post.specs.declared.events.Event.{Event}
 use Rattle.lsl_post.specs.declared.parts.Rest.{Rest}
 use Rattle.lsl_post.specs.declared.parts.Rest.TheVariants.{Idle, Saved, Dead}
@@ -9,7 +11,7 @@ use Rattle.lsl_post.specs.declared.parts.ScriptParts.{ScriptParts}
 use Rattle.lsl_script.specs.declared.live.Live.{Live}
 use Rattle.lsl_script.specs.declared.waking.WakeFault.{WakeFault}
 use Rattle.lsl_script.specs.declared.waking.WakeFault.TheVariants.{NotReady, NoMemory}
-use Rattle.lsl_script.specs.Awake.{taken_by}
+use Rattle.lsl_script.specs.Awake.{GoesOnAs, taken_by}
 use Rattle.lsl_script.specs.Codes.{rules_of}
 use Rattle.lsl_script.specs.Fitting.{are_ready}
 use Rattle.lsl_script.specs.Handlers.{take_next}
@@ -65,12 +67,16 @@ queue_at parts (Dead fault) = parts.queue
 
 -- Parts wake so, whatever they were read from: they take their next event, and its handler begins, unless a handler was
 -- saved, whose event is in hand again. The globals and the limit go to the machine; all else stays.
-pub record TakesNext (parts : ScriptParts) (live : Live) : Type 0 where
+pub record TakesNext (unit : Code) (parts : ScriptParts) (live : Live) : Type 0 where
   pub took : taken_by live ≡ taken_at parts parts.rest
   pub event : in_hand_at parts parts.rest ≡ Some live.event
   pub fresh : live.fresh ≡ live.began
   pub beside : live.parts
       ≡ record parts { globals = []; limit = live.parts.limit; queue = queue_at parts parts.rest; rest = Idle }
+  -- a handler that begins runs with what the script kept, and one that was saved has it
+  pub begins : live.began ≡ true → GoesOnAs (bodies_of unit)
+      (run_of (bodies_of unit) live.handler (kept_with parts.globals parts.limit) live.event.args) 0 [] live.machine
+  pub has : live.began ≡ false → live.machine.machine.kept ≡ kept_with parts.globals parts.limit
 
 -- the awake script stands for the source script that has taken its next event, unless a handler was in flight; the
 -- journal tells of the event; and the handler asks at most so often before its next tick

@@ -56,7 +56,7 @@ impl Script {
         ensures refused { IfErr result (IsRefused clock self) }
         ensures awake { IfOk result (IsAwake unit.now) }
         ensures able { IfOk result (λ live. CanRun live.machine.standing) }
-        ensures took { IfOk result (TakesNext self) }
+        ensures took { IfOk result (TakesNext unit.now self) }
         ensures source { (codes : _) (s : Source) → HasUnit codes s.code unit.now → self ≡ parts_of codes s →
             Lawful (rules_of codes) s → IfOk result (WakesAs codes unit.now s) }
     {
@@ -75,7 +75,7 @@ impl Live {
         requires weaves { Weaves unit.now }
         ensures awake { IfOk result (IsAwake unit.now) }
         ensures able { IfOk result (λ live. CanRun live.machine.standing) }
-        ensures took { IfOk result (TakesNext parts) }
+        ensures took { IfOk result (TakesNext unit.now parts) }
         ensures source { (codes : _) (s : Source) → HasUnit codes s.code unit.now → parts ≡ parts_of codes s →
             Lawful (rules_of codes) s → IfOk result (WakesAs codes unit.now s) }
     {
@@ -102,7 +102,7 @@ impl Live {
         requires idle { IsEmptied parts }
         ensures awake { IfOk result (IsAwake unit.now) }
         ensures able { IfOk result (λ live. CanRun live.machine.standing) }
-        ensures took { IfOk result (TakesNext (resting_parts parts kept rests.Idle)) }
+        ensures took { IfOk result (TakesNext unit.now (resting_parts parts kept rests.Idle)) }
         ensures source { (codes : _) (s : Source) → HasUnit codes s.code unit.now →
             resting_parts parts kept rests.Idle ≡ parts_of codes s → Lawful (rules_of codes) s →
             IfOk result (WakesAs codes unit.now s) }
@@ -143,7 +143,7 @@ impl Live {
         requires weaves { Weaves unit.now }
         ensures awake { IfOk result (IsAwake unit.now) }
         ensures able { IfOk result (λ live. CanRun live.machine.standing) }
-        ensures took { IfOk result (TakesNext (resting_parts parts kept (rests.Saved event sack))) }
+        ensures took { IfOk result (TakesNext unit.now (resting_parts parts kept (rests.Saved event sack))) }
         ensures source { (codes : _) (s : Source) → HasUnit codes s.code unit.now →
             resting_parts parts kept (rests.Saved event sack) ≡ parts_of codes s → Lawful (rules_of codes) s →
             IfOk result (WakesAs codes unit.now s) }

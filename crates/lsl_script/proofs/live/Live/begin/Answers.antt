@@ -48,14 +48,22 @@ returns-clause-awake c =
 
 pub returns-clause-took : goal.returns-clause-took
 returns-clause-took c =
+    let unit = c.args.unit.now in
     let parts = c.args.parts in
     let first = c.next_event-event.ensures.event in
+    let handler = c.handler_of-handler.result in
+    let kept = kept_with c.args.kept.globals c.args.kept.limit in
+    let args : c.in_ok-copy.field-0 ≡ c.next_event-event.result.args = c.in_ok-copy.ensures in
     record {
       took = sym first;
       event = first;
       fresh = refl;
       beside = ap {A = List Event} {B = ScriptParts} (λ q. record parts { queue = q }) c.next_event-event.ensures.queue
           ∙ emptied parts (queue_behind parts.leaving parts.queue) c.requires.idle;
+      begins = λ began. subst (λ (a : List Value). GoesOnAs (bodies_of unit) (run_of (bodies_of unit) handler kept a) 0 []
+          c.in_ok-machine.machine) args
+          (begun_goes unit handler kept c.in_ok-copy.field-0 c.in_ok-machine.machine c.in_ok-machine.ensures.runs);
+      has = λ saved. absurd cc;
     }
 
 pub returns-clause-source : goal.returns-clause-source

@@ -34,6 +34,8 @@ returns-clause-took c = record {
   event = refl;
   fresh = refl;
   beside = emptied c.args.parts c.args.parts.queue c.requires.idle;
+  begins = λ began. absurd cc;
+  has = λ saved. c.in_ok-machine.ensures.kept;
 }
 
 pub returns-clause-source : goal.returns-clause-source
