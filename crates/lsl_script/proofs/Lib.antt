@@ -21,6 +21,8 @@ pub mod Closes
 pub mod Rested
 pub mod Firsts
 pub mod Meant
+pub mod Lawfulness
+pub mod Never
 pub mod Readies
 pub mod News
 pub mod Passing

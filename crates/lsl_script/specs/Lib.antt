@@ -9,6 +9,7 @@ pub mod Fitting
 pub mod Awake
 pub mod Lives
 pub mod FlightLaws
+pub mod RuleLaws
 pub mod Mailing
 pub mod Lending
 pub mod MailLaws

@@ -26,8 +26,8 @@ abbrev pub whole_in : Rules → ℕ → Option ℕ → Kept → List Value → �
 whole_in r code None kept args ticks answers = Lost
 whole_in r code (Some routine) kept args ticks answers = r.whole code routine kept args ticks answers
 
--- the laws that a meaning has: what isn't cut is the same with more ticks, what doesn't ask is the same with more
--- answers, and a routine that is cut asks at most so often before its next tick
+-- the laws that a meaning has: what isn't cut is the same with more ticks, and what doesn't ask is the same with more
+-- answers
 pub record AreLawful (r : Rules) : Type 0 where
   pub ticks : (code routine : ℕ) (kept : Kept) (args : List Value) (ticks more : ℕ) (answers : List Reply)
       → ((calls : List ActiveCall) → r.whole code routine kept args ticks answers ≢ Cut calls)

@@ -1,8 +1,9 @@
 //! Laws of scripts. Each law is a function whose clause is the law; it does nothing.
 
-ghost use Rattle.lsl_script.specs.FlightLaws.{FlightsAskSoOften};
+ghost use Rattle.lsl_script.specs.FlightLaws.{FlightsAreNeverLost, FlightsAskSoOften};
 ghost use Rattle.lsl_script.specs.MailLaws.{ListensAreIts, RestingTimerIsIts, StaysAwake, StaysFitting, TimerIsIts};
 ghost use Rattle.lsl_script.specs.MeantLaws.{MeantSaysTheSame};
+ghost use Rattle.lsl_script.specs.RuleLaws.{RulesAreLawful};
 ghost use Rattle.lsl_script.specs.Laws.{ChargeComesFirst, ExitComesFirst, FaultsAreForGood, LeavingGoesOn, NewStateKeepsTimer, ResetBeginsAgain, SameStateIsReturn};
 
 /// A change to the state in which a script stands is a return.
@@ -53,6 +54,16 @@ pub fn timers_between_turns()
 /// A handler that stands at a tick asks at most so often before its next one.
 pub fn flights_ask_so_often()
     ensures { FlightsAskSoOften }
+{}
+
+/// A handler with the answers that it asked for is cut, asks, ends or stops: it is never lost.
+pub fn flights_are_never_lost()
+    ensures { FlightsAreNeverLost }
+{}
+
+/// What comes of a routine that isn't cut is the same with more ticks, and of one that doesn't ask with more answers.
+pub fn rules_are_lawful()
+    ensures { RulesAreLawful }
 {}
 
 /// Rules that mean what the rules of units mean say the same of scripts of these units.
