@@ -1,5 +1,5 @@
 -- A script goes out of the grid, and comes back into it.
-use Rattle.std.proofs.Common.{◌≡◌, ℕ, zero, suc, ◌<◌, Bool, true, false, List, [], ◌∷◌, map, length, refl, ap, sym, ◌∙◌, subst}
+use Rattle.std.proofs.Common.{◌≡◌, ℕ, ◌<◌, Bool, true, false, List, length, refl, ap, sym, ◌∙◌, subst}
 use Rattle.std.specs.Prelude.{Option, Some, None, slice_get, slice_set}
 use Rattle.std.proofs.lemmas.Option.{slice_get_within}
 use Rattle.lsl_code.specs.declared.woven_units.Woven.{Woven as Code}
@@ -9,11 +9,12 @@ use Rattle.lsl_script.specs.Lawful.{Lawful}
 use Rattle.lsl_script.specs.Parts.{parts_of}
 use Rattle.lsl_script.specs.Scripts.{Script}
 use Rattle.lsl_region.specs.declared.grid.Seat.{Seat}
-use Rattle.lsl_region.specs.Grids.{AreSeated, Contents, FitsSeat, IsLawful, Stands, is_out, seat_of, unit_number}
+use Rattle.lsl_region.specs.Grids.{AreSeated, Contents, FitsSeat, IsLawful, Stands, is_out, seat_of, outline_of}
 use Rattle.lsl_region.specs.Turning.{IsUnitAt, with_seated}
 use Rattle.lsl_region.specs.Worlds.{Member, World, with_member}
 use Rattle.lsl_region.proofs.Away.{away-seat, other-home, self-out}
 use Rattle.lsl_region.proofs.Placed.{seated-at, stands-with}
+use Rattle.lsl_region.proofs.Outlines.{outline-seats, vacant-read}
 use Rattle.lsl_region.proofs.Seats.{seated-set}
 
 module _ (codes : List Code) (clock place : ℕ) (grid : Contents) (w : World) (m : Member) (t : Script) (seat : Seat)
@@ -63,26 +64,15 @@ pub seat-is : (g h : Contents) (n : ℕ) (x seat : Seat) → g ≡ h → slice_g
 seat-is g h n x seat is at e =
     let same : Some x ≡ Some seat = sym at ∙ ap (λ (z : Contents). slice_get z.seats n) is ∙ e in cc
 
--- the seats' units stay, so the unit at a place does
-units-read : (old new : List Seat) (n : ℕ) (seat : Seat) → map unit_number new ≡ map unit_number old
-    → slice_get old n ≡ Some seat → (t : Seat) × (slice_get new n ≡ Some t) × (t.unit ≡ seat.unit)
-units-read [] new n seat e at = absurd cc
-units-read (x ∷ xs) [] n seat e at = absurd cc
-units-read (x ∷ xs) (y ∷ ys) zero seat e at =
-    let heads : y.unit ≡ x.unit = cc in
-    let is : x ≡ seat = cc in
-    (y, refl, heads ∙ ap unit_number is)
-units-read (x ∷ xs) (y ∷ ys) (suc n) seat e at =
-    let tails : map unit_number ys ≡ map unit_number xs = cc in units-read xs ys n seat tails at
-
-pub unit-kept : (codes : List Code) (unit : Code) (old new : List Seat) (place : ℕ)
-    → map unit_number new ≡ map unit_number old → IsUnitAt codes unit old place → IsUnitAt codes unit new place
+-- the unit at a place stays
+pub unit-kept : (codes : List Code) (unit : Code) (old new : Contents) (place : ℕ)
+    → outline_of new ≡ outline_of old → IsUnitAt codes unit old.seats place → IsUnitAt codes unit new.seats place
 unit-kept codes unit old new place e k =
-    let r = units-read old new place k.seat e k.at in
+    let r = vacant-read old.seats new.seats place k.seat (outline-seats old new e) k.at in
     record {
       seat = r.0;
       at = r.1;
-      has = subst (λ (n : ℕ). HasUnit codes n unit) (sym r.2) k.has;
+      has = subst (λ (n : ℕ). HasUnit codes n unit) (sym (ap (λ (s : Seat). s.unit) r.2)) k.has;
       weaves = k.weaves;
     }
 

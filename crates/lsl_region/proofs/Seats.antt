@@ -1,5 +1,5 @@
 -- The seats of a grid: read, and one of them changed.
-use Rattle.std.proofs.Common.{◌≡◌, ◌≢◌, ℕ, ◌<◌, ◌≤◌, ◌⊎◌, inl, inr, true, false, eqb, List, [], ◌∷◌, zero, suc, map, length, get_or, refl, ap, sym, ◌∙◌, subst, arith}
+use Rattle.std.proofs.Common.{◌≡◌, ◌≢◌, ℕ, ◌<◌, ◌≤◌, ◌⊎◌, inl, inr, true, false, eqb, List, [], length, get_or, refl, ap, sym, ◌∙◌, subst, arith}
 use Rattle.std.specs.Prelude.{Some, None, slice_get, slice_set}
 use Rattle.std.proofs.Math.ListN.{length-set}
 use Rattle.std.proofs.lemmas.Bool.Decides.{eqb_tells}
@@ -11,7 +11,7 @@ use Rattle.lsl_region.specs.declared.audience.Audience.{Audience}
 use Rattle.lsl_region.specs.declared.grid.Seat.{Seat}
 use Rattle.lsl_region.specs.declared.objects.Linkset.{Linkset}
 use Rattle.lsl_region.specs.declared.objects.Primitive.{Primitive}
-use Rattle.lsl_region.specs.Grids.{Contents, IsPlaced, ArePlaced, AreSeated, FitsSeat, IsSeated, key_in, object_in, renamed_grid, unit_number}
+use Rattle.lsl_region.specs.Grids.{Contents, IsPlaced, ArePlaced, AreSeated, FitsSeat, IsSeated, key_in, object_in, renamed_grid}
 use Rattle.lsl_region.specs.Answers.{with_name}
 use Rattle.lsl_region.specs.Posting.{is_admitted}
 use Rattle.lsl_region.specs.Worlds.{no_object, prim_at}
@@ -68,16 +68,6 @@ module _ (codes : List Code) (seats : List Seat) (n : ℕ) (t : Seat) (fits : Is
 
   pub seated-set : AreSeated codes seats → n < length seats → AreSeated codes (slice_set seats n t)
   seated-set p within = λ k s h. seated-at p within k s (eqb_tells k n) h
-
--- a seat may be another one of the same unit
-pub units-set : (seats : List Seat) (n : ℕ) (seat t : Seat) → slice_get seats n ≡ Some seat → t.unit ≡ seat.unit
-    → map unit_number (slice_set seats n t) ≡ map unit_number seats
-units-set [] n seat t at same = absurd cc
-units-set (x ∷ xs) zero seat t at same =
-    let is : x ≡ seat = cc in
-    ap (λ (u : ℕ). u ∷ map unit_number xs) (same ∙ ap unit_number (sym is))
-units-set (x ∷ xs) (suc n) seat t at same =
-    ap (λ (l : List ℕ). x.unit ∷ l) (units-set xs n seat t at same)
 
 -- the unit of a seat, as it is read
 pub seated-unit : (codes : List Code) (seat : Seat) (unit : Code) → IsSeated codes seat

@@ -1,5 +1,5 @@
 -- What a grid has, and the world for which it stands, also while one script is out of it.
-use Rattle.std.specs.Prelude.{◌≡◌, ℕ, ◌<◌, ◌≤◌, Bool, true, false, nat_eq, List, length, Option, Some, None, get_or, slice_get, slice_set}
+use Rattle.std.specs.Prelude.{◌≡◌, ℕ, ◌<◌, ◌≤◌, Bool, true, false, nat_eq, List, [], length, map, Option, Some, None, get_or, slice_get, slice_set}
 use Rattle.std.specs.Option.{option_map}
 use Rattle.lsl_value.specs.declared.names.BuiltinId.{BuiltinId}
 use Rattle.lsl_code.specs.declared.woven_units.Woven.{Woven as Code}
@@ -20,14 +20,26 @@ use Rattle.lsl_region.specs.declared.objects.Linkset.{Linkset}
 use Rattle.lsl_region.specs.declared.objects.Primitive.{Primitive}
 use Rattle.lsl_region.specs.Worlds.{Member, World, no_object, prim_at}
 
--- the number of a seat's unit
-abbrev pub unit_number : Seat → ℕ
-unit_number seat = seat.unit
-
 -- the objects, and the seats of the scripts
 pub record Contents : Type 0 where
   pub objects : List Linkset
   pub seats : List Seat
+
+-- a prim without its name, an object whose prims have none, and a seat whose script is out
+abbrev pub nameless : Primitive → Primitive
+nameless prim = record { key = prim.key; name = [] }
+
+abbrev pub without_names : Linkset → Linkset
+without_names object =
+    record { owner = object.owner; region = object.region; prims = map nameless object.prims }
+
+abbrev pub vacant : Seat → Seat
+vacant seat =
+    record { object = seat.object; prim = seat.prim; name = seat.name; unit = seat.unit; script = None }
+
+-- what stays whatever scripts do: the objects but for their prims' names, and the seats but for their scripts
+unfoldable pub outline_of : Contents → Contents
+outline_of grid = record { objects = map without_names grid.objects; seats = map vacant grid.seats }
 
 -- the seat's object and prim are there
 pub record IsPlaced (objects : List Linkset) (seat : Seat) : Type 0 where

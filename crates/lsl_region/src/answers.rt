@@ -1,6 +1,6 @@
 //! Host calls: a case for each.
 
-ghost use Rattle.std.specs.Prelude.{◌≡◌, ◌<◌, ◌≤◌, ◌-◌, ℕ, List, true, false, length, map, slice_get, Some, IfOk, OnOk};
+ghost use Rattle.std.specs.Prelude.{◌≡◌, ◌<◌, ◌≤◌, ◌-◌, ℕ, List, true, false, length, slice_get, Some, IfOk, OnOk};
 ghost use Rattle.lsl_value.specs.declared.names.BuiltinId.{BuiltinId as Id};
 ghost use Rattle.lsl_value.specs.declared.names.BuiltinId.TheVariants as ids;
 ghost use Rattle.lsl_running.specs.Calling.{call_form};
@@ -13,7 +13,7 @@ ghost use Rattle.lsl_script.specs.Awake.{IsAskedFor, IsAwake};
 ghost use Rattle.lsl_script.specs.Codes.{HasUnit, Meant};
 ghost use Rattle.lsl_script.specs.Scripts.{Flight};
 ghost use Rattle.lsl_region.specs.Answers.{answer, answer_of, does_more, is_mailing};
-ghost use Rattle.lsl_region.specs.Grids.{AreSeated, Lent, unit_number};
+ghost use Rattle.lsl_region.specs.Grids.{AreSeated, Lent, outline_of};
 ghost use Rattle.lsl_region.specs.Worlds.{World};
 ghost use Rattle.lsl_region.specs.declared.grid.Seat.{Seat as Place};
 
@@ -54,6 +54,7 @@ impl Grid {
         ensures fits { IfOk result (Answers call.id) }
         ensures seated { OnOk result (AreSeated library.now self.new.seats) }
         ensures machine { live.new.machine ≡ live.old.machine }
+        ensures outline { outline_of self.new ≡ outline_of self.old }
     {
         let place = script as usize - 1;
         let unit = library.unit(self.seats[place].unit);
@@ -85,7 +86,7 @@ impl Grid {
         ensures fits { IfOk result (Answers id) }
         ensures seated { OnOk result (AreSeated library.now self.new.seats) }
         ensures len { length self.new.seats ≡ length self.old.seats }
-        ensures units { map unit_number self.new.seats ≡ map unit_number self.old.seats }
+        ensures outline { outline_of self.new ≡ outline_of self.old }
         ensures awake { IsAwake unit.now live.new }
         ensures machine { live.new.machine ≡ live.old.machine }
     {

@@ -7,7 +7,7 @@ ghost use Rattle.lsl_post.specs.Journal.{Tells};
 ghost use Rattle.lsl_script.specs.Codes.{Meant};
 ghost use Rattle.lsl_script.specs.Fitting.{is_exit};
 ghost use Rattle.lsl_region.specs.Arrivals.{IsObjectEvent, changed_event, post_object, rez_event, say};
-ghost use Rattle.lsl_region.specs.Grids.{AreSeated, Stands};
+ghost use Rattle.lsl_region.specs.Grids.{AreSeated, Stands, outline_of};
 ghost use Rattle.lsl_region.specs.Posting.{said_to_all};
 ghost use Rattle.lsl_region.specs.Texts.{cut_speech};
 ghost use Rattle.lsl_region.specs.Worlds.{World};
@@ -41,6 +41,7 @@ impl Grid {
             Tells result (λ v _. Stands library.now None clock self.new v) out.old out.new
             (say m.rules channel name.now key.now text.now w) }
         ensures seated { OnOk result (AreSeated library.now self.new.seats) }
+        ensures outline { outline_of self.new ≡ outline_of self.old }
     {
         let said = said_by(self.alloc, channel, name, key, text)?;
         self.said_to_all(said, library, out)
@@ -58,6 +59,7 @@ impl Grid {
             Tells result (λ v _. Stands library.now None clock self.new v) out.old out.new
             (said_to_all m.rules said w) }
         ensures seated { OnOk result (AreSeated library.now self.new.seats) }
+        ensures outline { outline_of self.new ≡ outline_of self.old }
     {
         let event = listen_event(self.alloc, &said)?;
         self.post_all(&Audience::Hearers(said), &event, library, out)
@@ -86,6 +88,7 @@ impl Grid {
             Tells result (λ v _. Stands library.now None clock self.new v) out.old out.new
             (post_object m.rules (object - 1) (rez_event n) w) }
         ensures seated { OnOk result (AreSeated library.now self.new.seats) }
+        ensures outline { outline_of self.new ≡ outline_of self.old }
     {
         let event = object_event(self.alloc, id, n)?;
         let audience = Audience::Object(object as usize - 1);

@@ -1,7 +1,7 @@
 //! A script goes out of the grid while it is awake, and comes back.
 
-ghost use Rattle.std.specs.Prelude.{◌≡◌, ◌<◌, Some, None, length, map, slice_get};
-ghost use Rattle.lsl_region.specs.Grids.{unit_number};
+ghost use Rattle.std.specs.Prelude.{◌≡◌, ◌<◌, Some, None, length, slice_get};
+ghost use Rattle.lsl_region.specs.Grids.{outline_of};
 ghost use Rattle.lsl_region.specs.Turning.{with_seated};
 ghost use Rattle.lsl_region.specs.declared.grid.Seat.{Seat as Place};
 
@@ -17,7 +17,7 @@ impl Grid {
         ensures seats { (seat : Place) → slice_get self.old.seats place ≡ Some seat →
             self.new ≡ with_seated self.old place seat None }
         ensures len { length self.new.seats ≡ length self.old.seats }
-        ensures units { map unit_number self.new.seats ≡ map unit_number self.old.seats }
+        ensures outline { outline_of self.new ≡ outline_of self.old }
     {
         self.seats[place].script.take()
     }
@@ -29,7 +29,7 @@ impl Grid {
         ensures seats { (seat : Place) → slice_get self.old.seats place ≡ Some seat →
             self.new ≡ with_seated self.old place seat (Some script) }
         ensures len { length self.new.seats ≡ length self.old.seats }
-        ensures units { map unit_number self.new.seats ≡ map unit_number self.old.seats }
+        ensures outline { outline_of self.new ≡ outline_of self.old }
     {
         let channels = channels_of(&script.parts().listens);
         self.hearers.tell(place, channels);

@@ -1,6 +1,6 @@
 //! Events that are posted while one script is out of the grid and waits for an answer.
 
-ghost use Rattle.std.specs.Prelude.{◌≡◌, ◌<◌, ◌≤◌, ℕ, List, false, length, map, OnOk};
+ghost use Rattle.std.specs.Prelude.{◌≡◌, ◌<◌, ◌≤◌, ℕ, List, false, length, OnOk};
 ghost use Rattle.lsl_value.specs.declared.names.BuiltinId.{BuiltinId};
 ghost use Rattle.lsl_code.specs.declared.woven_units.Woven.{Woven as Code};
 ghost use Rattle.lsl_post.specs.Journal.{Tells};
@@ -9,7 +9,7 @@ ghost use Rattle.lsl_script.specs.Codes.{Meant, rules_of};
 ghost use Rattle.lsl_script.specs.Fitting.{is_exit};
 ghost use Rattle.lsl_script.specs.Lives.{Waits};
 ghost use Rattle.lsl_script.specs.Scripts.{Flight, Script as Source, post_to};
-ghost use Rattle.lsl_region.specs.Grids.{AreSeated, Lent, unit_number};
+ghost use Rattle.lsl_region.specs.Grids.{AreSeated, Lent, outline_of};
 ghost use Rattle.lsl_region.specs.Hearing.{ArePassed};
 ghost use Rattle.lsl_region.specs.Posting.{admits, post_all, post_where};
 ghost use Rattle.lsl_region.specs.Worlds.{World};
@@ -106,7 +106,7 @@ impl Grid {
             (post_where (rules_of library.now) (admits audience.now) event.now to w) }
         ensures seated { OnOk result (AreSeated library.now self.new.seats) }
         ensures len { length self.new.seats ≡ length self.old.seats }
-        ensures units { map unit_number self.new.seats ≡ map unit_number self.old.seats }
+        ensures outline { outline_of self.new ≡ outline_of self.old }
         ensures objects { self.new.objects ≡ self.old.objects }
         ensures awake { IsAwake unit.now live.new }
         ensures machine { live.new.machine ≡ live.old.machine }
@@ -156,7 +156,7 @@ impl Grid {
             (post_all m.rules (admits audience.now) event.now w) }
         ensures seated { OnOk result (AreSeated library.now self.new.seats) }
         ensures len { length self.new.seats ≡ length self.old.seats }
-        ensures units { map unit_number self.new.seats ≡ map unit_number self.old.seats }
+        ensures outline { outline_of self.new ≡ outline_of self.old }
         ensures objects { self.new.objects ≡ self.old.objects }
         ensures awake { IsAwake unit.now live.new }
         ensures machine { live.new.machine ≡ live.old.machine }

@@ -1,6 +1,6 @@
 //! Events that are posted to scripts, in the order of their numbers.
 
-ghost use Rattle.std.specs.Prelude.{◌≡◌, ◌<◌, ◌≤◌, ◌+◌, ℕ, ℤ, List, Option, Some, None, true, false, length, map, slice_get, is_some, OnOk};
+ghost use Rattle.std.specs.Prelude.{◌≡◌, ◌<◌, ◌≤◌, ◌+◌, ℕ, ℤ, List, Option, Some, None, true, false, length, slice_get, is_some, OnOk};
 ghost use Rattle.lsl_post.specs.Journal.{Adds, Tells};
 ghost use Rattle.lsl_post.specs.declared.parts.ScriptParts.{ScriptParts as Parts};
 ghost use Rattle.lsl_code.specs.declared.woven_units.Woven.{Woven as Code};
@@ -8,7 +8,7 @@ ghost use Rattle.lsl_script.specs.Codes.{HasUnit, Meant, rules_of};
 ghost use Rattle.lsl_script.specs.Fitting.{FitsUnit, is_exit};
 ghost use Rattle.lsl_script.specs.Parts.{parts_of};
 ghost use Rattle.lsl_script.specs.Scripts.{Script as Source, entries_of_posting, post_to};
-ghost use Rattle.lsl_region.specs.Grids.{AreSeated, FitsSeat, Stands, is_out, key_in, unit_number};
+ghost use Rattle.lsl_region.specs.Grids.{AreSeated, FitsSeat, Stands, is_out, key_in, outline_of};
 ghost use Rattle.lsl_region.specs.Hearing.{ArePassed, HasRow, listens_on};
 ghost use Rattle.lsl_region.specs.Posting.{admits, is_admitted, post_all, post_where};
 ghost use Rattle.lsl_region.specs.Worlds.{Member, World};
@@ -127,7 +127,7 @@ impl Grid {
             (post_where (rules_of library.now) (admits audience.now) event.now place w) }
         ensures seated { OnOk result (AreSeated library.now self.new.seats) }
         ensures len { length self.new.seats ≡ length self.old.seats }
-        ensures units { map unit_number self.new.seats ≡ map unit_number self.old.seats }
+        ensures outline { outline_of self.new ≡ outline_of self.old }
         ensures objects { self.new.objects ≡ self.old.objects }
     {
         if !self.is_meant(place, audience) {
@@ -188,7 +188,7 @@ impl Grid {
             (post_all m.rules (admits audience.now) event.now w) }
         ensures seated { OnOk result (AreSeated library.now self.new.seats) }
         ensures len { length self.new.seats ≡ length self.old.seats }
-        ensures units { map unit_number self.new.seats ≡ map unit_number self.old.seats }
+        ensures outline { outline_of self.new ≡ outline_of self.old }
         ensures objects { self.new.objects ≡ self.old.objects }
     {
         let end = self.seats.len();

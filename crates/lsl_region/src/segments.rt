@@ -1,6 +1,6 @@
 //! Segments of one script: from one tick to the next, or to its handler's end, with all host calls on the way.
 
-ghost use Rattle.std.specs.Prelude.{◌≡◌, ◌<◌, ◌≤◌, ◌-◌, ◌+◌, ℕ, None, true, length, map, IfOk, MatchResult, OnOk};
+ghost use Rattle.std.specs.Prelude.{◌≡◌, ◌<◌, ◌≤◌, ◌-◌, ◌+◌, ℕ, None, true, length, IfOk, MatchResult, OnOk};
 ghost use Rattle.lsl_code.specs.Weaves.{Weaves};
 ghost use Rattle.lsl_machine.specs.State.{CanRun};
 ghost use Rattle.lsl_machine.specs.declared.standing.Standing.TheVariants as standings;
@@ -16,7 +16,7 @@ ghost use Rattle.lsl_script.specs.Parts.{parts_of};
 ghost use Rattle.lsl_script.specs.Scripts.{Flight, Script as Source};
 ghost use Rattle.lsl_script.specs.Waking.{WakesAs};
 ghost use Rattle.lsl_region.specs.Answers.{answer};
-ghost use Rattle.lsl_region.specs.Grids.{AreSeated, Stands, unit_number};
+ghost use Rattle.lsl_region.specs.Grids.{AreSeated, Stands, outline_of};
 ghost use Rattle.lsl_region.specs.Segments.{asked, taken};
 ghost use Rattle.lsl_region.specs.Turning.{Begins, InTurn, IsEnd, IsHeld, IsLast, IsOnWay, IsOut, IsReadyInTurn, IsUnitAt, Paused, StandsAt, asks_left};
 ghost use Rattle.lsl_region.specs.Worlds.{World};
@@ -52,7 +52,7 @@ impl Grid {
         ensures seated { OnOk result (AreSeated library.now self.new.seats) }
         ensures unit { OnOk result (IsUnitAt library.now unit.now self.new.seats place) }
         ensures len { length self.new.seats ≡ length self.old.seats }
-        ensures units { map unit_number self.new.seats ≡ map unit_number self.old.seats }
+        ensures outline { outline_of self.new ≡ outline_of self.old }
     {
         let Some(script) = self.take_out(place) else {
             unreachable!();
@@ -88,7 +88,7 @@ impl Grid {
         ensures unit { OnOk result (IsUnitAt library.now unit.now self.new.seats place) }
         ensures held { OnOk result (IsHeld unit.now live.new) }
         ensures len { length self.new.seats ≡ length self.old.seats }
-        ensures units { map unit_number self.new.seats ≡ map unit_number self.old.seats }
+        ensures outline { outline_of self.new ≡ outline_of self.old }
     {
         let Some(awake) = live else {
             unreachable!();
@@ -126,7 +126,7 @@ impl Grid {
         ensures last { IfOk result IsLast }
         ensures seated { OnOk result (AreSeated library.now self.new.seats) }
         ensures len { length self.new.seats ≡ length self.old.seats }
-        ensures units { map unit_number self.new.seats ≡ map unit_number self.old.seats }
+        ensures outline { outline_of self.new ≡ outline_of self.old }
     {
         let mut turn = turn;
         'asks: loop {
@@ -165,7 +165,7 @@ impl Grid {
             < asks_left unit.now (Turn.Asks call) live.old) }
         ensures seated { OnOk result (AreSeated library.now self.new.seats) }
         ensures len { length self.new.seats ≡ length self.old.seats }
-        ensures units { map unit_number self.new.seats ≡ map unit_number self.old.seats }
+        ensures outline { outline_of self.new ≡ outline_of self.old }
     {
         let Call { id, args } = call;
         match self.answer_at(place, live, id, &args, clock, library, unit, out)? {
@@ -201,7 +201,7 @@ impl Grid {
         ensures seated { OnOk result (AreSeated library.now self.new.seats) }
         ensures unit { OnOk result (IsUnitAt library.now unit.now self.new.seats place) }
         ensures len { length self.new.seats ≡ length self.old.seats }
-        ensures units { map unit_number self.new.seats ≡ map unit_number self.old.seats }
+        ensures outline { outline_of self.new ≡ outline_of self.old }
     {
         let Some(live) = live.take() else {
             unreachable!();

@@ -1,6 +1,6 @@
 //! Host calls that say or send something, or name a prim.
 
-ghost use Rattle.std.specs.Prelude.{◌≡◌, ◌<◌, ◌≤◌, ◌+◌, ℕ, List, [], ◌∷◌, ◌++◌, pos, true, false, length, map, slice_get, Some, IfOk, OnOk};
+ghost use Rattle.std.specs.Prelude.{◌≡◌, ◌<◌, ◌≤◌, ◌+◌, ℕ, List, [], ◌∷◌, ◌++◌, pos, true, false, length, slice_get, Some, IfOk, OnOk};
 ghost use Rattle.std.specs.Ordering.{int_eq};
 ghost use Rattle.lsl_value.specs.declared.names.BuiltinId.{BuiltinId as Id};
 ghost use Rattle.lsl_value.specs.declared.names.BuiltinId.TheVariants as ids;
@@ -19,7 +19,7 @@ ghost use Rattle.lsl_script.specs.Fitting.{is_exit};
 ghost use Rattle.lsl_script.specs.Scripts.{Flight};
 ghost use Rattle.lsl_script.specs.declared.live.Live.{Live as Awake};
 ghost use Rattle.lsl_region.specs.Answers.{answer_of, does_more, integer_at, message_of, nothing, renamed, said_by, says, text_at, told_in};
-ghost use Rattle.lsl_region.specs.Grids.{AreSeated, Lent, linked_to, object_in, prim_in, renamed_grid, unit_number};
+ghost use Rattle.lsl_region.specs.Grids.{AreSeated, Lent, linked_to, object_in, outline_of, prim_in, renamed_grid};
 ghost use Rattle.lsl_region.specs.Links.{link_of};
 ghost use Rattle.lsl_region.specs.Texts.{cut_name, cut_speech};
 ghost use Rattle.lsl_region.specs.Worlds.{World, prim_of};
@@ -132,7 +132,7 @@ impl Grid {
             (said_by m.rules place voice (prim_of w lent.member) channel text w) }
         ensures seated { OnOk result (AreSeated library.now self.new.seats) }
         ensures len { length self.new.seats ≡ length self.old.seats }
-        ensures units { map unit_number self.new.seats ≡ map unit_number self.old.seats }
+        ensures outline { outline_of self.new ≡ outline_of self.old }
         ensures awake { IsAwake unit.now live.new }
         ensures machine { live.new.machine ≡ live.old.machine }
     {
@@ -165,7 +165,7 @@ impl Grid {
         ensures reply { IfOk result (λ reply. reply ≡ nothing) }
         ensures seated { OnOk result (AreSeated library.now self.new.seats) }
         ensures len { length self.new.seats ≡ length self.old.seats }
-        ensures units { map unit_number self.new.seats ≡ map unit_number self.old.seats }
+        ensures outline { outline_of self.new ≡ outline_of self.old }
         ensures awake { IsAwake unit.now live.new }
         ensures machine { live.new.machine ≡ live.old.machine }
     {
@@ -203,7 +203,7 @@ impl Grid {
         ensures reply { IfOk result (λ reply. reply ≡ nothing) }
         ensures seated { OnOk result (AreSeated library.now self.new.seats) }
         ensures len { length self.new.seats ≡ length self.old.seats }
-        ensures units { map unit_number self.new.seats ≡ map unit_number self.old.seats }
+        ensures outline { outline_of self.new ≡ outline_of self.old }
         ensures awake { IsAwake unit.now live.new }
         ensures machine { live.new.machine ≡ live.old.machine }
     {
@@ -286,7 +286,7 @@ impl Grid {
         ensures reply { IfOk result (λ reply. reply ≡ nothing) }
         ensures seated { OnOk result (AreSeated library.now self.new.seats) }
         ensures len { length self.new.seats ≡ length self.old.seats }
-        ensures units { map unit_number self.new.seats ≡ map unit_number self.old.seats }
+        ensures outline { outline_of self.new ≡ outline_of self.old }
         ensures awake { IsAwake unit.now live.new }
         ensures machine { live.new.machine ≡ live.old.machine }
     {
@@ -302,6 +302,7 @@ impl Grid {
         ensures grid { (seat : Place) → slice_get self.old.seats place ≡ Some seat →
             self.new ≡ renamed_grid self.old seat name }
         ensures seats { self.new.seats ≡ self.old.seats }
+        ensures outline { outline_of self.new ≡ outline_of self.old }
     {
         let seat = &self.seats[place];
         self.objects[seat.object].prims.rename(seat.prim, name);
@@ -316,6 +317,7 @@ impl Grid {
             (renamed w lent.member (cut_name (text_at 0 args.now)))) }
         ensures reply { IfOk result (λ reply. reply ≡ nothing) }
         ensures seats { self.new.seats ≡ self.old.seats }
+        ensures outline { outline_of self.new ≡ outline_of self.old }
     {
         let text = text_at(args, 0)?;
         let name = cut_name(self.alloc, &text)?;

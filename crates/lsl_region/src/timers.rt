@@ -12,7 +12,7 @@ ghost use Rattle.lsl_script.specs.Parts.{parts_of};
 ghost use Rattle.lsl_script.specs.Scripts.{Script as Source, ring_to};
 ghost use Rattle.lsl_post.specs.declared.parts.ScriptParts.{ScriptParts as Parts};
 ghost use Rattle.lsl_region.specs.declared.grid.Seat.{Seat as Place};
-ghost use Rattle.lsl_region.specs.Grids.{AreSeated, FitsSeat, Stands, is_out};
+ghost use Rattle.lsl_region.specs.Grids.{AreSeated, FitsSeat, Stands, is_out, outline_of};
 ghost use Rattle.lsl_region.specs.Hearing.{HasRow};
 ghost use Rattle.lsl_region.specs.Posting.{ring_at};
 ghost use Rattle.lsl_region.specs.Segments.{is_ready_at};
@@ -91,6 +91,7 @@ impl Grid {
         ensures does { (m : Meant library.now) (w : World) → Stands library.now None clock self.old w →
             Tells result (λ v _. Stands library.now None clock self.new v) out.old out.new (ring_at m.rules place w) }
         ensures seated { OnOk result (AreSeated library.now self.new.seats) }
+        ensures outline { outline_of self.new ≡ outline_of self.old }
     {
         let seat = &mut self.seats[place];
         let unit = library.unit(seat.unit);
@@ -121,6 +122,7 @@ impl Grid {
             Tells result (λ v _. Stands library.now None clock self.new v) out.old out.new
             (ring_at m.rules (script - 1) w) }
         ensures seated { OnOk result (AreSeated library.now self.new.seats) }
+        ensures outline { outline_of self.new ≡ outline_of self.old }
     {
         self.ring_at(script as usize - 1, clock, library, out)
     }

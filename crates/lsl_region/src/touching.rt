@@ -8,7 +8,7 @@ ghost use Rattle.lsl_post.specs.declared.parts.ScriptParts.{ScriptParts as Parts
 ghost use Rattle.lsl_script.specs.Codes.{HasUnit, Meant};
 ghost use Rattle.lsl_script.specs.Fitting.{is_exit};
 ghost use Rattle.lsl_region.specs.Arrivals.{handles_touch, is_in_prim, touch, touch_prim, touched, touched_prim, toucher_of};
-ghost use Rattle.lsl_region.specs.Grids.{AreSeated, Stands};
+ghost use Rattle.lsl_region.specs.Grids.{AreSeated, Stands, outline_of};
 ghost use Rattle.lsl_region.specs.Posting.{admits, post_all};
 ghost use Rattle.lsl_region.specs.Touching.{has_touch};
 ghost use Rattle.lsl_region.specs.Worlds.{World, no_object};
@@ -45,6 +45,7 @@ impl Grid {
             Tells result (λ v _. Stands library.now None clock self.new v) out.old out.new
             (touch m.rules (object - 1) link key.now name.now w) }
         ensures seated { OnOk result (AreSeated library.now self.new.seats) }
+        ensures outline { outline_of self.new ≡ outline_of self.old }
     {
         let object = object as usize - 1;
         match prim_numbered(self.prims_of(object), link as usize) {
@@ -79,6 +80,7 @@ impl Grid {
             Tells result (λ v _. Stands library.now None clock self.new v) out.old out.new
             (touch_prim m.rules object (Some prim) key.now name.now w) }
         ensures seated { OnOk result (AreSeated library.now self.new.seats) }
+        ensures outline { outline_of self.new ≡ outline_of self.old }
     {
         let toucher = toucher(self.prims_of(object), prim, key, name)?;
         let prim = self.touched_prim(object, prim, library);
@@ -99,6 +101,7 @@ impl Grid {
             Tells result (λ v _. Stands library.now None clock self.new v) out.old out.new
             (touched m.rules object prim toucher.now w) }
         ensures seated { OnOk result (AreSeated library.now self.new.seats) }
+        ensures outline { outline_of self.new ≡ outline_of self.old }
     {
         let audience = Audience::Prim { object, prim };
         let start = touch_start(self.alloc, toucher)?;
@@ -123,6 +126,7 @@ impl Grid {
             Tells result (λ v _. Stands library.now None clock self.new v) out.old out.new
             (post_all m.rules (admits audience.now) event w) }
         ensures seated { OnOk result (AreSeated library.now self.new.seats) }
+        ensures outline { outline_of self.new ≡ outline_of self.old }
     {
         self.post_all(audience, &event, library, out)
     }

@@ -1,11 +1,11 @@
 //! Turns of scripts: segment by segment, while they can run.
 
-ghost use Rattle.std.specs.Prelude.{◌≡◌, ◌<◌, ◌≤◌, ◌-◌, ℕ, List, IsTrue, None, length, map, IfOk, OnOk};
+ghost use Rattle.std.specs.Prelude.{◌≡◌, ◌<◌, ◌≤◌, ◌-◌, ℕ, List, IsTrue, None, length, IfOk, OnOk};
 ghost use Rattle.lsl_code.specs.declared.woven_units.Woven.{Woven as Code};
 ghost use Rattle.lsl_post.specs.Journal.{Tells};
 ghost use Rattle.lsl_post.specs.Timing.{latest_clock};
 ghost use Rattle.lsl_script.specs.Codes.{Meant};
-ghost use Rattle.lsl_region.specs.Grids.{AreSeated, Stands, unit_number};
+ghost use Rattle.lsl_region.specs.Grids.{AreSeated, Stands, outline_of};
 ghost use Rattle.lsl_region.specs.Segments.{is_ready_at, segment, turn};
 ghost use Rattle.lsl_region.specs.Turning.{InTurn, IsHeld, IsReadyInTurn, IsUnitAt};
 ghost use Rattle.lsl_region.specs.Worlds.{World};
@@ -35,7 +35,9 @@ impl Grid {
         ensures does { (m : Meant library.now) (w : World) → Stands library.now None clock self.old w →
             Tells result (λ x n. Stands library.now None clock self.new x.0 × (n ≡ x.1)) out.old out.new
             (turn m.rules ticks (script - 1) w) }
+        ensures within { IfOk result (λ n. n ≤ ticks) }
         ensures seated { OnOk result (AreSeated library.now self.new.seats) }
+        ensures outline { outline_of self.new ≡ outline_of self.old }
     {
         let mut live = None;
         self.turn_with(script as usize - 1, &mut live, ticks, clock, library, out)
@@ -59,7 +61,9 @@ impl Grid {
         ensures does { (m : Meant library.now) (w : World) → Stands library.now None clock self.old w →
             Tells result (λ x n. Stands library.now None clock self.new x.0 × (n ≡ x.1)) out.old out.new
             (turn m.rules ticks place w) }
+        ensures within { IfOk result (λ n. n ≤ ticks) }
         ensures seated { OnOk result (AreSeated library.now self.new.seats) }
+        ensures outline { outline_of self.new ≡ outline_of self.old }
     {
         let unit = library.unit(self.seats[place].unit);
         for spent in 0..ticks {
@@ -110,7 +114,7 @@ impl Grid {
         ensures unit { OnOk result (IsUnitAt library.now unit.now self.new.seats place) }
         ensures held { OnOk result (IsHeld unit.now live.new) }
         ensures len { length self.new.seats ≡ length self.old.seats }
-        ensures units { map unit_number self.new.seats ≡ map unit_number self.old.seats }
+        ensures outline { outline_of self.new ≡ outline_of self.old }
     {
         match live {
             Some(awake) => {
@@ -147,7 +151,7 @@ impl Grid {
         ensures unit { OnOk result (IsUnitAt library.now unit.now self.new.seats place) }
         ensures held { OnOk result (IsHeld unit.now live.new) }
         ensures len { length self.new.seats ≡ length self.old.seats }
-        ensures units { map unit_number self.new.seats ≡ map unit_number self.old.seats }
+        ensures outline { outline_of self.new ≡ outline_of self.old }
     {
         let mut awake = self.begin(place, clock, library, unit, out)?;
         let turn = awake.go(unit);
@@ -170,6 +174,7 @@ impl Grid {
             InTurn codes unit.now clock place self.old live.old w → OnOk result (Stands codes None clock self.new w) }
         ensures seated { (codes : List Code) → IsUnitAt codes unit.now self.old.seats place →
             AreSeated codes self.old.seats → OnOk result (AreSeated codes self.new.seats) }
+        ensures outline { outline_of self.new ≡ outline_of self.old }
     {
         if let Some(live) = live.take() {
             let script = live.rest(unit)?;

@@ -9,7 +9,7 @@ use Rattle.lsl_region.proofs.grid.Grid.answer_all.Goals as goal
 pub asks-init : goal.asks-init
 asks-init c = record {
   len = refl;
-  units = refl;
+  outline = refl;
   seated = c.requires.seated;
   awake = c.requires.awake;
   stands = c.requires.stands;
@@ -46,7 +46,7 @@ asks-preserved c =
     c.in-Asks.is p in
     record {
       len = c.in_ok-turn-in-Asks.ensures.len ∙ c.asks.invariant.len;
-      units = c.in_ok-turn-in-Asks.ensures.units ∙ c.asks.invariant.units;
+      outline = c.in_ok-turn-in-Asks.ensures.outline ∙ c.asks.invariant.outline;
       seated = c.in_ok-turn-in-Asks.ensures.seated;
       awake = c.in_ok-turn-in-Asks.ensures.awake;
       stands = c.in_ok-turn-in-Asks.ensures.stands;

@@ -1,9 +1,9 @@
-use Rattle.std.proofs.Common.{◌≡◌, ℕ, ◌+◌, length, map}
+use Rattle.std.proofs.Common.{◌≡◌, ℕ, ◌+◌, length}
 use Rattle.lsl_post.proofs.Amid.{Amid}
 use Rattle.lsl_script.specs.Awake.{IsAwake}
 use Rattle.lsl_script.specs.Codes.{Meant}
 use Rattle.lsl_script.specs.Scripts.{Flight}
-use Rattle.lsl_region.specs.Grids.{AreSeated, unit_number}
+use Rattle.lsl_region.specs.Grids.{AreSeated, outline_of}
 use Rattle.lsl_region.specs.Segments.{asked}
 use Rattle.lsl_region.specs.Turning.{InFlight, Paused, StandsAt, asks_left}
 use Rattle.lsl_region.specs.Worlds.{World}
@@ -14,7 +14,7 @@ abbrev pub invariant-asks : goal.invariant-asks
 invariant-asks l =
     record {
       len : length l.self.seats ≡ length l.fn.self.seats;
-      units : map unit_number l.self.seats ≡ map unit_number l.fn.self.seats;
+      outline : outline_of l.self ≡ outline_of l.fn.self;
       seated : AreSeated l.library l.self.seats;
       awake : IsAwake l.unit l.live;
       stands : StandsAt l.unit l.turn l.live;

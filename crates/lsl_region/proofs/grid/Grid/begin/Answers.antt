@@ -85,5 +85,5 @@ returns-clause-seated c =
 
 pub returns-clause-unit : goal.returns-clause-unit
 returns-clause-unit c =
-    unit-kept c.args.library.now c.args.unit.now c.args.self.now.seats c.take_out.new.self.seats c.args.place
-    c.take_out.ensures.units c.requires.unit
+    unit-kept c.args.library.now c.args.unit.now c.args.self.now c.take_out.new.self c.args.place
+    c.take_out.ensures.outline c.requires.unit

@@ -64,8 +64,8 @@ returns-in_ok-tell_closing-in-Ended-clause-seated c =
 
 pub returns-in_ok-tell_closing-in-Ended-clause-unit : goal.returns-in_ok-tell_closing-in-Ended-clause-unit
 returns-in_ok-tell_closing-in-Ended-clause-unit c =
-    unit-kept c.args.library.now c.args.unit.now c.args.self.now.seats c.put_back.new.self.seats c.args.place
-    c.put_back.ensures.units c.requires.unit
+    unit-kept c.args.library.now c.args.unit.now c.args.self.now c.put_back.new.self c.args.place
+    c.put_back.ensures.outline c.requires.unit
 
 pub returns-in_err-push-in-Faulted-clause-does : goal.returns-in_err-push-in-Faulted-clause-does
 returns-in_err-push-in-Faulted-clause-does c = λ m clock f most w out.
@@ -107,5 +107,5 @@ returns-in_ok-push-in-Faulted-clause-seated c =
 
 pub returns-in_ok-push-in-Faulted-clause-unit : goal.returns-in_ok-push-in-Faulted-clause-unit
 returns-in_ok-push-in-Faulted-clause-unit c =
-    unit-kept c.args.library.now c.args.unit.now c.args.self.now.seats c.put_back-in-Faulted.new.self.seats c.args.place
-    c.put_back-in-Faulted.ensures.units c.requires.unit
+    unit-kept c.args.library.now c.args.unit.now c.args.self.now c.put_back-in-Faulted.new.self c.args.place
+    c.put_back-in-Faulted.ensures.outline c.requires.unit

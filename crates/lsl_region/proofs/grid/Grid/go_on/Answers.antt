@@ -16,8 +16,8 @@ pub finish-requires : goal.finish-requires
 finish-requires c = record {
   place = subst (λ (n : ℕ). c.args.place < n) (sym c.in_ok-last.ensures.len) c.requires.place;
   seated = c.in_ok-last.ensures.seated;
-  unit = unit-kept c.args.library.now c.args.unit.now c.args.self.now.seats c.answer_all.new.self.seats c.args.place
-      c.in_ok-last.ensures.units c.requires.unit;
+  unit = unit-kept c.args.library.now c.args.unit.now c.args.self.now c.answer_all.new.self c.args.place
+      c.in_ok-last.ensures.outline c.requires.unit;
   awake = c.in_ok-last.ensures.awake;
   stands = c.in_ok-last.ensures.stands;
   end = is-end c.in_ok-last.last c.in_ok-last.ensures.last c.in_default-2.not-AtTick;
@@ -40,8 +40,8 @@ returns-in-AtTick-clause-does c = λ m f most w out.
 
 pub returns-in-AtTick-clause-unit : goal.returns-in-AtTick-clause-unit
 returns-in-AtTick-clause-unit c =
-    unit-kept c.args.library.now c.args.unit.now c.args.self.now.seats c.answer_all.new.self.seats c.args.place
-    c.in_ok-last.ensures.units c.requires.unit
+    unit-kept c.args.library.now c.args.unit.now c.args.self.now c.answer_all.new.self c.args.place
+    c.in_ok-last.ensures.outline c.requires.unit
 
 pub returns-in_default-2 : goal.returns-in_default-2
 returns-in_default-2 c =
@@ -65,5 +65,5 @@ returns-in_default-2 c =
       held = OnOk-any c.finish.result _
           (subst (λ (o : Option Live). IsHeld unit o) (sym c.finish.ensures.none) tt);
       len = c.finish.ensures.len ∙ c.in_ok-last.ensures.len;
-      units = c.finish.ensures.units ∙ c.in_ok-last.ensures.units;
+      outline = c.finish.ensures.outline ∙ c.in_ok-last.ensures.outline;
     }

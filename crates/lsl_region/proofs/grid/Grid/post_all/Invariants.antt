@@ -1,8 +1,8 @@
-use Rattle.std.proofs.Common.{◌≡◌, ◌≤◌, ◌-◌, ℕ, length, map}
+use Rattle.std.proofs.Common.{◌≡◌, ◌≤◌, ◌-◌, ℕ, length}
 use Rattle.std.specs.Prelude.{None}
 use Rattle.lsl_post.proofs.Amid.{Walk}
 use Rattle.lsl_script.specs.Codes.{Meant}
-use Rattle.lsl_region.specs.Grids.{AreSeated, Stands, unit_number}
+use Rattle.lsl_region.specs.Grids.{AreSeated, Stands, outline_of}
 use Rattle.lsl_region.specs.Posting.{admits, post_all, post_where}
 use Rattle.lsl_region.specs.Worlds.{World}
 use Rattle.lsl_region.proofs.grid.Grid.post_all.Given as goal
@@ -13,7 +13,7 @@ invariant-loop-place l =
       len : length l.self.seats ≡ l.end;
       within : l.place ≤ l.end;
       same : length l.self.seats ≡ length l.fn.self.seats;
-      units : map unit_number l.self.seats ≡ map unit_number l.fn.self.seats;
+      outline : outline_of l.self ≡ outline_of l.fn.self;
       objects : l.self.objects ≡ l.fn.self.objects;
       seated : AreSeated l.library l.self.seats;
       walk : (m : Meant l.library) (clock : ℕ) (w : World) → Stands l.library None clock l.fn.self w →

@@ -1,10 +1,10 @@
-use Rattle.std.proofs.Common.{◌≡◌, ◌≤◌, ◌-◌, ℕ, length, map}
+use Rattle.std.proofs.Common.{◌≡◌, ◌≤◌, ◌-◌, ℕ, length}
 use Rattle.lsl_value.specs.declared.names.BuiltinId.{BuiltinId}
 use Rattle.lsl_post.proofs.Amid.{Walk}
 use Rattle.lsl_script.specs.Awake.{IsAwake}
 use Rattle.lsl_script.specs.Codes.{Meant}
 use Rattle.lsl_script.specs.Scripts.{Flight}
-use Rattle.lsl_region.specs.Grids.{AreSeated, Lent, unit_number}
+use Rattle.lsl_region.specs.Grids.{AreSeated, Lent, outline_of}
 use Rattle.lsl_region.specs.Posting.{admits, post_all, post_where}
 use Rattle.lsl_region.specs.Worlds.{World}
 use Rattle.lsl_region.proofs.grid.Grid.post_all_with.Given as goal
@@ -15,7 +15,7 @@ invariant-loop-to l =
       len : length l.self.seats ≡ l.end;
       within : l.to ≤ l.end;
       same : length l.self.seats ≡ length l.fn.self.seats;
-      units : map unit_number l.self.seats ≡ map unit_number l.fn.self.seats;
+      outline : outline_of l.self ≡ outline_of l.fn.self;
       objects : l.self.objects ≡ l.fn.self.objects;
       seated : AreSeated l.library l.self.seats;
       awake : IsAwake l.unit l.live;

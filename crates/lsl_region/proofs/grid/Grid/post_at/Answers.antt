@@ -1,4 +1,4 @@
-use Rattle.std.proofs.Common.{◌≡◌, ◌<◌, ℕ, ◌+◌, Bool, ◌++◌, length, map, rules, refl, false, ap, sym, ◌∙◌, subst, append-nil, get_or}
+use Rattle.std.proofs.Common.{◌≡◌, ◌<◌, ℕ, ◌+◌, Bool, ◌++◌, length, rules, refl, false, ap, sym, ◌∙◌, subst, append-nil, get_or}
 use Rattle.std.specs.Prelude.{Some, slice_get, if◌then◌else◌}
 use Rattle.lsl_post.specs.Journal.{Tells}
 use Rattle.lsl_post.specs.Told.{Told, quiet}
@@ -6,7 +6,7 @@ use Rattle.lsl_script.specs.Codes.{HasUnit, rules_of}
 use Rattle.lsl_script.specs.Parts.{parts_of}
 use Rattle.lsl_script.specs.Scripts.{Script, post_to}
 use Rattle.lsl_region.specs.declared.grid.Seat.{Seat}
-use Rattle.lsl_region.specs.Grids.{Contents, AreSeated, FitsSeat, Stands, seat_of, unit_number}
+use Rattle.lsl_region.specs.Grids.{Contents, AreSeated, FitsSeat, Stands, seat_of, outline_of}
 use Rattle.lsl_region.specs.Posting.{admits}
 use Rattle.lsl_region.specs.Worlds.{Member, World}
 use Rattle.lsl_region.proofs.Told.{row-kept}
@@ -14,7 +14,8 @@ use Rattle.lsl_region.proofs.Placed.{changed, sits}
 use Rattle.lsl_region.proofs.Posts.{admits-is, if-script, post-none, post-script, same-script, thing-meant}
 use Rattle.std.proofs.lemmas.Option.{slice_get-get_or, slice_get_within}
 use Rattle.lsl_region.proofs.Results.{OnOk-map}
-use Rattle.lsl_region.proofs.Seats.{no_seat, placed-set, read-at, seated-set, seated-unit, units-set}
+use Rattle.lsl_region.proofs.Outlines.{outline-seated}
+use Rattle.lsl_region.proofs.Seats.{no_seat, placed-set, read-at, seated-set, seated-unit}
 use Rattle.lsl_region.proofs.grid.Grid.post_at.Goals as goal
 
 pub returns-then-not-is_meant-clause-does : goal.returns-then-not-is_meant-clause-does
@@ -107,9 +108,10 @@ returns-clause-seated c =
     (subst (λ (g : Contents). AreSeated codes g.seats) (sym c.self.view_is) c.requires.seated) h)
     c.post_seat.ensures.fits
 
-pub returns-clause-units : goal.returns-clause-units
-returns-clause-units c =
+pub returns-clause-outline : goal.returns-clause-outline
+returns-clause-outline c =
     let h : c.args.place < length c.self.inside.seats.items = search (rules, c.requires.place) in
-    units-set c.self.inside.seats.items c.args.place c.index_mut-seat.result.now _
+    let inside : Contents = record { objects = c.self.inside.objects.items; seats = c.self.inside.seats.items } in
+    outline-seated inside c.args.place c.index_mut-seat.result.now _
     (read-at c.self.inside.seats.items c.args.place _ h c.index_mut-seat.ensures.value) refl
-    ∙ ap (λ (g : Contents). map unit_number g.seats) c.self.view_is
+    ∙ ap outline_of c.self.view_is

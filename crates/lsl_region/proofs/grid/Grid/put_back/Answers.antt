@@ -1,14 +1,15 @@
-use Rattle.std.proofs.Common.{◌<◌, ◌∙◌, ap, length, map, refl, rules}
+use Rattle.std.proofs.Common.{◌<◌, ◌∙◌, ap, length, refl, rules}
 use Rattle.std.specs.Prelude.{Some}
 use Rattle.std.proofs.Math.ListN.{length-set}
 use Rattle.lsl_post.specs.declared.parts.ScriptParts.{ScriptParts}
 use Rattle.lsl_region.specs.Hearing.{listens_on}
 use Rattle.lsl_region.specs.declared.grid.Seat.{Seat}
-use Rattle.lsl_region.specs.Grids.{Contents, unit_number}
+use Rattle.lsl_region.specs.Grids.{Contents, outline_of}
 use Rattle.lsl_region.specs.Turning.{with_seated}
 use Rattle.lsl_region.proofs.Coming.{seat-is}
 use Rattle.lsl_region.proofs.Told.{row-told}
-use Rattle.lsl_region.proofs.Seats.{placed-set, read-at, units-set}
+use Rattle.lsl_region.proofs.Outlines.{outline-seated}
+use Rattle.lsl_region.proofs.Seats.{placed-set, read-at}
 use Rattle.lsl_region.proofs.grid.Grid.put_back.Goals as goal
 
 pub invariant_of-self : goal.invariant_of-self
@@ -35,6 +36,6 @@ returns c =
           ∙ ap (λ (g : Contents). with_seated g c.args.place seat (Some c.args.script)) c.self.view_is;
       len = length-set c.self.inside.seats.items c.args.place _
           ∙ ap (λ (g : Contents). length g.seats) c.self.view_is;
-      units = units-set c.self.inside.seats.items c.args.place c.index_mut.result.now _ at refl
-          ∙ ap (λ (g : Contents). map unit_number g.seats) c.self.view_is;
+      outline = outline-seated inside c.args.place c.index_mut.result.now _ at refl
+          ∙ ap outline_of c.self.view_is;
     }

@@ -7,12 +7,13 @@ use Rattle.lsl_script.specs.Codes.{HasUnit, rules_of}
 use Rattle.lsl_script.specs.Parts.{parts_of}
 use Rattle.lsl_script.specs.Scripts.{ring_to}
 use Rattle.lsl_region.specs.declared.grid.Seat.{Seat}
-use Rattle.lsl_region.specs.Grids.{AreSeated, Contents, FitsSeat, Stands}
+use Rattle.lsl_region.specs.Grids.{AreSeated, Contents, FitsSeat, Stands, outline_of}
 use Rattle.lsl_region.specs.Worlds.{Member, World}
 use Rattle.lsl_region.proofs.Told.{row-kept}
 use Rattle.lsl_region.proofs.Placed.{changed}
 use Rattle.lsl_region.proofs.Rings.{ring-script, rings-same}
 use Rattle.lsl_region.proofs.Results.{OnOk-map}
+use Rattle.lsl_region.proofs.Outlines.{outline-seated}
 use Rattle.lsl_region.proofs.Seats.{placed-set, read-at, seated-set, seated-unit}
 use Rattle.lsl_region.proofs.grid.Grid.ring_at.Goals as goal
 
@@ -87,3 +88,11 @@ returns-clause-seated c =
     (record { unit = c.unit-unit.result.now; has = sym c.unit-unit.ensures.unit; fits = fits })
     (subst (λ (g : Contents). AreSeated codes g.seats) (sym c.self.view_is) c.requires.seated) h)
     c.ring_seat.ensures.fits
+
+pub returns-clause-outline : goal.returns-clause-outline
+returns-clause-outline c =
+    let h : c.args.place < length c.self.inside.seats.items = search (rules, c.requires.place) in
+    let inside : Contents = record { objects = c.self.inside.objects.items; seats = c.self.inside.seats.items } in
+    outline-seated inside c.args.place c.index_mut-seat.result.now _
+    (read-at c.self.inside.seats.items c.args.place _ h c.index_mut-seat.ensures.value) refl
+    ∙ ap outline_of c.self.view_is

@@ -78,7 +78,7 @@ returns-else-pass_tick c =
       unit = c.go_on.ensures.unit;
       held = c.go_on.ensures.held;
       len = c.go_on.ensures.len;
-      units = c.go_on.ensures.units;
+      outline = c.go_on.ensures.outline;
     }
 
 pub returns-in-None-clause-does : goal.returns-in-None-clause-does

@@ -1,7 +1,10 @@
 use Rattle.std.proofs.Common.{◌∙◌, ◌<◌, List, length, ap, rules}
+use Rattle.std.specs.Prelude.{slice_set}
 use Rattle.std.proofs.Math.ListN.{length-set}
 use Rattle.std.proofs.lemmas.Option.{slice_get_within}
 use Rattle.lsl_region.specs.declared.objects.Primitive.{Primitive}
+use Rattle.lsl_region.specs.Grids.{Contents, outline_of}
+use Rattle.lsl_region.proofs.Outlines.{outline-named}
 use Rattle.lsl_region.proofs.Seats.{named-is, object-read, placed-named, read-at}
 use Rattle.lsl_region.proofs.grid.Grid.set_name.Goals as goal
 
@@ -42,3 +45,18 @@ returns-clause-grid c = λ seat e.
     c.self.invariant.0 at c.index_mut.ensures.value in
     named-is _ c.args.self.now c.args.place c.index-seat.result.now seat c.index_mut.result.now c.rename.new.self
     c.args.name c.self.view_is at e o.0 c.rename.ensures
+
+pub returns-clause-outline : goal.returns-clause-outline
+returns-clause-outline c =
+    let h : c.args.place < length c.self.inside.seats.items = search (rules, c.requires) in
+    let inside : Contents = record { objects = c.self.inside.objects.items; seats = c.self.inside.seats.items } in
+    let seat = c.index-seat.result.now in
+    let object = c.index_mut.result.now in
+    let o = object-read inside.objects inside.seats c.args.place _ object c.self.invariant.0
+    (read-at inside.seats c.args.place _ h c.index-seat.ensures) c.index_mut.ensures.value in
+    ap {A = List Primitive} {B = Contents} (λ prims. outline_of (record {
+      objects = slice_set inside.objects seat.object (record object { prims = prims });
+      seats = inside.seats;
+    })) c.rename.ensures
+    ∙ outline-named inside seat.object object seat.prim c.args.name o.0
+    ∙ ap outline_of c.self.view_is

@@ -1,13 +1,14 @@
-use Rattle.std.proofs.Common.{◌<◌, ◌∙◌, ap, [], get_or, length, map, refl, rules, subst, sym}
+use Rattle.std.proofs.Common.{◌<◌, ◌∙◌, ap, [], get_or, length, refl, rules, subst, sym}
 use Rattle.std.specs.Prelude.{Option, None}
 use Rattle.lsl_post.specs.declared.parts.ScriptParts.{ScriptParts}
 use Rattle.lsl_region.specs.declared.grid.Seat.{Seat}
-use Rattle.lsl_region.specs.Grids.{Contents, unit_number}
+use Rattle.lsl_region.specs.Grids.{Contents, outline_of}
 use Rattle.lsl_region.specs.Hearing.{HasRow}
 use Rattle.lsl_region.specs.Turning.{with_seated}
 use Rattle.lsl_region.proofs.Coming.{seat-is}
 use Rattle.lsl_region.proofs.Told.{row-kept}
-use Rattle.lsl_region.proofs.Seats.{placed-set, read-at, units-set}
+use Rattle.lsl_region.proofs.Outlines.{outline-seated}
+use Rattle.lsl_region.proofs.Seats.{placed-set, read-at}
 use Rattle.lsl_region.proofs.grid.Grid.take_out.Goals as goal
 
 pub invariant_of-self : goal.invariant_of-self
@@ -40,9 +41,10 @@ returns-clause-seats c = λ seat sits.
     c.index_mut.result.now seat c.self.view_is at sits)
     ∙ ap (λ (g : Contents). with_seated g c.args.place seat None) c.self.view_is
 
-pub returns-clause-units : goal.returns-clause-units
-returns-clause-units c =
+pub returns-clause-outline : goal.returns-clause-outline
+returns-clause-outline c =
     let h : c.args.place < length c.self.inside.seats.items = search (rules, c.requires) in
-    units-set c.self.inside.seats.items c.args.place c.index_mut.result.now _
+    let inside : Contents = record { objects = c.self.inside.objects.items; seats = c.self.inside.seats.items } in
+    outline-seated inside c.args.place c.index_mut.result.now _
     (read-at c.self.inside.seats.items c.args.place _ h c.index_mut.ensures.value) refl
-    ∙ ap (λ (g : Contents). map unit_number g.seats) c.self.view_is
+    ∙ ap outline_of c.self.view_is

@@ -1,4 +1,4 @@
-use Rattle.std.proofs.Common.{◌≡◌, ◌<◌, ◌∙◌, ◌-◌, ◌+◌, ℕ, length, ap, arith, refl, rules, subst, sym}
+use Rattle.std.proofs.Common.{◌≡◌, ◌<◌, ◌∙◌, ◌+◌, ℕ, length, ap, arith, refl, rules, subst, sym}
 use Rattle.std.specs.Prelude.{Option, not, slice_get}
 use Rattle.std.proofs.lemmas.Option.{slice_get_within}
 use Rattle.std.proofs.lemmas.Result.{MatchResult-from_err}
@@ -25,6 +25,7 @@ loop-spent-init c =
     let h : place < length c.self.inside.seats.items = search (rules, c.requires.place) in
     record {
       len = refl;
+      outline = refl;
       seated = c.requires.seated;
       unit = record {
         seat = c.index.result.now;
@@ -34,9 +35,11 @@ loop-spent-init c =
         weaves = c.unit-unit.ensures.weaves;
       };
       held = subst (IsHeld c.unit-unit.result.now) (sym c.requires.none) tt;
-      again = λ m w st. again-start _ (w, 0) _ _ _ _
-          (subst (λ (l : Option Live). InTurn c.args.library.now c.unit-unit.result.now c.args.clock place c.args.self.now l w)
-          (sym c.requires.none) st, refl);
+      again = λ m w st. again-start _ (w, 0) _ _ _ _ (
+        subst (λ (l : Option Live). InTurn c.args.library.now c.unit-unit.result.now c.args.clock place c.args.self.now l w)
+            (sym c.requires.none) st,
+        refl,
+      );
     }
 
 pub returns-then-not-is_ready_in_turn-clause-does : goal.returns-then-not-is_ready_in_turn-clause-does
@@ -67,6 +70,7 @@ loop-spent-preserved c =
     let place : ℕ = c.args.place in
     record {
       len = c.in_ok-segment.ensures.len ∙ c.loop-spent.invariant.len;
+      outline = c.in_ok-segment.ensures.outline ∙ c.loop-spent.invariant.outline;
       seated = c.in_ok-segment.ensures.seated;
       unit = c.in_ok-segment.ensures.unit;
       held = c.in_ok-segment.ensures.held;

@@ -3,7 +3,7 @@ use Rattle.std.specs.Prelude.{None, not}
 use Rattle.lsl_post.specs.Told.{as_value}
 use Rattle.lsl_post.proofs.Amid.{Again}
 use Rattle.lsl_script.specs.Codes.{Meant}
-use Rattle.lsl_region.specs.Grids.{AreSeated, Stands}
+use Rattle.lsl_region.specs.Grids.{AreSeated, Stands, outline_of}
 use Rattle.lsl_region.specs.Segments.{is_ready_at, segment, turn}
 use Rattle.lsl_region.specs.Turning.{InTurn, IsHeld, IsUnitAt}
 use Rattle.lsl_region.specs.Worlds.{World}
@@ -13,6 +13,7 @@ abbrev pub invariant-loop-spent : goal.invariant-loop-spent
 invariant-loop-spent l =
     record {
       len : length l.self.seats ≡ length l.fn.self.seats;
+      outline : outline_of l.self ≡ outline_of l.fn.self;
       seated : AreSeated l.library l.self.seats;
       unit : IsUnitAt l.library l.unit l.self.seats l.place;
       held : IsHeld l.unit l.live;
