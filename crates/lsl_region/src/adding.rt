@@ -1,6 +1,6 @@
 //! Objects and scripts are added to a grid.
 
-ghost use Rattle.std.specs.Prelude.{◌≡◌, ◌<◌, ◌≤◌, [], ◌∷◌, ◌++◌, length, OnOk};
+ghost use Rattle.std.specs.Prelude.{◌≡◌, ◌<◌, ◌≤◌, [], ◌∷◌, ◌++◌, length, OnErr, OnOk};
 ghost use Rattle.lsl_region.specs.Grids.{IsPlaced};
 
 use crate::channels::script_channels;
@@ -9,23 +9,26 @@ use crate::objects::Linkset;
 use lsl_text::NoMemory;
 
 impl Grid {
-    /// Adds an object behind the others, which are 63 at most.
+    /// Adds an object behind the others, which are 63 at most. After want of memory all is as it was.
     pub fn add(&mut self, object: Linkset) -> Result<(), NoMemory>
         requires room { length self.old.objects < 64 }
         requires prims { length object.prims ≤ 255 }
         ensures added { OnOk result (self.new.objects ≡ self.old.objects ++ object ∷ []) }
         ensures seats { self.new.seats ≡ self.old.seats }
+        ensures unchanged { OnErr result (self.new ≡ self.old) }
     {
         self.objects.push(object)?;
         Ok(())
     }
 
-    /// Adds a script behind the others, which are 255 at most, in a prim that is there.
+    /// Adds a script behind the others, which are 255 at most, in a prim that is there. After want of memory all is as
+    /// it was.
     pub fn seat(&mut self, seat: Seat) -> Result<(), NoMemory>
         requires room { length self.old.seats < 256 }
         requires placed { IsPlaced self.old.objects seat }
         ensures added { OnOk result (self.new.seats ≡ self.old.seats ++ seat ∷ []) }
         ensures objects { self.new.objects ≡ self.old.objects }
+        ensures unchanged { OnErr result (self.new ≡ self.old) }
     {
         let place = self.seats.len();
         let channels = script_channels(&seat.script);
