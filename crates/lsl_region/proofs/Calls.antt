@@ -2,12 +2,14 @@
 use Rattle.std.proofs.Common.{◌≡◌, ◌≢◌, true, false, refl}
 use Rattle.lsl_value.specs.declared.names.BuiltinId.{BuiltinId}
 use Rattle.lsl_value.specs.declared.names.BuiltinId.TheVariants.{Say, Whisper, Shout, RegionSay, OwnerSay, Listen, ListenRemove, ListenControl, SetTimerEvent, Sleep, MessageLinked, SetObjectName}
-use Rattle.std.specs.Prelude.{ℕ, List}
+use Rattle.std.specs.Prelude.{ℕ, List, None}
 use Rattle.lsl_value.specs.declared.tagged.Value.{Value}
 use Rattle.lsl_running.specs.declared.host.Reply.TheVariants as reply
+use Rattle.lsl_post.specs.Listens.{Standing}
 use Rattle.lsl_post.specs.Told.{quiet}
 use Rattle.lsl_script.specs.Rules.{Rules}
 use Rattle.lsl_region.specs.Answers.{answer_of, does_more, is_mailing, mailed, told_in, with_mailed}
+use Rattle.lsl_region.specs.Mailing.{stop_for}
 use Rattle.lsl_region.specs.Worlds.{Member, World}
 
 pub last-mailing : (id : BuiltinId) → is_mailing id ≡ true → id ≢ Listen → id ≢ ListenRemove → id ≢ ListenControl
@@ -29,6 +31,17 @@ last-more OwnerSay e m a b c d f g = absurd (f refl)
 last-more MessageLinked e m a b c d f g = absurd (g refl)
 last-more SetObjectName e m a b c d f g = refl
 last-more id e m a b c d f g = absurd cc
+
+-- none of these stops the script that asks
+pub told-goes-on : (id : BuiltinId) (args : List Value) (listens : Standing) → does_more id ≡ false
+    → stop_for id args listens ≡ None
+told-goes-on Listen args listens e = absurd cc
+told-goes-on id args listens e = refl
+
+pub other-goes-on : (id : BuiltinId) (args : List Value) (listens : Standing) → is_mailing id ≡ false
+    → stop_for id args listens ≡ None
+other-goes-on Listen args listens e = absurd cc
+other-goes-on id args listens e = refl
 
 module _ (r : Rules) (place : ℕ) (m : Member) (args : List Value) (w : World) where
   pub told-is : (id : BuiltinId) → does_more id ≡ false

@@ -87,9 +87,12 @@ abbrev pub listened_script : Option (ℤ × Standing) → Script → Script
 listened_script None s = s
 listened_script (Some (number, listens)) s = listening listens s
 
+abbrev pub listen_among : List Value → Standing → Option (ℤ × Standing)
+listen_among args listens =
+    listened (filter (integer_at 0 args) (text_at 1 args) (text_at 2 args) (text_at 3 args)) listens
+
 abbrev pub listen_asked : List Value → Script → Option (ℤ × Standing)
-listen_asked args s =
-    listened (filter (integer_at 0 args) (text_at 1 args) (text_at 2 args) (text_at 3 args)) s.mailbox.listens
+listen_asked args s = listen_among args s.mailbox.listens
 
 -- what a call does to the script that asks, at this reading of the clock, and what it is answered
 abbrev pub mailed : BuiltinId → List Value → ℕ → Script → Script × Reply

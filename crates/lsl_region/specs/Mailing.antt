@@ -1,11 +1,19 @@
--- What a host call does to the mailbox of the script that asks.
-use Rattle.std.specs.Prelude.{◌≡◌, List}
+-- What a host call does to the mailbox of the script that asks, and when it stops the script.
+use Rattle.std.specs.Prelude.{◌≡◌, ℤ, List, Option, Some, None}
 use Rattle.lsl_value.specs.declared.names.BuiltinId.{BuiltinId}
+use Rattle.lsl_value.specs.declared.names.BuiltinId.TheVariants.{Listen}
+use Rattle.lsl_value.specs.declared.tagged.Value.{Value}
+use Rattle.lsl_running.specs.declared.ends.Fault.{Fault}
+use Rattle.lsl_running.specs.declared.ends.Fault.TheVariants.{TooManyListens}
+use Rattle.lsl_running.specs.declared.host.Reply.{Reply}
+use Rattle.lsl_running.specs.declared.host.Reply.TheVariants as reply
 use Rattle.lsl_code.specs.declared.woven_units.Woven.{Woven as Code}
+use Rattle.lsl_post.specs.Listens.{Standing}
 use Rattle.lsl_script.specs.declared.live.Live.{Live}
 use Rattle.lsl_script.specs.Awake.{IsAwake}
 use Rattle.lsl_script.specs.Lives.{Waits}
 use Rattle.lsl_script.specs.Scripts.{Flight, Script}
+use Rattle.lsl_region.specs.Answers.{listen_among}
 
 -- the script that it stands for is changed so
 abbrev pub Becomes : Live → Live → (Script → Script) → Type 0
@@ -17,3 +25,17 @@ Becomes old new change =
 pub record Keeps (old new : Live) : Type 0 where
   pub awake : (unit : Code) → IsAwake unit old → IsAwake unit new
   pub machine : new.machine ≡ old.machine
+
+-- what stops the script that is answered so
+abbrev pub stop_of : Reply → Option Fault
+stop_of (reply.Value v) = None
+stop_of (reply.Stop fault) = Some fault
+
+abbrev pub stop_without : Option (ℤ × Standing) → Option Fault
+stop_without None = Some TooManyListens
+stop_without (Some given) = None
+
+-- what stops the script that has these listens: it asks for one that it can't have
+abbrev pub stop_for : BuiltinId → List Value → Standing → Option Fault
+stop_for Listen args listens = stop_without (listen_among args listens)
+stop_for id args listens = None

@@ -14,6 +14,7 @@ ghost use Rattle.lsl_script.specs.Codes.{HasUnit, Meant};
 ghost use Rattle.lsl_script.specs.Scripts.{Flight};
 ghost use Rattle.lsl_region.specs.Answers.{answer, answer_of, does_more, is_mailing};
 ghost use Rattle.lsl_region.specs.Grids.{AreSeated, Lent, outline_of};
+ghost use Rattle.lsl_region.specs.Mailing.{stop_for, stop_of};
 ghost use Rattle.lsl_region.specs.Worlds.{World};
 ghost use Rattle.lsl_region.specs.declared.grid.Seat.{Seat as Place};
 
@@ -52,6 +53,7 @@ impl Grid {
             Tells result (λ x reply. Lent library.now unit clock (script - 1) self.new live.new call.id f x.0
             × (reply ≡ x.1)) out.old out.new (answer m.rules (script - 1) call.id call.args w) }
         ensures fits { IfOk result (Answers call.id) }
+        ensures stop { IfOk result (λ reply. stop_of reply ≡ stop_for call.id call.args live.old.parts.listens) }
         ensures seated { OnOk result (AreSeated library.now self.new.seats) }
         ensures machine { live.new.machine ≡ live.old.machine }
         ensures outline { outline_of self.new ≡ outline_of self.old }
@@ -84,6 +86,7 @@ impl Grid {
             Tells result (λ x reply. Lent library.now unit.now clock place self.new live.new of f x.0 × (reply ≡ x.1))
             out.old out.new (answer_of m.rules place lent.member id args.now w) }
         ensures fits { IfOk result (Answers id) }
+        ensures stop { IfOk result (λ reply. stop_of reply ≡ stop_for id args.now live.old.parts.listens) }
         ensures seated { OnOk result (AreSeated library.now self.new.seats) }
         ensures len { length self.new.seats ≡ length self.old.seats }
         ensures outline { outline_of self.new ≡ outline_of self.old }

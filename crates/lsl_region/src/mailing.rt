@@ -13,7 +13,7 @@ ghost use Rattle.lsl_script.specs.Lives.{Waits};
 ghost use Rattle.lsl_script.specs.Mailing.{listening, ticking};
 ghost use Rattle.lsl_script.specs.Scripts.{Flight, Script as Source, napped};
 ghost use Rattle.lsl_region.specs.Answers.{integer_at, is_mailing, listen_asked, listened_reply, listened_script, mailed, wake_after};
-ghost use Rattle.lsl_region.specs.Mailing.{Becomes, Keeps};
+ghost use Rattle.lsl_region.specs.Mailing.{Becomes, Keeps, stop_for, stop_of};
 
 use crate::arguments::{integer_at, text_at};
 use lsl_post::ListenFault;
@@ -40,6 +40,7 @@ pub(crate) fn mail(
         Waits codes unit (mailed id args.now clock s).0 f of live.new × (reply ≡ (mailed id args.now clock s).1)) }
     ensures keeps { Keeps live.old live.new }
     ensures fits { IfOk result (Answers id) }
+    ensures stop { IfOk result (λ reply. stop_of reply ≡ stop_for id args.now live.old.parts.listens) }
 {
     match id {
         BuiltinId::Listen => listen(live, args),
@@ -69,6 +70,7 @@ fn listen(live: &mut Live, args: &Values) -> Result<Reply, NoMemory>
         Waits codes unit (listened_script (listen_asked args.now s) s) f id live.new
         × (reply ≡ listened_reply (listen_asked args.now s))) }
     ensures fits { IfOk result (Answers ids.Listen) }
+    ensures stop { IfOk result (λ reply. stop_of reply ≡ stop_for ids.Listen args.now live.old.parts.listens) }
     ensures keeps { Keeps live.old live.new }
 {
     let (name, id, message) = (text_at(args, 1)?, text_at(args, 2)?, text_at(args, 3)?);

@@ -1,6 +1,6 @@
 //! Host calls that say or send something, or name a prim.
 
-ghost use Rattle.std.specs.Prelude.{◌≡◌, ◌<◌, ◌≤◌, ◌+◌, ℕ, List, [], ◌∷◌, ◌++◌, pos, true, false, length, slice_get, Some, IfOk, OnOk};
+ghost use Rattle.std.specs.Prelude.{◌≡◌, ◌<◌, ◌≤◌, ◌+◌, ℕ, List, [], ◌∷◌, ◌++◌, pos, true, false, length, slice_get, Some, None, IfOk, OnOk};
 ghost use Rattle.std.specs.Ordering.{int_eq};
 ghost use Rattle.lsl_value.specs.declared.names.BuiltinId.{BuiltinId as Id};
 ghost use Rattle.lsl_value.specs.declared.names.BuiltinId.TheVariants as ids;
@@ -21,6 +21,7 @@ ghost use Rattle.lsl_script.specs.declared.live.Live.{Live as Awake};
 ghost use Rattle.lsl_region.specs.Answers.{answer_of, does_more, integer_at, message_of, nothing, renamed, said_by, says, text_at, told_in};
 ghost use Rattle.lsl_region.specs.Grids.{AreSeated, Lent, linked_to, object_in, outline_of, prim_in, renamed_grid};
 ghost use Rattle.lsl_region.specs.Links.{link_of};
+ghost use Rattle.lsl_region.specs.Mailing.{stop_of};
 ghost use Rattle.lsl_region.specs.Texts.{cut_name, cut_speech};
 ghost use Rattle.lsl_region.specs.Worlds.{World, prim_of};
 ghost use Rattle.lsl_region.specs.declared.grid.Seat.{Seat as Place};
@@ -95,6 +96,7 @@ impl Grid {
             (lent : Lent codes unit clock place self.now live.now of f w) →
             IfOk result (λ reply. reply ≡ replies.Value (told_in w lent.member id args.now)) }
         ensures fits { is_asked (call_form id) ≡ true → does_more id ≡ false → IfOk result (Answers id) }
+        ensures stop { IfOk result (λ reply. stop_of reply ≡ None) }
     {
         let seat = &self.seats[place];
         let toucher = &live.event().toucher;

@@ -131,8 +131,10 @@ impl Grid {
     pub fn ready(&self, script: u32, clock: u64) -> bool
         requires first { 0 < script }
         requires last { script ≤ length self.now.seats }
-        ensures { (codes : List Code) (w : World) → Stands codes None clock self.now w →
+        ensures source { (codes : List Code) (w : World) → Stands codes None clock self.now w →
             result ≡ is_ready_at w (script - 1) }
+        ensures fields { (seat : Place) (parts : Parts) → slice_get self.now.seats (script - 1) ≡ Some seat →
+            seat.script ≡ Some parts → result ≡ are_ready clock parts }
     {
         self.is_ready_at(script as usize - 1, clock)
     }
@@ -156,8 +158,10 @@ impl Grid {
     pub fn due(&self, script: u32) -> Option<u64>
         requires first { 0 < script }
         requires last { script ≤ length self.now.seats }
-        ensures { (codes : List Code) (clock : ℕ) (w : World) (m : Member) → Stands codes None clock self.now w →
+        ensures source { (codes : List Code) (clock : ℕ) (w : World) (m : Member) → Stands codes None clock self.now w →
             slice_get w.members (script - 1) ≡ Some m → result ≡ next_due m.script.mailbox.timing }
+        ensures fields { (seat : Place) (parts : Parts) → slice_get self.now.seats (script - 1) ≡ Some seat →
+            seat.script ≡ Some parts → result ≡ next_due (timing_of parts.timer) }
     {
         self.due_at(script as usize - 1)
     }

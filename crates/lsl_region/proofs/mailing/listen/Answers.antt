@@ -12,6 +12,7 @@ use Rattle.lsl_script.specs.Lives.{Waits}
 use Rattle.lsl_script.specs.Mailing.{with_listens}
 use Rattle.lsl_script.proofs.Mail.{listens_are_its}
 use Rattle.lsl_region.specs.Answers.{listened_reply, listened_script}
+use Rattle.lsl_region.specs.Mailing.{stop_without}
 use Rattle.lsl_region.proofs.mailing.listen.Goals as goal
 
 -- what was asked for is the listen with these values
@@ -58,3 +59,27 @@ returns-in-Err-TooMany-clause-does c = λ codes unit s f id k.
           (sym (e.0 ∙ c.listens.ensures.value)) k,
       refl,
     )
+
+pub returns-in-Ok-clause-stop : goal.returns-in-Ok-clause-stop
+returns-in-Ok-clause-stop c =
+    let same : cast_signed w32 (cast_unsigned w32 c.integer_at.result) ≡ c.integer_at.result =
+    to_z-of_z w32 c.integer_at.result (search rules) in
+    let q : listened (filter c.integer_at.result c.in_ok-name.name c.in_ok-id.id c.in_ok-message.message)
+    c.listens.result.now ≡ Some (c.in-Ok.number, c.add.new.self)
+    = ap (λ (z : ℤ). listened (filter z c.in_ok-name.name c.in_ok-id.id c.in_ok-message.message) c.listens.result.now)
+    (sym same) ∙ c.in-Ok.ensures in
+    sym (ap stop_without (asked _ _ _ _ _ _ _ _ _ _ _ c.integer_at.ensures c.in_ok-name.ensures c.in_ok-id.ensures
+    c.in_ok-message.ensures c.listens.ensures.value q))
+
+pub returns-in-Err-TooMany-clause-stop : goal.returns-in-Err-TooMany-clause-stop
+returns-in-Err-TooMany-clause-stop c =
+    let e = c.in-Err-TooMany.ensures in
+    let t : c.in-Err-TooMany.field-0 ≡ TooMany = search rules in
+    let same : cast_signed w32 (cast_unsigned w32 c.integer_at.result) ≡ c.integer_at.result =
+    to_z-of_z w32 c.integer_at.result (search rules) in
+    let q : listened (filter c.integer_at.result c.in_ok-name.name c.in_ok-id.id c.in_ok-message.message)
+    c.listens.result.now ≡ None
+    = ap (λ (z : ℤ). listened (filter z c.in_ok-name.name c.in_ok-id.id c.in_ok-message.message) c.listens.result.now)
+    (sym same) ∙ e.1 t in
+    sym (ap stop_without (asked _ _ _ _ _ _ _ _ _ _ _ c.integer_at.ensures c.in_ok-name.ensures c.in_ok-id.ensures
+    c.in_ok-message.ensures c.listens.ensures.value q))

@@ -22,3 +22,21 @@ returns-in_default-clause-does c = λ codes unit s f of k.
     let e = last-mailing c.args.id c.requires.id c.in_default.not-Listen c.in_default.not-ListenRemove
     c.in_default.not-ListenControl c.in_default.not-SetTimerEvent in
     rw e (c.sleep.ensures.does codes unit s f of k, refl)
+
+pub returns-in-Listen-clause-stop : goal.returns-in-Listen-clause-stop
+returns-in-Listen-clause-stop c = rw c.in-Listen.is c.listen.ensures.stop
+
+pub returns-in-ListenRemove-clause-stop : goal.returns-in-ListenRemove-clause-stop
+returns-in-ListenRemove-clause-stop c = rw c.in-ListenRemove.is refl
+
+pub returns-in-ListenControl-clause-stop : goal.returns-in-ListenControl-clause-stop
+returns-in-ListenControl-clause-stop c = rw c.in-ListenControl.is refl
+
+pub returns-in-SetTimerEvent-clause-stop : goal.returns-in-SetTimerEvent-clause-stop
+returns-in-SetTimerEvent-clause-stop c = rw c.in-SetTimerEvent.is refl
+
+pub returns-in_default-clause-stop : goal.returns-in_default-clause-stop
+returns-in_default-clause-stop c =
+    let e = last-mailing c.args.id c.requires.id c.in_default.not-Listen c.in_default.not-ListenRemove
+    c.in_default.not-ListenControl c.in_default.not-SetTimerEvent in
+    rw e refl

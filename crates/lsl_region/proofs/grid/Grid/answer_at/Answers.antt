@@ -7,9 +7,10 @@ use Rattle.lsl_post.specs.Journal.{Tells}
 use Rattle.lsl_region.specs.declared.grid.Seat.{Seat}
 use Rattle.lsl_region.specs.Answers.{Answered, mailed, nothing, renamed, text_at, told_in, with_mailed}
 use Rattle.lsl_region.specs.Grids.{AreSeated, Lent}
+use Rattle.lsl_region.specs.Mailing.{stop_of}
 use Rattle.lsl_region.specs.Texts.{cut_name}
 use Rattle.lsl_region.specs.Worlds.{World, with_member}
-use Rattle.lsl_region.proofs.Calls.{last-more, mailed-is, told-is}
+use Rattle.lsl_region.proofs.Calls.{last-more, mailed-is, other-goes-on, told-goes-on, told-is}
 use Rattle.lsl_region.proofs.Lending.{lent-mailed}
 use Rattle.lsl_region.proofs.Results.{IfOk-both, IfOk-map, OnOk-any, tells-quiet}
 use Rattle.lsl_region.proofs.grid.Grid.answer_at.Goals as goal
@@ -97,3 +98,37 @@ pub returns-in_default-clause-seated : goal.returns-in_default-clause-seated
 returns-in_default-clause-seated c =
     OnOk-any c.renames.result _
     (subst (λ (s : List Seat). AreSeated c.args.library.now s) (sym c.renames.ensures.seats) c.requires.seated)
+
+pub returns-then-not-does_more-clause-stop : goal.returns-then-not-does_more-clause-stop
+returns-then-not-does_more-clause-stop c =
+    IfOk-map c.tell.result _ _ (λ given is. is ∙ sym (told-goes-on c.args.id c.args.args.now c.args.live.now.parts.listens
+    (sym c.does_more.ensures ∙ c.if-not-does_more.true))) c.tell.ensures.stop
+
+pub returns-in-Say-clause-stop : goal.returns-in-Say-clause-stop
+returns-in-Say-clause-stop c =
+    IfOk-map c.says.result _ _ (λ given is. rw c.in-Say.is (ap stop_of is)) c.says.ensures.reply
+
+pub returns-in-Whisper-clause-stop : goal.returns-in-Whisper-clause-stop
+returns-in-Whisper-clause-stop c =
+    IfOk-map c.says-in-Whisper.result _ _ (λ given is. rw c.in-Whisper.is (ap stop_of is)) c.says-in-Whisper.ensures.reply
+
+pub returns-in-Shout-clause-stop : goal.returns-in-Shout-clause-stop
+returns-in-Shout-clause-stop c =
+    IfOk-map c.says-in-Shout.result _ _ (λ given is. rw c.in-Shout.is (ap stop_of is)) c.says-in-Shout.ensures.reply
+
+pub returns-in-RegionSay-clause-stop : goal.returns-in-RegionSay-clause-stop
+returns-in-RegionSay-clause-stop c =
+    IfOk-map c.says_in_region.result _ _ (λ given is. rw c.in-RegionSay.is (ap stop_of is)) c.says_in_region.ensures.reply
+
+pub returns-in-OwnerSay-clause-stop : goal.returns-in-OwnerSay-clause-stop
+returns-in-OwnerSay-clause-stop c =
+    IfOk-map c.says_to_owner.result _ _ (λ given is. rw c.in-OwnerSay.is (ap stop_of is)) c.says_to_owner.ensures.reply
+
+pub returns-in-MessageLinked-clause-stop : goal.returns-in-MessageLinked-clause-stop
+returns-in-MessageLinked-clause-stop c =
+    IfOk-map c.sends.result _ _ (λ given is. rw c.in-MessageLinked.is (ap stop_of is)) c.sends.ensures.reply
+
+pub returns-in_default-clause-stop : goal.returns-in_default-clause-stop
+returns-in_default-clause-stop c =
+    IfOk-map c.renames.result _ _ (λ given is. ap stop_of is ∙ sym (other-goes-on c.args.id c.args.args.now
+    c.args.live.now.parts.listens (sym c.is_mailing.ensures ∙ c.if-is_mailing.false))) c.renames.ensures.reply

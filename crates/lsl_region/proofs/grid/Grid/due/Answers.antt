@@ -7,8 +7,8 @@ use Rattle.lsl_region.specs.Worlds.{Member}
 use Rattle.lsl_region.proofs.Rings.{home}
 use Rattle.lsl_region.proofs.grid.Grid.due.Goals as goal
 
-pub returns : goal.returns
-returns c = λ codes clock w m st at.
+pub returns-clause-source : goal.returns-clause-source
+returns-clause-source c = λ codes clock w m st at.
     let h : c.args.script - 1 < length c.args.self.now.seats = omega arith in
     let k = home codes clock c.args.self.now w (c.args.script - 1) st h in
     let both : Some k.member ≡ Some m = sym k.at ∙ at in

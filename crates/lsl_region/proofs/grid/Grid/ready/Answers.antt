@@ -7,8 +7,8 @@ use Rattle.lsl_region.specs.Worlds.{Member}
 use Rattle.lsl_region.proofs.Rings.{home, ready-is}
 use Rattle.lsl_region.proofs.grid.Grid.ready.Goals as goal
 
-pub returns : goal.returns
-returns c = λ codes w st.
+pub returns-clause-source : goal.returns-clause-source
+returns-clause-source c = λ codes w st.
     let h : c.args.script - 1 < length c.args.self.now.seats = omega arith in
     let k = home codes c.args.clock c.args.self.now w (c.args.script - 1) st h in
     c.is_ready_at.ensures.ready k.seat (parts_of codes k.member.script) k.sits k.script

@@ -32,4 +32,4 @@ pub returns-then-not-ready-clause-tells : goal.returns-then-not-ready-clause-tel
 returns-then-not-ready-clause-tells c = λ programs w is.
     still programs c.args.self.now w c.args.out.now _ is
     (turn-waits (rules_of programs) c.args.most (c.args.script - 1) w c.ready.result
-    (c.ready.ensures _ w is.stands) c.if-not-ready.true)
+    (c.ready.ensures.source _ w is.stands) c.if-not-ready.true)
