@@ -22,3 +22,8 @@ pub mod Touches
 pub mod Coming
 pub mod Flying
 pub mod Stops
+pub mod ChatLaws
+pub mod CutLaws
+pub mod LinkLaws
+pub mod TellingLaws
+pub mod TouchLaws

@@ -12,4 +12,9 @@ pub mod Segments
 pub mod Arrivals
 pub mod Touching
 pub mod Laws
+pub mod ChatLaws
+pub mod CutLaws
+pub mod LinkLaws
+pub mod TellingLaws
+pub mod TouchLaws
 pub mod Turning

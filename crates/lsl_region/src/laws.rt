@@ -1,6 +1,13 @@
 //! Laws of worlds. Each law is a function whose clause is the law; it does nothing.
 
+ghost use Rattle.lsl_value.specs.declared.names.BuiltinId.TheVariants as calls;
+ghost use Rattle.lsl_post.specs.declared.entries.Voice.TheVariants as voices;
+ghost use Rattle.lsl_region.specs.ChatLaws.{OwnersAreTold, PrimsAreNamed, ScriptsHearByTheirListens, SpeaksAs};
+ghost use Rattle.lsl_region.specs.CutLaws.{NamesAreLongest, SpeechIsLongest};
 ghost use Rattle.lsl_region.specs.Laws.{CutsAreShort, NoSegmentDoesNothing, RegionIsSilentOnZero, RootHasTwoNumbers, ShortTextsAreWhole};
+ghost use Rattle.lsl_region.specs.LinkLaws.{ChildrenAreAllButTheRoot, NumbersMeanTheirPrim, OtherNumbersMeanNone, OthersAreAllButTheSender, PrimsAreNumbered, SetIsAll, ThisIsTheSender};
+ghost use Rattle.lsl_region.specs.TellingLaws.{CallsAreAnswered, NegativeNumbersAreNone, NumbersBeyondAreNone, ObjectIsTold, OtherPlacesAreNobody, OwnPrimIsTold, OwnPrimIsToldByThis, PrimsAreToldByNumber, TouchersAreTold, UntouchedIsNobody};
+ghost use Rattle.lsl_region.specs.TouchLaws.{TouchesAreThreeEvents, TouchesGoToThePrim, TouchesGoToTheRoot};
 
 /// A text that is cut has no more bytes than it may have, and one that is short enough is whole.
 pub fn texts_are_cut()
@@ -21,4 +28,69 @@ pub fn root_has_two_numbers()
 /// A turn of no segments does nothing.
 pub fn no_segment_does_nothing()
     ensures { NoSegmentDoesNothing }
+{}
+
+/// What is said, and a prim's name, is the longest beginning of a text that has no more bytes than it may have.
+pub fn longest_beginnings_are_kept()
+    ensures speech { SpeechIsLongest }
+    ensures names { NamesAreLongest }
+{}
+
+/// Whom each link number means: LINK_SET, LINK_ALL_OTHERS, LINK_ALL_CHILDREN, LINK_THIS, and the numbers of prims.
+pub fn link_numbers_mean_prims()
+    ensures numbered { PrimsAreNumbered }
+    ensures all { SetIsAll }
+    ensures others { OthersAreAllButTheSender }
+    ensures children { ChildrenAreAllButTheRoot }
+    ensures this { ThisIsTheSender }
+    ensures numbers { NumbersMeanTheirPrim }
+    ensures none { OtherNumbersMeanNone }
+{}
+
+/// A script is told of its own prim and its object, and of other prims by their link numbers.
+pub fn prims_are_told()
+    ensures own { OwnPrimIsTold }
+    ensures object { ObjectIsTold }
+    ensures numbered { PrimsAreToldByNumber }
+    ensures this { OwnPrimIsToldByThis }
+    ensures beyond { NumbersBeyondAreNone }
+    ensures negative { NegativeNumbersAreNone }
+{}
+
+/// Who touched is told at place 0 alone, and while a touch is in hand.
+pub fn touchers_are_told()
+    ensures toucher { TouchersAreTold }
+    ensures other { OtherPlacesAreNobody }
+    ensures nobody { UntouchedIsNobody }
+{}
+
+/// No call that the host answers is forgotten.
+pub fn calls_are_answered()
+    ensures { CallsAreAnswered }
+{}
+
+/// A touch is `touch_start`, `touch` and `touch_end`, for the prim where a script of it handles one of them, else for
+/// the root.
+pub fn touches_are_three_events()
+    ensures events { TouchesAreThreeEvents }
+    ensures prim { TouchesGoToThePrim }
+    ensures root { TouchesGoToTheRoot }
+{}
+
+/// Each call says its text in its own voice, with the name and key of the script's own prim.
+pub fn calls_speak_in_their_voices()
+    ensures say { SpeaksAs calls.Say voices.Say }
+    ensures whisper { SpeaksAs calls.Whisper voices.Whisper }
+    ensures shout { SpeaksAs calls.Shout voices.Shout }
+    ensures owner { OwnersAreTold }
+{}
+
+/// A prim that is named has the name, cut, and its key still.
+pub fn prims_are_named()
+    ensures { PrimsAreNamed }
+{}
+
+/// A script hears what another prim than its own says, by any of its listens that asks it.
+pub fn scripts_hear_by_their_listens()
+    ensures { ScriptsHearByTheirListens }
 {}
