@@ -1,4 +1,4 @@
--- No step changes how many objects, prims and scripts a world has.
+-- No turn changes how many objects, prims and scripts a world has.
 use Rattle.std.proofs.Common.{◌≡◌, ℕ, zero, suc, ◌+◌, ◌-◌, Bool, true, false, List, [], ◌∷◌, length, get_or, refl, ap, sym, ◌∙◌}
 use Rattle.std.specs.Prelude.{Option, Some, None, if◌then◌else◌, not, max, min, map, pos, slice_get, slice_set, Result, Ok, Err, OnOk}
 use Rattle.std.specs.Ordering.{int_eq}
@@ -143,46 +143,3 @@ turn-keeps r most place w =
     until-keeps {X = World × ℕ} (λ x. sizes x.0) (λ x. not (is_ready_at x.0 place))
     (λ x. as_value (λ v. (v, x.1 + 1)) (segment r place x.0))
     (λ x. segment-keeps r place x.0) most (w, 0)
-
-pub ring_at-keeps : (r : Rules) (place : ℕ) (w : World) → sizes (ring_at r place w).value ≡ sizes w
-ring_at-keeps r place w = member-keeps place _ w
-
-touch-keeps : (r : Rules) (object link : ℕ) (key name : List ℕ) (w : World)
-    → sizes (touch r object link key name w).value ≡ sizes w
-touch-keeps r object link key name w = go (prim_named (length (object_at w object).prims) (pos link)) where
-  go : (o : Option ℕ) → sizes (touch_prim r object o key name w).value ≡ sizes w
-  go None = refl
-  go (Some prim) = post-keeps r _ _ _ ∙ post-keeps r _ _ _ ∙ post-keeps r _ _ w
-
-round-keeps : (r : Rules) (x : World × ℕ) → sizes (round r x).value.0 ≡ sizes x.0
-round-keeps r x =
-    each-keeps {X = World × ℕ} (λ y. sizes y.0) (turn_in r) (λ n y. turn-keeps r (min 8 y.1) n y.0)
-    (length x.0.members) 0 x
-
--- whatever the step
-pub next-keeps : (r : Rules) (step : Step) (w : World) → sizes (next r step w).value ≡ sizes w
-next-keeps r (Clock time) w =
-    each-keeps sizes (ring_at r) (ring_at-keeps r) (length w.members) 0 (record w { clock = max w.clock time })
-next-keeps r (Say channel name key text) w = post-keeps r _ _ w
-next-keeps r (Touch object link key name) w = touch-keeps r (object - 1) link key name w
-next-keeps r (Changed object flags) w = post-keeps r _ _ w
-next-keeps r (Rez object n) w = post-keeps r _ _ w
-next-keeps r (Go script most) w = turn-keeps r most (script - 1) w
-next-keeps r (Run most) w =
-    until-keeps {X = World × (ℕ × Bool)} (λ x. sizes x.0) (λ x. x.1.1) (round_or_last r)
-    (λ x. round-keeps r (x.0, x.1.0)) most (w, (most, false))
-next-keeps r (Pause gaps) w = refl
-next-keeps r (Cross object region) w = refl
-
--- a world in memory has what the world has for which it stands
-pub size-is : (programs : List Program) (world : TheWorld) (w : World) → IsOf programs world w → size_of world ≡ sizes w
-size-is programs world w is =
-    ap (λ (n : ℕ). size_in world.grid.objects n) (stands-length world.units None world.clock world.grid w is.stands)
-    ∙ ap (λ (os : List Linkset). size_in os (length w.members)) is.stands.objects
-
-pub size-stays : {T E : Type 0} (r : Result T E) (programs : List Program) (new world : TheWorld) (w : World)
-    (old now : List Entry) (a : Told World) → IsOf programs world w → sizes a.value ≡ sizes w
-    → Tells r (λ v _. IsOf programs new v) old now a → OnOk r (size_of new ≡ size_of world)
-size-stays (Ok t) programs new world w old now a is keeps told =
-    size-is programs new a.value told.0 ∙ keeps ∙ sym (size-is programs world w is)
-size-stays (Err e) programs new world w old now a is keeps told = tt

@@ -1,17 +1,18 @@
 -- A world in memory whose grid was changed.
-use Rattle.std.proofs.Common.{◌≡◌, ℕ, zero, suc, ◌+◌, ◌≤◌, Bool, true, false, List, refl, arith}
-use Rattle.std.specs.Prelude.{None, if◌then◌else◌, not, Result, Ok, Err, OnOk, IfOk}
+use Rattle.std.proofs.Common.{◌≡◌, ℕ, ◌≤◌, List, length, map, refl, ap, ◌∙◌}
+use Rattle.std.specs.Prelude.{None, Result, Ok, Err, OnOk}
 use Rattle.lsl_tree.specs.Program.{Program}
 use Rattle.lsl_post.specs.declared.entries.Entry.{Entry}
 use Rattle.lsl_post.specs.Journal.{Tells}
-use Rattle.lsl_post.specs.Told.{Told, as_value, next_to, quiet, until}
+use Rattle.lsl_post.specs.Told.{Told}
 use Rattle.lsl_post.specs.Timing.{latest_clock}
-use Rattle.lsl_script.specs.Rules.{Rules}
-use Rattle.lsl_region.specs.Grids.{AreSeated, Contents, Stands}
-use Rattle.lsl_region.specs.Segments.{is_ready_at, segment, turn}
+use Rattle.lsl_region.specs.Grids.{AreSeated, Contents, Stands, outline_of}
 use Rattle.lsl_region.specs.Worlds.{World as SourceWorld}
+use Rattle.lsl_region.proofs.Outlines.{outline-prims, outline-scripts}
 use Rattle.lsl_world.specs.declared.world.World.{World}
-use Rattle.lsl_world.specs.Stands.{IsOf}
+use Rattle.lsl_world.specs.Sizes.{Size}
+use Rattle.lsl_world.specs.Sound.{IsSound}
+use Rattle.lsl_world.specs.Stands.{IsOf, prims_of, size_of}
 
 abbrev pub with_grid : World → Contents → World
 with_grid world grid = record { clock = world.clock; grid = grid; units = world.units }
@@ -52,25 +53,20 @@ later programs world w clock is timely = record {
   };
 }
 
--- a turn has no more segments than it may have
-until-short : (stops : SourceWorld × ℕ → Bool) (thing : SourceWorld × ℕ → Told (SourceWorld × ℕ))
-    → ((x : SourceWorld × ℕ) → (thing x).value.1 ≡ x.1 + 1) → (most : ℕ) (x : SourceWorld × ℕ)
-    → (until stops thing most x).value.1 ≤ x.1 + most
-unfolding until
-until-short stops thing one zero x = omega arith
-until-short stops thing one (suc most) x = go (stops x) (until-short stops thing one most (thing x).value) where
-  go : (b : Bool) → (until stops thing most (thing x).value).value.1 ≤ (thing x).value.1 + most
-      → (if b then quiet x else next_to (thing x) (λ y. until stops thing most y)).value.1 ≤ x.1 + suc most
-  go true more = omega arith
-  go false more = omega (arith, more, one x)
+-- as many objects, prims and scripts
+pub size-kept : (world : World) (grid : Contents) → outline_of grid ≡ outline_of world.grid
+    → size_of (with_grid world grid) ≡ size_of world
+size-kept world grid e =
+    ap {A = ℕ} {B = Size} (λ n. record { prims = map prims_of grid.objects; scripts = n })
+    (outline-scripts world.grid grid e)
+    ∙ ap {A = List ℕ} {B = Size} (λ prims. record { prims = prims; scripts = length world.grid.seats })
+    (outline-prims world.grid grid e)
 
-turn-short : (r : Rules) (most place : ℕ) (w : SourceWorld) → (turn r most place w).value.1 ≤ most
-turn-short r most place w =
-    let k = until-short (λ x. not (is_ready_at x.0 place)) (λ x. as_value (λ v. (v, x.1 + 1)) (segment r place x.0))
-    (λ x. refl) most (w, 0) in omega arith
+pub sound-kept : {T E : Type 0} (world : World) (grid : Contents) (r : Result T E) → IsSound world
+    → OnOk r (AreSeated world.units grid.seats) → OnOk r (IsSound (with_grid world grid))
+sound-kept world grid (Ok t) is seated = record { seated = seated; timely = is.timely }
+sound-kept world grid (Err e) is seated = tt
 
-pub turns-within : {E : Type 0} (result : Result ℕ E) (P : SourceWorld → Type 0) (r : Rules) (most place : ℕ)
-    (w : SourceWorld) (old now : List Entry)
-    → Tells result (λ x n. P x.0 × (n ≡ x.1)) old now (turn r most place w) → IfOk result (λ n. n ≤ most)
-turns-within (Ok n) P r most place w old now told = omega (arith, turn-short r most place w, told.0.1)
-turns-within (Err e) P r most place w old now told = tt
+pub sound-later : (world : World) (clock : ℕ) → IsSound world → clock ≤ latest_clock
+    → IsSound (record { clock = clock; grid = world.grid; units = world.units })
+sound-later world clock is timely = record { seated = is.seated; timely = timely }

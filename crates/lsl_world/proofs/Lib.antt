@@ -3,6 +3,7 @@ pub mod StepRanges
 pub mod Ranges
 pub mod Meanings
 pub mod Counts
+pub mod Sounding
 pub mod Kept
 pub mod Seams
 pub mod Telling

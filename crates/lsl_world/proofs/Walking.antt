@@ -10,19 +10,13 @@ use Rattle.lsl_region.specs.Segments.{turn}
 use Rattle.lsl_region.specs.Worlds.{World as SourceWorld}
 use Rattle.lsl_world.specs.declared.world.World.{World}
 use Rattle.lsl_world.specs.Sizes.{HasNumber, Size}
-use Rattle.lsl_world.specs.Stands.{IsOf}
+use Rattle.lsl_world.specs.Stands.{IsOf, size_of}
 use Rattle.lsl_world.specs.Programs.{rules_of}
 use Rattle.lsl_world.specs.Steps.{round, round_or_last, turn_in}
-use Rattle.lsl_world.proofs.Counts.{ring_at-keeps, turn-keeps}
 
--- it has so many scripts
-pub record Counted (programs : List Program) (world : World) (count : ℕ) (w : SourceWorld) : Type 0 where
-  pub is : IsOf programs world w
-  pub count_is : length w.members ≡ count
-
--- and so many segments are left
-pub record Left (programs : List Program) (world : World) (count left : ℕ) (x : SourceWorld × ℕ) : Type 0 where
-  pub counted : Counted programs world count x.0
+-- so many segments are left
+pub record Left (programs : List Program) (world : World) (left : ℕ) (x : SourceWorld × ℕ) : Type 0 where
+  pub is : IsOf programs world x.0
   pub left_is : left ≡ x.1
 
 pub members-are : (programs : List Program) (world : World) (w : SourceWorld) → IsOf programs world w
@@ -32,36 +26,28 @@ members-are programs world w is = stands-length world.units None world.clock wor
 back : (place : ℕ) → (place + 1) - 1 ≡ place
 back place = omega arith
 
-pub numbered : (programs : List Program) (world : World) (count place : ℕ) (w : SourceWorld)
-    → Counted programs world count w → place < count → HasNumber (length world.grid.seats) (place + 1)
-numbered programs world count place w c h =
-    let e = members-are programs world w c.is in
-    let k = c.count_is in
-    (omega arith, omega (arith, e, k, h))
+-- the scripts are as many as at first
+pub numbered : (world old : World) (count place : ℕ) → size_of world ≡ size_of old → count ≡ length old.grid.seats
+    → place < count → HasNumber (length world.grid.seats) (place + 1)
+numbered world old count place e k h =
+    let scripts = ap (λ (s : Size). s.scripts) e in
+    (omega arith, omega (arith, scripts, k, h))
 
-module _ (programs : List Program) (world new : World) (count place : ℕ) (old now : List Entry) (w : SourceWorld)
-    (c : Counted programs world count w) where
+module _ (programs : List Program) (new : World) (place : ℕ) (old now : List Entry) (w : SourceWorld) where
   pub ring-on : IsOf programs new (ring_at (rules_of programs) ((place + 1) - 1) w).value
       × (now ≡ old ++ (ring_at (rules_of programs) ((place + 1) - 1) w).entries)
-      → Counted programs new count (ring_at (rules_of programs) place w).value
+      → IsOf programs new (ring_at (rules_of programs) place w).value
       × (now ≡ old ++ (ring_at (rules_of programs) place w).entries)
-  ring-on told =
-      let d = subst (λ (n : ℕ). IsOf programs new (ring_at (rules_of programs) n w).value
-      × (now ≡ old ++ (ring_at (rules_of programs) n w).entries)) (back place) told in (
-        record {
-          is = d.0;
-          count_is = ap (λ (s : Size). s.scripts) (ring_at-keeps (rules_of programs) place w) ∙ c.count_is;
-        },
-        d.1,
-      )
+  ring-on told = subst (λ (n : ℕ). IsOf programs new (ring_at (rules_of programs) n w).value
+      × (now ≡ old ++ (ring_at (rules_of programs) n w).entries)) (back place) told
 
   pub ring-part : Part old now (ring_at (rules_of programs) ((place + 1) - 1) w).entries
       → Part old now (ring_at (rules_of programs) place w).entries
   ring-part p = subst (λ (n : ℕ). Part old now (ring_at (rules_of programs) n w).entries) (back place) p
 
 -- a turn of at most 8 segments
-module _ (programs : List Program) (world new : World) (count place left most spent : ℕ) (old now : List Entry)
-    (x : SourceWorld × ℕ) (c : Left programs world count left x) (few : most ≡ min 8 left) where
+module _ (programs : List Program) (world new : World) (place left most spent : ℕ) (old now : List Entry)
+    (x : SourceWorld × ℕ) (c : Left programs world left x) (few : most ≡ min 8 left) where
   pub at-most : most ≡ min 8 x.1
   at-most = few ∙ ap (λ (n : ℕ). min 8 n) c.left_is
 
@@ -71,17 +57,13 @@ module _ (programs : List Program) (world new : World) (count place left most sp
       × (now ≡ old ++ (turn (rules_of programs) n k x.0).entries)
 
   pub turn-on : first most ((place + 1) - 1)
-      → Left programs new count (left - spent) (turn_in (rules_of programs) place x).value
+      → Left programs new (left - spent) (turn_in (rules_of programs) place x).value
       × (now ≡ old ++ (turn_in (rules_of programs) place x).entries)
   turn-on told =
       let a = subst (λ (k : ℕ). first most k) (back place) told in
       let d = subst (λ (n : ℕ). first n place) at-most a in (
         record {
-          counted = record {
-            is = d.0.0;
-            count_is = ap (λ (s : Size). s.scripts) (turn-keeps (rules_of programs) (min 8 x.1) place x.0)
-                ∙ c.counted.count_is;
-          };
+          is = d.0.0;
           left_is = ap (λ (n : ℕ). n - spent) c.left_is ∙ ap (λ (n : ℕ). x.1 - n) d.0.1;
         },
         d.1,

@@ -5,6 +5,7 @@ pub mod Reports
 pub mod Sizes
 pub mod Ranges
 pub mod Codes
+pub mod Sound
 pub mod Stands
 pub mod Seats
 pub mod Laws

@@ -1,6 +1,6 @@
 //! Rounds over all scripts: of timers, and of turns.
 
-ghost use Rattle.std.specs.Prelude.{◌≡◌, ◌<◌, ◌≤◌, ◌-◌, ℕ, List, length, IfOk};
+ghost use Rattle.std.specs.Prelude.{◌≡◌, ◌<◌, ◌≤◌, ◌-◌, ℕ, List, length, IfOk, OnOk};
 ghost use Rattle.lsl_post.specs.Journal.{Tells};
 ghost use Rattle.lsl_tree.specs.Program.{Program};
 ghost use Rattle.lsl_region.specs.Posting.{ring_all, ring_at};
@@ -8,7 +8,8 @@ ghost use Rattle.lsl_region.specs.Segments.{turn};
 ghost use Rattle.lsl_region.specs.Worlds.{World as SourceWorld};
 ghost use Rattle.lsl_world.specs.Programs.{rules_of};
 ghost use Rattle.lsl_world.specs.Sizes.{HasNumber};
-ghost use Rattle.lsl_world.specs.Stands.{IsOf};
+ghost use Rattle.lsl_world.specs.Sound.{IsSound};
+ghost use Rattle.lsl_world.specs.Stands.{IsOf, size_of};
 ghost use Rattle.lsl_world.specs.Steps.{round, rounds};
 
 use crate::world::World;
@@ -21,9 +22,11 @@ const MOST_IN_TURN: u32 = 8;
 impl World {
     /// Reads all timers.
     pub(crate) fn read_timers(&mut self, out: &mut Entries) -> Result<(), NoMemory>
-        requires some { (programs : List Program) × (w : SourceWorld) × IsOf programs self.old w }
-        ensures { (programs : List Program) (w : SourceWorld) → IsOf programs self.old w
+        requires sound { IsSound self.old }
+        ensures tells { (programs : List Program) (w : SourceWorld) → IsOf programs self.old w
             → Tells result (λ v _. IsOf programs self.new v) out.old out.new (ring_all (rules_of programs) w) }
+        ensures size { size_of self.new ≡ size_of self.old }
+        ensures sound { OnOk result (IsSound self.new) }
     {
         for place in 0..self.grid.scripts() {
             self.read_timer(place as u32 + 1, out)?;
@@ -33,11 +36,13 @@ impl World {
 
     // Reads the timer of the script of this number.
     fn read_timer(&mut self, script: u32, out: &mut Entries) -> Result<(), NoMemory>
-        requires some { (programs : List Program) × (w : SourceWorld) × IsOf programs self.old w }
+        requires sound { IsSound self.old }
         requires script { HasNumber (length self.old.grid.seats) script }
-        ensures { (programs : List Program) (w : SourceWorld) → IsOf programs self.old w
+        ensures tells { (programs : List Program) (w : SourceWorld) → IsOf programs self.old w
             → Tells result (λ v _. IsOf programs self.new v) out.old out.new
             (ring_at (rules_of programs) (script - 1) w) }
+        ensures size { size_of self.new ≡ size_of self.old }
+        ensures sound { OnOk result (IsSound self.new) }
     {
         self.grid.read_timer(script, self.clock, &self.units, out)
     }
@@ -46,9 +51,11 @@ impl World {
     /// look at every script, as long as segments are left, and one saving of each that ran; with one script, which has
     /// one turn, one saving in all.
     pub(crate) fn run(&mut self, most: u32, out: &mut Entries) -> Result<(), NoMemory>
-        requires some { (programs : List Program) × (w : SourceWorld) × IsOf programs self.old w }
-        ensures { (programs : List Program) (w : SourceWorld) → IsOf programs self.old w
+        requires sound { IsSound self.old }
+        ensures tells { (programs : List Program) (w : SourceWorld) → IsOf programs self.old w
             → Tells result (λ v _. IsOf programs self.new v) out.old out.new (rounds (rules_of programs) most w) }
+        ensures size { size_of self.new ≡ size_of self.old }
+        ensures sound { OnOk result (IsSound self.new) }
     {
         if self.grid.scripts() == 1 {
             self.go(1, most, out)
@@ -59,9 +66,11 @@ impl World {
 
     // The same however many scripts there are.
     fn rounds(&mut self, most: u32, out: &mut Entries) -> Result<(), NoMemory>
-        requires some { (programs : List Program) × (w : SourceWorld) × IsOf programs self.old w }
-        ensures { (programs : List Program) (w : SourceWorld) → IsOf programs self.old w
+        requires sound { IsSound self.old }
+        ensures tells { (programs : List Program) (w : SourceWorld) → IsOf programs self.old w
             → Tells result (λ v _. IsOf programs self.new v) out.old out.new (rounds (rules_of programs) most w) }
+        ensures size { size_of self.new ≡ size_of self.old }
+        ensures sound { OnOk result (IsSound self.new) }
     {
         let mut left = most;
         for _ in 0..most {
@@ -76,10 +85,12 @@ impl World {
 
     // A turn for each script, in order, and how many segments are left then.
     fn round(&mut self, left: u32, out: &mut Entries) -> Result<u32, NoMemory>
-        requires some { (programs : List Program) × (w : SourceWorld) × IsOf programs self.old w }
-        ensures { (programs : List Program) (w : SourceWorld) → IsOf programs self.old w
+        requires sound { IsSound self.old }
+        ensures tells { (programs : List Program) (w : SourceWorld) → IsOf programs self.old w
             → Tells result (λ x n. IsOf programs self.new x.0 × (n ≡ x.1)) out.old out.new
             (round (rules_of programs) (w, left)) }
+        ensures size { size_of self.new ≡ size_of self.old }
+        ensures sound { OnOk result (IsSound self.new) }
     {
         let mut spare = left;
         for place in 0..self.grid.scripts() {
@@ -97,12 +108,14 @@ impl World {
         most: u32,
         out: &mut Entries,
     ) -> Result<u32, NoMemory>
-        requires some { (programs : List Program) × (w : SourceWorld) × IsOf programs self.old w }
+        requires sound { IsSound self.old }
         requires script { HasNumber (length self.old.grid.seats) script }
         ensures tells { (programs : List Program) (w : SourceWorld) → IsOf programs self.old w
             → Tells result (λ x n. IsOf programs self.new x.0 × (n ≡ x.1)) out.old out.new
             (turn (rules_of programs) most (script - 1) w) }
         ensures within { IfOk result (λ n. n ≤ most) }
+        ensures size { size_of self.new ≡ size_of self.old }
+        ensures sound { OnOk result (IsSound self.new) }
     {
         if most == 0 {
             return Ok(0);

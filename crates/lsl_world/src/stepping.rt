@@ -1,6 +1,6 @@
 //! A case for each step.
 
-ghost use Rattle.std.specs.Prelude.{◌≡◌, ◌<◌, ◌≤◌, ◌-◌, ℕ, List, length, max, IfOk};
+ghost use Rattle.std.specs.Prelude.{◌≡◌, ◌<◌, ◌≤◌, ◌-◌, ℕ, List, length, max, OnOk};
 ghost use Rattle.lsl_post.specs.Journal.{Tells};
 ghost use Rattle.lsl_post.specs.Timing.{latest_clock};
 ghost use Rattle.lsl_tree.specs.Program.{Program};
@@ -10,6 +10,7 @@ ghost use Rattle.lsl_region.specs.Segments.{turn};
 ghost use Rattle.lsl_region.specs.Worlds.{World as SourceWorld};
 ghost use Rattle.lsl_world.specs.Programs.{rules_of};
 ghost use Rattle.lsl_world.specs.Sizes.{HasNumber, IsStepOf};
+ghost use Rattle.lsl_world.specs.Sound.{IsSound};
 ghost use Rattle.lsl_world.specs.Stands.{IsOf, size_of};
 ghost use Rattle.lsl_world.specs.Steps.{next};
 
@@ -22,10 +23,12 @@ use lsl_value::{EventId, Text};
 impl World {
     // Does a step.
     pub(crate) fn follow(&mut self, step: &Step, out: &mut Entries) -> Result<(), NoMemory>
-        requires some { (programs : List Program) × (w : SourceWorld) × IsOf programs self.old w }
+        requires sound { IsSound self.old }
         requires step { IsStepOf (size_of self.old) step.now }
-        ensures { (programs : List Program) (w : SourceWorld) → IsOf programs self.old w
+        ensures tells { (programs : List Program) (w : SourceWorld) → IsOf programs self.old w
             → Tells result (λ v _. IsOf programs self.new v) out.old out.new (next (rules_of programs) step.now w) }
+        ensures size { size_of self.new ≡ size_of self.old }
+        ensures sound { OnOk result (IsSound self.new) }
     {
         match step {
             Step::Clock(time) => self.read_clock(*time, out),
@@ -48,10 +51,12 @@ impl World {
         text: &Text,
         out: &mut Entries,
     ) -> Result<(), NoMemory>
-        requires some { (programs : List Program) × (w : SourceWorld) × IsOf programs self.old w }
-        ensures { (programs : List Program) (w : SourceWorld) → IsOf programs self.old w
+        requires sound { IsSound self.old }
+        ensures tells { (programs : List Program) (w : SourceWorld) → IsOf programs self.old w
             → Tells result (λ v _. IsOf programs self.new v) out.old out.new
             (say (rules_of programs) channel name.now key.now text.now w) }
+        ensures size { size_of self.new ≡ size_of self.old }
+        ensures sound { OnOk result (IsSound self.new) }
     {
         self.grid.say(channel, name, key, text, &self.units, out)
     }
@@ -65,22 +70,26 @@ impl World {
         name: &Text,
         out: &mut Entries,
     ) -> Result<(), NoMemory>
-        requires some { (programs : List Program) × (w : SourceWorld) × IsOf programs self.old w }
+        requires sound { IsSound self.old }
         requires object { HasNumber (length self.old.grid.objects) object }
-        ensures { (programs : List Program) (w : SourceWorld) → IsOf programs self.old w
+        ensures tells { (programs : List Program) (w : SourceWorld) → IsOf programs self.old w
             → Tells result (λ v _. IsOf programs self.new v) out.old out.new
             (touch (rules_of programs) (object - 1) link key.now name.now w) }
+        ensures size { size_of self.new ≡ size_of self.old }
+        ensures sound { OnOk result (IsSound self.new) }
     {
         self.grid.touch(object, link, key, name, &self.units, out)
     }
 
     // Something of an object changed.
     fn change(&mut self, object: u32, flags: i32, out: &mut Entries) -> Result<(), NoMemory>
-        requires some { (programs : List Program) × (w : SourceWorld) × IsOf programs self.old w }
+        requires sound { IsSound self.old }
         requires object { HasNumber (length self.old.grid.objects) object }
-        ensures { (programs : List Program) (w : SourceWorld) → IsOf programs self.old w
+        ensures tells { (programs : List Program) (w : SourceWorld) → IsOf programs self.old w
             → Tells result (λ v _. IsOf programs self.new v) out.old out.new
             (post_object (rules_of programs) (object - 1) (changed_event flags) w) }
+        ensures size { size_of self.new ≡ size_of self.old }
+        ensures sound { OnOk result (IsSound self.new) }
     {
         self.grid
             .post(object, EventId::Changed, flags, &self.units, out)
@@ -88,21 +97,25 @@ impl World {
 
     // An object is rezzed.
     fn rez(&mut self, object: u32, n: i32, out: &mut Entries) -> Result<(), NoMemory>
-        requires some { (programs : List Program) × (w : SourceWorld) × IsOf programs self.old w }
+        requires sound { IsSound self.old }
         requires object { HasNumber (length self.old.grid.objects) object }
-        ensures { (programs : List Program) (w : SourceWorld) → IsOf programs self.old w
+        ensures tells { (programs : List Program) (w : SourceWorld) → IsOf programs self.old w
             → Tells result (λ v _. IsOf programs self.new v) out.old out.new
             (post_object (rules_of programs) (object - 1) (rez_event n) w) }
+        ensures size { size_of self.new ≡ size_of self.old }
+        ensures sound { OnOk result (IsSound self.new) }
     {
         self.grid.post(object, EventId::OnRez, n, &self.units, out)
     }
 
     // The clock goes on, if it is to, and all timers are read.
     fn read_clock(&mut self, time: u64, out: &mut Entries) -> Result<(), NoMemory>
-        requires some { (programs : List Program) × (w : SourceWorld) × IsOf programs self.old w }
+        requires sound { IsSound self.old }
         requires time { time ≤ latest_clock }
-        ensures { (programs : List Program) (w : SourceWorld) → IsOf programs self.old w
+        ensures tells { (programs : List Program) (w : SourceWorld) → IsOf programs self.old w
             → Tells result (λ v _. IsOf programs self.new v) out.old out.new (read_clock (rules_of programs) time w) }
+        ensures size { size_of self.new ≡ size_of self.old }
+        ensures sound { OnOk result (IsSound self.new) }
     {
         self.clock = self.clock.max(time);
         self.read_timers(out)
@@ -110,11 +123,13 @@ impl World {
 
     /// Segments of a script, at most so many.
     pub(crate) fn go(&mut self, script: u32, most: u32, out: &mut Entries) -> Result<(), NoMemory>
-        requires some { (programs : List Program) × (w : SourceWorld) × IsOf programs self.old w }
+        requires sound { IsSound self.old }
         requires script { HasNumber (length self.old.grid.seats) script }
-        ensures { (programs : List Program) (w : SourceWorld) → IsOf programs self.old w
+        ensures tells { (programs : List Program) (w : SourceWorld) → IsOf programs self.old w
             → Tells result (λ v _. IsOf programs self.new v) out.old out.new
             (next (rules_of programs) (steps.Go script most) w) }
+        ensures size { size_of self.new ≡ size_of self.old }
+        ensures sound { OnOk result (IsSound self.new) }
     {
         self.turn(script, most, out)?;
         Ok(())

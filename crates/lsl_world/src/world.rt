@@ -9,6 +9,7 @@ ghost use Rattle.lsl_world.specs.Programs.{rules_of};
 ghost use Rattle.lsl_world.specs.Ranges.{IsInRange};
 ghost use Rattle.lsl_world.specs.Reports.{homes};
 ghost use Rattle.lsl_world.specs.Sizes.{IsStepOf, size_of_file};
+ghost use Rattle.lsl_world.specs.Sound.{IsSound};
 ghost use Rattle.lsl_world.specs.Stands.{IsOf, size_of};
 ghost use Rattle.lsl_world.specs.Starts.{start};
 ghost use Rattle.lsl_world.specs.Steps.{next};
@@ -38,6 +39,7 @@ impl World {
         ensures of { (programs : List Program) → AreRunBy programs units
             → IfOk result (λ world. IsOf programs world (start (rules_of programs) file.now)) }
         ensures size { IfOk result (λ world. size_of world ≡ size_of_file file.now) }
+        ensures sound { IfOk result IsSound }
     {
         let grid = grid_of(alloc, file.objects.as_slice(), &units)?;
         Ok(World {
@@ -49,11 +51,12 @@ impl World {
 
     /// Does a step, and adds what happened. After want of memory a part of it was added, and the world is given up.
     pub fn step(&mut self, step: &Step, out: &mut Entries) -> Result<(), NoMemory>
-        requires some { (programs : List Program) × (w : SourceWorld) × IsOf programs self.old w }
+        requires sound { IsSound self.old }
         requires step { IsStepOf (size_of self.old) step.now }
         ensures tells { (programs : List Program) (w : SourceWorld) → IsOf programs self.old w
             → Tells result (λ v _. IsOf programs self.new v) out.old out.new (next (rules_of programs) step.now w) }
         ensures size { OnOk result (size_of self.new ≡ size_of self.old) }
+        ensures sound { OnOk result (IsSound self.new) }
     {
         self.follow(step, out)
     }

@@ -5,12 +5,12 @@ use Rattle.lsl_post.specs.Journal.{Tells}
 use Rattle.lsl_region.specs.Arrivals.{post_object, rez_event}
 use Rattle.lsl_region.specs.Grids.{Stands}
 use Rattle.lsl_world.specs.Programs.{rules_of}
-use Rattle.lsl_world.proofs.Kept.{changed}
+use Rattle.lsl_world.proofs.Kept.{changed, size-kept, sound-kept}
 use Rattle.lsl_world.proofs.Meanings.{meant}
 use Rattle.lsl_world.proofs.world.World.rez.Goals as goal
 
-pub returns : goal.returns
-returns c = λ programs w is.
+pub returns-clause-tells : goal.returns-clause-tells
+returns-clause-tells c = λ programs w is.
     let world = c.args.self.now in
     changed programs world w is c.post.new.self c.args.out.now c.post.new.out c.post.result
     (post_object (rules_of programs) (c.args.object - 1) (rez_event c.args.n) w) c.post.ensures.seated
@@ -18,3 +18,10 @@ returns c = λ programs w is.
     c.args.out.now c.post.new.out (post_object (rules_of programs) (c.args.object - 1) (rez_event n) w))
     (to_z-of_z c.ranges.n)
     (c.post.ensures.rezzed refl (meant programs world.units is.runs) world.clock w is.stands))
+
+pub returns-clause-size : goal.returns-clause-size
+returns-clause-size c = size-kept c.args.self.now c.post.new.self c.post.ensures.outline
+
+pub returns-clause-sound : goal.returns-clause-sound
+returns-clause-sound c =
+    sound-kept c.args.self.now c.post.new.self c.post.result c.requires.sound c.post.ensures.seated

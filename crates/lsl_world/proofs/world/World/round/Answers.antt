@@ -1,4 +1,4 @@
-use Rattle.std.proofs.Common.{◌≡◌, ◌-◌, ◌∙◌, refl, sym, length, arith, min}
+use Rattle.std.proofs.Common.{◌≡◌, ◌-◌, ◌∙◌, refl, length, arith, min}
 use Rattle.std.proofs.lemmas.Result.{MatchResult-from_err}
 use Rattle.lsl_post.proofs.Amid.{walk-start, walk-ok, walk-err, walk-end}
 use Rattle.lsl_world.specs.Programs.{rules_of}
@@ -9,50 +9,43 @@ use Rattle.lsl_world.proofs.world.World.round.Goals as goal
 pub loop-place-init : goal.loop-place-init
 loop-place-init c = record {
   few = c.scripts-place-end.ensures.within;
+  size = refl;
+  sound = c.requires.sound;
   walk = λ programs w is.
       let e : c.scripts-place-end.result ≡ length w.members =
       c.scripts-place-end.ensures.value ∙ members-are programs c.args.self.now w is in
-      walk-start (Left programs c.args.self.now c.scripts-place-end.result c.args.left) (w, c.args.left)
-      c.args.out.now (turn_in (rules_of programs)) (length w.members) c.scripts-place-end.result
-      (record { counted = record { is = is; count_is = sym e }; left_is = refl }) e;
+      walk-start (Left programs c.args.self.now c.args.left) (w, c.args.left) c.args.out.now
+      (turn_in (rules_of programs)) (length w.members) c.scripts-place-end.result
+      (record { is = is; left_is = refl }) e;
 }
-
-pub turn-requires-clause-some : goal.turn-requires-clause-some
-turn-requires-clause-some c =
-    let some = c.requires.some in
-    let t = c.loop-place.invariant.walk some.0 some.1 some.2 in
-    (some.0, t.amid.value.0, t.amid.rel.counted.is)
 
 pub turn-requires-clause-script : goal.turn-requires-clause-script
 turn-requires-clause-script c =
-    let some = c.requires.some in
-    let t = c.loop-place.invariant.walk some.0 some.1 some.2 in
-    numbered some.0 c.loop-place.self c.scripts-place-end.result c.loop-place.place t.amid.value.0
-    t.amid.rel.counted c.loop-place-test.true
+    numbered c.loop-place.self c.args.self.now c.scripts-place-end.result c.loop-place.place
+    c.loop-place.invariant.size c.scripts-place-end.ensures.value c.loop-place-test.true
 
-pub returns-in_err-spent : goal.returns-in_err-spent
-returns-in_err-spent c = λ programs w is.
+pub returns-in_err-spent-clause-tells : goal.returns-in_err-spent-clause-tells
+returns-in_err-spent-clause-tells c = λ programs w is.
     let few : c.min.result ≡ min 8 c.loop-place.spare = omega arith in
     MatchResult-from_err c.from_residual.result _ _ c.from_residual.ensures.0
     (λ y. walk-err _ _ _ _ _ _ _ (c.loop-place.invariant.walk programs w is) _ c.loop-place-test.true
-    (λ x r. turn-part programs c.loop-place.self c.turn.new.self c.scripts-place-end.result c.loop-place.place
-    c.loop-place.spare c.min.result 0 c.loop-place.out c.turn.new.out x r few
-    (c.in_err-spent.ensures.tells programs x.0 r.counted.is)))
+    (λ x r. turn-part programs c.loop-place.self c.turn.new.self c.loop-place.place c.loop-place.spare c.min.result 0
+    c.loop-place.out c.turn.new.out x r few (c.in_err-spent.ensures.tells programs x.0 r.is)))
 
 pub loop-place-preserved : goal.loop-place-preserved
 loop-place-preserved c = record {
   few = c.loop-place.invariant.few;
+  size = c.turn.ensures.size ∙ c.loop-place.invariant.size;
+  sound = c.in_ok-spent.ensures.sound;
   walk = λ programs w is.
       let few : c.min.result ≡ min 8 c.loop-place.spare = omega arith in
       walk-ok _ _ _ _ _ _ _ (c.loop-place.invariant.walk programs w is)
-      (λ x. Left programs c.turn.new.self c.scripts-place-end.result (c.loop-place.spare - c.in_ok-spent.spent) x) _
-      c.loop-place-test.true
-      (λ x r. turn-on programs c.loop-place.self c.turn.new.self c.scripts-place-end.result c.loop-place.place
-      c.loop-place.spare c.min.result c.in_ok-spent.spent c.loop-place.out c.turn.new.out x r few
-      (c.in_ok-spent.ensures.tells programs x.0 r.counted.is));
+      (λ x. Left programs c.turn.new.self (c.loop-place.spare - c.in_ok-spent.spent) x) _ c.loop-place-test.true
+      (λ x r. turn-on programs c.loop-place.self c.turn.new.self c.loop-place.place c.loop-place.spare c.min.result
+      c.in_ok-spent.spent c.loop-place.out c.turn.new.out x r few (c.in_ok-spent.ensures.tells programs x.0 r.is));
 }
 
-pub returns : goal.returns
-returns c = λ programs w is.
+pub returns-clause-tells : goal.returns-clause-tells
+returns-clause-tells c = λ programs w is.
     let d = walk-end _ _ _ _ _ _ _ (c.loop-place.invariant.walk programs w is) c.loop-place-test.false in
-    ((d.0.counted.is, d.0.left_is), d.1)
+    ((d.0.is, d.0.left_is), d.1)

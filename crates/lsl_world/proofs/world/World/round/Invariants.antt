@@ -1,9 +1,10 @@
-use Rattle.std.proofs.Common.{◌≤◌, List}
+use Rattle.std.proofs.Common.{◌≡◌, ◌≤◌, List}
 use Rattle.lsl_post.proofs.Amid.{Walk}
 use Rattle.lsl_tree.specs.Program.{Program}
 use Rattle.lsl_region.specs.Worlds.{World as SourceWorld}
 use Rattle.lsl_world.specs.Programs.{rules_of}
-use Rattle.lsl_world.specs.Stands.{IsOf}
+use Rattle.lsl_world.specs.Sound.{IsSound}
+use Rattle.lsl_world.specs.Stands.{IsOf, size_of}
 use Rattle.lsl_world.specs.Steps.{round, turn_in}
 use Rattle.lsl_world.proofs.Walking.{Left}
 use Rattle.lsl_world.proofs.world.World.round.Given as goal
@@ -11,7 +12,9 @@ use Rattle.lsl_world.proofs.world.World.round.Given as goal
 abbrev pub invariant-loop-place : goal.invariant-loop-place
 invariant-loop-place l = record {
   few : l.place-end ≤ 256;
+  size : size_of l.self ≡ size_of l.fn.self;
+  sound : IsSound l.self;
   walk : (programs : List Program) (w : SourceWorld) → IsOf programs l.fn.self w
-      → Walk (Left programs l.self l.place-end l.spare) (round (rules_of programs) (w, l.fn.left)) l.fn.out l.out
+      → Walk (Left programs l.self l.spare) (round (rules_of programs) (w, l.fn.left)) l.fn.out l.out
       (turn_in (rules_of programs)) l.place l.place-end;
 }

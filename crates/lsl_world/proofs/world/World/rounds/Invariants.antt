@@ -1,16 +1,19 @@
-use Rattle.std.proofs.Common.{ℕ, Bool, false, List}
+use Rattle.std.proofs.Common.{◌≡◌, ℕ, Bool, false, List}
 use Rattle.lsl_post.proofs.Amid.{Again}
 use Rattle.lsl_post.specs.Told.{until}
 use Rattle.lsl_tree.specs.Program.{Program}
 use Rattle.lsl_region.specs.Worlds.{World as SourceWorld}
 use Rattle.lsl_world.specs.Programs.{rules_of}
-use Rattle.lsl_world.specs.Stands.{IsOf}
+use Rattle.lsl_world.specs.Sound.{IsSound}
+use Rattle.lsl_world.specs.Stands.{IsOf, size_of}
 use Rattle.lsl_world.specs.Steps.{round_or_last}
 use Rattle.lsl_world.proofs.Walking.{Going}
 use Rattle.lsl_world.proofs.world.World.rounds.Given as goal
 
 abbrev pub invariant-loop : goal.invariant-loop
 invariant-loop l = record {
+  size : size_of l.self ≡ size_of l.fn.self;
+  sound : IsSound l.self;
   again : (programs : List Program) (w : SourceWorld) → IsOf programs l.fn.self w
       → Again (Going programs l.self l.left)
       (until (λ (x : SourceWorld × (ℕ × Bool)). x.1.1) (round_or_last (rules_of programs)) l.most (w, (l.most, false)))

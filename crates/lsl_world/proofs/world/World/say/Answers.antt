@@ -5,12 +5,12 @@ use Rattle.lsl_post.specs.Journal.{Tells}
 use Rattle.lsl_region.specs.Arrivals.{say}
 use Rattle.lsl_region.specs.Grids.{Stands}
 use Rattle.lsl_world.specs.Programs.{rules_of}
-use Rattle.lsl_world.proofs.Kept.{changed}
+use Rattle.lsl_world.proofs.Kept.{changed, size-kept, sound-kept}
 use Rattle.lsl_world.proofs.Meanings.{meant}
 use Rattle.lsl_world.proofs.world.World.say.Goals as goal
 
-pub returns : goal.returns
-returns c = λ programs w is.
+pub returns-clause-tells : goal.returns-clause-tells
+returns-clause-tells c = λ programs w is.
     let world = c.args.self.now in
     changed programs world w is c.say.new.self c.args.out.now c.say.new.out c.say.result
     (say (rules_of programs) c.args.channel c.args.name.now c.args.key.now c.args.text.now w) c.say.ensures.seated
@@ -18,3 +18,10 @@ returns c = λ programs w is.
     c.args.out.now c.say.new.out (say (rules_of programs) n c.args.name.now c.args.key.now c.args.text.now w))
     (to_z-of_z c.ranges.channel)
     (c.say.ensures.does (meant programs world.units is.runs) world.clock w is.stands))
+
+pub returns-clause-size : goal.returns-clause-size
+returns-clause-size c = size-kept c.args.self.now c.say.new.self c.say.ensures.outline
+
+pub returns-clause-sound : goal.returns-clause-sound
+returns-clause-sound c =
+    sound-kept c.args.self.now c.say.new.self c.say.result c.requires.sound c.say.ensures.seated

@@ -27,3 +27,6 @@ returns-clause-size c =
     sized codes c.args.file.now c.in_ok-grid.grid
     (c.in_ok-grid.ensures.objects ∙ ap (map object_of_line) c.as_slice.ensures)
     (c.in_ok-grid.ensures.seats ∙ ap (seats_of_objects codes 0) c.as_slice.ensures)
+
+pub returns-clause-sound : goal.returns-clause-sound
+returns-clause-sound c = record { seated = c.in_ok-grid.ensures.seated; timely = omega arith }

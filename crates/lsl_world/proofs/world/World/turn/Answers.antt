@@ -1,8 +1,7 @@
-use Rattle.std.specs.Prelude.{◌-◌, None}
+use Rattle.std.specs.Prelude.{◌-◌}
 use Rattle.lsl_region.specs.Segments.{turn}
 use Rattle.lsl_world.specs.Programs.{rules_of}
-use Rattle.lsl_region.specs.Grids.{Stands}
-use Rattle.lsl_world.proofs.Kept.{turned, turns-within}
+use Rattle.lsl_world.proofs.Kept.{size-kept, sound-kept, turned}
 use Rattle.lsl_world.proofs.Meanings.{meant}
 use Rattle.lsl_world.proofs.Still.{still, turn-none, turn-waits}
 use Rattle.lsl_world.proofs.world.World.turn.Goals as goal
@@ -14,14 +13,12 @@ returns-clause-tells c = λ programs w is.
     (turn (rules_of programs) c.args.most (c.args.script - 1) w) c.turn.ensures.seated
     (c.turn.ensures.does (meant programs world.units is.runs) w is.stands)
 
-pub returns-clause-within : goal.returns-clause-within
-returns-clause-within c =
-    let world = c.args.self.now in
-    let some = c.requires.some in
-    let m = meant some.0 world.units some.2.runs in
-    turns-within c.turn.result (λ v. Stands world.units None world.clock c.turn.new.self v) m.rules c.args.most
-    (c.args.script - 1) some.1 c.args.out.now c.turn.new.out
-    (c.turn.ensures.does m some.1 some.2.stands)
+pub returns-clause-size : goal.returns-clause-size
+returns-clause-size c = size-kept c.args.self.now c.turn.new.self c.turn.ensures.outline
+
+pub returns-clause-sound : goal.returns-clause-sound
+returns-clause-sound c =
+    sound-kept c.args.self.now c.turn.new.self c.turn.result c.requires.sound c.turn.ensures.seated
 
 pub returns-then-most-eq0-clause-tells : goal.returns-then-most-eq0-clause-tells
 returns-then-most-eq0-clause-tells c = λ programs w is.
