@@ -48,24 +48,9 @@ impl World {
     }
 
     /// Rounds, until one finds no script ready or so many segments have run. Costs the segments, and in each round a
-    /// look at every script, as long as segments are left, and one saving of each that ran; with one script, which has
-    /// one turn, one saving in all.
+    /// look at every script, as long as segments are left, and one saving of each that ran: also where there is one
+    /// script, which then has turn after turn.
     pub(crate) fn run(&mut self, most: u32, out: &mut Entries) -> Result<(), NoMemory>
-        requires sound { IsSound self.old }
-        ensures tells { (programs : List Program) (w : SourceWorld) → IsOf programs self.old w
-            → Tells result (λ v _. IsOf programs self.new v) out.old out.new (rounds (rules_of programs) most w) }
-        ensures size { size_of self.new ≡ size_of self.old }
-        ensures sound { OnOk result (IsSound self.new) }
-    {
-        if self.grid.scripts() == 1 {
-            self.go(1, most, out)
-        } else {
-            self.rounds(most, out)
-        }
-    }
-
-    // The same however many scripts there are.
-    fn rounds(&mut self, most: u32, out: &mut Entries) -> Result<(), NoMemory>
         requires sound { IsSound self.old }
         ensures tells { (programs : List Program) (w : SourceWorld) → IsOf programs self.old w
             → Tells result (λ v _. IsOf programs self.new v) out.old out.new (rounds (rules_of programs) most w) }

@@ -8,7 +8,7 @@ use Rattle.lsl_world.specs.Sound.{IsSound}
 use Rattle.lsl_world.specs.Stands.{IsOf, size_of}
 use Rattle.lsl_world.specs.Steps.{round_or_last}
 use Rattle.lsl_world.proofs.Walking.{Going}
-use Rattle.lsl_world.proofs.world.World.rounds.Given as goal
+use Rattle.lsl_world.proofs.world.World.run.Given as goal
 
 abbrev pub invariant-loop : goal.invariant-loop
 invariant-loop l = record {
