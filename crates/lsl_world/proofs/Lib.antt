@@ -11,5 +11,6 @@ pub mod Walking
 pub mod Spans
 pub mod Still
 pub mod Alone
+pub mod Ending
 pub mod Filling
 pub mod Beginning
