@@ -1,2 +1,3 @@
 pub mod FileHeads
 pub mod Growth
+pub mod LinkStates

@@ -1,6 +1,6 @@
 pub mod Counts
 pub mod Shelf
-pub mod Sink
-pub mod Link
+pub mod Growth
+pub mod Trips
 pub mod Piece
 pub mod Stored

@@ -1,9 +1,10 @@
 -- What the objects in memory are to their callers.
-use Rattle.std.specs.Prelude.{ℕ, ◌+◌, ◌-◌, ◌==◌, Bool, ◌&&◌, ◌||◌, not, List, [], ◌++◌, length, take, option_map, slice_get, slice_index, slice_set, replicate, position, unwrap_or, if◌then◌else◌}
+use Rattle.std.specs.Prelude.{◌∷◌, Option, Some, None, ℕ, ◌+◌, ◌-◌, ◌==◌, Bool, ◌&&◌, ◌||◌, not, List, [], ◌++◌, length, take, option_map, slice_get, slice_index, slice_set, replicate, position, unwrap_or, if◌then◌else◌}
 use Rattle.std.specs.List.{list_any}
 use Rattle.std.specs.Str.{bytes_eq}
 use Rattle.lsl_ports.specs.Counts.{raised}
 use Rattle.lsl_ports.specs.Shelf.{Files}
+use Rattle.lsl_ports.specs.Trips.{Trip}
 
 -- a file in memory
 pub record NamedBytes : Type 0 where
@@ -23,6 +24,14 @@ pub record ShelfState : Type 0 where
 pub record SinkState : Type 0 where
   pub taken : List ℕ
   pub room : ℕ
+  pub failing : List ℕ
+  pub calls : ℕ
+  pub faults : ℕ
+
+-- a link in memory: its trips, the numbers of the calls that fail, how many calls there were, and the count of its
+-- faults
+pub record LinkState : Type 0 where
+  pub trips : List Trip
   pub failing : List ℕ
   pub calls : ℕ
   pub faults : ℕ
@@ -89,4 +98,22 @@ after_write s piece =
       failing = s.failing;
       calls = raised s.calls;
       faults = if refuses s piece then raised s.faults else s.faults;
+    }
+
+-- a link at its start
+abbrev pub new_link : List ℕ → LinkState
+new_link failing = record { trips = []; failing = failing; calls = 0; faults = 0 }
+
+-- what comes back of the next call
+abbrev pub back_of : LinkState → List ℕ → Option (List ℕ)
+back_of s sent = if fails_next s.failing s.calls then None else Some sent
+
+-- the link after a call with these bytes
+abbrev pub after_carry : LinkState → List ℕ → LinkState
+after_carry s sent =
+    record {
+      trips = s.trips ++ record { sent = sent; back = back_of s sent } ∷ [];
+      failing = s.failing;
+      calls = raised s.calls;
+      faults = if fails_next s.failing s.calls then raised s.faults else s.faults;
     }

@@ -1,9 +1,11 @@
 //! A link, which carries bytes to another place and brings bytes back.
-ghost use Rattle.std.specs.Prelude.{◌≡◌, ◌≤◌, ℕ, Option, IfOk, IsErrOf};
+ghost use Rattle.std.specs.Prelude.{◌≡◌, ◌≤◌, ℕ, List, [], ◌∷◌, Option, Some, None, IfOk, IsErrOf};
 ghost use Rattle.lsl_ports.specs.Counts.{Rose};
-ghost use Rattle.lsl_ports.specs.Link.{Carried, Delivers, Loses};
+ghost use Rattle.lsl_ports.specs.Growth.{Grew};
+ghost use Rattle.lsl_ports.specs.Trips.{Trip};
+ghost use Rattle.lsl_ports.specs.declared.carrying.LinkFault.TheVariants.{NoMemory as OutOfMemory};
 
-use std::alloc::Global;
+use std::alloc::{AllocError, Global};
 
 /// Why a link brought nothing back.
 #[derive(Clone, Copy, Debug, PartialEq, Eq)]
@@ -14,18 +16,33 @@ pub enum LinkFault {
     NoMemory,
 }
 
-/// A link takes bytes and gives bytes back. What it was handed and gave is told by all three
-/// lists together, or not at all.
+impl From<AllocError> for LinkFault {
+    ghost from_gives = { λ _ fault. fault ≡ OutOfMemory };
+
+    fn from(_: AllocError) -> LinkFault {
+        LinkFault::NoMemory
+    }
+}
+
+/// A link takes bytes and gives bytes back. It may tell its trips, each with what was sent and what came back,
+/// and counts its faults. What any link of the type may give for what it is sent is known also of one that
+/// tells nothing.
 pub trait Link {
-    ghost carried: { Self → Option Carried };
+    ghost trips: { Self → Option (List Trip) };
 
     ghost faults: { Self → ℕ };
 
+    ghost gives: { List ℕ → Option (List ℕ) → Type 0 };
+
     /// Hands bytes over, and gives those that came back.
     fn carry(&mut self, alloc: Global, sent: &[u8]) -> Result<Vec<u8>, LinkFault>
-        ensures ok { IfOk result (λ back. Delivers (carried self.old) (carried self.new) sent.now back.items) }
-        ensures lost { IsErrOf result LinkFault.Failed → Loses (carried self.old) (carried self.new) sent.now }
-        ensures memory { IsErrOf result LinkFault.NoMemory → carried self.new ≡ carried self.old }
+        ensures ok { IfOk result (λ back. Grew (trips self.old) (trips self.new)
+            (record { sent = sent.now; back = Some back.items } ∷ [])) }
+        ensures lost { IsErrOf result LinkFault.Failed → Grew (trips self.old) (trips self.new)
+            (record { sent = sent.now; back = None } ∷ []) }
+        ensures memory { IsErrOf result LinkFault.NoMemory → trips self.new ≡ trips self.old }
+        ensures given { IfOk result (λ back. gives sent.now (Some back.items)) }
+        ensures none_given { IsErrOf result LinkFault.Failed → gives sent.now None }
         ensures err { IsErrOf result LinkFault.Failed → Rose (faults self.old) (faults self.new) }
         ensures counted { faults self.old ≤ faults self.new };
 }

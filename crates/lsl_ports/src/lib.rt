@@ -3,12 +3,14 @@
 #![tactic(auto)]
 
 mod carrying;
+mod memory_link;
 mod memory_shelf;
 mod memory_sink;
 mod reading;
 mod writing;
 
 pub use carrying::{Link, LinkFault};
+pub use memory_link::{MemoryLink, StoredTrip};
 pub use memory_shelf::{MemoryShelf, StoredFile};
 pub use memory_sink::MemorySink;
 pub use reading::{Shelf, ShelfFault, read_all};

@@ -1,7 +1,7 @@
 //! A sink whose bytes are in memory. It fails at the calls that it is told to.
 ghost use Rattle.std.specs.Prelude.{◌≡◌, ◌<◌, ◌≤◌, ◌↔◌, ℕ, List, Some, length, take, IfOk, IsTrue, OnErr, IsErr};
 ghost use Rattle.lsl_ports.specs.Counts.{Rose, raised};
-ghost use Rattle.lsl_ports.specs.Sink.{Grew};
+ghost use Rattle.lsl_ports.specs.Growth.{Grew};
 ghost use Rattle.lsl_ports.specs.Stored.{SinkState, after_write, fails_next, new_sink, refuses, taken_of};
 
 use crate::{Failed, Sink};

@@ -1,7 +1,7 @@
 //! A sink for bytes, and the writing of many.
 ghost use Rattle.std.specs.Prelude.{◌≡◌, ◌<◌, ◌≤◌, ℕ, List, Option, length, take, IfOk, OnErr, OnOk};
 ghost use Rattle.lsl_ports.specs.Counts.{Rose};
-ghost use Rattle.lsl_ports.specs.Sink.{Grew, GrewByPrefix};
+ghost use Rattle.lsl_ports.specs.Growth.{Grew, GrewPartly};
 
 use crate::Failed;
 
@@ -26,7 +26,7 @@ pub trait Sink {
 /// At `Failed` a prefix was taken.
 pub fn write_all<K: Sink>(sink: &mut K, bytes: &[u8]) -> Result<(), Failed>
     ensures ok { OnOk result (Grew (K.sunk sink.old) (K.sunk sink.new) bytes.now) }
-    ensures part { GrewByPrefix (K.sunk sink.old) (K.sunk sink.new) bytes.now }
+    ensures part { GrewPartly (K.sunk sink.old) (K.sunk sink.new) bytes.now }
     ensures err { OnErr result (Rose (K.faults sink.old) (K.faults sink.new)) }
     ensures counted { K.faults sink.old ≤ K.faults sink.new }
 {

@@ -1,6 +1,6 @@
 use Rattle.std.proofs.Common.{arith, take, drop}
 use Rattle.std.proofs.lemmas.List.{take-append-drop}
-use Rattle.lsl_ports.proofs.Growth.{grew-none, grew-is, grew-then, prefix-grew, grew-same, one_more, still_within}
+use Rattle.lsl_ports.proofs.Growth.{grew-none, grew-is, grew-then, grew-same, one_more, still_within}
 use Rattle.lsl_ports.proofs.writing.write_all.Goals as goal
 
 pub loop-done-init : goal.loop-done-init
@@ -12,12 +12,15 @@ loop-done-init g c = record {
 }
 
 pub returns-in_err-count-clause-part : goal.returns-in_err-count-clause-part
-returns-in_err-count-clause-part g c =
-    prefix-grew (g.K.Sink.sunk c.args.sink.now) _ (take c.loop-done.done c.args.bytes.now)
-    (drop c.loop-done.done c.args.bytes.now) _
-    (grew-same (g.K.Sink.sunk c.args.sink.now) (g.K.Sink.sunk c.loop-done.sink) _
-    (take c.loop-done.done c.args.bytes.now) c.loop-done.invariant.grew c.in_err-count.ensures.unchanged)
-    (take-append-drop c.loop-done.done c.args.bytes.now)
+returns-in_err-count-clause-part g c = record {
+  added = take c.loop-done.done c.args.bytes.now;
+  grew = grew-same (g.K.Sink.sunk c.args.sink.now) (g.K.Sink.sunk c.loop-done.sink) _
+      (take c.loop-done.done c.args.bytes.now) c.loop-done.invariant.grew c.in_err-count.ensures.unchanged;
+  begins = record {
+    others = drop c.loop-done.done c.args.bytes.now;
+    whole = take-append-drop c.loop-done.done c.args.bytes.now;
+  };
+}
 
 pub loop-done-preserved : goal.loop-done-preserved
 loop-done-preserved g c =

@@ -1,5 +1,5 @@
 use Rattle.std.proofs.Common.{◌≤◌, ◌-◌, length, take}
-use Rattle.lsl_ports.specs.Sink.{Grew}
+use Rattle.lsl_ports.specs.Growth.{Grew}
 use Rattle.lsl_ports.proofs.writing.write_all.Given as goal
 
 abbrev pub invariant-loop-done : goal.invariant-loop-done
