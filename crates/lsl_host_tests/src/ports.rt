@@ -1,7 +1,8 @@
 //! Files read, bytes written, and calls that fail.
 
 use lsl_ports::{
-    Failed, MemoryShelf, MemorySink, Shelf, ShelfFault, Sink, StoredFile, read_all, write_all,
+    Failed, Link, LinkFault, MemoryLink, MemoryShelf, MemorySink, Shelf, ShelfFault, Sink,
+    StoredFile, read_all, write_all,
 };
 use std::alloc::{AllocError, Global};
 use std::test::Fail;
@@ -105,5 +106,28 @@ fn every_write_counts(rt: HostRuntime) -> Result<(), Fail> {
     assert_eq!(rt; sink.write(b"i"), Err(Failed));
     assert_eq!(rt; sink.as_bytes(), b"abcde".as_slice());
     assert_eq!(rt; sink.fault_count(), 3);
+    Ok(())
+}
+
+#[test]
+fn a_link_keeps_its_trips(rt: HostRuntime) -> Result<(), Fail> {
+    let alloc = rt.alloc();
+    let mut link = MemoryLink::new(alloc, [2].as_slice().to_vec(alloc)?);
+    let first = link.carry(alloc, b"one")?;
+    assert_eq!(rt; first.as_slice(), b"one".as_slice());
+    assert_eq!(rt; link.carry(alloc, b"two"), Err(LinkFault::Failed));
+    let third = link.carry(alloc, b"three")?;
+    assert_eq!(rt; third.as_slice(), b"three".as_slice());
+    for (trip, sent, back) in [
+        (0, b"one".as_slice(), Some(b"one".as_slice())),
+        (1, b"two".as_slice(), None),
+        (2, b"three".as_slice(), Some(b"three".as_slice())),
+    ] {
+        let kept = &link.trips()[trip];
+        assert_eq!(rt; kept.sent(), sent, "trip {trip}");
+        assert_eq!(rt; kept.back(), back, "trip {trip}");
+    }
+    assert_eq!(rt; link.trips().len(), 3);
+    assert_eq!(rt; link.fault_count(), 1);
     Ok(())
 }
