@@ -1,9 +1,8 @@
 -- What is written for an answer, and how the command then ends.
 use Rattle.std.proofs.Common.{◌≡◌, ℕ, ◌≤◌, List, Option, Result, Ok as OkResult, Err, inl, inr, refl, ◌∙◌, arith}
-use Rattle.std.proofs.lemmas.Bool.{cases_lt}
 use Rattle.lsl_ports.specs.Counts.{NoneFell, Rose}
 use Rattle.lsl_ports.specs.Shelf.{Files}
-use Rattle.lsl_ports.specs.Sink.{Grew}
+use Rattle.lsl_ports.specs.Growth.{Grew}
 use Rattle.lsl_ports.specs.declared.reading.ShelfFault.{ShelfFault}
 use Rattle.lsl_ports.specs.declared.reading.ShelfFault.TheVariants.{Failed, NoMemory as OutOfMemory}
 use Rattle.lsl_top.specs.Answers.{Answer}
@@ -13,6 +12,7 @@ use Rattle.lsl_top.specs.declared.status.Status.{Status}
 use Rattle.lsl_top.specs.declared.status.Status.TheVariants.{Ok, Usage, BadWorld, BadScript, ReadFault, WriteFault, BadImage, NoMemory}
 use Rattle.lsl_top.specs.declared.writing.Trouble.{Trouble}
 use Rattle.lsl_top.specs.declared.writing.Trouble.TheVariants.{WriteFault as WriteTrouble, NoMemory as MemoryTrouble}
+use Rattle.lsl_top.proofs.Written.{rose-later}
 
 -- the statuses that answers have
 abbrev pub IsOwn : Status → Type 0
@@ -154,12 +154,6 @@ module _ (IsAnswer : Answer → Type 0) (IsName : List ℕ → Type 0) (held lat
     reads_counted = fell;
     writes_counted = omega arith;
   }
-
-rose-later : (a b c : ℕ) → a ≤ b → b ≤ c → Rose b c → Rose a c
-rose-later a b c le more rose = λ lt. elim (cases_lt b 18446744073709551615) [
-  | inl below ↦ let k = rose below in omega arith
-  | inr above ↦ omega arith
-]
 
 -- a file was read before, and nothing was written yet
 pub serve-later : (IsOne IsAnswer : Answer → Type 0) (IsOneName IsName : List ℕ → Type 0) (held later : Option Files)

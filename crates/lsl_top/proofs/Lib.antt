@@ -4,7 +4,8 @@ pub mod OneText
 pub mod FilesRead
 pub mod WorldRead
 pub mod OneAnswer
-pub mod Stepping
+pub mod Written
+pub mod Goings
 pub mod Zips
 pub mod Ascii
 pub mod Faults

@@ -3,8 +3,8 @@ use Rattle.std.proofs.Common.{◌≡◌, ◌≢◌, ℕ, List, [], ◌∷◌, Op
 use Rattle.std.specs.List.{AllZip}
 use Rattle.lsl_ports.specs.Counts.{Rose}
 use Rattle.lsl_ports.specs.Shelf.{Files}
-use Rattle.lsl_ports.specs.Sink.{Grew, GrewByPrefix}
-use Rattle.lsl_ports.proofs.Growth.{grew-none, prefix-grew}
+use Rattle.lsl_ports.specs.Growth.{Grew, GrewPartly}
+use Rattle.lsl_ports.proofs.Growth.{begins-none, grew-none, partly-begins}
 use Rattle.lsl_lines.specs.Journal.{lines_of}
 use Rattle.lsl_lines.specs.declared.file.WorldFile.{WorldFile}
 use Rattle.lsl_tree.specs.Program.{Program}
@@ -64,17 +64,17 @@ module _ (files : Files) (command : Command) (answer : Answer) (is : Answers (So
       (sym e ∙ ap (λ (a : Answer). a.status) one, subst (λ (a : Answer). Grew old new a.lines) one grew)
 
   -- a prefix of this answer at least was written, or nothing
-  wrote-part : KeepsTo (Answers (Some files) command) NoMemory old new → GrewByPrefix old new answer.lines
-  wrote-part (inl e) = subst (λ z. GrewByPrefix old z answer.lines) (sym e)
-      (prefix-grew old old [] answer.lines answer.lines (grew-none old) refl)
+  wrote-part : KeepsTo (Answers (Some files) command) NoMemory old new → GrewPartly old new answer.lines
+  wrote-part (inl e) = subst (λ z. GrewPartly old z answer.lines) (sym e)
+      (partly-begins old old [] answer.lines (grew-none old) (begins-none answer.lines))
   wrote-part (inr (other, h, part)) =
-      subst (λ (a : Answer). GrewByPrefix old new a.lines) (answers-one files command other answer h is) part
+      subst (λ (a : Answer). GrewPartly old new a.lines) (answers-one files command other answer h is) part
 
   -- all of this answer was written, or memory lacked
   kept-this : (status : Status) → KeepsTo (Answers (Some files) command) status old new → status ≢ Usage
       → status ≢ ReadFault → status ≢ WriteFault
       → ((status ≡ answer.status) × Grew old new answer.lines)
-      ⊎ ((status ≡ NoMemory) × GrewByPrefix old new answer.lines)
+      ⊎ ((status ≡ NoMemory) × GrewPartly old new answer.lines)
   kept-this Ok k u r w = inl (wrote-this Ok k)
   kept-this BadWorld k u r w = inl (wrote-this BadWorld k)
   kept-this BadScript k u r w = inl (wrote-this BadScript k)
@@ -120,7 +120,7 @@ module _ (held : Option Files) (words : Option Command) (command : Command) (is 
       → Answers (Some files) other answer
       → (NamedRose held words old.read_faults new.read_faults → ⊥) → (Rose old.log.faults new.log.faults → ⊥)
       → ((status ≡ answer.status) × Grew old.log.sunk new.log.sunk answer.lines)
-      ⊎ ((status ≡ NoMemory) × GrewByPrefix old.log.sunk new.log.sunk answer.lines)
+      ⊎ ((status ≡ NoMemory) × GrewPartly old.log.sunk new.log.sunk answer.lines)
   calm files other answer told e answers quiet whole =
       let keeps = subst (λ z. KeepsTo (Answers z command) status old.log.sunk new.log.sunk) told h.keeps in
       kept-this files command answer (subst (λ c. Answers (Some files) c answer) (sym (same other e)) answers)

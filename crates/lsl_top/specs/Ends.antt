@@ -1,7 +1,7 @@
 -- How a command ends, seen from outside: the contract of the top call as one fact, for whoever runs it.
 use Rattle.std.specs.Prelude.{◌≡◌, ◌≤◌, ◌↔◌, ◌⊎◌, ℕ, List, Option, Some, None}
 use Rattle.lsl_ports.specs.Counts.{NoneFell, Rose}
-use Rattle.lsl_ports.specs.Link.{Carried}
+use Rattle.lsl_ports.specs.Trips.{Trip}
 use Rattle.lsl_ports.specs.Shelf.{Files}
 use Rattle.lsl_lines.specs.declared.file.WorldFile.{WorldFile}
 use Rattle.lsl_tree.specs.Program.{Program}
@@ -20,17 +20,17 @@ pub record Outside : Type 0 where
   pub read_faults : List ℕ → ℕ
   pub sunk : Option (List ℕ)
   pub write_faults : ℕ
-  pub carried : Option Carried
+  pub trips : Option (List Trip)
   pub link_faults : ℕ
 
-abbrev pub outside : Option Files → (List ℕ → ℕ) → Option (List ℕ) → ℕ → Option Carried → ℕ → Outside
-outside held read_faults sunk write_faults carried link_faults =
+abbrev pub outside : Option Files → (List ℕ → ℕ) → Option (List ℕ) → ℕ → Option (List Trip) → ℕ → Outside
+outside held read_faults sunk write_faults trips link_faults =
     record {
       held = held;
       read_faults = read_faults;
       sunk = sunk;
       write_faults = write_faults;
-      carried = carried;
+      trips = trips;
       link_faults = link_faults;
     }
 
@@ -51,7 +51,7 @@ pub record Ends (words : Option Command) (old new : Outside) (status : Status) :
   pub headline : (files : Files) (command : Command) (file : WorldFile) (programs : List Program)
       → old.held ≡ Some files → words ≡ Some command → Runs files command file programs → IsCalm words old new
       → WritesJournal file programs status old.sunk new.sunk
-  pub unchanged : (new.held ≡ old.held) × (new.carried ≡ old.carried)
+  pub unchanged : (new.held ≡ old.held) × (new.trips ≡ old.trips)
   pub reads_counted : NoneFell old.read_faults new.read_faults
   pub writes_counted : old.write_faults ≤ new.write_faults
   pub links_counted : new.link_faults ≡ old.link_faults

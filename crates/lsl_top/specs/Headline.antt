@@ -2,7 +2,7 @@
 use Rattle.std.specs.Prelude.{◌≡◌, ℕ, ◌⊎◌, List, [], ◌∷◌, Option, Some}
 use Rattle.std.specs.List.{AllZip}
 use Rattle.lsl_ports.specs.Shelf.{Files}
-use Rattle.lsl_ports.specs.Sink.{Grew, GrewByPrefix}
+use Rattle.lsl_ports.specs.Growth.{Grew, GrewPartly}
 use Rattle.lsl_tree.specs.Program.{Program}
 use Rattle.lsl_build.specs.Accepted.{Accepted}
 use Rattle.lsl_lines.specs.Journal.{lines_of}
@@ -33,4 +33,4 @@ Runs files _ file programs = ⊥
 abbrev pub WritesJournal : WorldFile → List Program → Status → Option (List ℕ) → Option (List ℕ) → Type 0
 WritesJournal file programs status old new =
     ((status ≡ Ok) × Grew old new (lines_of (journal_of programs file)))
-    ⊎ ((status ≡ NoMemory) × GrewByPrefix old new (lines_of (journal_of programs file)))
+    ⊎ ((status ≡ NoMemory) × GrewPartly old new (lines_of (journal_of programs file)))

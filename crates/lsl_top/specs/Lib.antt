@@ -12,3 +12,4 @@ pub mod Ends
 pub mod Laws
 pub mod Meant
 pub mod Ports
+pub mod Goes

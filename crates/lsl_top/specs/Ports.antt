@@ -4,9 +4,7 @@ use Rattle.lsl_ports.specs.Counts.{NoneFell, Rose}
 use Rattle.lsl_ports.specs.Shelf.{Files, IsHead}
 use Rattle.lsl_ports.specs.declared.reading.ShelfFault.{ShelfFault}
 use Rattle.lsl_ports.specs.declared.reading.ShelfFault.TheVariants.{Failed, NoMemory as OutOfMemory}
-use Rattle.lsl_ports.specs.Sink.{Grew, GrewByPrefix}
-use Rattle.lsl_post.specs.Told.{Told}
-use Rattle.lsl_lines.specs.Journal.{lines_of}
+use Rattle.lsl_ports.specs.Growth.{Grew, GrewPartly}
 use Rattle.lsl_top.specs.Answers.{Answer}
 use Rattle.lsl_top.specs.Promise.{KeepsTo}
 use Rattle.lsl_top.specs.declared.status.Status.{Status}
@@ -29,15 +27,9 @@ log sunk faults = record { sunk = sunk; faults = faults }
 -- these lines were written, all of them at Ok and else a prefix; that a write failed comes only where the count rose
 pub record Writes {T : Type 0} (lines : List ℕ) (old new : Log) (result : Result T Trouble) : Type 0 where
   pub ok : OnOk result (Grew old.sunk new.sunk lines)
-  pub part : GrewByPrefix old.sunk new.sunk lines
+  pub part : GrewPartly old.sunk new.sunk lines
   pub counted : old.faults ≤ new.faults
   pub cause : IsErrOf result WriteFault → Rose old.faults new.faults
-
--- so were the lines of what was done, and at Ok its value is what there is now
-pub record WritesTold {T X : Type 0} (IsNow : X → Type 0) (told : Told X) (old new : Log) (result : Result T Trouble)
-    : Type 0 where
-  pub value : OnOk result (IsNow told.value)
-  pub writes : Writes (lines_of told.entries) old new result
 
 -- the status of what was written: its own where all of it was
 abbrev pub status_after : {T : Type 0} → Result T Trouble → Status → Status

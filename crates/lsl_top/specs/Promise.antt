@@ -1,7 +1,7 @@
 -- What the sink has taken at each status.
 use Rattle.std.specs.Prelude.{◌≡◌, ℕ, ◌⊎◌, List, Option, Some, None}
 use Rattle.lsl_ports.specs.Shelf.{Files}
-use Rattle.lsl_ports.specs.Sink.{Grew, GrewByPrefix}
+use Rattle.lsl_ports.specs.Growth.{Grew, GrewPartly}
 use Rattle.lsl_top.specs.Answers.{Answer, Answers}
 use Rattle.lsl_top.specs.Words.{Command}
 use Rattle.lsl_top.specs.declared.status.Status.{Status}
@@ -14,7 +14,7 @@ Wrote IsAnswer status old new =
 
 -- a prefix of an answer was written
 abbrev pub WrotePrefix : (Answer → Type 0) → Option (List ℕ) → Option (List ℕ) → Type 0
-WrotePrefix IsAnswer old new = (answer : Answer) × IsAnswer answer × GrewByPrefix old new answer.lines
+WrotePrefix IsAnswer old new = (answer : Answer) × IsAnswer answer × GrewPartly old new answer.lines
 
 -- a status of an answer's own comes with the whole of it; after a failed write or for want of memory the sink has
 -- taken a prefix

@@ -68,7 +68,7 @@ pub fn lsl<S: Shelf, K: Sink, L: Link>(
         → ¬ NamedRose (S.held shelf.old) (command_of words.now) (S.faults shelf.old) (S.faults shelf.new)
         → ¬ Rose (K.faults sink.old) (K.faults sink.new)
         → WritesJournal file programs result (K.sunk sink.old) (K.sunk sink.new) }
-    ensures unchanged { (S.held shelf.new ≡ S.held shelf.old) × (L.carried link.new ≡ L.carried link.old) }
+    ensures unchanged { (S.held shelf.new ≡ S.held shelf.old) × (L.trips link.new ≡ L.trips link.old) }
     ensures counted { NoneFell (S.faults shelf.old) (S.faults shelf.new)
         × (K.faults sink.old ≤ K.faults sink.new)
         × (L.faults link.new ≡ L.faults link.old) }

@@ -1,5 +1,5 @@
 //! The run of a world, written step by step.
-ghost use Rattle.std.specs.Prelude.{◌≡◌, List, All, length, OnOk};
+ghost use Rattle.std.specs.Prelude.{◌≡◌, List, [], ◌∷◌, All, length, OnOk};
 ghost use Rattle.lsl_lines.specs.Journal.{lines_of};
 ghost use Rattle.lsl_tree.specs.Program.{Program};
 ghost use Rattle.lsl_region.specs.Worlds.{World as SourceWorld};
@@ -9,8 +9,9 @@ ghost use Rattle.lsl_world.specs.Ranges.{IsInRange};
 ghost use Rattle.lsl_world.specs.Reports.{homes, journal_of};
 ghost use Rattle.lsl_world.specs.Sizes.{IsStepOf};
 ghost use Rattle.lsl_world.specs.Stands.{IsOf, size_of};
-ghost use Rattle.lsl_world.specs.Steps.{next, reference};
-ghost use Rattle.lsl_top.specs.Ports.{Writes, WritesTold, log};
+ghost use Rattle.lsl_world.specs.Steps.{next};
+ghost use Rattle.lsl_top.specs.Goes.{Goes};
+ghost use Rattle.lsl_top.specs.Ports.{Writes, log};
 
 use crate::writing::{Trouble, write_entries};
 use lsl_code::Library;
@@ -30,9 +31,9 @@ fn write_step<K: Sink>(
 ) -> Result<(), Trouble>
     requires some { (programs : List Program) × (w : SourceWorld) × IsOf programs world.old w }
     requires step { IsStepOf (size_of world.old) step.now }
-    ensures writes { (programs : List Program) (w : SourceWorld) → IsOf programs world.old w
-        → WritesTold (IsOf programs world.new) (next (rules_of programs) step.now w)
-        (log (K.sunk sink.old) (K.faults sink.old)) (log (K.sunk sink.new) (K.faults sink.new)) result }
+    ensures goes { (programs : List Program) → Goes (next (rules_of programs)) (IsOf programs world.old)
+        (IsOf programs world.new) (step.now ∷ []) (log (K.sunk sink.old) (K.faults sink.old))
+        (log (K.sunk sink.new) (K.faults sink.new)) result }
     ensures size { OnOk result (size_of world.new ≡ size_of world.old) }
 {
     let mut entries = Entries::new(alloc);
@@ -49,9 +50,9 @@ fn write_steps<K: Sink>(
 ) -> Result<(), Trouble>
     requires some { (programs : List Program) × (w : SourceWorld) × IsOf programs world.old w }
     requires steps { All (IsStepOf (size_of world.old)) steps.now }
-    ensures { (programs : List Program) (w : SourceWorld) → IsOf programs world.old w
-        → WritesTold (IsOf programs world.new) (reference (rules_of programs) steps.now w)
-        (log (K.sunk sink.old) (K.faults sink.old)) (log (K.sunk sink.new) (K.faults sink.new)) result }
+    ensures { (programs : List Program) → Goes (next (rules_of programs)) (IsOf programs world.old)
+        (IsOf programs world.new) steps.now (log (K.sunk sink.old) (K.faults sink.old))
+        (log (K.sunk sink.new) (K.faults sink.new)) result }
 {
     let mut lines = Vec::new(alloc);
     for step in steps {
