@@ -1,0 +1,75 @@
+"""Runs the program, and says what it leaves unsaid: which file couldn't be read, and why one was refused."""
+import os
+import stat
+import subprocess
+import sys
+from collections import namedtuple
+
+from . import worlds
+from .places import bytes_of
+
+# A run: its status, standard output and standard error.
+Run = namedtuple("Run", "status output notes")
+SIGNALLED = 128
+
+
+def run(program, words, stdin=None):
+    """A whole run."""
+    ran = subprocess.run([program, *words], stdin=stdin or subprocess.DEVNULL, stdout=subprocess.PIPE, stderr=subprocess.PIPE, check=False)
+    return Run(status_of(ran.returncode), ran.stdout, ran.stderr)
+
+
+def status_of(returned):
+    return returned if returned >= 0 else SIGNALLED - returned
+
+
+def lines_of(output):
+    """The lines of an output that end at a line feed."""
+    return output.decode(errors="surrogateescape").split("\n")[:-1]
+
+
+def is_plain(name):
+    """Whether a file is a regular one, or isn't there: reading any other may wait for ever."""
+    try:
+        return stat.S_ISREG(os.stat(name).st_mode)
+    except OSError:
+        return True
+
+
+def are_plain(name, is_world):
+    """The same of a command's file and of those that it names."""
+    return is_plain(name) and all(is_plain(it.file) for it in worlds.read(world_of(name) if is_world else "").scripts)
+
+
+def unread(name):
+    """Why a file can't be read, in words; nothing where it can."""
+    try:
+        mode = os.stat(name).st_mode
+    except OSError as error:
+        return "isn't there" if isinstance(error, FileNotFoundError) else f"can't be read: {error.strerror}"
+    if stat.S_ISDIR(mode):
+        return "is a folder"
+    if not stat.S_ISREG(mode):
+        return "is no regular file"
+    return None if os.access(name, os.R_OK) else "may not be read"
+
+
+def world_of(name):
+    """The text of a world file; empty where it can't be read."""
+    text = bytes_of(name) if is_plain(name) else None
+    return "" if text is None else text.decode(errors="surrogateescape")
+
+
+def unread_files(name, is_world):
+    """Each file of a command that can't be read: its name, who names it, and why it can't."""
+    said = unread(name)
+    if said:
+        return [f'"{name}" {said}']
+    scripts = worlds.read(world_of(name)).scripts if is_world else []
+    found = [(it, unread(it.file)) for it in scripts]
+    return [f'"{it.file}", which line {it.line} of "{name}" names as script "{it.name}", {why}' for it, why in found if why]
+
+
+def tell_unread(name, is_world):
+    for it in unread_files(name, is_world):
+        print(f"lsl: {it}", file=sys.stderr)

@@ -1,0 +1,287 @@
+"""What helps to mend a script's first fault: signatures, kinds, nearest names, what was expected. A function for each fault."""
+import re
+import unicodedata
+from collections import namedtuple
+
+from . import kinds, syntax, tables, tokens
+
+# The text, its tokens, its lines, its tree or what was unexpected, and the fault's place and token.
+Source = namedtuple("Source", "text tokens lines script unexpected place at")
+OPENING = {"{": "}", "(": ")", "[": "]"}
+WHOLE_SECONDS = ("llSetTimerEvent", "llSleep")
+CASTS = {
+    "integer": "a string or an integer",
+    "string": "any kind",
+    "key": "a string or a key",
+    "list": "any kind",
+}
+
+
+def source_of(text, line, column):
+    """The script with the fault at this place."""
+    cut, lines = tokens.cut(text), tokens.Lines(text)
+    place = lines.place_of(line, column)
+    script = unexpected = None
+    try:
+        script = syntax.read(cut)
+    except syntax.Unexpected as fault:
+        unexpected = fault
+    at = next((number for number, it in enumerate(cut) if it.place >= place), len(cut) - 1)
+    return Source(text, cut, lines, script, unexpected, place, at)
+
+
+def word_at(source):
+    return source.tokens[source.at].text
+
+
+def hint(fault, source):
+    """The hints for a fault, in the order in which they are said."""
+    rule = HINTS.get(fault)
+    if rule is None or (fault >= 20 and source.script is None):
+        return []
+    return [it for it in rule(source) if it]
+
+
+# Lexical faults
+
+
+def number_with_point(source):
+    """What a whole number in its place is."""
+    written = re.match(rb"[0-9]*\.?[0-9]*", source.text[source.place :])[0].decode()
+    try:
+        whole = max(1, int(float(written) + 0.5))
+    except ValueError:
+        return
+    before = [it for it in source.tokens if it.end <= source.place]
+    calls = [it for it in before[-2:] if it.text in WHOLE_SECONDS]
+    yield f"write whole seconds: {whole}" if calls else f"only whole numbers are in the language, as {whole}"
+
+
+def foreign_character(source):
+    """The name of a character that can't be seen, or is no sign of the language."""
+    character = source.text[source.place :].decode(errors="replace")[:1]
+    name = unicodedata.name(character, "a control character")
+    yield f"it is U+{ord(character):04X}, {name}"
+    if character == "\ufeff":
+        yield "save the file without a byte order mark"
+    elif unicodedata.category(character) in ("Zs", "Cf"):
+        yield "write a plain space in its place, or nothing"
+    elif character in "\u201c\u201d\u201e":
+        yield 'write a plain " in its place'
+
+
+# Syntax faults
+
+
+def listed(words):
+    words = list(dict.fromkeys(words))
+    return words[0] if len(words) == 1 else ", ".join(words[:-1]) + " or " + words[-1]
+
+
+def unexpected_token(source):
+    if source.unexpected is None:
+        return
+    yield "expected " + listed(source.unexpected.wanted) if source.unexpected.wanted else None
+    yield missing_sign(source)
+
+
+def missing_sign(source):
+    """The sign that is missing before the unexpected token, where the script goes on behind it."""
+    at = source.unexpected.at
+    if at == 0:
+        return None
+    for sign in (";", ")", "]", "{", "("):
+        token = tokens.Token("sign", sign, 0, 0)
+        try:
+            reached = len(source.tokens)
+            syntax.read([*source.tokens[:at], token, *source.tokens[at:]])
+        except syntax.Unexpected as fault:
+            reached = fault.at
+        if reached > at + 1:
+            before, here = (source.lines.line_of(it) for it in (source.tokens[at - 1].end, source.tokens[at].place))
+            return f"perhaps a `{sign}` is missing " + (f"behind line {before}" if before < here else "before it")
+    return None
+
+
+def text_ended(source):
+    """Where the innermost sign that is still open stands, and which `}` may have closed another block than was meant."""
+    opened = []
+    for token in source.tokens:
+        if token.sort == "sign" and token.text in OPENING:
+            opened.append(token)
+        elif token.sort == "sign" and opened and token.text == OPENING[opened[-1].text]:
+            misplaced = closed_elsewhere(source, opened.pop(), token)
+            if misplaced:
+                yield misplaced
+                return
+    if opened:
+        line = source.lines.line_of(opened[-1].place)
+        yield f"the `{opened[-1].text}` of line {line} isn't closed"
+    elif source.unexpected and source.unexpected.wanted:
+        yield "expected " + listed(source.unexpected.wanted)
+
+
+def indent_of(source, place):
+    start = source.lines.starts[source.lines.line_of(place) - 1]
+    return re.match(rb"[ \t]*", source.text[start:])[0]
+
+
+def closed_elsewhere(source, opening, closing):
+    """Where a `}` begins its line, and stands further left than the line of its `{`."""
+    lines = [source.lines.line_of(it.place) for it in (opening, closing)]
+    begins = source.text[source.lines.starts[lines[1] - 1] : closing.place].strip() == b""
+    if closing.text != "}" or lines[0] == lines[1] or not begins:
+        return None
+    if len(indent_of(source, closing.place)) >= len(indent_of(source, opening.place)):
+        return None
+    return f"perhaps the `{{` of line {lines[0]} isn't closed: the `}}` of line {lines[1]} stands further left"
+
+
+def foreign_type(source):
+    word = word_at(source)
+    yield "only whole numbers are in the language: write integer" if word == "float" else None
+    yield "vectors and rotations aren't in the language" if word != "float" else None
+
+
+# Faults of names and kinds
+
+
+def unknown_name(source):
+    name = word_at(source)
+    sort = tables.known_to_lsl().get(name)
+    if sort and not tables.is_here(name):
+        yield f"LSL has the {sort} {name}, and this language hasn't"
+        return
+    names = {it.text for it in source.tokens if it.sort == "name" and it.text != name}
+    declared = names & {node.text for root in syntax.roots(source.script) for node in syntax.walk(root)}
+    near = tables.nearest(name, {*declared & own_names(source), *tables.calls(), *tables.constants()})
+    yield f"do you mean {near}?" if near else None
+
+
+def own_names(source):
+    """The names that the script declares."""
+    forms = ("global", "function", "state", "parameter", "declare")
+    found = set()
+    for root in syntax.roots(source.script):
+        found.update(it.text for it in syntax.walk(root) if it.form in forms)
+    return found
+
+
+def taken_name(source):
+    name = word_at(source)
+    for sort, table in (("call", tables.calls()), ("event", tables.events()), ("constant", tables.constants())):
+        if name in table:
+            yield f"it is the name of a built-in {sort}"
+            return
+    for root in syntax.roots(source.script):
+        for node in syntax.walk(root):
+            is_earlier = node.text == name and node.at < source.at
+            if is_earlier and node.form in ("global", "function", "state", "handler", "parameter", "declare", "label"):
+                line = source.lines.line_of(source.tokens[node.at].place)
+                yield f"{name} stands in line {line} already"
+                return
+
+
+def wrong_kind(source):
+    for it in kinds.conversions(source.script):
+        if it.value.first == source.at and not kinds.becomes(it.found, it.wanted):
+            wanted = it.wanted or "none, since the function gives nothing"
+            yield f"{it.where} is to be {with_article(wanted)}, and this is {with_article(it.found)}" if it.found else None
+            can_cast = it.found and it.wanted and (it.found, it.wanted) in tables_of_casts()
+            yield f"write ({it.wanted}) before it" if can_cast else None
+            return
+
+
+def with_article(kind):
+    return f"an {kind}" if kind == "integer" else f"a {kind}" if kind in tables.KINDS.values() else kind
+
+
+def tables_of_casts():
+    """The casts that have to be written."""
+    return {("integer", "string"), ("list", "string"), ("string", "integer"), *((it, "list") for it in ("integer", "string", "key"))}
+
+
+def wrong_operands(source):
+    """Both kinds, at the operator's place."""
+    found = []
+
+    def report(node, scope, _):
+        is_operator = node.form in ("binary", "unary", "step", "assign") and node.at == source.at
+        if is_operator:
+            found.append([scope.kind_of(it) or "nothing" for it in node.parts])
+
+    kinds.visit(source.script, report)
+    for operands in found[:1]:
+        yield f"its left side is {with_article(operands[0])} and its right one {with_article(operands[1])}" if operands[1:] else (
+            f"it stands before {with_article(operands[0])}"
+        )
+        if word_at(source) in ("+", "+=") and "string" in operands[:2]:
+            yield f"write (string) before the {'right' if operands[0] == 'string' else 'left'} one"
+
+
+def no_cast(source):
+    kind = source.tokens[source.at + 1].text
+    yield f"a cast to {kind} takes {CASTS[kind]}" if kind in CASTS else None
+
+
+def call_at(source):
+    """What is called at the fault's place, and with how many arguments."""
+    found = []
+
+    def report(node, scope, _):
+        if node.form == "call" and node.at == source.at:
+            found.append((scope.call(node.text), len(node.parts)))
+
+    kinds.visit(source.script, report)
+    return found[0] if found else (None, 0)
+
+
+def wrong_count(source):
+    row, count = call_at(source)
+    if row:
+        yield f"{tables.signature(row)} takes {len(row.params)}, and here {'is' if count == 1 else 'are'} {count}"
+        if count < len(row.params):
+            yield f"argument {count + 1}, {with_article(row.params[count])}, is missing"
+
+
+def no_result(source):
+    row, _ = call_at(source)
+    yield f"{tables.signature(row)} gives no value" if row else None
+
+
+def unknown_label(source):
+    labels = {it.text for root in syntax.roots(source.script) for it in syntax.walk(root) if it.form == "label"}
+    name = word_at(source)
+    near = tables.nearest(name, labels)
+    yield f"`@{name};` stands in no block around" if name in labels else f"do you mean {near}?" if near else None
+
+
+def wrong_event(source):
+    name = word_at(source)
+    event = tables.events().get(name)
+    if event:
+        yield f"its form is {tables.signature(event)}"
+        return
+    if tables.known_to_lsl().get(name) == "event":
+        yield f"LSL has the event {name}, and this language hasn't"
+        return
+    near = tables.nearest(name, tables.events())
+    yield f"do you mean {tables.signature(tables.events()[near])}?" if near else None
+
+
+HINTS = {
+    4: number_with_point,
+    5: foreign_character,
+    10: unexpected_token,
+    11: text_ended,
+    12: foreign_type,
+    20: unknown_name,
+    21: taken_name,
+    22: wrong_kind,
+    23: wrong_operands,
+    24: no_cast,
+    25: wrong_count,
+    29: unknown_label,
+    30: wrong_event,
+    31: no_result,
+}

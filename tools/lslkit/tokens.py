@@ -1,0 +1,44 @@
+"""The tokens of a script's text, each with its place. Places are bytes, as the program counts them."""
+import re
+from bisect import bisect_right
+from collections import namedtuple
+
+# A token: its sort, its text, and the bytes at which it begins and ends.
+Token = namedtuple("Token", "sort text place end")
+WORDS = set("integer string key list float vector rotation quaternion default state if else for do while jump return".split())
+TYPES = ("integer", "string", "key", "list")
+SIGNS = "++ -- += -= *= /= %= == != <= >= << >> && || + - * / % = < > ! ~ & | ^ ( ) [ ] { } , ; @".split()
+SKIPPED = re.compile(rb"(?:[\t-\r ]|//[^\n]*|/\*.*?\*/)*", re.S)
+TOKEN = re.compile(
+    rb'(?P<name>[A-Za-z_]\w*)|(?P<integer>0[xX][0-9A-Fa-f]+|[0-9]+)|(?P<string>"(?:[^"\\]|\\.)*")|(?P<sign>'
+    + b"|".join(re.escape(it.encode()) for it in SIGNS)
+    + rb")",
+    re.S | re.A,
+)
+
+
+def cut(text):
+    """The tokens of a text up to its first lexical fault, and a last one of the sort `end`."""
+    tokens, place = [], 0
+    while True:
+        place = SKIPPED.match(text, place).end()
+        found = TOKEN.match(text, place)
+        if not found:
+            return [*tokens, Token("end", "", place, place)]
+        word = found[0].decode(errors="replace")
+        sort = "word" if word in WORDS else found.lastgroup
+        tokens.append(Token(sort, word, place, found.end()))
+        place = found.end()
+
+
+class Lines:
+    """Lines and columns of a text's bytes, counted from 1."""
+
+    def __init__(self, text):
+        self.starts = [0] + [it.end() for it in re.finditer(rb"\n", text)]
+
+    def line_of(self, place):
+        return bisect_right(self.starts, place)
+
+    def place_of(self, line, column):
+        return self.starts[min(line, len(self.starts)) - 1] + column - 1
