@@ -1,0 +1,102 @@
+"""Shows a journal readably: steps and clock between its lines, names in place of numbers, colours, and a summary."""
+import sys
+from collections import Counter
+
+from . import journal, observing, telling, timeline, worlds
+from .places import write_text
+
+COLOURS = {"step": "1;36", "name": "2", "took": "1", "chat": "32", "owner": "32", "fault": "1;31", "drop": "33", "clear": "35", "done": "2", "home": "2"}
+
+
+class Painter:
+    """Colours on a terminal."""
+
+    def __init__(self, is_coloured):
+        self.is_coloured = is_coloured
+
+    def paint(self, sort, text):
+        return f"\033[{COLOURS[sort]}m{text}\033[0m" if self.is_coloured and sort in COLOURS else text
+
+
+def lines(entries, world, steps, painter, hidden=()):
+    """The readable lines. `steps` has the step's place for each entry, or is none; `hidden` are words that aren't shown."""
+    names = telling.Names(world)
+    clocks = telling.clocks(names.world)
+    width = max([8, *map(len, names.scripts)])
+    shown = 0
+    for place, entry in enumerate(entries):
+        until = min(steps[place] + 1, len(clocks)) if steps else 0
+        for number in range(shown, until):
+            if names.world.steps[number].word not in hidden:
+                yield step_line(names, number, clocks[number], painter)
+        shown = max(shown, until)
+        if entry.word in hidden:
+            continue
+        if entry.word == "home":
+            yield painter.paint("home", names.entry(entry))
+            continue
+        indent = "  " if entry.word in ("took", "drop", "clear") else "    "
+        name = painter.paint("name", f"{names.script(entry.number):>{width}} ")
+        yield name + indent + painter.paint(entry.word, names.entry(entry))
+
+
+def step_line(names, number, clock, painter):
+    step = names.world.steps[number]
+    return painter.paint("step", f"[{telling.seconds(clock)}] {names.step(step)}")
+
+
+def summary(entries, world, painter):
+    """What each script did, as a table; and what went wrong."""
+    names, handlers = telling.Names(world), journal.handlers(entries)
+    counts = Counter((it.word, it.number) for it in entries)
+    charges = {}
+    for it in handlers:
+        charges[it.script] = max(charges.get(it.script, 0), it.charge or 0)
+    scripts = sorted({it.number for it in entries if it.word != "home"} | set(range(1, len(names.scripts) + 1)))
+    width = max([6, *(len(names.script(it)) for it in scripts)])
+    yield f"{'script':<{width}}  events  dropped  said  faults  greatest charge"
+    for it in scripts:
+        said = counts["chat", it] + counts["owner", it]
+        row = f"{names.script(it):<{width}}  {counts['took', it]:>6}  {counts['drop', it]:>7}  {said:>4}  {counts['fault', it]:>6}"
+        charge = f"{charges[it]:,}" if charges.get(it) else "-"
+        yield painter.paint("fault" if counts["fault", it] else "", f"{row}  {charge:>15}")
+    for it in handlers:
+        if it.end is None:
+            yield painter.paint("drop", f"{names.script(it.script)} still stands in {it.event}")
+    said = counts_in_words(len(handlers), "event", "handled"), counts_in_words(sum(it.word == "drop" for it in entries), "event", "dropped")
+    yield f"{said[0]}, {said[1]}, {counts_in_words(sum(it.word == 'fault' for it in entries), 'fault', '')}".rstrip()
+
+
+def counts_in_words(count, noun, more):
+    return f"{count:,} {noun}{'' if count == 1 else 's'} {more}".rstrip()
+
+
+def steps_of(binary, text, entries):
+    """For each entry the place of its step, where the world can be played and gives this journal."""
+    observed = observing.observe(binary, text, entries) if binary and text else None
+    return observed.steps if observed else None
+
+
+def show(binary, text, world_text, html=None, is_shown=True, is_coloured=None, hidden=()):
+    """Prints a journal readably, or writes its page; the status."""
+    try:
+        entries = journal.read(text)
+    except ValueError as error:
+        print(f"show: {error}", file=sys.stderr)
+        return 1
+    world = worlds.read(world_text) if world_text else None
+    steps = steps_of(binary, world_text, entries)
+    if world and world.steps and steps is None:
+        print("show: the steps are left out: the world wasn't played again to this journal", file=sys.stderr)
+    if html:
+        names = [it.prims[0].name for it in world.objects if it.prims[0].name] if world else []
+        write_text(html, timeline.page(entries, world, steps, ", ".join(names[:4]) or "Journal"))
+        print(f"show: {html} is written", file=sys.stderr)
+    if is_shown or not html:
+        painter = Painter(sys.stdout.isatty() if is_coloured is None else is_coloured)
+        for line in lines(entries, world, steps, painter, hidden):
+            print(line)
+        print()
+        for line in summary(entries, world, painter):
+            print(line)
+    return 0

@@ -1,0 +1,116 @@
+"""A journal's lines and a world's steps in plain words, with names in place of numbers and keys."""
+from . import journal, worlds
+from .quoting import quoted
+
+HELD = 60
+
+
+def cut(text):
+    """A text that is shown in a line of its own, or its front."""
+    return text if len(text) <= 4 * HELD else text[: 4 * HELD] + ".."
+
+
+def segments(count):
+    return f"{count} segment" + ("" if count == "1" else "s")
+
+
+def seconds(milliseconds):
+    return f"{milliseconds // 1000}.{milliseconds % 1000:03d}"
+
+
+class Names:
+    """The names of a world's scripts and objects, and of those whose keys come up in it."""
+
+    def __init__(self, world=None):
+        self.world = world or worlds.World([], [], [], [], None)
+        names = [it.name for it in self.world.scripts]
+        self.scripts = [f"{it} ({number})" if names.count(it) > 1 or not it else it for number, it in enumerate(names, 1)]
+        self.keys = {it.key: it.name for object_ in self.world.objects for it in object_.prims if it.name}
+        for step in self.world.steps:
+            if step.word == "say":
+                self.keys.setdefault(step.fields[2].lower(), step.fields[1])
+            elif step.word == "touch":
+                self.keys.setdefault(step.fields[2].lower(), step.fields[3])
+
+    def script(self, number):
+        return self.scripts[number - 1] if 0 < number <= len(self.scripts) else f"script {number}"
+
+    def object_name(self, number):
+        objects = self.world.objects
+        return objects[number - 1].prims[0].name if 0 < number <= len(objects) else f"object {number}"
+
+    def prim_name(self, number, link):
+        objects = self.world.objects
+        prims = objects[number - 1].prims if 0 < number <= len(objects) else []
+        return prims[max(link, 1) - 1].name if link <= len(prims) else f"prim {link}"
+
+    def value(self, text, is_quoted):
+        """A value as it is shown: known keys by their names."""
+        if not is_quoted:
+            return text
+        if worlds.KEY.fullmatch(text) and text.lower() in self.keys:
+            return f"<{self.keys[text.lower()]}>"
+        named = worlds.KEY.sub(lambda it: f"<{self.keys[it[0].lower()]}>" if it[0].lower() in self.keys else it[0], text)
+        return quoted(cut(named))
+
+    def event(self, entry):
+        event, args = journal.event_of(entry)
+        return f"{event}({', '.join(self.value(*it) for it in journal.fields(args))})"
+
+    def entry(self, entry):
+        """A line of the journal, without its script's name."""
+        tell = getattr(self, f"tell_{entry.word}", None)
+        return tell(entry) if tell else f"{entry.word} {entry.rest}"
+
+    def tell_took(self, entry):
+        return self.event(entry)
+
+    def tell_drop(self, entry):
+        return f"loses {self.event(entry)}: 64 events wait"
+
+    def tell_clear(self, entry):
+        return "in a new state, or reset" + ("" if entry.rest == "0" else f"; {entry.rest} waiting events are gone")
+
+    def tell_chat(self, entry):
+        (voice, _), (channel, _), (text, _) = journal.fields(entry.rest)
+        voice = {"say": "says", "whisper": "whispers", "shout": "shouts", "region": "says in the region"}.get(voice, voice)
+        return f"{voice} on {channel}: {self.value(text, True)}"
+
+    def tell_owner(self, entry):
+        return f"to its owner: {self.value(journal.fields(entry.rest)[0][0], True)}"
+
+    def tell_done(self, entry):
+        return f"done, {int(entry.rest):,} bytes"
+
+    def tell_fault(self, entry):
+        return f"stops for good: {journal.fields(entry.rest)[0][0]}"
+
+    def tell_home(self, entry):
+        return f"{self.object_name(entry.number)} is in {journal.fields(entry.rest)[0][0]}"
+
+    def step(self, step):
+        """A step of the world file."""
+        fields = step.fields
+        if step.word == "say":
+            return f"{fields[1] or 'someone'} says on {fields[0]}: {quoted(cut(fields[3]))}"
+        if step.word == "touch":
+            number, link = int(fields[0]), int(fields[1])
+            more = f", prim {link} ({self.prim_name(number, link)})" if link > 1 else ""
+            return f"{fields[3] or 'someone'} touches {self.object_name(number)}{more}"
+        if step.word == "clock":
+            return f"the clock goes to {seconds(int(fields[0]))} s"
+        if step.word in ("changed", "rez", "cross"):
+            return f"{self.object_name(int(fields[0]))}: {step.word} {fields[1]}"
+        if step.word == "go":
+            return f"{self.script(int(fields[0]))} runs, at most {segments(fields[1])}"
+        return f"all run, at most {segments(fields[0])}" if step.word == "run" else " ".join([step.word, *fields])
+
+
+def clocks(world):
+    """The clock behind each step, in milliseconds."""
+    clock, found = 0, []
+    for step in world.steps:
+        if step.word == "clock":
+            clock = max(clock, int(step.fields[0]))
+        found.append(clock)
+    return found
