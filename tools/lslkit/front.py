@@ -1,0 +1,167 @@
+"""The script `lsl`: reads its words, has the program made where need be, runs it, and says what its status leaves unsaid."""
+import errno
+import os
+import subprocess
+import sys
+import tempfile
+
+from . import faults, making, playing, program, showing, standing, worlds
+from .places import write_text
+
+USAGE = """\
+usage: lsl once FILE                runs a script, and prints its journal
+       lsl replay WORLD [--show]    plays a world file, and prints its journal; with --show readably, and with
+                                    --html FILE as a page with a timeline
+       lsl check FILE               says that a script is accepted, or tells its first fault
+       lsl play FILE ..             plays a script without a world file: 'lsl play --help'
+       lsl --try WORDS              the same words, by a program that isn't proved, after a minute at first
+       lsl --help
+
+Write ./-x for a file whose name begins with '-'. The first call proves and builds the program, and says for how
+long: about half an hour on four processors. Later calls start at once, until a source of the program changes.
+'tools/explain FILE' tells a script's first fault in words, as 'lsl check FILE' does on a terminal."""
+COMMANDS = ("once", "replay", "check")
+READ_FAULT = 4
+NOT_MADE = 125
+
+
+class Bad(Exception):
+    """Words that are no command."""
+
+
+class Options:
+    """A command of the program: its word, its file, and how its journal is shown."""
+
+    def __init__(self, words):
+        self.command, self.show, self.html, names = words[0], False, None, []
+        if self.command not in COMMANDS:
+            raise Bad(f"'{self.command}' is no command")
+        rest = iter(words[1:])
+        for word in rest:
+            if word == "--show" and self.command == "replay":
+                self.show = True
+            elif word == "--html" and self.command == "replay":
+                self.html = next(rest, None)
+            elif word.startswith("-"):
+                raise Bad(f"'{word}' is no option of it")
+            else:
+                names.append(word)
+        if len(names) != 1 or (self.html is None and "--html" in words):
+            raise Bad(f"'{self.command}' takes one file")
+        self.name = names[0]
+
+    @property
+    def is_world(self):
+        return self.command == "replay"
+
+
+def main(words):
+    is_tried = words[:1] == ["--try"]
+    words = words[1:] if is_tried else words
+    if words[:1] in (["--help"], ["-h"]):
+        print(USAGE)
+        return 0
+    try:
+        command = playing.Play(words[1:]) if words[:1] == ["play"] else Options(words) if words else None
+    except (Bad, playing.Bad) as error:
+        print(f"lsl: {error}", file=sys.stderr)
+        command = None
+    if command is None:
+        print(USAGE if words[:1] != ["play"] else playing.USAGE, file=sys.stderr)
+        return 1
+    if words[0] == "play" and command.needs_no_program:
+        return command.answer()
+    return with_program(command, is_tried)
+
+
+def with_program(command, is_tried):
+    if isinstance(command, Options) and not program.is_plain(command.name):
+        print(f'lsl: "{command.name}" {program.unread(command.name)} (status 4)', file=sys.stderr)
+        return READ_FAULT
+    binary = making.program(is_tried)
+    if binary is None:
+        more = "" if is_tried else ". 'lsl --try WORDS' runs it unproved"
+        print(f"lsl: there is no new program{more}", file=sys.stderr)
+        return NOT_MADE
+    if is_tried:
+        print("lsl: unproved: compiled without its proofs", file=sys.stderr, flush=True)
+    if isinstance(command, playing.Play):
+        return command.play(binary)
+    return show(binary, command) if command.show or command.html else carry(binary, command)
+
+
+def carry(binary, command):
+    """Runs a command with its journal handed on as it comes, and says at its end what its status leaves unsaid."""
+    follower, first = standing.Follower(), b""
+    with tempfile.TemporaryDirectory(prefix="lsl-") as room, tempfile.TemporaryFile() as notes:
+        words = [command.command, handed_name(command, room)]
+        with subprocess.Popen([binary, *words], stdin=subprocess.DEVNULL, stdout=subprocess.PIPE, stderr=notes) as running:
+            for piece in iter(lambda: os.read(running.stdout.fileno(), 65536), b""):
+                first = (first + piece)[:4096]
+                follower.feed(piece)
+                if not hand_on(as_given(piece, words[1], command.name)):
+                    running.stdout.close()
+                    break
+        notes.seek(0)
+        status, said = program.status_of(running.returncode), as_given(notes.read(), words[1], command.name)
+    tell(command, status, first, said)
+    if status == 0 and follower.running:
+        tell_standing(binary, command, follower)
+    return status
+
+
+def as_given(written, handed, name):
+    """What was written, with the file's name as it was given."""
+    return written if handed == name else written.replace(os.fsencode(handed), os.fsencode(name))
+
+
+def hand_on(piece):
+    """Writes to standard output. Whether it was taken."""
+    try:
+        while piece:
+            piece = piece[os.write(1, piece) :]
+    except OSError as error:
+        if error.errno == errno.EINTR:
+            return hand_on(piece)
+        return False
+    return True
+
+
+def handed_name(command, room):
+    """The file that the program is to read: where a script is no regular file, a world in which it isn't there."""
+    if not command.is_world or program.are_plain(command.name, True):
+        return command.name
+    path = os.path.join(room, "world")
+    text = worlds.with_files(program.world_of(command.name), lambda it: it.file if program.is_plain(it.file) else f"{path}/none")
+    write_text(path, text)
+    return path
+
+
+def tell(command, status, first, notes):
+    """Says on standard error how the run ended; on a terminal a refusal in words."""
+    said = faults.explained(first.decode(errors="surrogateescape").split("\n")[0]) if status in (2, 3) else None
+    if said and sys.stderr.isatty():
+        print(said, file=sys.stderr)
+        return
+    sys.stderr.buffer.write(notes)
+    sys.stderr.flush()
+    if status == READ_FAULT:
+        program.tell_unread(command.name, command.is_world)
+
+
+def tell_standing(binary, command, follower):
+    """Says which scripts still stand in a handler, and in which line."""
+    text = program.world_of(command.name) if command.is_world else standing.world_of_once(command.name)
+    for number, name, event, line in standing.told(binary, text, follower):
+        place = f", line {line}" if line else ""
+        print(f'lsl: script {number} "{name}" stands in {event}{place}', file=sys.stderr)
+
+
+def show(binary, command):
+    """Runs a world, and shows its journal readably or as a page."""
+    ran = program.run(binary, ["replay", command.name])
+    if ran.status:
+        hand_on(ran.output)
+        tell(command, ran.status, ran.output, ran.notes)
+        return ran.status
+    return showing.show(binary, ran.output.decode(errors="surrogateescape"), program.world_of(command.name), command.html, command.show)
