@@ -82,41 +82,55 @@ def unexpected_token(source):
     if source.unexpected is None:
         return
     yield "expected " + listed(source.unexpected.wanted) if source.unexpected.wanted else None
-    yield missing_sign(source)
+    sign, is_all = missing_sign(source)
+    yield sign if is_all else misplaced_brace(source, source.place) or sign
 
 
 def missing_sign(source):
-    """The sign that is missing before the unexpected token, where the script goes on behind it."""
+    """The sign that is missing before the unexpected token, where the script goes on behind it; and whether to its end."""
     at = source.unexpected.at
-    if at == 0:
-        return None
-    for sign in (";", ")", "]", "{", "("):
+    for sign in (";", ")", "]", "{", "(") if at else ():
         token = tokens.Token("sign", sign, 0, 0)
         try:
-            reached = len(source.tokens)
+            reached = len(source.tokens) + 1
             syntax.read([*source.tokens[:at], token, *source.tokens[at:]])
         except syntax.Unexpected as fault:
             reached = fault.at
         if reached > at + 1:
             before, here = (source.lines.line_of(it) for it in (source.tokens[at - 1].end, source.tokens[at].place))
-            return f"perhaps a `{sign}` is missing " + (f"behind line {before}" if before < here else "before it")
+            where = f"behind line {before}" if before < here else "before it"
+            return f"perhaps a `{sign}` is missing {where}", reached > len(source.tokens)
+    return None, False
+
+
+def misplaced_brace(source, until):
+    """Which `}` may have closed another block than was meant: it stands further left than the line of its `{`."""
+    for opening, closing in pairs(source):
+        lines = [source.lines.line_of(it.place) for it in (opening, closing)]
+        begins = source.text[source.lines.starts[lines[1] - 1] : closing.place].strip() == b""
+        is_left = len(indent_of(source, closing.place)) < len(indent_of(source, opening.place))
+        if closing.text == "}" and closing.place < until and lines[0] < lines[1] and begins and is_left:
+            return f"perhaps the `{{` of line {lines[0]} isn't closed: the `}}` of line {lines[1]} stands further left"
     return None
 
 
-def text_ended(source):
-    """Where the innermost sign that is still open stands, and which `}` may have closed another block than was meant."""
+def pairs(source):
+    """The opening and closing signs that belong together, in the order of the closing ones."""
     opened = []
     for token in source.tokens:
         if token.sort == "sign" and token.text in OPENING:
             opened.append(token)
         elif token.sort == "sign" and opened and token.text == OPENING[opened[-1].text]:
-            misplaced = closed_elsewhere(source, opened.pop(), token)
-            if misplaced:
-                yield misplaced
-                return
+            yield opened.pop(), token
+
+
+def text_ended(source):
+    """Where the innermost sign that is still open stands."""
+    closed = {opening for opening, _ in pairs(source)}
+    opened = [it for it in source.tokens if it.sort == "sign" and it.text in OPENING and it not in closed]
     if opened:
         line = source.lines.line_of(opened[-1].place)
-        yield f"the `{opened[-1].text}` of line {line} isn't closed"
+        yield misplaced_brace(source, source.place) or f"the `{opened[-1].text}` of line {line} isn't closed"
     elif source.unexpected and source.unexpected.wanted:
         yield "expected " + listed(source.unexpected.wanted)
 
@@ -124,17 +138,6 @@ def text_ended(source):
 def indent_of(source, place):
     start = source.lines.starts[source.lines.line_of(place) - 1]
     return re.match(rb"[ \t]*", source.text[start:])[0]
-
-
-def closed_elsewhere(source, opening, closing):
-    """Where a `}` begins its line, and stands further left than the line of its `{`."""
-    lines = [source.lines.line_of(it.place) for it in (opening, closing)]
-    begins = source.text[source.lines.starts[lines[1] - 1] : closing.place].strip() == b""
-    if closing.text != "}" or lines[0] == lines[1] or not begins:
-        return None
-    if len(indent_of(source, closing.place)) >= len(indent_of(source, opening.place)):
-        return None
-    return f"perhaps the `{{` of line {lines[0]} isn't closed: the `}}` of line {lines[1]} stands further left"
 
 
 def foreign_type(source):
@@ -249,6 +252,30 @@ def no_result(source):
     yield f"{tables.signature(row)} gives no value" if row else None
 
 
+def no_variable(source):
+    """Why a name can't be assigned or stepped."""
+    name = word_at(source)
+    if name in tables.constants():
+        yield f"{name} is a constant"
+        return
+    found = []
+
+    def report(node, scope, _):
+        if node.form == "step" and source.at in (node.at, node.first, node.parts[0].first):
+            found.append(scope.kind_of_name(name))
+
+    kinds.visit(source.script, report)
+    yield f"{name} is {with_article(found[0])}" if found and found[0] else None
+
+
+def no_constant(_):
+    yield "a global's value is a number, a text, a list of these, a constant or an earlier global"
+
+
+def state_in_function(_):
+    yield "only a handler changes the state: let the function return a number, and test it in the handler"
+
+
 def unknown_label(source):
     labels = {it.text for root in syntax.roots(source.script) for it in syntax.walk(root) if it.form == "label"}
     name = word_at(source)
@@ -281,6 +308,9 @@ HINTS = {
     23: wrong_operands,
     24: no_cast,
     25: wrong_count,
+    26: no_variable,
+    27: no_constant,
+    28: state_in_function,
     29: unknown_label,
     30: wrong_event,
     31: no_result,
