@@ -1,0 +1,6 @@
+// touch_start is told how many touch.
+default {
+    touch_start() {
+        llOwnerSay("touched");
+    }
+}

@@ -1,0 +1,6 @@
+// What is said has a channel.
+default {
+    state_entry() {
+        llSay("hello");
+    }
+}

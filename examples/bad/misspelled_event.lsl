@@ -1,0 +1,6 @@
+// The event is called `state_entry`.
+default {
+    state_enter() {
+        llOwnerSay("hello");
+    }
+}

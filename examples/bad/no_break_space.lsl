@@ -1,0 +1,5 @@
+default {
+    state_entry() {
+        llOwnerSay("copied from a page, with a space that is none");
+    }
+}

@@ -1,0 +1,16 @@
+// Only handlers change the state.
+open() {
+    state opened;
+}
+
+default {
+    touch_start(integer n) {
+        open();
+    }
+}
+
+state opened {
+    state_entry() {
+        llSay(0, "open");
+    }
+}

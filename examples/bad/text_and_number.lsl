@@ -1,0 +1,8 @@
+// A text is joined with texts.
+integer count = 3;
+
+default {
+    state_entry() {
+        llOwnerSay("count: " + count);
+    }
+}

@@ -1,0 +1,6 @@
+// Upper and lower case differ.
+default {
+    state_entry() {
+        llownersay("hello");
+    }
+}
