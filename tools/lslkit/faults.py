@@ -22,8 +22,10 @@ def explained(line):
     name, fault = unquoted(name), int(fault)
     text = places.bytes_of(name)
     if sort == "script":
-        return with_line(name, text, int(row), int(column), fault, script_hint(fault, text, int(row), int(column)))
-    column, hints = (1, []) if text is None else world_hints.hint(fault, text.decode(errors="surrogateescape"), int(number))
+        row, column = int(row), int(column)
+        return with_line(name, text, row, column, fault, script_hint(fault, text, row, column))
+    world = (text or b"").decode(errors="surrogateescape")
+    column, hints = world_hints.hint(fault, world, int(number))
     return with_line(name, text, int(number), column, fault, hints)
 
 

@@ -1,4 +1,4 @@
-"""Where a call, an event, a constant, a fault or a step stands in the crates: row, definition, code, proof, tests, pages."""
+"""Where a call, an event, a constant, a fault or a step stands in the crates, the pages and the examples."""
 import os
 import re
 from collections import namedtuple
@@ -19,13 +19,15 @@ WIDTH = 120
 def subject_of(name):
     """What a name or a fault's number stands for, or none."""
     for sort, table, enum in TABLES:
-        row = re.search(r'(?m)^ +(\w+) "%s" .*;$' % re.escape(name), text_of("crates", "lsl_table", "src", f"{table}.rt"))
+        rows = text_of("crates", "lsl_table", "src", f"{table}.rt")
+        row = re.search(r'(?m)^ +(\w+) "%s" .*;$' % re.escape(name), rows)
         if row:
             return Subject(sort, name, row[1], enum, r'"%s"' % name + (r"|\b%s\(" % name if sort == "call" else ""))
     if name.isdigit():
         return fault_of(name)
     if name in worlds.FORMS:
-        return Subject("step" if name not in worlds.DECLARED else "line", name, name.capitalize(), "Step", f'"{name}"')
+        sort = "line" if name in worlds.DECLARED else "step"
+        return Subject(sort, name, name.capitalize(), "Step", f'"{name}"')
     return None
 
 
@@ -34,7 +36,8 @@ def fault_of(number):
     for path in sources():
         row = re.search(r"(\w+)::(\w+)(?: \{ \.\. \})? => %s," % number, read(path))
         if path.endswith("faults.rt") and row:
-            return Subject("fault", number, row[2], row[1], r"=> %s,|fault %s\b|^\| %s \|" % (number, number, number))
+            said = r"=> {0},|fault {0}\b|^\| {0} \|".format(number)
+            return Subject("fault", number, row[2], row[1], said)
     return None
 
 

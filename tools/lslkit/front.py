@@ -1,4 +1,4 @@
-"""The script `lsl`: reads its words, has the program made where need be, runs it, and says what its status leaves unsaid."""
+"""The script `lsl`: reads its words, has the program made where need be, runs it, and says how it ended."""
 import errno
 import os
 import subprocess
@@ -95,7 +95,8 @@ def carry(binary, command):
     follower, first = standing.Follower(), b""
     with tempfile.TemporaryDirectory(prefix="lsl-") as room, tempfile.TemporaryFile() as notes:
         words = [command.command, handed_name(command, room)]
-        with subprocess.Popen([binary, *words], stdin=subprocess.DEVNULL, stdout=subprocess.PIPE, stderr=notes) as running:
+        how = {"stdin": subprocess.DEVNULL, "stdout": subprocess.PIPE, "stderr": notes}
+        with subprocess.Popen([binary, *words], **how) as running:
             for piece in iter(lambda: os.read(running.stdout.fileno(), 65536), b""):
                 first = (first + piece)[:4096]
                 follower.feed(piece)
@@ -132,8 +133,11 @@ def handed_name(command, room):
     if not command.is_world or program.are_plain(command.name, True):
         return command.name
     path = os.path.join(room, "world")
-    text = worlds.with_files(program.world_of(command.name), lambda it: it.file if program.is_plain(it.file) else f"{path}/none")
-    write_text(path, text)
+
+    def renamed(script):
+        return script.file if program.is_plain(script.file) else f"{path}/none"
+
+    write_text(path, worlds.with_files(program.world_of(command.name), renamed))
     return path
 
 
@@ -164,4 +168,5 @@ def show(binary, command):
         hand_on(ran.output)
         tell(command, ran.status, ran.output, ran.notes)
         return ran.status
-    return showing.show(binary, ran.output.decode(errors="surrogateescape"), program.world_of(command.name), command.html, command.show)
+    text = ran.output.decode(errors="surrogateescape")
+    return showing.show(binary, text, program.world_of(command.name), command.html, command.show)

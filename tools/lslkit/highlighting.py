@@ -1,11 +1,11 @@
-"""Syntax files for editors: what this language has, and what of LSL it hasn't, from the tables and the list of names."""
+"""Syntax files for editors, from the tables and the list of names: what this language has, and what it hasn't."""
 import json
 
 from . import tables, tokens
 
 MADE = "made by tools/syntax from the tables of the language: change those"
-CONTROL = tuple(sorted(tokens.WORDS - {"integer", "string", "key", "list", "float", "vector", "rotation", "quaternion"}))
 NO_KINDS = ("float", "vector", "rotation", "quaternion")
+CONTROL = tuple(sorted(tokens.WORDS - {*tokens.TYPES, *NO_KINDS}))
 SIGNS = r"\+\+|--|<<|>>|&&|\|\||[-+*/%<>=!]=|[-+*/%=<>!~&|^]"
 
 
@@ -53,7 +53,8 @@ def vim_words(group, names):
 
 
 def vim_syntax():
-    lines = [f'" Syntax of the Linden Scripting Language as Dishhollow has it, {MADE}.', 'if exists("b:current_syntax")', "  finish", "endif", ""]
+    lines = [f'" Syntax of the Linden Scripting Language as Dishhollow has it, {MADE}.']
+    lines += ['if exists("b:current_syntax")', "  finish", "endif", ""]
     for group, names in groups().items():
         lines += vim_words(group, names)
     lines += [
@@ -117,12 +118,17 @@ def textmate():
 
 
 def matcher(name, regexp, **places):
+    where = ["autoDetect", "${workspaceFolder}"]
     pattern = {"regexp": regexp, **places}
-    return {"name": name, "owner": "lsl", "fileLocation": ["autoDetect", "${workspaceFolder}"], "severity": "error", "pattern": pattern}
+    return {"name": name, "owner": "lsl", "fileLocation": where, "severity": "error", "pattern": pattern}
 
 
 def vscode_package():
     """The extension: the language, its grammar, and the matchers for `lsl check` and `tools/explain`."""
+    language = {"id": "lsl", "aliases": ["LSL"], "extensions": [".lsl"]}
+    language["configuration"] = "./language-configuration.json"
+    grammar = {"language": "lsl", "scopeName": "source.lsl", "path": "./syntaxes/lsl.tmLanguage.json"}
+    places = {"file": 1, "line": 2, "column": 3, "message": 4}
     return {
         "name": "lsl-dishhollow",
         "displayName": "LSL (Dishhollow)",
@@ -133,11 +139,11 @@ def vscode_package():
         "engines": {"vscode": "^1.60.0"},
         "categories": ["Programming Languages"],
         "contributes": {
-            "languages": [{"id": "lsl", "aliases": ["LSL"], "extensions": [".lsl"], "configuration": "./language-configuration.json"}],
-            "grammars": [{"language": "lsl", "scopeName": "source.lsl", "path": "./syntaxes/lsl.tmLanguage.json"}],
+            "languages": [language],
+            "grammars": [grammar],
             "problemMatchers": [
-                matcher("lsl", r"^(.+):(\d+):(\d+): error: (.*)$", file=1, line=2, column=3, message=4),
-                matcher("lsl-line", r'^bad script "(.+)" (\d+):(\d+) (fault \d+)$', file=1, line=2, column=3, message=4),
+                matcher("lsl", r"^(.+):(\d+):(\d+): error: (.*)$", **places),
+                matcher("lsl-line", r'^bad script "(.+)" (\d+):(\d+) (fault \d+)$', **places),
             ],
         },
     }

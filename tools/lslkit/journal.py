@@ -45,7 +45,8 @@ def read(text):
 
 def fields(rest):
     """The words of a line, each as its text and whether it was quoted."""
-    return [(found[2], False) if found[2] is not None else (unquoted(found[1]), True) for found in FIELD.finditer(rest)]
+    found = FIELD.finditer(rest)
+    return [(unquoted(it[1]), True) if it[2] is None else (it[2], False) for it in found]
 
 
 def event_of(entry):

@@ -76,14 +76,14 @@ def make_proved():
     if not has_rt():
         return False
     jobs, crates = job_count(), sources.crates_of(PROGRAM)
-    whole = f"some {PROCESSOR_MINUTES // jobs} minutes the first time, and later what changed" if jobs > 1 else "about two hours the first time"
-    say(f"proving and building the program: {len(crates)} crates, {jobs} at a time; {whole}")
+    say(f"proving and building the program: {len(crates)} crates, {jobs} at a time")
+    say(f"for some {max(PROCESSOR_MINUTES // jobs, 25)} minutes the first time, and later what changed")
     folder, progress = in_top("crates", PROGRAM), Progress(crates, jobs)
     words = ["rt", "all", "check", "--jobs", str(jobs)]
-    with subprocess.Popen(words, cwd=folder, stdin=subprocess.DEVNULL, stdout=subprocess.PIPE, stderr=subprocess.STDOUT) as proving:
+    how = {"cwd": folder, "stdin": subprocess.DEVNULL, "stdout": subprocess.PIPE, "stderr": subprocess.STDOUT}
+    with subprocess.Popen(words, **how) as proving:
         for line in proving.stdout:
             progress.tell(line.decode(errors="replace").rstrip("\n"))
-    how = {"cwd": folder, "stdin": subprocess.DEVNULL, "stdout": subprocess.PIPE, "stderr": subprocess.STDOUT}
     ran = subprocess.run(["rt", "run", "--", "check", "data/hello.lsl"], check=False, **how)
     if proving.returncode or ran.returncode:
         lines = ran.stdout.decode(errors="replace").split("\n")
@@ -130,8 +130,8 @@ def make_tried():
         finder = Finder(room, found)
         finder.start()
         words = ["rt", "try", "--data", f"staying.lsl={script}", "--", "once", "staying.lsl"]
-        how = {"cwd": in_top("crates", PROGRAM), "env": {**os.environ, "TMPDIR": room}}
-        ran = subprocess.run(words, stdin=subprocess.DEVNULL, stdout=subprocess.PIPE, stderr=subprocess.PIPE, check=False, **how)
+        how = {"cwd": in_top("crates", PROGRAM), "env": {**os.environ, "TMPDIR": room}, "stdin": subprocess.DEVNULL}
+        ran = subprocess.run(words, stdout=subprocess.PIPE, stderr=subprocess.PIPE, check=False, **how)
         finder.ended.set()
         finder.join()
         if ran.returncode or not os.path.exists(found):
@@ -158,7 +158,7 @@ def program(is_tried):
 
 
 def any_program():
-    """The program that a tool is to use: the one that `lsl` hands on, else the last proved one, else an unproved one."""
+    """The program that a tool is to use: the one that `lsl` hands on, the last proved one, or an unproved one."""
     handed = os.environ.get("LSL_PROGRAM")
     if handed:
         return handed

@@ -1,8 +1,8 @@
-"""A second run of a world that tells more than its journal: at which step each line was written, and where scripts stand.
+"""A second run of a world that tells more than its journal: each line's step, and where scripts stand.
 
-The second world has one more object, whose script is touched between the steps, and copies of the scripts with probes
-(`probe`). Numbers of objects and scripts stay as they are, since the new ones are the last. Its journal without what was
-added must be the world's own: otherwise nothing is taken from it."""
+The second world has one more object, whose script is touched between the steps, and copies of the scripts with
+probes (`probe`). Numbers of objects and scripts stay as they are, since the new ones are the last. Its journal without
+what was added must be the world's own: otherwise nothing is taken from it."""
 import os
 import tempfile
 
@@ -14,7 +14,7 @@ MARKER = "default { touch_start(integer n) { } }\n"
 MAX_STEPS = 100000
 MAX_BYTES = 1000000
 class Observation:
-    """For each line of a journal the place of its step in the world's list, and what each probe told before which line."""
+    """For each line of a journal its step's place in the world's list, and what each probe told before which line."""
 
     def __init__(self, steps, probes):
         self.steps, self.probes = steps, probes
@@ -57,7 +57,8 @@ class Second:
         touch = f'touch {len(self.world.objects) + 1} 1 {key} ""\ngo {len(self.world.scripts) + 1} 1'
         for step in self.world.steps[:: self.stride]:
             lines[step.line - 1] = f"{touch}\n{lines[step.line - 1]}"
-        lines[self.world.begin - 1] = f'object {key} "" {key} ""\nscript "" {quoted(path)}\n' + lines[self.world.begin - 1]
+        added = f'object {key} "" {key} ""\nscript "" {quoted(path)}\n'
+        lines[self.world.begin - 1] = added + lines[self.world.begin - 1]
         return "\n".join(lines)
 
     def free_key(self):

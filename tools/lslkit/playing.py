@@ -42,6 +42,7 @@ state                   in which state the script is, and what it last did
 world                   prints the world file so far; save FILE writes it
 quit"""
 UNITS = {"ms": 1, "s": 1000, "": 1000, "m": 60000, "h": 3600000}
+PERSON, PRIM = "00000000-0000-4000-8000-%012x", "00000000-0000-4000-9000-%012x"
 MOST_CLOCK = 2147483647999
 STEPS = ("touch", "say", "after", "changed", "rez")
 # What describes a step, and which.
@@ -81,7 +82,7 @@ class Stage:
 
     def key_of(self, name):
         """The key that is made up for a person."""
-        self.people.setdefault(name, f"00000000-0000-4000-8000-{len(self.people) + 1:012x}")
+        self.people.setdefault(name, PERSON % (len(self.people) + 1))
         return self.people[name]
 
     def run(self):
@@ -107,8 +108,8 @@ class Stage:
 
     def text(self):
         name = os.path.splitext(os.path.basename(self.file))[0]
-        lines = [f'object 00000000-0000-4000-8000-0000000000f1 {quoted(name)} {self.owner_key} "Here"', f"script {quoted(name)} {quoted(self.file)}"]
-        lines += [f'prim 00000000-0000-4000-8000-{0xF0 + link:012x} "Link {link}"' for link in range(2, self.prims + 1)]
+        lines = [f'object {PRIM % 1} {quoted(name)} {self.owner_key} "Here"', f"script {quoted(name)} {quoted(self.file)}"]
+        lines += [f'prim {PRIM % link} "Link {link}"' for link in range(2, self.prims + 1)]
         return "\n".join([*lines, "", "begin", *self.steps, "end", ""])
 
 
@@ -293,7 +294,8 @@ class Talk:
         text = self.stage.text()
         everything = journal.read(replayed(self.binary, text).output.decode(errors="surrogateescape"))
         observed = observing.observe(self.binary, text, everything)
-        names, running = telling.Names(worlds.read(text)), [it for it in journal.handlers(everything) if it.end is None]
+        names = telling.Names(worlds.read(text))
+        running = [it for it in journal.handlers(everything) if it.end is None]
         print(f"the clock is at {telling.seconds(self.stage.clock)} s")
         if observed and observed.probes:
             print(f"in the state {state_of(everything, observed.probes)}")
@@ -306,11 +308,12 @@ class Talk:
             print(f"stands in {running[-1].event}{line}")
         else:
             charges = [it for it in everything if it.word == "done"]
-            print("waits for an event" + (f"; charged {int(charges[-1].rest):,} bytes of 65,536" if charges else ""))
+            charged = f"; charged {int(charges[-1].rest):,} bytes of 65,536" if charges else ""
+            print(f"waits for an event{charged}")
 
 
 def state_of(entries, probes):
-    """The state of the world's one script. A journal's `clear` says that it is in the one that it went to, or was reset."""
+    """The state of the world's one script. A `clear` says that it is in the one that it went to, or was reset."""
     state, next_state, at = "default", None, 0
     for place, entry in enumerate(entries):
         while at < len(probes) and probes[at][0] <= place:

@@ -1,17 +1,17 @@
-"""A copy of a script that tells where it is: its states, its handlers, and the line of the statement that it began last.
+"""A copy of a script that tells where it is: its state, its handler, the line of the statement that it began last.
 
-Each probe is a statement `llOwnerSay("..");`, which nobody hears and which passes no tick. What a copy does is compared
-with what the script does before anything is taken from it, so a copy that does something else tells nothing."""
+Each probe is a statement `llOwnerSay("..");`, which nobody hears and which passes no tick. What a copy does is
+compared with what the script does before anything is taken from it: one that does something else tells nothing."""
 import hashlib
 from collections import namedtuple
 
 from . import syntax, tokens
 
-# What a probe tells: `state` the state in which a handler stands, `to` the one that it goes to, `line` where it is; and
-# the line of that place.
+# What a probe tells: `state` the state in which a handler stands, `to` the one that it goes to, `line` where it is;
+# and the line of that place.
 Probe = namedtuple("Probe", "sort name line")
 LOOPS = ("while", "do", "for")
-OWN_WAITS = ("llSleep", "llResetScript")
+OWN_WAITS = {"llSleep", "llResetScript"}
 
 
 class Prober:
@@ -46,7 +46,8 @@ class Prober:
 
     def waits(self, value):
         """Whether a tick may pass in a value."""
-        return any(it.form == "call" and (it.text in self.functions or it.text in OWN_WAITS) for it in syntax.walk(value))
+        names = {it.text for it in syntax.walk(value) if it.form == "call"}
+        return not names.isdisjoint(self.functions | OWN_WAITS)
 
     def own_values(self, node):
         return [it for it in node.parts if it.form not in STATEMENTS]

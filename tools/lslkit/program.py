@@ -13,9 +13,10 @@ Run = namedtuple("Run", "status output notes")
 SIGNALLED = 128
 
 
-def run(program, words, stdin=None):
+def run(program, words):
     """A whole run."""
-    ran = subprocess.run([program, *words], stdin=stdin or subprocess.DEVNULL, stdout=subprocess.PIPE, stderr=subprocess.PIPE, check=False)
+    how = {"stdin": subprocess.DEVNULL, "stdout": subprocess.PIPE, "stderr": subprocess.PIPE}
+    ran = subprocess.run([program, *words], check=False, **how)
     return Run(status_of(ran.returncode), ran.stdout, ran.stderr)
 
 
@@ -67,7 +68,8 @@ def unread_files(name, is_world):
         return [f'"{name}" {said}']
     scripts = worlds.read(world_of(name)).scripts if is_world else []
     found = [(it, unread(it.file)) for it in scripts]
-    return [f'"{it.file}", which line {it.line} of "{name}" names as script "{it.name}", {why}' for it, why in found if why]
+    names = [f'"{it.file}", which line {it.line} of "{name}" names as script "{it.name}", {why}' for it, why in found]
+    return [said for said, (_, why) in zip(names, found) if why]
 
 
 def tell_unread(name, is_world):

@@ -1,4 +1,4 @@
-"""What helps to mend a script's first fault: signatures, kinds, nearest names, what was expected. A function for each fault."""
+"""What helps to mend a script's first fault: signatures, kinds, nearest names. A function for each fault."""
 import re
 import unicodedata
 from collections import namedtuple
@@ -9,6 +9,14 @@ from . import kinds, syntax, tables, tokens
 Source = namedtuple("Source", "text tokens lines script unexpected place at")
 OPENING = {"{": "}", "(": ")", "[": "]"}
 WHOLE_SECONDS = ("llSetTimerEvent", "llSleep")
+WRITTEN_CASTS = (
+    ("integer", "string"),
+    ("list", "string"),
+    ("string", "integer"),
+    ("integer", "list"),
+    ("string", "list"),
+    ("key", "list"),
+)
 CASTS = {
     "integer": "a string or an integer",
     "string": "any kind",
@@ -87,7 +95,7 @@ def unexpected_token(source):
 
 
 def missing_sign(source):
-    """The sign that is missing before the unexpected token, where the script goes on behind it; and whether to its end."""
+    """The sign that is missing before the unexpected token, and whether the script goes on with it to its end."""
     at = source.unexpected.at
     for sign in (";", ")", "]", "{", "(") if at else ():
         token = tokens.Token("sign", sign, 0, 0)
@@ -189,19 +197,15 @@ def wrong_kind(source):
     for it in kinds.conversions(source.script):
         if it.value.first == source.at and not kinds.becomes(it.found, it.wanted):
             wanted = it.wanted or "none, since the function gives nothing"
-            yield f"{it.where} is to be {with_article(wanted)}, and this is {with_article(it.found)}" if it.found else None
-            can_cast = it.found and it.wanted and (it.found, it.wanted) in tables_of_casts()
+            said = f"{it.where} is to be {with_article(wanted)}"
+            yield f"{said}, and this is {with_article(it.found)}" if it.found else None
+            can_cast = (it.found, it.wanted) in WRITTEN_CASTS
             yield f"write ({it.wanted}) before it" if can_cast else None
             return
 
 
 def with_article(kind):
     return f"an {kind}" if kind == "integer" else f"a {kind}" if kind in tables.KINDS.values() else kind
-
-
-def tables_of_casts():
-    """The casts that have to be written."""
-    return {("integer", "string"), ("list", "string"), ("string", "integer"), *((it, "list") for it in ("integer", "string", "key"))}
 
 
 def wrong_operands(source):
@@ -215,9 +219,8 @@ def wrong_operands(source):
 
     kinds.visit(source.script, report)
     for operands in found[:1]:
-        yield f"its left side is {with_article(operands[0])} and its right one {with_article(operands[1])}" if operands[1:] else (
-            f"it stands before {with_article(operands[0])}"
-        )
+        kind, *other = map(with_article, operands)
+        yield f"its left side is {kind} and its right one {other[0]}" if other else f"it stands before {kind}"
         if word_at(source) in ("+", "+=") and "string" in operands[:2]:
             yield f"write (string) before the {'right' if operands[0] == 'string' else 'left'} one"
 

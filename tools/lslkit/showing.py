@@ -1,11 +1,22 @@
-"""Shows a journal readably: steps and clock between its lines, names in place of numbers, colours, and a summary."""
+"""Shows a journal readably: steps and clock between its lines, names in place of numbers, and a summary."""
 import sys
 from collections import Counter
 
 from . import journal, observing, telling, timeline, worlds
 from .places import write_text
 
-COLOURS = {"step": "1;36", "name": "2", "took": "1", "chat": "32", "owner": "32", "fault": "1;31", "drop": "33", "clear": "35", "done": "2", "home": "2"}
+COLOURS = {
+    "step": "1;36",
+    "name": "2",
+    "took": "1",
+    "chat": "32",
+    "owner": "32",
+    "fault": "1;31",
+    "drop": "33",
+    "clear": "35",
+    "done": "2",
+    "home": "2",
+}
 
 
 class Painter:
@@ -19,7 +30,7 @@ class Painter:
 
 
 def lines(entries, world, steps, painter, hidden=()):
-    """The readable lines. `steps` has the step's place for each entry, or is none; `hidden` are words that aren't shown."""
+    """The readable lines. `steps` has the step's place for each entry, or is none; `hidden` words aren't shown."""
     names = telling.Names(world)
     clocks = telling.clocks(names.world)
     width = max([8, *map(len, names.scripts)])
@@ -57,18 +68,18 @@ def summary(entries, world, painter):
     yield f"{'script':<{width}}  events  dropped  said  faults  greatest charge"
     for it in scripts:
         said = counts["chat", it] + counts["owner", it]
-        row = f"{names.script(it):<{width}}  {counts['took', it]:>6}  {counts['drop', it]:>7}  {said:>4}  {counts['fault', it]:>6}"
+        row = f"{names.script(it):<{width}}  {counts['took', it]:>6}  {counts['drop', it]:>7}  {said:>4}"
         charge = f"{charges[it]:,}" if charges.get(it) else "-"
-        yield painter.paint("fault" if counts["fault", it] else "", f"{row}  {charge:>15}")
+        yield painter.paint("fault" if counts["fault", it] else "", f"{row}  {counts['fault', it]:>6}  {charge:>15}")
     for it in handlers:
         if it.end is None:
             yield painter.paint("drop", f"{names.script(it.script)} still stands in {it.event}")
-    said = counts_in_words(len(handlers), "event", "handled"), counts_in_words(sum(it.word == "drop" for it in entries), "event", "dropped")
-    yield f"{said[0]}, {said[1]}, {counts_in_words(sum(it.word == 'fault' for it in entries), 'fault', '')}".rstrip()
+    dropped, faults = (sum(it.word == word for it in entries) for word in ("drop", "fault"))
+    yield f"{counted(len(handlers), 'event')} handled, {dropped:,} dropped, {counted(faults, 'fault')}"
 
 
-def counts_in_words(count, noun, more):
-    return f"{count:,} {noun}{'' if count == 1 else 's'} {more}".rstrip()
+def counted(count, noun):
+    return f"{count:,} {noun}" + ("" if count == 1 else "s")
 
 
 def steps_of(binary, text, entries):

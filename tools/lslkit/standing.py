@@ -1,4 +1,4 @@
-"""Where the scripts stand whose handlers were cut: the event, and the line of the statement that each began last."""
+"""Where the scripts stand whose handlers were cut: the event, and the line of the statement begun last."""
 import hashlib
 import re
 import tempfile

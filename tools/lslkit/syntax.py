@@ -1,4 +1,4 @@
-"""A script as a tree, by the grammar of docs/LANGUAGE.md; or its first unexpected token, with what could stand there.
+"""A script as a tree, by the grammar of docs/LANGUAGE.md; or its first unexpected token, and what could stand there.
 
 It serves the tools' hints and probes. What is accepted the program alone says."""
 import sys
@@ -11,7 +11,8 @@ from .tokens import TYPES
 Node = namedtuple("Node", "form text parts first last at kind")
 Script = namedtuple("Script", "globals functions states tokens")
 
-LEVELS = (("&&", "||"), ("|",), ("^",), ("&",), ("==", "!="), ("<", "<=", ">", ">="), ("<<", ">>"), ("+", "-"), ("*", "/", "%"))
+# The operators of each level, the loosest first.
+LEVELS = [it.split() for it in ("&& ||", "|", "^", "&", "== !=", "< <= > >=", "<< >>", "+ -", "* / %")]
 ASSIGNS = ("=", "+=", "-=", "*=", "/=", "%=")
 
 

@@ -1,4 +1,4 @@
-"""The calls, events and constants of this language, read from the tables of the crate `lsl_table`; and the names of LSL."""
+"""The calls, events and constants of this language, read from the tables of `lsl_table`; and the names of LSL."""
 import difflib
 import functools
 import re

@@ -2,12 +2,13 @@
 from . import journal, worlds
 from .quoting import quoted
 
-HELD = 60
+MOST_SHOWN = 240
+VOICES = {"say": "says", "whisper": "whispers", "shout": "shouts", "region": "says in the region"}
 
 
 def cut(text):
     """A text that is shown in a line of its own, or its front."""
-    return text if len(text) <= 4 * HELD else text[: 4 * HELD] + ".."
+    return text if len(text) <= MOST_SHOWN else text[:MOST_SHOWN] + ".."
 
 
 def segments(count):
@@ -24,7 +25,8 @@ class Names:
     def __init__(self, world=None):
         self.world = world or worlds.World([], [], [], [], None)
         names = [it.name for it in self.world.scripts]
-        self.scripts = [f"{it} ({number})" if names.count(it) > 1 or not it else it for number, it in enumerate(names, 1)]
+        is_alone = [it and names.count(it) == 1 for it in names]
+        self.scripts = [it if is_alone[at] else f"{it} ({at + 1})" for at, it in enumerate(names)]
         self.keys = {it.key: it.name for object_ in self.world.objects for it in object_.prims if it.name}
         for step in self.world.steps:
             if step.word == "say":
@@ -50,8 +52,11 @@ class Names:
             return text
         if worlds.KEY.fullmatch(text) and text.lower() in self.keys:
             return f"<{self.keys[text.lower()]}>"
-        named = worlds.KEY.sub(lambda it: f"<{self.keys[it[0].lower()]}>" if it[0].lower() in self.keys else it[0], text)
-        return quoted(cut(named))
+        return quoted(cut(worlds.KEY.sub(self.named_key, text)))
+
+    def named_key(self, found):
+        name = self.keys.get(found[0].lower())
+        return found[0] if name is None else f"<{name}>"
 
     def event(self, entry):
         event, args = journal.event_of(entry)
@@ -73,8 +78,7 @@ class Names:
 
     def tell_chat(self, entry):
         (voice, _), (channel, _), (text, _) = journal.fields(entry.rest)
-        voice = {"say": "says", "whisper": "whispers", "shout": "shouts", "region": "says in the region"}.get(voice, voice)
-        return f"{voice} on {channel}: {self.value(text, True)}"
+        return f"{VOICES.get(voice, voice)} on {channel}: {self.value(text, True)}"
 
     def tell_owner(self, entry):
         return f"to its owner: {self.value(journal.fields(entry.rest)[0][0], True)}"

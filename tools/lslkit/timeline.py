@@ -13,12 +13,11 @@ ENDINGS = {"done": 0, "fault": 1, None: 2}
 class Arrows:
     """Who is likely to have sent what an event tells of: the journal says it of chat by text and speaker alone."""
 
-    def __init__(self, entries, world, handlers):
+    def __init__(self, entries, world):
         self.entries, self.world = entries, world
-        self.said, self.heard, self.begun, self.found = defaultdict(list), defaultdict(int), defaultdict(list), []
-        self.touched = defaultdict(list)
-        self.latest = {}
-        self.handlers = {it.begin: it for it in handlers}
+        # Where each text was said and each object touched, how many of these each script took, and its last handler.
+        self.said, self.touched, self.heard, self.latest = defaultdict(list), defaultdict(list), defaultdict(int), {}
+        self.found = []
 
     def prim_of(self, script):
         scripts = self.world.scripts if self.world else []
@@ -99,8 +98,8 @@ def data_of(entries, world, steps):
         "by": [it.number for it in entries],
         "texts": [names.entry(it) for it in entries],
         "handlers": [[it.script, it.begin, it.end, ENDINGS[it.ending]] for it in handlers],
-        "steps": [[place, clocks[number], step.word, names.step(step)] for number, (step, place) in enumerate(places)],
-        "arrows": Arrows(entries, world, handlers).all(places),
+        "steps": [[place, clock, step.word, names.step(step)] for (step, place), clock in zip(places, clocks)],
+        "arrows": Arrows(entries, world).all(places),
     }
 
 

@@ -5,8 +5,9 @@ from collections import namedtuple
 
 # A token: its sort, its text, and the bytes at which it begins and ends.
 Token = namedtuple("Token", "sort text place end")
-WORDS = set("integer string key list float vector rotation quaternion default state if else for do while jump return".split())
 TYPES = ("integer", "string", "key", "list")
+OTHER_WORDS = "float vector rotation quaternion default state if else for do while jump return"
+WORDS = {*TYPES, *OTHER_WORDS.split()}
 SIGNS = "++ -- += -= *= /= %= == != <= >= << >> && || + - * / % = < > ! ~ & | ^ ( ) [ ] { } , ; @".split()
 SKIPPED = re.compile(rb"(?:[\t-\r ]|//[^\n]*|/\*.*?\*/)*", re.S)
 TOKEN = re.compile(

@@ -1,4 +1,4 @@
-"""What helps to mend a world file's first fault: the wrong word, the line's form, what a number or key clashes with."""
+"""What helps to mend a world file's first fault: the wrong word, the line's form, what a key clashes with."""
 import re
 
 from . import worlds
@@ -19,13 +19,15 @@ def bad_form(text, number, line):
     wrong = worlds.wrong_word(line)
     first = worlds.words_of(line)[0].text
     if wrong:
-        said = [wrong[1]]
-        said += [f"the form is `{worlds.form_of(first)}`"] if first in worlds.FORMS else ["a line begins with " + ", ".join(worlds.FORMS)]
-        return wrong[0], said
+        is_known = first in worlds.FORMS
+        form = f"the form is `{worlds.form_of(first)}`" if is_known else "a line begins with " + ", ".join(worlds.FORMS)
+        return wrong[0], [wrong[1], form]
     begin = next((it for it, row in enumerate(worlds.lines_of(text), 1) if row.split() == ["begin"]), None)
     is_behind = begin is not None and number > begin
+    if first == "begin" and is_behind:
+        return 1, [f"line {begin} is `begin` already"]
     if first in worlds.DECLARED and is_behind:
-        return 1, [f"`{first}` stands before `begin`, which is line {begin}" if first != "begin" else f"line {begin} is `begin` already"]
+        return 1, [f"`{first}` stands before `begin`, which is line {begin}"]
     if first in ("prim", "script"):
         return 1, [f"`{first}` stands behind an `object`"]
     if first not in worlds.DECLARED and not is_behind:

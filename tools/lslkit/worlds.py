@@ -61,7 +61,8 @@ def words_of(line):
     for found in iter(lambda: WORD.match(line, at), None):
         text = found["quoted"]
         column = found.start(found.lastgroup) + (0 if text is None else -1)
-        words.append(Word(found["open"] or found["plain"] if text is None else unquoted(text), text is not None, column + 1))
+        plain = found["open"] or found["plain"]
+        words.append(Word(plain if text is None else unquoted(text), text is not None, column + 1))
         at = found.end()
     return words
 
