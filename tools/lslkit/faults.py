@@ -4,7 +4,7 @@ import re
 from . import places, script_hints, world_hints
 from .quoting import unquoted, window
 
-REFUSAL = re.compile(r'bad (script|world) "((?:[^"\\]|\\.)*)" (?:line (\d+)|(\d+):(\d+)) fault (\d+)')
+REFUSAL = re.compile(r'bad (\w+) "((?:[^"\\]|\\.)*)" (?:line (\d+) |(\d+):(\d+) )?fault (\d+)(.*)')
 
 
 def meaning(fault):
@@ -18,8 +18,10 @@ def explained(line):
     refusal = REFUSAL.fullmatch(line)
     if not refusal:
         return None
-    sort, name, number, row, column, fault = refusal.groups()
+    sort, name, number, row, column, fault, more = refusal.groups()
     name, fault = unquoted(name), int(fault)
+    if number is None and row is None:
+        return f"{name}:1:1: error: {meaning(fault)}{more} (fault {fault})"
     text = places.bytes_of(name)
     if sort == "script":
         row, column = int(row), int(column)

@@ -4,9 +4,9 @@ import re
 import sys
 import tempfile
 
-from . import journal, observing, program, showing, telling, worlds
+from . import journal, listening, observing, program, showing, telling, worlds
 from .faults import explained
-from .places import write_text
+from .places import bytes_of, write_text
 from .quoting import quoted
 
 USAGE = """\
@@ -106,6 +106,15 @@ class Stage:
             self.steps.append(f"{word} 1 {number(value, word)}")
         self.run()
 
+    def tell_unheard(self):
+        """Says where something was said on a channel on which the script doesn't listen."""
+        channels = listening.channels_of(bytes_of(self.file) or b"")
+        used = {int(it.split(" ")[1]) for it in self.steps if it.startswith("say ")}
+        for channel in sorted(used - channels if channels is not None else ()):
+            heard = ", ".join(map(str, sorted(channels)))
+            more = f"the script listens on {heard}" if channels else "the script doesn't listen"
+            print(f"lsl: nobody hears what is said on channel {channel}: {more}", file=sys.stderr)
+
     def text(self):
         name = os.path.splitext(os.path.basename(self.file))[0]
         lines = [f'object {PRIM % 1} {quoted(name)} {self.owner_key} "Here"', f"script {quoted(name)} {quoted(self.file)}"]
@@ -184,6 +193,7 @@ class Play:
         ran = replayed(binary, self.stage.text())
         if ran.status:
             return refused(ran)
+        self.stage.tell_unheard()
         text = ran.output.decode(errors="surrogateescape")
         if "journal" in self.flags:
             print(text, end="")
@@ -238,6 +248,8 @@ class Talk:
             getattr(self, word if word != "run" else "set_run")(rest)
             return 0
         self.step(word, rest)
+        if word == "say":
+            self.stage.tell_unheard()
         return self.show()
 
     def step(self, word, rest):

@@ -67,9 +67,18 @@ def unread_files(name, is_world):
     if said:
         return [f'"{name}" {said}']
     scripts = worlds.read(world_of(name)).scripts if is_world else []
-    found = [(it, unread(it.file)) for it in scripts]
-    names = [f'"{it.file}", which line {it.line} of "{name}" names as script "{it.name}", {why}' for it, why in found]
-    return [said for said, (_, why) in zip(names, found) if why]
+    return [unread_script(name, it) for it in scripts if unread(it.file)]
+
+
+def unread_script(world, script):
+    """The words for a script that can't be read; where it is, if it stands there from another folder."""
+    said = f'"{script.file}", which line {script.line} of "{world}" names as script "{script.name}", {unread(script.file)}'
+    folder = os.path.dirname(os.path.abspath(world))
+    while not os.path.isfile(os.path.join(folder, script.file)):
+        if folder == os.path.dirname(folder):
+            return said
+        folder = os.path.dirname(folder)
+    return f"{said}; it is read from the folder in which the program was started, and stands there from {folder}"
 
 
 def tell_unread(name, is_world):

@@ -8,6 +8,13 @@ from . import kinds, syntax, tables, tokens
 # The text, its tokens, its lines, its tree or what was unexpected, and the fault's place and token.
 Source = namedtuple("Source", "text tokens lines script unexpected place at")
 OPENING = {"{": "}", "(": ")", "[": "]"}
+SORTS = {
+    "global": "variable",
+    "function": "function",
+    "state": "state",
+    "parameter": "parameter",
+    "declare": "variable",
+}
 WHOLE_SECONDS = ("llSetTimerEvent", "llSleep")
 WRITTEN_CASTS = (
     ("integer", "string"),
@@ -163,19 +170,23 @@ def unknown_name(source):
     if sort and not tables.is_here(name):
         yield f"LSL has the {sort} {name}, and this language hasn't"
         return
-    names = {it.text for it in source.tokens if it.sort == "name" and it.text != name}
-    declared = names & {node.text for root in syntax.roots(source.script) for node in syntax.walk(root)}
-    near = tables.nearest(name, {*declared & own_names(source), *tables.calls(), *tables.constants()})
+    own = own_names(source)
+    if name in tables.events():
+        yield f"{name} is an event, and isn't called"
+        return
+    if name in tables.calls() or name in own:
+        line = source.lines.line_of(source.tokens[own[name].at].place) if name in own else 0
+        sort = SORTS[own[name].form] if name in own else "call"
+        yield f"the {sort} of line {line} isn't visible here, or no {sort} may stand here" if line else f"{name} is a call"
+        return
+    near = tables.nearest(name, {*own, *tables.calls(), *tables.constants()})
     yield f"do you mean {near}?" if near else None
 
 
 def own_names(source):
-    """The names that the script declares."""
-    forms = ("global", "function", "state", "parameter", "declare")
-    found = set()
-    for root in syntax.roots(source.script):
-        found.update(it.text for it in syntax.walk(root) if it.form in forms)
-    return found
+    """The names that the script declares, with their nodes."""
+    nodes = [it for root in syntax.roots(source.script) for it in syntax.walk(root)]
+    return {it.text: it for it in nodes if it.form in SORTS}
 
 
 def taken_name(source):
@@ -202,6 +213,22 @@ def wrong_kind(source):
             can_cast = (it.found, it.wanted) in WRITTEN_CASTS
             yield f"write ({it.wanted}) before it" if can_cast else None
             return
+    yield from wrong_part(source)
+
+
+def wrong_part(source):
+    """Of a list in a list, and of a `return` with a value where none may stand, or the other way round."""
+    found = []
+
+    def report(node, scope, routine):
+        if node.form == "list" and any(it.first == source.at and scope.kind_of(it) == "list" for it in node.parts):
+            found.append("a list holds no lists: join them with +")
+        if node.form == "return" and node.first == source.at:
+            kind = routine.kind
+            found.append(f"{routine.text} gives {with_article(kind)}" if kind else f"{routine.text} gives nothing")
+
+    kinds.visit(source.script, report)
+    yield found[0] if found else None
 
 
 def with_article(kind):
@@ -296,7 +323,8 @@ def wrong_event(source):
         yield f"LSL has the event {name}, and this language hasn't"
         return
     near = tables.nearest(name, tables.events())
-    yield f"do you mean {tables.signature(tables.events()[near])}?" if near else None
+    known = f"do you mean {tables.signature(tables.events()[near])}?" if near else None
+    yield known or "a state has handlers of events: " + ", ".join(tables.events())
 
 
 HINTS = {

@@ -2,7 +2,7 @@
 import sys
 from collections import Counter
 
-from . import journal, observing, telling, timeline, worlds
+from . import faults, journal, observing, telling, timeline, worlds
 from .places import write_text
 
 COLOURS = {
@@ -93,7 +93,7 @@ def show(binary, text, world_text, html=None, is_shown=True, is_coloured=None, h
     try:
         entries = journal.read(text)
     except ValueError as error:
-        print(f"show: {error}", file=sys.stderr)
+        print(faults.explained(text.split("\n")[0]) or f"show: {error}", file=sys.stderr)
         return 1
     world = worlds.read(world_text) if world_text else None
     steps = steps_of(binary, world_text, entries)

@@ -134,12 +134,15 @@ class Reader:
         return self.node("list", "", parts, first)
 
     def atom(self):
-        first, is_negative = self.at, self.text() == "-"
-        if is_negative:
+        first, sort = self.at, self.sort()
+        if self.text() == "-":
             self.take()
-        sort = self.sort()
-        if sort != "integer" and (is_negative or sort not in ("string", "name")):
-            self.wanted.append("a number" if is_negative else "a number, a text or a constant")
+            if self.sort() != "integer":
+                self.wanted.append("a number")
+                self.fail()
+            return self.node("unary", "-", [self.atom()], first)
+        if sort not in ("integer", "string", "name"):
+            self.wanted.append("a number, a text or a constant")
             self.fail()
         return self.node("name" if sort == "name" else "literal", self.take(), (), first, kind=sort)
 
