@@ -95,8 +95,7 @@ def carry(binary, command):
     follower, first = standing.Follower(), b""
     with tempfile.TemporaryDirectory(prefix="lsl-") as room, tempfile.TemporaryFile() as notes:
         words = [command.command, handed_name(command, room)]
-        how = {"stdin": subprocess.DEVNULL, "stdout": subprocess.PIPE, "stderr": notes}
-        with subprocess.Popen([binary, *words], **how) as running:
+        with subprocess.Popen([binary, *words], stdout=subprocess.PIPE, stderr=notes) as running:
             for piece in iter(lambda: os.read(running.stdout.fileno(), 65536), b""):
                 first = (first + piece)[:4096]
                 follower.feed(piece)

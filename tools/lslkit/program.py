@@ -15,8 +15,7 @@ SIGNALLED = 128
 
 def run(program, words):
     """A whole run."""
-    how = {"stdin": subprocess.DEVNULL, "stdout": subprocess.PIPE, "stderr": subprocess.PIPE}
-    ran = subprocess.run([program, *words], check=False, **how)
+    ran = subprocess.run([program, *words], stdout=subprocess.PIPE, stderr=subprocess.PIPE, check=False)
     return Run(status_of(ran.returncode), ran.stdout, ran.stderr)
 
 
