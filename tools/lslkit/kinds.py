@@ -4,8 +4,9 @@ from collections import namedtuple
 from . import tables
 from .syntax import walk
 
-# A value that has to become a kind: the value, that kind, its own one, and where it stands in words.
-Conversion = namedtuple("Conversion", "value wanted found where")
+# A value that has to become a kind: the value, that kind, its own one, where it stands in words, and whether it is an
+# argument that would fit in another order.
+Conversion = namedtuple("Conversion", "value wanted found where is_swapped")
 TEXTS = ("string", "key")
 
 
@@ -94,8 +95,8 @@ def conversions(script):
     """Each value that is stored, passed or returned, with the kind that it has to be of."""
     found = []
 
-    def add(value, wanted, where, scope):
-        found.append(Conversion(value, wanted, scope.kind_of(value), where))
+    def add(value, wanted, where, scope, is_swapped=False):
+        found.append(Conversion(value, wanted, scope.kind_of(value), where, is_swapped))
 
     def report(node, scope, routine):
         if node.form in ("declare", "global") and node.parts:
@@ -105,8 +106,10 @@ def conversions(script):
         if node.form == "return" and node.parts:
             add(node.parts[0], routine.kind, f"the result of {routine.text}", scope)
         row = scope.call(node.text) if node.form == "call" else None
+        given = [scope.kind_of(it) or "" for it in node.parts]
+        is_swapped = row is not None and sorted(given) == sorted(row.params)
         for number, (value, wanted) in enumerate(zip(node.parts, row.params if row else ()), 1):
-            add(value, wanted, f"argument {number} of {tables.signature(row)}", scope)
+            add(value, wanted, f"argument {number} of {tables.signature(row)}", scope, is_swapped)
 
     visit(script, report)
     return found

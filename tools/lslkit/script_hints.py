@@ -211,7 +211,8 @@ def wrong_kind(source):
             said = f"{it.where} is to be {with_article(wanted)}"
             yield f"{said}, and this is {with_article(it.found)}" if it.found else None
             can_cast = (it.found, it.wanted) in WRITTEN_CASTS
-            yield f"write ({it.wanted}) before it" if can_cast else None
+            cast = f"write ({it.wanted}) before it" if can_cast else None
+            yield "perhaps the arguments stand in another order" if it.is_swapped else cast
             return
     yield from wrong_part(source)
 
@@ -258,23 +259,28 @@ def no_cast(source):
 
 
 def call_at(source):
-    """What is called at the fault's place, and with how many arguments."""
+    """What is called at the fault's place, and the kinds of the arguments."""
     found = []
 
     def report(node, scope, _):
         if node.form == "call" and node.at == source.at:
-            found.append((scope.call(node.text), len(node.parts)))
+            found.append((scope.call(node.text), [scope.kind_of(it) for it in node.parts]))
 
     kinds.visit(source.script, report)
-    return found[0] if found else (None, 0)
+    return found[0] if found else (None, [])
 
 
 def wrong_count(source):
-    row, count = call_at(source)
+    row, given = call_at(source)
     if row:
+        count = len(given)
         yield f"{tables.signature(row)} takes {len(row.params)}, and here {'is' if count == 1 else 'are'} {count}"
-        if count < len(row.params):
-            yield f"argument {count + 1}, {with_article(row.params[count])}, is missing"
+        fitting = [kinds.becomes(*pair) for pair in zip(given, row.params)]
+        place = fitting.index(False) if False in fitting else min(count, len(row.params))
+        if count + 1 == len(row.params):
+            yield f"argument {place + 1}, {with_article(row.params[place])}, is missing"
+        elif count == len(row.params) + 1:
+            yield f"argument {place + 1} is one too many"
 
 
 def no_result(source):
