@@ -10,8 +10,8 @@ from .places import write_text
 
 USAGE = """\
 usage: lsl once FILE                runs a script, and prints its journal
-       lsl replay WORLD [--show]    plays a world file, and prints its journal; with --show readably, and with
-                                    --html FILE as a page with a timeline
+       lsl replay WORLD             plays a world file, and prints its journal
+                                    both: with --show readably, with --html PAGE as a page with a timeline
        lsl check FILE               says that a script is accepted, or tells its first fault
        lsl play FILE ..             plays a script without a world file: 'lsl play --help'
        lsl --try WORDS              the same words, by a program that isn't proved, after a minute at first
@@ -21,6 +21,7 @@ Write ./-x for a file whose name begins with '-'. The first call proves and buil
 long: about half an hour on four processors. Later calls start at once, until a source of the program changes.
 'tools/explain FILE' tells a script's first fault in words, as 'lsl check FILE' does on a terminal."""
 COMMANDS = ("once", "replay", "check")
+SHOWN = ("once", "replay")
 READ_FAULT = 4
 NOT_MADE = 125
 
@@ -38,9 +39,9 @@ class Options:
             raise Bad(f"'{self.command}' is no command")
         rest = iter(words[1:])
         for word in rest:
-            if word == "--show" and self.command == "replay":
+            if word == "--show" and self.command in SHOWN:
                 self.show = True
-            elif word == "--html" and self.command == "replay":
+            elif word == "--html" and self.command in SHOWN:
                 self.html = next(rest, None)
             elif word.startswith("-"):
                 raise Bad(f"'{word}' is no option of it")
@@ -53,6 +54,10 @@ class Options:
     @property
     def is_world(self):
         return self.command == "replay"
+
+    def world(self):
+        """The text of the world that is played."""
+        return program.world_of(self.name) if self.is_world else standing.world_of_once(self.name)
 
 
 def main(words):
@@ -154,18 +159,17 @@ def tell(command, status, first, notes):
 
 def tell_standing(binary, command, follower):
     """Says which scripts still stand in a handler, and in which line."""
-    text = program.world_of(command.name) if command.is_world else standing.world_of_once(command.name)
-    for number, name, event, line in standing.told(binary, text, follower):
+    for number, name, event, line in standing.told(binary, command.world(), follower):
         place = f", line {line}" if line else ""
         print(f'lsl: script {number} "{name}" stands in {event}{place}', file=sys.stderr)
 
 
 def show(binary, command):
-    """Runs a world, and shows its journal readably or as a page."""
-    ran = program.run(binary, ["replay", command.name])
+    """Runs a command, and shows its journal readably or as a page."""
+    ran = program.run(binary, [command.command, command.name])
     if ran.status:
         hand_on(ran.output)
         tell(command, ran.status, ran.output, ran.notes)
         return ran.status
     text = ran.output.decode(errors="surrogateescape")
-    return showing.show(binary, text, program.world_of(command.name), command.html, command.show)
+    return showing.show(binary, text, command.world(), command.html, command.show)

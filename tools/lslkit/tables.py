@@ -24,7 +24,7 @@ def kinds_of(words):
 @functools.lru_cache(maxsize=None)
 def calls():
     """The built-in calls, by their names."""
-    found = rows("calls", r'"(\w+)" (\w+) \(([^)]*)\)(?: (\w+))?')
+    found = rows("calls", r'"(\w+)" (\S+) \(([^)]*)\)(?: (\w+))?')
     return {name: Call(name, home, kinds_of(params), KINDS.get(result)) for name, home, params, result in found}
 
 
