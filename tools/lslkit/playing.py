@@ -201,6 +201,14 @@ class Play:
         return showing.show(binary, text, self.stage.text(), self.html, not self.html, hidden=HIDDEN)
 
 
+def with_history():
+    """Has the terminal keep the lines that were typed, where Python can."""
+    try:
+        import readline
+    except ImportError:
+        pass
+
+
 def replayed(binary, text):
     with tempfile.TemporaryDirectory(prefix="lsl-play-") as room:
         path = os.path.join(room, "world")
@@ -225,6 +233,7 @@ class Talk:
     def run(self):
         is_terminal = sys.stdin.isatty()
         if is_terminal:
+            with_history()
             print("touch, say, wait, state, world, help, quit", file=sys.stderr)
         status = self.show()
         while status == 0:

@@ -2,6 +2,7 @@
 import re
 
 from . import worlds
+from .tables import nearest
 
 LIMITS = {"object": "64 objects", "prim": "255 prims an object", "script": "256 scripts"}
 
@@ -16,12 +17,14 @@ def hint(fault, text, number):
 
 
 def bad_form(text, number, line):
+    if line.startswith("\ufeff"):
+        return 1, ["an invisible mark stands before the first word: save the file without a byte order mark"]
     wrong = worlds.wrong_word(line)
     first = worlds.words_of(line)[0].text
     if wrong:
-        is_known = first in worlds.FORMS
-        form = f"the form is `{worlds.form_of(first)}`" if is_known else "a line begins with " + ", ".join(worlds.FORMS)
-        return wrong[0], [wrong[1], form]
+        near = nearest(first, worlds.FORMS)
+        form = f"do you mean {near}?" if near else "a line begins with " + ", ".join(worlds.FORMS)
+        return wrong[0], [wrong[1], f"the form is `{worlds.form_of(first)}`" if first in worlds.FORMS else form]
     begin = next((it for it, row in enumerate(worlds.lines_of(text), 1) if row.split() == ["begin"]), None)
     is_behind = begin is not None and number > begin
     if first == "begin" and is_behind:
