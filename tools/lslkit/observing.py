@@ -14,10 +14,38 @@ MARKER = "default { touch_start(integer n) { } }\n"
 MAX_STEPS = 100000
 MAX_BYTES = 1000000
 class Observation:
-    """For each line of a journal its step's place in the world's list, and what each probe told before which line."""
+    """Of a journal each line's step, as its place in the world's list, what each probe told before which line, and for
+    each `clear` the state in which its script stands then."""
 
-    def __init__(self, steps, probes):
-        self.steps, self.probes = steps, probes
+    def __init__(self, steps, probes, states):
+        self.steps, self.probes, self.states = steps, probes, states
+
+    def state_now(self):
+        """The state in which a world's one script stands at the end."""
+        told = [(place, probe.name) for place, _, probe in self.probes if probe.sort == "state"]
+        # A `clear` stands behind the handlers of the state that was left.
+        changes = [(place + 1, state) for place, state in self.states.items()]
+        return max([(0, "default"), *told, *changes], key=lambda it: it[0])[1]
+
+
+def states_of(entries, probes):
+    """For each `clear` the state in which its script stands then: the one that it was told to go to, or `default`."""
+    found, going, leaving, at = {}, {}, set(), 0
+    for place, entry in enumerate(entries):
+        while at < len(probes) and probes[at][0] <= place:
+            _, script, told = probes[at]
+            at += 1
+            if told.sort == "reset":
+                going.pop(script, None)
+            elif told.sort == "to" and script not in leaving:
+                going[script] = told.name
+        if entry.word == "took":
+            is_leaving = entry.rest == "state_exit"
+            (leaving.add if is_leaving else leaving.discard)(entry.number)
+            going.pop(None if is_leaving else entry.number, None)
+        elif entry.word == "clear":
+            found[place] = going.pop(entry.number, "default")
+    return found
 
 
 class Second:
@@ -86,7 +114,8 @@ class Second:
             else:
                 kept.append(entry)
                 steps.append(count * self.stride if self.stride else None)
-        return kept, Observation(steps if self.stride else None, told)
+        states = states_of(kept, told) if self.probes else {}
+        return kept, Observation(steps if self.stride else None, told, states)
 
 
 def observe(binary, text, entries):

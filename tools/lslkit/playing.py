@@ -228,7 +228,7 @@ class Talk:
     """Reads steps line by line. The whole world is played at each, and what is new of its journal is shown."""
 
     def __init__(self, binary, stage):
-        self.binary, self.stage, self.shown, self.entries = binary, stage, 0, []
+        self.binary, self.stage, self.shown = binary, stage, 0
 
     def run(self):
         is_terminal = sys.stdin.isatty()
@@ -298,15 +298,14 @@ class Talk:
         ran = replayed(self.binary, self.stage.text())
         if ran.status:
             return refused(ran)
-        entries = [it for it in journal.read(ran.output.decode(errors="surrogateescape")) if it.word != "home"]
-        self.entries = entries
+        text = self.stage.text()
+        everything = journal.read(ran.output.decode(errors="surrogateescape"))
+        observed = observing.observe(self.binary, text, everything)
         painter = showing.Painter(sys.stdout.isatty())
-        new = entries[self.shown :]
-        for line in showing.lines(new, worlds.read(self.stage.text()), None, painter):
-            print(line)
-        if not new and self.shown:
-            print(painter.paint("name", "(nothing happens)"))
-        self.shown = len(entries)
+        shown = showing.lines(everything, worlds.read(text), painter, observed, ("home", *worlds.FORMS))
+        new = list(shown)[self.shown :]
+        print("\n".join(new or [painter.paint("name", "(nothing happens)")]))
+        self.shown += len(new)
         sys.stdout.flush()
         return 0
 
@@ -319,7 +318,7 @@ class Talk:
         running = [it for it in journal.handlers(everything) if it.end is None]
         print(f"the clock is at {telling.seconds(self.stage.clock)} s")
         if observed and observed.probes:
-            print(f"in the state {state_of(everything, observed.probes)}")
+            print(f"in the state {observed.state_now()}")
         faults = [it for it in everything if it.word == "fault"]
         if faults:
             print(names.entry(faults[-1]))
@@ -331,18 +330,3 @@ class Talk:
             charges = [it for it in everything if it.word == "done"]
             charged = f"; charged {int(charges[-1].rest):,} bytes of 65,536" if charges else ""
             print(f"waits for an event{charged}")
-
-
-def state_of(entries, probes):
-    """The state of the world's one script. A `clear` says that it is in the one that it went to, or was reset."""
-    state, next_state, at = "default", None, 0
-    for place, entry in enumerate(entries):
-        while at < len(probes) and probes[at][0] <= place:
-            told = probes[at][2]
-            if told.sort == "state":
-                state = told.name
-            next_state = told.name if told.sort == "to" else next_state
-            at += 1
-        if entry.word == "clear":
-            state, next_state = next_state or "default", None
-    return state

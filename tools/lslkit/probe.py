@@ -7,8 +7,8 @@ from collections import namedtuple
 
 from . import syntax, tokens
 
-# What a probe tells: `state` the state in which a handler stands, `to` the one that it goes to, `line` where it is;
-# and the line of that place.
+# What a probe tells: `state` the state in which a handler stands, `to` the one that it goes to, `reset` that it resets
+# its script, `line` where it is; and the line of that place.
 Probe = namedtuple("Probe", "sort name line")
 LOOPS = ("while", "do", "for")
 OWN_WAITS = {"llSleep", "llResetScript"}
@@ -56,6 +56,8 @@ class Prober:
         """The probe before a statement, where a tick may pass in it."""
         if node.form == "state":
             return self.probe("to", node.text, node.first)
+        if node.form == "value" and node.parts[0].form == "call" and node.parts[0].text == "llResetScript":
+            return self.probe("reset", "", node.first)
         is_told = node.form in (*LOOPS, "jump") or any(map(self.waits, self.own_values(node)))
         return self.probe("line", "", node.first) if is_told else ""
 

@@ -29,9 +29,10 @@ class Painter:
         return f"\033[{COLOURS[sort]}m{text}\033[0m" if self.is_coloured and sort in COLOURS else text
 
 
-def lines(entries, world, steps, painter, hidden=()):
-    """The readable lines. `steps` has the step's place for each entry, or is none; `hidden` words aren't shown."""
-    names = telling.Names(world)
+def lines(entries, world, painter, observed=None, hidden=()):
+    """The readable lines, with the steps and states that were observed. Steps and lines of `hidden` words aren't shown."""
+    names, steps = telling.Names(world), observed.steps if observed else None
+    states = observed.states if observed else {}
     clocks = telling.clocks(names.world)
     width = max([8, *map(len, names.scripts)])
     shown = 0
@@ -48,7 +49,7 @@ def lines(entries, world, steps, painter, hidden=()):
             continue
         indent = "  " if entry.word in ("took", "drop", "clear") else "    "
         name = painter.paint("name", f"{names.script(entry.number):>{width}} ")
-        yield name + indent + painter.paint(entry.word, names.entry(entry))
+        yield name + indent + painter.paint(entry.word, names.entry(entry, states.get(place)))
 
 
 def step_line(names, number, clock, painter):
@@ -82,12 +83,6 @@ def counted(count, noun):
     return f"{count:,} {noun}" + ("" if count == 1 else "s")
 
 
-def steps_of(binary, text, entries):
-    """For each entry the place of its step, where the world can be played and gives this journal."""
-    observed = observing.observe(binary, text, entries) if binary and text else None
-    return observed.steps if observed else None
-
-
 def show(binary, text, world_text, html=None, is_shown=True, is_coloured=None, hidden=()):
     """Prints a journal readably, or writes its page; the status."""
     try:
@@ -96,16 +91,16 @@ def show(binary, text, world_text, html=None, is_shown=True, is_coloured=None, h
         print(faults.explained(text.split("\n")[0]) or f"show: {error}", file=sys.stderr)
         return 1
     world = worlds.read(world_text) if world_text else None
-    steps = steps_of(binary, world_text, entries)
-    if world and world.steps and steps is None:
+    observed = observing.observe(binary, world_text, entries) if binary and world else None
+    if world and world.steps and not (observed and observed.steps):
         print("show: the steps are left out: the world wasn't played again to this journal", file=sys.stderr)
     if html:
         names = [it.prims[0].name for it in world.objects if it.prims[0].name] if world else []
-        write_text(html, timeline.page(entries, world, steps, ", ".join(names[:4]) or "Journal"))
+        write_text(html, timeline.page(entries, world, observed, ", ".join(names[:4]) or "Journal"))
         print(f"show: {html} is written", file=sys.stderr)
     if is_shown or not html:
         painter = Painter(sys.stdout.isatty() if is_coloured is None else is_coloured)
-        for line in lines(entries, world, steps, painter, hidden):
+        for line in lines(entries, world, painter, observed, hidden):
             print(line)
         print()
         for line in summary(entries, world, painter):

@@ -62,8 +62,10 @@ class Names:
         event, args = journal.event_of(entry)
         return f"{event}({', '.join(self.value(*it) for it in journal.fields(args))})"
 
-    def entry(self, entry):
-        """A line of the journal, without its script's name."""
+    def entry(self, entry, state=None):
+        """A line of the journal, without its script's name. `state` is the one of a `clear`, where it is known."""
+        if state:
+            return f"in the state {state}{self.gone(entry)}"
         tell = getattr(self, f"tell_{entry.word}", None)
         return tell(entry) if tell else f"{entry.word} {entry.rest}"
 
@@ -74,7 +76,11 @@ class Names:
         return f"loses {self.event(entry)}: 64 events wait"
 
     def tell_clear(self, entry):
-        return "in a new state, or reset" + ("" if entry.rest == "0" else f"; {entry.rest} waiting events are gone")
+        return f"in a new state, or reset{self.gone(entry)}"
+
+    @staticmethod
+    def gone(entry):
+        return "" if entry.rest == "0" else f"; waiting events that are gone: {entry.rest}"
 
     def tell_chat(self, entry):
         (voice, _), (channel, _), (text, _) = journal.fields(entry.rest)

@@ -85,9 +85,10 @@ def first_entries(world, steps):
     return found
 
 
-def data_of(entries, world, steps):
+def data_of(entries, world, observed):
     """What the page shows, as it is handed to it."""
     names, handlers = telling.Names(world), journal.handlers(entries)
+    steps, states = (observed.steps, observed.states) if observed else (None, {})
     places = first_entries(world, steps) if world else []
     clocks = telling.clocks(names.world)
     count = max([len(names.scripts), *(it.number for it in entries if it.word != "home")])
@@ -96,7 +97,7 @@ def data_of(entries, world, steps):
         "owners": [prim_name(names, it) for it in names.world.scripts],
         "words": [it.word for it in entries],
         "by": [it.number for it in entries],
-        "texts": [names.entry(it) for it in entries],
+        "texts": [names.entry(it, states.get(place)) for place, it in enumerate(entries)],
         "handlers": [[it.script, it.begin, it.end, ENDINGS[it.ending]] for it in handlers],
         "steps": [[place, clock, step.word, names.step(step)] for (step, place), clock in zip(places, clocks)],
         "arrows": Arrows(entries, world).all(places),
@@ -108,9 +109,9 @@ def prim_name(names, script):
     return names.object_name(prim.object) + (f", {prim.name}" if prim.link > 1 else "")
 
 
-def page(entries, world, steps, title):
+def page(entries, world, observed, title):
     """The page's text."""
     with open(TEMPLATE, encoding="utf-8") as file:
         template = file.read()
-    data = json.dumps(data_of(entries, world, steps), separators=(",", ":"))
+    data = json.dumps(data_of(entries, world, observed), separators=(",", ":"))
     return template.replace("TITLE", escape(title)).replace("DATA", data.replace("</", "<\\/"))
