@@ -155,6 +155,8 @@ def tell(command, status, first, notes):
     sys.stderr.flush()
     if status == READ_FAULT:
         program.tell_unread(command.name, command.is_world)
+    if status > program.SIGNALLED:
+        print(f"lsl: the program was ended by signal {status - program.SIGNALLED}", file=sys.stderr)
 
 
 def tell_standing(binary, command, follower):

@@ -112,6 +112,7 @@ def prim_name(names, script):
 def page(entries, world, observed, title):
     """The page's text."""
     with open(TEMPLATE, encoding="utf-8") as file:
-        template = file.read()
-    data = json.dumps(data_of(entries, world, observed), separators=(",", ":"))
-    return template.replace("TITLE", escape(title)).replace("DATA", data.replace("</", "<\\/"))
+        head, _, tail = file.read().partition("DATA")
+    # No `<` stands in the data, so that none of its texts ends the page's script.
+    data = json.dumps(data_of(entries, world, observed), separators=(",", ":")).replace("<", "\\u003c")
+    return head.replace("TITLE", escape(title)) + data + tail
