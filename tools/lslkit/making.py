@@ -57,18 +57,26 @@ def job_count():
 class Progress:
     """Says of each crate that it is proved, how many there are, and for how long this goes on."""
 
-    def __init__(self, crates, jobs):
-        self.count, self.jobs, self.done, self.begun = len(crates), jobs, 0, time.time()
+    def __init__(self, crates):
+        self.crates, self.name, self.done, self.begun = crates, None, 0, time.time()
 
     def tell(self, line):
         if line.startswith("== "):
-            self.name = line.split()[1]
+            self.finish("was proved before")
+            name = line.split()[1]
+            self.name = name if name in self.crates else None
         elif line.startswith("logic=proved"):
-            self.done += 1
-            minutes = int((time.time() - self.begun) / 60 + 0.5)
-            say(f"{self.name} is proved, {self.done} of {self.count} crates in {minutes} min")
+            self.finish("is proved")
         elif "error" in line:
             print(line, file=sys.stderr, flush=True)
+
+    def finish(self, how):
+        """Of the crate whose lines were read. One that was proved before has none."""
+        if self.name:
+            self.done += 1
+            minutes = int((time.time() - self.begun) / 60 + 0.5)
+            say(f"{self.name} {how}, {self.done} of {len(self.crates)} crates in {minutes} min")
+        self.name = None
 
 
 def make_proved():
@@ -78,7 +86,7 @@ def make_proved():
     jobs, crates = job_count(), sources.crates_of(PROGRAM)
     say(f"proving and building the program: {len(crates)} crates, {jobs} at a time")
     say(f"for some {max(PROCESSOR_MINUTES // jobs, 25)} minutes the first time, and later what changed")
-    folder, progress = in_top("crates", PROGRAM), Progress(crates, jobs)
+    folder, progress = in_top("crates", PROGRAM), Progress(crates)
     words = ["rt", "all", "check", "--jobs", str(jobs)]
     how = {"cwd": folder, "stdin": subprocess.DEVNULL, "stdout": subprocess.PIPE, "stderr": subprocess.STDOUT}
     with subprocess.Popen(words, **how) as proving:
