@@ -1,5 +1,5 @@
 #!/usr/bin/env python3
-"""Prints the tables of crates/lsl_value_tests/src/operators/rows.rt: what operators on 32-bit integers give.
+"""Prints the rows of crates/lsl_value_tests/src/operators/rows.rt: what operators on 32-bit integers give.
 
 Run it as `python3 tools/operator_rows.py > crates/lsl_value_tests/src/operators/rows.rt`.
 
@@ -68,9 +68,22 @@ def rows(name):
     return [(a, b, right(a, b)) for a, b in sorted(best)]
 
 
-print("//! What operators on integers give, as computed by `tools/operator_rows.py`: left, right, value.")
+SIGNS = {
+    "ADD": "+",
+    "SUB": "-",
+    "MUL": "*",
+    "DIV": "/",
+    "REM": "%",
+    "SHL": "<<",
+    "SHR": ">>",
+    "BIT_AND": "&",
+    "BIT_OR": "|",
+    "BIT_XOR": "^",
+}
+
+print("//! What operators on integers give, as computed by `tools/operator_rows.py`.")
+print('\npub(crate) const COMPUTED: &str = r"# left, sign, right, value', end="")
 for name in RIGHT:
-    print(f"\npub(crate) const {name}: [(i32, i32, i32); {COUNT}] = [")
-    for row in rows(name):
-        print("    ({}, {}, {}),".format(*row))
-    print("];")
+    for left, right, value in rows(name):
+        print(f"\nop I{left} {SIGNS[name]} I{right} -> I{value}", end="")
+print('";')

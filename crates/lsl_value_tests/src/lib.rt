@@ -1,18 +1,26 @@
-//! Tests of values, their bytes, operators, tables and pure calls: what no clause says of them, by tables whose
-//! values come from outside.
+//! Tests of texts, values, their bytes, operators, tables, pure calls, and of the outside in memory: what no clause says of
+//! them, by rows of text whose answers come from outside.
 #![tactic(auto)]
 
 #[cfg(test)]
+mod bytes;
+#[cfg(test)]
 mod calls;
 #[cfg(test)]
-mod fields;
+mod lists;
 #[cfg(test)]
 mod numbers;
 #[cfg(test)]
 mod operators;
 #[cfg(test)]
-mod sharing;
+mod ports;
+#[cfg(test)]
+mod rows;
 #[cfg(test)]
 mod tables;
 #[cfg(test)]
+mod texts;
+#[cfg(test)]
 mod values;
+#[cfg(test)]
+mod words;

@@ -1,192 +1,132 @@
 //! Charges, truths and keys, and the rows of operators and casts.
 
-use crate::calls::value;
-use lsl_value::{Atom, BinaryOp, Items, Kind, Text, Value, Values, charge, copy, truth, valid_key};
+use crate::rows::hold;
+use crate::words;
+use crate::words::{headed, letter, letter_or_dash, tell, text};
+use lsl_text::NoMemory;
+use lsl_value::{BinaryOp, Kind, Value, charge, copy, truth, valid_key};
 use std::alloc::Global;
-use std::process::Abort;
 use std::test::Fail;
 
-// The characters of a key, whether they are valid, and whether the key holds.
-const KEYS: &[(&str, bool, bool)] = &[
-    ("00000000-0000-0000-0000-000000000000", true, false),
-    ("00000000-0000-0000-0000-0000000000aa", true, true),
-    ("ABCDEF01-2345-6789-abcd-EF0123456789", true, true),
-    ("ABCDEF01-2345-6789-abcd-EF012345678", false, false),
-    ("ABCDEF01-2345-6789-abcd-EF01234567890", false, false),
-    ("ABCDEF0-12345-6789-abcd-EF0123456789", false, false),
-    ("ABCDEF01-2345-6789-abcd-EF012345678g", false, false),
-    ("ABCDEF01-2345-6789-abcd-EF01234567é", false, false),
-    ("abcdef0123456789abcdef0123456789", false, false),
-    ("{bcdef01-2345-6789-abcd-ef012345678}", false, false),
-    ("", false, false),
-];
-
-// A value as in the cases of calls, its kind, its charge, and whether it holds.
-const CHARGES: &[(&str, Kind, u64, bool)] = &[
-    ("I0", Kind::Int, 8, false),
-    ("I-1", Kind::Int, 8, true),
-    ("S", Kind::Str, 16, false),
-    ("S0", Kind::Str, 17, true),
-    ("Shéh", Kind::Str, 20, true),
-    ("Kkey", Kind::Key, 19, false),
-    ("L", Kind::List, 16, false),
-    ("Ln1/théh/yk", Kind::List, 85, true),
-];
-
-const INT: Option<Kind> = Some(Kind::Int);
-
-const STR: Option<Kind> = Some(Kind::Str);
-
-const LIST: Option<Kind> = Some(Kind::List);
-
-// Two kinds, those of their sum and of their comparison, and whether the first is cast to the second.
-const KINDS: &[(Kind, Kind, Option<Kind>, Option<Kind>, bool)] = &[
-    (Kind::Int, Kind::Int, INT, INT, true),
-    (Kind::Int, Kind::Str, None, None, true),
-    (Kind::Int, Kind::Key, None, None, false),
-    (Kind::Int, Kind::List, LIST, None, true),
-    (Kind::Str, Kind::Int, None, None, true),
-    (Kind::Str, Kind::Str, STR, INT, true),
-    (Kind::Str, Kind::Key, None, INT, true),
-    (Kind::Str, Kind::List, LIST, None, true),
-    (Kind::Key, Kind::Int, None, None, false),
-    (Kind::Key, Kind::Str, None, INT, true),
-    (Kind::Key, Kind::Key, None, INT, true),
-    (Kind::Key, Kind::List, LIST, None, true),
-    (Kind::List, Kind::Int, LIST, None, false),
-    (Kind::List, Kind::Str, LIST, None, true),
-    (Kind::List, Kind::Key, LIST, None, false),
-    (Kind::List, Kind::List, LIST, INT, true),
-];
-
-pub(crate) fn text(alloc: Global, characters: &str) -> Result<Text, Fail> {
-    Ok(Text::from_utf8(alloc, characters.as_bytes())?.ok_or("no text")?)
+/// Whether the characters of a key are valid, and whether the key holds.
+pub(crate) fn key(alloc: Global, characters: &str) -> Result<String, NoMemory> {
+    let key = text(alloc, characters)?;
+    let valid = valid_key(&key);
+    format!(in alloc; "{valid} {}", truth(&Value::Key(key)))
 }
 
-pub(crate) fn sample_list(alloc: Global) -> Result<Items, Fail> {
-    let atoms = vec![in alloc;
-        Atom::Int(1),
-        Atom::Str(text(alloc, "héh")?),
-        Atom::Key(text(alloc, "k")?),
-    ]?;
-    Ok(Items::from_vec(atoms)?)
+/// A value's kind, its charge, whether it holds, and its copy.
+pub(crate) fn value(alloc: Global, word: &str) -> Result<String, NoMemory> {
+    let value = words::value(alloc, word)?;
+    let mut told = String::new(alloc);
+    told.push(letter(value.kind()))?;
+    write!(told, " {} {} ", charge(&value), truth(&value))?;
+    tell(&mut told, &copy(&value)?)?;
+    Ok(told)
 }
+
+/// How many values there are, and a copy of them.
+pub(crate) fn values(alloc: Global, word: &str) -> Result<String, NoMemory> {
+    let values = words::values(alloc, word)?;
+    let mut told = format!(in alloc; "{}", values.len())?;
+    for value in values.copy(alloc)?.as_slice() {
+        told.push(' ')?;
+        tell(&mut told, value)?;
+    }
+    Ok(told)
+}
+
+/// Two kinds, by their letters.
+fn kinds(letters: &str) -> (Kind, Kind) {
+    let (left, right) = headed(letters);
+    (words::kind(left), words::kind(right))
+}
+
+/// The kinds of a sum and of a comparison of two kinds, and whether the first is cast to the second.
+pub(crate) fn pair(alloc: Global, letters: &str) -> Result<String, NoMemory> {
+    let (left, right) = kinds(letters);
+    let mut told = String::new(alloc);
+    told.push(letter_or_dash(BinaryOp::Add.result_kind(left, right)))?;
+    told.push(letter_or_dash(BinaryOp::Unequal.result_kind(left, right)))?;
+    write!(told, " {}", left.casts_to(right))?;
+    Ok(told)
+}
+
+/// The kind that an operator gives: `SIGN KINDS`.
+pub(crate) fn kind(alloc: Global, asked: &str) -> Result<String, NoMemory> {
+    let (sign, letters) = asked.split_once(' ').unwrap_or((asked, ""));
+    let (left, right) = kinds(letters);
+    let mut told = String::new(alloc);
+    told.push(letter_or_dash(crate::operators::operator(sign).result_kind(left, right)))?;
+    Ok(told)
+}
+
+/// Whether the first of two kinds is cast to the second where nobody writes it.
+pub(crate) fn implicitly(alloc: Global, letters: &str) -> Result<String, NoMemory> {
+    let (from, to) = kinds(letters);
+    format!(in alloc; "{}", from.casts_implicitly_to(to))
+}
+
+const KEYS: &str = r"# the characters of a key; whether they are valid, and whether the key holds
+key 00000000-0000-0000-0000-000000000000 -> true false
+key 00000000-0000-0000-0000-0000000000aa -> true true
+key ABCDEF01-2345-6789-abcd-EF0123456789 -> true true
+key ABCDEF01-2345-6789-abcd-EF012345678 -> false false
+key ABCDEF01-2345-6789-abcd-EF01234567890 -> false false
+key ABCDEF0-12345-6789-abcd-EF0123456789 -> false false
+key ABCDEF01-2345-6789-abcd-EF012345678g -> false false
+key ABCDEF01-2345-6789-abcd-EF01234567é -> false false
+key abcdef0123456789abcdef0123456789 -> false false
+key {bcdef01-2345-6789-abcd-ef012345678} -> false false
+key  -> false false";
 
 #[test]
 fn keys_of_either_case(rt: HostRuntime) -> Result<(), Fail> {
-    for (characters, valid, holds) in KEYS {
-        let key = text(rt.alloc(), characters)?;
-        assert_eq!(rt; valid_key(&key), *valid, "{characters}");
-        assert_eq!(rt; truth(&Value::Key(key)), *holds, "{characters}");
-    }
-    Ok(())
+    Ok(hold(&rt, KEYS)?)
 }
 
-/// The value's kind, its charge, and whether it holds.
-fn shows(rt: &impl Abort, value: &Value, kind: Kind, charged: u64, holds: bool) {
-    assert_eq!(rt; value.kind(), kind);
-    assert_eq!(rt; charge(value), charged);
-    assert_eq!(rt; truth(value), holds);
-}
-
-#[test]
-fn charges_and_truths(rt: HostRuntime) -> Result<(), Fail> {
-    for (word, kind, charged, holds) in CHARGES {
-        shows(&rt, &value(rt.alloc(), word)?, *kind, *charged, *holds);
-    }
-    Ok(())
-}
+const CHARGES: &str = r"# a value; its kind, its charge, whether it holds, and its copy
+value I0 -> i 8 false I0
+value I-1 -> i 8 true I-1
+value S -> s 16 false S
+value S0 -> s 17 true S0
+value Shéh -> s 20 true Shéh
+value Kkey -> k 19 false Kkey
+value L -> l 16 false L
+value Ln1/théh/yk -> l 85 true Ln1/théh/yk
+values I3 -> 1 I3";
 
 #[test]
-fn copies_are_the_same(rt: HostRuntime) -> Result<(), Fail> {
-    for (word, ..) in CHARGES {
-        let value = value(rt.alloc(), word)?;
-        assert!(rt; copy(&value)? == value, "{word}");
-    }
-    Ok(())
+fn charges_truths_and_copies(rt: HostRuntime) -> Result<(), Fail> {
+    Ok(hold(&rt, CHARGES)?)
 }
 
-/// A list of five, which is charged 117.
-fn five(rt: &(impl Abort + AllocGlobal)) -> Result<Items, Fail> {
-    let mut list = sample_list(rt.alloc())?;
-    assert_eq!(rt; list.len(), 3);
-    assert!(rt; !list.is_full());
-    list.push(Atom::Int(7))?;
-    assert_eq!(rt; list.len(), 4);
-    list.push_front(Atom::Int(0))?;
-    assert_eq!(rt; list.charge(), 117);
-    Ok(list)
-}
-
-/// The list twice, one behind the other.
-fn doubled(rt: &(impl Abort + AllocGlobal), list: Items) -> Result<Items, Fail> {
-    let mut list = list;
-    let other = list.copy()?;
-    assert_eq!(rt; other.len(), 5);
-    assert_eq!(rt; list.len(), 5);
-    list.append(other)?;
-    assert_eq!(rt; list.len(), 10);
-    assert_eq!(rt; list.charge(), 218);
-    Ok(list)
-}
+const KINDS: &str =
+    r"# two kinds; those of their sum and of their comparison, and whether the first is cast to the second
+pair ii -> ii true
+pair is -> -- true
+pair ik -> -- false
+pair il -> l- true
+pair si -> -- true
+pair ss -> si true
+pair sk -> -i true
+pair sl -> l- true
+pair ki -> -- false
+pair ks -> -i true
+pair kk -> -i true
+pair kl -> l- true
+pair li -> l- false
+pair ls -> l- true
+pair lk -> l- false
+pair ll -> li true
+# another operator and two kinds; the kind that it gives
+kind % ii -> i
+kind && ss -> -
+# two kinds, and whether the first is cast where nobody writes it
+implicitly ks -> true
+implicitly si -> false";
 
 #[test]
-fn lists_grow_at_both_ends(rt: HostRuntime) -> Result<(), Fail> {
-    let list = doubled(&rt, five(&rt)?)?;
-    let atoms = list.into_vec()?;
-    assert_eq!(rt; atoms.len(), 10);
-    assert!(rt; atoms[0] == Atom::Int(0));
-    assert!(rt; atoms[2] == atoms[7]);
-    assert!(rt; atoms[2] != atoms[8]);
-    Ok(())
-}
-
-#[test]
-fn lists_of_values_grow(rt: HostRuntime) -> Result<(), Fail> {
-    let alloc = rt.alloc();
-    let mut values = Values::new(alloc);
-    values.push(Value::Int(3))?;
-    assert_eq!(rt; values.len(), 1);
-    assert!(rt; values.copy(alloc)? == Values::from_vec(vec![in alloc; Value::Int(3)]?));
-    Ok(())
-}
-
-#[test]
-fn texts_are_characters(rt: HostRuntime) -> Result<(), Fail> {
-    let alloc = rt.alloc();
-    let mut joined = text(alloc, "né")?;
-    let tail = Text::from_ascii(b"e".to_vec(alloc)?)?;
-    assert_eq!(rt; tail.charge(), 17);
-    assert_eq!(rt; joined.charge(), 19);
-    joined.push_text(&tail)?;
-    assert_eq!(rt; joined.as_str(), "née");
-    assert!(rt; joined == Text::from_string(String::from_str(alloc, "née")?)?);
-    Ok(())
-}
-
-#[test]
-fn texts_of_bytes_and_numbers(rt: HostRuntime) -> Result<(), Fail> {
-    let alloc = rt.alloc();
-    assert!(rt; Text::from_utf8(alloc, b"\xff")?.is_none());
-    assert_eq!(rt; Text::decimal(alloc, -2147483648)?.as_str(), "-2147483648");
-    assert_eq!(rt; Atom::Int(7).text(alloc)?.as_str(), "7");
-    assert_eq!(rt; Atom::Key(text(alloc, "e")?).text(alloc)?.as_str(), "e");
-    Ok(())
-}
-
-#[test]
-fn rows_of_operators_and_casts(rt: HostRuntime) {
-    for (left, right, sum, compared, cast) in KINDS {
-        assert_eq!(rt; BinaryOp::Add.result_kind(*left, *right), *sum);
-        assert_eq!(rt; BinaryOp::Unequal.result_kind(*left, *right), *compared);
-        assert_eq!(rt; left.casts_to(*right), *cast);
-    }
-}
-
-#[test]
-fn kinds_of_other_operators(rt: HostRuntime) {
-    assert_eq!(rt; BinaryOp::Rem.result_kind(Kind::Int, Kind::Int), INT);
-    assert_eq!(rt; BinaryOp::Both.result_kind(Kind::Str, Kind::Str), None);
-    assert!(rt; Kind::Key.casts_implicitly_to(Kind::Str));
-    assert!(rt; !Kind::Str.casts_implicitly_to(Kind::Int));
+fn rows_of_operators_and_casts(rt: HostRuntime) -> Result<(), Fail> {
+    Ok(hold(&rt, KINDS)?)
 }
