@@ -1,0 +1,48 @@
+//! What is told of a case that ends in another way than it is to.
+
+use crate::case::{Case, Ending};
+use std::io;
+
+/// Whether a case ended as it is to. Where it didn't, its name is told with what came and what was wanted:
+/// the status, or the first line that differs.
+pub fn tell<R: Print + AllocGlobal>(
+    rt: &R,
+    case: Case<'_>,
+    ending: &Ending,
+    wanted: &[u8],
+) -> io::Result<bool> {
+    let same_status = ending.status.as_str() == case.status;
+    let same_bytes = ending.written.as_slice() == wanted;
+    if !same_status {
+        println!(rt;
+            "{}: status {}, wanted {}",
+            case.name, ending.status, case.status
+        )?;
+    }
+    if !same_bytes {
+        tell_line(rt, case.name, ending.written.as_slice(), wanted)?;
+    }
+    Ok(same_status && same_bytes)
+}
+
+/// Tells the first line that differs.
+fn tell_line<R: Print + AllocGlobal>(
+    rt: &R,
+    name: &str,
+    came: &[u8],
+    wanted: &[u8],
+) -> io::Result<()> {
+    let came = String::from_utf8_lossy(rt.alloc(), came)?;
+    let wanted = String::from_utf8_lossy(rt.alloc(), wanted)?;
+    let mut number = 1u64;
+    let mut wanted_lines = wanted.as_str().split('\n');
+    for line in came.as_str().split('\n') {
+        let other = wanted_lines.next().unwrap_or("");
+        if line != other {
+            return println!(rt; "{name}: line {number}\n  came:   {line}\n  wanted: {other}");
+        }
+        number = number.saturating_add(1);
+    }
+    let other = wanted_lines.next().unwrap_or("");
+    println!(rt; "{name}: line {number}\n  came:   nothing more\n  wanted: {other}")
+}
