@@ -1,112 +1,310 @@
-//! Texts with their trees, in a compact form.
+//! Trees in a compact form: an operator before its operands, in parentheses.
 
-use crate::show::shown;
-use lsl_lex::lex;
-use lsl_parse::parse;
-use std::alloc::Global;
-use std::test::Fail;
+use crate::signs::{assign_sign, binary_sign, kind_word, step_sign, unary_sign};
+use lsl_tree::{Atom, Expr, Handler, Header, Item, Name, Param, Simple, StateName, Stmt, Tree};
+use lsl_value::Text;
+use std::alloc::AllocError;
 
-/// The tree of a text, in the compact form.
-fn tree(alloc: Global, text: &str) -> Result<String, Fail> {
-    let tokens = lex(alloc, text.as_bytes()).ok().ok_or("tokens")?;
-    let tree = parse(alloc, &tokens).ok().ok_or("a tree")?;
-    Ok(shown(alloc, &tree)?)
+fn quoted(out: &mut String, text: &Text) -> Result<(), AllocError> {
+    let text = text.as_str();
+    write!(out, "\"{text}\"")
 }
 
-/// The tree of a handler with these statements, in the compact form.
-fn body_tree(alloc: Global, body: &str) -> Result<String, Fail> {
-    let text = format!(in alloc; "default {{ e() {{ {body} }} }}")?;
-    tree(alloc, text.as_str())
+fn name_of(name: &Name) -> &str {
+    name.text.as_str()
 }
 
-/// The compact form of a handler, from that of its statements.
-fn body_shown(alloc: Global, statements: &str) -> Result<String, Fail> {
-    Ok(if statements.is_empty() {
-        format!(in alloc; "default (e ( ) {{ }})")?
-    } else {
-        format!(in alloc; "default (e ( ) {{ {statements} }})")?
-    })
+#[cycle(show_expression)]
+fn expr(out: &mut String, shown: &Expr) -> Result<(), AllocError> {
+    match shown {
+        Expr::Int { value, .. } => write!(out, "{value}"),
+        Expr::Str { text, .. } => quoted(out, text),
+        Expr::Variable { name } => out.push_str(name.text.as_str()),
+        Expr::StepBehind { name, op } => {
+            let name = name_of(name);
+            let sign = step_sign(*op);
+            write!(out, "({name} {sign})")
+        }
+        Expr::StepBefore { op, name, .. } => {
+            let name = name_of(name);
+            let sign = step_sign(*op);
+            write!(out, "({sign} {name})")
+        }
+        Expr::Call { name, arguments } => {
+            let name = name_of(name);
+            write!(out, "({name} ")?;
+            for argument in arguments {
+                expr(out, argument)?;
+                out.push_str(" ")?;
+            }
+            out.push_str(")")
+        }
+        Expr::List { elements, .. } => {
+            out.push_str("[ ")?;
+            for element in elements {
+                expr(out, element)?;
+                out.push_str(" ")?;
+            }
+            out.push_str("]")
+        }
+        Expr::Parens { inner, .. } => {
+            out.push_str("(paren ")?;
+            expr(out, inner)?;
+            out.push_str(")")
+        }
+        Expr::Cast { kind, operand, .. } => {
+            let word = kind_word(*kind);
+            write!(out, "({word} ")?;
+            expr(out, operand)?;
+            out.push_str(")")
+        }
+        Expr::Unary { op, operand, .. } => {
+            let sign = unary_sign(*op);
+            write!(out, "({sign} ")?;
+            expr(out, operand)?;
+            out.push_str(")")
+        }
+        Expr::Binary {
+            op,
+            left,
+            right,
+            ..
+        } => {
+            let sign = binary_sign(*op);
+            write!(out, "({sign} ")?;
+            expr(out, left)?;
+            out.push_str(" ")?;
+            expr(out, right)?;
+            out.push_str(")")
+        }
+        Expr::Assign {
+            name,
+            op,
+            value,
+            ..
+        } => {
+            let sign = assign_sign(*op);
+            let name = name_of(name);
+            write!(out, "({sign} {name} ")?;
+            expr(out, value)?;
+            out.push_str(")")
+        }
+    }
 }
 
-#[test]
-fn expressions_have_their_trees(rt: HostRuntime) -> Result<(), Fail> {
-    for (body, want) in [
-        ("x = y = 1;", "(= x (= y 1))"),
-        ("x += 1 - 2 - 3;", "(+= x (- (- 1 2) 3))"),
-        ("a || b && c;", "(&& (|| a b) c)"),
-        (
-            "a | b ^ c & d == e < f << g + h * -i;",
-            "(| a (^ b (& c (== d (< e (<< f (+ g (* h (- i)))))))))",
-        ),
-        (
-            "a * b + c << d > e != f & g ^ h | i && j;",
-            "(&& (| (^ (& (!= (> (<< (+ (* a b) c) d) e) f) g) h) i) j)",
-        ),
-        ("!~-x;", "(! (~ (- x)))"),
-        ("x++; x--; ++x; --x;", "(x ++) (x --) (++ x) (-- x)"),
-        ("(integer)\"1\" + 2;", "(+ (integer \"1\") 2)"),
-        ("(string)(list)-x;", "(string (list (- x)))"),
-        (
-            "(x = 3) + [] + [1, y, f()] + f(1, g(2));",
-            "(+ (+ (+ (paren (= x 3)) [ ]) [ 1 y (f ) ]) (f 1 (g 2 ) ))",
-        ),
-    ] {
-        let shown = body_tree(rt.alloc(), body)?;
-        let want = body_shown(rt.alloc(), want)?;
-        assert_eq!(rt; shown.as_str(), want.as_str(), "of {body}");
+fn exprs(out: &mut String, all: &[Expr]) -> Result<(), AllocError> {
+    out.push_str("[ ")?;
+    for one in all {
+        expr(out, one)?;
+        out.push_str(" ")?;
+    }
+    out.push_str("]")
+}
+
+#[cycle(show_statement)]
+fn stmt(out: &mut String, shown: &Stmt) -> Result<(), AllocError> {
+    match shown {
+        Stmt::Block { items } => {
+            out.push_str("{ ")?;
+            for one in items {
+                item(out, one)?;
+                out.push_str(" ")?;
+            }
+            out.push_str("}")
+        }
+        Stmt::Empty => out.push_str("(;)"),
+        Stmt::Expression { value } => expr(out, value),
+        Stmt::If { test, then, .. } => {
+            out.push_str("(if ")?;
+            expr(out, test)?;
+            out.push_str(" ")?;
+            stmt(out, then)?;
+            out.push_str(")")
+        }
+        Stmt::IfElse {
+            test,
+            then,
+            otherwise,
+            ..
+        } => {
+            out.push_str("(if ")?;
+            expr(out, test)?;
+            out.push_str(" ")?;
+            stmt(out, then)?;
+            out.push_str(" ")?;
+            stmt(out, otherwise)?;
+            out.push_str(")")
+        }
+        Stmt::While { test, body, .. } => {
+            out.push_str("(while ")?;
+            expr(out, test)?;
+            out.push_str(" ")?;
+            stmt(out, body)?;
+            out.push_str(")")
+        }
+        Stmt::Do { body, test, .. } => {
+            out.push_str("(do ")?;
+            stmt(out, body)?;
+            out.push_str(" ")?;
+            expr(out, test)?;
+            out.push_str(")")
+        }
+        Stmt::For {
+            start,
+            test,
+            step,
+            body,
+            ..
+        } => {
+            out.push_str("(for ")?;
+            exprs(out, start.as_slice())?;
+            out.push_str(" ")?;
+            expr(out, test)?;
+            out.push_str(" ")?;
+            exprs(out, step.as_slice())?;
+            out.push_str(" ")?;
+            stmt(out, body)?;
+            out.push_str(")")
+        }
+        Stmt::Jump { label, .. } => {
+            let label = name_of(label);
+            write!(out, "(jump {label})")
+        }
+        Stmt::Return { value: None, .. } => out.push_str("(return)"),
+        Stmt::Return {
+            value: Some(value),
+            ..
+        } => {
+            out.push_str("(return ")?;
+            expr(out, value)?;
+            out.push_str(")")
+        }
+        Stmt::State {
+            state: StateName::Default,
+            ..
+        } => out.push_str("(state default)"),
+        Stmt::State {
+            state: StateName::Named(name),
+            ..
+        } => {
+            let name = name_of(name);
+            write!(out, "(state {name})")
+        }
+    }
+}
+
+#[cycle(show_statement)]
+fn item(out: &mut String, shown: &Item) -> Result<(), AllocError> {
+    match shown {
+        Item::Declaration { kind, name, value } => {
+            let word = kind_word(*kind);
+            let name = name_of(name);
+            write!(out, "({word} {name}")?;
+            if let Some(value) = value {
+                out.push_str(" ")?;
+                expr(out, value)?;
+            }
+            out.push_str(")")
+        }
+        Item::Label { name } => {
+            let name = name_of(name);
+            write!(out, "(@ {name})")
+        }
+        Item::Statement { statement } => stmt(out, statement),
+    }
+}
+
+fn block(out: &mut String, items: &[Item]) -> Result<(), AllocError> {
+    out.push_str("{ ")?;
+    for one in items {
+        item(out, one)?;
+        out.push_str(" ")?;
+    }
+    out.push_str("}")
+}
+
+fn params(out: &mut String, all: &[Param]) -> Result<(), AllocError> {
+    out.push_str("( ")?;
+    for param in all {
+        let word = kind_word(param.kind);
+        let name = name_of(&param.name);
+        write!(out, "{word} {name} ")?;
+    }
+    out.push_str(") ")
+}
+
+fn atom(out: &mut String, shown: &Atom) -> Result<(), AllocError> {
+    match shown {
+        Atom::Int { value, .. } => write!(out, "{value}"),
+        Atom::Negative { value, .. } => write!(out, "-{value}"),
+        Atom::Str { text, .. } => quoted(out, text),
+        Atom::Constant { name } => out.push_str(name.text.as_str()),
+    }
+}
+
+fn simple(out: &mut String, shown: &Simple) -> Result<(), AllocError> {
+    match shown {
+        Simple::Atom { atom: one } => atom(out, one),
+        Simple::List { atoms, .. } => {
+            out.push_str("[ ")?;
+            for one in atoms {
+                atom(out, one)?;
+                out.push_str(" ")?;
+            }
+            out.push_str("]")
+        }
+    }
+}
+
+fn header(out: &mut String, shown: &Header) -> Result<(), AllocError> {
+    match shown {
+        Header::Global { global } => {
+            let word = kind_word(global.kind);
+            let name = name_of(&global.name);
+            write!(out, "({word} {name}")?;
+            if let Some(value) = &global.value {
+                out.push_str(" ")?;
+                simple(out, value)?;
+            }
+        }
+        Header::Function { function } => {
+            out.push_str("(")?;
+            if let Some(kind) = function.kind {
+                let word = kind_word(kind);
+                write!(out, "{word} ")?;
+            }
+            let name = name_of(&function.name);
+            write!(out, "{name} ")?;
+            params(out, function.params.as_slice())?;
+            block(out, function.body.as_slice())?;
+        }
+    }
+    out.push_str(") ")
+}
+
+fn handlers(out: &mut String, all: &[Handler]) -> Result<(), AllocError> {
+    for handler in all {
+        let name = name_of(&handler.name);
+        write!(out, " ({name} ")?;
+        params(out, handler.params.as_slice())?;
+        block(out, handler.body.as_slice())?;
+        out.push_str(")")?;
     }
     Ok(())
 }
 
-#[test]
-fn statements_have_their_trees(rt: HostRuntime) -> Result<(), Fail> {
-    for (body, want) in [
-        ("", ""),
-        (";", "(;)"),
-        ("if (a) if (b) ; else f();", "(if a (if b (;) (f )))"),
-        ("if (a) { if (b) ; } else ;", "(if a { (if b (;)) } (;))"),
-        ("if (a) ; else if (b) ; else ;", "(if a (;) (if b (;) (;)))"),
-        (
-            "while (x) for (;x;) do ; while (y);",
-            "(while x (for [ ] x [ ] (do (;) y)))",
-        ),
-        (
-            "for (i = 0, j = 1; i < j; ++i, f()) { }",
-            "(for [ (= i 0) (= j 1) ] (< i j) [ (++ i) (f ) ] { })",
-        ),
-        (
-            "integer x; key k = y; @l; jump l; { }",
-            "(integer x) (key k y) (@ l) (jump l) { }",
-        ),
-        (
-            "return; return x; state default; state s;",
-            "(return) (return x) (state default) (state s)",
-        ),
-    ] {
-        let shown = body_tree(rt.alloc(), body)?;
-        let want = body_shown(rt.alloc(), want)?;
-        assert_eq!(rt; shown.as_str(), want.as_str(), "of {body}");
+/// A whole script.
+pub fn push_tree(out: &mut String, tree: &Tree) -> Result<(), AllocError> {
+    for one in &tree.headers {
+        header(out, one)?;
     }
-    Ok(())
-}
-
-#[test]
-fn scripts_have_their_trees(rt: HostRuntime) -> Result<(), Fail> {
-    for (text, want) in [
-        (
-            "integer a; key b = -1; string c = \"x\"; list d = []; list e = [1, -2, \"s\", NAME]; default { e() { } }",
-            "(integer a) (key b -1) (string c \"x\") (list d [ ]) (list e [ 1 -2 \"s\" NAME ]) default (e ( ) { })",
-        ),
-        (
-            "f() { } integer g(string s, list t) { return 0; } default { touch(integer n) { f(); } }",
-            "(f ( ) { }) (integer g ( string s list t ) { (return 0) }) default (touch ( integer n ) { (f ) })",
-        ),
-        (
-            "default { a() { } b() { } } state s { c() { } } state t { d(key k) { } }",
-            "default (a ( ) { }) (b ( ) { }) (state s (c ( ) { })) (state t (d ( key k ) { }))",
-        ),
-    ] {
-        assert_eq!(rt; tree(rt.alloc(), text)?.as_str(), want, "of {text}");
+    out.push_str("default")?;
+    handlers(out, tree.default.as_slice())?;
+    for state in &tree.states {
+        let name = name_of(&state.name);
+        write!(out, " (state {name}")?;
+        handlers(out, state.handlers.as_slice())?;
+        out.push_str(")")?;
     }
-    Ok(())
+    out.push_str("\n")
 }

@@ -1,0 +1,17 @@
+//! Plays the files of cases that are named to it over a shelf and a sink in memory, and tells which cases end
+//! in another way than they are to, and how many hold.
+#![tactic(auto)]
+
+mod copying_link;
+mod ending;
+
+use crate::ending::Memory;
+use lsl_cases::play_named;
+use lsl_top::Status;
+use std::io;
+
+fn main(rt: HostRuntime) -> io::Result<()> {
+    play_named(&rt, &Memory)?;
+    let (image, memory) = (Status::BadImage.number(), Status::NoMemory.number());
+    println!(rt; "statuses of no case: {image} {memory}")
+}
