@@ -15,6 +15,35 @@ fn lines_of_frozen_worlds(rt: HostRuntime) -> Result<(), Fail> {
     Ok(())
 }
 
+/// In each line: a text, and behind the arrow the bytes of its frozen world in decimal. `^` is a line feed.
+const TEXTS: &str = "frozen 00ff10 -> [0, 255, 16]
+frozen 00ff10^ -> [0, 255, 16]
+took 1 touch_start 1^frozen 0123456789abcdef^ -> [1, 35, 69, 103, 137, 171, 205, 239]
+frozen 11^frozen 22^ -> [34]
+^frozen 7f -> [127]
+frozen  -> []
+frozen ^ -> []
+ -> none
+^ -> none
+frozen -> none
+frozen^ -> none
+frozen 1 -> none
+frozen 123^ -> none
+frozen AB -> none
+frozen aB -> none
+frozen 0g -> none
+frozen 0x11 -> none
+frozen 11\r^ -> none
+frozen 11\r -> none
+frozen 11 ^ -> none
+frozen  11^ -> none
+frozen\t11^ -> none
+ frozen 11^ -> none
+unfrozen 11^ -> none
+Frozen 11^ -> none
+frozen 11^^ -> none
+frozen 11^home 1 \"A\"^ -> none";
+
 // The bytes of a text's frozen world in decimal, or that it has none.
 fn taken(alloc: Global, text: &[u8]) -> Result<String, AllocError> {
     match take_frozen(alloc, text) {
@@ -26,40 +55,14 @@ fn taken(alloc: Global, text: &[u8]) -> Result<String, AllocError> {
 
 #[test]
 fn frozen_worlds_of_texts(rt: HostRuntime) -> Result<(), Fail> {
-    for (text, want) in [
-        ("frozen 00ff10", "[0, 255, 16]"),
-        ("frozen 00ff10\n", "[0, 255, 16]"),
-        (
-            "took 1 touch_start 1\nfrozen 0123456789abcdef\n",
-            "[1, 35, 69, 103, 137, 171, 205, 239]",
-        ),
-        ("frozen 11\nfrozen 22\n", "[34]"),
-        ("\nfrozen 7f", "[127]"),
-        ("frozen ", "[]"),
-        ("frozen \n", "[]"),
-        ("", "none"),
-        ("\n", "none"),
-        ("frozen", "none"),
-        ("frozen\n", "none"),
-        ("frozen 1", "none"),
-        ("frozen 123\n", "none"),
-        ("frozen AB", "none"),
-        ("frozen aB", "none"),
-        ("frozen 0g", "none"),
-        ("frozen 0x11", "none"),
-        ("frozen 11\r\n", "none"),
-        ("frozen 11\r", "none"),
-        ("frozen 11 \n", "none"),
-        ("frozen  11\n", "none"),
-        ("frozen\t11\n", "none"),
-        (" frozen 11\n", "none"),
-        ("unfrozen 11\n", "none"),
-        ("Frozen 11\n", "none"),
-        ("frozen 11\n\n", "none"),
-        ("frozen 11\nhome 1 \"A\"\n", "none"),
-    ] {
-        let found = taken(rt.alloc(), text.as_bytes())?;
-        assert_eq!(rt; found.as_str(), want, "of {text:?}");
+    for row in TEXTS.split('\n') {
+        let (text, want) = row.split_once(" -> ").unwrap_or((row, ""));
+        let text = text.replace(rt.alloc(), "^", "\n")?;
+        assert_eq!(rt;
+            taken(rt.alloc(), text.as_bytes())?.as_str(),
+            want,
+            "of {row}"
+        );
     }
     Ok(())
 }

@@ -4,22 +4,108 @@ use lsl_lines::{push_line, push_lines};
 use lsl_post::{Entries, Entry, Event, Voice};
 use lsl_running::Fault;
 use lsl_value::{EventId, Text, Value, Values};
-use std::alloc::Global;
+use std::alloc::{AllocError, Global};
 use std::test::Fail;
 
-fn text(alloc: Global, characters: &str) -> Result<Text, Fail> {
-    Ok(Text::from_utf8(alloc, characters.as_bytes())?.ok_or("no text")?)
+/// In each line: an entry with its parts between `~`, and behind the arrow its line. `^` is a line feed, `$`
+/// a carriage return and `%` a tab.
+const ENTRIES: &str = r#"took~1~state_entry -> took 1 state_entry
+took~1~touch_start~1 -> took 1 touch_start 1
+took~1~listen~5~Ann~00000000-0000-0000-0000-0000000000aa~open -> took 1 listen 5 "Ann" "00000000-0000-0000-0000-0000000000aa" "open"
+took~256~link_message~-1~-2147483648~\ -> took 256 link_message -1 -2147483648 "\\" ""
+drop~1~touch_start~1 -> drop 1 touch_start 1
+drop~20~listen~-5~~~a^"b" -> drop 20 listen -5 "" "" "a\n\"b\""
+clear~1~0 -> clear 1 0
+clear~4294967295~64 -> clear 4294967295 64
+chat~1~say~0~Door closed -> chat 1 say 0 "Door closed"
+chat~2~whisper~-7~ -> chat 2 whisper -7 ""
+chat~3~shout~2147483647~é\n -> chat 3 shout 2147483647 "é\\n"
+chat~4~region~-2147483648~$^% -> chat 4 region -2147483648 "$\n%"
+owner~1~hi -> owner 1 "hi"
+owner~0~"\^ -> owner 0 "\"\\\n"
+fault~1~Math -> fault 1 "Math Error"
+fault~12~Stack -> fault 12 "Stack-Heap Collision"
+fault~1~Listens -> fault 1 "Too Many Listens"
+done~1~1024 -> done 1 1024
+done~1~18446744073709551615 -> done 1 18446744073709551615
+home~1~A -> home 1 "A"
+home~64~ -> home 64 """#;
+
+/// A text with the signs for line feeds, carriage returns and tabs.
+fn spelled(alloc: Global, text: &str) -> Result<String, AllocError> {
+    let fed = text.replace(alloc, "^", "\n")?;
+    let returned = fed.as_str().replace(alloc, "$", "\r")?;
+    returned.as_str().replace(alloc, "%", "\t")
 }
 
-fn state_entry(alloc: Global) -> Event {
-    Event {
-        id: EventId::StateEntry,
-        args: Values::new(alloc),
-        toucher: None,
+/// The part of a row before the next `~`, and those behind it.
+fn part(row: &str) -> (&str, &str) {
+    row.split_once('~').unwrap_or((row, ""))
+}
+
+/// A number; a row where it is none fails by its line.
+fn number(text: &str) -> i32 {
+    text.parse::<i32>().unwrap_or(0)
+}
+
+fn text(alloc: Global, characters: &str) -> Result<Text, AllocError> {
+    match Text::from_utf8(alloc, characters.as_bytes())? {
+        Some(text) => Ok(text),
+        None => Err(AllocError),
     }
 }
 
-fn touch_start(alloc: Global, number: i32) -> Result<Event, Fail> {
+fn entry(alloc: Global, row: &str) -> Result<Entry, AllocError> {
+    let (word, rest) = part(row);
+    let (script, rest) = part(rest);
+    let script = script.parse::<u32>().unwrap_or(0);
+    Ok(match word {
+        "took" => Entry::Took(script, event(alloc, rest)?),
+        "drop" => Entry::Drop(script, event(alloc, rest)?),
+        "clear" => Entry::Clear(script, rest.parse::<u32>().unwrap_or(0)),
+        "chat" => chat(alloc, script, rest)?,
+        "owner" => Entry::Owner(script, text(alloc, rest)?),
+        "fault" => Entry::Stopped(script, fault(rest)),
+        "done" => Entry::Done(script, rest.parse::<u64>().unwrap_or(0)),
+        _ => Entry::Home(script, text(alloc, rest)?),
+    })
+}
+
+fn chat(alloc: Global, script: u32, row: &str) -> Result<Entry, AllocError> {
+    let (voice, rest) = part(row);
+    let (channel, said) = part(rest);
+    let voice = match voice {
+        "say" => Voice::Say,
+        "whisper" => Voice::Whisper,
+        "shout" => Voice::Shout,
+        _ => Voice::Region,
+    };
+    Ok(Entry::Chat(script, voice, number(channel), text(alloc, said)?))
+}
+
+fn fault(word: &str) -> Fault {
+    match word {
+        "Math" => Fault::MathError,
+        "Stack" => Fault::StackHeap,
+        _ => Fault::TooManyListens,
+    }
+}
+
+fn event(alloc: Global, row: &str) -> Result<Event, AllocError> {
+    let (word, rest) = part(row);
+    match word {
+        "touch_start" => touch_start(alloc, number(rest)),
+        "listen" => listen(alloc, rest),
+        "link_message" => link_message(alloc, rest),
+        _ => Ok(Event {
+            id: EventId::StateEntry,
+            args: Values::new(alloc),
+            toucher: None,
+        }),
+    }
+}
+
+fn touch_start(alloc: Global, number: i32) -> Result<Event, AllocError> {
     Ok(Event {
         id: EventId::TouchStart,
         args: Values::from_vec(vec![in alloc; Value::Int(number)]?),
@@ -27,110 +113,76 @@ fn touch_start(alloc: Global, number: i32) -> Result<Event, Fail> {
     })
 }
 
-fn listen(alloc: Global, channel: i32, name: &str, key: &str, said: &str) -> Result<Event, Fail> {
+fn listen(alloc: Global, row: &str) -> Result<Event, AllocError> {
+    let (channel, rest) = part(row);
+    let (name, rest) = part(rest);
+    let (key, said) = part(rest);
     let name = Value::Str(text(alloc, name)?);
     let key = Value::Key(text(alloc, key)?);
     let said = Value::Str(text(alloc, said)?);
     Ok(Event {
         id: EventId::Listen,
-        args: Values::from_vec(vec![in alloc; Value::Int(channel), name, key, said]?),
+        args: Values::from_vec(vec![in alloc; Value::Int(number(channel)), name, key, said]?),
         toucher: None,
     })
 }
 
-fn link_message(alloc: Global, from: i32, number: i32) -> Result<Event, Fail> {
-    let said = Value::Str(text(alloc, "\\")?);
+fn link_message(alloc: Global, row: &str) -> Result<Event, AllocError> {
+    let (from, rest) = part(row);
+    let (sent, said) = part(rest);
+    let said = Value::Str(text(alloc, said)?);
     let key = Value::Key(text(alloc, "")?);
     Ok(Event {
         id: EventId::LinkMessage,
-        args: Values::from_vec(vec![in alloc; Value::Int(from), Value::Int(number), said, key]?),
+        args: Values::from_vec(vec![in alloc;
+            Value::Int(number(from)),
+            Value::Int(number(sent)),
+            said,
+            key,
+        ]?),
         toucher: None,
     })
 }
 
-const ANN: &str = "00000000-0000-0000-0000-0000000000aa";
-
-// An entry of every kind, in the order of the lines.
-fn entries(alloc: Global) -> Result<Entries, Fail> {
-    let mut entries = Entries::new(alloc);
-    entries.push(Entry::Took(1, state_entry(alloc)))?;
-    entries.push(Entry::Took(1, touch_start(alloc, 1)?))?;
-    entries.push(Entry::Took(1, listen(alloc, 5, "Ann", ANN, "open")?))?;
-    entries.push(Entry::Took(256, link_message(alloc, -1, i32::MIN)?))?;
-    entries.push(Entry::Drop(1, touch_start(alloc, 1)?))?;
-    entries.push(Entry::Drop(20, listen(alloc, -5, "", "", "a\n\"b\"")?))?;
-    entries.push(Entry::Clear(1, 0))?;
-    entries.push(Entry::Clear(4_294_967_295, 64))?;
-    entries.push(Entry::Chat(1, Voice::Say, 0, text(alloc, "Door closed")?))?;
-    entries.push(Entry::Chat(2, Voice::Whisper, -7, text(alloc, "")?))?;
-    entries.push(Entry::Chat(3, Voice::Shout, i32::MAX, text(alloc, "é\\n")?))?;
-    entries.push(Entry::Chat(4, Voice::Region, i32::MIN, text(alloc, "\r\n\t")?))?;
-    entries.push(Entry::Owner(1, text(alloc, "hi")?))?;
-    entries.push(Entry::Owner(0, text(alloc, "\"\\\n")?))?;
-    entries.push(Entry::Stopped(1, Fault::MathError))?;
-    entries.push(Entry::Stopped(12, Fault::StackHeap))?;
-    entries.push(Entry::Stopped(1, Fault::TooManyListens))?;
-    entries.push(Entry::Done(1, 1024))?;
-    entries.push(Entry::Done(1, u64::MAX))?;
-    entries.push(Entry::Home(1, text(alloc, "A")?))?;
-    entries.push(Entry::Home(64, text(alloc, "")?))?;
-    Ok(entries)
-}
-
-const LINES: &str = r#"took 1 state_entry
-took 1 touch_start 1
-took 1 listen 5 "Ann" "00000000-0000-0000-0000-0000000000aa" "open"
-took 256 link_message -1 -2147483648 "\\" ""
-drop 1 touch_start 1
-drop 20 listen -5 "" "" "a\n\"b\""
-clear 1 0
-clear 4294967295 64
-chat 1 say 0 "Door closed"
-chat 2 whisper -7 ""
-chat 3 shout 2147483647 "é\\n"
-chat 4 region -2147483648 "CR\nTAB"
-owner 1 "hi"
-owner 0 "\"\\\n"
-fault 1 "Math Error"
-fault 12 "Stack-Heap Collision"
-fault 1 "Too Many Listens"
-done 1 1024
-done 1 18446744073709551615
-home 1 "A"
-home 64 ""
-"#;
-
-// The lines that are wanted, with a carriage return and a tab in the place of their names.
-fn wanted(alloc: Global, before: &str) -> Result<String, Fail> {
-    let mut wanted = String::from_str(alloc, before)?;
-    wanted.push_str(LINES)?;
-    let returned = wanted.as_str().replace(alloc, "CR", "\r")?;
-    Ok(returned.as_str().replace(alloc, "TAB", "\t")?)
-}
-
 #[test]
-fn lines_of_entries(rt: HostRuntime) -> Result<(), Fail> {
+fn each_entry_has_its_line(rt: HostRuntime) -> Result<(), Fail> {
     let alloc = rt.alloc();
-    let entries = entries(alloc)?;
-    let mut out = Vec::from_slice(alloc, b"before\n")?;
-    push_lines(&mut out, entries.as_slice())?;
-    assert_eq!(rt;
-        std::str::from_utf8(&out)?,
-        wanted(alloc, "before\n")?.as_str()
-    );
+    for row in ENTRIES.split('\n') {
+        let row = spelled(alloc, row)?;
+        let (asked, want) = row
+            .as_str()
+            .split_once(" -> ")
+            .unwrap_or((row.as_str(), ""));
+        let mut line = Vec::new(alloc);
+        push_line(&mut line, &entry(alloc, asked)?)?;
+        assert_eq!(rt;
+            std::str::from_utf8(&line)?.strip_suffix('\n'),
+            Some(want),
+            "of {row}"
+        );
+    }
     Ok(())
 }
 
 #[test]
-fn one_line_after_another(rt: HostRuntime) -> Result<(), Fail> {
+fn lines_stand_behind_one_another(rt: HostRuntime) -> Result<(), Fail> {
     let alloc = rt.alloc();
-    let entries = entries(alloc)?;
-    let mut out = Vec::new(alloc);
-    for entry in entries.as_slice() {
-        push_line(&mut out, entry)?;
+    let mut entries = Entries::new(alloc);
+    let mut want = String::from_str(alloc, "before\n")?;
+    for row in ENTRIES.split('\n') {
+        let row = spelled(alloc, row)?;
+        let (asked, line) = row
+            .as_str()
+            .split_once(" -> ")
+            .unwrap_or((row.as_str(), ""));
+        entries.push(entry(alloc, asked)?)?;
+        want.push_str(line)?;
+        want.push_str("\n")?;
     }
-    assert_eq!(rt; std::str::from_utf8(&out)?, wanted(alloc, "")?.as_str());
+    let mut out = Vec::from_slice(alloc, b"before\n")?;
+    push_lines(&mut out, entries.as_slice())?;
+    assert_eq!(rt; std::str::from_utf8(&out)?, want.as_str());
     push_lines(&mut out, &[])?;
-    assert_eq!(rt; std::str::from_utf8(&out)?, wanted(alloc, "")?.as_str());
+    assert_eq!(rt; std::str::from_utf8(&out)?, want.as_str());
     Ok(())
 }
