@@ -1,8 +1,7 @@
 //! How the command of a case ends.
 
-use crate::copying_link::CopyingLink;
 use lsl_cases::{Case, Ending, Player, bytes_of};
-use lsl_ports::{MemoryShelf, MemorySink, StoredFile};
+use lsl_ports::{MemoryLink, MemoryShelf, MemorySink, StoredFile};
 use lsl_top::lsl;
 use std::alloc::{AllocError, Global};
 use std::io;
@@ -11,7 +10,7 @@ use std::rt::Files;
 /// What is made to fail where a case says nothing of it: no read, no write, and the sink has room.
 const CALM: &str = "0 0 1000000";
 
-/// Plays a command over a shelf and a sink in memory.
+/// Plays a command over a shelf, a sink and a link in memory.
 #[derive(Clone, Copy)]
 pub struct Memory;
 
@@ -72,7 +71,7 @@ fn played(
         words.as_slice(),
         &mut shelf,
         &mut sink,
-        &mut CopyingLink,
+        &mut MemoryLink::new(alloc, Vec::new(alloc)),
     );
     let status = match (named_faults(words.as_slice(), &shelf), sink.fault_count()) {
         (0, 0) => format!(in alloc; "{}", status.number())?,

@@ -2,7 +2,6 @@
 //! in another way than they are to, and how many hold.
 #![tactic(auto)]
 
-mod copying_link;
 mod ending;
 
 use crate::ending::Memory;
