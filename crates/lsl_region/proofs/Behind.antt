@@ -3,7 +3,7 @@ use Rattle.std.proofs.Common.{◌≡◌, ℕ, zero, suc, ◌<◌, ◌≤◌, Lis
 use Rattle.std.specs.Prelude.{Some, slice_get}
 use Rattle.lsl_region.specs.declared.grid.Seat.{Seat}
 use Rattle.lsl_region.specs.declared.objects.Linkset.{Linkset}
-use Rattle.lsl_region.specs.Grids.{ArePlaced, IsPlaced}
+use Rattle.lsl_region.specs.Grids.{ArePlaced, IsFormed, IsPlaced}
 
 -- what holds of all items and of one more
 pub all-more : {X : Type 0} (P : X → Type 0) (xs : List X) (y : X)
@@ -23,10 +23,10 @@ get-more (z ∷ xs) y (suc n) x e = get-more xs y n x e
 
 -- one object more
 pub placed-more : (objects : List Linkset) (seats : List Seat) (o : Linkset) → ArePlaced objects seats
-    → length objects < 64 → length o.prims ≤ 255 → ArePlaced (objects ++ o ∷ []) seats
-placed-more objects seats o p room prims = record {
+    → length objects < 64 → IsFormed o → ArePlaced (objects ++ o ∷ []) seats
+placed-more objects seats o p room one = record {
   few_objects = omega (arith, length-append objects (o ∷ []));
-  few_prims = λ n x e. all-more (λ (z : Linkset). length z.prims ≤ 255) objects o p.few_prims prims n x e;
+  formed = λ n x e. all-more IsFormed objects o p.formed one n x e;
   few_seats = p.few_seats;
   placed = λ n s e. let q = p.placed n s e in
       record { object = q.object; there = get-more objects o s.object q.object q.there; prim = q.prim };
@@ -37,7 +37,7 @@ pub placed-seat : (objects : List Linkset) (seats : List Seat) (s : Seat) → Ar
     → length seats < 256 → IsPlaced objects s → ArePlaced objects (seats ++ s ∷ [])
 placed-seat objects seats s p room one = record {
   few_objects = p.few_objects;
-  few_prims = p.few_prims;
+  formed = p.formed;
   few_seats = omega (arith, length-append seats (s ∷ []));
   placed = λ n x e. all-more (λ (z : Seat). IsPlaced objects z) seats s p.placed one n x e;
 }

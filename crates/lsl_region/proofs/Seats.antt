@@ -1,17 +1,18 @@
 -- The seats of a grid: read, and one of them changed.
-use Rattle.std.proofs.Common.{◌≡◌, ◌≢◌, ℕ, ◌<◌, ◌≤◌, ◌⊎◌, inl, inr, true, false, eqb, List, [], length, get_or, refl, ap, sym, ◌∙◌, subst, arith}
-use Rattle.std.specs.Prelude.{Some, None, slice_get, slice_set}
+use Rattle.std.proofs.Common.{◌≡◌, ◌≢◌, ℕ, ◌<◌, ◌≤◌, ◌⊎◌, inl, inr, true, false, eqb, List, [], ◌∷◌, zero, suc, length, get_or, refl, ap, sym, ◌∙◌, subst, arith}
+use Rattle.std.specs.Prelude.{Some, None, slice_get, slice_set, All}
 use Rattle.std.proofs.Math.ListN.{length-set}
 use Rattle.std.proofs.lemmas.Bool.Decides.{eqb_tells}
 use Rattle.std.proofs.lemmas.List.{set-get_or}
 use Rattle.std.proofs.lemmas.Option.{get_or_from_slice_get, slice_get_read, slice_get_within}
+use Rattle.lsl_value.specs.Key.{is_valid_key}
 use Rattle.lsl_code.specs.declared.woven_units.Woven.{Woven as Code}
 use Rattle.lsl_post.specs.Listens.{Standing}
 use Rattle.lsl_region.specs.declared.audience.Audience.{Audience}
 use Rattle.lsl_region.specs.declared.grid.Seat.{Seat}
 use Rattle.lsl_region.specs.declared.objects.Linkset.{Linkset}
 use Rattle.lsl_region.specs.declared.objects.Primitive.{Primitive}
-use Rattle.lsl_region.specs.Grids.{Contents, IsPlaced, ArePlaced, AreSeated, FitsSeat, IsSeated, key_in, object_in, renamed_grid}
+use Rattle.lsl_region.specs.Grids.{Contents, IsPlaced, ArePlaced, AreSeated, FitsSeat, HasKey, IsFormed, IsSeated, key_in, object_in, renamed_grid}
 use Rattle.lsl_region.specs.Answers.{with_name}
 use Rattle.lsl_region.specs.Posting.{is_admitted}
 use Rattle.lsl_region.specs.Worlds.{no_object, prim_at}
@@ -50,7 +51,7 @@ module _ (objects : List Linkset) (seats : List Seat) (n : ℕ) (seat t : Seat)
   pub placed-set : ArePlaced objects seats → ArePlaced objects (slice_set seats n t)
   placed-set p = record {
     few_objects = p.few_objects;
-    few_prims = p.few_prims;
+    formed = p.formed;
     few_seats = omega (arith, p.few_seats, length-set seats n t);
     placed = λ k s h. placed-at p k s (eqb_tells k n) h;
   }
@@ -118,19 +119,40 @@ object-is g h n x seat o is at e there =
           ∙ ap (object_in h.objects) eq,
     )
 
+-- prims keep their keys where one has another name
+key-kept : (prims : List Primitive) (place : ℕ) (name : List ℕ) (k : ℕ) (d : Primitive)
+    → (get_or (with_name prims place name) k d).key ≡ (get_or prims k d).key
+key-kept [] place name k d = refl
+key-kept (p ∷ prims) zero name zero d = refl
+key-kept (p ∷ prims) zero name (suc k) d = refl
+key-kept (p ∷ prims) (suc place) name zero d = refl
+key-kept (p ∷ prims) (suc place) name (suc k) d = key-kept prims place name k d
+
+pub formed-named : (o t : Linkset) (place : ℕ) (name : List ℕ) → t.prims ≡ with_name o.prims place name → IsFormed o
+    → IsFormed t
+formed-named o t place name e f =
+    let count : length t.prims ≡ length o.prims
+    = ap (λ (ps : List Primitive). length ps) e ∙ length-set o.prims place _ in
+    record {
+      rooted = omega (arith, f.rooted, count);
+      few = omega (arith, f.few, count);
+      keyed = subst (λ (ps : List Primitive). All HasKey ps) (sym e) (λ k d within.
+          subst (λ (key : List ℕ). is_valid_key key ≡ true) (sym (key-kept o.prims place name k d))
+          (f.keyed k d (omega (arith, within, length-set o.prims place (record (prim_at o.prims place) { name = name })))));
+    }
+
 -- an object may be another one with as many prims
 module _ (objects : List Linkset) (seats : List Seat) (n : ℕ) (o t : Linkset) (at : slice_get objects n ≡ Some o)
-    (count : length t.prims ≡ length o.prims) (p : ArePlaced objects seats) where
+    (count : length t.prims ≡ length o.prims) (forms : IsFormed o → IsFormed t) (p : ArePlaced objects seats) where
   prims-set : (k : ℕ) (u : Linkset) → ((eqb k n ≡ true) × (k ≡ n)) ⊎ ((eqb k n ≡ false) × (k ≢ n))
-      → slice_get (slice_set objects n t) k ≡ Some u → length u.prims ≤ 255
+      → slice_get (slice_set objects n t) k ≡ Some u → IsFormed u
   prims-set k u (inl e) h =
       let here : slice_get (slice_set objects n t) n ≡ Some t
       = slice_get-set_same objects n t (slice_get_within objects n o at) in
       let same : Some t ≡ Some u = sym here ∙ ap (slice_get (slice_set objects n t)) (sym e.1) ∙ h in
       let is : t ≡ u = cc in
-      subst (λ (z : Linkset). length z.prims ≤ 255) is
-      (subst (λ (z : ℕ). z ≤ 255) (sym count) (p.few_prims n o at))
-  prims-set k u (inr e) h = p.few_prims k u (sym (slice_get-set_other objects n k t e.1) ∙ h)
+      subst IsFormed is (forms (p.formed n o at))
+  prims-set k u (inr e) h = p.formed k u (sym (slice_get-set_other objects n k t e.1) ∙ h)
 
   placed-of : (s : Seat) → IsPlaced objects s
       → ((eqb s.object n ≡ true) × (s.object ≡ n)) ⊎ ((eqb s.object n ≡ false) × (s.object ≢ n))
@@ -154,7 +176,7 @@ module _ (objects : List Linkset) (seats : List Seat) (n : ℕ) (o t : Linkset) 
   pub placed-named : ArePlaced (slice_set objects n t) seats
   placed-named = record {
     few_objects = omega (arith, p.few_objects, length-set objects n t);
-    few_prims = λ k u h. prims-set k u (eqb_tells k n) h;
+    formed = λ k u h. prims-set k u (eqb_tells k n) h;
     few_seats = p.few_seats;
     placed = λ k s h. placed-of s (p.placed k s h) (eqb_tells s.object n);
   }

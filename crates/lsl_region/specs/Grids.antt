@@ -1,7 +1,8 @@
 -- What a grid has, and the world for which it stands, also while one script is out of it.
-use Rattle.std.specs.Prelude.{◌≡◌, ℕ, ◌<◌, ◌≤◌, Bool, true, false, nat_eq, List, [], length, map, Option, Some, None, get_or, slice_get, slice_set}
+use Rattle.std.specs.Prelude.{◌≡◌, ℕ, ◌<◌, ◌≤◌, Bool, true, false, nat_eq, List, [], length, map, Option, Some, None, get_or, slice_get, slice_set, All}
 use Rattle.std.specs.Option.{option_map}
 use Rattle.lsl_value.specs.declared.names.BuiltinId.{BuiltinId}
+use Rattle.lsl_value.specs.Key.{is_valid_key}
 use Rattle.lsl_code.specs.declared.woven_units.Woven.{Woven as Code}
 use Rattle.lsl_post.specs.declared.parts.ScriptParts.{ScriptParts}
 use Rattle.lsl_script.specs.Codes.{HasUnit, rules_of}
@@ -66,10 +67,20 @@ renamed_grid grid seat name =
     let o = object_in grid.objects seat in
     record grid { objects = slice_set grid.objects seat.object (record o { prims = with_name o.prims seat.prim name }) }
 
--- so many objects, prims and scripts there are at most
+-- the prim's key is a valid one
+abbrev pub HasKey : Primitive → Type 0
+HasKey prim = is_valid_key prim.key ≡ true
+
+-- an object has a root, so many prims at most, and each has a key: so it can be written as an image
+pub record IsFormed (object : Linkset) : Type 0 where
+  pub rooted : 0 < length object.prims
+  pub few : length object.prims ≤ 255
+  pub keyed : All HasKey object.prims
+
+-- so many objects and scripts there are at most
 pub record ArePlaced (objects : List Linkset) (seats : List Seat) : Type 0 where
   pub few_objects : length objects ≤ 64
-  pub few_prims : (n : ℕ) (o : Linkset) → slice_get objects n ≡ Some o → length o.prims ≤ 255
+  pub formed : (n : ℕ) (o : Linkset) → slice_get objects n ≡ Some o → IsFormed o
   pub few_seats : length seats ≤ 256
   pub placed : (n : ℕ) (seat : Seat) → slice_get seats n ≡ Some seat → IsPlaced objects seat
 

@@ -1,7 +1,7 @@
 //! Objects and scripts are added to a grid.
 
 ghost use Rattle.std.specs.Prelude.{◌≡◌, ◌<◌, ◌≤◌, [], ◌∷◌, ◌++◌, length, OnErr, OnOk};
-ghost use Rattle.lsl_region.specs.Grids.{IsPlaced};
+ghost use Rattle.lsl_region.specs.Grids.{IsFormed, IsPlaced};
 
 use crate::channels::script_channels;
 use crate::grid::{Grid, Seat};
@@ -9,10 +9,10 @@ use crate::objects::Linkset;
 use lsl_text::NoMemory;
 
 impl Grid {
-    /// Adds an object behind the others, which are 63 at most. After want of memory all is as it was.
+    /// Adds an object behind the others, which are 63 at most. It has a root, and each of its prims a key. After want of memory all is as it was.
     pub fn add(&mut self, object: Linkset) -> Result<(), NoMemory>
         requires room { length self.old.objects < 64 }
-        requires prims { length object.prims ≤ 255 }
+        requires formed { IsFormed object }
         ensures added { OnOk result (self.new.objects ≡ self.old.objects ++ object ∷ []) }
         ensures seats { self.new.seats ≡ self.old.seats }
         ensures unchanged { OnErr result (self.new ≡ self.old) }

@@ -1,12 +1,13 @@
 -- The world that `once` makes is in its ranges, and names one file.
-use Rattle.std.proofs.Common.{◌≡◌, ℕ, zero, suc, ◌<◌, List, [], ◌∷◌, Contains, get_or, sym, arith, lit<, lit≤}
+use Rattle.std.proofs.Common.{◌≡◌, ℕ, zero, suc, ◌<◌, List, [], ◌∷◌, Contains, get_or, refl, sym, arith, lit<, lit≤}
 use Rattle.std.specs.Prelude.{All, codes}
 use Rattle.std.proofs.lemmas.List.Elements.{All-nil, All-cons}
+use Rattle.lsl_value.specs.Key.{is_valid_key}
 use Rattle.lsl_lines.specs.declared.file.ObjectLine.{ObjectLine}
 use Rattle.lsl_lines.specs.declared.file.PrimLine.{PrimLine}
 use Rattle.lsl_lines.specs.declared.file.ScriptLine.{ScriptLine}
 use Rattle.lsl_lines.specs.declared.file.Step.TheVariants.{Run}
-use Rattle.lsl_world.specs.Ranges.{HasFile, IsInRange, IsObjectOf}
+use Rattle.lsl_world.specs.Ranges.{HasFile, HasKey, IsInRange, IsObjectOf}
 use Rattle.lsl_world.specs.Sizes.{IsStepOf, size_of_file}
 use Rattle.lsl_top.specs.Plays.{once_prim, once_world}
 
@@ -20,10 +21,15 @@ object = record {
   prims = once_prim ∷ [];
 }
 
+once-key : HasKey once_prim
+unfolding is_valid_key
+once-key = refl
+
 object-fits : IsObjectOf 1 object
 object-fits = record {
   rooted = lit< tt;
   few = lit≤ tt;
+  keyed = All-cons HasKey once_prim [] once-key (All-nil HasKey);
   files_there = All-cons (λ (p : PrimLine). All (HasFile 1) p.scripts) once_prim []
       (All-cons (HasFile 1) new_script [] (lit< tt) (All-nil (HasFile 1)))
       (All-nil (λ (p : PrimLine). All (HasFile 1) p.scripts));

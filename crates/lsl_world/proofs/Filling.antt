@@ -2,16 +2,18 @@
 use Rattle.std.proofs.Common.{◌≡◌, ℕ, suc, List, [], ◌∷◌, ◌++◌, length, refl, ap, ◌∙◌, arith, length-append}
 use Rattle.std.specs.Prelude.{false}
 use Rattle.std.proofs.lemmas.List.{length-map, map-append}
+use Rattle.std.proofs.lemmas.List.Elements.{All-map}
 use Rattle.std.proofs.lemmas.List.Sums.{sum_by-cons}
 use Rattle.lsl_code.specs.declared.woven_units.Woven.{Woven as Code}
 use Rattle.lsl_lines.specs.declared.file.ObjectLine.{ObjectLine}
 use Rattle.lsl_lines.specs.declared.file.PrimLine.{PrimLine}
 use Rattle.lsl_lines.specs.declared.file.ScriptLine.{ScriptLine}
-use Rattle.lsl_region.specs.Grids.{seat_of}
+use Rattle.lsl_region.specs.Grids.{HasKey, IsFormed, seat_of}
 use Rattle.lsl_script.specs.Codes.{rules_of}
+use Rattle.lsl_world.specs.Ranges.{IsObjectOf}
 use Rattle.lsl_world.specs.Seats.{seats_of_objects, seats_of_prim, seats_of_prims}
 use Rattle.lsl_world.specs.Sizes.{scripts_of, scripts_of_prims}
-use Rattle.lsl_world.specs.Starts.{member_of_line, members_of_objects, members_of_prim, members_of_prims}
+use Rattle.lsl_world.specs.Starts.{member_of_line, members_of_objects, members_of_prim, members_of_prims, object_of_line, prim_of_line}
 
 pub prims-more : (codes : List Code) (object n : ℕ) (x : PrimLine) (xs : List PrimLine)
     → seats_of_prims codes object n (x ∷ xs)
@@ -56,3 +58,13 @@ objects-count codes n (x ∷ xs) =
     let c = objects-count codes (suc n) xs in
     let d = sum_by-cons (λ (o : ObjectLine). scripts_of_prims o.prims) x xs in
     omega (arith, a, b, c, d)
+
+-- the object of a line has a root, and keys
+pub object-formed : (files : ℕ) (line : ObjectLine) → IsObjectOf files line → IsFormed (object_of_line line)
+object-formed files line fits =
+    let count = length-map line.prims prim_of_line in
+    record {
+      rooted = omega (arith, fits.rooted, count);
+      few = omega (arith, fits.few, count);
+      keyed = All-map HasKey prim_of_line line.prims fits.keyed;
+    }

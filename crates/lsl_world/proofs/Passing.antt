@@ -1,9 +1,12 @@
 -- What checks find where they come to a value.
 use Rattle.std.proofs.Common.{◌≡◌, ℕ, ◌≤◌, Bool, true, false, cond, List, [], ◌∷◌, ◌++◌, Result, Ok, Err, refl, ap, subst, arith}
-use Rattle.std.specs.Prelude.{nat_le}
+use Rattle.std.specs.Prelude.{map, nat_le}
+use Rattle.std.specs.Char.{to_ascii_lowercase}
 use Rattle.std.proofs.lemmas.Bool.{leb-true}
+use Rattle.lsl_value.specs.Key.{is_valid_key}
 use Rattle.lsl_lines.specs.Checks.{◌>>=◌, must}
-use Rattle.lsl_lines.specs.Fields.{is_negative, magnitude_of, natural_of, plain_of}
+use Rattle.lsl_lines.specs.Fields.{is_negative, key_of, magnitude_of, natural_of, plain_of}
+use Rattle.lsl_lines.specs.Words.{text_of}
 use Rattle.lsl_lines.specs.Reading.{at_last}
 use Rattle.lsl_lines.specs.declared.faults.FileKind.{FileKind}
 use Rattle.lsl_lines.specs.declared.faults.FileKind.TheVariants.{BadLine}
@@ -82,3 +85,15 @@ natural-fits most word =
     (λ n. must (nat_le n (cond (is_negative bytes) 0 most)) BadLine (Ok n))
     (λ n f. fit-must (λ n. n ≤ most) (nat_le n (cond (is_negative bytes) 0 most)) BadLine (Ok n)
     (below_most (is_negative bytes) n most)))
+
+abbrev pub IsKey : List ℕ → Type 0
+IsKey key = is_valid_key key ≡ true
+
+-- a key is a valid one
+pub key-fits : (word : Word) → Fit IsKey (key_of word)
+key-fits word =
+    fit-then IsKey (plain_of word) (λ bytes. text_of (map to_ascii_lowercase bytes) >>= λ key.
+    must (is_valid_key key) BadLine (Ok key))
+    (λ bytes e. fit-then IsKey (text_of (map to_ascii_lowercase bytes))
+    (λ key. must (is_valid_key key) BadLine (Ok key))
+    (λ key f. fit-must IsKey (is_valid_key key) BadLine (Ok key) (λ valid. valid)))

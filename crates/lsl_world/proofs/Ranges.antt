@@ -9,6 +9,7 @@ use Rattle.std.proofs.lemmas.List.Sums.{prefix_len-le-length}
 use Rattle.std.proofs.lemmas.List.Elements.{All-nil, All-push}
 use Rattle.std.proofs.lemmas.List.Sums.{sum_by-append}
 use Rattle.std.specs.Str.{bytes_eq}
+use Rattle.lsl_value.specs.Key.{is_valid_key}
 use Rattle.lsl_lines.specs.Checks.{◌>>=◌}
 use Rattle.lsl_lines.specs.Forms.{form_of}
 use Rattle.lsl_lines.specs.Lines.{lines_of}
@@ -30,7 +31,7 @@ use Rattle.lsl_lines.specs.declared.forms.Line.TheVariants.{Object, Prim, Script
 use Rattle.lsl_lines.specs.declared.reading.Part.{Part}
 use Rattle.lsl_lines.specs.declared.reading.Part.TheVariants.{Objects, Steps, Ended}
 use Rattle.lsl_lines.specs.declared.reading.Reading.{Reading}
-use Rattle.lsl_world.specs.Ranges.{HasFile, IsObjectOf, IsInRange}
+use Rattle.lsl_world.specs.Ranges.{HasFile, HasKey, IsObjectOf, IsInRange}
 use Rattle.lsl_world.specs.Sizes.{HasLink, HasNumber, IsStepOf, Size, scripts_of, scripts_of_prims}
 use Rattle.lsl_world.proofs.Passing.{Changed, Fit, at_last-fit, fit-cond, fit-must, fit-ok, fit-then}
 use Rattle.lsl_world.proofs.StepRanges.{LineFits, StepFits, form-fits}
@@ -62,6 +63,7 @@ object-later : (files more : ℕ) (o : ObjectLine) → files ≤ more → IsObje
 object-later files more o le h = record {
   rooted = h.rooted;
   few = h.few;
+  keyed = h.keyed;
   files_there = λ k d lt. file-later files more _ le (h.files_there k d lt);
 }
 
@@ -70,10 +72,12 @@ objects-later : (files more : ℕ) (objects : List ObjectLine) → files ≤ mor
 objects-later files more objects le h = λ k d lt. object-later files more _ le (h k d lt)
 
 -- an object with its root alone
-new-fits : (files : ℕ) (key name owner region : List ℕ) → IsObjectOf files (new_object key name owner region)
-new-fits files key name owner region = record {
+new-fits : (files : ℕ) (key name owner region : List ℕ) → is_valid_key key ≡ true
+    → IsObjectOf files (new_object key name owner region)
+new-fits files key name owner region valid = record {
   rooted = lit< tt;
   few = lit≤ tt;
+  keyed = All-push HasKey [] (new_prim key name) (All-nil HasKey) valid;
   files_there = All-push (λ (p : PrimLine). All (HasFile files) p.scripts) [] (new_prim key name)
       (All-nil (λ (p : PrimLine). All (HasFile files) p.scripts)) (All-nil (HasFile files));
 }
@@ -173,9 +177,9 @@ scripts-more objects o =
     sum_by-append (λ (o : ObjectLine). scripts_of_prims o.prims) objects (o ∷ [])
     ∙ ap (λ n. scripts_of objects + n) (zero-add (scripts_of_prims o.prims))
 
-object-sound : (key name owner region : List ℕ) (r : Reading) → Sound r
+object-sound : (key name owner region : List ℕ) (r : Reading) → Sound r → is_valid_key key ≡ true
     → Fit Sound (reading.object_added key name owner region r)
-object-sound key name owner region r s =
+object-sound key name owner region r s valid =
     fit-must Sound (is_objects r.part) BadLine _ (λ part.
     fit-must Sound (nat_lt (length r.objects) 64) TooMany _ (λ few.
     fit-then Sound (keys_behind r.keys key) _ (λ keys e.
@@ -186,7 +190,7 @@ object-sound key name owner region r s =
     (s.counted ∙ sym (scripts-more r.objects o ∙ add-zero (scripts_of r.objects)))
     s.few_scripts
     (All-push (IsObjectOf (length r.files)) r.objects o s.objects_fit
-    (new-fits (length r.files) key name owner region)))))
+    (new-fits (length r.files) key name owner region valid)))))
 
 -- all of a list with one more at its end, and the parts of that
 all-front : {X : Type 0} (P : X → Type 0) (front : List X) (x : X) → All P (front ++ x ∷ []) → All P front
@@ -238,10 +242,11 @@ prims-more prims p =
     ∙ ap (λ n. scripts_of_prims prims + n) (zero-add (length p.scripts))
 
 -- an object with one prim more
-prim-fits : (key name : List ℕ) (files : ℕ) (from to : ObjectLine) → with_prim (new_prim key name) from ≡ Ok to
+prim-fits : (key name : List ℕ) (files : ℕ) (from to : ObjectLine) → is_valid_key key ≡ true
+    → with_prim (new_prim key name) from ≡ Ok to
     → IsObjectOf files from
     → IsObjectOf files to × (scripts_of_prims to.prims ≡ scripts_of_prims from.prims + 0)
-prim-fits key name files from to e h =
+prim-fits key name files from to valid e h =
     fit-ok (λ (o : ObjectLine). IsObjectOf files o × (scripts_of_prims o.prims ≡ scripts_of_prims from.prims + 0))
     (with_prim (new_prim key name) from) to e
     (fit-must (λ (o : ObjectLine). IsObjectOf files o × (scripts_of_prims o.prims ≡ scripts_of_prims from.prims + 0))
@@ -251,14 +256,16 @@ prim-fits key name files from to e h =
       record {
         rooted = omega (arith, long);
         few = omega (arith, long, lt);
+        keyed = All-push HasKey from.prims (new_prim key name) h.keyed valid;
         files_there = All-push (λ (p : PrimLine). All (HasFile files) p.scripts) from.prims (new_prim key name)
             h.files_there (All-nil (HasFile files));
       },
       prims-more from.prims (new_prim key name),
     )))
 
-prim-sound : (key name : List ℕ) (r : Reading) → Sound r → Fit Sound (reading.prim_added key name r)
-prim-sound key name r s =
+prim-sound : (key name : List ℕ) (r : Reading) → Sound r → is_valid_key key ≡ true
+    → Fit Sound (reading.prim_added key name r)
+prim-sound key name r s valid =
     fit-must Sound (is_objects r.part) BadLine _ (λ part.
     fit-then Sound (at_last (with_prim (new_prim key name)) r.objects) _ (λ objects e.
     fit-then Sound (keys_behind r.keys key) _ (λ keys k.
@@ -266,7 +273,7 @@ prim-sound key name r s =
     (last-sound r (with_prim (new_prim key name)) objects 0 r.files keys s part
     (fit-ok (Changed (with_prim (new_prim key name)) r.objects) (at_last (with_prim (new_prim key name)) r.objects)
     objects e (at_last-fit (with_prim (new_prim key name)) r.objects))
-    (omega (arith, s.few_scripts)) (omega arith) (prim-fits key name (length r.files))))))
+    (omega (arith, s.few_scripts)) (omega arith) (λ from to. prim-fits key name (length r.files) from to valid)))))
 
 -- a script's file is among the files, in its place
 files-grown : (files : List (List ℕ)) (file : List ℕ) → length files ≤ length (file_added files file)
@@ -287,11 +294,12 @@ file-there files file = go (nat_lt (place_of files file) (length files)) refl
 -- a prim with one script more
 script_of_prim-fits : (script : ScriptLine) (files : ℕ) (from to : PrimLine) → HasFile files script
     → with_script script from ≡ Ok to → All (HasFile files) from.scripts
-    → All (HasFile files) to.scripts × (length to.scripts ≡ length from.scripts + 1)
+    → All (HasFile files) to.scripts × (length to.scripts ≡ length from.scripts + 1) × (to.key ≡ from.key)
 script_of_prim-fits script files from to there e h =
-    fit-ok (λ (p : PrimLine). All (HasFile files) p.scripts × (length p.scripts ≡ length from.scripts + 1))
+    fit-ok (λ (p : PrimLine). All (HasFile files) p.scripts × (length p.scripts ≡ length from.scripts + 1)
+    × (p.key ≡ from.key))
     (with_script script from) to e
-    (All-push (HasFile files) from.scripts script h there, length-append from.scripts (script ∷ []))
+    (All-push (HasFile files) from.scripts script h there, length-append from.scripts (script ∷ []), refl)
 
 -- an object with one script more, in its last prim
 script-fits : (script : ScriptLine) (files : ℕ) (from to : ObjectLine) → HasFile files script
@@ -311,7 +319,9 @@ script-fits script files from to there e h =
     changed prims c =
         let P : PrimLine → Type 0 = λ p. All (HasFile files) p.scripts in
         let were : All P (c.front ++ c.from ∷ []) = subst (λ (ps : List PrimLine). All P ps) c.old h.files_there in
-        let (fits, count) = script_of_prim-fits script files c.from c.to there c.made (all-last P c.front c.from were)
+        let keyed : All HasKey (c.front ++ c.from ∷ [])
+        = subst (λ (ps : List PrimLine). All HasKey ps) c.old h.keyed in
+        let (fits, count, same) = script_of_prim-fits script files c.from c.to there c.made (all-last P c.front c.from were)
         in
         let long : length prims ≡ length from.prims = omega (
           arith,
@@ -323,6 +333,9 @@ script-fits script files from to there e h =
           record {
             rooted = omega (arith, h.rooted, long);
             few = omega (arith, h.few, long);
+            keyed = subst (λ (ps : List PrimLine). All HasKey ps) (sym c.new)
+                (All-push HasKey c.front c.to (all-front HasKey c.front c.from keyed)
+                (subst (λ (k : List ℕ). is_valid_key k ≡ true) (sym same) (all-last HasKey c.front c.from keyed)));
             files_there = subst (λ (ps : List PrimLine). All P ps) (sym c.new)
                 (All-push P c.front c.to (all-front P c.front c.from were) fits);
           },
@@ -365,8 +378,8 @@ part-sound r part s e = record {
     apart g = cc
 
 line-sound : (line : Line) (r : Reading) → Sound r → LineFits line → Fit Sound (line_added line r)
-line-sound (Object key name owner region) r s f = object-sound key name owner region r s
-line-sound (Prim key name) r s f = prim-sound key name r s
+line-sound (Object key name owner region) r s f = object-sound key name owner region r s f
+line-sound (Prim key name) r s f = prim-sound key name r s f
 line-sound (Script name file) r s f = script-sound name file r s
 line-sound Begin r s f =
     fit-must Sound (is_objects r.part) BadLine (Ok (record r { part = Steps })) (λ e. part-sound r Steps s refl)

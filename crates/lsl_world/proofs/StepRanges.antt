@@ -13,9 +13,9 @@ use Rattle.lsl_lines.specs.declared.file.Step.TheVariants.{Clock, Say, Touch, Ch
 use Rattle.lsl_lines.specs.declared.forms.Line.{Line}
 use Rattle.lsl_lines.specs.declared.forms.Line.TheVariants.{Object, Prim, Script, Begin, Step, End}
 use Rattle.lsl_lines.specs.declared.words.Word.{Word}
-use Rattle.lsl_world.proofs.Passing.{Fit, fit-ok, fit-then, fit-cond, natural-fits}
+use Rattle.lsl_world.proofs.Passing.{Fit, IsKey, fit-ok, fit-then, fit-cond, key-fits, natural-fits}
 
--- the time and the counts of a step are in their ranges
+-- the time and the counts of a step are in their ranges, and the keys of prims are valid ones
 abbrev pub StepFits : TheStep → Type 0
 StepFits (Clock time) = time ≤ 2147483647999
 StepFits (Go script most) = most ≤ 1000000
@@ -29,8 +29,8 @@ StepFits (Cross object region) = Unit {0}
 
 abbrev pub LineFits : Line → Type 0
 LineFits (Step step) = StepFits step
-LineFits (Object k n o r) = Unit {0}
-LineFits (Prim k n) = Unit {0}
+LineFits (Object k n o r) = IsKey k
+LineFits (Prim k n) = IsKey k
 LineFits (Script n f) = Unit {0}
 LineFits Begin = Unit {0}
 LineFits End = Unit {0}
@@ -133,14 +133,16 @@ object-fits (a ∷ []) = tt
 object-fits (a ∷ b ∷ []) = tt
 object-fits (a ∷ b ∷ c ∷ []) = tt
 object-fits (id ∷ label ∷ owner ∷ region ∷ []) =
-    then-line (key_of id) _ (λ k. then-line (name_of label) _ (λ n. then-line (key_of owner) _
-    (λ o. then-line (name_of region) _ (λ r. tt))))
+    fit-then LineFits (key_of id) _ (λ k e. then-line (name_of label) _ (λ n. then-line (key_of owner) _
+    (λ o. then-line (name_of region) _ (λ r. fit-ok IsKey (key_of id) k e (key-fits id)))))
 object-fits (a ∷ b ∷ c ∷ d ∷ e ∷ more) = tt
 
 prim-fits : (fields : List Word) → Fit LineFits (forms.prim_of fields)
 prim-fits [] = tt
 prim-fits (a ∷ []) = tt
-prim-fits (id ∷ label ∷ []) = then-line (key_of id) _ (λ k. then-line (name_of label) _ (λ n. tt))
+prim-fits (id ∷ label ∷ []) =
+    fit-then LineFits (key_of id) _ (λ k e. then-line (name_of label) _
+    (λ n. fit-ok IsKey (key_of id) k e (key-fits id)))
 prim-fits (a ∷ b ∷ c ∷ more) = tt
 
 script-fits : (fields : List Word) → Fit LineFits (forms.script_of fields)

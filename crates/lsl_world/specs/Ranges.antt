@@ -1,6 +1,7 @@
 -- The files of which a world can be made: their counts and places are in their ranges, and their steps name nothing
 -- that isn't there.
-use Rattle.std.specs.Prelude.{ℕ, ◌<◌, ◌≤◌, List, length, All}
+use Rattle.std.specs.Prelude.{◌≡◌, true, ℕ, ◌<◌, ◌≤◌, List, length, All}
+use Rattle.lsl_value.specs.Key.{is_valid_key}
 use Rattle.lsl_lines.specs.World.{IsWorld}
 use Rattle.lsl_lines.specs.declared.file.ObjectLine.{ObjectLine}
 use Rattle.lsl_lines.specs.declared.file.PrimLine.{PrimLine}
@@ -12,10 +13,15 @@ use Rattle.lsl_world.specs.Sizes.{IsStepOf, scripts_of, size_of_file}
 abbrev pub HasFile : ℕ → ScriptLine → Type 0
 HasFile files script = script.file < files
 
--- a root at least, and so many files
+-- a prim's key is a valid one
+abbrev pub HasKey : PrimLine → Type 0
+HasKey prim = is_valid_key prim.key ≡ true
+
+-- a root at least, each prim with a key, and so many files
 pub record IsObjectOf (files : ℕ) (object : ObjectLine) : Type 0 where
   pub rooted : 0 < length object.prims
   pub few : length object.prims ≤ 255
+  pub keyed : All HasKey object.prims
   pub files_there : All (λ (p : PrimLine). All (HasFile files) p.scripts) object.prims
 
 pub record IsInRange (file : WorldFile) : Type 0 where

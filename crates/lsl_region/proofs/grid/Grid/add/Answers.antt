@@ -10,6 +10,6 @@ invariant_of-self-2 c =
     let room : length inside.objects.items < 64 =
     omega (arith, c.requires.room, ap (λ (g : Contents). length g.objects) c.self.view_is) in (
       subst (λ (xs : List Linkset). ArePlaced xs inside.seats.items) (sym c.in_ok-push.ensures.items)
-          (placed-more inside.objects.items inside.seats.items c.args.object c.self.invariant.0 room c.requires.prims),
+          (placed-more inside.objects.items inside.seats.items c.args.object c.self.invariant.0 room c.requires.formed),
       c.self.invariant.1,
     )

@@ -36,4 +36,4 @@ returns-clause-few c =
     let at = read-at c.self.inside.seats.items c.args.place _ h c.index.ensures in
     let o = object-read c.self.inside.objects.items c.self.inside.seats.items c.args.place _ c.index-2.result.now
     c.self.invariant.0 at c.index-2.ensures in
-    c.self.invariant.0.few_prims c.index.result.now.object c.index-2.result.now o.0
+    (c.self.invariant.0.formed c.index.result.now.object c.index-2.result.now o.0).few

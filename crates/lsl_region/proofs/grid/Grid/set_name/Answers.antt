@@ -5,7 +5,7 @@ use Rattle.std.proofs.lemmas.Option.{slice_get_within}
 use Rattle.lsl_region.specs.declared.objects.Primitive.{Primitive}
 use Rattle.lsl_region.specs.Grids.{Contents, outline_of}
 use Rattle.lsl_region.proofs.Outlines.{outline-named}
-use Rattle.lsl_region.proofs.Seats.{named-is, object-read, placed-named, read-at}
+use Rattle.lsl_region.proofs.Seats.{formed-named, named-is, object-read, placed-named, read-at}
 use Rattle.lsl_region.proofs.grid.Grid.set_name.Goals as goal
 
 pub index_mut-requires : goal.index_mut-requires
@@ -33,6 +33,7 @@ invariant_of-self c =
       placed-named c.self.inside.objects.items c.self.inside.seats.items c.index-seat.result.now.object
           c.index_mut.result.now _ o.0
           (ap (λ (ps : List Primitive). length ps) c.rename.ensures ∙ length-set c.index_mut.result.now.prims _ _)
+          (formed-named c.index_mut.result.now _ c.index-seat.result.now.prim c.args.name c.rename.ensures)
           c.self.invariant.0,
       c.self.invariant.1,
     )
