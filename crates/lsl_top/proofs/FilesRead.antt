@@ -3,6 +3,7 @@ use Rattle.std.proofs.Common.{◌≡◌, ℕ, zero, suc, List, [], ◌∷◌, ta
 use Rattle.std.specs.Prelude.{slice_get}
 use Rattle.std.specs.List.{AllZip}
 use Rattle.lsl_ports.specs.Shelf.{Files, IsHeadOf, head_of}
+use Rattle.lsl_ports.specs.Trips.{Trip}
 use Rattle.lsl_tree.specs.Program.{Program}
 use Rattle.lsl_build.specs.Accepted.{Accepted}
 use Rattle.lsl_build.specs.Faults.{FirstFault}
@@ -105,11 +106,11 @@ pub checks-read : (name bytes text : List ℕ) (answer : Answer) → IsReadOf by
 checks-read name bytes text answer of (inl (program, accepted, e)) = inl (program, of.accepted program accepted, e)
 checks-read name bytes text answer of (inr (fault, first, e)) = inr (fault, of.first fault first, e)
 
-pub plays-read : (play : Play) (read texts : List (List ℕ)) (answer : Answer) → AllZip IsReadOf read texts
-    → PlaysTexts play read answer → PlaysTexts play texts answer
-plays-read play read texts answer h (inl (programs, accepted, e)) =
+pub plays-read : (trips : List Trip) (play : Play) (read texts : List (List ℕ)) (answer : Answer) → AllZip IsReadOf read texts
+    → PlaysTexts trips play read answer → PlaysTexts trips play texts answer
+plays-read trips play read texts answer h (inl (programs, accepted, e)) =
     inl (programs, accepted-read read texts programs h accepted, e)
-plays-read play read texts answer h (inr (name, fault, first, e)) =
+plays-read trips play read texts answer h (inr (name, fault, first, e)) =
     inr (
       name,
       fault,

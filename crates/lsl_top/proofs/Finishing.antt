@@ -1,8 +1,10 @@
 -- What is written for an answer, and how the command then ends.
-use Rattle.std.proofs.Common.{◌≡◌, ℕ, ◌≤◌, List, Option, Result, Ok as OkResult, Err, inl, inr, refl, ◌∙◌, arith}
+use Rattle.std.proofs.Common.{◌≡◌, ℕ, ◌≤◌, List, [], Option, Result, Ok as OkResult, Err, inl, inr, refl, sym, ◌∙◌, arith}
 use Rattle.lsl_ports.specs.Counts.{NoneFell, Rose}
 use Rattle.lsl_ports.specs.Shelf.{Files}
 use Rattle.lsl_ports.specs.Growth.{Grew}
+use Rattle.lsl_ports.specs.Trips.{Trip}
+use Rattle.lsl_ports.proofs.Growth.{begins-none}
 use Rattle.lsl_ports.specs.declared.reading.ShelfFault.{ShelfFault}
 use Rattle.lsl_ports.specs.declared.reading.ShelfFault.TheVariants.{Failed, NoMemory as OutOfMemory}
 use Rattle.lsl_top.specs.Answers.{Answer}
@@ -26,56 +28,56 @@ IsOwn WriteFault = ⊥
 IsOwn NoMemory = ⊥
 
 whole : (IsAnswer : Answer → Type 0) (answer : Answer) (a b : Log) (status : Status) → IsOwn status
-    → answer.status ≡ status → IsAnswer answer → Grew a.sunk b.sunk answer.lines → a.faults ≤ b.faults
-    → Finishes IsAnswer a b status
-whole IsAnswer answer a b Ok own e is grew le = record {
-  keeps = (answer, is, e, grew);
+    → answer.status ≡ status → answer.sent ≡ [] → IsAnswer answer → Grew a.sunk b.sunk answer.lines
+    → a.faults ≤ b.faults → Finishes IsAnswer a b status
+whole IsAnswer answer a b Ok own e none is grew le = record {
+  keeps = (answer, is, e, grew, sym none);
   counted = le;
   cause = λ f. absurd (cc);
   no_read = λ f. cc;
   no_usage = λ f. cc;
 }
-whole IsAnswer answer a b BadWorld own e is grew le = record {
-  keeps = (answer, is, e, grew);
+whole IsAnswer answer a b BadWorld own e none is grew le = record {
+  keeps = (answer, is, e, grew, sym none);
   counted = le;
   cause = λ f. absurd (cc);
   no_read = λ f. cc;
   no_usage = λ f. cc;
 }
-whole IsAnswer answer a b BadScript own e is grew le = record {
-  keeps = (answer, is, e, grew);
+whole IsAnswer answer a b BadScript own e none is grew le = record {
+  keeps = (answer, is, e, grew, sym none);
   counted = le;
   cause = λ f. absurd (cc);
   no_read = λ f. cc;
   no_usage = λ f. cc;
 }
-whole IsAnswer answer a b BadImage own e is grew le = record {
-  keeps = (answer, is, e, grew);
+whole IsAnswer answer a b BadImage own e none is grew le = record {
+  keeps = (answer, is, e, grew, sym none);
   counted = le;
   cause = λ f. absurd (cc);
   no_read = λ f. cc;
   no_usage = λ f. cc;
 }
-whole IsAnswer answer a b Usage own e is grew le = absurd own
-whole IsAnswer answer a b ReadFault own e is grew le = absurd own
-whole IsAnswer answer a b WriteFault own e is grew le = absurd own
-whole IsAnswer answer a b NoMemory own e is grew le = absurd own
+whole IsAnswer answer a b Usage own e none is grew le = absurd own
+whole IsAnswer answer a b ReadFault own e none is grew le = absurd own
+whole IsAnswer answer a b WriteFault own e none is grew le = absurd own
+whole IsAnswer answer a b NoMemory own e none is grew le = absurd own
 
 -- an answer was written, or a prefix of it
 pub finish-written : {T : Type 0} (IsAnswer : Answer → Type 0) (answer : Answer) (a b : Log) (r : Result T Trouble)
-    → IsOwn answer.status → IsAnswer answer → Writes answer.lines a b r
+    → IsOwn answer.status → answer.sent ≡ [] → IsAnswer answer → Writes answer.lines a b r
     → Finishes IsAnswer a b (status_after r answer.status)
-finish-written IsAnswer answer a b (OkResult t) own is w =
-    whole IsAnswer answer a b answer.status own refl is w.ok w.counted
-finish-written IsAnswer answer a b (Err WriteTrouble) own is w = record {
-  keeps = (answer, is, w.part);
+finish-written IsAnswer answer a b (OkResult t) own none is w =
+    whole IsAnswer answer a b answer.status own refl none is w.ok w.counted
+finish-written IsAnswer answer a b (Err WriteTrouble) own none is w = record {
+  keeps = (answer, is, w.part, begins-none answer.sent);
   counted = w.counted;
   cause = λ f. w.cause refl;
   no_read = λ f. cc;
   no_usage = λ f. cc;
 }
-finish-written IsAnswer answer a b (Err MemoryTrouble) own is w = record {
-  keeps = inr (answer, is, w.part);
+finish-written IsAnswer answer a b (Err MemoryTrouble) own none is w = record {
+  keeps = inr (answer, is, w.part, begins-none answer.sent);
   counted = w.counted;
   cause = λ f. absurd (cc);
   no_read = λ f. cc;
@@ -85,7 +87,7 @@ finish-written IsAnswer answer a b (Err MemoryTrouble) own is w = record {
 -- nothing was written for want of memory
 pub finish-memory : (IsAnswer : Answer → Type 0) (a : Log) → Finishes IsAnswer a a NoMemory
 finish-memory IsAnswer a = record {
-  keeps = inl refl;
+  keeps = inl (refl, refl);
   counted = omega arith;
   cause = λ f. absurd (cc);
   no_read = λ f. cc;
@@ -93,18 +95,18 @@ finish-memory IsAnswer a = record {
 }
 
 -- what keeps to some answers keeps to answers that these are
-keeps-as : (IsOne IsOther : Answer → Type 0) (status : Status) (old new : Option (List ℕ))
-    → ((answer : Answer) → IsOne answer → IsOther answer) → KeepsTo IsOne status old new
-    → KeepsTo IsOther status old new
-keeps-as IsOne IsOther Ok old new f k = (k.0, f k.0 k.1, k.2, k.3)
-keeps-as IsOne IsOther BadWorld old new f k = (k.0, f k.0 k.1, k.2, k.3)
-keeps-as IsOne IsOther BadScript old new f k = (k.0, f k.0 k.1, k.2, k.3)
-keeps-as IsOne IsOther BadImage old new f k = (k.0, f k.0 k.1, k.2, k.3)
-keeps-as IsOne IsOther WriteFault old new f k = (k.0, f k.0 k.1, k.2)
-keeps-as IsOne IsOther NoMemory old new f (inl e) = inl e
-keeps-as IsOne IsOther NoMemory old new f (inr k) = inr (k.0, f k.0 k.1, k.2)
-keeps-as IsOne IsOther Usage old new f k = tt
-keeps-as IsOne IsOther ReadFault old new f k = tt
+keeps-as : (IsOne IsOther : Answer → Type 0) (status : Status) (trips : List Trip) (old new : Option (List ℕ))
+    → ((answer : Answer) → IsOne answer → IsOther answer) → KeepsTo IsOne status trips old new
+    → KeepsTo IsOther status trips old new
+keeps-as IsOne IsOther Ok trips old new f k = (k.0, f k.0 k.1, k.2, k.3, k.4)
+keeps-as IsOne IsOther BadWorld trips old new f k = (k.0, f k.0 k.1, k.2, k.3, k.4)
+keeps-as IsOne IsOther BadScript trips old new f k = (k.0, f k.0 k.1, k.2, k.3, k.4)
+keeps-as IsOne IsOther BadImage trips old new f k = (k.0, f k.0 k.1, k.2, k.3, k.4)
+keeps-as IsOne IsOther WriteFault trips old new f k = (k.0, f k.0 k.1, k.2, k.3)
+keeps-as IsOne IsOther NoMemory trips old new f (inl e) = inl e
+keeps-as IsOne IsOther NoMemory trips old new f (inr k) = inr (k.0, f k.0 k.1, k.2, k.3)
+keeps-as IsOne IsOther Usage trips old new f k = k
+keeps-as IsOne IsOther ReadFault trips old new f k = k
 
 module _ (IsOne IsAnswer : Answer → Type 0) (IsName : List ℕ → Type 0) (held later : Option Files)
     (faults counted : List ℕ → ℕ) (same : later ≡ held) (fell : NoneFell faults counted) where
@@ -113,7 +115,7 @@ module _ (IsOne IsAnswer : Answer → Type 0) (IsName : List ℕ → Type 0) (he
       → ((answer : Answer) → IsOne answer → IsAnswer answer) → Finishes IsOne (log sunk writes) new status
       → Serves IsAnswer IsName (ports held faults sunk writes) (ports later counted new.sunk new.faults) status
   serve-finished sunk writes new status f h = record {
-    keeps = keeps-as IsOne IsAnswer status sunk new.sunk f h.keeps;
+    keeps = keeps-as IsOne IsAnswer status [] sunk new.sunk f h.keeps;
     nothing = λ e. absurd (h.no_read e);
     read_fault = λ e. absurd (h.no_read e);
     write_fault = h.cause;
@@ -129,7 +131,7 @@ module _ (IsAnswer : Answer → Type 0) (IsName : List ℕ → Type 0) (held lat
   pub serve-memory : (sunk : Option (List ℕ)) (writes : ℕ)
       → Serves IsAnswer IsName (ports held faults sunk writes) (ports later counted sunk writes) NoMemory
   serve-memory sunk writes = record {
-    keeps = inl refl;
+    keeps = inl (refl, refl);
     nothing = λ e. absurd (cc);
     read_fault = λ e. absurd (cc);
     write_fault = λ e. absurd (cc);
@@ -145,7 +147,7 @@ module _ (IsAnswer : Answer → Type 0) (IsName : List ℕ → Type 0) (held lat
       → Serves IsAnswer IsName (ports held faults sunk writes) (ports later counted sunk writes) (unread_status fault)
   serve-unread sunk writes OutOfMemory rose = serve-memory sunk writes
   serve-unread sunk writes Failed rose = record {
-    keeps = tt;
+    keeps = refl;
     nothing = λ e. refl;
     read_fault = λ e. rose refl;
     write_fault = λ e. absurd (cc);
@@ -163,7 +165,7 @@ pub serve-later : (IsOne IsAnswer : Answer → Type 0) (IsOneName IsName : List 
     → Serves IsOne IsOneName (ports later counted sunk writes) new status
     → Serves IsAnswer IsName (ports held faults sunk writes) new status
 serve-later IsOne IsAnswer IsOneName IsName held later faults counted sunk writes new status same fell f g h = record {
-  keeps = keeps-as IsOne IsAnswer status sunk new.log.sunk f h.keeps;
+  keeps = keeps-as IsOne IsAnswer status [] sunk new.log.sunk f h.keeps;
   nothing = h.nothing;
   read_fault = λ e. let (name, is, rose) = h.read_fault e in (
     name,

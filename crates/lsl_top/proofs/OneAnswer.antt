@@ -3,20 +3,19 @@ use Rattle.std.proofs.Common.{◌≡◌, ℕ, zero, suc, ◌<◌, List, [], ◌�
 use Rattle.std.specs.Prelude.{slice_get}
 use Rattle.std.proofs.lemmas.Bool.{cases_lt}
 use Rattle.lsl_ports.specs.Shelf.{Files}
+use Rattle.lsl_ports.specs.Trips.{Trip}
 use Rattle.lsl_tree.specs.Program.{Program}
 use Rattle.lsl_build.specs.Accepted.{Accepted}
 use Rattle.lsl_build.specs.Faults.{FirstFault}
 use Rattle.lsl_build.specs.declared.faults.BuildFault.{BuildFault}
 use Rattle.lsl_build.proofs.Accepted.{one_program}
 use Rattle.lsl_build.proofs.FirstFault.{one_fault}
-use Rattle.lsl_lines.specs.Journal.{lines_of}
 use Rattle.lsl_lines.specs.NotYet.{IsPlayable, PlayFirst}
 use Rattle.lsl_lines.specs.World.{fault_at}
 use Rattle.lsl_lines.specs.declared.faults.FileKind.TheVariants.{NotYet}
 use Rattle.lsl_lines.specs.declared.faults.FileFault.{FileFault}
 use Rattle.lsl_lines.specs.declared.file.WorldFile.{WorldFile}
-use Rattle.lsl_world.specs.Reports.{journal_of}
-use Rattle.lsl_top.specs.Answers.{Answer, Answers, Checks, Plays, PlaysTexts, Replays, done, script_refused, world_refused}
+use Rattle.lsl_top.specs.Answers.{Answer, Answers, Checks, Plays, PlaysTexts, Replays, run_answer, script_refused, world_refused}
 use Rattle.lsl_top.specs.Held.{AreHeld, Holds}
 use Rattle.lsl_top.specs.Plays.{Play, play_of, play_of_once}
 use Rattle.lsl_top.specs.Scripts.{AreAccepted, FirstRefused, IsRefusedAt}
@@ -106,22 +105,23 @@ refused-one names texts n m f g r s =
     let named = some-one n m (sym r.named ∙ ap (λ place. slice_get names place) at ∙ s.named) in
     ap₂ (λ name fault. script_refused name fault) named same
 
-plays-texts-one : (play : Play) (texts : List (List ℕ)) (a b : Answer) → PlaysTexts play texts a
-    → PlaysTexts play texts b → a ≡ b
-plays-texts-one play texts a b (inl (ps, h, e)) (inl (qs, k, f)) =
-    e ∙ ap (λ (programs : List Program). done (lines_of (journal_of programs play.world)))
+plays-texts-one : (trips : List Trip) (play : Play) (texts : List (List ℕ)) (a b : Answer)
+    → PlaysTexts trips play texts a → PlaysTexts trips play texts b → a ≡ b
+plays-texts-one trips play texts a b (inl (ps, h, e)) (inl (qs, k, f)) =
+    e ∙ ap (λ (programs : List Program). run_answer programs play.world trips)
     (programs-one texts ps qs h k) ∙ sym f
-plays-texts-one play texts a b (inl (ps, h, e)) (inr (name, fault, r, f)) =
+plays-texts-one trips play texts a b (inl (ps, h, e)) (inr (name, fault, r, f)) =
     absurd (accepted-refused texts ps r.place fault h r.refused)
-plays-texts-one play texts a b (inr (name, fault, r, e)) (inl (qs, k, f)) =
+plays-texts-one trips play texts a b (inr (name, fault, r, e)) (inl (qs, k, f)) =
     absurd (accepted-refused texts qs r.place fault k r.refused)
-plays-texts-one play texts a b (inr (n, f, r, e)) (inr (m, g, s, k)) =
+plays-texts-one trips play texts a b (inr (n, f, r, e)) (inr (m, g, s, k)) =
     e ∙ refused-one play.names texts n m f g r s ∙ sym k
 
-plays-one : (files : Files) (play : Play) (a b : Answer) → Plays (Some files) play a → Plays (Some files) play b → a ≡ b
-plays-one files play a b (texts, h, p) (others, k, q) =
-    plays-texts-one play others a b
-    (subst (λ (z : List (List ℕ)). PlaysTexts play z a) (texts-one files play.names texts others h k) p) q
+plays-one : (files : Files) (trips : List Trip) (play : Play) (a b : Answer) → Plays (Some files) trips play a
+    → Plays (Some files) trips play b → a ≡ b
+plays-one files trips play a b (texts, h, p) (others, k, q) =
+    plays-texts-one trips play others a b
+    (subst (λ (z : List (List ℕ)). PlaysTexts trips play z a) (texts-one files play.names texts others h k) p) q
 
 checks-one : (name text : List ℕ) (a b : Answer) → Checks name text a → Checks name text b → a ≡ b
 checks-one name text a b (inl (p, h, e)) (inl (q, k, f)) = e ∙ sym f
@@ -159,22 +159,22 @@ world-fault-one bytes f g (inr u) (inr v) =
     value (Some n) = n
     value None = 0
 
-replays-one : (files : Files) (name bytes : List ℕ) (a b : Answer) → Replays (Some files) name bytes a
-    → Replays (Some files) name bytes b → a ≡ b
-replays-one files name bytes a b (inl (f, h, p)) (inl (g, k, q)) =
-    plays-one files (play_of g) a b
-    (subst (λ (z : WorldFile). Plays (Some files) (play_of z) a) (world-one bytes f g h k) p) q
-replays-one files name bytes a b (inl (f, h, p)) (inr (g, k, q)) = absurd (world-no_fault bytes f g h k)
-replays-one files name bytes a b (inr (f, h, p)) (inl (g, k, q)) = absurd (world-no_fault bytes g f k h)
-replays-one files name bytes a b (inr (f, h, e)) (inr (g, k, d)) =
+replays-one : (files : Files) (trips : List Trip) (name bytes : List ℕ) (a b : Answer)
+    → Replays (Some files) trips name bytes a → Replays (Some files) trips name bytes b → a ≡ b
+replays-one files trips name bytes a b (inl (f, h, p)) (inl (g, k, q)) =
+    plays-one files trips (play_of g) a b
+    (subst (λ (z : WorldFile). Plays (Some files) trips (play_of z) a) (world-one bytes f g h k) p) q
+replays-one files trips name bytes a b (inl (f, h, p)) (inr (g, k, q)) = absurd (world-no_fault bytes f g h k)
+replays-one files trips name bytes a b (inr (f, h, p)) (inl (g, k, q)) = absurd (world-no_fault bytes g f k h)
+replays-one files trips name bytes a b (inr (f, h, e)) (inr (g, k, d)) =
     e ∙ ap (λ (fault : FileFault). world_refused name fault) (world-fault-one bytes f g h k) ∙ sym d
 
-pub answers-one : (files : Files) (command : Command) (a b : Answer) → Answers (Some files) command a
-    → Answers (Some files) command b → a ≡ b
-answers-one files (Once name) a b h k = plays-one files (play_of_once name) a b h k
-answers-one files (Check name) a b (text, h, p) (other, k, q) =
+pub answers-one : (files : Files) (trips : List Trip) (command : Command) (a b : Answer)
+    → Answers (Some files) trips command a → Answers (Some files) trips command b → a ≡ b
+answers-one files trips (Once name) a b h k = plays-one files trips (play_of_once name) a b h k
+answers-one files trips (Check name) a b (text, h, p) (other, k, q) =
     checks-one name other a b
     (subst (λ (z : List ℕ). Checks name z a) (text-one files name text other h k) p) q
-answers-one files (Replay name) a b (bytes, h, p) (other, k, q) =
-    replays-one files name other a b
-    (subst (λ (z : List ℕ). Replays (Some files) name z a) (text-one files name bytes other h k) p) q
+answers-one files trips (Replay name) a b (bytes, h, p) (other, k, q) =
+    replays-one files trips name other a b
+    (subst (λ (z : List ℕ). Replays (Some files) trips name z a) (text-one files name bytes other h k) p) q

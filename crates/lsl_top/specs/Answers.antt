@@ -1,6 +1,7 @@
--- What a command answers: a case for each.
-use Rattle.std.specs.Prelude.{◌≡◌, ℕ, ◌⊎◌, List, Option}
+-- What a command answers, by the files and by what came back of what was sent: a case for each.
+use Rattle.std.specs.Prelude.{◌≡◌, ℕ, ◌⊎◌, List, [], Option}
 use Rattle.lsl_ports.specs.Shelf.{Files}
+use Rattle.lsl_ports.specs.Trips.{Trip}
 use Rattle.lsl_tree.specs.Program.{Program}
 use Rattle.lsl_build.specs.Accepted.{Accepted}
 use Rattle.lsl_build.specs.Faults.{FirstFault}
@@ -18,31 +19,38 @@ use Rattle.lsl_top.specs.Words.{Command, Once, Check, Replay}
 use Rattle.lsl_top.specs.declared.status.Status.{Status}
 use Rattle.lsl_top.specs.declared.status.Status.TheVariants.{Ok, BadWorld, BadScript}
 
--- how a command ends, and its whole output
+-- how a command ends, its whole output, and what it hands to the link, in order
 pub record Answer : Type 0 where
   pub status : Status
   pub lines : List ℕ
+  pub sent : List (List ℕ)
 
 abbrev pub done : List ℕ → Answer
-done lines = record { status = Ok; lines = lines }
+done lines = record { status = Ok; lines = lines; sent = [] }
 
 abbrev pub script_refused : List ℕ → BuildFault → Answer
-script_refused name fault = record { status = BadScript; lines = refusal_of name fault }
+script_refused name fault = record { status = BadScript; lines = refusal_of name fault; sent = [] }
 
 abbrev pub world_refused : List ℕ → FileFault → Answer
-world_refused name fault = record { status = BadWorld; lines = world_refusal_of name fault }
+world_refused name fault = record { status = BadWorld; lines = world_refusal_of name fault; sent = [] }
+
+-- What is answered to the run of a world: its journal. A crossing goes as its trip did; no step that is played crosses
+-- yet, so the run looks at no trip, and hands nothing to the link.
+abbrev pub run_answer : List Program → WorldFile → List Trip → Answer
+run_answer programs world trips = done (lines_of (journal_of programs world))
 
 -- what is answered to a play whose files have these texts: its journal, or the refusal of the first script that isn't
 -- accepted
-abbrev pub PlaysTexts : Play → List (List ℕ) → Answer → Type 0
-PlaysTexts play texts answer =
+abbrev pub PlaysTexts : List Trip → Play → List (List ℕ) → Answer → Type 0
+PlaysTexts trips play texts answer =
     ((programs : List Program) × AreAccepted texts programs
-    × (answer ≡ done (lines_of (journal_of programs play.world))))
+    × (answer ≡ run_answer programs play.world trips))
     ⊎ ((name : List ℕ) × (fault : BuildFault) × FirstRefused play.names texts name fault
     × (answer ≡ script_refused name fault))
 
-abbrev pub Plays : Option Files → Play → Answer → Type 0
-Plays held play answer = (texts : List (List ℕ)) × AreHeld held play.names texts × PlaysTexts play texts answer
+abbrev pub Plays : Option Files → List Trip → Play → Answer → Type 0
+Plays held trips play answer =
+    (texts : List (List ℕ)) × AreHeld held play.names texts × PlaysTexts trips play texts answer
 
 -- a text is accepted, or refused for its first fault
 abbrev pub Checks : List ℕ → List ℕ → Answer → Type 0
@@ -51,13 +59,14 @@ Checks name text answer =
     ⊎ ((fault : BuildFault) × FirstFault text fault × (answer ≡ script_refused name fault))
 
 -- these bytes are a world that is played, or are refused for their first fault
-abbrev pub Replays : Option Files → List ℕ → List ℕ → Answer → Type 0
-Replays held name bytes answer =
-    ((file : WorldFile) × IsPlayable bytes file × Plays held (play_of file) answer)
+abbrev pub Replays : Option Files → List Trip → List ℕ → List ℕ → Answer → Type 0
+Replays held trips name bytes answer =
+    ((file : WorldFile) × IsPlayable bytes file × Plays held trips (play_of file) answer)
     ⊎ ((fault : FileFault) × PlayFirst bytes fault × (answer ≡ world_refused name fault))
 
--- the answer of a command over these files
-abbrev pub Answers : Option Files → Command → Answer → Type 0
-Answers held (Once name) answer = Plays held (play_of_once name) answer
-Answers held (Check name) answer = (text : List ℕ) × Holds held name text × Checks name text answer
-Answers held (Replay name) answer = (bytes : List ℕ) × Holds held name bytes × Replays held name bytes answer
+-- the answer of a command over these files, where these trips were made
+abbrev pub Answers : Option Files → List Trip → Command → Answer → Type 0
+Answers held trips (Once name) answer = Plays held trips (play_of_once name) answer
+Answers held trips (Check name) answer = (text : List ℕ) × Holds held name text × Checks name text answer
+Answers held trips (Replay name) answer =
+    (bytes : List ℕ) × Holds held name bytes × Replays held trips name bytes answer

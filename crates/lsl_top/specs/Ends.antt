@@ -1,7 +1,7 @@
 -- How a command ends, seen from outside: the contract of the top call as one fact, for whoever runs it.
 use Rattle.std.specs.Prelude.{◌≡◌, ◌≤◌, ◌↔◌, ◌⊎◌, ℕ, List, Option, Some, None}
 use Rattle.lsl_ports.specs.Counts.{NoneFell, Rose}
-use Rattle.lsl_ports.specs.Trips.{Trip}
+use Rattle.lsl_ports.specs.Trips.{Trip, Went}
 use Rattle.lsl_ports.specs.Shelf.{Files}
 use Rattle.lsl_lines.specs.declared.file.WorldFile.{WorldFile}
 use Rattle.lsl_tree.specs.Program.{Program}
@@ -39,15 +39,17 @@ pub record IsCalm (command : Option Command) (old new : Outside) : Type 0 where
   pub reads : NamedRose old.held command old.read_faults new.read_faults → ⊥
   pub writes : Rose old.write_faults new.write_faults → ⊥
 
--- the command ended so
-pub record Ends (words : Option Command) (old new : Outside) (status : Status) : Type 0 where
+-- the command ended so, over a link of a type that may make these trips
+pub record Ends (gives : List ℕ → Option (List ℕ) → Type 0) (words : Option Command) (old new : Outside)
+    (status : Status) : Type 0 where
   pub usage : (status ≡ Usage) ↔ (words ≡ None)
   pub nothing : WritesNothing status → new.sunk ≡ old.sunk
-  pub kept : Keeps old.held words status old.sunk new.sunk
+  pub kept : (trips : List Trip) × Went gives old.trips new.trips trips
+      × Keeps old.held trips words status old.sunk new.sunk
   pub read_fault : status ≡ ReadFault → NamedRose old.held words old.read_faults new.read_faults
   pub write_fault : status ≡ WriteFault → Rose old.write_faults new.write_faults
-  pub complete : (files : Files) (command : Command) (answer : Answer) → old.held ≡ Some files → words ≡ Some command
-      → Answers (Some files) command answer → IsCalm words old new → (status ≡ answer.status) ⊎ (status ≡ NoMemory)
+  pub complete : (files : Files) (trips : List Trip) (command : Command) (answer : Answer) → old.held ≡ Some files → words ≡ Some command
+      → Answers (Some files) trips command answer → IsCalm words old new → (status ≡ answer.status) ⊎ (status ≡ NoMemory)
   pub headline : (files : Files) (command : Command) (file : WorldFile) (programs : List Program)
       → old.held ≡ Some files → words ≡ Some command → Runs files command file programs → IsCalm words old new
       → WritesJournal file programs status old.sunk new.sunk
@@ -57,5 +59,6 @@ pub record Ends (words : Option Command) (old new : Outside) (status : Status) :
   pub links_counted : new.link_faults ≡ old.link_faults
 
 -- the command ended with the status of this number
-abbrev pub EndsAs : ℕ → Option Command → Outside → Outside → Type 0
-EndsAs number words old new = (status : Status) × (number ≡ number_of status) × Ends words old new status
+abbrev pub EndsAs : (List ℕ → Option (List ℕ) → Type 0) → ℕ → Option Command → Outside → Outside → Type 0
+EndsAs gives number words old new =
+    (status : Status) × (number ≡ number_of status) × Ends gives words old new status

@@ -1,5 +1,5 @@
 -- What the shelf and the sink tell at one moment, and what comes of a call over them: for private functions.
-use Rattle.std.specs.Prelude.{◌≡◌, ◌≢◌, ℕ, ◌≤◌, List, Option, Result, Ok as OkResult, Err, OnOk, IsErrOf}
+use Rattle.std.specs.Prelude.{◌≡◌, ◌≢◌, ℕ, ◌≤◌, List, [], Option, Result, Ok as OkResult, Err, OnOk, IsErrOf}
 use Rattle.lsl_ports.specs.Counts.{NoneFell, Rose}
 use Rattle.lsl_ports.specs.Shelf.{Files, IsHead}
 use Rattle.lsl_ports.specs.declared.reading.ShelfFault.{ShelfFault}
@@ -37,9 +37,9 @@ status_after (OkResult t) status = status
 status_after (Err WriteFault) status = statuses.WriteFault
 status_after (Err NoMemory) status = statuses.NoMemory
 
--- an answer was written, as far as the status says
+-- an answer was written, as far as the status says, and nothing was handed to the link
 pub record Finishes (IsAnswer : Answer → Type 0) (old new : Log) (status : Status) : Type 0 where
-  pub keeps : KeepsTo IsAnswer status old.sunk new.sunk
+  pub keeps : KeepsTo IsAnswer status [] old.sunk new.sunk
   pub counted : old.faults ≤ new.faults
   pub cause : status ≡ statuses.WriteFault → Rose old.faults new.faults
   pub no_read : status ≢ statuses.ReadFault
@@ -58,7 +58,7 @@ ports held read_faults sunk write_faults =
 -- the same, after files of these names were read
 pub record Serves (IsAnswer : Answer → Type 0) (IsName : List ℕ → Type 0) (old new : Ports) (status : Status)
     : Type 0 where
-  pub keeps : KeepsTo IsAnswer status old.log.sunk new.log.sunk
+  pub keeps : KeepsTo IsAnswer status [] old.log.sunk new.log.sunk
   pub nothing : status ≡ statuses.ReadFault → new.log.sunk ≡ old.log.sunk
   pub read_fault : status ≡ statuses.ReadFault
       → (name : List ℕ) × IsName name × Rose (old.read_faults name) (new.read_faults name)

@@ -1,5 +1,5 @@
 //! What each command does: its files are read, and then its answer is written.
-ghost use Rattle.std.specs.Prelude.{◌≡◌, List, ℕ, Contains, length, map};
+ghost use Rattle.std.specs.Prelude.{◌≡◌, List, [], ℕ, Contains, length, map};
 ghost use Rattle.lsl_world.specs.Ranges.{IsInRange};
 ghost use Rattle.lsl_top.specs.Answers.{Answers, Checks, Plays, PlaysTexts};
 ghost use Rattle.lsl_top.specs.Meant.{asked_by};
@@ -32,7 +32,7 @@ pub fn serve<S: Shelf, K: Sink>(
     shelf: &mut S,
     sink: &mut K,
 ) -> Status
-    ensures { Serves (Answers (S.held shelf.old) (asked_by command.entry))
+    ensures { Serves (Answers (S.held shelf.old) [] (asked_by command.entry))
         (IsNamed (S.held shelf.old) (asked_by command.entry))
         (ports (S.held shelf.old) (S.faults shelf.old) (K.sunk sink.old) (K.faults sink.old))
         (ports (S.held shelf.new) (S.faults shelf.new) (K.sunk sink.new) (K.faults sink.new)) result }
@@ -56,7 +56,7 @@ fn unread(fault: ShelfFault) -> Status
 
 /// Accepts a script, or refuses it.
 fn check<S: Shelf, K: Sink>(alloc: Global, name: &str, shelf: &mut S, sink: &mut K) -> Status
-    ensures { Serves (Answers (S.held shelf.old) (Check name.now)) (IsNamed (S.held shelf.old) (Check name.now))
+    ensures { Serves (Answers (S.held shelf.old) [] (Check name.now)) (IsNamed (S.held shelf.old) (Check name.now))
         (ports (S.held shelf.old) (S.faults shelf.old) (K.sunk sink.old) (K.faults sink.old))
         (ports (S.held shelf.new) (S.faults shelf.new) (K.sunk sink.new) (K.faults sink.new)) result }
 {
@@ -84,7 +84,7 @@ fn write_check<K: Sink>(alloc: Global, name: &str, text: &[u8], sink: &mut K) ->
 
 /// Runs a script in a world of its own.
 fn once<S: Shelf, K: Sink>(alloc: Global, name: &str, shelf: &mut S, sink: &mut K) -> Status
-    ensures { Serves (Answers (S.held shelf.old) (Once name.now)) (IsNamed (S.held shelf.old) (Once name.now))
+    ensures { Serves (Answers (S.held shelf.old) [] (Once name.now)) (IsNamed (S.held shelf.old) (Once name.now))
         (ports (S.held shelf.old) (S.faults shelf.old) (K.sunk sink.old) (K.faults sink.old))
         (ports (S.held shelf.new) (S.faults shelf.new) (K.sunk sink.new) (K.faults sink.new)) result }
 {
@@ -96,7 +96,7 @@ fn once<S: Shelf, K: Sink>(alloc: Global, name: &str, shelf: &mut S, sink: &mut 
 
 /// Runs a world file, or refuses it.
 fn replay<S: Shelf, K: Sink>(alloc: Global, name: &str, shelf: &mut S, sink: &mut K) -> Status
-    ensures { Serves (Answers (S.held shelf.old) (Replay name.now)) (IsNamed (S.held shelf.old) (Replay name.now))
+    ensures { Serves (Answers (S.held shelf.old) [] (Replay name.now)) (IsNamed (S.held shelf.old) (Replay name.now))
         (ports (S.held shelf.old) (S.faults shelf.old) (K.sunk sink.old) (K.faults sink.old))
         (ports (S.held shelf.new) (S.faults shelf.new) (K.sunk sink.new) (K.faults sink.new)) result }
 {
@@ -124,7 +124,7 @@ fn play_world<S: Shelf, K: Sink>(
     sink: &mut K,
 ) -> Status
     requires { IsInRange world.now }
-    ensures { Serves (Plays (S.held shelf.old) (play_of world.now)) (Contains (names_in world.now))
+    ensures { Serves (Plays (S.held shelf.old) [] (play_of world.now)) (Contains (names_in world.now))
         (ports (S.held shelf.old) (S.faults shelf.old) (K.sunk sink.old) (K.faults sink.old))
         (ports (S.held shelf.new) (S.faults shelf.new) (K.sunk sink.new) (K.faults sink.new)) result }
 {
@@ -145,7 +145,7 @@ fn play<S: Shelf, K: Sink>(
     requires range { IsInRange world.now }
     requires names { length names.now ≡ length world.now.files }
     ensures { Serves
-        (Plays (S.held shelf.old) (record { names = map (λ n. n.now) names.now; world = world.now }))
+        (Plays (S.held shelf.old) [] (record { names = map (λ n. n.now) names.now; world = world.now }))
         (Contains (map (λ n. n.now) names.now))
         (ports (S.held shelf.old) (S.faults shelf.old) (K.sunk sink.old) (K.faults sink.old))
         (ports (S.held shelf.new) (S.faults shelf.new) (K.sunk sink.new) (K.faults sink.new)) result }
@@ -168,7 +168,7 @@ fn write_play<K: Sink>(
     requires names { length names.now ≡ length world.now.files }
     requires texts { length texts.now ≡ length names.now }
     ensures { Finishes
-        (PlaysTexts (record { names = map (λ n. n.now) names.now; world = world.now }) (map (λ t. t.items) texts.now))
+        (PlaysTexts [] (record { names = map (λ n. n.now) names.now; world = world.now }) (map (λ t. t.items) texts.now))
         (log (K.sunk sink.old) (K.faults sink.old)) (log (K.sunk sink.new) (K.faults sink.new)) result }
 {
     match build_scripts(alloc, texts) {

@@ -2,7 +2,8 @@
 
 ghost use Rattle.lsl_top.specs.Laws.{AnswersAreOne};
 
-/// Over files that are told, a command has one answer at most: its status and its output are determined by the files.
+/// Over files that are told, a command has one answer at most: its status, its output and what it hands to the link are
+/// determined by the files and by what came back.
 pub fn answers_are_one()
     ensures { AnswersAreOne }
 {}

@@ -4,6 +4,7 @@
 ghost use Rattle.std.specs.Prelude.{◌≡◌, ◌≤◌, ◌⊎◌, ◌↔◌, List};
 ghost use Rattle.lsl_ports.specs.Counts.{NoneFell, Rose};
 ghost use Rattle.lsl_ports.specs.Shelf.{Files};
+ghost use Rattle.lsl_ports.specs.Trips.{Trip, Went};
 ghost use Rattle.lsl_lines.specs.declared.file.WorldFile.{WorldFile};
 ghost use Rattle.lsl_tree.specs.Program.{Program};
 ghost use Rattle.lsl_top.specs.Answers.{Answer, Answers};
@@ -46,18 +47,21 @@ pub fn lsl<S: Shelf, K: Sink, L: Link>(
     ensures usage { (result ≡ Status.Usage) ↔ (command_of words.now ≡ None) }
     // At Usage and ReadFault nothing was written.
     ensures nothing { WritesNothing result → K.sunk sink.new ≡ K.sunk sink.old }
-    // At Ok, BadWorld and BadScript the sink grew by exactly an answer of that status; at WriteFault and NoMemory by a
-    // prefix of an answer.
-    ensures kept { Keeps (S.held shelf.old) (command_of words.now) result (K.sunk sink.old) (K.sunk sink.new) }
+    // With the trips that the link made: at Ok, BadWorld and BadScript the sink grew by exactly an answer of that status,
+    // and what that sends was sent; at WriteFault and NoMemory a prefix of an answer was written, and first ones of
+    // what it sends were sent; at every other status nothing was.
+    ensures kept { (trips : List Trip) × Went L.gives (L.trips link.old) (L.trips link.new) trips
+        × Keeps (S.held shelf.old) trips (command_of words.now) result (K.sunk sink.old) (K.sunk sink.new) }
     // The shelf failed at a file that the words or their world name.
     ensures read_fault { result ≡ Status.ReadFault
         → NamedRose (S.held shelf.old) (command_of words.now) (S.faults shelf.old) (S.faults shelf.new) }
     // The sink failed.
     ensures write_fault { result ≡ Status.WriteFault → Rose (K.faults sink.old) (K.faults sink.new) }
     // Over files that are told, where no count of the files' faults rose and not the sink's, the status is that of the
-    // command's answer, but for want of memory.
-    ensures complete { (files : Files) (command : TheCommand) (answer : Answer) → S.held shelf.old ≡ Some files
-        → command_of words.now ≡ Some command → Answers (Some files) command answer
+    // command's answer, whatever came back over the link, but for want of memory.
+    ensures complete { (files : Files) (trips : List Trip) (command : TheCommand) (answer : Answer)
+        → S.held shelf.old ≡ Some files → command_of words.now ≡ Some command
+        → Answers (Some files) trips command answer
         → ¬ NamedRose (S.held shelf.old) (command_of words.now) (S.faults shelf.old) (S.faults shelf.new)
         → ¬ Rose (K.faults sink.old) (K.faults sink.new)
         → (result ≡ answer.status) ⊎ (result ≡ Status.NoMemory) }

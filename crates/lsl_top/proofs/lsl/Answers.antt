@@ -1,6 +1,9 @@
+use Rattle.std.proofs.Common.{[], Option, refl, sym, subst}
 use Rattle.lsl_top.specs.Meant.{asked_by}
-use Rattle.lsl_top.specs.Words.{command_of}
-use Rattle.lsl_top.proofs.Promises.{promise-usage, promise-nothing, promise-kept, promise-read, promise-complete, promise-headline}
+use Rattle.lsl_top.specs.Promise.{Keeps}
+use Rattle.lsl_top.specs.Words.{Command, command_of}
+use Rattle.lsl_top.specs.declared.status.Status.TheVariants.{Usage}
+use Rattle.lsl_top.proofs.Promises.{promise-usage, promise-nothing, promise-kept, promise-read, promise-complete, promise-headline, went-none}
 use Rattle.lsl_top.proofs.lsl.Goals as goal
 
 pub returns-in-Some-clause-usage : goal.returns-in-Some-clause-usage
@@ -14,9 +17,20 @@ returns-in-Some-clause-nothing g c =
     c.in-Some.ensures _ _ c.serve.result c.serve.ensures
 
 pub returns-in-Some-clause-kept : goal.returns-in-Some-clause-kept
-returns-in-Some-clause-kept g c =
-    promise-kept (g.S.Shelf.held c.args.shelf.now) (command_of c.args.words.now) (asked_by c.in-Some.command)
-    c.in-Some.ensures _ _ c.serve.result c.serve.ensures
+returns-in-Some-clause-kept g c = (
+  [],
+  went-none g.L.Link.gives (g.L.Link.trips c.args.link.now),
+  promise-kept (g.S.Shelf.held c.args.shelf.now) (command_of c.args.words.now) (asked_by c.in-Some.command)
+      c.in-Some.ensures _ _ c.serve.result c.serve.ensures,
+)
+
+pub returns-in-None-clause-kept : goal.returns-in-None-clause-kept
+returns-in-None-clause-kept g c = (
+  [],
+  went-none g.L.Link.gives (g.L.Link.trips c.args.link.now),
+  subst (λ (w : Option Command). Keeps (g.S.Shelf.held c.args.shelf.now) [] w Usage (g.K.Sink.sunk c.args.sink.now)
+      (g.K.Sink.sunk c.args.sink.now)) (sym c.in-None.ensures) refl,
+)
 
 pub returns-in-Some-clause-read_fault : goal.returns-in-Some-clause-read_fault
 returns-in-Some-clause-read_fault g c =

@@ -1,4 +1,4 @@
-use Rattle.std.proofs.Common.{Err, List, ℕ, refl, sym, ap, subst}
+use Rattle.std.proofs.Common.{[], Err, List, ℕ, refl, sym, ap, subst}
 use Rattle.lsl_top.specs.Answers.{Answers, Checks}
 use Rattle.lsl_top.specs.Named.{IsNamed}
 use Rattle.lsl_top.specs.Ports.{Serves, log, ports}
@@ -15,7 +15,7 @@ returns-in-Ok g c =
     let bytes = c.in-Ok.text.items in
     let read = c.in-Ok.ensures in
     let (text, is, of) = text-read held name bytes read.ok in
-    serve-finished (Checks name c.as_slice.result.now) (Answers held (Check name)) (IsNamed held (Check name)) held
+    serve-finished (Checks name c.as_slice.result.now) (Answers held [] (Check name)) (IsNamed held (Check name)) held
     (g.S.Shelf.held c.read_script.new.shelf) (g.S.Shelf.faults c.args.shelf.now)
     (g.S.Shelf.faults c.read_script.new.shelf) read.unchanged read.counted (g.K.Sink.sunk c.args.sink.now)
     (g.K.Sink.faults c.args.sink.now)
@@ -35,11 +35,11 @@ returns-in-Err g c =
     let read = c.in-Err.ensures in
     let sunk = g.K.Sink.sunk c.args.sink.now in
     let writes = g.K.Sink.faults c.args.sink.now in
-    subst (λ (status : Status). Serves (Answers held (Check name)) (IsNamed held (Check name))
+    subst (λ (status : Status). Serves (Answers held [] (Check name)) (IsNamed held (Check name))
     (ports held (g.S.Shelf.faults c.args.shelf.now) sunk writes)
     (ports (g.S.Shelf.held c.read_script.new.shelf) (g.S.Shelf.faults c.read_script.new.shelf) sunk writes) status)
     (sym c.unread.ensures)
-    (serve-unread (Answers held (Check name)) (IsNamed held (Check name)) held
+    (serve-unread (Answers held [] (Check name)) (IsNamed held (Check name)) held
     (g.S.Shelf.held c.read_script.new.shelf) (g.S.Shelf.faults c.args.shelf.now)
     (g.S.Shelf.faults c.read_script.new.shelf) read.unchanged read.counted sunk writes c.in-Err.fault
     (λ e. (name, refl, read.err (ap (λ r. Err r) e))))

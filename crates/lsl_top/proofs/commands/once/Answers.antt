@@ -20,12 +20,12 @@ returns-in-Ok g c =
     let held = g.S.Shelf.held c.args.shelf.now in
     let name = c.args.name.now in
     let faults = g.S.Shelf.faults c.args.shelf.now in
-    serve-later (Plays held (record { names = name ∷ []; world = c.in-Ok.world })) (Answers held (Once name))
+    serve-later (Plays held [] (record { names = name ∷ []; world = c.in-Ok.world })) (Answers held [] (Once name))
     (Contains (name ∷ [])) (IsNamed held (Once name)) held held faults faults
     (g.K.Sink.sunk c.args.sink.now) (g.K.Sink.faults c.args.sink.now)
     (ports (g.S.Shelf.held c.play.new.shelf) (g.S.Shelf.faults c.play.new.shelf) (g.K.Sink.sunk c.play.new.sink)
     (g.K.Sink.faults c.play.new.sink)) c.play.result refl (λ n. omega arith)
-    (λ answer h. subst (λ (w : WorldFile). Plays held (record { names = name ∷ []; world = w }) answer) c.in-Ok.ensures
+    (λ answer h. subst (λ (w : WorldFile). Plays held [] (record { names = name ∷ []; world = w }) answer) c.in-Ok.ensures
     h)
     (λ n h. only-name name n h) c.play.ensures
 
@@ -33,6 +33,6 @@ pub returns-in-Err : goal.returns-in-Err
 returns-in-Err g c =
     let held = g.S.Shelf.held c.args.shelf.now in
     let name = c.args.name.now in
-    serve-memory (Answers held (Once name)) (IsNamed held (Once name)) held held (g.S.Shelf.faults c.args.shelf.now)
+    serve-memory (Answers held [] (Once name)) (IsNamed held (Once name)) held held (g.S.Shelf.faults c.args.shelf.now)
     (g.S.Shelf.faults c.args.shelf.now) refl (λ n. omega arith) (g.K.Sink.sunk c.args.sink.now)
     (g.K.Sink.faults c.args.sink.now)

@@ -1,4 +1,4 @@
-use Rattle.std.proofs.Common.{◌≡◌, Err, ap, List, ℕ, Vec, Global, Bor, Contains, map, length, sym, ◌∙◌, subst}
+use Rattle.std.proofs.Common.{[], ◌≡◌, Err, ap, List, ℕ, Vec, Global, Bor, Contains, map, length, sym, ◌∙◌, subst}
 use Rattle.std.proofs.lemmas.List.{length-map}
 use Rattle.std.proofs.lemmas.List.Elements.{length_all_zip}
 use Rattle.lsl_top.specs.Answers.{Plays, PlaysTexts}
@@ -32,7 +32,7 @@ returns-in-Ok g c =
     let bytes = map (λ t. t.items) c.in-Ok.texts.items in
     let read = c.in-Ok.ensures in
     let (texts, are, of) = texts-read held names bytes read.ok in
-    serve-finished (PlaysTexts play (map (λ t. t.items) c.as_slice.result.now)) (Plays held play) (Contains names) held
+    serve-finished (PlaysTexts [] play (map (λ t. t.items) c.as_slice.result.now)) (Plays held [] play) (Contains names) held
     (g.S.Shelf.held c.read_scripts.new.shelf) (g.S.Shelf.faults c.args.shelf.now)
     (g.S.Shelf.faults c.read_scripts.new.shelf) read.unchanged read.counted (g.K.Sink.sunk c.args.sink.now)
     (g.K.Sink.faults c.args.sink.now)
@@ -40,8 +40,8 @@ returns-in-Ok g c =
     (λ answer h. (
       texts,
       are,
-      plays-read play bytes texts answer of
-          (subst (λ (z : List (Vec ℕ Global)). PlaysTexts play (map (λ t. t.items) z) answer) c.as_slice.ensures.value
+      plays-read [] play bytes texts answer of
+          (subst (λ (z : List (Vec ℕ Global)). PlaysTexts [] play (map (λ t. t.items) z) answer) c.as_slice.ensures.value
           h),
     ))
     c.write_play.ensures
@@ -54,11 +54,11 @@ returns-in-Err g c =
     let read = c.in-Err.ensures in
     let sunk = g.K.Sink.sunk c.args.sink.now in
     let writes = g.K.Sink.faults c.args.sink.now in
-    subst (λ (status : Status). Serves (Plays held play) (Contains names)
+    subst (λ (status : Status). Serves (Plays held [] play) (Contains names)
     (ports held (g.S.Shelf.faults c.args.shelf.now) sunk writes)
     (ports (g.S.Shelf.held c.read_scripts.new.shelf) (g.S.Shelf.faults c.read_scripts.new.shelf) sunk writes) status)
     (sym c.unread.ensures)
-    (serve-unread (Plays held play) (Contains names) held
+    (serve-unread (Plays held [] play) (Contains names) held
     (g.S.Shelf.held c.read_scripts.new.shelf) (g.S.Shelf.faults c.args.shelf.now)
     (g.S.Shelf.faults c.read_scripts.new.shelf) read.unchanged read.counted sunk writes c.in-Err.fault
     (λ e. read.err (ap (λ r. Err r) e)))

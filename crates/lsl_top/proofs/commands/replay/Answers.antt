@@ -1,4 +1,4 @@
-use Rattle.std.proofs.Common.{◌≡◌, Err, List, ℕ, Contains, refl, sym, ap, subst, inl, inr}
+use Rattle.std.proofs.Common.{[], ◌≡◌, Err, List, ℕ, Contains, refl, sym, ap, subst, inl, inr}
 use Rattle.lsl_lines.specs.NotYet.{IsPlayable, IsRefused, PlayFirst}
 use Rattle.lsl_world.proofs.Ranges.{good-in_range}
 use Rattle.lsl_top.specs.Answers.{Answer, Answers, Plays, world_refused}
@@ -23,11 +23,11 @@ returns-in-Err g c =
     let read = c.in-Err.ensures in
     let sunk = g.K.Sink.sunk c.args.sink.now in
     let writes = g.K.Sink.faults c.args.sink.now in
-    subst (λ (status : Status). Serves (Answers held (Replay name)) (IsNamed held (Replay name))
+    subst (λ (status : Status). Serves (Answers held [] (Replay name)) (IsNamed held (Replay name))
     (ports held (g.S.Shelf.faults c.args.shelf.now) sunk writes)
     (ports (g.S.Shelf.held c.read_all.new.shelf) (g.S.Shelf.faults c.read_all.new.shelf) sunk writes) status)
     (sym c.unread.ensures)
-    (serve-unread (Answers held (Replay name)) (IsNamed held (Replay name)) held
+    (serve-unread (Answers held [] (Replay name)) (IsNamed held (Replay name)) held
     (g.S.Shelf.held c.read_all.new.shelf) (g.S.Shelf.faults c.args.shelf.now)
     (g.S.Shelf.faults c.read_all.new.shelf) read.unchanged read.counted sunk writes c.in-Err.fault
     (λ e. (name, inl refl, read.err (ap (λ r. Err r) e))))
@@ -42,13 +42,13 @@ returns-in-Ok-read_world g c =
     let (file, is, of) = world-read held name c.in-Ok.text.items read.ok in
     let playable : IsPlayable file world = of.playable world
     (subst (λ (z : List ℕ). IsPlayable z world) c.as_slice.ensures.value c.in-Ok-read_world.ensures.found) in
-    serve-later (Plays later (play_of world)) (Answers held (Replay name)) (Contains (names_in world))
+    serve-later (Plays later [] (play_of world)) (Answers held [] (Replay name)) (Contains (names_in world))
     (IsNamed held (Replay name)) held later (g.S.Shelf.faults c.args.shelf.now)
     (g.S.Shelf.faults c.read_all.new.shelf) (g.K.Sink.sunk c.args.sink.now) (g.K.Sink.faults c.args.sink.now)
     (ports (g.S.Shelf.held c.play_world.new.shelf) (g.S.Shelf.faults c.play_world.new.shelf)
     (g.K.Sink.sunk c.play_world.new.sink) (g.K.Sink.faults c.play_world.new.sink)) c.play_world.result read.unchanged
     read.counted
-    (λ answer h. (file, is, inl (world, playable, subst (λ z. Plays z (play_of world) answer) read.unchanged h)))
+    (λ answer h. (file, is, inl (world, playable, subst (λ z. Plays z [] (play_of world) answer) read.unchanged h)))
     (λ n h. inr (file, world, is, playable, h)) c.play_world.ensures
 
 pub returns-in-Err-Fault : goal.returns-in-Err-Fault
@@ -64,13 +64,13 @@ returns-in-Err-Fault g c =
     let old = log (g.K.Sink.sunk c.args.sink.now) (g.K.Sink.faults c.args.sink.now) in
     let new = log (g.K.Sink.sunk c.write_line.new.sink) (g.K.Sink.faults c.write_line.new.sink) in
     let IsThis : Answer → Type 0 = λ answer. answer ≡ world_refused name fault in
-    serve-finished IsThis (Answers held (Replay name)) (IsNamed held (Replay name)) held
+    serve-finished IsThis (Answers held [] (Replay name)) (IsNamed held (Replay name)) held
     (g.S.Shelf.held c.read_all.new.shelf) (g.S.Shelf.faults c.args.shelf.now)
     (g.S.Shelf.faults c.read_all.new.shelf) read.unchanged read.counted (g.K.Sink.sunk c.args.sink.now)
     (g.K.Sink.faults c.args.sink.now) new c.status_after.result
     (λ answer e. (file, is, inr (fault, first, e)))
     (subst (λ (status : Status). Finishes IsThis old new status) (sym c.status_after.ensures)
-    (finish-written IsThis (world_refused name fault) old new c.write_line.result tt refl
+    (finish-written IsThis (world_refused name fault) old new c.write_line.result tt refl refl
     (c.write_line.ensures (world_refusal_of name fault) c.world_refusal.ensures)))
 
 pub returns : goal.returns
@@ -78,6 +78,6 @@ returns g c =
     let held = g.S.Shelf.held c.args.shelf.now in
     let name = c.args.name.now in
     let read = c.in-Ok.ensures in
-    serve-memory (Answers held (Replay name)) (IsNamed held (Replay name)) held (g.S.Shelf.held c.read_all.new.shelf)
+    serve-memory (Answers held [] (Replay name)) (IsNamed held (Replay name)) held (g.S.Shelf.held c.read_all.new.shelf)
     (g.S.Shelf.faults c.args.shelf.now) (g.S.Shelf.faults c.read_all.new.shelf) read.unchanged read.counted
     (g.K.Sink.sunk c.args.sink.now) (g.K.Sink.faults c.args.sink.now)

@@ -1,4 +1,4 @@
-use Rattle.std.proofs.Common.{sym, ap, subst}
+use Rattle.std.proofs.Common.{[], sym, ap, subst}
 use Rattle.lsl_top.specs.Answers.{Answers}
 use Rattle.lsl_top.specs.Meant.{asked_by}
 use Rattle.lsl_top.specs.Named.{IsNamed}
@@ -9,7 +9,7 @@ use Rattle.lsl_top.proofs.commands.serve.Goals as goal
 pub returns-in-Once : goal.returns-in-Once
 returns-in-Once g c =
     let held = g.S.Shelf.held c.args.shelf.now in
-    subst (λ (command : Command). Serves (Answers held command) (IsNamed held command)
+    subst (λ (command : Command). Serves (Answers held [] command) (IsNamed held command)
     (ports held (g.S.Shelf.faults c.args.shelf.now) (g.K.Sink.sunk c.args.sink.now) (g.K.Sink.faults c.args.sink.now))
     (ports (g.S.Shelf.held c.once.new.shelf) (g.S.Shelf.faults c.once.new.shelf) (g.K.Sink.sunk c.once.new.sink)
     (g.K.Sink.faults c.once.new.sink)) c.once.result)
@@ -18,7 +18,7 @@ returns-in-Once g c =
 pub returns-in-Check : goal.returns-in-Check
 returns-in-Check g c =
     let held = g.S.Shelf.held c.args.shelf.now in
-    subst (λ (command : Command). Serves (Answers held command) (IsNamed held command)
+    subst (λ (command : Command). Serves (Answers held [] command) (IsNamed held command)
     (ports held (g.S.Shelf.faults c.args.shelf.now) (g.K.Sink.sunk c.args.sink.now) (g.K.Sink.faults c.args.sink.now))
     (ports (g.S.Shelf.held c.check.new.shelf) (g.S.Shelf.faults c.check.new.shelf) (g.K.Sink.sunk c.check.new.sink)
     (g.K.Sink.faults c.check.new.sink)) c.check.result)
@@ -27,7 +27,7 @@ returns-in-Check g c =
 pub returns-in-Replay : goal.returns-in-Replay
 returns-in-Replay g c =
     let held = g.S.Shelf.held c.args.shelf.now in
-    subst (λ (command : Command). Serves (Answers held command) (IsNamed held command)
+    subst (λ (command : Command). Serves (Answers held [] command) (IsNamed held command)
     (ports held (g.S.Shelf.faults c.args.shelf.now) (g.K.Sink.sunk c.args.sink.now) (g.K.Sink.faults c.args.sink.now))
     (ports (g.S.Shelf.held c.replay.new.shelf) (g.S.Shelf.faults c.replay.new.shelf) (g.K.Sink.sunk c.replay.new.sink)
     (g.K.Sink.faults c.replay.new.sink)) c.replay.result)

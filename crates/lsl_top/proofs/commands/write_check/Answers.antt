@@ -14,7 +14,7 @@ returns-in-Ok g c =
     let old = log (g.K.Sink.sunk c.args.sink.now) (g.K.Sink.faults c.args.sink.now) in
     let new = log (g.K.Sink.sunk c.write_line.new.sink) (g.K.Sink.faults c.write_line.new.sink) in
     subst (λ (status : Status). Finishes (Checks name text) old new status) (sym c.status_after.ensures)
-    (finish-written (Checks name text) (done (accepted_line name)) old new c.write_line.result tt
+    (finish-written (Checks name text) (done (accepted_line name)) old new c.write_line.result tt refl
     (inl (program_of c.in-Ok._program, c.in-Ok.ensures.found, refl))
     (c.write_line.ensures (accepted_line name) c.acceptance.ensures))
 
@@ -27,7 +27,7 @@ returns-in-Err-Fault g c =
     let new = log (g.K.Sink.sunk c.write_line-in-Err-Fault.new.sink)
     (g.K.Sink.faults c.write_line-in-Err-Fault.new.sink) in
     subst (λ (status : Status). Finishes (Checks name text) old new status) (sym c.status_after-in-Err-Fault.ensures)
-    (finish-written (Checks name text) (script_refused name fault) old new c.write_line-in-Err-Fault.result tt
+    (finish-written (Checks name text) (script_refused name fault) old new c.write_line-in-Err-Fault.result tt refl
     (inr (fault, c.in-Err-Fault.ensures.first fault (ap (λ r. Err r) c.in-Err-Fault.field-0-is), refl))
     (c.write_line-in-Err-Fault.ensures (refusal_of name fault) c.refusal.ensures))
 

@@ -1,8 +1,6 @@
-use Rattle.std.proofs.Common.{Err, ℕ, List, Vec, Global, Bor, map, refl, sym, ap, ◌∙◌, subst, inl, inr, arith}
+use Rattle.std.proofs.Common.{[], Err, ℕ, List, Vec, Global, Bor, map, refl, sym, ap, ◌∙◌, subst, inl, inr, arith}
 use Rattle.std.proofs.lemmas.List.{length-map}
-use Rattle.lsl_lines.specs.Journal.{lines_of}
-use Rattle.lsl_world.specs.Reports.{journal_of}
-use Rattle.lsl_top.specs.Answers.{PlaysTexts, done, script_refused}
+use Rattle.lsl_top.specs.Answers.{PlaysTexts, run_answer, script_refused}
 use Rattle.lsl_top.specs.Lines.{refusal_of}
 use Rattle.lsl_top.specs.Plays.{Play}
 use Rattle.lsl_top.specs.Ports.{Finishes, log}
@@ -27,14 +25,14 @@ returns-in-Ok g c =
     let old = log (g.K.Sink.sunk c.args.sink.now) (g.K.Sink.faults c.args.sink.now) in
     let new = log (g.K.Sink.sunk c.write_report.new.sink) (g.K.Sink.faults c.write_report.new.sink) in
     let (programs, accepted, run) = c.in-Ok.ensures.ok in
-    subst (λ (status : Status). Finishes (PlaysTexts play texts) old new status) (sym c.status_after.ensures)
-    (finish-written (PlaysTexts play texts) (done (lines_of (journal_of programs c.args.world.now))) old new
-    c.write_report.result tt (inl (programs, accepted, refl)) (c.write_report.ensures programs run))
+    subst (λ (status : Status). Finishes (PlaysTexts [] play texts) old new status) (sym c.status_after.ensures)
+    (finish-written (PlaysTexts [] play texts) (run_answer programs c.args.world.now []) old new c.write_report.result tt refl
+    (inl (programs, accepted, refl)) (c.write_report.ensures programs run))
 
 pub returns-in-Err-NoMemory : goal.returns-in-Err-NoMemory
 returns-in-Err-NoMemory g c =
     finish-memory
-    (PlaysTexts (record { names = map (λ (n : Bor (List ℕ)). n.now) c.args.names.now; world = c.args.world.now })
+    (PlaysTexts [] (record { names = map (λ (n : Bor (List ℕ)). n.now) c.args.names.now; world = c.args.world.now })
     (map (λ t. t.items) c.args.texts.now))
     (log (g.K.Sink.sunk c.args.sink.now) (g.K.Sink.faults c.args.sink.now))
 
@@ -58,8 +56,8 @@ returns-in-Err-Fault g c =
     let refused = c.in-Err-Fault.refused in
     let at = c.in-Err-Fault.ensures.refused refused (ap (λ r. Err r) c.in-Err-Fault.field-0-is) in
     let name = c.name_at.result.now in
-    subst (λ (status : Status). Finishes (PlaysTexts play texts) old new status)
+    subst (λ (status : Status). Finishes (PlaysTexts [] play texts) old new status)
     (sym c.status_after-in-Err-Fault.ensures)
-    (finish-written (PlaysTexts play texts) (script_refused name refused.fault) old new c.write_line.result tt
+    (finish-written (PlaysTexts [] play texts) (script_refused name refused.fault) old new c.write_line.result tt refl
     (inr (name, refused.fault, record { place = refused.place; named = c.name_at.ensures; refused = at }, refl))
     (c.write_line.ensures (refusal_of name refused.fault) c.refusal.ensures))
