@@ -1,8 +1,8 @@
 -- What is said on standard error where a command doesn't end well: one line, in words.
-use Rattle.std.specs.Prelude.{◌≡◌, ◌⊎◌, ℕ, codes, List, [], ◌∷◌, ◌++◌, map, Option, Some, None}
+use Rattle.std.specs.Prelude.{◌≡◌, ℕ, codes, List, [], ◌∷◌, ◌++◌, map, Option, Some, None}
 use Rattle.std.specs.Prelude.{String, string_bytes}
 use Rattle.lsl_text.specs.Quoted.{quoted}
-use Rattle.lsl_ports.specs.Sink.{Grew}
+use Rattle.lsl_ports.specs.Growth.{Grew}
 use Rattle.lsl_top.specs.declared.status.Status.{Status}
 use Rattle.lsl_top.specs.declared.status.Status.TheVariants.{Ok, Usage, BadWorld, BadScript}
 use Rattle.lsl_top.specs.declared.status.Status.TheVariants.{ReadFault, WriteFault, BadImage, NoMemory}
@@ -40,8 +40,8 @@ abbrev pub notice_of : Status → Option (List ℕ) → List ℕ
 notice_of Usage named = meaning_of Usage
 notice_of status named = named_notice named (meaning_of status)
 
--- the notes grew by the line of this status, without the file's name where memory ran out; a command that ended well
--- isn't spoken of
+-- the notes grew by the line of this status, a usage without the file's name and any other with it; a command that ended
+-- well isn't spoken of
 abbrev pub IsTold : Status → Option (List ℕ) → Option (List ℕ) → Option (List ℕ) → Type 0
 IsTold Ok named old new = new ≡ old
-IsTold status named old new = Grew old new (notice_of status named) ⊎ Grew old new (meaning_of status)
+IsTold status named old new = Grew old new (notice_of status named)

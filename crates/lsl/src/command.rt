@@ -3,7 +3,7 @@
 ghost use Rattle.std.specs.Prelude.{◌≡◌, ◌⊎◌, if◌then◌else◌};
 ghost use Rattle.std.specs.Process.{exit_status};
 ghost use Rattle.lsl_ports.specs.Counts.{Rose};
-ghost use Rattle.lsl_ports.specs.Sink.{Grew};
+ghost use Rattle.lsl_ports.specs.Growth.{Grew};
 ghost use Rattle.lsl_top.specs.Ends.{EndsAs, outside};
 ghost use Rattle.lsl_top.specs.Status.{number_of};
 ghost use Rattle.lsl_top.specs.Words.{command_of};
@@ -22,7 +22,7 @@ const NO_WORDS: u8 = 9;
 
 /// Does what the words ask for over this outside. Where it doesn't end well, one line on the notes
 /// says how. The process ends with the number of the command's status. It takes memory for the
-/// command and the line.
+/// command.
 pub fn run<S: Shelf, K: Sink, L: Link, N: Sink>(
     alloc: Global,
     words: &[String],
@@ -34,16 +34,16 @@ pub fn run<S: Shelf, K: Sink, L: Link, N: Sink>(
     // The process ends with the number of the command's status.
     ensures ends { EndsAs (exit_status result) (command_of words.now)
         (outside (S.held shelf.old) (S.faults shelf.old) (K.sunk sink.old) (K.faults sink.old)
-        (L.carried link.old) (L.faults link.old))
+        (L.trips link.old) (L.faults link.old))
         (outside (S.held shelf.new) (S.faults shelf.new) (K.sunk sink.new) (K.faults sink.new)
-        (L.carried link.new) (L.faults link.new)) }
+        (L.trips link.new) (L.faults link.new)) }
     // The line of that status was said, but where the notes failed.
     ensures told { (status : Ended) → exit_status result ≡ number_of status
         → Rose (N.faults notes.old) (N.faults notes.new)
         ⊎ IsTold status (file_in words.now) (N.sunk notes.old) (N.sunk notes.new) }
 {
     let status = lsl(alloc, words, shelf, sink, link);
-    say(alloc, status, named_file(words), notes);
+    say(status, named_file(words), notes);
     ExitCode::from(status.number())
 }
 

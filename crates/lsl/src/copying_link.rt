@@ -1,23 +1,27 @@
 //! The link between regions of one process.
-ghost use Rattle.std.specs.Prelude.{◌≡◌, ◌≤◌, None, IfOk, IsErrOf};
+ghost use Rattle.std.specs.Prelude.{◌≡◌, ◌≤◌, [], ◌∷◌, Some, None, IfOk, IsErrOf};
 ghost use Rattle.lsl_ports.specs.Counts.{Rose};
-ghost use Rattle.lsl_ports.specs.Link.{Delivers, Loses};
+ghost use Rattle.lsl_ports.specs.Growth.{Grew};
+ghost use Rattle.lsl_ports.specs.Trips.{Trip};
 
 use lsl_ports::{Link, LinkFault};
 use std::alloc::Global;
 
 /// A link that gives back the bytes that were sent, or answers want of memory. It keeps and tells
-/// nothing.
+/// nothing; that it gives no other bytes is known of its type.
 #[derive(Clone, Copy)]
 pub struct CopyingLink;
 
 impl Link for CopyingLink {
-    ghost carried = { λ _. None };
+    ghost trips = { λ _. None };
 
     ghost faults = { λ _. 0 };
 
+    ghost gives = { λ sent back. back ≡ Some sent };
+
     fn carry(&mut self, alloc: Global, sent: &[u8]) -> Result<Vec<u8>, LinkFault>
         ensures same { IfOk result (λ back. back.items ≡ sent.now) }
+        ensures given { IfOk result (λ back. Some back.items ≡ Some sent.now) }
         ensures memory_alone { IsErrOf result LinkFault.Failed → ⊥ }
     {
         match Vec::from_slice(alloc, sent) {

@@ -9,30 +9,29 @@ mod notice;
 mod output_sink;
 #[cfg(test)]
 mod tests;
+mod words;
 
-use command::{refuse_words, run};
 use copying_link::CopyingLink;
 use file_shelf::FileShelf;
 use output_sink::OutputSink;
 use std::process::ExitCode;
 use std::rt::Env;
 use std::{env, io};
+use words::start;
 
 fn main(rt: HostRuntime) -> ExitCode {
     let mut shelf = FileShelf::new(&rt);
     let mut sink = OutputSink::new(rt.stdout());
     let mut notes = OutputSink::new(rt.stderr());
-    match words_of(&rt) {
-        Ok(words) => run(
-            rt.alloc(),
-            words.as_slice(),
-            &mut shelf,
-            &mut sink,
-            &mut CopyingLink,
-            &mut notes,
-        ),
-        Err(error) => refuse_words(error.kind() == io::ErrorKind::OutOfMemory, &mut notes),
-    }
+    let words = words_of(&rt);
+    start(
+        rt.alloc(),
+        words,
+        &mut shelf,
+        &mut sink,
+        &mut CopyingLink,
+        &mut notes,
+    )
 }
 
 /// The words of the command, without the program's name.

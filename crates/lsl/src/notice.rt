@@ -1,15 +1,15 @@
-//! What is said on standard error where a command doesn't end well.
+//! What is said on standard error where a command doesn't end well. It takes no memory.
 
-ghost use Rattle.std.specs.Prelude.{◌≡◌, ◌⊎◌, IfOk, option_map, if◌then◌else◌};
+ghost use Rattle.std.specs.Prelude.{◌≡◌, ◌≤◌, ◌⊎◌, Some, OnErr, OnOk, option_map, if◌then◌else◌};
+ghost use Rattle.std.specs.List.{flat_map};
+ghost use Rattle.lsl_text.specs.Quoted.{escaped, quoted};
 ghost use Rattle.lsl_ports.specs.Counts.{Rose};
-ghost use Rattle.lsl_ports.specs.Sink.{Grew};
+ghost use Rattle.lsl_ports.specs.Growth.{Grew};
 ghost use Rattle.lsl_top.specs.declared.status.Status.TheVariants.{NoMemory};
 ghost use Rattle.lsl.specs.Notice.{IsTold, file_in, meaning_of, no_words, notice_of};
 
-use lsl_ports::{Sink, write_all};
-use lsl_text::{NoMemory, push_quoted};
+use lsl_ports::{Failed, Sink, write_all};
 use lsl_top::Status;
-use std::alloc::Global;
 
 /// What a status means, as a line. A command that ended well has none.
 fn meaning(status: Status) -> &'static str
@@ -30,7 +30,7 @@ fn meaning(status: Status) -> &'static str
     }
 }
 
-/// The file that the words name. It takes no memory.
+/// The file that the words name.
 pub fn named_file(words: &[String]) -> Option<&str>
     ensures { file_in words.now ≡ option_map (λ file. file.now) result }
 {
@@ -40,34 +40,73 @@ pub fn named_file(words: &[String]) -> Option<&str>
     }
 }
 
-/// The line of a status, with the file's name in front. It takes memory for the line.
-fn notice(alloc: Global, status: Status, file: Option<&str>) -> Result<Vec<u8>, NoMemory>
-    ensures { IfOk result (λ line. line.items ≡ notice_of status (option_map (λ name. name.now) file.entry)) }
+fn write_escaped<N: Sink>(byte: u8, notes: &mut N) -> Result<(), Failed>
+    ensures ok { OnOk result (Grew (N.sunk notes.old) (N.sunk notes.new) (escaped byte)) }
+    ensures err { OnErr result (Rose (N.faults notes.old) (N.faults notes.new)) }
+    ensures counted { N.faults notes.old ≤ N.faults notes.new }
 {
-    let mut line = Vec::new(alloc);
-    if let Some(name) = file
-        && status != Status::Usage
-    {
-        push_quoted(&mut line, name.as_bytes())?;
-        line.extend_from_slice(b": ")?;
+    match byte {
+        b'"' | b'\\' => write_all(notes, &[b'\\', byte]),
+        b'\n' => write_all(notes, b"\\n"),
+        _ => write_all(notes, &[byte]),
     }
-    line.extend_from_slice(meaning(status).as_bytes())?;
-    Ok(line)
 }
 
-/// Says how a command ended, in one line, where it didn't end well. Where there is no memory for
-/// the line, the file's name is left out.
-pub fn say<N: Sink>(alloc: Global, status: Status, file: Option<&str>, notes: &mut N)
+fn write_body<N: Sink>(text: &[u8], notes: &mut N) -> Result<(), Failed>
+    ensures ok { OnOk result (Grew (N.sunk notes.old) (N.sunk notes.new) (flat_map escaped text.now)) }
+    ensures err { OnErr result (Rose (N.faults notes.old) (N.faults notes.new)) }
+    ensures counted { N.faults notes.old ≤ N.faults notes.new }
+{
+    for byte in text {
+        write_escaped(*byte, notes)?;
+    }
+    Ok(())
+}
+
+fn write_quoted<N: Sink>(text: &[u8], notes: &mut N) -> Result<(), Failed>
+    ensures ok { OnOk result (Grew (N.sunk notes.old) (N.sunk notes.new) (quoted text.now)) }
+    ensures err { OnErr result (Rose (N.faults notes.old) (N.faults notes.new)) }
+    ensures counted { N.faults notes.old ≤ N.faults notes.new }
+{
+    write_all(notes, b"\"")?;
+    write_body(text, notes)?;
+    write_all(notes, b"\"")
+}
+
+/// Writes the line of a status, with the file's name in front. The name is written byte by byte: it is short, and a line
+/// that is made first would take memory.
+fn write_named<N: Sink>(status: Status, name: &str, notes: &mut N) -> Result<(), Failed>
+    ensures ok { OnOk result (Grew (N.sunk notes.old) (N.sunk notes.new) (notice_of status (Some name.now))) }
+    ensures err { OnErr result (Rose (N.faults notes.old) (N.faults notes.new)) }
+{
+    if status == Status::Usage {
+        return write_all(notes, meaning(status).as_bytes());
+    }
+    write_quoted(name.as_bytes(), notes)?;
+    write_all(notes, b": ")?;
+    write_all(notes, meaning(status).as_bytes())
+}
+
+fn write_notice<N: Sink>(status: Status, file: Option<&str>, notes: &mut N) -> Result<(), Failed>
+    ensures ok { OnOk result (Grew (N.sunk notes.old) (N.sunk notes.new)
+        (notice_of status (option_map (λ name. name.now) file.entry))) }
+    ensures err { OnErr result (Rose (N.faults notes.old) (N.faults notes.new)) }
+{
+    match file {
+        Some(name) => write_named(status, name, notes),
+        None => write_all(notes, meaning(status).as_bytes()),
+    }
+}
+
+/// Says how a command ended, in one line, where it didn't end well.
+pub fn say<N: Sink>(status: Status, file: Option<&str>, notes: &mut N)
     ensures told { Rose (N.faults notes.old) (N.faults notes.new)
         ⊎ IsTold status (option_map (λ name. name.now) file.entry) (N.sunk notes.old) (N.sunk notes.new) }
 {
     if status == Status::Ok {
         return;
     }
-    let _ = match notice(alloc, status, file) {
-        Ok(line) => write_all(notes, line.as_slice()),
-        Err(_) => write_all(notes, meaning(status).as_bytes()),
-    };
+    let _ = write_notice(status, file, notes);
 }
 
 /// Says why there are no words of a command: for want of memory, or since one is no text.

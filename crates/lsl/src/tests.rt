@@ -1,9 +1,12 @@
 //! Commands over memory: the status, what is written, and what is said of it.
 
-use crate::command::{refuse_words, run};
+use crate::command::run;
 use crate::copying_link::CopyingLink;
+use crate::words::start;
 use lsl_ports::{MemoryShelf, MemorySink, StoredFile};
 use std::alloc::{AllocError, Global};
+use std::io;
+use std::io::ErrorKind;
 use std::process::ExitCode;
 use std::test::Fail;
 
@@ -126,19 +129,33 @@ fn notes_that_fail_change_no_status(rt: HostRuntime) -> Result<(), Fail> {
 
 #[test]
 fn words_that_are_not_given(rt: HostRuntime) -> Result<(), Fail> {
-    for (lacks_memory, code, said) in [
-        (true, 7, "there isn't memory enough (lsl: status 7)\n"),
+    let alloc = rt.alloc();
+    for (kind, code, said) in [
         (
-            false,
+            ErrorKind::OutOfMemory,
+            7,
+            "there isn't memory enough (lsl: status 7)\n",
+        ),
+        (
+            ErrorKind::InvalidData,
             9,
             "the command's words can't be read: one isn't UTF-8 (lsl: status 9)\n",
         ),
     ] {
-        let mut notes = MemorySink::new(rt.alloc(), 1000, Vec::new(rt.alloc()))?;
-        assert_eq!(rt;
-            refuse_words(lacks_memory, &mut notes),
-            ExitCode::from(code)
+        let mut shelf = MemoryShelf::new(alloc, Vec::new(alloc), Vec::new(alloc))?;
+        let mut sink = MemorySink::new(alloc, 1000, Vec::new(alloc))?;
+        let mut notes = MemorySink::new(alloc, 1000, Vec::new(alloc))?;
+        let words = Err(io::Error::from(kind));
+        let ended = start(
+            alloc,
+            words,
+            &mut shelf,
+            &mut sink,
+            &mut CopyingLink,
+            &mut notes,
         );
+        assert_eq!(rt; ended, ExitCode::from(code));
+        assert_eq!(rt; sink.as_bytes(), b"".as_slice());
         assert_eq!(rt; notes.as_bytes(), said.as_bytes());
     }
     Ok(())
