@@ -1,6 +1,6 @@
 -- No turn changes how many objects, prims and scripts a world has.
-use Rattle.std.proofs.Common.{◌≡◌, ℕ, zero, suc, ◌+◌, ◌-◌, Bool, true, false, List, [], ◌∷◌, length, get_or, refl, ap, sym, ◌∙◌}
-use Rattle.std.specs.Prelude.{Option, Some, None, if◌then◌else◌, not, max, min, map, pos, slice_get, slice_set, Result, Ok, Err, OnOk}
+use Rattle.std.proofs.Common.{◌≡◌, ℕ, zero, suc, ◌+◌, Bool, true, false, List, [], ◌∷◌, length, get_or, refl, ap, ◌∙◌}
+use Rattle.std.specs.Prelude.{Option, Some, None, if◌then◌else◌, not, map, pos, slice_get, slice_set}
 use Rattle.std.specs.Ordering.{int_eq}
 use Rattle.std.proofs.Math.ListN.{length-set}
 use Rattle.lsl_value.specs.declared.names.BuiltinId.{BuiltinId}
@@ -8,29 +8,19 @@ use Rattle.lsl_value.specs.declared.names.BuiltinId.TheVariants as builtin
 use Rattle.lsl_value.specs.declared.tagged.Value.{Value}
 use Rattle.lsl_running.specs.declared.host.Reply.{Reply}
 use Rattle.lsl_running.specs.Results.{Whole, Ends, Asks, Cut, Fails, Lost}
-use Rattle.lsl_lines.specs.declared.file.Step.{Step}
-use Rattle.lsl_lines.specs.declared.file.Step.TheVariants.{Clock, Say, Touch, Changed, Rez, Go, Run, Pause, Cross}
-use Rattle.lsl_post.specs.declared.entries.Entry.{Entry}
 use Rattle.lsl_post.specs.declared.entries.Voice.TheVariants as voice
 use Rattle.lsl_post.specs.declared.events.Event.{Event}
-use Rattle.lsl_post.specs.Journal.{Tells}
 use Rattle.lsl_post.specs.Told.{Told, as_value, each, next_to, quiet, until}
 use Rattle.lsl_script.specs.Handlers.{given}
 use Rattle.lsl_script.specs.Rules.{Rules}
 use Rattle.lsl_script.specs.Scripts.{Doing, Resting, Flying, Stopped, Flight, Script}
 use Rattle.lsl_region.specs.declared.objects.Linkset.{Linkset}
 use Rattle.lsl_region.specs.Answers.{answer, answer_in, answer_of, integer_at, nothing, says, mailed, with_mailed}
-use Rattle.lsl_region.specs.Arrivals.{touch, touch_prim}
-use Rattle.lsl_region.specs.Links.{prim_named}
-use Rattle.lsl_region.specs.Posting.{post_all, post_where, ring_at}
+use Rattle.lsl_region.specs.Posting.{post_all, post_where}
 use Rattle.lsl_region.specs.Segments.{asked, came, flown, flown_in, is_ready_at, segment, turn, whole_in_flight}
-use Rattle.lsl_region.specs.Worlds.{Member, World, at_member, changed_at, no_object, object_at, object_of}
-use Rattle.lsl_region.proofs.Placed.{stands-length}
-use Rattle.lsl_world.specs.declared.world.World.{World as TheWorld}
+use Rattle.lsl_region.specs.Worlds.{Member, World, at_member, changed_at, no_object, object_of}
 use Rattle.lsl_world.specs.Sizes.{Size}
-use Rattle.lsl_world.specs.Stands.{IsOf, prims_of, size_of}
-use Rattle.lsl_world.specs.Steps.{next, round, round_or_last, turn_in}
-use Rattle.lsl_tree.specs.Program.{Program}
+use Rattle.lsl_world.specs.Stands.{prims_of}
 
 abbrev pub size_in : List Linkset → ℕ → Size
 size_in objects scripts = record { prims = map prims_of objects; scripts = scripts }
