@@ -32,7 +32,7 @@ pub fn run<S: Shelf, K: Sink, L: Link, N: Sink>(
     notes: &mut N,
 ) -> ExitCode
     // The process ends with the number of the command's status.
-    ensures ends { EndsAs (exit_status result) (command_of words.now)
+    ensures ends { EndsAs L.gives (exit_status result) (command_of words.now)
         (outside (S.held shelf.old) (S.faults shelf.old) (K.sunk sink.old) (K.faults sink.old)
         (L.trips link.old) (L.faults link.old))
         (outside (S.held shelf.new) (S.faults shelf.new) (K.sunk sink.new) (K.faults sink.new)

@@ -28,7 +28,7 @@ pub fn start<S: Shelf, K: Sink, L: Link, N: Sink>(
     notes: &mut N,
 ) -> ExitCode
     // Where the words are given, the process ends with the number of the command's status.
-    ensures ends { IfOk words (λ words. EndsAs (exit_status result) (command_of words.items)
+    ensures ends { IfOk words (λ words. EndsAs L.gives (exit_status result) (command_of words.items)
         (outside (S.held shelf.old) (S.faults shelf.old) (K.sunk sink.old) (K.faults sink.old)
         (L.trips link.old) (L.faults link.old))
         (outside (S.held shelf.new) (S.faults shelf.new) (K.sunk sink.new) (K.faults sink.new)

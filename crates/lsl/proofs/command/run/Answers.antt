@@ -12,8 +12,8 @@ returns-clause-ends g c =
         kept = done.kept;
         read_fault = done.read_fault;
         write_fault = done.write_fault;
-        complete = λ files command answer told words answers calm.
-            done.complete files command answer told words answers calm.reads calm.writes;
+        complete = λ files trips command answer told words answers calm.
+            done.complete files trips command answer told words answers calm.reads calm.writes;
         headline = λ files command file programs told words runs calm.
             done.headline files command file programs told words runs calm.reads calm.writes;
         unchanged = done.unchanged;

@@ -1,6 +1,5 @@
-use Rattle.std.proofs.Common.{[], arith}
+use Rattle.std.proofs.Common.{arith}
 use Rattle.lsl_ports.proofs.Growth.{grew-is, grew-none, grew-then}
-use Rattle.lsl_top.proofs.Written.{rose-later}
 use Rattle.lsl.proofs.Said.{escaped_more}
 use Rattle.lsl.proofs.notice.write_body.Goals as goal
 
