@@ -49,7 +49,7 @@ pub fn lsl<S: Shelf, K: Sink, L: Link>(
     ensures nothing { WritesNothing result → K.sunk sink.new ≡ K.sunk sink.old }
     // With the trips that the link made: at Ok, BadWorld and BadScript the sink grew by exactly an answer of that status,
     // and what that sends was sent; at WriteFault and NoMemory a prefix of an answer was written, and first ones of
-    // what it sends were sent; at every other status nothing was.
+    // what it sends were sent; at Usage and ReadFault nothing was sent.
     ensures kept { (trips : List Trip) × Went L.gives (L.trips link.old) (L.trips link.new) trips
         × Keeps (S.held shelf.old) trips (command_of words.now) result (K.sunk sink.old) (K.sunk sink.new) }
     // The shelf failed at a file that the words or their world name.
