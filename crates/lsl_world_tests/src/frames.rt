@@ -1,53 +1,96 @@
-//! The frames of a script that is cut inside a call.
+//! Frames and their values as words.
 
-ghost use Rattle.std.specs.Prelude.{IfOk};
-ghost use Rattle.lsl_script.specs.Fitting.{FitsUnit};
-
-use crate::hosting::{segment, unit_of};
-use crate::turns::touched;
-use lsl_code::Frame;
-use lsl_post::Rest;
-use lsl_script::Script;
-use lsl_value::{Value, Values};
+use lsl_code::{Frame, Sack};
+use lsl_text::NoMemory;
+use lsl_value::{Text, Value, Values};
+use std::alloc::Global;
 use std::test::Fail;
 
-/// A call while the value of another one waits.
-const CALLS: &str = r#"
-integer f(integer n) { integer i; integer s; for (i = 0; i < n; ++i) s += i; return s; }
-integer g(integer n) { return n * 10; }
-default { touch_start(integer n) { llOwnerSay((string)(f(4) + g(1))); } }
-"#;
-
-/// The integers among these values, in order, as the pairs of digits of a number.
-fn digits(values: &Values) -> i32 {
-    let mut number: i32 = 0;
-    for value in values.as_slice() {
-        if let Value::Int(n) = value {
-            number = number.wrapping_mul(100).wrapping_add(*n);
-        }
-    }
-    number
+/// A number that a word is, or 0.
+pub(crate) fn number(word: &str) -> u16 {
+    word.parse::<u16>().unwrap_or(0)
 }
 
-/// What the frames have, from the innermost.
-fn told(frames: &[Frame]) -> [i32; 2] {
-    match frames {
-        [inner, outer] => [digits(&inner.slots), digits(&outer.slots)],
-        _ => [0, 0],
+/// A value: the empty text, or an integer.
+fn value(word: &str) -> Value {
+    match word {
+        "text" => Value::Str(Text::new()),
+        _ => Value::Int(word.parse::<i32>().unwrap_or(0)),
     }
+}
+
+/// A frame: its function, its point and its values.
+fn frame(alloc: Global, words: &str) -> Result<Frame, NoMemory> {
+    let (function, rest) = words.split_once(' ').unwrap_or((words, ""));
+    let (point, rest) = rest.split_once(' ').unwrap_or((rest, ""));
+    let mut slots = Values::new(alloc);
+    for word in rest.split_whitespace() {
+        slots.push(value(word))?;
+    }
+    Ok(Frame {
+        function: number(function),
+        point: number(point),
+        slots,
+    })
+}
+
+/// Frames, with commas between; none where there is no word.
+pub(crate) fn frames(alloc: Global, words: &str) -> Result<Vec<Frame>, NoMemory> {
+    let mut frames = Vec::new(alloc);
+    if words.is_empty() {
+        return Ok(frames);
+    }
+    for words in words.split(", ") {
+        frames.push(frame(alloc, words)?)?;
+    }
+    Ok(frames)
+}
+
+fn tell_value(told: &mut String, value: &Value) -> Result<(), NoMemory> {
+    match value {
+        Value::Int(number) => write!(told, " {number}"),
+        _ => told.push_str(" text"),
+    }
+}
+
+/// The values of each frame, a stroke before them.
+pub(crate) fn tell_slots(told: &mut String, frames: &[Frame]) -> Result<(), NoMemory> {
+    for frame in frames {
+        told.push_str(" |")?;
+        for value in frame.slots.as_slice() {
+            tell_value(told, value)?;
+        }
+    }
+    Ok(())
+}
+
+/// Each frame's function and point, and its values.
+fn tell(told: &mut String, frames: &[Frame]) -> Result<(), NoMemory> {
+    for frame in frames {
+        write!(told, "{} {}:", frame.function, frame.point)?;
+        for value in frame.slots.as_slice() {
+            tell_value(told, value)?;
+        }
+        told.push_str("; ")?;
+    }
+    Ok(())
+}
+
+/// The frames of a sack, of its copy, and how many the copy holds.
+fn copied(alloc: Global, words: &str) -> Result<String, NoMemory> {
+    let sack = Sack::from_vec(frames(alloc, words)?);
+    let copy = sack.copy(alloc)?;
+    let mut told = String::new(alloc);
+    tell(&mut told, sack.frames())?;
+    tell(&mut told, copy.frames())?;
+    write!(told, "{}", copy.into_vec().len())?;
+    Ok(told)
 }
 
 #[test]
-fn saved_frames(rt: HostRuntime) -> Result<(), Fail> {
-    let alloc = rt.alloc();
-    let unit = unit_of(&rt, alloc, CALLS);
-    let mut words = String::new(alloc);
-    let mut script = touched(alloc, &unit, Script::new(alloc, 0, &unit)?, 1, &mut words)?;
-    for at in 0..4 {
-        script = segment(alloc, &unit, script, 0, &mut words)?;
-    }
-    assert!(rt;
-        matches!(&script.parts().rest, Rest::Saved(_, sack) if told(sack.frames()) == [40_201, 110])
-    );
+fn sacks_are_copied(rt: HostRuntime) -> Result<(), Fail> {
+    let told = copied(rt.alloc(), "0 0 4 2 text, 1 3 1 10")?;
+    let want = "0 0: 4 2 text; 1 3: 1 10; 0 0: 4 2 text; 1 3: 1 10; 2";
+    assert!(rt; told.as_str() == want, "{told}");
     Ok(())
 }

@@ -2,17 +2,16 @@
 
 use crate::events::text;
 use lsl_post::{Filter, Listen};
+use lsl_text::NoMemory;
 use std::alloc::Global;
 use std::test::Fail;
 
 const ANN: &str = "00000000-0000-0000-0000-0000000000aa";
 
-const UPPER: &str = "00000000-0000-0000-0000-0000000000AA";
-
 const NULL: &str = "00000000-0000-0000-0000-000000000000";
 
 /// A listen on channel 5 for this name, id and message.
-fn listen(alloc: Global, name: &str, id: &str, message: &str) -> Result<Listen, Fail> {
+fn listen(alloc: Global, name: &str, id: &str, message: &str) -> Result<Listen, NoMemory> {
     let filter = Filter {
         channel: 5,
         name: text(alloc, name)?,
@@ -22,37 +21,43 @@ fn listen(alloc: Global, name: &str, id: &str, message: &str) -> Result<Listen, 
     Ok(Listen::new(1, filter))
 }
 
+/// What is asked, name, id and message, and whether a text "hi" of Ann is heard on channels 5, 6 and -5.
+const ASKED: &str = "\
+// -> true false false\n\
+Ann/00000000-0000-0000-0000-0000000000aa/hi -> true false false\n\
+Ann// -> true false false\n\
+ann// -> false false false\n\
+Ann // -> false false false\n\
+/00000000-0000-0000-0000-0000000000aa/ -> true false false\n\
+/00000000-0000-0000-0000-0000000000AA/ -> false false false\n\
+/00000000-0000-0000-0000-000000000000/ -> true false false\n\
+/no key/ -> true false false\n\
+/00000000000000000000000000000000000a/ -> true false false\n\
+/00000000-0000-0000-0000-0000000000ab/ -> false false false\n\
+//hi -> true false false\n\
+//Hi -> false false false\n\
+//hi there -> false false false\n\
+Ann/00000000-0000-0000-0000-0000000000aa/no -> false false false";
+
+/// Whether Ann is heard by a listen of these three.
+fn told(alloc: Global, asked: &str) -> Result<String, NoMemory> {
+    let (name, asked) = asked.split_once('/').unwrap_or((asked, ""));
+    let (id, message) = asked.split_once('/').unwrap_or((asked, ""));
+    let listen = listen(alloc, name, id, message)?;
+    let (ann, key, hi) = (text(alloc, "Ann")?, text(alloc, ANN)?, text(alloc, "hi")?);
+    let (five, six) = (
+        listen.hears(5, &ann, &key, &hi),
+        listen.hears(6, &ann, &key, &hi),
+    );
+    let below = listen.hears(-5, &ann, &key, &hi);
+    format!(in alloc; "{five} {six} {below}")
+}
+
 #[test]
 fn wild_and_equal(rt: HostRuntime) -> Result<(), Fail> {
-    let alloc = rt.alloc();
-    // what is asked; whether a text "hi" of Ann is heard on channel 5
-    let rows = [
-        ("", "", "", true),
-        ("Ann", ANN, "hi", true),
-        ("Ann", "", "", true),
-        ("ann", "", "", false),
-        ("Ann ", "", "", false),
-        ("", ANN, "", true),
-        ("", UPPER, "", false),
-        ("", NULL, "", true),
-        ("", "no key", "", true),
-        ("", "00000000000000000000000000000000000a", "", true),
-        ("", "00000000-0000-0000-0000-0000000000ab", "", false),
-        ("", "", "hi", true),
-        ("", "", "Hi", false),
-        ("", "", "hi there", false),
-        ("Ann", ANN, "no", false),
-    ];
-    for (name, id, message, heard) in rows {
-        let listen = listen(alloc, name, id, message)?;
-        let (ann, key, hi) = (text(alloc, "Ann")?, text(alloc, ANN)?, text(alloc, "hi")?);
-        assert_eq!(rt;
-            listen.hears(5, &ann, &key, &hi),
-            heard,
-            "{name} {id} {message}"
-        );
-        assert!(rt; !listen.hears(6, &ann, &key, &hi));
-        assert!(rt; !listen.hears(-5, &ann, &key, &hi));
+    for line in ASKED.split('\n') {
+        let (asked, want) = line.split_once(" -> ").ok_or("an answer")?;
+        assert!(rt; told(rt.alloc(), asked)?.as_str() == want, "{line}");
     }
     Ok(())
 }

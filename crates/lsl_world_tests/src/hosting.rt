@@ -16,6 +16,7 @@ use lsl_code::Woven;
 use lsl_post::ListenFault;
 use lsl_running::{Call, Fault, Reply};
 use lsl_script::{Live, Script, Turn, WakeFault};
+use lsl_table::{BuiltinRow, event_name};
 use lsl_text::NoMemory;
 use lsl_value::{BuiltinId, Text, Value, Values};
 use std::alloc::{AllocError, Global};
@@ -46,7 +47,7 @@ pub(crate) fn segment(
 {
     match script.wake(alloc, unit, clock) {
         Ok(live) => {
-            tell_taken(alloc, &live, told)?;
+            tell_taken(&live, told)?;
             to_stop(alloc, unit, live, clock, told)
         }
         Err(WakeFault::NotReady(script)) => {
@@ -58,9 +59,11 @@ pub(crate) fn segment(
 }
 
 /// What was taken when the script woke.
-fn tell_taken(alloc: Global, live: &Live, told: &mut String) -> Result<(), NoMemory> {
+fn tell_taken(live: &Live, told: &mut String) -> Result<(), NoMemory> {
     if let Some(event) = live.took() {
-        told.push_str(format!(in alloc; "took {:?}, ", event.id)?.as_str())?;
+        told.push_str("took ")?;
+        told.push_str(event_name(event.id))?;
+        told.push_str(", ")?;
     }
     Ok(())
 }
@@ -108,12 +111,11 @@ fn stopped(
         }
         Turn::Ended => {
             let closed = live.close(alloc, unit)?;
-            let text = format!(in alloc; "done {} {:?}", closed.charge, closed.cleared)?;
-            told.push_str(text.as_str())?;
+            write!(told, "done {} {:?}", closed.charge, closed.cleared)?;
             Ok(closed.script)
         }
         Turn::Faulted(fault) => {
-            told.push_str(format!(in alloc; "{fault:?}")?.as_str())?;
+            write!(told, "{fault:?}")?;
             Ok(live.fail(alloc, unit, fault)?)
         }
         _ => Err(AllocError),
@@ -134,7 +136,7 @@ fn answered(
     requires clock { clock ≤ latest_clock }
     ensures { IfOk result (λ turn. IsAfter unit.now turn live.new) }
 {
-    tell_call(alloc, &call, told)?;
+    tell_call(&call, told)?;
     match perform(live, &call, clock)? {
         Reply::Value(value) => {
             live.answer(value);
@@ -145,16 +147,13 @@ fn answered(
 }
 
 /// What is asked for, with its first argument.
-fn tell_call(alloc: Global, call: &Call, told: &mut String) -> Result<(), NoMemory> {
+fn tell_call(call: &Call, told: &mut String) -> Result<(), NoMemory> {
+    told.push_str(call.id.row().name)?;
     match call.args.as_slice().first() {
-        Some(Value::Int(n)) => told.push_str(format!(in alloc; "{:?} {n}, ", call.id)?.as_str())?,
-        Some(Value::Str(text)) => {
-            let text = format!(in alloc; "{:?} {}, ", call.id, text.as_str())?;
-            told.push_str(text.as_str())?;
-        }
-        _ => told.push_str("another call, ")?,
+        Some(Value::Int(n)) => write!(told, " {n}, "),
+        Some(Value::Str(text)) => write!(told, " {}, ", text.as_str()),
+        _ => told.push_str(", "),
     }
-    Ok(())
 }
 
 /// What the call does to the mailbox, and its answer. Want of memory also at any other call.

@@ -4,7 +4,6 @@ ghost use Rattle.std.specs.Prelude.{◌≡◌, []};
 ghost use Rattle.lsl_post.specs.Filters.{filter};
 ghost use Rattle.lsl_post.specs.Listens.{listen_of};
 
-use crate::listens::Ask::{Add, Close, Control};
 use lsl_post::{Listen, ListenFault, Listens};
 use lsl_text::NoMemory;
 use lsl_value::Text;
@@ -12,31 +11,16 @@ use std::alloc::{AllocError, Global};
 use std::process::Abort;
 use std::test::Fail;
 
-/// What is asked for: a listen on a channel, or the listen of a number closed or made active or not.
-#[derive(Clone, Copy, Debug)]
-enum Ask {
-    Add(i32),
-    Close(i32),
-    Control(i32, bool),
-}
-
-/// What is asked; the number answered, or 0; the next number and how many stand then; and whether texts on channels 7
-/// and 8 are heard.
-type Row = (Ask, i32, i32, u32, bool, bool);
-
-/// Does what is asked: the number of a listen, and 0 where there are too many or none is asked for.
-fn asked(listens: &mut Listens, ask: Ask) -> Result<i32, NoMemory> {
-    match ask {
-        Add(channel) => add(listens, channel),
-        Close(number) => {
-            listens.close(number);
-            Ok(0)
-        }
-        Control(number, active) => {
-            listens.control(number, active);
-            Ok(0)
-        }
+/// Does what is asked: `add` a listen on a channel, `close` the listen of a number, or make it active by `open` and not by
+/// `shut`. The number of a listen, and 0 where there are too many or none is asked for.
+fn asked(listens: &mut Listens, word: &str, number: i32) -> Result<i32, NoMemory> {
+    match word {
+        "add" => return add(listens, number),
+        "close" => listens.close(number),
+        "open" => listens.control(number, true),
+        _ => listens.control(number, false),
     }
+    Ok(0)
 }
 
 fn add(listens: &mut Listens, channel: i32) -> Result<i32, NoMemory> {
@@ -52,57 +36,62 @@ fn hears(listens: &Listens, channel: i32) -> bool {
     listens.hears(channel, &Text::new(), &Text::new(), &Text::new())
 }
 
-/// All of it is asked, one after the other.
-fn answers(rt: &impl Abort, mut listens: Listens, rows: &[Row]) -> Result<(), NoMemory> {
-    for (ask, answer, next, count, seven, eight) in rows {
-        let number = asked(&mut listens, *ask)?;
-        assert_eq!(rt; number, *answer, "{ask:?}");
-        let then = (listens.next(), listens.count());
-        assert!(rt; then == (*next, *count), "{ask:?}");
-        let heard = (hears(&listens, 7), hears(&listens, 8));
-        assert!(rt; heard == (*seven, *eight), "{ask:?}");
+/// All of it is asked, one line after the other: what is asked; the number answered, or 0; the next number and how many
+/// stand then; and whether texts on channels 7 and 8 are heard.
+fn answers(
+    rt: &impl Abort,
+    alloc: Global,
+    mut listens: Listens,
+    steps: &str,
+) -> Result<(), NoMemory> {
+    for line in steps.split('\n') {
+        if let Some((step, want)) = line.split_once(" -> ") {
+            let (word, number) = step.split_once(' ').unwrap_or((step, ""));
+            let answer = asked(&mut listens, word, number.parse::<i32>().unwrap_or(0))?;
+            let mut told = format!(in alloc; "{answer}; {} {}", listens.next(), listens.count())?;
+            write!(told, " {} {}", hears(&listens, 7), hears(&listens, 8))?;
+            assert!(rt; told.as_str() == want, "{step} -> {told}");
+        }
     }
     Ok(())
 }
 
-const CONTROLLED: [Row; 13] = [
-    (Add(7), 1, 2, 1, true, false),
-    (Add(8), 2, 3, 2, true, true),
-    (Add(9), 3, 4, 3, true, true),
-    (Control(2, false), 0, 4, 3, true, false),
-    // Asked for again it is active.
-    (Add(8), 2, 4, 3, true, true),
-    (Control(2, false), 0, 4, 3, true, false),
-    (Control(2, true), 0, 4, 3, true, true),
-    (Close(2), 0, 4, 2, true, false),
-    (Close(2), 0, 4, 2, true, false),
-    (Close(-1), 0, 4, 2, true, false),
-    (Control(2, true), 0, 4, 2, true, false),
-    // A number isn't used again.
-    (Add(8), 4, 5, 3, true, true),
-    (Close(1), 0, 5, 2, false, true),
-];
+const CONTROLLED: &str = "\
+add 7 -> 1; 2 1 true false\n\
+add 8 -> 2; 3 2 true true\n\
+add 9 -> 3; 4 3 true true\n\
+shut 2 -> 0; 4 3 true false\n\
+# Asked for again it is active.\n\
+add 8 -> 2; 4 3 true true\n\
+shut 2 -> 0; 4 3 true false\n\
+open 2 -> 0; 4 3 true true\n\
+close 2 -> 0; 4 2 true false\n\
+close 2 -> 0; 4 2 true false\n\
+close -1 -> 0; 4 2 true false\n\
+open 2 -> 0; 4 2 true false\n\
+# A number isn't used again.\n\
+add 8 -> 4; 5 3 true true\n\
+close 1 -> 0; 5 2 false true";
 
 #[test]
 fn closed_and_controlled(rt: HostRuntime) -> Result<(), Fail> {
-    Ok(answers(&rt, Listens::new(rt.alloc()), &CONTROLLED)?)
+    Ok(answers(&rt, rt.alloc(), Listens::new(rt.alloc()), CONTROLLED)?)
 }
 
 /// Where the greatest number and 1 stand, and the next is the one before the greatest.
-const BEHIND: [Row; 5] = [
-    (Add(8), 2_147_483_646, i32::MAX, 3, false, true),
-    (Add(21), 2, 3, 4, false, true),
-    (Close(i32::MAX), 0, 3, 3, false, true),
-    (Add(7), 3, 4, 4, true, true),
-    (Add(21), 2, 4, 4, true, true),
-];
+const BEHIND: &str = "\
+add 8 -> 2147483646; 2147483647 3 false true\n\
+add 21 -> 2; 3 4 false true\n\
+close 2147483647 -> 0; 3 3 false true\n\
+add 7 -> 3; 4 4 true true\n\
+add 21 -> 2; 4 4 true true";
 
 #[test]
 fn numbers_behind_the_greatest(rt: HostRuntime) -> Result<(), Fail> {
     let listens = late(rt.alloc())?;
     let copy = listens.copy(rt.alloc())?;
-    answers(&rt, listens, &BEHIND)?;
-    Ok(answers(&rt, copy, &BEHIND)?)
+    answers(&rt, rt.alloc(), listens, BEHIND)?;
+    Ok(answers(&rt, rt.alloc(), copy, BEHIND)?)
 }
 
 /// A listen of this number, on this channel.
@@ -126,14 +115,13 @@ fn late(alloc: Global) -> Result<Listens, NoMemory> {
 }
 
 /// The last of the most that stand, and one more; another one goes for it.
-const FULL: [Row; 6] = [
-    (Add(64), 65, 66, 65, true, true),
-    (Add(3), 4, 66, 65, true, true),
-    (Add(65), 0, 66, 65, true, true),
-    (Close(8), 0, 66, 64, false, true),
-    (Add(65), 66, 67, 65, false, true),
-    (Add(7), 0, 67, 65, false, true),
-];
+const FULL: &str = "\
+add 64 -> 65; 66 65 true true\n\
+add 3 -> 4; 66 65 true true\n\
+add 65 -> 0; 66 65 true true\n\
+close 8 -> 0; 66 64 false true\n\
+add 65 -> 66; 67 65 false true\n\
+add 7 -> 0; 67 65 false true";
 
 #[test]
 fn sixty_six_listens(rt: HostRuntime) -> Result<(), Fail> {
@@ -141,5 +129,5 @@ fn sixty_six_listens(rt: HostRuntime) -> Result<(), Fail> {
     for channel in 0..64 {
         assert_eq!(rt; add(&mut listens, channel)?, channel + 1);
     }
-    Ok(answers(&rt, listens, &FULL)?)
+    Ok(answers(&rt, rt.alloc(), listens, FULL)?)
 }

@@ -31,21 +31,26 @@ fn take(queue: &mut Queue) -> i32 {
     }
 }
 
+/// How many wait; what the next one that is put gives back, how many wait then, and the first of them.
+const FULL: &str = "\
+0 -> 0 1 99\n\
+1 -> 0 2 1\n\
+62 -> 0 63 1\n\
+63 -> 0 64 1\n\
+64 -> 99 64 1";
+
+fn told(alloc: Global, count: &str) -> Result<String, NoMemory> {
+    let mut queue = filled(alloc, count.parse::<i32>().unwrap_or(0))?;
+    let back = put(alloc, &mut queue, 99)?;
+    let then = queue.count();
+    format!(in alloc; "{back} {then} {}", take(&mut queue))
+}
+
 #[test]
 fn sixty_four_wait(rt: HostRuntime) -> Result<(), Fail> {
-    // how many wait; what the next one that is put gives back, how many wait then, and the first of them
-    let rows = [
-        (0, 0, 1, 99),
-        (1, 0, 2, 1),
-        (62, 0, 63, 1),
-        (63, 0, 64, 1),
-        (64, 99, 64, 1),
-    ];
-    for (count, back, then, first) in rows {
-        let mut queue = filled(rt.alloc(), count)?;
-        assert_eq!(rt; put(rt.alloc(), &mut queue, 99)?, back, "{count}");
-        assert_eq!(rt; queue.count(), then, "{count}");
-        assert_eq!(rt; take(&mut queue), first, "{count}");
+    for line in FULL.split('\n') {
+        let (count, want) = line.split_once(" -> ").ok_or("an answer")?;
+        assert!(rt; told(rt.alloc(), count)?.as_str() == want, "{line}");
     }
     Ok(())
 }
@@ -71,9 +76,10 @@ fn timer_events_are_seen(rt: HostRuntime) -> Result<(), Fail> {
         assert!(rt; queue.put(timer(rt.alloc())).is_none());
     }
     // what is taken, and whether a timer event waits then
-    for (taken, waits) in [(1, true), (2, true), (0, true), (0, false), (-1, false)] {
-        assert_eq!(rt; take(&mut queue), taken);
-        assert_eq!(rt; queue.has_timer(), waits);
+    for want in "1 true/2 true/0 true/0 false/-1 false".split('/') {
+        let taken = take(&mut queue);
+        let told = format!(in rt.alloc(); "{taken} {}", queue.has_timer())?;
+        assert!(rt; told.as_str() == want, "{want}");
     }
     Ok(())
 }
