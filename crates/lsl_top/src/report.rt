@@ -8,6 +8,7 @@ ghost use Rattle.lsl_world.specs.Programs.{rules_of};
 ghost use Rattle.lsl_world.specs.Ranges.{IsInRange};
 ghost use Rattle.lsl_world.specs.Reports.{homes, journal_of};
 ghost use Rattle.lsl_world.specs.Sizes.{IsStepOf};
+ghost use Rattle.lsl_world.specs.Sound.{IsSound};
 ghost use Rattle.lsl_world.specs.Stands.{IsOf, size_of};
 ghost use Rattle.lsl_world.specs.Steps.{next};
 ghost use Rattle.lsl_top.specs.Goes.{Goes};
@@ -29,12 +30,13 @@ fn write_step<K: Sink>(
     lines: &mut Vec<u8>,
     sink: &mut K,
 ) -> Result<(), Trouble>
-    requires some { (programs : List Program) × (w : SourceWorld) × IsOf programs world.old w }
+    requires sound { IsSound world.old }
     requires step { IsStepOf (size_of world.old) step.now }
     ensures goes { (programs : List Program) → Goes (next (rules_of programs)) (IsOf programs world.old)
         (IsOf programs world.new) (step.now ∷ []) (log (K.sunk sink.old) (K.faults sink.old))
         (log (K.sunk sink.new) (K.faults sink.new)) result }
     ensures size { OnOk result (size_of world.new ≡ size_of world.old) }
+    ensures sound { OnOk result (IsSound world.new) }
 {
     let mut entries = Entries::new(alloc);
     world.step(step, &mut entries)?;
@@ -48,7 +50,7 @@ fn write_steps<K: Sink>(
     steps: &[Step],
     sink: &mut K,
 ) -> Result<(), Trouble>
-    requires some { (programs : List Program) × (w : SourceWorld) × IsOf programs world.old w }
+    requires sound { IsSound world.old }
     requires steps { All (IsStepOf (size_of world.old)) steps.now }
     ensures { (programs : List Program) → Goes (next (rules_of programs)) (IsOf programs world.old)
         (IsOf programs world.new) steps.now (log (K.sunk sink.old) (K.faults sink.old))
@@ -81,7 +83,6 @@ pub fn write_report<K: Sink>(
 ) -> Result<(), Trouble>
     requires file { IsInRange file.now }
     requires units { length units ≡ length file.now.files }
-    requires some { (programs : List Program) × AreRunBy programs units }
     ensures { (programs : List Program) → AreRunBy programs units
         → Writes (lines_of (journal_of programs file.now)) (log (K.sunk sink.old) (K.faults sink.old))
         (log (K.sunk sink.new) (K.faults sink.new)) result }

@@ -15,9 +15,6 @@ write_report-requires-clause-file g c = c.requires.range
 pub write_report-requires-clause-units : goal.write_report-requires-clause-units
 write_report-requires-clause-units g c = c.in-Ok.ensures.len ∙ c.requires.texts ∙ c.requires.names
 
-pub write_report-requires-clause-some : goal.write_report-requires-clause-some
-write_report-requires-clause-some g c = let (programs, accepted, run) = c.in-Ok.ensures.ok in (programs, run)
-
 pub returns-in-Ok : goal.returns-in-Ok
 returns-in-Ok g c =
     let play : Play = record { names = map (λ (n : Bor (List ℕ)). n.now) c.args.names.now; world = c.args.world.now } in

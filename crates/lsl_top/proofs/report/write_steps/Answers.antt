@@ -10,10 +10,10 @@ use Rattle.lsl_top.proofs.Goings.{goes-none, goes-stop, goes-then, step-here}
 use Rattle.lsl_top.proofs.report.write_steps.Goals as goal
 
 pub loop-step-init : goal.loop-step-init
-loop-step-init g c = record { some = c.requires.some; size = refl; goes = λ programs last end r rest. rest }
+loop-step-init g c = record { sound = c.requires.sound; size = refl; goes = λ programs last end r rest. rest }
 
-pub write_step-requires-clause-some : goal.write_step-requires-clause-some
-write_step-requires-clause-some g c = c.loop-step.invariant.some
+pub write_step-requires-clause-sound : goal.write_step-requires-clause-sound
+write_step-requires-clause-sound g c = c.loop-step.invariant.sound
 
 pub write_step-requires-clause-step : goal.write_step-requires-clause-step
 write_step-requires-clause-step g c =
@@ -36,9 +36,7 @@ returns-in_err-write_step g c =
 pub loop-step-preserved : goal.loop-step-preserved
 loop-step-preserved g c =
     record {
-      some = let (programs, w, is) = c.loop-step.invariant.some in
-          let done = (c.in_ok-write_step.ensures.goes programs).runs w is in
-          (programs, _, done.value);
+      sound = c.in_ok-write_step.ensures.sound;
       size = c.in_ok-write_step.ensures.size ∙ c.loop-step.invariant.size;
       goes = λ programs last end r rest.
           c.loop-step.invariant.goes programs last end r

@@ -1,7 +1,7 @@
 use Rattle.std.proofs.Common.{◌≡◌, List, Result, drop}
 use Rattle.lsl_tree.specs.Program.{Program}
-use Rattle.lsl_region.specs.Worlds.{World as SourceWorld}
 use Rattle.lsl_world.specs.Programs.{rules_of}
+use Rattle.lsl_world.specs.Sound.{IsSound}
 use Rattle.lsl_world.specs.Stands.{IsOf, size_of}
 use Rattle.lsl_world.specs.Steps.{next}
 use Rattle.lsl_world.specs.declared.world.World.{World}
@@ -14,7 +14,7 @@ use Rattle.lsl_top.proofs.report.write_steps.Given as goal
 abbrev pub invariant-loop-step : goal.invariant-loop-step
 invariant-loop-step g l =
     record {
-      some : (programs : List Program) × (w : SourceWorld) × IsOf programs l.world w;
+      sound : IsSound l.world;
       size : size_of l.world ≡ size_of l.fn.world;
       goes : (programs : List Program) (last : World) (end : Log) (r : Result (Unit {0}) Trouble)
           → Goes (next (rules_of programs)) (IsOf programs l.world) (IsOf programs last)
