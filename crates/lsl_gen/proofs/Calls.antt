@@ -45,7 +45,7 @@ popped n vs ops F e =
     ap (λ n. F (take n (vs ++ ops)) (drop n (vs ++ ops))) (sym e) ∙ ap₂ F (take_front vs ops) (drop_front vs ops)
 
 -- an answer that the call can have brings a value where the call has a result
-answer_fits : (result : Option Kind) (o : Option Value) → is_answer_to result (reply.Value o) ≡ true
+pub answer_fits : (result : Option Kind) (o : Option Value) → is_answer_to result (reply.Value o) ≡ true
     → is_some o ≡ is_some result
 answer_fits None None e = refl
 answer_fits None (Some v) e = absurd cc

@@ -1,4 +1,7 @@
 pub mod Agreement
+pub mod Answered
+pub mod AnsweredCalls
+pub mod AnsweredValues
 pub mod Ascii
 pub mod Asks
 pub mod Bodies
@@ -15,6 +18,7 @@ pub mod GlobalSteps
 pub mod LabelScopes
 pub mod Leaves
 pub mod Lengths
+pub mod NeverLost
 pub mod Pieces
 pub mod ProgramSteps
 pub mod Routes

@@ -4,3 +4,4 @@ pub mod LabelTables
 pub mod Programs
 pub mod Counts
 pub mod Laws
+pub mod LossLaws

@@ -1,6 +1,7 @@
 //! Laws of the code of programs. Each law is a function whose clause is the law; it does nothing.
 
 ghost use Rattle.lsl_gen.specs.Laws.{CodeRunsAsMeant, UnitsAreWellFormed, AsksSoOften};
+ghost use Rattle.lsl_gen.specs.LossLaws.{IsNeverLost};
 
 /// A routine's code, run from its start, comes to what the routine means.
 pub fn code_runs_as_meant()
@@ -15,4 +16,10 @@ pub fn units_are_well_formed()
 /// Where a handler is cut and goes on with one tick more, it asks at most so often before its next tick.
 pub fn a_segment_asks_so_often()
     ensures { AsksSoOften }
+{}
+
+/// A routine of a checked program is never lost, where each answer is one to the call that asked for it: it is
+/// cut, asks, ends or stops.
+pub fn a_program_is_never_lost()
+    ensures { IsNeverLost }
 {}
