@@ -37,11 +37,10 @@ abbrev pub store : Place → Instr
 store (Slot n) = instr.Store n
 store (Global n) = instr.StoreGlobal n
 
--- the instruction of a built-in call, but for those with a form of their own
+-- the instruction of a built-in call, but for those with a form of their own: a script's own calls are all such
 abbrev pub builtin_of : Home → BuiltinId → Instr
-builtin_of home.Pure id = instr.Pure id
-builtin_of home.Own id = instr.Used
 builtin_of home.Host id = instr.Host id
+builtin_of home id = instr.Pure id
 
 -- a built-in call of this form, at this line, whose arguments are pushed
 abbrev pub builtin_code : CallForm → BuiltinId → ℕ → List Instr

@@ -5,3 +5,4 @@ pub mod Programs
 pub mod Counts
 pub mod Laws
 pub mod LossLaws
+pub mod OwnCalls

@@ -81,6 +81,10 @@ fn emit_builtin(draft: &mut Draft, id: BuiltinId, line: u32) -> Result<(), NoMem
     ensures { OnOk result (draft.new ≡ draft.old ++ builtin_code (call_form id) id line) }
 {
     match id {
+        BuiltinId::GetUsedMemory => {
+            draft.push(Instr::Used)?;
+            Ok(())
+        }
         BuiltinId::GetFreeMemory => {
             draft.push(Instr::Free)?;
             Ok(())
@@ -101,15 +105,14 @@ fn emit_builtin(draft: &mut Draft, id: BuiltinId, line: u32) -> Result<(), NoMem
     }
 }
 
-// The one instruction of a built-in call, but for those with a form of their own.
+// The one instruction of a built-in call, but for those with a form of their own: a script's own calls are all such.
 fn builtin(id: BuiltinId) -> Instr
     ensures value { result ≡ builtin_of (row_of id).home id }
     ensures bare { carries_point result ≡ false }
 {
     match id.row().home {
-        Home::Pure => Instr::Pure(id),
-        Home::Own => Instr::Used,
         Home::Host => Instr::Host(id),
+        Home::Pure | Home::Own => Instr::Pure(id),
     }
 }
 

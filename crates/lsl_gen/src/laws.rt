@@ -2,6 +2,7 @@
 
 ghost use Rattle.lsl_gen.specs.Laws.{CodeRunsAsMeant, UnitsAreWellFormed, AsksSoOften};
 ghost use Rattle.lsl_gen.specs.LossLaws.{IsNeverLost};
+ghost use Rattle.lsl_gen.specs.OwnCalls.{FreeMemoryIsTheRest, OwnCallsAreThese, UsedMemoryIsTheCharge};
 
 /// A routine's code, run from its start, comes to what the routine means.
 pub fn code_runs_as_meant()
@@ -22,4 +23,12 @@ pub fn a_segment_asks_so_often()
 /// cut, asks, ends or stops.
 pub fn a_program_is_never_lost()
     ensures { IsNeverLost }
+{}
+
+/// `llGetUsedMemory` gives all that is charged and `llGetFreeMemory` what the limit leaves of it, each by an
+/// instruction of its own; no other call is a script's own.
+pub fn own_calls_are_named()
+    ensures used { UsedMemoryIsTheCharge }
+    ensures free { FreeMemoryIsTheRest }
+    ensures table { OwnCallsAreThese }
 {}

@@ -1,0 +1,43 @@
+-- The calls that a script answers by itself, each by its name: what it gives, and what its code is.
+use Rattle.std.specs.Prelude.{◌≡◌, ◌↔◌, ◌⊎◌, ℕ, ◌-◌, pos, List, [], ◌∷◌, Some}
+use Rattle.lsl_value.specs.declared.names.BuiltinId.{BuiltinId}
+use Rattle.lsl_value.specs.declared.names.BuiltinId.TheVariants.{GetUsedMemory, GetFreeMemory}
+use Rattle.lsl_value.specs.declared.tagged.Value.{Value}
+use Rattle.lsl_value.specs.declared.tagged.Value.TheVariants.{Int}
+use Rattle.lsl_table.specs.Calls.{row_of}
+use Rattle.lsl_table.specs.declared.calls.Home.TheVariants as home
+use Rattle.lsl_tree.specs.declared.program_node.Callee.TheVariants.{Builtin}
+use Rattle.lsl_tree.specs.Program.{Routine}
+use Rattle.lsl_running.specs.Charging.{used}
+use Rattle.lsl_meaning.specs.Calls.{Lower, call}
+use Rattle.lsl_meaning.specs.State.{State, Site, give_result}
+use Rattle.lsl_code.specs.declared.instructions.Instr.{Instr}
+use Rattle.lsl_code.specs.declared.instructions.Instr.TheVariants.{Used, Free}
+use Rattle.lsl_gen.specs.Expressions.{call_code}
+
+-- wherever it is called, it gives this number
+abbrev pub GivesNumber : BuiltinId → (Site → State → ℕ) → Type 0
+GivesNumber id number =
+    (routines : List Routine) (low : Lower) (line : ℕ) (arguments : List Value) (site : Site) (s : State)
+    → call routines low (Builtin id) line arguments site s ≡ give_result (Some (Int (pos (number site s)))) site s
+
+-- its code is this instruction
+abbrev pub HasCode : BuiltinId → Instr → Type 0
+HasCode id i = (line : ℕ) → call_code (Builtin id) line ≡ i ∷ []
+
+abbrev pub charged : Site → State → ℕ
+charged site s = used site.held s.slots s.kept
+
+-- all that is charged where it is called
+abbrev pub UsedMemoryIsTheCharge : Type 0
+UsedMemoryIsTheCharge = GivesNumber GetUsedMemory charged × HasCode GetUsedMemory Used
+
+-- what the limit leaves of it
+abbrev pub FreeMemoryIsTheRest : Type 0
+FreeMemoryIsTheRest =
+    GivesNumber GetFreeMemory (λ site s. s.kept.limit - charged site s) × HasCode GetFreeMemory Free
+
+-- the table calls these two a script's own, and no others
+abbrev pub OwnCallsAreThese : Type 0
+OwnCallsAreThese =
+    (id : BuiltinId) → ((row_of id).home ≡ home.Own) ↔ ((id ≡ GetUsedMemory) ⊎ (id ≡ GetFreeMemory))
