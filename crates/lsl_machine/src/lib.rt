@@ -155,6 +155,9 @@ impl Machine {
         ensures chained { (handler : ℕ) → IsChained (bodies_of unit.now) handler self.old →
             IsChained (bodies_of unit.now) handler self.new }
         ensures charged { IsCharged self.new }
+        // On integers alone, but to enter a function and to ask, the run behind it takes no memory.
+        ensures memory { result ≡ false → TakesNone (bodies_of unit.now) self.old →
+            TakesNone (bodies_of unit.now) self.new }
     {
         if self.running.goes_to_tick(unit) {
             return true;

@@ -5,6 +5,7 @@ use Rattle.lsl_code.specs.Standing.{IsChain}
 use Rattle.lsl_code.proofs.Running.{run_law}
 use Rattle.lsl_machine.specs.Futures.{StandsCut}
 use Rattle.lsl_machine.specs.Laid.{machine_of, state_of}
+use Rattle.lsl_machine.specs.Memory.{TakesNone, TakesNoneAs}
 use Rattle.lsl_machine.specs.State.{HasReserved, IsChained, IsChainedAt, IsChargedAt, IsIn, State, bodies_of}
 use Rattle.lsl_machine.specs.declared.standing.Standing.TheVariants as standings
 use Rattle.lsl_machine.proofs.Chained.{laid_charge}
@@ -46,3 +47,12 @@ returns-then-goes_to_tick-clause-charged c =
 
 pub returns-clause-charged : goal.returns-clause-charged
 returns-clause-charged c = laid_charge c.goes_to_tick.new.self standings.Ready c.goes_to_tick.ensures.held
+
+pub returns-clause-memory : goal.returns-clause-memory
+returns-clause-memory c stops free =
+    let bodies = bodies_of c.args.unit.now in
+    let stood : c.self.inside.standing ≡ standings.AtTick = ap (λ (s : State). s.standing) c.self.view_is
+    ∙ c.requires.stands in
+    c.goes_to_tick.ensures.memory
+    (subst (λ z. TakesNoneAs z bodies (machine_of c.self.inside.running)) stood
+    (subst (TakesNone bodies) (sym c.self.view_is) free))
