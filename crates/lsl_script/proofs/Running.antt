@@ -179,6 +179,13 @@ turn_asks (halt.Ended way) call e = absurd cc
 turn_asks (halt.Faulted fault) call e = absurd cc
 turn_asks halt.NoMemory call e = absurd cc
 
+pub turn_lacks : (h : Answer) → turn_of h ≡ turn.NoMemory → h ≡ halt.NoMemory
+turn_lacks (halt.Asks call) e = absurd cc
+turn_lacks halt.AtTick e = absurd cc
+turn_lacks (halt.Ended way) e = absurd cc
+turn_lacks (halt.Faulted fault) e = absurd cc
+turn_lacks halt.NoMemory e = refl
+
 -- where the machine's run asks with fewer than k ahead, so does the script
 pub fewer_on : (bodies : List Body) (k : ℕ) (mid new : Live) (h : Answer) (call : Call) → new ≡ with_halt h mid
     → turn_of h ≡ turn.Asks call → (h ≡ halt.Asks call → asks_ahead bodies mid.machine < k)

@@ -1,6 +1,6 @@
 //! A script that is awake: its machine runs the handler of the event in hand.
 
-ghost use Rattle.std.specs.Prelude.{◌≡◌, ◌<◌, ◌≤◌, ℕ, List, nat_le, true, false, IfSome, option_copied};
+ghost use Rattle.std.specs.Prelude.{◌≡◌, ◌≢◌, ◌<◌, ◌≤◌, ℕ, List, nat_le, true, false, IfSome, option_copied};
 ghost use Rattle.std.specs.Borrow.{Lends, sem};
 ghost use Rattle.lsl_value.specs.declared.names.BuiltinId.{BuiltinId};
 ghost use Rattle.lsl_running.specs.declared.host.Reply.TheVariants as reply;
@@ -8,6 +8,7 @@ ghost use Rattle.lsl_code.specs.Bodies.{Body};
 ghost use Rattle.lsl_code.specs.declared.woven_units.Woven.{Woven as Code};
 ghost use Rattle.lsl_machine.specs.Futures.{ticks_passed};
 ghost use Rattle.lsl_machine.specs.declared.standing.Standing.TheVariants as standings;
+ghost use Rattle.lsl_machine.specs.Memory.{TakesNone};
 ghost use Rattle.lsl_machine.specs.State.{CanRun, Wants, asks_ahead, bodies_of};
 ghost use Rattle.lsl_post.specs.declared.timer.Timer.{Timer as Ticking};
 ghost use Rattle.lsl_post.specs.Listens.{Standing};
@@ -91,6 +92,9 @@ impl Live {
         ensures beside { IsBeside self.old self.new }
         ensures source { (codes : List Code) (s : Source) (f : Flight) → Lives codes unit.now s f self.old →
             Turns codes unit.now s f result self.new }
+        // On integers alone it takes no memory, but to enter a function and to ask.
+        ensures memory { self.old.fresh ≡ false → TakesNone (bodies_of unit.now) self.old.machine →
+            result ≢ Turn.NoMemory }
         // Where it asks and has passed no tick, fewer host calls are ahead of it.
         ensures ahead { self.old.fresh ≡ false → ticks_passed self.old.machine.standing ≡ 0 → (call : Call) →
             result ≡ Turn.Asks call →
@@ -119,6 +123,10 @@ impl Live {
             Rests codes unit.now s f self.old → Turns codes unit.now s f Turn.AtTick self.new }
         ensures goes { result ≡ false → (codes : List Code) (s : Source) (f : Flight) →
             Rests codes unit.now s f self.old → Lives codes unit.now s f self.new }
+        ensures fresh { self.new.fresh ≡ self.old.fresh }
+        // On integers alone, but to enter a function and to ask, going on from there takes no memory.
+        ensures memory { result ≡ false → TakesNone (bodies_of unit.now) self.old.machine →
+            TakesNone (bodies_of unit.now) self.new.machine }
     {
         self.machine.pass_tick(unit)
     }
@@ -153,6 +161,7 @@ impl Live {
         ensures beside { IsBeside self.old self.new }
         ensures source { (codes : List Code) (s : Source) (f : Flight) → Lives codes unit.now s f self.old →
             Turns codes unit.now s f result self.new }
+        ensures memory { TakesNone (bodies_of unit.now) self.old.machine → result ≢ Turn.NoMemory }
         ensures ahead { ticks_passed self.old.machine.standing ≡ 0 → (call : Call) → result ≡ Turn.Asks call →
             asks_ahead (bodies_of unit.now) self.new.machine < asks_ahead (bodies_of unit.now) self.old.machine }
     {

@@ -2,7 +2,7 @@ use Rattle.std.proofs.Common.{refl, sym, ◌∙◌, subst}
 use Rattle.lsl_machine.specs.State.{asks_ahead, bodies_of}
 use Rattle.lsl_script.specs.Awake.{StandsAfter}
 use Rattle.lsl_script.specs.Lives.{Turns}
-use Rattle.lsl_script.proofs.Running.{IsRun, Stays, awake_on, fewer_on, source_on, stands_on}
+use Rattle.lsl_script.proofs.Running.{IsRun, Stays, awake_on, fewer_on, source_on, stands_on, turn_lacks}
 use Rattle.lsl_script.proofs.live.Live.go_on.Goals as goal
 
 ran : (c : goal.After-halted) → IsRun c.args.unit.now c.args.self.now.machine c.run-halt.result c.run-halt.new.self
@@ -44,3 +44,7 @@ returns-clause-ahead c none call asks =
     (record c.args.self.now { machine = c.run-halt.new.self })
     c.halted.new.self c.run-halt.result call c.halted.ensures.live (sym c.halted.ensures.turn ∙ asks)
     (λ e. c.run-halt.ensures.ahead call e none)
+
+pub returns-clause-memory : goal.returns-clause-memory
+returns-clause-memory c free lacks =
+    c.run-halt.ensures.memory free (turn_lacks c.run-halt.result (sym c.halted.ensures.turn ∙ lacks))
