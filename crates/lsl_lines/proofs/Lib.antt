@@ -8,3 +8,9 @@ pub mod LineLemmas
 pub mod ReadBack
 pub mod Texts
 pub mod Top
+pub mod WrittenFields
+pub mod WrittenFiles
+pub mod WrittenLines
+pub mod WrittenObjects
+pub mod WrittenWords
+pub mod WrittenWorlds

@@ -27,7 +27,7 @@ one_back b front rest = go (b == 34) (b == 92) (b == 10) refl refl refl
     go false false true q s f = ap (λ (c : ℕ). quoted_words (front ++ c ∷ []) rest) (sym (eqb-true b 10 f))
     go false false false q s f = rw (q, s) refl
 
-all_back : (bytes front rest : List ℕ) → quoted_words front (flat_map escaped bytes ++ rest)
+pub all_back : (bytes front rest : List ℕ) → quoted_words front (flat_map escaped bytes ++ rest)
     ≡ quoted_words (front ++ bytes) rest
 all_back [] front rest = ap (λ (l : List ℕ). quoted_words l rest) (sym (append-nil front))
 all_back (b ∷ bytes) front rest =

@@ -12,3 +12,5 @@ pub mod Reading
 pub mod Reads
 pub mod Words
 pub mod World
+pub mod Writable
+pub mod Written

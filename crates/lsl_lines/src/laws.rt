@@ -2,6 +2,7 @@
 
 ghost use Rattle.std.specs.Prelude.{[], ◌∷◌};
 ghost use Rattle.lsl_lines.specs.Laws.{CutAgain, ReadBack};
+ghost use Rattle.lsl_lines.specs.Writable.{EachIsRead};
 
 /// Lines that are written with a line feed at their ends, or a carriage return and a line feed, are cut again as
 /// they were.
@@ -13,4 +14,9 @@ pub fn lines_are_cut_again()
 /// A text as `push_quoted` of `lsl_text` writes it is read back as that text.
 pub fn quoted_texts_are_read_back()
     ensures { ReadBack }
+{}
+
+/// Each world that a text can tell is the world of `text_of_world`.
+pub fn written_worlds_are_read()
+    ensures { EachIsRead }
 {}
