@@ -1,6 +1,6 @@
 -- What the objects in memory are to their callers.
-use Rattle.std.specs.Prelude.{◌∷◌, Option, Some, None, ℕ, ◌+◌, ◌-◌, ◌==◌, Bool, ◌&&◌, ◌||◌, not, List, [], ◌++◌, length, take, option_map, slice_get, slice_index, slice_set, replicate, position, unwrap_or, if◌then◌else◌}
-use Rattle.std.specs.List.{list_any}
+use Rattle.std.specs.Prelude.{◌≡◌, ◌∷◌, Option, Some, None, ℕ, ◌+◌, ◌-◌, min, ◌==◌, nat_lt, Bool, ◌&&◌, ◌||◌, not, List, [], ◌++◌, length, take, fold, option_map, slice_get, slice_index, slice_set, replicate, position, unwrap_or, if◌then◌else◌}
+use Rattle.std.specs.List.{list_any, find}
 use Rattle.std.specs.Str.{bytes_eq}
 use Rattle.lsl_ports.specs.Counts.{raised}
 use Rattle.lsl_ports.specs.Shelf.{Files}
@@ -19,20 +19,34 @@ pub record ShelfState : Type 0 where
   pub failing : List ℕ
   pub calls : ℕ
 
--- a sink in memory: what it took, how many bytes it has room for in all, the numbers of the calls
--- that fail, how many calls there were, and the count of its faults
+-- a sink in memory: what it took, how many bytes it has room for in all, the greatest count that one call takes,
+-- the numbers of the calls that fail, how many calls there were, and the count of its faults
 pub record SinkState : Type 0 where
   pub taken : List ℕ
   pub room : ℕ
+  pub most : ℕ
   pub failing : List ℕ
   pub calls : ℕ
   pub faults : ℕ
 
--- a link in memory: its trips, the numbers of the calls that fail, how many calls there were, and the count of its
--- faults
+-- a byte that is changed in what comes back of the call of that number
+pub record DamagedByte : Type 0 where
+  pub call : ℕ
+  pub place : ℕ
+  pub byte : ℕ
+
+-- bytes that come back of the call of that number, in place of those that were sent
+pub record ReplacedBytes : Type 0 where
+  pub call : ℕ
+  pub bytes : List ℕ
+
+-- a link in memory: its trips, the numbers of the calls that fail, the damages and the replacements of what comes
+-- back, how many calls there were, and the count of its faults
 pub record LinkState : Type 0 where
   pub trips : List Trip
   pub failing : List ℕ
+  pub damages : List DamagedByte
+  pub replacements : List ReplacedBytes
   pub calls : ℕ
   pub faults : ℕ
 
@@ -78,8 +92,9 @@ after_read s name =
     }
 
 -- a sink at its start
-abbrev pub new_sink : ℕ → List ℕ → SinkState
-new_sink room failing = record { taken = []; room = room; failing = failing; calls = 0; faults = 0 }
+abbrev pub new_sink : ℕ → ℕ → List ℕ → SinkState
+new_sink room most failing =
+    record { taken = []; room = room; most = most; failing = failing; calls = 0; faults = 0 }
 
 -- the next call with a piece fails: it is to, or the piece isn't empty and finds the room full
 abbrev pub refuses : SinkState → List ℕ → Bool
@@ -87,7 +102,7 @@ refuses s piece = fails_next s.failing s.calls || ((length s.taken == s.room) &&
 
 -- what the next call takes of a piece
 abbrev pub taken_of : SinkState → List ℕ → List ℕ
-taken_of s piece = if refuses s piece then [] else take (s.room - length s.taken) piece
+taken_of s piece = if refuses s piece then [] else take (min s.most (s.room - length s.taken)) piece
 
 -- the sink after a call with that piece
 abbrev pub after_write : SinkState → List ℕ → SinkState
@@ -95,18 +110,50 @@ after_write s piece =
     record {
       taken = s.taken ++ taken_of s piece;
       room = s.room;
+      most = s.most;
       failing = s.failing;
       calls = raised s.calls;
       faults = if refuses s piece then raised s.faults else s.faults;
     }
 
 -- a link at its start
-abbrev pub new_link : List ℕ → LinkState
-new_link failing = record { trips = []; failing = failing; calls = 0; faults = 0 }
+abbrev pub new_link : List ℕ → List DamagedByte → List ReplacedBytes → LinkState
+new_link failing damages replacements =
+    record {
+      trips = [];
+      failing = failing;
+      damages = damages;
+      replacements = replacements;
+      calls = 0;
+      faults = 0;
+    }
+
+-- what comes back of a call before it is damaged: the first replacement of its number, or what was sent
+abbrev pub replaced : List ReplacedBytes → ℕ → List ℕ → List ℕ
+replaced replacements call sent =
+    unwrap_or (option_map (λ (r : ReplacedBytes). r.bytes) (find (λ (r : ReplacedBytes). r.call == call) replacements))
+    sent
+
+-- bytes with one damage, if it is of that call; one beyond the end changes nothing
+abbrev pub damaged_by : ℕ → List ℕ → DamagedByte → List ℕ
+damaged_by call bytes d =
+    if (d.call == call) && nat_lt d.place (length bytes) then slice_set bytes d.place d.byte else bytes
+
+-- bytes with all damages of that call, in order
+abbrev pub damaged : List DamagedByte → ℕ → List ℕ → List ℕ
+damaged damages call bytes = fold (damaged_by call) bytes damages
 
 -- what comes back of the next call
 abbrev pub back_of : LinkState → List ℕ → Option (List ℕ)
-back_of s sent = if fails_next s.failing s.calls then None else Some sent
+back_of s sent =
+    if fails_next s.failing s.calls then None
+    else Some (damaged s.damages (raised s.calls) (replaced s.replacements (raised s.calls) sent))
+
+-- both links fail, damage and replace at the same calls
+pub record HasListsOf (s t : LinkState) : Type 0 where
+  pub failing : s.failing ≡ t.failing
+  pub damages : s.damages ≡ t.damages
+  pub replacements : s.replacements ≡ t.replacements
 
 -- the link after a call with these bytes
 abbrev pub after_carry : LinkState → List ℕ → LinkState
@@ -114,6 +161,8 @@ after_carry s sent =
     record {
       trips = s.trips ++ record { sent = sent; back = back_of s sent } ∷ [];
       failing = s.failing;
+      damages = s.damages;
+      replacements = s.replacements;
       calls = raised s.calls;
       faults = if fails_next s.failing s.calls then raised s.faults else s.faults;
     }

@@ -10,7 +10,7 @@ mod reading;
 mod writing;
 
 pub use carrying::{Link, LinkFault};
-pub use memory_link::{MemoryLink, StoredTrip};
+pub use memory_link::{Damage, MemoryLink, Replacement, StoredTrip};
 pub use memory_shelf::{MemoryShelf, StoredFile};
 pub use memory_sink::MemorySink;
 pub use reading::{Shelf, ShelfFault, read_all};

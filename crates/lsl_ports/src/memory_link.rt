@@ -1,9 +1,11 @@
-//! A link whose trips are in memory. It fails at the calls that it is told to.
-ghost use Rattle.std.specs.Prelude.{◌≡◌, ◌≤◌, ◌⊎◌, [], ◌∷◌, ◌++◌, Some, None, option_map, IfOk, IsErrOf, OnErr, OnOk};
+//! A link whose trips are in memory. It fails at the calls that it is told to, and damages or replaces what comes
+//! back of others.
+ghost use Rattle.std.specs.Prelude.{◌≡◌, ◌≤◌, ◌⊎◌, [], ◌∷◌, ◌++◌, Some, None, ◌==◌, option_map, IfOk, IsErrOf, OnErr, OnOk};
+ghost use Rattle.std.specs.List.{find};
 ghost use Rattle.lsl_ports.specs.Counts.{Rose, raised};
 ghost use Rattle.lsl_ports.specs.Growth.{Grew};
 ghost use Rattle.lsl_ports.specs.Trips.{Trip};
-ghost use Rattle.lsl_ports.specs.Stored.{LinkState, after_carry, back_of, new_link};
+ghost use Rattle.lsl_ports.specs.Stored.{DamagedByte, HasListsOf, LinkState, ReplacedBytes, after_carry, back_of, damaged, new_link, replaced};
 
 use crate::{Link, LinkFault};
 use std::alloc::{AllocError, Global};
@@ -64,12 +66,107 @@ impl StoredTrip {
     }
 }
 
-/// A link in memory, which tells its trips and brings back what was sent. Calls are counted from 1, and those whose
-/// numbers it was given fail: its count of faults rises at these. A call that lacks memory isn't counted.
+/// A byte that is changed in what comes back of one call. Calls are counted from 1.
+#[derive(Debug, Drop)]
+pub struct Damage {
+    call: u64,
+    place: usize,
+    byte: u8,
+}
+
+impl Model for Damage {
+    ghost use Rattle.lsl_ports.specs.Stored.{DamagedByte};
+
+    ghost Value = { DamagedByte };
+
+    ghost view = { λ damage. record { call = damage.call; place = damage.place; byte = damage.byte } };
+}
+
+impl Damage {
+    /// The byte at that place becomes this one, in what comes back of that call. It takes no memory.
+    pub fn new(call: u64, place: usize, byte: u8) -> Damage
+        ensures { result ≡ record { call = call; place = place; byte = byte } }
+    {
+        Damage { call, place, byte }
+    }
+}
+
+/// What comes back of one call in place of what was sent. Calls are counted from 1.
+#[derive(Debug, Drop)]
+pub struct Replacement {
+    call: u64,
+    bytes: Vec<u8>,
+}
+
+impl Model for Replacement {
+    ghost use Rattle.lsl_ports.specs.Stored.{ReplacedBytes};
+
+    ghost Value = { ReplacedBytes };
+
+    ghost view = { λ replacement. record { call = replacement.call; bytes = replacement.bytes.items } };
+}
+
+impl Replacement {
+    /// These bytes come back of that call. It takes no memory.
+    pub fn new(call: u64, bytes: Vec<u8>) -> Replacement
+        ensures { result ≡ record { call = call; bytes = bytes.items } }
+    {
+        Replacement { call, bytes }
+    }
+
+    /// Whether it is of that call.
+    fn is_of(&self, call: u64) -> bool
+        ensures { result ≡ (self.now.call == call) }
+    {
+        self.call == call
+    }
+
+    fn bytes(&self) -> &[u8]
+        ensures { result.now ≡ self.now.bytes }
+    {
+        self.bytes.as_slice()
+    }
+}
+
+/// The first replacement of that call.
+fn replacement_of(replacements: &[Replacement], call: u64) -> Option<&Replacement>
+    ensures { option_map (λ r. r.now) result ≡ find (λ (r : ReplacedBytes). r.call == call) replacements.now }
+{
+    replacements
+        .iter()
+        .find(|replacement| replacement.is_of(call))
+}
+
+/// What comes back of a call before it is damaged.
+fn replaced_by<'a>(replacements: &'a [Replacement], call: u64, sent: &'a [u8]) -> &'a [u8]
+    ensures { result.now ≡ replaced replacements.now call sent.now }
+{
+    match replacement_of(replacements, call) {
+        Some(replacement) => replacement.bytes(),
+        None => sent,
+    }
+}
+
+/// Applies the damages of that call, in order.
+fn apply_damages(damages: &[Damage], call: u64, bytes: &mut [u8])
+    ensures { bytes.new ≡ damaged damages.now call bytes.old }
+{
+    for damage in damages {
+        if damage.call == call && damage.place < bytes.len() {
+            bytes[damage.place] = damage.byte;
+        }
+    }
+}
+
+/// A link in memory, which tells its trips. Calls are counted from 1, and those whose numbers it was given fail: its
+/// count of faults rises at these. What comes back of the others is what was sent, or the first replacement with the
+/// call's number, with all damages of this number applied in order. A call that lacks memory isn't counted.
 #[derive(Debug, Drop)]
 pub struct MemoryLink {
     trips: Vec<StoredTrip>,
     failing: Vec<u64>,
+    damages: Vec<Damage>,
+    replacements: Vec<Replacement>,
     calls: u64,
     faults: u64,
 }
@@ -82,19 +179,37 @@ impl Model for MemoryLink {
     ghost view = { λ s. record {
       trips = s.trips.items;
       failing = s.failing.items;
+      damages = s.damages.items;
+      replacements = s.replacements.items;
       calls = s.calls;
       faults = s.faults;
     } };
 }
 
 impl MemoryLink {
-    /// A link whose calls with the numbers in `failing` fail. It takes no memory.
+    /// A link whose calls with the numbers in `failing` fail, and which else brings back what was sent. It takes no
+    /// memory.
     pub fn new(alloc: Global, failing: Vec<u64>) -> MemoryLink
-        ensures { result ≡ new_link failing.items }
+        ensures { result ≡ new_link failing.items [] [] }
+    {
+        MemoryLink::with_lists(alloc, failing, Vec::new(alloc), Vec::new(alloc))
+    }
+
+    /// A link whose calls with the numbers in `failing` fail, with damages and replacements of what comes back of the
+    /// others. It takes no memory.
+    pub fn with_lists(
+        alloc: Global,
+        failing: Vec<u64>,
+        damages: Vec<Damage>,
+        replacements: Vec<Replacement>,
+    ) -> MemoryLink
+        ensures { result ≡ new_link failing.items damages.items replacements.items }
     {
         MemoryLink {
             trips: Vec::new(alloc),
             failing,
+            damages,
+            replacements,
             calls: 0,
             faults: 0,
         }
@@ -120,7 +235,7 @@ impl MemoryLink {
         ensures counts { OnOk result ((self.new.calls ≡ raised self.old.calls)
             × (self.new.faults ≡ raised self.old.faults)) }
         ensures counted { self.old.faults ≤ self.new.faults }
-        ensures failing { self.new.failing ≡ self.old.failing }
+        ensures lists { HasListsOf self.new self.old }
         ensures unchanged { OnErr result (self.new ≡ self.old) }
     {
         self.trips.push(StoredTrip::lost(alloc, sent)?)?;
@@ -129,20 +244,29 @@ impl MemoryLink {
         Ok(())
     }
 
-    /// Keeps that they came back, and gives them.
-    fn deliver(&mut self, alloc: Global, sent: &[u8]) -> Result<Vec<u8>, AllocError>
-        ensures ok { IfOk result (λ back. back.items ≡ sent.now) }
+    /// What comes back of the call of that number. It takes memory for a copy.
+    fn back(&self, alloc: Global, call: u64, sent: &[u8]) -> Result<Vec<u8>, AllocError>
+        ensures { IfOk result (λ back. back.items
+            ≡ damaged self.now.damages call (replaced self.now.replacements call sent.now)) }
+    {
+        let bytes = replaced_by(self.replacements.as_slice(), call, sent);
+        let mut back = Vec::from_slice(alloc, bytes)?;
+        apply_damages(self.damages.as_slice(), call, back.as_mut_slice());
+        Ok(back)
+    }
+
+    /// Keeps that these bytes came back.
+    fn deliver(&mut self, alloc: Global, sent: &[u8], back: &[u8]) -> Result<(), AllocError>
         ensures trips { OnOk result (self.new.trips
-            ≡ self.old.trips ++ record { sent = sent.now; back = Some sent.now } ∷ []) }
+            ≡ self.old.trips ++ record { sent = sent.now; back = Some back.now } ∷ []) }
         ensures counts { OnOk result ((self.new.calls ≡ raised self.old.calls)
             × (self.new.faults ≡ self.old.faults)) }
-        ensures failing { self.new.failing ≡ self.old.failing }
+        ensures lists { HasListsOf self.new self.old }
         ensures unchanged { OnErr result (self.new ≡ self.old) }
     {
-        let back = Vec::from_slice(alloc, sent)?;
-        self.trips.push(StoredTrip::delivered(alloc, sent, sent)?)?;
+        self.trips.push(StoredTrip::delivered(alloc, sent, back)?)?;
         self.calls = self.calls.saturating_add(1);
-        Ok(back)
+        Ok(())
     }
 }
 
@@ -173,7 +297,8 @@ impl Link for MemoryLink {
             self.lose(alloc, sent)?;
             return Err(LinkFault::Failed);
         }
-        let back = self.deliver(alloc, sent)?;
+        let back = self.back(alloc, call, sent)?;
+        self.deliver(alloc, sent, back.as_slice())?;
         Ok(back)
     }
 }

@@ -10,18 +10,20 @@ use std::marker::Model;
 
 /// A sink in memory, which tells what it took. Calls are counted from 1, also one with an empty
 /// piece, and those whose numbers it was given fail. Its count of faults rises at these calls and
-/// at a piece that isn't empty and finds the room full. Otherwise it takes as much as fits.
+/// at a piece that isn't empty and finds the room full. Otherwise it takes as much as fits, up to the
+/// greatest count that one call takes.
 #[derive(Debug, Drop)]
 pub struct MemorySink {
     taken: Vec<u8>,
     room: usize,
+    most: usize,
     failing: Vec<u64>,
     calls: u64,
     faults: u64,
 }
 
 impl Model for MemorySink {
-    ghost use Rattle.std.specs.Prelude.{◌≤◌, vec_len, vec_capacity};
+    ghost use Rattle.std.specs.Prelude.{◌<◌, ◌≤◌, vec_len, vec_capacity};
     ghost use Rattle.lsl_ports.specs.Stored.{SinkState};
 
     ghost Value = { SinkState };
@@ -29,24 +31,39 @@ impl Model for MemorySink {
     ghost view = { λ s. record {
       taken = s.taken.items;
       room = s.room;
+      most = s.most;
       failing = s.failing.items;
       calls =
           s.calls;
       faults = s.faults;
     } };
 
-    ghost invariant = { λ s. (vec_len s.taken ≤ s.room) × (s.room ≤ vec_capacity s.taken) };
+    ghost invariant = { λ s. (0 < s.most) × ((vec_len s.taken ≤ s.room) × (s.room ≤ vec_capacity s.taken)) };
 }
 
 impl MemorySink {
-    /// A sink with room for that many bytes, whose calls with the numbers in `failing` fail.
-    /// It takes the memory for its room, and none afterwards.
+    /// A sink with room for that many bytes, whose calls with the numbers in `failing` fail, and which takes as much
+    /// as fits in one call. It takes the memory for its room, and none afterwards.
     pub fn new(alloc: Global, room: usize, failing: Vec<u64>) -> Result<MemorySink, AllocError>
-        ensures { IfOk result (λ sink. sink ≡ new_sink room failing.items) }
+        ensures { IfOk result (λ sink. sink ≡ new_sink room 18446744073709551615 failing.items) }
+    {
+        MemorySink::with_most(alloc, room, usize::MAX, failing)
+    }
+
+    /// The same, but that one call takes at most so many bytes, which are at least 1.
+    pub fn with_most(
+        alloc: Global,
+        room: usize,
+        most: usize,
+        failing: Vec<u64>,
+    ) -> Result<MemorySink, AllocError>
+        requires { 0 < most }
+        ensures { IfOk result (λ sink. sink ≡ new_sink room most failing.items) }
     {
         Ok(MemorySink {
             taken: Vec::with_capacity(alloc, room)?,
             room,
+            most,
             failing,
             calls: 0,
             faults: 0,
@@ -89,7 +106,7 @@ impl Sink for MemorySink {
             self.faults = self.faults.saturating_add(1);
             return Err(Failed);
         }
-        let count = piece.len().min(left);
+        let count = piece.len().min(self.most.min(left));
         self.taken.extend_from_slice(&piece[..count]).unwrap();
         Ok(count)
     }

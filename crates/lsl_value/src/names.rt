@@ -48,6 +48,7 @@ pub enum BuiltinId {
     GetObjectName,
     SetObjectName,
     GetScriptName,
+    GetRegionName,
     GetUnixTime,
     DetectedKey,
     DetectedName,

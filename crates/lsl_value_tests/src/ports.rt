@@ -2,8 +2,8 @@
 
 use crate::rows::hold;
 use lsl_ports::{
-    Link, MemoryLink, MemoryShelf, MemorySink, Shelf, Sink, StoredFile, StoredTrip, read_all,
-    write_all,
+    Damage, Link, MemoryLink, MemoryShelf, MemorySink, Replacement, Shelf, Sink, StoredFile,
+    StoredTrip, read_all, write_all,
 };
 use lsl_text::NoMemory;
 use std::alloc::Global;
@@ -93,10 +93,21 @@ pub(crate) fn sink(alloc: Global, asked: &str) -> Result<String, NoMemory> {
     Ok(told)
 }
 
+/// A sink: its room, behind a sign the most that one call takes, and the calls that fail.
 fn sink_of(alloc: Global, made: &str) -> Result<MemorySink, NoMemory> {
     let (room, failing) = made.split_once(' ').unwrap_or((made, ""));
-    let room = room.parse::<u16>().unwrap_or(0) as usize;
-    MemorySink::new(alloc, room, numbers(alloc, failing)?)
+    let failing = numbers(alloc, failing)?;
+    match room.split_once('/') {
+        Some((room, most)) => {
+            let most = number(most).max(1);
+            MemorySink::with_most(alloc, number(room), most, failing)
+        }
+        None => MemorySink::new(alloc, number(room), failing),
+    }
+}
+
+fn number(word: &str) -> usize {
+    word.parse::<u16>().unwrap_or(0) as usize
 }
 
 fn tell_sunk(alloc: Global, sink: MemorySink, told: &mut String) -> Result<(), NoMemory> {
@@ -104,10 +115,11 @@ fn tell_sunk(alloc: Global, sink: MemorySink, told: &mut String) -> Result<(), N
     write!(told, "{} {}", text.as_str(), sink.fault_count())
 }
 
-/// What each carrying brings back, then what each trip keeps, and how many calls failed: `FAILING: TEXT,TEXT`.
+/// What each carrying brings back, then what each trip keeps, and how many calls failed: `FAILING: TEXT,TEXT`. Behind
+/// the calls that fail may stand `| damages | replacements`.
 pub(crate) fn link(alloc: Global, asked: &str) -> Result<String, NoMemory> {
-    let (failing, pieces) = asked.split_once(": ").unwrap_or((asked, ""));
-    let mut link = MemoryLink::new(alloc, numbers(alloc, failing)?);
+    let (made, pieces) = asked.split_once(": ").unwrap_or((asked, ""));
+    let mut link = link_of(alloc, made)?;
     let mut told = String::new(alloc);
     for piece in pieces.split(',') {
         match link.carry(alloc, piece.as_bytes()) {
@@ -120,6 +132,45 @@ pub(crate) fn link(alloc: Global, asked: &str) -> Result<String, NoMemory> {
     }
     write!(told, "{}", link.fault_count())?;
     Ok(told)
+}
+
+fn link_of(alloc: Global, made: &str) -> Result<MemoryLink, NoMemory> {
+    match made.split_once(" | ") {
+        Some((failing, lists)) => {
+            let (damages, replacements) = lists.split_once(" | ").unwrap_or((lists, ""));
+            let damages = damages_of(alloc, damages)?;
+            let replacements = replacements_of(alloc, replacements)?;
+            let failing = numbers(alloc, failing)?;
+            Ok(MemoryLink::with_lists(alloc, failing, damages, replacements))
+        }
+        None => Ok(MemoryLink::new(alloc, numbers(alloc, made)?)),
+    }
+}
+
+/// Damages, each as `CALL.PLACE.BYTE`.
+fn damages_of(alloc: Global, words: &str) -> Result<Vec<Damage>, NoMemory> {
+    let mut damages = Vec::new(alloc);
+    for word in words.split_whitespace() {
+        let (call, rest) = word.split_once('.').unwrap_or((word, ""));
+        let (place, byte) = rest.split_once('.').unwrap_or((rest, ""));
+        damages.push(Damage::new(
+            number(call) as u64,
+            number(place),
+            byte.parse::<u8>().unwrap_or(0),
+        ))?;
+    }
+    Ok(damages)
+}
+
+/// Replacements, each as `CALL.TEXT`.
+fn replacements_of(alloc: Global, words: &str) -> Result<Vec<Replacement>, NoMemory> {
+    let mut replacements = Vec::new(alloc);
+    for word in words.split_whitespace() {
+        let (call, text) = word.split_once('.').unwrap_or((word, ""));
+        let bytes = text.as_bytes().to_vec(alloc)?;
+        replacements.push(Replacement::new(number(call) as u64, bytes))?;
+    }
+    Ok(replacements)
 }
 
 /// What was sent, and what came back of it.
@@ -165,7 +216,11 @@ write 0 9: hello -> false  1
 write 9 1: hello -> false  1
 write 4 2: hello -> false hell 1
 # every write counts
-sink 5 2 4: abc,,defg,h,,i -> Ok(3) Err(Failed) Ok(2) Err(Failed) Ok(0) Err(Failed) abcde 3";
+sink 5 2 4: abc,,defg,h,,i -> Ok(3) Err(Failed) Ok(2) Err(Failed) Ok(0) Err(Failed) abcde 3
+# a call takes no more than the sink says
+sink 5/2 2: abc,defg,defg,h,,i -> Ok(2) Err(Failed) Ok(2) Ok(1) Ok(0) Err(Failed) abdeh 2
+write 9/1 9: hello -> true hello 0
+write 9/2 3: hello -> false hell 1";
 
 #[test]
 fn writes_all_or_a_prefix(rt: HostRuntime) -> Result<(), Fail> {
@@ -175,7 +230,10 @@ fn writes_all_or_a_prefix(rt: HostRuntime) -> Result<(), Fail> {
 const CARRIED: &str =
     r"# the calls that fail: what is sent; what each brings back, then each trip, and how many calls failed
 link 2: one,two,three -> 3 one; Failed; 5 three; 3 one; 3 one; 3 two; nothing; 5 three; 5 three; 1
-link 1 3: ,x -> Failed; 1 x; 0 ; nothing; 1 x; 1 x; 1";
+link 1 3: ,x -> Failed; 1 x; 0 ; nothing; 1 x; 1 x; 1
+# damages, one beyond the end too, and replacements: the first of a call counts, and is damaged
+link 9 | 1.0.88 1.2.89 1.3.90 2.0.90 1.0.87 | 3.new: one,two,three -> 3 WnY; 3 Zwo; 3 new; 3 one; 3 WnY; 3 two; 3 Zwo; 5 three; 3 new; 0
+link 2 | 1.1.65 2.0.66 | 1.abc 1.def 2.ghi: one,two -> 3 aAc; Failed; 3 one; 3 aAc; 3 two; nothing; 1";
 
 #[test]
 fn a_link_keeps_its_trips(rt: HostRuntime) -> Result<(), Fail> {

@@ -31,8 +31,8 @@ fn tell_kinds(told: &mut String, kinds: &[Kind]) -> Result<(), NoMemory> {
 fn home_letter(home: Home) -> char {
     match home {
         Home::Pure => 'P',
-        Home::Own => 'O',
-        Home::Host => 'H',
+        Home::UsedMemory | Home::FreeMemory => 'O',
+        Home::Query | Home::Mail | Home::Act | Home::Sleep | Home::Reset => 'H',
     }
 }
 
@@ -160,6 +160,7 @@ builtin llGetNumberOfPrims -> llGetNumberOfPrims GetNumberOfPrims H>i
 builtin llGetObjectName -> llGetObjectName GetObjectName H>s
 builtin llSetObjectName -> llSetObjectName SetObjectName Hs
 builtin llGetScriptName -> llGetScriptName GetScriptName H>s
+builtin llGetRegionName -> llGetRegionName GetRegionName H>s
 builtin llGetUnixTime -> llGetUnixTime GetUnixTime H>i
 builtin llDetectedKey -> llDetectedKey DetectedKey Hi>k
 builtin llDetectedName -> llDetectedName DetectedName Hi>s
