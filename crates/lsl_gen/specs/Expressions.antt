@@ -3,8 +3,6 @@ use Rattle.std.specs.Prelude.{ℕ, pos, List, [], ◌∷◌, ◌++◌}
 use Rattle.lsl_value.specs.declared.names.BuiltinId.{BuiltinId}
 use Rattle.lsl_value.specs.declared.tagged.Value.{Value}
 use Rattle.lsl_value.specs.declared.tagged.Value.TheVariants as value
-use Rattle.lsl_table.specs.declared.calls.Home.{Home}
-use Rattle.lsl_table.specs.declared.calls.Home.TheVariants as home
 use Rattle.lsl_table.specs.Constants.{constant_value_of}
 use Rattle.lsl_tree.specs.declared.expression.StepOp.{StepOp}
 use Rattle.lsl_tree.specs.declared.program_node.Callee.{Callee}
@@ -36,11 +34,6 @@ load (Global n) = instr.LoadGlobal n
 abbrev pub store : Place → Instr
 store (Slot n) = instr.Store n
 store (Global n) = instr.StoreGlobal n
-
--- the instruction of a built-in call, but for those with a form of their own: a script's own calls are all such
-abbrev pub builtin_of : Home → BuiltinId → Instr
-builtin_of home.Host id = instr.Host id
-builtin_of home id = instr.Pure id
 
 -- a built-in call of this form, at this line, whose arguments are pushed
 abbrev pub builtin_code : CallForm → BuiltinId → ℕ → List Instr

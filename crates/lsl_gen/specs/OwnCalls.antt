@@ -1,10 +1,11 @@
 -- The calls that a script answers by itself, each by its name: what it gives, and what its code is.
-use Rattle.std.specs.Prelude.{◌≡◌, ◌↔◌, ◌⊎◌, ℕ, ◌-◌, pos, List, [], ◌∷◌, Some}
+use Rattle.std.specs.Prelude.{◌≡◌, ◌↔◌, ℕ, ◌-◌, pos, List, [], ◌∷◌, Some}
 use Rattle.lsl_value.specs.declared.names.BuiltinId.{BuiltinId}
 use Rattle.lsl_value.specs.declared.names.BuiltinId.TheVariants.{GetUsedMemory, GetFreeMemory}
 use Rattle.lsl_value.specs.declared.tagged.Value.{Value}
 use Rattle.lsl_value.specs.declared.tagged.Value.TheVariants.{Int}
 use Rattle.lsl_table.specs.Calls.{row_of}
+use Rattle.lsl_table.specs.declared.calls.Home.{Home}
 use Rattle.lsl_table.specs.declared.calls.Home.TheVariants as home
 use Rattle.lsl_tree.specs.declared.program_node.Callee.TheVariants.{Builtin}
 use Rattle.lsl_tree.specs.Program.{Routine}
@@ -37,7 +38,10 @@ abbrev pub FreeMemoryIsTheRest : Type 0
 FreeMemoryIsTheRest =
     GivesNumber GetFreeMemory (λ site s. s.kept.limit - charged site s) × HasCode GetFreeMemory Free
 
--- the table calls these two a script's own, and no others
+-- this call has this home, and no other call has it
+abbrev pub IsAloneAt : BuiltinId → Home → Type 0
+IsAloneAt own at = (id : BuiltinId) → ((row_of id).home ≡ at) ↔ (id ≡ own)
+
+-- each of a script's own calls has a home in the table that no other call has
 abbrev pub OwnCallsAreThese : Type 0
-OwnCallsAreThese =
-    (id : BuiltinId) → ((row_of id).home ≡ home.Own) ↔ ((id ≡ GetUsedMemory) ⊎ (id ≡ GetFreeMemory))
+OwnCallsAreThese = IsAloneAt GetUsedMemory home.UsedMemory × IsAloneAt GetFreeMemory home.FreeMemory

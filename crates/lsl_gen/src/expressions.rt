@@ -3,12 +3,11 @@
 ghost use Rattle.std.specs.Prelude.{◌≡◌, ◌+◌, ◌<◌, [], ◌∷◌, ◌++◌, OnOk, IfOk, length, map, false};
 ghost use Rattle.lsl_tree.specs.Effects.{effect_of};
 ghost use Rattle.lsl_tree.specs.Nodes.{node_of, nodes_of};
-ghost use Rattle.lsl_table.specs.Calls.{row_of};
 ghost use Rattle.lsl_table.specs.Constants.{constant_value_of};
 ghost use Rattle.lsl_running.specs.Calling.{call_form};
 ghost use Rattle.lsl_meaning.specs.Expressions.{step_operator};
 ghost use Rattle.lsl_code.specs.Drafts.{carries_point};
-ghost use Rattle.lsl_gen.specs.Expressions.{literal as literal_of, load as load_of, store as store_of, builtin_of, builtin_code, call_code, step_code, value_code, values_code, effect_code, effects_code};
+ghost use Rattle.lsl_gen.specs.Expressions.{literal as literal_of, load as load_of, store as store_of, builtin_code, call_code, step_code, value_code, values_code, effect_code, effects_code};
 
 use crate::numbers::{long, short};
 use crate::texts::{ascii_text, copy_text};
@@ -80,39 +79,32 @@ fn operator(op: StepOp) -> BinaryOp
 fn emit_builtin(draft: &mut Draft, id: BuiltinId, line: u32) -> Result<(), NoMemory>
     ensures { OnOk result (draft.new ≡ draft.old ++ builtin_code (call_form id) id line) }
 {
-    match id {
-        BuiltinId::GetUsedMemory => {
+    match id.row().home {
+        Home::Pure => {
+            draft.push(Instr::Pure(id))?;
+            Ok(())
+        }
+        Home::UsedMemory => {
             draft.push(Instr::Used)?;
             Ok(())
         }
-        BuiltinId::GetFreeMemory => {
+        Home::FreeMemory => {
             draft.push(Instr::Free)?;
             Ok(())
         }
-        BuiltinId::ResetScript => {
-            draft.push(Instr::Reset)?;
+        Home::Query | Home::Mail | Home::Act => {
+            draft.push(Instr::Host(id))?;
             Ok(())
         }
-        BuiltinId::Sleep => {
+        Home::Sleep => {
             draft.push(Instr::Host(id))?;
             draft.push_tick(line)?;
             Ok(())
         }
-        _ => {
-            draft.push(builtin(id))?;
+        Home::Reset => {
+            draft.push(Instr::Reset)?;
             Ok(())
         }
-    }
-}
-
-// The one instruction of a built-in call, but for those with a form of their own: a script's own calls are all such.
-fn builtin(id: BuiltinId) -> Instr
-    ensures value { result ≡ builtin_of (row_of id).home id }
-    ensures bare { carries_point result ≡ false }
-{
-    match id.row().home {
-        Home::Host => Instr::Host(id),
-        Home::Pure | Home::Own => Instr::Pure(id),
     }
 }
 

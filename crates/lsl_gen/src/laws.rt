@@ -26,7 +26,7 @@ pub fn a_program_is_never_lost()
 {}
 
 /// `llGetUsedMemory` gives all that is charged and `llGetFreeMemory` what the limit leaves of it, each by an
-/// instruction of its own; no other call is a script's own.
+/// instruction of its own; each has a home in the table that no other call has.
 pub fn own_calls_are_named()
     ensures used { UsedMemoryIsTheCharge }
     ensures free { FreeMemoryIsTheRest }

@@ -22,8 +22,7 @@ some-same a b same = cc
 
 abbrev if_pure : {A : Type 0} → Home → A → Option A
 if_pure home.Pure a = Some a
-if_pure home.Own a = None
-if_pure home.Host a = None
+if_pure _ a = None
 
 pub pure_arguments : PureArgumentsAreTheRows
 pure_arguments id arguments = (λ are. (are.pure, are.kinds), λ are. record { pure = are.0; kinds = are.1 })

@@ -14,7 +14,7 @@ use Rattle.lsl_value.specs.declared.tagged.Value.{Value}
 use Rattle.lsl_value.specs.declared.tagged.Value.TheVariants.{Int, Str, Key, List as ListValue}
 use Rattle.lsl_table.specs.Calls.{row_of}
 use Rattle.lsl_table.specs.declared.calls.Home.{Home}
-use Rattle.lsl_table.specs.declared.calls.Home.TheVariants.{Pure, Own, Host}
+use Rattle.lsl_table.specs.declared.calls.Home.TheVariants.{Pure}
 use Rattle.lsl_pure.specs.Arguments.{IsArguments, read_as, read_from, read_arguments, value_at}
 use Rattle.lsl_pure.specs.Laws.{HasValueOfRow}
 use Rattle.lsl_pure.specs.Pure.{pure_of, value_of}
@@ -35,8 +35,7 @@ same_kinds _ _ = false
 
 is_pure : Home → Bool
 is_pure Pure = true
-is_pure Own = false
-is_pure Host = false
+is_pure _ = false
 
 is_arguments : BuiltinId → List Value → Bool
 is_arguments id args = is_pure (row_of id).home && same_kinds (map kind_of args) (row_of id).params
@@ -74,8 +73,7 @@ same_kinds-itself (a ∷ kinds) = and_from _ _ (same_kind-itself a) (same_kinds-
 is_pure-is : (home : Home) → is_pure home ≡ true → home ≡ Pure
 unfolding is_pure
 is_pure-is Pure same = refl
-is_pure-is Own same = cc
-is_pure-is Host same = cc
+is_pure-is _ same = cc
 
 is_arguments-is : (id : BuiltinId) (args : List Value) → is_arguments id args ≡ true → IsArguments id args
 unfolding is_arguments

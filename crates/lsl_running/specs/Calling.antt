@@ -2,7 +2,6 @@
 -- question to the host.
 use Rattle.std.specs.Prelude.{Bool, true, false, length, ℕ, Option, Some, None}
 use Rattle.lsl_value.specs.declared.names.BuiltinId.{BuiltinId}
-use Rattle.lsl_value.specs.declared.names.BuiltinId.TheVariants as builtin
 use Rattle.lsl_table.specs.declared.calls.Home.{Home}
 use Rattle.lsl_table.specs.declared.calls.Home.TheVariants as home
 use Rattle.lsl_value.specs.declared.tagged.Kind.{Kind}
@@ -24,15 +23,18 @@ pub data CallForm : Type 0 where
   -- the handler ends with a reset
   Resets : CallForm
 
+-- a line for each home, and none that stands for another
 abbrev pub form_at_home : Home → CallForm
 form_at_home home.Pure = Pure
-form_at_home home.Own = UsedMemory
-form_at_home home.Host = Asked
+form_at_home home.UsedMemory = UsedMemory
+form_at_home home.FreeMemory = FreeMemory
+form_at_home home.Query = Asked
+form_at_home home.Mail = Asked
+form_at_home home.Act = Asked
+form_at_home home.Sleep = AskedAndWaits
+form_at_home home.Reset = Resets
 
 abbrev pub call_form : BuiltinId → CallForm
-call_form builtin.GetFreeMemory = FreeMemory
-call_form builtin.Sleep = AskedAndWaits
-call_form builtin.ResetScript = Resets
 call_form id = form_at_home (row_of id).home
 
 -- how many arguments it takes

@@ -9,12 +9,25 @@ use crate::kinds::Kinds;
 use crate::rows::Rows;
 use lsl_value::{BuiltinId, Kind};
 
-/// Where a call is done: by its arguments alone, by the machine, or by the host.
+/// Where a call is done, and how.
 #[derive(Clone, Copy, Debug, PartialEq, Eq, Hash)]
 pub enum Home {
+    /// by its arguments alone
     Pure,
-    Own,
-    Host,
+    /// by the machine: how much the script is charged
+    UsedMemory,
+    /// by the machine: how much more it may be charged
+    FreeMemory,
+    /// by the host, which only tells something
+    Query,
+    /// by the host, in the mailbox of the script that asks
+    Mail,
+    /// by the host, which says or sends something, or names a prim
+    Act,
+    /// by the host: the script sleeps, and a tick passes behind the answer
+    Sleep,
+    /// by the machine: the handler ends, and the script is reset
+    Reset,
 }
 
 /// What is known of a call. `result` is none where it gives no value.
@@ -55,33 +68,34 @@ macro_rules! builtins {
             Csv2List "llCSV2List" Pure (Str) List;
             ParseString2List "llParseString2List" Pure (Str, List, List) List;
             ParseStringKeepNulls "llParseStringKeepNulls" Pure (Str, List, List) List;
-            GetUsedMemory "llGetUsedMemory" Own () Int;
-            GetFreeMemory "llGetFreeMemory" Own () Int;
-            Say "llSay" Host (Int, Str);
-            Whisper "llWhisper" Host (Int, Str);
-            Shout "llShout" Host (Int, Str);
-            RegionSay "llRegionSay" Host (Int, Str);
-            OwnerSay "llOwnerSay" Host (Str);
-            Listen "llListen" Host (Int, Str, Key, Str) Int;
-            ListenRemove "llListenRemove" Host (Int);
-            ListenControl "llListenControl" Host (Int, Int);
-            SetTimerEvent "llSetTimerEvent" Host (Int);
-            Sleep "llSleep" Host (Int);
-            ResetScript "llResetScript" Host ();
-            MessageLinked "llMessageLinked" Host (Int, Int, Str, Key);
-            GetOwner "llGetOwner" Host () Key;
-            GetKey "llGetKey" Host () Key;
-            GetLinkKey "llGetLinkKey" Host (Int) Key;
-            GetLinkName "llGetLinkName" Host (Int) Str;
-            GetLinkNumber "llGetLinkNumber" Host () Int;
-            GetNumberOfPrims "llGetNumberOfPrims" Host () Int;
-            GetObjectName "llGetObjectName" Host () Str;
-            SetObjectName "llSetObjectName" Host (Str);
-            GetScriptName "llGetScriptName" Host () Str;
-            GetUnixTime "llGetUnixTime" Host () Int;
-            DetectedKey "llDetectedKey" Host (Int) Key;
-            DetectedName "llDetectedName" Host (Int) Str;
-            DetectedLinkNumber "llDetectedLinkNumber" Host (Int) Int;
+            GetUsedMemory "llGetUsedMemory" UsedMemory () Int;
+            GetFreeMemory "llGetFreeMemory" FreeMemory () Int;
+            Say "llSay" Act (Int, Str);
+            Whisper "llWhisper" Act (Int, Str);
+            Shout "llShout" Act (Int, Str);
+            RegionSay "llRegionSay" Act (Int, Str);
+            OwnerSay "llOwnerSay" Act (Str);
+            Listen "llListen" Mail (Int, Str, Key, Str) Int;
+            ListenRemove "llListenRemove" Mail (Int);
+            ListenControl "llListenControl" Mail (Int, Int);
+            SetTimerEvent "llSetTimerEvent" Mail (Int);
+            Sleep "llSleep" Sleep (Int);
+            ResetScript "llResetScript" Reset ();
+            MessageLinked "llMessageLinked" Act (Int, Int, Str, Key);
+            GetOwner "llGetOwner" Query () Key;
+            GetKey "llGetKey" Query () Key;
+            GetLinkKey "llGetLinkKey" Query (Int) Key;
+            GetLinkName "llGetLinkName" Query (Int) Str;
+            GetLinkNumber "llGetLinkNumber" Query () Int;
+            GetNumberOfPrims "llGetNumberOfPrims" Query () Int;
+            GetObjectName "llGetObjectName" Query () Str;
+            SetObjectName "llSetObjectName" Act (Str);
+            GetScriptName "llGetScriptName" Query () Str;
+            GetRegionName "llGetRegionName" Query () Str;
+            GetUnixTime "llGetUnixTime" Query () Int;
+            DetectedKey "llDetectedKey" Query (Int) Key;
+            DetectedName "llDetectedName" Query (Int) Str;
+            DetectedLinkNumber "llDetectedLinkNumber" Query (Int) Int;
         }
     };
 }
@@ -140,18 +154,18 @@ impl BuiltinRow for BuiltinId {
 static CALLS: Rows<128> = Rows {
     base: 59440,
     slots: [
-        255, 255, 255, 6, 255, 255, 255, 255, 32, 47, 48, 45, 35, 20, 7, 255, 255, 0, 255, 255, 14,
+        255, 255, 255, 6, 255, 255, 255, 255, 32, 48, 49, 46, 35, 20, 7, 255, 255, 0, 255, 255, 14,
         255, 21, 255, 255, 30, 19, 41, 255, 255, 255, 255, 40, 18, 255, 255, 255, 16, 255, 44, 255,
         29, 255, 24, 23, 255, 255, 43, 255, 31, 255, 255, 255, 255, 12, 11, 15, 9, 255, 255, 27,
-        22, 255, 46, 37, 255, 8, 34, 255, 255, 255, 255, 255, 255, 255, 255, 38, 255, 255, 255,
-        255, 255, 39, 255, 255, 5, 255, 255, 255, 255, 10, 255, 255, 255, 1, 13, 3, 255, 255, 255,
+        22, 255, 47, 37, 255, 8, 34, 255, 255, 255, 255, 255, 255, 255, 255, 38, 255, 255, 255,
+        255, 255, 39, 255, 255, 5, 255, 255, 255, 255, 10, 255, 255, 255, 1, 13, 3, 45, 255, 255,
         26, 36, 255, 255, 255, 255, 255, 255, 25, 255, 2, 28, 4, 255, 255, 255, 33, 255, 255, 255,
         42, 255, 255, 255, 255, 255, 255, 17,
     ],
 };
 
 /// The calls in the order of their rows.
-static BUILTINS: [BuiltinId; 49] = builtins!(ids);
+static BUILTINS: [BuiltinId; 50] = builtins!(ids);
 
 /// The call of this name, or none. Takes no memory, and compares one name.
 pub fn find(name: &str) -> Option<BuiltinId>
