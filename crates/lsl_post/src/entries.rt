@@ -1,6 +1,6 @@
 //! The journal's entries.
 
-ghost use Rattle.std.specs.Prelude.{◌≡◌, [], ◌∷◌, ◌++◌, length, OnOk, OnErr};
+ghost use Rattle.std.specs.Prelude.{◌≡◌, ◌<◌, [], ◌∷◌, ◌++◌, length, slice_set, take, OnOk, OnErr};
 
 use crate::events::Event;
 use lsl_running::Fault;
@@ -85,5 +85,20 @@ impl Entries {
     {
         self.list.push(entry)?;
         Ok(())
+    }
+
+    /// Puts an entry in the place of the one that stands there. Takes no memory.
+    pub fn replace(&mut self, place: usize, entry: Entry)
+        requires { place < length self.old }
+        ensures { self.new ≡ slice_set self.old place entry }
+    {
+        self.list[place] = entry;
+    }
+
+    /// Drops the entries behind the first so many. Takes no memory.
+    pub fn truncate(&mut self, count: usize)
+        ensures { self.new ≡ take count self.old }
+    {
+        self.list.truncate(count);
     }
 }

@@ -16,4 +16,5 @@ pub mod MailLaws
 pub mod MeantLaws
 pub mod Waking
 pub mod Closing
+pub mod GoingLaws
 pub mod Laws

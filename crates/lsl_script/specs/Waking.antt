@@ -3,6 +3,7 @@ use Rattle.std.specs.Prelude.{◌≡◌, ℕ, true, false, List, [], drop, Optio
 use Rattle.lsl_running.specs.declared.kept.Kept.{Kept}
 use Rattle.lsl_code.specs.declared.woven_units.Woven.{Woven as Code}
 use Rattle.lsl_code.specs.Wholes.{run_of}
+use Rattle.lsl_machine.specs.declared.standing.Standing.TheVariants as standing
 use Rattle.lsl_machine.specs.State.{bodies_of, kept_with}
 use Rattle.lsl_post.specs.declared.events.Event.{Event}
 use Rattle.lsl_post.specs.declared.parts.Rest.{Rest}
@@ -77,6 +78,8 @@ pub record TakesNext (unit : Code) (parts : ScriptParts) (live : Live) : Type 0 
   pub begins : live.began ≡ true → GoesOnAs (bodies_of unit)
       (run_of (bodies_of unit) live.handler (kept_with parts.globals parts.limit) live.event.args) 0 [] live.machine
   pub has : live.began ≡ false → live.machine.machine.kept ≡ kept_with parts.globals parts.limit
+  -- which stands at its tick
+  pub stands : live.began ≡ false → live.machine.standing ≡ standing.AtTick
 
 -- the awake script stands for the source script that has taken its next event, unless a handler was in flight; the
 -- journal tells of the event; and the handler asks at most so often before its next tick

@@ -1,6 +1,7 @@
 //! Laws of scripts. Each law is a function whose clause is the law; it does nothing.
 
 ghost use Rattle.lsl_script.specs.FlightLaws.{FlightsAreNeverLost, FlightsAskSoOften};
+ghost use Rattle.lsl_script.specs.GoingLaws.{ChangesLeaveFirst, ResetsRestart, ReturnsStay};
 ghost use Rattle.lsl_script.specs.MailLaws.{ListensAreIts, RestingTimerIsIts, StaysAwake, StaysFitting, TimerIsIts};
 ghost use Rattle.lsl_script.specs.MeantLaws.{MeantSaysTheSame};
 ghost use Rattle.lsl_script.specs.RuleLaws.{RulesAreLawful};
@@ -15,6 +16,14 @@ pub fn same_state_is_return()
 pub fn leaving_goes_on()
     ensures goes { LeavingGoesOn }
     ensures first { ExitComesFirst }
+{}
+
+/// A handler's end leads on so: a reset begins the script again, also while it leaves; a return stays; a change to
+/// another state goes by the handler of the exit where there is one, and at once where there is none.
+pub fn ends_lead_on()
+    ensures reset { ResetsRestart }
+    ensures stays { ReturnsStay }
+    ensures changes { ChangesLeaveFirst }
 {}
 
 /// In a new state nothing is listened to and only the entry waits; the timer stays, and listens are numbered on.

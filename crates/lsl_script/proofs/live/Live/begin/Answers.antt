@@ -64,6 +64,7 @@ returns-clause-took c =
           c.in_ok-machine.machine) args
           (begun_goes unit handler kept c.in_ok-copy.field-0 c.in_ok-machine.machine c.in_ok-machine.ensures.runs);
       has = λ saved. absurd cc;
+      stands = λ saved. absurd cc;
     }
 
 pub returns-clause-source : goal.returns-clause-source

@@ -36,6 +36,7 @@ returns-clause-took c = record {
   beside = emptied c.args.parts c.args.parts.queue c.requires.idle;
   begins = λ began. absurd cc;
   has = λ saved. c.in_ok-machine.ensures.kept;
+  stands = λ saved. c.in_ok-machine.ensures.stands;
 }
 
 pub returns-clause-source : goal.returns-clause-source
