@@ -12,36 +12,32 @@ use Rattle.lsl_region.specs.Answers.{answer_of, does_more, is_mailing, mailed, t
 use Rattle.lsl_region.specs.Mailing.{stop_for}
 use Rattle.lsl_region.specs.Worlds.{Member, World}
 
-pub last-mailing : (id : BuiltinId) → is_mailing id ≡ true → id ≢ Listen → id ≢ ListenRemove → id ≢ ListenControl
-    → id ≢ SetTimerEvent → id ≡ Sleep
-last-mailing Listen e a b c d = absurd (a refl)
-last-mailing ListenRemove e a b c d = absurd (b refl)
-last-mailing ListenControl e a b c d = absurd (c refl)
-last-mailing SetTimerEvent e a b c d = absurd (d refl)
-last-mailing Sleep e a b c d = refl
-last-mailing id e a b c d = absurd cc
+-- no call of this room is left behind these
+pub no-mailing-left : (id : BuiltinId) → is_mailing id ≡ true → id ≢ Listen → id ≢ ListenRemove → id ≢ ListenControl
+    → id ≢ SetTimerEvent → id ≢ Sleep → ⊥
+no-mailing-left Listen e a b c d f = a refl
+no-mailing-left ListenRemove e a b c d f = b refl
+no-mailing-left ListenControl e a b c d f = c refl
+no-mailing-left SetTimerEvent e a b c d f = d refl
+no-mailing-left Sleep e a b c d f = f refl
+no-mailing-left id e a b c d f = cc
 
-pub last-more : (id : BuiltinId) → does_more id ≡ true → is_mailing id ≡ false → id ≢ Say → id ≢ Whisper → id ≢ Shout
-    → id ≢ RegionSay → id ≢ OwnerSay → id ≢ MessageLinked → id ≡ SetObjectName
-last-more Say e m a b c d f g = absurd (a refl)
-last-more Whisper e m a b c d f g = absurd (b refl)
-last-more Shout e m a b c d f g = absurd (c refl)
-last-more RegionSay e m a b c d f g = absurd (d refl)
-last-more OwnerSay e m a b c d f g = absurd (f refl)
-last-more MessageLinked e m a b c d f g = absurd (g refl)
-last-more SetObjectName e m a b c d f g = refl
-last-more id e m a b c d f g = absurd cc
+pub no-more-left : (id : BuiltinId) → does_more id ≡ true → is_mailing id ≡ false → id ≢ Say → id ≢ Whisper
+    → id ≢ Shout → id ≢ RegionSay → id ≢ OwnerSay → id ≢ MessageLinked → id ≢ SetObjectName → ⊥
+no-more-left Say e m a b c d f g h = a refl
+no-more-left Whisper e m a b c d f g h = b refl
+no-more-left Shout e m a b c d f g h = c refl
+no-more-left RegionSay e m a b c d f g h = d refl
+no-more-left OwnerSay e m a b c d f g h = f refl
+no-more-left MessageLinked e m a b c d f g h = g refl
+no-more-left SetObjectName e m a b c d f g h = h refl
+no-more-left id e m a b c d f g h = cc
 
 -- none of these stops the script that asks
 pub told-goes-on : (id : BuiltinId) (args : List Value) (listens : Standing) → does_more id ≡ false
     → stop_for id args listens ≡ None
 told-goes-on Listen args listens e = absurd cc
 told-goes-on id args listens e = refl
-
-pub other-goes-on : (id : BuiltinId) (args : List Value) (listens : Standing) → is_mailing id ≡ false
-    → stop_for id args listens ≡ None
-other-goes-on Listen args listens e = absurd cc
-other-goes-on id args listens e = refl
 
 module _ (r : Rules) (place : ℕ) (m : Member) (args : List Value) (w : World) where
   pub told-is : (id : BuiltinId) → does_more id ≡ false

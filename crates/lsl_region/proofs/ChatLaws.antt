@@ -51,7 +51,7 @@ pub names : PrimsAreNamed
 names r place m prim text w is =
     let o = object_of w m in
     let named : Linkset =
-    record { owner = o.owner; region = o.region; prims = with_name o.prims m.prim (cut_name text) } in
+    record o { prims = with_name o.prims m.prim (cut_name text) } in
     ap (λ (x : Linkset). prim_at x.prims m.prim) (set-read w.objects m.object o named no_object is.object_there)
     ∙ set-read o.prims m.prim prim _ no_prim is.prim_there
     ∙ ap {A = Primitive} {B = Primitive} (λ p. record { key = p.key; name = cut_name text }) (own-prim w m prim is)

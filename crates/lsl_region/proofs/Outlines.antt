@@ -43,7 +43,7 @@ unfolding outline_of
 outline-named grid n o prim name at =
     ap {A = List Linkset} {B = Contents} (λ objects. record { objects = objects; seats = map vacant grid.seats })
     (map-set_same without_names grid.objects n o (record o { prims = with_name o.prims prim name }) at
-    (ap {A = List Primitive} {B = Linkset} (λ prims. record { owner = o.owner; region = o.region; prims = prims })
+    (ap {A = List Primitive} {B = Linkset} (λ prims. record { owner = o.owner; region = o.region; prims = prims; store = o.store })
     (named-nameless o.prims prim name)))
 
 pub outline-seats : (old new : Contents) → outline_of new ≡ outline_of old → map vacant new.seats ≡ map vacant old.seats

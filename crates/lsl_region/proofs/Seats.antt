@@ -7,6 +7,7 @@ use Rattle.std.proofs.lemmas.List.{set-get_or}
 use Rattle.std.proofs.lemmas.Option.{get_or_from_slice_get, slice_get_read, slice_get_within}
 use Rattle.lsl_value.specs.Key.{is_valid_key}
 use Rattle.lsl_code.specs.declared.woven_units.Woven.{Woven as Code}
+use Rattle.lsl_image.specs.Valid.{IsStore}
 use Rattle.lsl_post.specs.Listens.{Standing}
 use Rattle.lsl_region.specs.declared.audience.Audience.{Audience}
 use Rattle.lsl_region.specs.declared.grid.Seat.{Seat}
@@ -128,9 +129,9 @@ key-kept (p ∷ prims) zero name (suc k) d = refl
 key-kept (p ∷ prims) (suc place) name zero d = refl
 key-kept (p ∷ prims) (suc place) name (suc k) d = key-kept prims place name k d
 
-pub formed-named : (o t : Linkset) (place : ℕ) (name : List ℕ) → t.prims ≡ with_name o.prims place name → IsFormed o
-    → IsFormed t
-formed-named o t place name e f =
+pub formed-named : (o t : Linkset) (place : ℕ) (name : List ℕ) → t.prims ≡ with_name o.prims place name
+    → t.store ≡ o.store → IsFormed o → IsFormed t
+formed-named o t place name e same f =
     let count : length t.prims ≡ length o.prims
     = ap (λ (ps : List Primitive). length ps) e ∙ length-set o.prims place _ in
     record {
@@ -139,6 +140,7 @@ formed-named o t place name e f =
       keyed = subst (λ (ps : List Primitive). All HasKey ps) (sym e) (λ k d within.
           subst (λ (key : List ℕ). is_valid_key key ≡ true) (sym (key-kept o.prims place name k d))
           (f.keyed k d (omega (arith, within, length-set o.prims place (record (prim_at o.prims place) { name = name })))));
+      stored = subst IsStore (sym same) f.stored;
     }
 
 -- an object may be another one with as many prims

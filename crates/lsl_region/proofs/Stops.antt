@@ -1,5 +1,5 @@
 -- What becomes of the grid and the world where a segment begins and where it stops.
-use Rattle.std.proofs.Common.{◌≡◌, ℕ, ◌+◌, List, [], ◌∷◌, ◌++◌, refl, ap, sym, ◌∙◌, subst, append_assoc, append-nil}
+use Rattle.std.proofs.Common.{◌≡◌, ℕ, ◌+◌, Bool, true, false, List, [], ◌∷◌, ◌++◌, refl, ap, sym, ◌∙◌, subst, append_assoc, append-nil}
 use Rattle.std.specs.Prelude.{Option, Some, None, slice_get}
 use Rattle.lsl_running.specs.declared.ends.Fault.{Fault}
 use Rattle.lsl_running.specs.declared.ends.Outcome.{Outcome}
@@ -31,6 +31,7 @@ use Rattle.lsl_script.proofs.Stops.{rests_asks, rests_lawful}
 use Rattle.lsl_value.specs.declared.names.EventId.TheVariants as event
 use Rattle.lsl_region.specs.declared.grid.Seat.{Seat}
 use Rattle.lsl_region.specs.Grids.{Contents, Stands}
+use Rattle.lsl_region.specs.PausedTurns.{flies_at, flies_in, is_flying}
 use Rattle.lsl_region.specs.Segments.{asked, flown, flown_in, segment, taken}
 use Rattle.lsl_region.specs.Turning.{Begins, GoesOn, Held, InFlight, IsOnWay, Paused, with_seated}
 use Rattle.lsl_region.specs.Worlds.{Member, World, with_member}
@@ -51,6 +52,32 @@ ended-code : (r : Rules) (number : ℕ) (s : Script) (kept : Kept) (way : Outcom
 ended-code r number s kept way =
     gone-code r number (record s { kept = kept })
     (going_of s.leaving s.state (handles r s.code s.state event.StateExit) way)
+
+-- and no handler is in flight then
+gone-rests : (r : Rules) (number : ℕ) (s : Script) (going : Going) → (gone r number s going).value.doing ≡ Resting
+gone-rests r number s Stays = refl
+gone-rests r number s (Leaves to) = refl
+gone-rests r number s (Enters to) = refl
+gone-rests r number s Restarts = refl
+
+ended-rests : (r : Rules) (number : ℕ) (s : Script) (kept : Kept) (way : Outcome)
+    → (ended r number s kept way).value.doing ≡ Resting
+ended-rests r number s kept way =
+    gone-rests r number (record s { kept = kept })
+    (going_of s.leaving s.state (handles r s.code s.state event.StateExit) way)
+
+-- whether the script at a place is in flight, when it was changed
+flies-with : (w : World) (place : ℕ) (m : Member) (a : Told World) (t : Told Script) → slice_get w.members place ≡ Some m
+    → a ≡ as_value (λ (t : Script). with_member w place (record m { script = t })) t
+    → flies_at a.value place ≡ is_flying t.value.doing
+flies-with w place m a t at e =
+    ap (λ (b : Told World). flies_at b.value place) e
+    ∙ ap flies_in (member-there w place m (record m { script = t.value }) at)
+
+-- one that is held is in flight
+pub held-flies : (codes : List Code) (unit : Code) (clock place : ℕ) (grid : Contents) (live : Live) (w : World)
+    → Held codes unit clock place grid live w → flies_at w place ≡ true
+held-flies codes unit clock place grid live w h = ap flies_in h.at ∙ ap is_flying h.rests.flies
 
 -- a script that takes its next event keeps its code and its state
 record TakesBeside (s t : Script) : Type 0 where
@@ -107,6 +134,11 @@ module _ (codes : List Code) (unit : Code) (clock place : ℕ) (grid : Contents)
         → Part out new (asked m.rules (most + 1) place f w).entries
     ended-part out new part = subst (λ (es : List Entry). Part out new es) (sym ended-entries) part
 
+    pub ended-down : flies_at (asked m.rules (most + 1) place f w).value place ≡ false
+    ended-down =
+        flies-with w place p.member (asked m.rules (most + 1) place f w) ending p.at ended-total
+        ∙ ap is_flying (ended-rests (rules_of codes) (place + 1) p.member.script live.machine.machine.kept p.turns.way)
+
     pub ended-told : (seat : Seat) → slice_get grid.seats place ≡ Some seat → (out new : List Entry)
         → new ≡ out ++ entries_of_closing (place + 1) closed.charge closed.cleared
         → Stands codes None clock (with_seated grid place seat (Some closed.script))
@@ -135,6 +167,9 @@ module _ (codes : List Code) (unit : Code) (clock place : ℕ) (grid : Contents)
         → Part out new (asked m.rules (most + 1) place f w).entries
     failed-part out new part =
         subst (λ (a : Told World). Part out new a.entries) (sym failed-total) part
+
+    pub failed-down : flies_at (asked m.rules (most + 1) place f w).value place ≡ false
+    failed-down = flies-with w place p.member (asked m.rules (most + 1) place f w) failing p.at failed-total
 
     pub failed-told : (script : ScriptParts) → script ≡ parts_of codes failing.value
         → Lawful (rules_of codes) failing.value → (seat : Seat) → slice_get grid.seats place ≡ Some seat

@@ -28,7 +28,7 @@ own-prim a prim args e =
     )
 
 pub object-told : ObjectIsTold
-object-told a args = (refl, refl, refl, refl)
+object-told a args = (refl, refl, refl, refl, refl)
 
 this-some : (o : Option ℕ) (place : ℕ) → is_this o place ≡ true → o ≡ Some place
 this-some None place e = absurd cc
@@ -119,6 +119,7 @@ calls-answered a builtin.GetLinkNumber args asked more = refl
 calls-answered a builtin.GetNumberOfPrims args asked more = refl
 calls-answered a builtin.GetObjectName args asked more = refl
 calls-answered a builtin.GetScriptName args asked more = refl
+calls-answered a builtin.GetRegionName args asked more = refl
 calls-answered a builtin.GetUnixTime args asked more = refl
 calls-answered a builtin.DetectedKey args asked more = refl
 calls-answered a builtin.DetectedName args asked more = refl

@@ -2,10 +2,13 @@
 use Rattle.std.specs.Prelude.{ℕ, ◌+◌, ◌*◌, ◌/◌, ℤ, pos, negsuc, Bool, true, false, not, ◌&&◌, nat_eq, if◌then◌else◌, List, [], ◌∷◌, length, Option, Some, None, get_or, slice_get, slice_set}
 use Rattle.std.specs.Ordering.{int_eq}
 use Rattle.lsl_value.specs.declared.names.BuiltinId.{BuiltinId}
-use Rattle.lsl_value.specs.declared.names.BuiltinId.TheVariants.{Say, Whisper, Shout, RegionSay, OwnerSay, Listen, ListenRemove, ListenControl, SetTimerEvent, Sleep, MessageLinked, GetOwner, GetKey, GetLinkKey, GetLinkName, GetLinkNumber, GetNumberOfPrims, GetObjectName, SetObjectName, GetScriptName, GetUnixTime, DetectedKey, DetectedName, DetectedLinkNumber}
+use Rattle.lsl_value.specs.declared.names.BuiltinId.TheVariants.{Say, Whisper, Shout, RegionSay, OwnerSay, Listen, ListenRemove, ListenControl, SetTimerEvent, Sleep, MessageLinked, GetOwner, GetKey, GetLinkKey, GetLinkName, GetLinkNumber, GetNumberOfPrims, GetObjectName, SetObjectName, GetScriptName, GetRegionName, GetUnixTime, DetectedKey, DetectedName, DetectedLinkNumber}
 use Rattle.lsl_value.specs.declared.tagged.Value.{Value}
 use Rattle.lsl_value.specs.declared.tagged.Value.TheVariants as value
 use Rattle.lsl_value.specs.Key.{null_key}
+use Rattle.lsl_table.specs.declared.calls.Home.{Home}
+use Rattle.lsl_table.specs.declared.calls.Home.TheVariants as home
+use Rattle.lsl_table.specs.Calls.{row_of}
 use Rattle.lsl_running.specs.declared.ends.Fault.TheVariants.{TooManyListens}
 use Rattle.lsl_running.specs.declared.host.Reply.{Reply}
 use Rattle.lsl_running.specs.declared.host.Reply.TheVariants as reply
@@ -167,6 +170,7 @@ told_to o prim name clock toucher GetLinkNumber args = Some (value.Int (pos (lin
 told_to o prim name clock toucher GetNumberOfPrims args = Some (value.Int (pos (length o.prims)))
 told_to o prim name clock toucher GetObjectName args = Some (value.Str (prim_at o.prims prim).name)
 told_to o prim name clock toucher GetScriptName args = Some (value.Str name)
+told_to o prim name clock toucher GetRegionName args = Some (value.Str o.region)
 told_to o prim name clock toucher GetUnixTime args = Some (value.Int (pos (clock / 1000)))
 told_to o prim name clock toucher DetectedKey args = Some (value.Key (detected_key (detected toucher args)))
 told_to o prim name clock toucher DetectedName args = Some (value.Str (detected_name (detected toucher args)))
@@ -176,30 +180,33 @@ told_to o prim name clock toucher id args = None
 abbrev pub told_in : World → Member → BuiltinId → List Value → Option Value
 told_in w m id args = told_to (object_of w m) m.prim m.name w.clock (toucher_in_hand m.script.doing) id args
 
--- the call does more than to be told something
-abbrev pub does_more : BuiltinId → Bool
-does_more Say = true
-does_more Whisper = true
-does_more Shout = true
-does_more RegionSay = true
-does_more OwnerSay = true
-does_more Listen = true
-does_more ListenRemove = true
-does_more ListenControl = true
-does_more SetTimerEvent = true
-does_more Sleep = true
-does_more MessageLinked = true
-does_more SetObjectName = true
-does_more id = false
+-- what is called does more than to be told something
+abbrev pub does_more_at : Home → Bool
+does_more_at home.Pure = false
+does_more_at home.UsedMemory = false
+does_more_at home.FreeMemory = false
+does_more_at home.Query = false
+does_more_at home.Mail = true
+does_more_at home.Act = true
+does_more_at home.Sleep = true
+does_more_at home.Reset = false
 
--- of these, the calls on the mailbox and the sleep of the script that asks
+abbrev pub does_more : BuiltinId → Bool
+does_more id = does_more_at (row_of id).home
+
+-- it is on the mailbox or the sleep of the script that asks
+abbrev pub is_mailing_at : Home → Bool
+is_mailing_at home.Pure = false
+is_mailing_at home.UsedMemory = false
+is_mailing_at home.FreeMemory = false
+is_mailing_at home.Query = false
+is_mailing_at home.Mail = true
+is_mailing_at home.Act = false
+is_mailing_at home.Sleep = true
+is_mailing_at home.Reset = false
+
 abbrev pub is_mailing : BuiltinId → Bool
-is_mailing Listen = true
-is_mailing ListenRemove = true
-is_mailing ListenControl = true
-is_mailing SetTimerEvent = true
-is_mailing Sleep = true
-is_mailing id = false
+is_mailing id = is_mailing_at (row_of id).home
 
 abbrev pub message_of : World → Member → List Value → Event
 message_of w m args = message_event (pos (own_link w m)) (integer_at 1 args) (text_at 2 args) (text_at 3 args)

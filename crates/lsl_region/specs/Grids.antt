@@ -4,6 +4,7 @@ use Rattle.std.specs.Option.{option_map}
 use Rattle.lsl_value.specs.declared.names.BuiltinId.{BuiltinId}
 use Rattle.lsl_value.specs.Key.{is_valid_key}
 use Rattle.lsl_code.specs.declared.woven_units.Woven.{Woven as Code}
+use Rattle.lsl_image.specs.Valid.{IsStore}
 use Rattle.lsl_post.specs.declared.parts.ScriptParts.{ScriptParts}
 use Rattle.lsl_script.specs.Codes.{HasUnit, rules_of}
 use Rattle.lsl_script.specs.Fitting.{FitsUnit}
@@ -32,7 +33,12 @@ nameless prim = record { key = prim.key; name = [] }
 
 abbrev pub without_names : Linkset → Linkset
 without_names object =
-    record { owner = object.owner; region = object.region; prims = map nameless object.prims }
+    record {
+      owner = object.owner;
+      region = object.region;
+      prims = map nameless object.prims;
+      store = object.store;
+    }
 
 abbrev pub vacant : Seat → Seat
 vacant seat =
@@ -71,11 +77,12 @@ renamed_grid grid seat name =
 abbrev pub HasKey : Primitive → Type 0
 HasKey prim = is_valid_key prim.key ≡ true
 
--- an object has a root, so many prims at most, and each has a key: so it can be written as an image
+-- an object has a root, so many prims at most, each with a key, and a store in order: so it can be written as an image
 pub record IsFormed (object : Linkset) : Type 0 where
   pub rooted : 0 < length object.prims
   pub few : length object.prims ≤ 255
   pub keyed : All HasKey object.prims
+  pub stored : IsStore object.store
 
 -- so many objects and scripts there are at most
 pub record ArePlaced (objects : List Linkset) (seats : List Seat) : Type 0 where

@@ -47,12 +47,13 @@ OwnPrimIsTold =
     → IsKey a builtin.GetKey args prim.key × IsText a builtin.GetObjectName args prim.name
     × IsInteger a builtin.GetLinkNumber args (pos (link_of (length a.object.prims) a.place))
 
--- and of its object, itself and the clock, in whole seconds
+-- and of its object, the region in which that is, itself and the clock, in whole seconds
 abbrev pub ObjectIsTold : Type 0
 ObjectIsTold =
     (a : Asker) (args : List Value)
     → IsKey a builtin.GetOwner args a.object.owner
     × IsInteger a builtin.GetNumberOfPrims args (pos (length a.object.prims))
+    × IsText a builtin.GetRegionName args a.object.region
     × IsText a builtin.GetScriptName args a.name × IsInteger a builtin.GetUnixTime args (pos (a.clock / 1000))
 
 -- of the prim that a number means, and of its own by LINK_THIS

@@ -27,7 +27,7 @@ abbrev pub no_prim : Primitive
 no_prim = record { key = []; name = [] }
 
 abbrev pub no_object : Linkset
-no_object = record { owner = []; region = []; prims = [] }
+no_object = record { owner = []; region = []; prims = []; store = [] }
 
 abbrev pub object_at : World → ℕ → Linkset
 object_at w place = get_or w.objects place no_object

@@ -24,6 +24,7 @@ use lsl_code::{Library, Woven};
 use lsl_post::{Entries, Voice};
 use lsl_running::{Call, Reply};
 use lsl_script::Live;
+use lsl_table::{BuiltinRow, Home};
 use lsl_text::NoMemory;
 use lsl_value::{BuiltinId, Values};
 
@@ -106,7 +107,8 @@ impl Grid {
             BuiltinId::RegionSay => self.says_in_region(place, live, args, library, unit, out),
             BuiltinId::OwnerSay => self.says_to_owner(place, args, out),
             BuiltinId::MessageLinked => self.sends(place, live, args, library, unit, out),
-            _ => self.renames(place, args),
+            BuiltinId::SetObjectName => self.renames(place, args),
+            _ => unreachable!(),
         }
     }
 }
@@ -115,29 +117,19 @@ impl Grid {
 fn does_more(id: BuiltinId) -> bool
     ensures { result ≡ does_more id }
 {
-    is_mailing(id)
-        || matches!(
-            id,
-            BuiltinId::Say
-                | BuiltinId::Whisper
-                | BuiltinId::Shout
-                | BuiltinId::RegionSay
-                | BuiltinId::OwnerSay
-                | BuiltinId::MessageLinked
-                | BuiltinId::SetObjectName
-        )
+    match id.row().home {
+        Home::Mail | Home::Act | Home::Sleep => true,
+        Home::Pure | Home::UsedMemory | Home::FreeMemory | Home::Query | Home::Reset => false,
+    }
 }
 
 // Whether the call is on the mailbox or the sleep of the script that asks.
 fn is_mailing(id: BuiltinId) -> bool
     ensures { result ≡ is_mailing id }
 {
-    matches!(
-        id,
-        BuiltinId::Listen
-            | BuiltinId::ListenRemove
-            | BuiltinId::ListenControl
-            | BuiltinId::SetTimerEvent
-            | BuiltinId::Sleep
-    )
+    match id.row().home {
+        Home::Mail | Home::Sleep => true,
+        Home::Pure | Home::UsedMemory | Home::FreeMemory | Home::Query | Home::Act | Home::Reset =>
+            false,
+    }
 }

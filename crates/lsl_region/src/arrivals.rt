@@ -123,6 +123,7 @@ fn object_event(alloc: Global, id: EventId, n: i32) -> Result<Event, NoMemory>
 {
     match id {
         EventId::Changed => changed_event(alloc, n),
-        _ => rez_event(alloc, n),
+        EventId::OnRez => rez_event(alloc, n),
+        _ => unreachable!(),
     }
 }

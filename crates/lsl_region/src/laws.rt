@@ -6,6 +6,7 @@ ghost use Rattle.lsl_region.specs.ChatLaws.{OwnersAreTold, PrimsAreNamed, Script
 ghost use Rattle.lsl_region.specs.CutLaws.{NamesAreLongest, SpeechIsLongest};
 ghost use Rattle.lsl_region.specs.Laws.{CutsAreShort, NoSegmentDoesNothing, RegionIsSilentOnZero, RootHasTwoNumbers, ShortTextsAreWhole};
 ghost use Rattle.lsl_region.specs.LinkLaws.{ChildrenAreAllButTheRoot, NumbersMeanTheirPrim, OtherNumbersMeanNone, OthersAreAllButTheSender, PrimsAreNumbered, SetIsAll, ThisIsTheSender};
+ghost use Rattle.lsl_region.specs.PauseLaws.{NoneIsPausingWithoutGaps, PausesAreSumsOfGaps, TurnsWithoutGapsCountTheirEnds};
 ghost use Rattle.lsl_region.specs.TellingLaws.{CallsAreAnswered, NegativeNumbersAreNone, NumbersBeyondAreNone, ObjectIsTold, OtherPlacesAreNobody, OwnPrimIsTold, OwnPrimIsToldByThis, PrimsAreToldByNumber, TouchersAreTold, UntouchedIsNobody};
 ghost use Rattle.lsl_region.specs.TouchLaws.{TouchesAreThreeEvents, TouchesGoToThePrim, TouchesGoToTheRoot};
 
@@ -28,6 +29,14 @@ pub fn root_has_two_numbers()
 /// A turn of no segments does nothing.
 pub fn no_segment_does_nothing()
     ensures { NoSegmentDoesNothing }
+{}
+
+/// A segment is pausing exactly where its number is a sum of the first gaps, repeated. Without gaps none is, and a turn
+/// counts a save at its end alone.
+pub fn pauses_are_sums_of_gaps()
+    ensures sums { PausesAreSumsOfGaps }
+    ensures none { NoneIsPausingWithoutGaps }
+    ensures ends { TurnsWithoutGapsCountTheirEnds }
 {}
 
 /// What is said, and a prim's name, is the longest beginning of a text that has no more bytes than it may have.

@@ -56,10 +56,11 @@ pub(crate) fn mail(
             set_timer(live, args, clock);
             Ok(Reply::Value(None))
         }
-        _ => {
+        BuiltinId::Sleep => {
             sleep(live, args, clock);
             Ok(Reply::Value(None))
         }
+        _ => unreachable!(),
     }
 }
 

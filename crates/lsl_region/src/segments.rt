@@ -1,6 +1,6 @@
 //! Segments of one script: from one tick to the next, or to its handler's end, with all host calls on the way.
 
-ghost use Rattle.std.specs.Prelude.{◌≡◌, ◌<◌, ◌≤◌, ◌-◌, ◌+◌, ℕ, None, true, length, IfOk, MatchResult, OnOk};
+ghost use Rattle.std.specs.Prelude.{◌≡◌, ◌<◌, ◌≤◌, ◌-◌, ◌+◌, ℕ, None, false, true, length, IfOk, MatchResult, OnOk};
 ghost use Rattle.lsl_code.specs.Weaves.{Weaves};
 ghost use Rattle.lsl_machine.specs.State.{CanRun};
 ghost use Rattle.lsl_machine.specs.declared.standing.Standing.TheVariants as standings;
@@ -14,11 +14,13 @@ ghost use Rattle.lsl_script.specs.Lawful.{Lawful};
 ghost use Rattle.lsl_script.specs.Lives.{entries_of_closing, entries_of_taking};
 ghost use Rattle.lsl_script.specs.Parts.{parts_of};
 ghost use Rattle.lsl_script.specs.Scripts.{Flight, Script as Source};
-ghost use Rattle.lsl_script.specs.Waking.{WakesAs};
+ghost use Rattle.lsl_script.specs.Waking.{TakesNext, WakesAs};
 ghost use Rattle.lsl_region.specs.Answers.{answer};
 ghost use Rattle.lsl_region.specs.Grids.{AreSeated, Stands, outline_of};
+ghost use Rattle.lsl_region.specs.PausedTurns.{flies_at};
 ghost use Rattle.lsl_region.specs.Segments.{asked, taken};
-ghost use Rattle.lsl_region.specs.Turning.{Begins, InTurn, IsEnd, IsHeld, IsLast, IsOnWay, IsOut, IsReadyInTurn, IsUnitAt, Paused, StandsAt, asks_left};
+ghost use Rattle.lsl_region.specs.TurnEnds.{IsBehind};
+ghost use Rattle.lsl_region.specs.Turning.{Begins, IsEnd, IsHeld, IsLast, IsOnWay, IsOut, IsReadyInTurn, IsUnitAt, Paused, StandsAt, asks_left};
 ghost use Rattle.lsl_region.specs.Worlds.{World};
 
 use crate::grid::Grid;
@@ -82,7 +84,7 @@ impl Grid {
         requires stands { IsOut live.old (StandsAt unit.now turn) }
         ensures does { (m : Meant library.now) (f : Flight) (most : ℕ) (w : World) →
             IsOut live.old (λ l. Paused library.now unit.now clock place self.old l turn f most w) →
-            Tells result (λ v _. InTurn library.now unit.now clock place self.new live.new v) out.old out.new
+            Tells result (λ v _. IsBehind library.now unit.now clock place self.new live.new v) out.old out.new
             (asked m.rules (most + 1) place f w) }
         ensures seated { OnOk result (AreSeated library.now self.new.seats) }
         ensures unit { OnOk result (IsUnitAt library.now unit.now self.new.seats place) }
@@ -195,8 +197,8 @@ impl Grid {
         requires end { IsEnd end }
         ensures does { (m : Meant library.now) (clock : ℕ) (f : Flight) (most : ℕ) (w : World) →
             IsOut live.old (λ l. Paused library.now unit.now clock place self.old l end f most w) →
-            Tells result (λ v _. Stands library.now None clock self.new v) out.old out.new
-            (asked m.rules (most + 1) place f w) }
+            Tells result (λ v _. Stands library.now None clock self.new v × (flies_at v place ≡ false))
+            out.old out.new (asked m.rules (most + 1) place f w) }
         ensures none { live.new ≡ None }
         ensures seated { OnOk result (AreSeated library.now self.new.seats) }
         ensures unit { OnOk result (IsUnitAt library.now unit.now self.new.seats place) }
@@ -229,13 +231,19 @@ impl Grid {
     }
 }
 
-// Wakes a script that can run.
-fn wake(script: Script, alloc: Global, unit: &Woven, clock: u64) -> Result<Live, NoMemory>
+/// Wakes a script that can run.
+pub(crate) fn wake(
+    script: Script,
+    alloc: Global,
+    unit: &Woven,
+    clock: u64,
+) -> Result<Live, NoMemory>
     requires fits { FitsUnit unit.now script }
     requires weaves { Weaves unit.now }
     requires ready { are_ready clock script ≡ true }
     ensures awake { IfOk result (IsAwake unit.now) }
     ensures able { IfOk result (λ live. CanRun live.machine.standing) }
+    ensures took { IfOk result (TakesNext unit.now script) }
     ensures source { (codes : _) (s : Source) → HasUnit codes s.code unit.now → script ≡ parts_of codes s →
         Lawful (rules_of codes) s → IfOk result (WakesAs codes unit.now s) }
 {

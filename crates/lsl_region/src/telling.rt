@@ -44,6 +44,7 @@ pub(crate) fn told_to(
         BuiltinId::GetNumberOfPrims => Value::Int(prims.len() as i32),
         BuiltinId::GetObjectName => Value::Str(prims.prim(prim).name.copy()?),
         BuiltinId::GetScriptName => Value::Str(name.copy()?),
+        BuiltinId::GetRegionName => Value::Str(object.region.copy()?),
         BuiltinId::GetUnixTime => Value::Int((clock / 1000) as i32),
         BuiltinId::DetectedKey => Value::Key(detected_key(alloc, toucher, args)?),
         BuiltinId::DetectedName => Value::Str(detected_name(toucher, args)?),

@@ -1,5 +1,5 @@
 use Rattle.std.proofs.Common.{refl}
-use Rattle.lsl_region.proofs.Calls.{last-mailing}
+use Rattle.lsl_region.proofs.Calls.{no-mailing-left}
 use Rattle.lsl_region.proofs.mailing.mail.Goals as goal
 
 pub returns-in-Listen-clause-does : goal.returns-in-Listen-clause-does
@@ -17,11 +17,9 @@ pub returns-in-SetTimerEvent-clause-does : goal.returns-in-SetTimerEvent-clause-
 returns-in-SetTimerEvent-clause-does c = λ codes unit s f of k.
     rw c.in-SetTimerEvent.is (c.set_timer.ensures.does codes unit s f of k, refl)
 
-pub returns-in_default-clause-does : goal.returns-in_default-clause-does
-returns-in_default-clause-does c = λ codes unit s f of k.
-    let e = last-mailing c.args.id c.requires.id c.in_default.not-Listen c.in_default.not-ListenRemove
-    c.in_default.not-ListenControl c.in_default.not-SetTimerEvent in
-    rw e (c.sleep.ensures.does codes unit s f of k, refl)
+pub returns-in-Sleep-clause-does : goal.returns-in-Sleep-clause-does
+returns-in-Sleep-clause-does c = λ codes unit s f of k.
+    rw c.in-Sleep.is (c.sleep.ensures.does codes unit s f of k, refl)
 
 pub returns-in-Listen-clause-stop : goal.returns-in-Listen-clause-stop
 returns-in-Listen-clause-stop c = rw c.in-Listen.is c.listen.ensures.stop
@@ -35,8 +33,10 @@ returns-in-ListenControl-clause-stop c = rw c.in-ListenControl.is refl
 pub returns-in-SetTimerEvent-clause-stop : goal.returns-in-SetTimerEvent-clause-stop
 returns-in-SetTimerEvent-clause-stop c = rw c.in-SetTimerEvent.is refl
 
-pub returns-in_default-clause-stop : goal.returns-in_default-clause-stop
-returns-in_default-clause-stop c =
-    let e = last-mailing c.args.id c.requires.id c.in_default.not-Listen c.in_default.not-ListenRemove
-    c.in_default.not-ListenControl c.in_default.not-SetTimerEvent in
-    rw e refl
+pub returns-in-Sleep-clause-stop : goal.returns-in-Sleep-clause-stop
+returns-in-Sleep-clause-stop c = rw c.in-Sleep.is refl
+
+pub unreachable-requires : goal.unreachable-requires
+unreachable-requires c =
+    no-mailing-left c.args.id c.requires.id c.in_default.not-Listen c.in_default.not-ListenRemove
+    c.in_default.not-ListenControl c.in_default.not-SetTimerEvent c.in_default.not-Sleep

@@ -10,7 +10,7 @@ use Rattle.lsl_region.specs.Grids.{AreSeated, Lent}
 use Rattle.lsl_region.specs.Mailing.{stop_of}
 use Rattle.lsl_region.specs.Texts.{cut_name}
 use Rattle.lsl_region.specs.Worlds.{World, with_member}
-use Rattle.lsl_region.proofs.Calls.{last-more, mailed-is, other-goes-on, told-goes-on, told-is}
+use Rattle.lsl_region.proofs.Calls.{mailed-is, no-more-left, told-goes-on, told-is}
 use Rattle.lsl_region.proofs.Lending.{lent-mailed}
 use Rattle.lsl_region.proofs.Results.{IfOk-both, IfOk-map, OnOk-any, tells-quiet}
 use Rattle.lsl_region.proofs.grid.Grid.answer_at.Goals as goal
@@ -73,12 +73,9 @@ pub returns-in-MessageLinked-clause-does : goal.returns-in-MessageLinked-clause-
 returns-in-MessageLinked-clause-does c = λ m f of w lent.
     rw c.in-MessageLinked.is (c.sends.ensures.does m c.args.clock f of w lent)
 
-pub returns-in_default-clause-does : goal.returns-in_default-clause-does
-returns-in_default-clause-does c = λ m f of w lent.
-    let e = last-more c.args.id (sym c.does_more.ensures ∙ c.if-not-does_more.false)
-    (sym c.is_mailing.ensures ∙ c.if-is_mailing.false) c.in_default.not-Say c.in_default.not-Whisper
-    c.in_default.not-Shout c.in_default.not-RegionSay c.in_default.not-OwnerSay c.in_default.not-MessageLinked in
-    rw e (tells-quiet c.renames.result
+pub returns-in-SetObjectName-clause-does : goal.returns-in-SetObjectName-clause-does
+returns-in-SetObjectName-clause-does c = λ m f of w lent.
+    rw c.in-SetObjectName.is (tells-quiet c.renames.result
     (λ (x : World × Reply) given. Lent c.args.library.now c.args.unit.now c.args.clock c.args.place c.renames.new.self
     c.args.live.now of f x.0 × (given ≡ x.1))
     (renamed w lent.member (cut_name (text_at 0 c.args.args.now)), nothing) c.args.out.now
@@ -86,16 +83,14 @@ returns-in_default-clause-does c = λ m f of w lent.
     (c.renames.ensures.does c.args.library.now c.args.unit.now c.args.clock c.args.live.now of f w lent)
     c.renames.ensures.reply))
 
-pub returns-in_default-clause-fits : goal.returns-in_default-clause-fits
-returns-in_default-clause-fits c =
-    let e = last-more c.args.id (sym c.does_more.ensures ∙ c.if-not-does_more.false)
-    (sym c.is_mailing.ensures ∙ c.if-is_mailing.false) c.in_default.not-Say c.in_default.not-Whisper
-    c.in_default.not-Shout c.in_default.not-RegionSay c.in_default.not-OwnerSay c.in_default.not-MessageLinked in
+pub returns-in-SetObjectName-clause-fits : goal.returns-in-SetObjectName-clause-fits
+returns-in-SetObjectName-clause-fits c =
     IfOk-map c.renames.result _ _
-    (λ given is. rw e (subst (λ (z : Reply). Answers SetObjectName z) (sym is) refl)) c.renames.ensures.reply
+    (λ given is. rw c.in-SetObjectName.is (subst (λ (z : Reply). Answers SetObjectName z) (sym is) refl))
+    c.renames.ensures.reply
 
-pub returns-in_default-clause-seated : goal.returns-in_default-clause-seated
-returns-in_default-clause-seated c =
+pub returns-in-SetObjectName-clause-seated : goal.returns-in-SetObjectName-clause-seated
+returns-in-SetObjectName-clause-seated c =
     OnOk-any c.renames.result _
     (subst (λ (s : List Seat). AreSeated c.args.library.now s) (sym c.renames.ensures.seats) c.requires.seated)
 
@@ -128,7 +123,13 @@ pub returns-in-MessageLinked-clause-stop : goal.returns-in-MessageLinked-clause-
 returns-in-MessageLinked-clause-stop c =
     IfOk-map c.sends.result _ _ (λ given is. rw c.in-MessageLinked.is (ap stop_of is)) c.sends.ensures.reply
 
-pub returns-in_default-clause-stop : goal.returns-in_default-clause-stop
-returns-in_default-clause-stop c =
-    IfOk-map c.renames.result _ _ (λ given is. ap stop_of is ∙ sym (other-goes-on c.args.id c.args.args.now
-    c.args.live.now.parts.listens (sym c.is_mailing.ensures ∙ c.if-is_mailing.false))) c.renames.ensures.reply
+pub returns-in-SetObjectName-clause-stop : goal.returns-in-SetObjectName-clause-stop
+returns-in-SetObjectName-clause-stop c =
+    IfOk-map c.renames.result _ _ (λ given is. rw c.in-SetObjectName.is (ap stop_of is)) c.renames.ensures.reply
+
+pub unreachable-requires : goal.unreachable-requires
+unreachable-requires c =
+    no-more-left c.args.id (sym c.does_more.ensures ∙ c.if-not-does_more.false)
+    (sym c.is_mailing.ensures ∙ c.if-is_mailing.false) c.in_default.not-Say c.in_default.not-Whisper
+    c.in_default.not-Shout c.in_default.not-RegionSay c.in_default.not-OwnerSay c.in_default.not-MessageLinked
+    c.in_default.not-SetObjectName

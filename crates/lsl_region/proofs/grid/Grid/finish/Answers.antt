@@ -13,7 +13,7 @@ use Rattle.lsl_region.specs.Segments.{asked}
 use Rattle.lsl_region.specs.Turning.{Paused}
 use Rattle.lsl_region.proofs.Coming.{seated-with, unit-kept}
 use Rattle.lsl_region.proofs.Flying.{out-of}
-use Rattle.lsl_region.proofs.Stops.{ended-part, ended-told, failed-told}
+use Rattle.lsl_region.proofs.Stops.{ended-down, ended-part, ended-told, failed-down, failed-told}
 use Rattle.lsl_region.proofs.grid.Grid.finish.Goals as goal
 
 pub returns-in_err-tell_closing-in-Ended-clause-does : goal.returns-in_err-tell_closing-in-Ended-clause-does
@@ -46,14 +46,15 @@ returns-in_ok-tell_closing-in-Ended-clause-does c = λ m clock f most w out.
     c.in-Some.live (sym c.take.ensures.value ∙ c.in-Some.is) out) in
     let closed = c.in_ok-script-in-Ended.field-0 in
     let closes = c.in_ok-script-in-Ended.ensures.source codes q.member.script f (place + 1) q.turns in
-    subst (λ (g : Contents). Stands codes None clock g (asked m.rules (most + 1) place f w).value
+    let d = subst (λ (g : Contents). Stands codes None clock g (asked m.rules (most + 1) place f w).value
     × (c.tell_closing.new.out ≡ c.args.out.now ++ (asked m.rules (most + 1) place f w).entries))
     (sym (c.put_back.ensures.seats k.seat k.at))
     (ended-told codes unit clock place c.args.self.now c.in-Some.live f most w m q closed closes k.seat k.at
     c.args.out.now
     c.tell_closing.new.out
     (subst (λ (n : ℕ). c.tell_closing.new.out ≡ c.args.out.now ++ entries_of_closing n closed.charge closed.cleared)
-    c.number.ensures c.in_ok-tell_closing-in-Ended.ensures))
+    c.number.ensures c.in_ok-tell_closing-in-Ended.ensures)) in
+    ((d.0, ended-down codes unit clock place c.args.self.now c.in-Some.live f most w m q closed closes), d.1)
 
 pub returns-in_ok-tell_closing-in-Ended-clause-seated : goal.returns-in_ok-tell_closing-in-Ended-clause-seated
 returns-in_ok-tell_closing-in-Ended-clause-seated c =
@@ -86,7 +87,7 @@ returns-in_ok-push-in-Faulted-clause-does c = λ m clock f most w out.
     c.in-Faulted.is (out-of c.args.live.now (λ (l : Live). Paused codes unit clock place c.args.self.now l c.args.end f
     most w)
     c.in-Some.live (sym c.take.ensures.value ∙ c.in-Some.is) out) in
-    subst (λ (g : Contents). Stands codes None clock g (asked m.rules (most + 1) place f w).value
+    let d = subst (λ (g : Contents). Stands codes None clock g (asked m.rules (most + 1) place f w).value
     × (c.push.new.self ≡ c.args.out.now ++ (asked m.rules (most + 1) place f w).entries))
     (sym (c.put_back-in-Faulted.ensures.seats k.seat k.at))
     (failed-told codes unit clock place c.args.self.now c.in-Some.live f most w m fault q
@@ -95,7 +96,8 @@ returns-in_ok-push-in-Faulted-clause-does c = λ m clock f most w out.
     (c.in_ok-script-in-Faulted.ensures.lawful codes q.member.script (place + 1) q.turns.1) k.seat k.at c.args.out.now
     c.push.new.self
     (subst (λ (n : ℕ). c.push.new.self ≡ c.args.out.now ++ entry.Stopped n fault ∷ []) c.number-in-Faulted.ensures
-    c.in_ok-push-in-Faulted.ensures.ok))
+    c.in_ok-push-in-Faulted.ensures.ok)) in
+    ((d.0, failed-down codes unit clock place c.args.self.now c.in-Some.live f most w m fault q), d.1)
 
 pub returns-in_ok-push-in-Faulted-clause-seated : goal.returns-in_ok-push-in-Faulted-clause-seated
 returns-in_ok-push-in-Faulted-clause-seated c =

@@ -4,7 +4,7 @@ use Rattle.lsl_post.specs.Journal.{Tells}
 use Rattle.lsl_post.specs.Told.{Told}
 use Rattle.lsl_post.proofs.Amid.{tells-lead}
 use Rattle.lsl_region.specs.Segments.{flown_in, segment, taken}
-use Rattle.lsl_region.specs.Turning.{InTurn}
+use Rattle.lsl_region.specs.TurnEnds.{IsBehind}
 use Rattle.lsl_region.specs.Worlds.{World}
 use Rattle.lsl_region.proofs.Flying.{goes-to, stands-at}
 use Rattle.lsl_region.proofs.Stops.{begun-goes, begun_most, flown-begun}
@@ -27,10 +27,10 @@ returns-clause-does c = λ m w st.
     let grid = c.begin.new.self in
     let most = begun_most codes unit clock place grid live v m b.0 in
     let g = begun-goes codes unit clock place grid live v m b.0 in
-    tells-lead c.go_on.result (λ u _. InTurn codes unit clock place c.go_on.new.self c.go_on.new.live u) c.args.out.now
+    tells-lead c.go_on.result (λ u _. IsBehind codes unit clock place c.go_on.new.self c.go_on.new.live u) c.args.out.now
     c.begin.new.out c.go_on.new.out (taken place w).entries (segment m.rules place w) rest refl b.1
     (subst (λ (a : Told World). Tells c.go_on.result
-    (λ u _. InTurn codes unit clock place c.go_on.new.self c.go_on.new.live u) c.begin.new.out c.go_on.new.out a)
+    (λ u _. IsBehind codes unit clock place c.go_on.new.self c.go_on.new.live u) c.begin.new.out c.go_on.new.out a)
     (sym (flown-begun codes unit clock place grid live v m b.0))
     (c.go_on.ensures.does m b.0.flight most v
     (goes-to codes unit clock place grid live c.go-turn.new.self c.go-turn.result b.0.flight most v g

@@ -5,11 +5,13 @@ use Rattle.lsl_post.specs.Journal.{Tells}
 use Rattle.lsl_post.proofs.Amid.{amid-last}
 use Rattle.lsl_script.specs.declared.live.Live.{Live}
 use Rattle.lsl_region.specs.Segments.{asked}
-use Rattle.lsl_region.specs.Turning.{InTurn, IsHeld, Paused}
+use Rattle.lsl_region.specs.TurnEnds.{IsBehind}
+use Rattle.lsl_region.specs.Turning.{IsHeld, Paused}
 use Rattle.lsl_region.proofs.Coming.{unit-kept}
 use Rattle.lsl_region.proofs.Flying.{is-end, out-of, way-amid}
 use Rattle.lsl_region.proofs.Results.{OnOk-any}
-use Rattle.lsl_region.proofs.Stops.{way-tick}
+use Rattle.lsl_region.proofs.PausedTurns.{tells-behind}
+use Rattle.lsl_region.proofs.Stops.{held-flies, way-tick}
 use Rattle.lsl_region.proofs.grid.Grid.go_on.Goals as goal
 
 pub finish-requires : goal.finish-requires
@@ -34,9 +36,17 @@ pub returns-in-AtTick-clause-does : goal.returns-in-AtTick-clause-does
 returns-in-AtTick-clause-does c = λ m f most w out.
     let p = out-of c.args.live.now (λ (l : Live). Paused c.args.library.now c.args.unit.now c.args.clock c.args.place
     c.args.self.now l c.args.turn f most w) c.in-Some.awake c.in-Some.is out in
-    way-tick c.args.library.now c.args.unit.now c.args.clock c.args.place c.answer_all.new.self c.answer_all.new.live
+    let d = way-tick c.args.library.now c.args.unit.now c.args.clock c.args.place c.answer_all.new.self
+    c.answer_all.new.live
     c.in_ok-last.last m (asked m.rules (most + 1) c.args.place f w) c.args.out.now c.answer_all.new.out c.in-AtTick.is
-    (c.in_ok-last.ensures.does m f most w p)
+    (c.in_ok-last.ensures.does m f most w p) in (
+      (
+        d.0,
+        sym (held-flies c.args.library.now c.args.unit.now c.args.clock c.args.place c.answer_all.new.self
+            c.answer_all.new.live _ d.0),
+      ),
+      d.1,
+    )
 
 pub returns-in-AtTick-clause-unit : goal.returns-in-AtTick-clause-unit
 returns-in-AtTick-clause-unit c =
@@ -55,11 +65,12 @@ returns-in_default-2 c =
           (λ (l : Live). Paused codes unit clock place c.args.self.now l c.args.turn f most w)
           c.in-Some.awake c.in-Some.is out in
           amid-last _ _ _ _ _ (way-amid _ _ _ _ _ _ (c.in_ok-last.ensures.does m f most w p)) c.finish.result
-          (λ v _. InTurn codes unit clock place c.finish.new.self c.finish.new.live v) _
+          (λ v _. IsBehind codes unit clock place c.finish.new.self c.finish.new.live v) _
           (λ x q. subst (λ (o : Option Live). Tells c.finish.result
-          (λ v _. InTurn codes unit clock place c.finish.new.self o v) c.answer_all.new.out c.finish.new.out
+          (λ v _. IsBehind codes unit clock place c.finish.new.self o v) c.answer_all.new.out c.finish.new.out
           (asked m.rules (x.most + 1) place x.flight x.world)) (sym c.finish.ensures.none)
-          (c.finish.ensures.does m clock x.flight x.most x.world q));
+          (tells-behind codes unit clock place c.finish.new.self c.finish.result c.answer_all.new.out c.finish.new.out _
+          (c.finish.ensures.does m clock x.flight x.most x.world q)));
       seated = c.finish.ensures.seated;
       unit = c.finish.ensures.unit;
       held = OnOk-any c.finish.result _

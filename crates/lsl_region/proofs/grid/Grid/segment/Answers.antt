@@ -4,10 +4,11 @@ use Rattle.lsl_post.specs.Journal.{Tells}
 use Rattle.lsl_post.specs.Told.{Told}
 use Rattle.lsl_script.specs.declared.live.Live.{Live}
 use Rattle.lsl_script.specs.declared.live.Turn.TheVariants as turn
+use Rattle.lsl_region.specs.TurnEnds.{IsBehind}
 use Rattle.lsl_region.specs.Turning.{Held, InTurn, IsHeld, IsReadyInTurn}
 use Rattle.lsl_region.specs.Worlds.{World}
 use Rattle.lsl_region.proofs.Flying.{goes-to, stands-at}
-use Rattle.lsl_region.proofs.Stops.{held-goes, held-rests, held_most, segment-held, tick-told}
+use Rattle.lsl_region.proofs.Stops.{held-flies, held-goes, held-rests, held_most, segment-held, tick-told}
 use Rattle.lsl_region.proofs.grid.Grid.segment.Goals as goal
 
 pub pass_tick-requires : goal.pass_tick-requires
@@ -45,10 +46,11 @@ returns-then-pass_tick-clause-does c = λ m w before.
     let comes = c.pass_tick.ensures.source c.if-pass_tick.true codes g.member.script h.flight
     (held-rests codes unit clock place grid live w m h) in
     let out = c.args.out.now in
-    subst (λ (a : Told World). Held codes unit clock place grid new a.value × (out ≡ out ++ a.entries))
+    let d = subst (λ (a : Told World). Held codes unit clock place grid new a.value × (out ≡ out ++ a.entries))
     (sym (segment-held codes unit clock place grid live w m h))
     (tick-told codes unit clock place grid new h.flight most w m
-    (goes-to codes unit clock place grid live new turn.AtTick h.flight most w g comes) out)
+    (goes-to codes unit clock place grid live new turn.AtTick h.flight most w g comes) out) in
+    ((d.0, sym (held-flies codes unit clock place grid new _ d.0)), d.1)
 
 pub returns-then-pass_tick-clause-held : goal.returns-then-pass_tick-clause-held
 returns-then-pass_tick-clause-held c = (c.pass_tick.ensures.awake, c.pass_tick.ensures.ticks c.if-pass_tick.true)
@@ -69,7 +71,7 @@ returns-else-pass_tick c =
           let on = c.pass_tick.ensures.goes c.if-pass_tick.false codes g.member.script h.flight
           (held-rests codes unit clock place grid live w m h) in
           subst (λ (a : Told World). Tells c.go_on.result
-          (λ v _. InTurn codes unit clock place c.go_on.new.self c.go_on.new.live v) c.args.out.now c.go_on.new.out a)
+          (λ v _. IsBehind codes unit clock place c.go_on.new.self c.go_on.new.live v) c.args.out.now c.go_on.new.out a)
           (sym (segment-held codes unit clock place grid live w m h))
           (c.go_on.ensures.does m h.flight most w
           (goes-to codes unit clock place grid live c.go-turn.new.self c.go-turn.result h.flight most w g

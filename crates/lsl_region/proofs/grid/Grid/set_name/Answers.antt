@@ -1,4 +1,4 @@
-use Rattle.std.proofs.Common.{◌∙◌, ◌<◌, List, length, ap, rules}
+use Rattle.std.proofs.Common.{◌∙◌, ◌<◌, List, length, ap, refl, rules}
 use Rattle.std.specs.Prelude.{slice_set}
 use Rattle.std.proofs.Math.ListN.{length-set}
 use Rattle.std.proofs.lemmas.Option.{slice_get_within}
@@ -33,7 +33,7 @@ invariant_of-self c =
       placed-named c.self.inside.objects.items c.self.inside.seats.items c.index-seat.result.now.object
           c.index_mut.result.now _ o.0
           (ap (λ (ps : List Primitive). length ps) c.rename.ensures ∙ length-set c.index_mut.result.now.prims _ _)
-          (formed-named c.index_mut.result.now _ c.index-seat.result.now.prim c.args.name c.rename.ensures)
+          (formed-named c.index_mut.result.now _ c.index-seat.result.now.prim c.args.name c.rename.ensures refl)
           c.self.invariant.0,
       c.self.invariant.1,
     )

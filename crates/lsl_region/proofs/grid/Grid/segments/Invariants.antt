@@ -1,13 +1,14 @@
-use Rattle.std.proofs.Common.{◌≡◌, ℕ, ◌+◌, length}
-use Rattle.std.specs.Prelude.{None, not}
+use Rattle.std.proofs.Common.{◌≡◌, ◌+◌, length}
+use Rattle.std.specs.Prelude.{ℕ, None, not}
 use Rattle.lsl_post.specs.Told.{as_value}
 use Rattle.lsl_post.proofs.Amid.{Again}
 use Rattle.lsl_script.specs.Codes.{Meant}
 use Rattle.lsl_region.specs.Grids.{AreSeated, Stands, outline_of}
 use Rattle.lsl_region.specs.Segments.{is_ready_at, segment, turn}
-use Rattle.lsl_region.specs.Turning.{InTurn, IsHeld, IsUnitAt}
+use Rattle.lsl_region.specs.TurnEnds.{CameTo}
+use Rattle.lsl_region.specs.Turning.{IsHeld, IsUnitAt}
 use Rattle.lsl_region.specs.Worlds.{World}
-use Rattle.lsl_region.proofs.grid.Grid.turn_with.Given as goal
+use Rattle.lsl_region.proofs.grid.Grid.segments.Given as goal
 
 abbrev pub invariant-loop-spent : goal.invariant-loop-spent
 invariant-loop-spent l =
@@ -18,7 +19,7 @@ invariant-loop-spent l =
       unit : IsUnitAt l.library l.unit l.self.seats l.place;
       held : IsHeld l.unit l.live;
       again : (m : Meant l.library) (w : World) → Stands l.library None l.clock l.fn.self w →
-          Again (λ (x : World × ℕ). InTurn l.library l.unit l.clock l.place l.self l.live x.0 × (l.spent ≡ x.1))
+          Again (λ (x : World × ℕ). CameTo l.library l.unit l.clock l.place l.self l.live x l.spent)
           (turn m.rules l.ticks l.place w) l.fn.out l.out
           (λ x. not (is_ready_at x.0 l.place))
           (λ x. as_value (λ v. (v, x.1 + 1)) (segment m.rules l.place x.0)) l.spent l.ticks;

@@ -1,0 +1,231 @@
+//! Crossings: an object's image is handed to a link, and the object goes on as what comes back stands for.
+
+ghost use Rattle.std.specs.Prelude.{◌≡◌, ◌≢◌, ◌<◌, ◌≤◌, ◌-◌, ◌+◌, ◌∷◌, [], ℕ, List, None, Ok as OkResult, length, map, option_map, take, All, IfOk, MatchResult, OnOk};
+ghost use Rattle.std.specs.List.{filter_map};
+ghost use Rattle.lsl_ports.specs.Counts.{Rose};
+ghost use Rattle.lsl_ports.specs.Growth.{Begins};
+ghost use Rattle.lsl_ports.specs.Trips.{Trip, Went, sent_of};
+ghost use Rattle.lsl_script.specs.Codes.{Meant};
+ghost use Rattle.lsl_image.specs.Images.{ObjectFirst, ObjectImage};
+ghost use Rattle.lsl_image.specs.Valid.{shape_of};
+ghost use Rattle.lsl_region.specs.Crossings.{ComesOf, CrossesAs, IsOneTrip, IsSent, Stays, image_in, images_to, kept_entries, region_changed, region_in};
+ghost use Rattle.lsl_region.specs.Grids.{AreSeated, Stands};
+ghost use Rattle.lsl_region.specs.Journeys.{Travels};
+ghost use Rattle.lsl_region.specs.ObjectParts.{parts_in_seat, parts_of_object};
+ghost use Rattle.lsl_region.specs.Worlds.{World};
+
+use crate::arriving::{Arrival, prepare};
+use crate::grid::Grid;
+use lsl_code::Library;
+use lsl_image::{ImageFault, ObjectParts, Shape, read_object, write_object};
+use lsl_ports::{Link, LinkFault};
+use lsl_post::Entries;
+use lsl_text::{NoMemory, Refusal};
+use lsl_value::Text;
+use std::alloc::{AllocError, Global};
+
+/// Why an object stayed where it was.
+#[derive(Clone, Copy, Debug, PartialEq, Eq)]
+pub enum StayedWhy {
+    /// The link failed, and counted it.
+    Link,
+    /// What came back is no image of the object; this is its first fault.
+    Image(ImageFault),
+}
+
+/// What became of an object that was to cross.
+#[derive(Clone, Copy, Debug, PartialEq, Eq)]
+pub enum Crossed {
+    /// It goes on in the other region, as what came back stands for.
+    Moved,
+    /// It goes on as it was, where it was.
+    Stayed(StayedWhy),
+    /// It is in that region already; the link wasn't called.
+    Here,
+}
+
+impl Grid {
+    /// Hands the object of this number over the link, to be in this region, and posts `changed` with 256 to all its
+    /// scripts where it came there. The link is called once, where the object is in another region. After Stayed, Here
+    /// and want of memory grid and entries are as they were. What the posting needs is taken before the link is called.
+    /// Walks the scripts, and the object's image once for each way and once for each digest.
+    pub fn cross<L: Link>(
+        &mut self,
+        object: u32,
+        region: &Text,
+        library: &Library,
+        link: &mut L,
+        out: &mut Entries,
+    ) -> Result<Crossed, NoMemory>
+        requires first { 0 < object }
+        requires last { object ≤ length self.old.objects }
+        requires seated { AreSeated library.now self.old.seats }
+        ensures crosses { (trips : List Trip) × Went L.gives (L.trips link.old) (L.trips link.new) trips
+            × MatchResult result
+            (CrossesAs library.now (object - 1) region.now self.old self.new out.old out.new trips)
+            (λ _. Stays self.old self.new out.old out.new
+            × Begins (sent_of trips) (images_to library.now self.old (object - 1) region.now))
+            × ((m : Meant library.now) (clock : ℕ) (w : World) → Stands library.now None clock self.old w →
+            Travels library.now m.rules clock (object - 1) region.now w trips self.new out.old out.new result) }
+        ensures link { result ≡ OkResult (Crossed.Stayed StayedWhy.Link) → Rose (L.faults link.old) (L.faults link.new) }
+        ensures counted { L.faults link.old ≤ L.faults link.new }
+        ensures seated { OnOk result (AreSeated library.now self.new.seats) }
+        ensures objects { map (λ o. length o.prims) self.new.objects ≡ map (λ o. length o.prims) self.old.objects }
+        ensures scripts { length self.new.seats ≡ length self.old.seats }
+    {
+        if *self.region(object) == *region {
+            return Ok(Crossed::Here);
+        }
+        let before = out.len();
+        let outcome = self.cross_over(object, region, library, link, out);
+        strike(&outcome, before, out);
+        outcome
+    }
+
+    // The same from another region. Where the object stays there may be entries behind the others.
+    fn cross_over<L: Link>(
+        &mut self,
+        object: u32,
+        region: &Text,
+        library: &Library,
+        link: &mut L,
+        out: &mut Entries,
+    ) -> Result<Crossed, NoMemory>
+        requires first { 0 < object }
+        requires last { object ≤ length self.old.objects }
+        requires seated { AreSeated library.now self.old.seats }
+        requires elsewhere { region_in self.old (object - 1) ≢ region.now }
+        ensures crosses { (trips : List Trip) × Went L.gives (L.trips link.old) (L.trips link.new) trips
+            × MatchResult result
+            (λ crossed. CrossesAs library.now (object - 1) region.now self.old self.new out.old
+            (kept_entries crossed (length out.old) out.new) trips crossed)
+            (λ _. Stays self.old self.new out.old (take (length out.old) out.new)
+            × Begins (sent_of trips) (image_in library.now self.old (object - 1) ∷ [])) }
+        ensures image { OnOk result (IsSent library.now self.old (object - 1)) }
+        ensures link { result ≡ OkResult (Crossed.Stayed StayedWhy.Link) → Rose (L.faults link.old) (L.faults link.new) }
+        ensures counted { L.faults link.old ≤ L.faults link.new }
+        ensures seated { OnOk result (AreSeated library.now self.new.seats) }
+        ensures objects { map (λ o. length o.prims) self.new.objects ≡ map (λ o. length o.prims) self.old.objects }
+        ensures scripts { length self.new.seats ≡ length self.old.seats }
+    {
+        let shape = self.shape(object)?;
+        let arrival = prepare(self.alloc, shape.units.len(), region, out)?;
+        match self.send(object, library, link)? {
+            Some(back) => self.receive(object, &back, &shape, arrival, library, out),
+            None => Ok(Crossed::Stayed(StayedWhy::Link)),
+        }
+    }
+
+    // Hands the image of the object of this number over, and gives what came back.
+    fn send<L: Link>(
+        &self,
+        object: u32,
+        library: &Library,
+        link: &mut L,
+    ) -> Result<Option<Vec<u8>>, NoMemory>
+        requires first { 0 < object }
+        requires last { object ≤ length self.now.objects }
+        requires seated { AreSeated library.now self.now.seats }
+        ensures went { (trips : List Trip) × Went L.gives (L.trips link.old) (L.trips link.new) trips
+            × MatchResult result
+            (λ back. IsOneTrip trips (image_in library.now self.now (object - 1)) (option_map (λ b. b.items) back))
+            (λ _. Begins (sent_of trips) (image_in library.now self.now (object - 1) ∷ [])) }
+        ensures image { OnOk result (IsSent library.now self.now (object - 1)) }
+        ensures lost { result ≡ OkResult None → Rose (L.faults link.old) (L.faults link.new) }
+        ensures counted { L.faults link.old ≤ L.faults link.new }
+    {
+        let image = self.image(object, library)?;
+        carried(self.alloc, &image, link)
+    }
+
+    // The image of the object of this number.
+    fn image(&self, object: u32, library: &Library) -> Result<Vec<u8>, NoMemory>
+        requires first { 0 < object }
+        requires last { object ≤ length self.now.objects }
+        requires seated { AreSeated library.now self.now.seats }
+        ensures bytes { IfOk result (λ image. image.items ≡ image_in library.now self.now (object - 1)) }
+        ensures image { OnOk result (IsSent library.now self.now (object - 1)) }
+    {
+        let parts = self.parts(object)?;
+        write_object(self.alloc, &parts, self.region(object), library)
+    }
+
+    // The object of this number becomes what came back stands for.
+    fn receive(
+        &mut self,
+        object: u32,
+        back: &[u8],
+        shape: &Shape,
+        arrival: Arrival,
+        library: &Library,
+        out: &mut Entries,
+    ) -> Result<Crossed, NoMemory>
+        requires first { 0 < object }
+        requires last { object ≤ length self.old.objects }
+        requires seated { AreSeated library.now self.old.seats }
+        requires shape { shape.now ≡ shape_of (parts_of_object self.old (object - 1)) }
+        requires events { All (λ e. e ≡ region_changed) arrival.events.items }
+        requires count { length arrival.events.items ≡
+            length (filter_map (parts_in_seat (object - 1)) self.old.seats) }
+        requires room { arrival.before + length arrival.events.items ≤ length out.old }
+        ensures comes { MatchResult result
+            (λ crossed. ComesOf library.now (object - 1) arrival.region self.old self.new
+            (take arrival.before out.old) (kept_entries crossed arrival.before out.new) back.now crossed)
+            (λ _. Stays self.old self.new (take arrival.before out.old) (take arrival.before out.new)) }
+        ensures seated { OnOk result (AreSeated library.now self.new.seats) }
+        ensures objects { map (λ o. length o.prims) self.new.objects ≡ map (λ o. length o.prims) self.old.objects }
+        ensures scripts { length self.new.seats ≡ length self.old.seats }
+    {
+        match read_back(self.alloc, back, self.region(object), shape, library)? {
+            Ok(parts) => {
+                self.arrive(object as usize - 1, parts, arrival, library, out);
+                Ok(Crossed::Moved)
+            }
+            Err(fault) => Ok(Crossed::Stayed(StayedWhy::Image(fault))),
+        }
+    }
+}
+
+// Where the object stays, only the first so many entries are kept.
+fn strike(outcome: &Result<Crossed, NoMemory>, before: usize, out: &mut Entries)
+    ensures { MatchResult outcome.now
+        (λ crossed. out.new ≡ kept_entries crossed before out.old) (λ _. out.new ≡ take before out.old) }
+{
+    match outcome {
+        Ok(Crossed::Moved) => (),
+        _ => out.truncate(before),
+    }
+}
+
+// Hands bytes over, and gives those that came back, or none where the link failed.
+fn carried<L: Link>(alloc: Global, sent: &[u8], link: &mut L) -> Result<Option<Vec<u8>>, NoMemory>
+    ensures went { (trips : List Trip) × Went L.gives (L.trips link.old) (L.trips link.new) trips
+        × MatchResult result (λ back. IsOneTrip trips sent.now (option_map (λ b. b.items) back)) (λ _. trips ≡ []) }
+    ensures lost { result ≡ OkResult None → Rose (L.faults link.old) (L.faults link.new) }
+    ensures counted { L.faults link.old ≤ L.faults link.new }
+{
+    match link.carry(alloc, sent) {
+        Ok(back) => Ok(Some(back)),
+        Err(LinkFault::Failed) => Ok(None),
+        Err(LinkFault::NoMemory) => Err(AllocError),
+    }
+}
+
+// Reads what came back: the parts for which it stands, or its first fault.
+fn read_back(
+    alloc: Global,
+    back: &[u8],
+    region: &Text,
+    shape: &Shape,
+    library: &Library,
+) -> Result<Result<ObjectParts, ImageFault>, NoMemory>
+    ensures { IfOk result (λ read. MatchResult read
+        (λ parts. ObjectImage region.now shape.now library.now parts back.now)
+        (λ fault. ObjectFirst region.now shape.now library.now back.now fault)) }
+{
+    match read_object(alloc, back, region, shape, library) {
+        Ok(parts) => Ok(Ok(parts)),
+        Err(Refusal::Fault(fault)) => Ok(Err(fault)),
+        Err(Refusal::NoMemory) => Err(AllocError),
+    }
+}
