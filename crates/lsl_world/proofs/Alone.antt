@@ -6,7 +6,6 @@ use Rattle.lsl_post.specs.Told.{Told, as_value, each, lead, next_to, quiet, unti
 use Rattle.lsl_script.specs.Rules.{Rules}
 use Rattle.lsl_region.specs.Segments.{is_ready_at, segment, turn}
 use Rattle.lsl_region.specs.Worlds.{World}
-use Rattle.lsl_world.specs.Sizes.{Size}
 use Rattle.lsl_world.specs.Steps.{round_or_last, rounds, turn_in}
 use Rattle.lsl_world.proofs.Counts.{turn-keeps}
 use Rattle.lsl_world.proofs.Spans.{counted-ends, counted-value, until-parts, until-stopped}
@@ -76,7 +75,7 @@ module _ (r : Rules) where
       let t = turn r most 0 w in
       let v = t.value.0 in
       let spent = t.value.1 in
-      let same : length v.members ≡ 1 = ap (λ (s : Size). s.scripts) (turn-keeps r most 0 w) ∙ one in
+      let same : length v.members ≡ 1 = ap (λ x. x.1) (turn-keeps r most 0 w) ∙ one in
       ap (λ (a : Told (World × ℕ)). next_to a (λ y. rounds_from fuel (y.0, (y.1, y.1 == left))))
       (each-one (turn_in r) (length w.members) (w, left) one)
       ∙ ap (λ (a : Told World). lead t.entries a)

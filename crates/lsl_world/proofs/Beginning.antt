@@ -14,6 +14,7 @@ use Rattle.lsl_lines.specs.declared.file.WorldFile.{WorldFile}
 use Rattle.lsl_post.specs.Mailbox.{new_mailbox, posted}
 use Rattle.lsl_script.specs.Codes.{Meant, rules_of}
 use Rattle.lsl_script.specs.Scripts.{Resting, Script, new_script, state_entry}
+use Rattle.lsl_region.specs.declared.objects.Linkset.{Linkset}
 use Rattle.lsl_region.specs.Grids.{Contents, IsScript, Stands, seat_of}
 use Rattle.lsl_region.specs.Worlds.{Member}
 use Rattle.lsl_world.specs.Ranges.{HasFile, IsObjectOf}
@@ -21,7 +22,6 @@ use Rattle.lsl_world.specs.Seats.{seats_of, seats_of_objects}
 use Rattle.lsl_world.specs.Sizes.{Size, scripts_of, size_of_file}
 use Rattle.lsl_world.specs.Stands.{prims_of}
 use Rattle.lsl_world.specs.Starts.{member_of_line, members_of_objects, members_of_prim, members_of_prims, object_of_line, prim_of_line, start}
-use Rattle.lsl_world.proofs.Counts.{size_in}
 use Rattle.lsl_world.proofs.Filling.{objects-count}
 
 all-first : {X : Type 0} (P : X → Type 0) (x : X) (xs : List X) → All P (x ∷ xs) → P x
@@ -148,6 +148,9 @@ prims-kept [] = refl
 prims-kept (x ∷ xs) =
     ap (λ (n : ℕ). n ∷ map prims_of (map object_of_line xs)) (length-map x.prims prim_of_line)
     ∙ ap (λ (ns : List ℕ). length x.prims ∷ ns) (prims-kept xs)
+
+abbrev pub size_in : List Linkset → ℕ → Size
+size_in objects scripts = record { prims = map prims_of objects; scripts = scripts }
 
 -- and it has as many objects, prims and scripts
 pub sized : (codes : List Code) (file : WorldFile) (grid : Contents) → grid.objects ≡ map object_of_line file.objects

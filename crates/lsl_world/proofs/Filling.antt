@@ -67,4 +67,5 @@ object-formed files line fits =
       rooted = omega (arith, fits.rooted, count);
       few = omega (arith, fits.few, count);
       keyed = All-map HasKey prim_of_line line.prims fits.keyed;
+      stored = record { few = omega arith; each = tt; ascend = tt; room = omega arith };
     }

@@ -8,9 +8,14 @@ pub mod Kept
 pub mod Seams
 pub mod Telling
 pub mod Walking
+pub mod Saving
 pub mod Spans
 pub mod Still
 pub mod Alone
 pub mod Ending
 pub mod Filling
 pub mod Beginning
+pub mod Going
+pub mod Regions
+pub mod Taking
+pub mod Runs

@@ -130,7 +130,7 @@ known-fits r (ChangedStep object flags) f h = has-object r.objects object h
 known-fits r (Rez object n) f h = has-object r.objects object h
 known-fits r (Go script most) f h = (has-number r.scripts script h, f)
 known-fits r (Run most) f h = f
-known-fits r (Pause gaps) f h = tt
+known-fits r (Pause gaps) f h = f
 known-fits r (Cross object region) f h = has-object r.objects object h
 
 step-sound : (r : Reading) (step : TheStep) (clock : ℕ) → Sound r → is_steps r.part ≡ true → StepFits step

@@ -1,19 +1,23 @@
 -- The numbers of a step that a line says are in their ranges.
-use Rattle.std.proofs.Common.{ℕ, ◌≤◌, List, [], ◌∷◌, cond, codes, Result, Ok}
-use Rattle.std.specs.Prelude.{◌==◌}
+use Rattle.std.proofs.Common.{ℕ, ◌<◌, ◌≤◌, List, [], ◌∷◌, length, cond, codes, Result, Ok}
+use Rattle.std.specs.Prelude.{◌==◌, ◌&&◌, nat_le, nat_lt}
+use Rattle.std.proofs.lemmas.Bool.{ltb-true}
+use Rattle.std.proofs.lemmas.List.Elements.{All-cons, All-nil}
 use Rattle.std.specs.Str.{bytes_eq}
-use Rattle.lsl_lines.specs.Checks.{◌>>=◌}
+use Rattle.lsl_region.specs.Pausing.{AreGaps}
+use Rattle.lsl_lines.specs.Checks.{◌>>=◌, must}
 use Rattle.lsl_lines.specs.Fields.{integer_of, key_of, name_of, natural_of, plain_of, quoted_of}
 use Rattle.lsl_lines.specs.Forms as forms
-use Rattle.lsl_lines.specs.Forms.{form_of, form_of_words, gaps_of, number_of, row_of, step_of, ticks_of, utf8_of}
+use Rattle.lsl_lines.specs.Forms.{each_gap, form_of, form_of_words, gap_of, gaps_of, number_of, row_of, step_of, ticks_of, utf8_of}
 use Rattle.lsl_lines.specs.Words.{words_of}
 use Rattle.lsl_lines.specs.declared.faults.FileKind.{FileKind}
+use Rattle.lsl_lines.specs.declared.faults.FileKind.TheVariants.{BadLine}
 use Rattle.lsl_lines.specs.declared.file.Step.{Step as TheStep}
 use Rattle.lsl_lines.specs.declared.file.Step.TheVariants.{Clock, Say, Touch, Changed, Rez, Go, Run, Pause, Cross}
 use Rattle.lsl_lines.specs.declared.forms.Line.{Line}
 use Rattle.lsl_lines.specs.declared.forms.Line.TheVariants.{Object, Prim, Script, Begin, Step, End}
 use Rattle.lsl_lines.specs.declared.words.Word.{Word}
-use Rattle.lsl_world.proofs.Passing.{Fit, IsKey, fit-ok, fit-then, fit-cond, key-fits, natural-fits}
+use Rattle.lsl_world.proofs.Passing.{Fit, IsKey, fit-ok, fit-then, fit-cond, fit-must, key-fits, natural-fits}
 
 -- the time and the counts of a step are in their ranges, and the keys of prims are valid ones
 abbrev pub StepFits : TheStep → Type 0
@@ -24,7 +28,7 @@ StepFits (Say channel name key text) = Unit {0}
 StepFits (Touch object link key name) = Unit {0}
 StepFits (Changed object flags) = Unit {0}
 StepFits (Rez object n) = Unit {0}
-StepFits (Pause gaps) = Unit {0}
+StepFits (Pause gaps) = AreGaps gaps
 StepFits (Cross object region) = Unit {0}
 
 abbrev pub LineFits : Line → Type 0
@@ -103,15 +107,35 @@ cross-fits (a ∷ []) = tt
 cross-fits (object ∷ region ∷ []) = then-fits (number_of object) _ (λ o. then-fits (name_of region) _ (λ r. tt))
 cross-fits (a ∷ b ∷ c ∷ more) = tt
 
+gap-fits : (word : Word) → Fit (λ n. 0 < n) (gap_of word)
+gap-fits word =
+    fit-then (λ n. 0 < n) (ticks_of word) (λ n. must (nat_lt 0 n) BadLine (Ok n))
+    (λ n e. fit-must (λ n. 0 < n) (nat_lt 0 n) BadLine (Ok n) (λ h. ltb-true 0 n h))
+
+each-gap-fits : (words : List Word) → Fit AreGaps (each_gap words)
+each-gap-fits [] = All-nil (λ n. 0 < n)
+each-gap-fits (word ∷ words) =
+    fit-then AreGaps (gap_of word) (λ gap. each_gap words >>= λ gaps. Ok (gap ∷ gaps))
+    (λ gap e. fit-then AreGaps (each_gap words) (λ gaps. Ok (gap ∷ gaps))
+    (λ gaps f. All-cons (λ n. 0 < n) gap gaps (fit-ok (λ n. 0 < n) (gap_of word) gap e (gap-fits word))
+    (fit-ok AreGaps (each_gap words) gaps f (each-gap-fits words))))
+
+some-gaps-fit : (words : List Word) → Fit AreGaps (gaps_of words)
+some-gaps-fit words =
+    fit-must AreGaps (nat_lt 0 (length words) && nat_le (length words) 16) BadLine (each_gap words)
+    (λ h. each-gap-fits words)
+
 gaps-fit : (words : List Word) → Fit StepFits (gaps_of words >>= λ gaps. Ok (Pause gaps))
-gaps-fit words = then-fits (gaps_of words) (λ gaps. Ok (Pause gaps)) (λ gaps. tt)
+gaps-fit words =
+    fit-then StepFits (gaps_of words) (λ gaps. Ok (Pause gaps))
+    (λ gaps e. fit-ok AreGaps (gaps_of words) gaps e (some-gaps-fit words))
 
 pause-fits : (fields : List Word) → Fit StepFits (forms.pause_of fields)
 pause-fits [] = gaps-fit []
 pause-fits (word ∷ []) =
     then-fits (ticks_of word) (λ n. cond (n == 0) (Ok (Pause [])) (gaps_of (word ∷ []) >>= λ gaps. Ok (Pause gaps)))
-    (λ n. fit-cond StepFits (n == 0) (Ok (Pause [])) (gaps_of (word ∷ []) >>= λ gaps. Ok (Pause gaps)) tt
-    (gaps-fit (word ∷ [])))
+    (λ n. fit-cond StepFits (n == 0) (Ok (Pause [])) (gaps_of (word ∷ []) >>= λ gaps. Ok (Pause gaps))
+    (All-nil (λ n. 0 < n)) (gaps-fit (word ∷ [])))
 pause-fits (a ∷ b ∷ more) = gaps-fit (a ∷ b ∷ more)
 
 step-fits : (word : List ℕ) (fields : List Word) → Fit StepFits (step_of word fields)

@@ -23,7 +23,7 @@ pub members-are : (programs : List Program) (world : World) (w : SourceWorld) �
     → length world.grid.seats ≡ length w.members
 members-are programs world w is = stands-length world.units None world.clock world.grid w is.stands
 
-back : (place : ℕ) → (place + 1) - 1 ≡ place
+pub back : (place : ℕ) → (place + 1) - 1 ≡ place
 back place = omega arith
 
 -- the scripts are as many as at first

@@ -1,6 +1,9 @@
 pub mod Programs
 pub mod Starts
 pub mod Steps
+pub mod Travels
+pub mod Saves
+pub mod Kept
 pub mod Reports
 pub mod Sizes
 pub mod Ranges

@@ -1,5 +1,6 @@
 -- How many objects, prims and scripts there are, and which steps name none but these.
 use Rattle.std.specs.Prelude.{ℕ, ◌<◌, ◌≤◌, ◌⊎◌, ◌-◌, List, map, length, slice_get, sum_by, Option, Some, None}
+use Rattle.lsl_region.specs.Pausing.{AreGaps}
 use Rattle.lsl_lines.specs.declared.file.ObjectLine.{ObjectLine}
 use Rattle.lsl_lines.specs.declared.file.PrimLine.{PrimLine}
 use Rattle.lsl_lines.specs.declared.file.WorldFile.{WorldFile}
@@ -42,5 +43,5 @@ IsStepOf size (Changed object flags) = HasNumber (length size.prims) object
 IsStepOf size (Rez object n) = HasNumber (length size.prims) object
 IsStepOf size (Go script most) = HasNumber size.scripts script × (most ≤ 1000000)
 IsStepOf size (Run most) = most ≤ 1000000
-IsStepOf size (Pause gaps) = Unit {0}
+IsStepOf size (Pause gaps) = AreGaps gaps
 IsStepOf size (Cross object region) = HasNumber (length size.prims) object

@@ -14,7 +14,12 @@ abbrev pub prim_of_line : PrimLine → Primitive
 prim_of_line line = record { key = line.key; name = line.name }
 
 abbrev pub object_of_line : ObjectLine → Linkset
-object_of_line line = record { owner = line.owner; region = line.region; prims = map prim_of_line line.prims }
+object_of_line line = record {
+  owner = line.owner;
+  region = line.region;
+  prims = map prim_of_line line.prims;
+  store = [];
+}
 
 -- the script of a line, in the prim at this place of the object at this place
 abbrev pub member_of_line : Rules → ℕ → ℕ → ScriptLine → Member

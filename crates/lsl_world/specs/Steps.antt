@@ -5,6 +5,7 @@ use Rattle.lsl_lines.specs.declared.file.Step.TheVariants.{Clock, Say, Touch, Ch
 use Rattle.lsl_post.specs.Told.{Told, as_value, each, each_of, quiet, until}
 use Rattle.lsl_script.specs.Rules.{Rules}
 use Rattle.lsl_region.specs.Arrivals.{changed_event, post_object, read_clock, rez_event, say, touch}
+use Rattle.lsl_region.specs.Journeys.{cross}
 use Rattle.lsl_region.specs.Segments.{turn}
 use Rattle.lsl_region.specs.Worlds.{World}
 
@@ -28,7 +29,7 @@ round_or_last r x = as_value (λ y. (y.0, (y.1, y.1 == x.1.0))) (round r (x.0, x
 abbrev pub rounds : Rules → ℕ → World → Told World
 rounds r most w = as_value (λ x. x.0) (until (λ x. x.1.1) (round_or_last r) most (w, (most, false)))
 
--- objects and scripts are told by numbers from 1. Pauses and crossings leave the world as it is
+-- objects and scripts are told by numbers from 1. Pauses leave the world as it is
 abbrev pub next : Rules → Step → World → Told World
 next r (Clock time) w = read_clock r time w
 next r (Say channel name key text) w = say r channel name key text w
@@ -38,7 +39,7 @@ next r (Rez object n) w = post_object r (object - 1) (rez_event n) w
 next r (Go script most) w = as_value (λ x. x.0) (turn r most (script - 1) w)
 next r (Run most) w = rounds r most w
 next r (Pause gaps) w = quiet w
-next r (Cross object region) w = quiet w
+next r (Cross object region) w = cross r (object - 1) region w
 
 -- all steps, in order
 abbrev pub reference : Rules → List Step → World → Told World

@@ -1,11 +1,31 @@
 //! Laws of runs. Each law is a function whose clause is the law; it does nothing.
 
-ghost use Rattle.lsl_world.specs.Laws.{OneScriptHasOneTurn, RunsEndWhereNoneIsReady, TwoListsAreTwoRuns};
+ghost use Rattle.lsl_world.specs.Laws.{CountingChangesNothing, OneScriptHasOneTurn, RunsEndWhereNoneIsReady, TripsKeepSteps, TwoListsAreTwoCounts, TwoListsAreTwoRuns, TwoListsAreTwoTravels};
 ghost use Rattle.lsl_world.specs.Ranges.{GoodFilesAreInRange};
 
 /// A run of two lists of steps is the run of the first, and then that of the second from where the first ended.
 pub fn two_lists_are_two_runs()
     ensures { TwoListsAreTwoRuns }
+{}
+
+/// A run by trips is the run of the steps without the crossings that were refused, in which nothing is known of trips.
+pub fn trips_keep_steps()
+    ensures { TripsKeepSteps }
+{}
+
+/// A run of two lists of steps is the run of the first by its trips, and then that of the second by those behind.
+pub fn two_lists_are_two_travels()
+    ensures { TwoListsAreTwoTravels }
+{}
+
+/// What is counted in a run of two lists of steps is what is counted in the first, and then in the second.
+pub fn two_lists_are_two_counts()
+    ensures { TwoListsAreTwoCounts }
+{}
+
+/// What is counted in rounds changes neither what they tell nor the world to which they lead.
+pub fn counting_changes_nothing()
+    ensures { CountingChangesNothing }
 {}
 
 /// Where there is one script, rounds are one turn: at most so many segments in all are at most so many in a row.

@@ -3,10 +3,13 @@
 ghost use Rattle.std.specs.Prelude.{◌≡◌, ◌<◌, ◌≤◌, ◌-◌, ℕ, List, length, IfOk, OnOk};
 ghost use Rattle.lsl_post.specs.Journal.{Tells};
 ghost use Rattle.lsl_tree.specs.Program.{Program};
+ghost use Rattle.lsl_region.specs.PausedTurns.{counted_turn};
+ghost use Rattle.lsl_region.specs.Pausing.{Counts, Tally};
 ghost use Rattle.lsl_region.specs.Posting.{ring_all, ring_at};
 ghost use Rattle.lsl_region.specs.Segments.{turn};
 ghost use Rattle.lsl_region.specs.Worlds.{World as SourceWorld};
 ghost use Rattle.lsl_world.specs.Programs.{rules_of};
+ghost use Rattle.lsl_world.specs.Saves.{counted_round, counted_rounds};
 ghost use Rattle.lsl_world.specs.Sizes.{HasNumber};
 ghost use Rattle.lsl_world.specs.Sound.{IsSound};
 ghost use Rattle.lsl_world.specs.Stands.{IsOf, size_of};
@@ -25,6 +28,8 @@ impl World {
         requires sound { IsSound self.old }
         ensures tells { (programs : List Program) (w : SourceWorld) → IsOf programs self.old w
             → Tells result (λ v _. IsOf programs self.new v) out.old out.new (ring_all (rules_of programs) w) }
+        ensures units { self.new.units ≡ self.old.units }
+        ensures pause { self.new.pause ≡ self.old.pause }
         ensures size { size_of self.new ≡ size_of self.old }
         ensures sound { OnOk result (IsSound self.new) }
     {
@@ -41,6 +46,8 @@ impl World {
         ensures tells { (programs : List Program) (w : SourceWorld) → IsOf programs self.old w
             → Tells result (λ v _. IsOf programs self.new v) out.old out.new
             (ring_at (rules_of programs) (script - 1) w) }
+        ensures units { self.new.units ≡ self.old.units }
+        ensures pause { self.new.pause ≡ self.old.pause }
         ensures size { size_of self.new ≡ size_of self.old }
         ensures sound { OnOk result (IsSound self.new) }
     {
@@ -54,6 +61,10 @@ impl World {
         requires sound { IsSound self.old }
         ensures tells { (programs : List Program) (w : SourceWorld) → IsOf programs self.old w
             → Tells result (λ v _. IsOf programs self.new v) out.old out.new (rounds (rules_of programs) most w) }
+        ensures saves { (programs : List Program) (w : SourceWorld) (t : Tally) → IsOf programs self.old w
+            → Counts self.old.pause t
+            → OnOk result (Counts self.new.pause (counted_rounds (rules_of programs) most w t)) }
+        ensures units { self.new.units ≡ self.old.units }
         ensures size { size_of self.new ≡ size_of self.old }
         ensures sound { OnOk result (IsSound self.new) }
     {
@@ -74,6 +85,10 @@ impl World {
         ensures tells { (programs : List Program) (w : SourceWorld) → IsOf programs self.old w
             → Tells result (λ x n. IsOf programs self.new x.0 × (n ≡ x.1)) out.old out.new
             (round (rules_of programs) (w, left)) }
+        ensures saves { (programs : List Program) (w : SourceWorld) (t : Tally) → IsOf programs self.old w
+            → Counts self.old.pause t
+            → OnOk result (Counts self.new.pause (counted_round (rules_of programs) ((w, left), t)).value.1) }
+        ensures units { self.new.units ≡ self.old.units }
         ensures size { size_of self.new ≡ size_of self.old }
         ensures sound { OnOk result (IsSound self.new) }
     {
@@ -99,6 +114,10 @@ impl World {
             → Tells result (λ x n. IsOf programs self.new x.0 × (n ≡ x.1)) out.old out.new
             (turn (rules_of programs) most (script - 1) w) }
         ensures within { IfOk result (λ n. n ≤ most) }
+        ensures saves { (programs : List Program) (w : SourceWorld) (t : Tally) → IsOf programs self.old w
+            → Counts self.old.pause t
+            → OnOk result (Counts self.new.pause (counted_turn (rules_of programs) most (script - 1) w t)) }
+        ensures units { self.new.units ≡ self.old.units }
         ensures size { size_of self.new ≡ size_of self.old }
         ensures sound { OnOk result (IsSound self.new) }
     {
@@ -108,6 +127,6 @@ impl World {
         if !self.grid.ready(script, self.clock) {
             return Ok(0);
         }
-        self.grid.turn(script, most, self.clock, &self.units, out)
+        self.grid.turn(script, most, self.clock, &mut self.pause, &self.units, out)
     }
 }

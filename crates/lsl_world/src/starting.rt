@@ -7,7 +7,7 @@ ghost use Rattle.lsl_world.specs.Seats.{HasPrim, seat_of_line, seats_of_objects,
 ghost use Rattle.lsl_world.specs.Sizes.{scripts_of};
 ghost use Rattle.lsl_world.specs.Starts.{object_of_line, prim_of_line};
 
-use lsl_code::Library;
+use lsl_code::{Library, Sequence};
 use lsl_lines::{ObjectLine, PrimLine, ScriptLine};
 use lsl_region::{Grid, Linkset, Prims, Seat};
 use lsl_script::Script;
@@ -137,6 +137,7 @@ fn linkset(alloc: Global, line: &ObjectLine) -> Result<Linkset, NoMemory>
         owner: line.owner.copy()?,
         region: line.region.copy()?,
         prims: prims(alloc, line.prims.as_slice())?,
+        store: Sequence::new(alloc),
     })
 }
 

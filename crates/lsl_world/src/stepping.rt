@@ -1,44 +1,61 @@
 //! A case for each step.
 
 ghost use Rattle.std.specs.Prelude.{◌≡◌, ◌<◌, ◌≤◌, ◌-◌, ℕ, List, length, max, OnOk};
+ghost use Rattle.lsl_ports.specs.Trips.{Trip, Went};
 ghost use Rattle.lsl_post.specs.Journal.{Tells};
 ghost use Rattle.lsl_post.specs.Timing.{latest_clock};
 ghost use Rattle.lsl_tree.specs.Program.{Program};
 ghost use Rattle.lsl_lines.specs.declared.file.Step.TheVariants as steps;
 ghost use Rattle.lsl_region.specs.Arrivals.{changed_event, post_object, read_clock, rez_event, say, touch};
+ghost use Rattle.lsl_region.specs.Pausing.{AreGaps, Counts, Tally, with_gaps};
 ghost use Rattle.lsl_region.specs.Segments.{turn};
 ghost use Rattle.lsl_region.specs.Worlds.{World as SourceWorld};
 ghost use Rattle.lsl_world.specs.Programs.{rules_of};
+ghost use Rattle.lsl_world.specs.Saves.{counted_step};
 ghost use Rattle.lsl_world.specs.Sizes.{HasNumber, IsStepOf};
 ghost use Rattle.lsl_world.specs.Sound.{IsSound};
 ghost use Rattle.lsl_world.specs.Stands.{IsOf, size_of};
 ghost use Rattle.lsl_world.specs.Steps.{next};
+ghost use Rattle.lsl_world.specs.Travels.{Does};
 
 use crate::world::World;
-use lsl_lines::Step;
+use lsl_lines::{Gaps, Step};
+use lsl_ports::Link;
 use lsl_post::Entries;
 use lsl_text::NoMemory;
 use lsl_value::{EventId, Text};
 
 impl World {
     // Does a step.
-    pub(crate) fn follow(&mut self, step: &Step, out: &mut Entries) -> Result<(), NoMemory>
+    pub(crate) fn follow<L: Link>(
+        &mut self,
+        step: &Step,
+        link: &mut L,
+        out: &mut Entries,
+    ) -> Result<(), NoMemory>
         requires sound { IsSound self.old }
         requires step { IsStepOf (size_of self.old) step.now }
-        ensures tells { (programs : List Program) (w : SourceWorld) → IsOf programs self.old w
-            → Tells result (λ v _. IsOf programs self.new v) out.old out.new (next (rules_of programs) step.now w) }
+        ensures goes { (trips : List Trip) × Went L.gives (L.trips link.old) (L.trips link.new) trips
+            × ((programs : List Program) (w : SourceWorld) → IsOf programs self.old w
+            → Does self.old.units (rules_of programs) (IsOf programs self.new) step.now w trips out.old out.new result) }
+        ensures saves { (programs : List Program) (w : SourceWorld) (t : Tally) → IsOf programs self.old w
+            → Counts self.old.pause t
+            → OnOk result (Counts self.new.pause (counted_step (rules_of programs) step.now w t)) }
+        ensures units { self.new.units ≡ self.old.units }
         ensures size { size_of self.new ≡ size_of self.old }
         ensures sound { OnOk result (IsSound self.new) }
+        ensures counted { L.faults link.old ≤ L.faults link.new }
     {
         match step {
             Step::Clock(time) => self.read_clock(*time, out),
             Step::Say(channel, name, key, text) => self.say(*channel, name, key, text, out),
-            Step::Touch(object, link, key, name) => self.touch(*object, *link, key, name, out),
+            Step::Touch(object, number, key, name) => self.touch(*object, *number, key, name, out),
             Step::Changed(object, flags) => self.change(*object, *flags, out),
             Step::Rez(object, n) => self.rez(*object, *n, out),
             Step::Go(script, most) => self.go(*script, *most, out),
             Step::Run(most) => self.run(*most, out),
-            Step::Pause(_) | Step::Cross(_, _) => Ok(()),
+            Step::Pause(gaps) => self.set_gaps(gaps),
+            Step::Cross(object, region) => self.cross(*object, region, link, out),
         }
     }
 
@@ -55,6 +72,8 @@ impl World {
         ensures tells { (programs : List Program) (w : SourceWorld) → IsOf programs self.old w
             → Tells result (λ v _. IsOf programs self.new v) out.old out.new
             (say (rules_of programs) channel name.now key.now text.now w) }
+        ensures units { self.new.units ≡ self.old.units }
+        ensures pause { self.new.pause ≡ self.old.pause }
         ensures size { size_of self.new ≡ size_of self.old }
         ensures sound { OnOk result (IsSound self.new) }
     {
@@ -75,6 +94,8 @@ impl World {
         ensures tells { (programs : List Program) (w : SourceWorld) → IsOf programs self.old w
             → Tells result (λ v _. IsOf programs self.new v) out.old out.new
             (touch (rules_of programs) (object - 1) link key.now name.now w) }
+        ensures units { self.new.units ≡ self.old.units }
+        ensures pause { self.new.pause ≡ self.old.pause }
         ensures size { size_of self.new ≡ size_of self.old }
         ensures sound { OnOk result (IsSound self.new) }
     {
@@ -88,6 +109,8 @@ impl World {
         ensures tells { (programs : List Program) (w : SourceWorld) → IsOf programs self.old w
             → Tells result (λ v _. IsOf programs self.new v) out.old out.new
             (post_object (rules_of programs) (object - 1) (changed_event flags) w) }
+        ensures units { self.new.units ≡ self.old.units }
+        ensures pause { self.new.pause ≡ self.old.pause }
         ensures size { size_of self.new ≡ size_of self.old }
         ensures sound { OnOk result (IsSound self.new) }
     {
@@ -102,6 +125,8 @@ impl World {
         ensures tells { (programs : List Program) (w : SourceWorld) → IsOf programs self.old w
             → Tells result (λ v _. IsOf programs self.new v) out.old out.new
             (post_object (rules_of programs) (object - 1) (rez_event n) w) }
+        ensures units { self.new.units ≡ self.old.units }
+        ensures pause { self.new.pause ≡ self.old.pause }
         ensures size { size_of self.new ≡ size_of self.old }
         ensures sound { OnOk result (IsSound self.new) }
     {
@@ -114,6 +139,8 @@ impl World {
         requires time { time ≤ latest_clock }
         ensures tells { (programs : List Program) (w : SourceWorld) → IsOf programs self.old w
             → Tells result (λ v _. IsOf programs self.new v) out.old out.new (read_clock (rules_of programs) time w) }
+        ensures units { self.new.units ≡ self.old.units }
+        ensures pause { self.new.pause ≡ self.old.pause }
         ensures size { size_of self.new ≡ size_of self.old }
         ensures sound { OnOk result (IsSound self.new) }
     {
@@ -128,10 +155,54 @@ impl World {
         ensures tells { (programs : List Program) (w : SourceWorld) → IsOf programs self.old w
             → Tells result (λ v _. IsOf programs self.new v) out.old out.new
             (next (rules_of programs) (steps.Go script most) w) }
+        ensures saves { (programs : List Program) (w : SourceWorld) (t : Tally) → IsOf programs self.old w
+            → Counts self.old.pause t
+            → OnOk result (Counts self.new.pause (counted_step (rules_of programs) (steps.Go script most) w t)) }
+        ensures units { self.new.units ≡ self.old.units }
         ensures size { size_of self.new ≡ size_of self.old }
         ensures sound { OnOk result (IsSound self.new) }
     {
         self.turn(script, most, out)?;
+        Ok(())
+    }
+
+    // Gaps are set.
+    fn set_gaps(&mut self, gaps: &Gaps) -> Result<(), NoMemory>
+        requires sound { IsSound self.old }
+        requires gaps { AreGaps gaps.now }
+        ensures same { (programs : List Program) (w : SourceWorld) → IsOf programs self.old w → IsOf programs self.new w }
+        ensures saves { (t : Tally) → Counts self.old.pause t
+            → OnOk result (Counts self.new.pause (with_gaps gaps.now t)) }
+        ensures units { self.new.units ≡ self.old.units }
+        ensures size { size_of self.new ≡ size_of self.old }
+        ensures sound { OnOk result (IsSound self.new) }
+    {
+        let copied = gaps.first(self.alloc, gaps.len())?;
+        self.pause.set(copied);
+        Ok(())
+    }
+
+    // An object crosses to a region over the link, unless it is there.
+    fn cross<L: Link>(
+        &mut self,
+        object: u32,
+        region: &Text,
+        link: &mut L,
+        out: &mut Entries,
+    ) -> Result<(), NoMemory>
+        requires sound { IsSound self.old }
+        requires object { HasNumber (length self.old.grid.objects) object }
+        ensures goes { (trips : List Trip) × Went L.gives (L.trips link.old) (L.trips link.new) trips
+            × ((programs : List Program) (w : SourceWorld) → IsOf programs self.old w
+            → Does self.old.units (rules_of programs) (IsOf programs self.new) (steps.Cross object region.now) w trips
+            out.old out.new result) }
+        ensures units { self.new.units ≡ self.old.units }
+        ensures pause { self.new.pause ≡ self.old.pause }
+        ensures size { size_of self.new ≡ size_of self.old }
+        ensures sound { OnOk result (IsSound self.new) }
+        ensures counted { L.faults link.old ≤ L.faults link.new }
+    {
+        self.grid.cross(object, region, &self.units, link, out)?;
         Ok(())
     }
 }

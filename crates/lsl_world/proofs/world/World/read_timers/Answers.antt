@@ -10,6 +10,8 @@ use Rattle.lsl_world.proofs.world.World.read_timers.Goals as goal
 pub loop-place-init : goal.loop-place-init
 loop-place-init c = record {
   few = c.scripts-place-end.ensures.within;
+  units = refl;
+  pause = refl;
   size = refl;
   sound = c.requires.sound;
   walk = λ programs w is.
@@ -34,6 +36,8 @@ returns-in_err-read_timer-clause-tells c = λ programs w is.
 pub loop-place-preserved : goal.loop-place-preserved
 loop-place-preserved c = record {
   few = c.loop-place.invariant.few;
+  units = c.read_timer.ensures.units ∙ c.loop-place.invariant.units;
+  pause = c.read_timer.ensures.pause ∙ c.loop-place.invariant.pause;
   size = c.read_timer.ensures.size ∙ c.loop-place.invariant.size;
   sound = c.in_ok-read_timer.ensures.sound;
   walk = λ programs w is.

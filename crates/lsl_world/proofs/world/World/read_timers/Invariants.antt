@@ -11,6 +11,8 @@ use Rattle.lsl_world.proofs.world.World.read_timers.Given as goal
 abbrev pub invariant-loop-place : goal.invariant-loop-place
 invariant-loop-place l = record {
   few : l.place-end ≤ 256;
+  units : l.self.units ≡ l.fn.self.units;
+  pause : l.self.pause ≡ l.fn.self.pause;
   size : size_of l.self ≡ size_of l.fn.self;
   sound : IsSound l.self;
   walk : (programs : List Program) (w : SourceWorld) → IsOf programs l.fn.self w
