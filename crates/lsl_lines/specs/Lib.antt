@@ -7,7 +7,6 @@ pub mod Journal
 pub mod Keys
 pub mod Laws
 pub mod Lines
-pub mod NotYet
 pub mod Reading
 pub mod Reads
 pub mod Words

@@ -1,5 +1,7 @@
 -- The world that a file tells, or the file's first fault.
 use Rattle.std.specs.Prelude.{◌≡◌, ℕ, ◌+◌, nat_le, cond, List, [], ◌∷◌, length, Result, Ok, Err}
+use Rattle.lsl_text.specs.declared.Refusal.{Refusal}
+use Rattle.lsl_text.specs.declared.Refusal.TheVariants.{Fault, NoMemory}
 use Rattle.lsl_lines.specs.Lines.{lines_of}
 use Rattle.lsl_lines.specs.Reading.{begun, read_line}
 use Rattle.lsl_lines.specs.declared.faults.FileFault.{FileFault}
@@ -39,3 +41,8 @@ IsWorld text file = world_of text ≡ Ok file
 -- the text's first fault
 abbrev pub FileFirst : List ℕ → FileFault → Type 0
 FileFirst text fault = world_of text ≡ Err fault
+
+-- the text is refused for its first fault, or for want of memory
+abbrev pub IsRefused : List ℕ → Refusal FileFault → Type 0
+IsRefused text (Fault fault) = FileFirst text fault
+IsRefused text NoMemory = Unit {0}

@@ -19,8 +19,6 @@ pub enum FileKind {
     TooLong,
     /// The key of an object or prim that an earlier one has.
     DoubleKey,
-    /// A good file with a step that isn't built yet.
-    NotYet,
 }
 
 impl FileKind {
@@ -40,7 +38,6 @@ impl FileKind {
             FileKind::ClockBack => 55,
             FileKind::TooLong => 56,
             FileKind::DoubleKey => 57,
-            FileKind::NotYet => 91,
         }
     }
 }

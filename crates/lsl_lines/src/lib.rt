@@ -7,11 +7,11 @@
 
 ghost use Rattle.std.specs.Prelude.{◌≡◌, ◌⊎◌, IfOk, IfErr, MatchResult};
 ghost use Rattle.lsl_text.specs.declared.Refusal.TheVariants.{Fault, NoMemory};
-ghost use Rattle.lsl_lines.specs.NotYet.{IsPlayable, IsRefused, PlayFirst};
+ghost use Rattle.lsl_lines.specs.World.{FileFirst, IsRefused, IsWorld};
 ghost use Rattle.lsl_lines.specs.declared.faults.FileFault.{FileFault};
 ghost use Rattle.lsl_lines.specs.declared.file.WorldFile.{WorldFile};
 
-use crate::not_yet::play;
+use crate::world::read_file;
 use lsl_text::Refusal;
 use std::alloc::Global;
 
@@ -28,7 +28,6 @@ mod known;
 mod lasts;
 pub mod laws;
 mod lines;
-mod not_yet;
 mod reading;
 mod steps;
 mod words;
@@ -43,16 +42,15 @@ pub use crate::journal::{push_line, push_lines};
 ///
 /// A file of more than 1,048,576 bytes has fault 56 at line 0. Else the fault is that of the first line that
 /// has one, and on that line the first of 50, 54, 53, 55 and 57. A file without such a line that doesn't reach
-/// its `end` has 51 or 52, at the number of its lines and one. Until these are built, a good file with a
-/// `pause` or `cross` step has fault 91 at the first. Takes memory for the world and for a line's words, and
-/// time in proportion to the text.
+/// its `end` has 51 or 52, at the number of its lines and one. Takes memory for the world and for a line's words,
+/// and time in proportion to the text.
 pub fn read_world(alloc: Global, text: &[u8]) -> Result<WorldFile, Refusal<FileFault>>
-    ensures found { IfOk result (IsPlayable text.now) }
-    ensures every { (file : WorldFile) → IsPlayable text.now file
+    ensures found { IfOk result (IsWorld text.now) }
+    ensures every { (file : WorldFile) → IsWorld text.now file
         → MatchResult result (λ found. found ≡ file) (λ refusal. refusal ≡ NoMemory) }
     ensures first { IfErr result (IsRefused text.now) }
-    ensures only { (fault : FileFault) → PlayFirst text.now fault
+    ensures only { (fault : FileFault) → FileFirst text.now fault
         → MatchResult result (λ _. ⊥) (λ refusal. (refusal ≡ Fault fault) ⊎ (refusal ≡ NoMemory)) }
 {
-    play(alloc, text)
+    read_file(alloc, text)
 }

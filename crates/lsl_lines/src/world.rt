@@ -1,6 +1,6 @@
 //! A world file from its first line to its last.
 
-ghost use Rattle.std.specs.Prelude.{◌≡◌, ◌≤◌, length, OnOk};
+ghost use Rattle.std.specs.Prelude.{◌≡◌};
 ghost use Rattle.lsl_text.specs.declared.Refusal.TheVariants.{Fault};
 ghost use Rattle.lsl_lines.specs.Reads.{GivesFile, refusal_at};
 ghost use Rattle.lsl_lines.specs.World.{fault_at, file_of, world_of};
@@ -18,8 +18,7 @@ const MAX_FILE_BYTES: usize = 1_048_576;
 /// The world of a text, or the text's first fault.
 #[tactic(auto, unfolding(crate::specs::World::world_of))]
 pub fn read_file(alloc: Global, text: &[u8]) -> Result<WorldFile, Refusal<FileFault>>
-    ensures world { GivesFile result (world_of text.now) }
-    ensures short { OnOk result (length text.now ≤ 1048576) }
+    ensures { GivesFile result (world_of text.now) }
 {
     if text.len() > MAX_FILE_BYTES {
         return Err(fault_at(0, FileKind::TooLong));
@@ -54,7 +53,7 @@ fn ended(line: u32, reading: Reading) -> Result<WorldFile, Refusal<FileFault>>
 }
 
 /// The fault of this kind at a line.
-pub fn fault_at(line: u32, kind: FileKind) -> Refusal<FileFault>
+fn fault_at(line: u32, kind: FileKind) -> Refusal<FileFault>
     ensures { result ≡ Fault (fault_at line kind) }
 {
     Refusal::Fault(FileFault { kind, line })

@@ -3,8 +3,8 @@ use Rattle.lsl_lines.proofs.read_world.Goals as goal
 
 pub returns : goal.returns
 returns c = record {
-  found = found_by c.args.text.now c.play.result c.play.ensures;
-  every = every_by c.args.text.now c.play.result c.play.ensures;
-  first = first_by c.args.text.now c.play.result c.play.ensures;
-  only = only_by c.args.text.now c.play.result c.play.ensures;
+  found = found_by c.args.text.now c.read_file.result c.read_file.ensures;
+  every = every_by c.args.text.now c.read_file.result c.read_file.ensures;
+  first = first_by c.args.text.now c.read_file.result c.read_file.ensures;
+  only = only_by c.args.text.now c.read_file.result c.read_file.ensures;
 }
