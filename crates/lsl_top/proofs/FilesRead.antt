@@ -1,11 +1,12 @@
 -- From what was read of files to what their shelf holds.
-use Rattle.std.proofs.Common.{◌≡◌, ℕ, zero, suc, List, [], ◌∷◌, take, Option, Some, None, inl, inr, refl, ap, subst}
+use Rattle.std.proofs.Common.{◌≡◌, ℕ, zero, suc, List, [], ◌∷◌, take, Option, Some, None, inl, inr, refl, ap, ap₂, ◌∙◌, subst}
 use Rattle.std.specs.Prelude.{slice_get}
 use Rattle.std.specs.List.{AllZip}
 use Rattle.lsl_ports.specs.Shelf.{Files, IsHeadOf, head_of}
 use Rattle.lsl_ports.specs.Trips.{Trip}
 use Rattle.lsl_tree.specs.Program.{Program}
 use Rattle.lsl_build.specs.Accepted.{Accepted}
+use Rattle.lsl_build.specs.Codes.{AreCodesOf}
 use Rattle.lsl_build.specs.Faults.{FirstFault}
 use Rattle.lsl_build.specs.declared.faults.BuildFault.{BuildFault}
 use Rattle.lsl_top.specs.Answers.{Answer, Checks, PlaysTexts}
@@ -13,16 +14,16 @@ use Rattle.lsl_top.specs.Held.{AreHeld, Holds}
 use Rattle.lsl_top.specs.Plays.{Play}
 use Rattle.lsl_top.specs.Ports.{IsRead}
 use Rattle.lsl_top.specs.Scripts.{AreAccepted, IsRefusedAt}
-use Rattle.lsl_top.proofs.Heads.{accepted-head, first-head}
+use Rattle.lsl_top.proofs.Heads.{accepted-whole, first-head}
 
 -- what is found of the bytes that were read holds of the text
 pub record IsReadOf (bytes text : List ℕ) : Type 0 where
-  pub accepted : (program : Program) → Accepted bytes program → Accepted text program
+  pub accepted : (program : Program) → Accepted bytes program → bytes ≡ text
   pub first : (fault : BuildFault) → FirstFault bytes fault → FirstFault text fault
 
 read-head : (file bytes : List ℕ) → bytes ≡ head_of 65536 file → IsReadOf bytes file
 read-head file bytes e = record {
-  accepted = λ program a. accepted-head file program (subst (λ (z : List ℕ). Accepted z program) e a);
+  accepted = λ program a. e ∙ accepted-whole file program (subst (λ (z : List ℕ). Accepted z program) e a);
   first = λ fault f. first-head file fault (subst (λ (z : List ℕ). FirstFault z fault) e f);
 }
 
@@ -31,7 +32,7 @@ abbrev pub HasText : Option Files → List ℕ → List ℕ → Type 0
 HasText held name bytes = (text : List ℕ) × Holds held name text × IsReadOf bytes text
 
 pub text-read : (held : Option Files) (name bytes : List ℕ) → IsRead held name bytes → HasText held name bytes
-text-read None name bytes h = (bytes, tt, record { accepted = λ program a. a; first = λ fault f. f })
+text-read None name bytes h = (bytes, tt, record { accepted = λ program a. refl; first = λ fault f. f })
 text-read (Some files) name bytes h = go (files name) refl h
   where
     go : (file : Option (List ℕ)) → files name ≡ file → IsHeadOf 65536 file bytes → HasText (Some files) name bytes
@@ -52,15 +53,21 @@ texts-read held (name ∷ names) (bytes ∷ read) h =
 texts-read held [] (bytes ∷ read) h = absurd h
 texts-read held (name ∷ names) [] h = absurd h
 
+-- texts that are accepted are those that were read
+accepted-same : (read texts : List (List ℕ)) (programs : List Program) → AllZip IsReadOf read texts
+    → AreAccepted read programs → read ≡ texts
+accepted-same [] [] [] h a = refl
+accepted-same (bytes ∷ read) (text ∷ texts) (p ∷ programs) h a =
+    ap₂ (λ (x : List ℕ) (xs : List (List ℕ)). x ∷ xs) (h.0.accepted p a.0) (accepted-same read texts programs h.1 a.1)
+accepted-same [] [] (p ∷ programs) h a = absurd a
+accepted-same (bytes ∷ read) (text ∷ texts) [] h a = absurd a
+accepted-same [] (text ∷ texts) programs h a = absurd h
+accepted-same (bytes ∷ read) [] programs h a = absurd h
+
 accepted-read : (read texts : List (List ℕ)) (programs : List Program) → AllZip IsReadOf read texts
     → AreAccepted read programs → AreAccepted texts programs
-accepted-read [] [] [] h a = tt
-accepted-read (bytes ∷ read) (text ∷ texts) (p ∷ programs) h a =
-    (h.0.accepted p a.0, accepted-read read texts programs h.1 a.1)
-accepted-read [] [] (p ∷ programs) h a = absurd a
-accepted-read (bytes ∷ read) (text ∷ texts) [] h a = absurd a
-accepted-read [] (text ∷ texts) programs h a = absurd h
-accepted-read (bytes ∷ read) [] programs h a = absurd h
+accepted-read read texts programs h a =
+    subst (λ (z : List (List ℕ)). AreAccepted z programs) (accepted-same read texts programs h a) a
 
 some-one : (a b : List ℕ) → Some a ≡ Some b → a ≡ b
 some-one a b e = ap value e
@@ -103,13 +110,21 @@ refused-read read texts place fault h r =
 
 pub checks-read : (name bytes text : List ℕ) (answer : Answer) → IsReadOf bytes text → Checks name bytes answer
     → Checks name text answer
-checks-read name bytes text answer of (inl (program, accepted, e)) = inl (program, of.accepted program accepted, e)
+checks-read name bytes text answer of (inl (program, accepted, e)) =
+    inl (program, subst (λ (z : List ℕ). Accepted z program) (of.accepted program accepted) accepted, e)
 checks-read name bytes text answer of (inr (fault, first, e)) = inr (fault, of.first fault first, e)
 
 pub plays-read : (trips : List Trip) (play : Play) (read texts : List (List ℕ)) (answer : Answer) → AllZip IsReadOf read texts
     → PlaysTexts trips play read answer → PlaysTexts trips play texts answer
-plays-read trips play read texts answer h (inl (programs, accepted, e)) =
-    inl (programs, accepted-read read texts programs h accepted, e)
+plays-read trips play read texts answer h (inl (programs, codes, accepted, has, e)) =
+    let same = accepted-same read texts programs h accepted in
+    inl (
+      programs,
+      codes,
+      subst (λ (z : List (List ℕ)). AreAccepted z programs) same accepted,
+      subst (λ (z : List (List ℕ)). AreCodesOf z codes) same has,
+      e,
+    )
 plays-read trips play read texts answer h (inr (name, fault, first, e)) =
     inr (
       name,

@@ -1,83 +1,96 @@
 -- What is written for an answer, and how the command then ends.
-use Rattle.std.proofs.Common.{◌≡◌, ℕ, ◌≤◌, List, [], Option, Result, Ok as OkResult, Err, inl, inr, refl, sym, ◌∙◌, arith}
+use Rattle.std.proofs.Common.{◌≡◌, ◌≢◌, ℕ, ◌≤◌, List, [], ◌∷◌, Option, Result, Ok as OkResult, Err, inl, inr, refl, sym, ◌∙◌, subst, arith}
 use Rattle.lsl_ports.specs.Counts.{NoneFell, Rose}
 use Rattle.lsl_ports.specs.Shelf.{Files}
-use Rattle.lsl_ports.specs.Growth.{Grew}
+use Rattle.lsl_ports.specs.Growth.{Grew, GrewPartly}
 use Rattle.lsl_ports.specs.Trips.{Trip}
 use Rattle.lsl_ports.proofs.Growth.{begins-none}
 use Rattle.lsl_ports.specs.declared.reading.ShelfFault.{ShelfFault}
 use Rattle.lsl_ports.specs.declared.reading.ShelfFault.TheVariants.{Failed, NoMemory as OutOfMemory}
-use Rattle.lsl_top.specs.Answers.{Answer}
-use Rattle.lsl_top.specs.Ports.{Finishes, Log, Ports, Serves, Writes, log, ports, status_after, unread_status}
-use Rattle.lsl_top.specs.Promise.{KeepsTo}
+use Rattle.lsl_tree.specs.Program.{Program}
+use Rattle.lsl_top.specs.Answers.{Answer, plain}
+use Rattle.lsl_top.specs.Goes.{Performs}
+use Rattle.lsl_top.specs.Pieces.{Piece}
+use Rattle.lsl_top.specs.Ports.{Concludes, Finishes, IsOwn, Log, Ports, Serves, Wire, Writes, status_after, unread_status}
+use Rattle.lsl_top.specs.Promise.{IsBegun, IsWhole, KeepsTo}
 use Rattle.lsl_top.specs.declared.status.Status.{Status}
 use Rattle.lsl_top.specs.declared.status.Status.TheVariants.{Ok, Usage, BadWorld, BadScript, ReadFault, WriteFault, BadImage, NoMemory}
 use Rattle.lsl_top.specs.declared.writing.Trouble.{Trouble}
 use Rattle.lsl_top.specs.declared.writing.Trouble.TheVariants.{WriteFault as WriteTrouble, NoMemory as MemoryTrouble}
 use Rattle.lsl_top.proofs.Written.{rose-later}
+use Rattle.lsl_top.proofs.Pieces.{begun-one, whole-one}
+use Rattle.lsl_top.proofs.Trips.{went-none}
 
--- the statuses that answers have
-abbrev pub IsOwn : Status → Type 0
-IsOwn Ok = Unit {0}
-IsOwn BadWorld = Unit {0}
-IsOwn BadScript = Unit {0}
-IsOwn BadImage = Unit {0}
-IsOwn Usage = ⊥
-IsOwn ReadFault = ⊥
-IsOwn WriteFault = ⊥
-IsOwn NoMemory = ⊥
+-- what keeps to some answers keeps to answers that these are
+keeps-as : (IsOne IsOther : Answer → Type 0) (status : Status) (trips : List Trip) (old new : Option (List ℕ))
+    → ((answer : Answer) → IsOne answer → IsOther answer) → KeepsTo IsOne status trips old new
+    → KeepsTo IsOther status trips old new
+keeps-as IsOne IsOther Ok trips old new f k = (k.0, f k.0 k.1, k.2, k.3)
+keeps-as IsOne IsOther BadWorld trips old new f k = (k.0, f k.0 k.1, k.2, k.3)
+keeps-as IsOne IsOther BadScript trips old new f k = (k.0, f k.0 k.1, k.2, k.3)
+keeps-as IsOne IsOther BadImage trips old new f k = (k.0, f k.0 k.1, k.2, k.3)
+keeps-as IsOne IsOther WriteFault trips old new f k = (k.0, f k.0 k.1, k.2)
+keeps-as IsOne IsOther NoMemory trips old new f (inl e) = inl e
+keeps-as IsOne IsOther NoMemory trips old new f (inr k) = inr (k.0, f k.0 k.1, k.2)
+keeps-as IsOne IsOther Usage trips old new f k = k
+keeps-as IsOne IsOther ReadFault trips old new f k = k
 
-whole : (IsAnswer : Answer → Type 0) (answer : Answer) (a b : Log) (status : Status) → IsOwn status
-    → answer.status ≡ status → answer.sent ≡ [] → IsAnswer answer → Grew a.sunk b.sunk answer.lines
-    → a.faults ≤ b.faults → Finishes IsAnswer a b status
-whole IsAnswer answer a b Ok own e none is grew le = record {
-  keeps = (answer, is, e, grew, sym none);
-  counted = le;
-  cause = λ f. absurd (cc);
-  no_read = λ f. cc;
-  no_usage = λ f. cc;
-}
-whole IsAnswer answer a b BadWorld own e none is grew le = record {
-  keeps = (answer, is, e, grew, sym none);
-  counted = le;
-  cause = λ f. absurd (cc);
-  no_read = λ f. cc;
-  no_usage = λ f. cc;
-}
-whole IsAnswer answer a b BadScript own e none is grew le = record {
-  keeps = (answer, is, e, grew, sym none);
-  counted = le;
-  cause = λ f. absurd (cc);
-  no_read = λ f. cc;
-  no_usage = λ f. cc;
-}
-whole IsAnswer answer a b BadImage own e none is grew le = record {
-  keeps = (answer, is, e, grew, sym none);
-  counted = le;
-  cause = λ f. absurd (cc);
-  no_read = λ f. cc;
-  no_usage = λ f. cc;
-}
-whole IsAnswer answer a b Usage own e none is grew le = absurd own
-whole IsAnswer answer a b ReadFault own e none is grew le = absurd own
-whole IsAnswer answer a b WriteFault own e none is grew le = absurd own
-whole IsAnswer answer a b NoMemory own e none is grew le = absurd own
+-- an answer of one piece, which sends nothing
+plain-whole : (status : Status) (lines : List ℕ) (old new : Option (List ℕ)) → Grew old new lines
+    → IsWhole (plain status lines).pieces [] old new
+plain-whole status lines old new grew =
+    whole-one (record { lines = lines; sent = [] }) lines [] old new refl refl grew
+
+plain-begun : (status : Status) (lines : List ℕ) (old new : Option (List ℕ)) → GrewPartly old new lines
+    → IsBegun (plain status lines).pieces [] old new
+plain-begun status lines old new part =
+    begun-one (record { lines = lines; sent = [] }) lines [] old new refl (begins-none []) part
+
+own-keeps : (IsAnswer : Answer → Type 0) (answer : Answer) (trips : List Trip) (old new : Option (List ℕ))
+    (status : Status) → IsOwn status → answer.status ≡ status → IsAnswer answer
+    → IsWhole answer.pieces trips old new → KeepsTo IsAnswer status trips old new
+own-keeps IsAnswer answer trips old new Ok own e is whole = (answer, is, e, whole)
+own-keeps IsAnswer answer trips old new BadWorld own e is whole = (answer, is, e, whole)
+own-keeps IsAnswer answer trips old new BadScript own e is whole = (answer, is, e, whole)
+own-keeps IsAnswer answer trips old new BadImage own e is whole = (answer, is, e, whole)
+own-keeps IsAnswer answer trips old new Usage own e is whole = absurd own
+own-keeps IsAnswer answer trips old new ReadFault own e is whole = absurd own
+own-keeps IsAnswer answer trips old new WriteFault own e is whole = absurd own
+own-keeps IsAnswer answer trips old new NoMemory own e is whole = absurd own
+
+own-write : (status : Status) → IsOwn status → status ≢ WriteFault
+own-write status own e = subst IsOwn e own
+
+own-read : (status : Status) → IsOwn status → status ≢ ReadFault
+own-read status own e = subst IsOwn e own
+
+own-usage : (status : Status) → IsOwn status → status ≢ Usage
+own-usage status own e = subst IsOwn e own
 
 -- an answer was written, or a prefix of it
-pub finish-written : {T : Type 0} (IsAnswer : Answer → Type 0) (answer : Answer) (a b : Log) (r : Result T Trouble)
-    → IsOwn answer.status → answer.sent ≡ [] → IsAnswer answer → Writes answer.lines a b r
-    → Finishes IsAnswer a b (status_after r answer.status)
-finish-written IsAnswer answer a b (OkResult t) own none is w =
-    whole IsAnswer answer a b answer.status own refl none is w.ok w.counted
-finish-written IsAnswer answer a b (Err WriteTrouble) own none is w = record {
-  keeps = (answer, is, w.part, begins-none answer.sent);
+pub finish-written : {T : Type 0} (IsAnswer : Answer → Type 0) (status : Status) (lines : List ℕ) (a b : Log)
+    (r : Result T Trouble) → IsOwn status → IsAnswer (plain status lines) → Writes lines a b r
+    → Finishes IsAnswer a b (status_after r status)
+finish-written IsAnswer status lines a b (OkResult t) own is w = record {
+  keeps = own-keeps IsAnswer (plain status lines) [] a.sunk b.sunk status own refl is
+      (plain-whole status lines a.sunk b.sunk w.ok);
+  answers = λ h. (plain status lines, is, refl);
+  counted = w.counted;
+  cause = λ f. absurd (own-write status own f);
+  no_read = own-read status own;
+  no_usage = own-usage status own;
+}
+finish-written IsAnswer status lines a b (Err WriteTrouble) own is w = record {
+  keeps = (plain status lines, is, plain-begun status lines a.sunk b.sunk w.part);
+  answers = λ h. absurd h;
   counted = w.counted;
   cause = λ f. w.cause refl;
   no_read = λ f. cc;
   no_usage = λ f. cc;
 }
-finish-written IsAnswer answer a b (Err MemoryTrouble) own none is w = record {
-  keeps = inr (answer, is, w.part, begins-none answer.sent);
+finish-written IsAnswer status lines a b (Err MemoryTrouble) own is w = record {
+  keeps = inr (plain status lines, is, plain-begun status lines a.sunk b.sunk w.part);
+  answers = λ h. absurd h;
   counted = w.counted;
   cause = λ f. absurd (cc);
   no_read = λ f. cc;
@@ -88,34 +101,120 @@ finish-written IsAnswer answer a b (Err MemoryTrouble) own none is w = record {
 pub finish-memory : (IsAnswer : Answer → Type 0) (a : Log) → Finishes IsAnswer a a NoMemory
 finish-memory IsAnswer a = record {
   keeps = inl (refl, refl);
+  answers = λ h. absurd h;
   counted = omega arith;
   cause = λ f. absurd (cc);
   no_read = λ f. cc;
   no_usage = λ f. cc;
 }
 
--- what keeps to some answers keeps to answers that these are
-keeps-as : (IsOne IsOther : Answer → Type 0) (status : Status) (trips : List Trip) (old new : Option (List ℕ))
-    → ((answer : Answer) → IsOne answer → IsOther answer) → KeepsTo IsOne status trips old new
-    → KeepsTo IsOther status trips old new
-keeps-as IsOne IsOther Ok trips old new f k = (k.0, f k.0 k.1, k.2, k.3, k.4)
-keeps-as IsOne IsOther BadWorld trips old new f k = (k.0, f k.0 k.1, k.2, k.3, k.4)
-keeps-as IsOne IsOther BadScript trips old new f k = (k.0, f k.0 k.1, k.2, k.3, k.4)
-keeps-as IsOne IsOther BadImage trips old new f k = (k.0, f k.0 k.1, k.2, k.3, k.4)
-keeps-as IsOne IsOther WriteFault trips old new f k = (k.0, f k.0 k.1, k.2, k.3)
-keeps-as IsOne IsOther NoMemory trips old new f (inl e) = inl e
-keeps-as IsOne IsOther NoMemory trips old new f (inr k) = inr (k.0, f k.0 k.1, k.2, k.3)
-keeps-as IsOne IsOther Usage trips old new f k = k
-keeps-as IsOne IsOther ReadFault trips old new f k = k
+-- the same of what doesn't look at trips, and where the link wasn't called
+pub concludes-finished : (gives : List ℕ → Option (List ℕ) → Type 0) (IsOne : Answer → Type 0)
+    (IsAnswer : List Trip → Answer → Type 0) (a b : Log) (p : Wire) (status : Status)
+    → ((trips : List Trip) (answer : Answer) → IsOne answer → IsAnswer trips answer) → Finishes IsOne a b status
+    → Concludes gives IsAnswer a b p p status
+concludes-finished gives IsOne IsAnswer a b p status f h = record {
+  trips = [];
+  went = went-none gives p.told;
+  silent = λ e. refl;
+  keeps = λ honest. keeps-as IsOne (IsAnswer []) status [] a.sunk b.sunk (f []) h.keeps;
+  answers = λ trips own. let (answer, is, e) = h.answers own in (answer, f trips answer is, e);
+  counted = h.counted;
+  links_counted = omega arith;
+  cause = h.cause;
+  no_read = h.no_read;
+  no_usage = h.no_usage;
+}
 
-module _ (IsOne IsAnswer : Answer → Type 0) (IsName : List ℕ → Type 0) (held later : Option Files)
-    (faults counted : List ℕ → ℕ) (same : later ≡ held) (fell : NoneFell faults counted) where
-  -- the files were read, and then an answer was written
-  pub serve-finished : (sunk : Option (List ℕ)) (writes : ℕ) (new : Log) (status : Status)
-      → ((answer : Answer) → IsOne answer → IsAnswer answer) → Finishes IsOne (log sunk writes) new status
-      → Serves IsAnswer IsName (ports held faults sunk writes) (ports later counted new.sunk new.faults) status
-  serve-finished sunk writes new status f h = record {
-    keeps = keeps-as IsOne IsAnswer status [] sunk new.sunk f h.keeps;
+-- a run was written and sent, or begun
+pub concludes-performed : {T : Type 0} (gives : List ℕ → Option (List ℕ) → Type 0)
+    (IsAnswer : List Trip → Answer → Type 0) (IsRun : List Program → Type 0)
+    (pieces : List Program → List Trip → List Piece) (programs : List Program) (a b : Log) (p q : Wire)
+    (r : Result T Trouble) → IsRun programs
+    → ((trips : List Trip) → IsAnswer trips (record { status = Ok; pieces = pieces programs trips }))
+    → Performs gives IsRun pieces a b p q r → Concludes gives IsAnswer a b p q (status_after r Ok)
+concludes-performed gives IsAnswer IsRun pieces programs a b p q (OkResult t) run is h = record {
+  trips = h.trips;
+  went = h.went;
+  silent = λ e. absurd e;
+  keeps = λ honest. (
+    record { status = Ok; pieces = pieces programs h.trips },
+    is h.trips,
+    refl,
+    h.runs programs run honest,
+  );
+  answers = λ trips own. (record { status = Ok; pieces = pieces programs trips }, is trips, refl);
+  counted = h.counted;
+  links_counted = h.links_counted;
+  cause = λ f. absurd (cc);
+  no_read = λ f. cc;
+  no_usage = λ f. cc;
+}
+concludes-performed gives IsAnswer IsRun pieces programs a b p q (Err WriteTrouble) run is h = record {
+  trips = h.trips;
+  went = h.went;
+  silent = λ e. absurd e;
+  keeps = λ honest. (
+    record { status = Ok; pieces = pieces programs h.trips },
+    is h.trips,
+    h.runs programs run honest,
+  );
+  answers = λ trips own. absurd own;
+  counted = h.counted;
+  links_counted = h.links_counted;
+  cause = λ f. h.cause refl;
+  no_read = λ f. cc;
+  no_usage = λ f. cc;
+}
+concludes-performed gives IsAnswer IsRun pieces programs a b p q (Err MemoryTrouble) run is h = record {
+  trips = h.trips;
+  went = h.went;
+  silent = λ e. absurd e;
+  keeps = λ honest. inr (
+    record { status = Ok; pieces = pieces programs h.trips },
+    is h.trips,
+    h.runs programs run honest,
+  );
+  answers = λ trips own. absurd own;
+  counted = h.counted;
+  links_counted = h.links_counted;
+  cause = λ f. absurd (cc);
+  no_read = λ f. cc;
+  no_usage = λ f. cc;
+}
+
+-- there was no memory before anything was written or sent
+pub concludes-memory : (gives : List ℕ → Option (List ℕ) → Type 0) (IsAnswer : List Trip → Answer → Type 0) (a : Log)
+    (p : Wire) → Concludes gives IsAnswer a a p p NoMemory
+concludes-memory gives IsAnswer a p = record {
+  trips = [];
+  went = went-none gives p.told;
+  silent = λ e. refl;
+  keeps = λ honest. inl (refl, refl);
+  answers = λ trips own. absurd own;
+  counted = omega arith;
+  links_counted = omega arith;
+  cause = λ f. absurd (cc);
+  no_read = λ f. cc;
+  no_usage = λ f. cc;
+}
+
+module _ (gives : List ℕ → Option (List ℕ) → Type 0) (IsAnswer : List Trip → Answer → Type 0)
+    (IsName : List ℕ → Type 0) (held later : Option Files) (faults counted : List ℕ → ℕ) (same : later ≡ held)
+    (fell : NoneFell faults counted) where
+  -- the files were read, and then an answer was written and sent
+  pub serve-concluded : (IsOne : List Trip → Answer → Type 0) (a b : Log) (p q : Wire) (status : Status)
+      → ((trips : List Trip) (answer : Answer) → IsOne trips answer → IsAnswer trips answer)
+      → Concludes gives IsOne a b p q status
+      → Serves gives IsAnswer IsName (record { held = held; read_faults = faults; log = a; wire = p })
+      (record { held = later; read_faults = counted; log = b; wire = q }) status
+  serve-concluded IsOne a b p q status f h = record {
+    trips = h.trips;
+    went = h.went;
+    silent = h.silent;
+    keeps = λ honest.
+        keeps-as (IsOne h.trips) (IsAnswer h.trips) status h.trips a.sunk b.sunk (f h.trips) (h.keeps honest);
+    answers = λ trips own. let (answer, is, e) = h.answers trips own in (answer, f trips answer is, e);
     nothing = λ e. absurd (h.no_read e);
     read_fault = λ e. absurd (h.no_read e);
     write_fault = h.cause;
@@ -123,31 +222,28 @@ module _ (IsOne IsAnswer : Answer → Type 0) (IsName : List ℕ → Type 0) (he
     unchanged = same;
     reads_counted = fell;
     writes_counted = h.counted;
+    links_counted = h.links_counted;
   }
 
-module _ (IsAnswer : Answer → Type 0) (IsName : List ℕ → Type 0) (held later : Option Files)
-    (faults counted : List ℕ → ℕ) (same : later ≡ held) (fell : NoneFell faults counted) where
   -- memory lacked before anything was written
-  pub serve-memory : (sunk : Option (List ℕ)) (writes : ℕ)
-      → Serves IsAnswer IsName (ports held faults sunk writes) (ports later counted sunk writes) NoMemory
-  serve-memory sunk writes = record {
-    keeps = inl (refl, refl);
-    nothing = λ e. absurd (cc);
-    read_fault = λ e. absurd (cc);
-    write_fault = λ e. absurd (cc);
-    no_usage = λ e. cc;
-    unchanged = same;
-    reads_counted = fell;
-    writes_counted = omega arith;
-  }
+  pub serve-memory : (a : Log) (p : Wire)
+      → Serves gives IsAnswer IsName (record { held = held; read_faults = faults; log = a; wire = p })
+      (record { held = later; read_faults = counted; log = a; wire = p }) NoMemory
+  serve-memory a p =
+      serve-concluded IsAnswer a a p p NoMemory (λ trips answer is. is) (concludes-memory gives IsAnswer a p)
 
   -- a file wasn't read
-  pub serve-unread : (sunk : Option (List ℕ)) (writes : ℕ) (fault : ShelfFault)
+  pub serve-unread : (a : Log) (p : Wire) (fault : ShelfFault)
       → (fault ≡ Failed → (name : List ℕ) × IsName name × Rose (faults name) (counted name))
-      → Serves IsAnswer IsName (ports held faults sunk writes) (ports later counted sunk writes) (unread_status fault)
-  serve-unread sunk writes OutOfMemory rose = serve-memory sunk writes
-  serve-unread sunk writes Failed rose = record {
-    keeps = refl;
+      → Serves gives IsAnswer IsName (record { held = held; read_faults = faults; log = a; wire = p })
+      (record { held = later; read_faults = counted; log = a; wire = p }) (unread_status fault)
+  serve-unread a p OutOfMemory rose = serve-memory a p
+  serve-unread a p Failed rose = record {
+    trips = [];
+    went = went-none gives p.told;
+    silent = λ e. refl;
+    keeps = λ honest. tt;
+    answers = λ trips own. absurd own;
     nothing = λ e. refl;
     read_fault = λ e. rose refl;
     write_fault = λ e. absurd (cc);
@@ -155,17 +251,24 @@ module _ (IsAnswer : Answer → Type 0) (IsName : List ℕ → Type 0) (held lat
     unchanged = same;
     reads_counted = fell;
     writes_counted = omega arith;
+    links_counted = omega arith;
   }
 
--- a file was read before, and nothing was written yet
-pub serve-later : (IsOne IsAnswer : Answer → Type 0) (IsOneName IsName : List ℕ → Type 0) (held later : Option Files)
-    (faults counted : List ℕ → ℕ) (sunk : Option (List ℕ)) (writes : ℕ) (new : Ports) (status : Status)
-    → later ≡ held → NoneFell faults counted → ((answer : Answer) → IsOne answer → IsAnswer answer)
+-- a file was read before, and nothing was written or sent yet
+pub serve-later : (gives : List ℕ → Option (List ℕ) → Type 0) (IsOne IsAnswer : List Trip → Answer → Type 0)
+    (IsOneName IsName : List ℕ → Type 0) (held later : Option Files) (faults counted : List ℕ → ℕ) (a : Log) (p : Wire)
+    (new : Ports) (status : Status) → later ≡ held → NoneFell faults counted
+    → ((trips : List Trip) (answer : Answer) → IsOne trips answer → IsAnswer trips answer)
     → ((name : List ℕ) → IsOneName name → IsName name)
-    → Serves IsOne IsOneName (ports later counted sunk writes) new status
-    → Serves IsAnswer IsName (ports held faults sunk writes) new status
-serve-later IsOne IsAnswer IsOneName IsName held later faults counted sunk writes new status same fell f g h = record {
-  keeps = keeps-as IsOne IsAnswer status [] sunk new.log.sunk f h.keeps;
+    → Serves gives IsOne IsOneName (record { held = later; read_faults = counted; log = a; wire = p }) new status
+    → Serves gives IsAnswer IsName (record { held = held; read_faults = faults; log = a; wire = p }) new status
+serve-later gives IsOne IsAnswer IsOneName IsName held later faults counted a p new status same fell f g h = record {
+  trips = h.trips;
+  went = h.went;
+  silent = h.silent;
+  keeps = λ honest.
+      keeps-as (IsOne h.trips) (IsAnswer h.trips) status h.trips a.sunk new.log.sunk (f h.trips) (h.keeps honest);
+  answers = λ trips own. let (answer, is, e) = h.answers trips own in (answer, f trips answer is, e);
   nothing = h.nothing;
   read_fault = λ e. let (name, is, rose) = h.read_fault e in (
     name,
@@ -176,6 +279,7 @@ serve-later IsOne IsAnswer IsOneName IsName held later faults counted sunk write
   write_fault = h.write_fault;
   no_usage = h.no_usage;
   unchanged = h.unchanged ∙ same;
-  reads_counted = λ name. let a = fell name in let b = h.reads_counted name in omega arith;
+  reads_counted = λ name. let x = fell name in let y = h.reads_counted name in omega arith;
   writes_counted = h.writes_counted;
+  links_counted = h.links_counted;
 }

@@ -1,17 +1,30 @@
 -- Steps that go one by one.
-use Rattle.std.proofs.Common.{◌≡◌, ℕ, zero, suc, ◌+◌, ◌<◌, List, [], ◌∷◌, ◌++◌, take, drop, get_or, length, Option, Result, Ok as OkResult, Err, refl, ap, sym, ◌∙◌, subst, arith, append-nil}
+use Rattle.std.proofs.Common.{◌≡◌, ℕ, ◌+◌, ◌<◌, ◌≤◌, List, [], ◌∷◌, ◌++◌, drop, get_or, length, Option, Result, Ok as OkResult, Err, refl, ap, sym, ◌∙◌, subst, arith, append-nil}
+use Rattle.std.specs.Prelude.{MatchResult}
 use Rattle.std.proofs.lemmas.List.{drop_more}
-use Rattle.lsl_ports.specs.Growth.{Begins, Grew, GrewPartly}
-use Rattle.lsl_ports.proofs.Growth.{begins-after, begins-all, begins-is, begins-more, begins-none, grew-is, grew-none, grew-then, partly-begins}
+use Rattle.lsl_code.specs.declared.woven_units.Woven.{Woven as Code}
+use Rattle.lsl_ports.specs.Growth.{Begins}
+use Rattle.lsl_ports.specs.Trips.{Honest, Trip, Went, sent_of}
+use Rattle.lsl_ports.proofs.Growth.{begins-none, grew-none}
+use Rattle.lsl_image.specs.Images.{IsIntact}
+use Rattle.lsl_tree.specs.Program.{Program}
 use Rattle.lsl_lines.specs.Journal.{lines_of}
 use Rattle.lsl_lines.specs.declared.file.Step.{Step}
 use Rattle.lsl_post.specs.declared.entries.Entry.{Entry}
-use Rattle.lsl_post.specs.Told.{Told, each_of}
-use Rattle.lsl_top.specs.Goes.{Done, Goes, Runs, Stopped}
-use Rattle.lsl_top.specs.Ports.{Log, Writes}
+use Rattle.lsl_post.specs.Told.{Told}
+use Rattle.lsl_script.specs.Rules.{Rules}
+use Rattle.lsl_region.specs.Worlds.{World}
+use Rattle.lsl_world.specs.Programs.{rules_of}
+use Rattle.lsl_world.specs.Travels.{Does, go_on, images_of, left, travel}
+use Rattle.lsl_top.specs.Goes.{Done, Goes, Runs}
+use Rattle.lsl_top.specs.Pieces.{Piece, sent_in, step_piece, step_pieces}
+use Rattle.lsl_top.specs.Ports.{Log, Wire, Writes}
+use Rattle.lsl_top.specs.Promise.{IsBegun, IsWhole}
 use Rattle.lsl_top.specs.declared.writing.Trouble.{Trouble}
 use Rattle.lsl_top.specs.declared.writing.Trouble.TheVariants.{NoMemory}
-use Rattle.lsl_top.proofs.Written.{lines-append, rose-later}
+use Rattle.lsl_top.proofs.Pieces.{begun-more, begun-one, begun-then, whole-none, whole-one, whole-then}
+use Rattle.lsl_top.proofs.Trips.{go_on-then, honest-first, honest-second, left-then, went-none, went-then}
+use Rattle.lsl_top.proofs.Written.{rose-later}
 
 -- the step at a place is the first of those that are left
 pub step-here : (steps : List Step) (place : ℕ) (step : Step) → place < length steps → step ≡ get_or steps place step
@@ -19,202 +32,217 @@ pub step-here : (steps : List Step) (place : ℕ) (step : Step) → place < leng
 step-here steps place step lt is =
     drop_more steps place step lt ∙ ap (λ (s : Step). s ∷ drop (place + 1) steps) (sym is)
 
-module _ {X : Type 0} (does : Step → X → Told X) where
-  -- what several steps come to begins with what the first comes to
-  entries-cons : (step : Step) (rest : List Step) (x : X)
-      → lines_of (each_of does (step ∷ rest) x).entries
-      ≡ lines_of (does step x).entries ++ lines_of (each_of does rest (does step x).value).entries
-  unfolding each_of
-  entries-cons step rest x = lines-append (does step x).entries (each_of does rest (does step x).value).entries
+module _ (codes : List Code) (r : Rules) (w : World) where
+  value-none : (trips : List Trip) → (travel r [] trips w).value ≡ w
+  unfolding travel
+  value-none trips = refl
 
-  value-cons : (step : Step) (rest : List Step) (x : X)
-      → (each_of does (step ∷ rest) x).value ≡ (each_of does rest (does step x).value).value
-  unfolding each_of
-  value-cons step rest x = refl
+  pieces-none : (trips : List Trip) → step_pieces codes r [] trips w ≡ []
+  unfolding step_pieces
+  pieces-none trips = refl
 
-  value-one : (step : Step) (x : X) → (each_of does (step ∷ []) x).value ≡ (does step x).value
-  unfolding each_of
-  value-one step x = refl
+  value-one : (step : Step) (trips : List Trip) → (travel r (step ∷ []) trips w).value ≡ (go_on r step trips w).value
+  unfolding travel
+  value-one step trips = refl
 
-  entries-one : (step : Step) (x : X) → (each_of does (step ∷ []) x).entries ≡ (does step x).entries
-  unfolding each_of
-  entries-one step x = append-nil (does step x).entries
+  pieces-one : (step : Step) (trips : List Trip)
+      → step_pieces codes r (step ∷ []) trips w ≡ step_piece codes r step trips w ∷ []
+  unfolding step_pieces
+  pieces-one step trips = refl
 
-  value-none : (x : X) → (each_of does [] x).value ≡ x
-  unfolding each_of
-  value-none x = refl
+  pieces-first : (step : Step) (rest : List Step) (trips : List Trip)
+      → step_pieces codes r (step ∷ rest) trips w
+      ≡ (step_piece codes r step trips w ∷ [])
+      ++ step_pieces codes r rest (left step w trips) (go_on r step trips w).value
+  unfolding step_pieces
+  pieces-first step rest trips = refl
 
-  entries-none : (x : X) → (each_of does [] x).entries ≡ []
-  unfolding each_of
-  entries-none x = refl
+  -- where a step made its trips, and others follow
+  module _ (step : Step) (rest : List Step) (ts us : List Trip) (sent : sent_of ts ≡ images_of codes step w) where
+    as_told : Told World → List Trip → List Piece
+    as_told a trips =
+        (record { lines = lines_of a.entries; sent = images_of codes step w } ∷ [])
+        ++ step_pieces codes r rest trips a.value
 
-  -- the lines of the first steps are the first lines
-  pub entries-begin : (n : ℕ) (steps : List Step) (x : X)
-      → Begins (lines_of (each_of does (take n steps) x).entries) (lines_of (each_of does steps x).entries)
-  entries-begin zero steps x =
-      subst (λ (es : List Entry). Begins (lines_of es) (lines_of (each_of does steps x).entries)) (sym (entries-none x))
-      (begins-none (lines_of (each_of does steps x).entries))
-  entries-begin (suc n) [] x = begins-all (lines_of (each_of does [] x).entries)
-  entries-begin (suc n) (step ∷ rest) x =
-      let y = (does step x).value in
-      let es = lines_of (does step x).entries in
-      let some = lines_of (each_of does (take n rest) y).entries in
-      let all = lines_of (each_of does rest y).entries in
-      subst (λ (z : List ℕ). Begins z (lines_of (each_of does (step ∷ rest) x).entries))
-      (sym (entries-cons step (take n rest) x))
-      (begins-is (es ++ some) (es ++ all) _ (begins-after es some all (entries-begin n rest y))
-      (sym (entries-cons step rest x)))
+    pub pieces-then : step_pieces codes r (step ∷ rest) (ts ++ us) w
+        ≡ (step_piece codes r step ts w ∷ []) ++ step_pieces codes r rest us (go_on r step ts w).value
+    unfolding as_told
+    pieces-then =
+        pieces-first step rest (ts ++ us)
+        ∙ ap (λ (a : Told World). as_told a (left step w (ts ++ us))) (go_on-then codes r step ts us w sent)
+        ∙ ap (λ (trips : List Trip). as_told (go_on r step ts w) trips) (left-then codes r step ts us w sent)
 
+    pub value-then : (travel r (step ∷ rest) (ts ++ us) w).value ≡ (travel r rest us (go_on r step ts w).value).value
+    unfolding travel
+    value-then =
+        ap (λ (a : Told World). (travel r rest (left step w (ts ++ us)) a.value).value)
+        (go_on-then codes r step ts us w sent)
+        ∙ ap (λ (trips : List Trip). (travel r rest trips (go_on r step ts w).value).value)
+        (left-then codes r step ts us w sent)
+
+module _ (gives : List ℕ → Option (List ℕ) → Type 0) (codes : List Code) where
   -- nothing is left to do
-  pub goes-none : {T : Type 0} (t : T) (steps : List Step) (IsNow : X → Type 0) (a : Log) → steps ≡ []
-      → Goes does IsNow IsNow steps a a (OkResult t)
-  goes-none t steps IsNow a none = rw none (record {
-    runs = λ x is. record {
-      value = subst IsNow (sym (value-none x)) is;
-      written = subst (λ (es : List Entry). Grew a.sunk a.sunk (lines_of es)) (sym (entries-none x))
-          (grew-none a.sunk);
+  pub goes-none : {T : Type 0} (t : T) (steps : List Step) (IsNow : List Program → World → Type 0) (a : Log) (p : Wire)
+      → steps ≡ [] → Goes gives codes IsNow IsNow steps a a p p (OkResult t)
+  goes-none t steps IsNow a p none = rw none (record {
+    trips = [];
+    went = went-none gives p.told;
+    runs = λ programs w is honest. record {
+      value = subst (IsNow programs) (sym (value-none codes (rules_of programs) w [])) is;
+      whole = subst (λ (z : List Piece). IsWhole z [] a.sunk a.sunk)
+          (sym (pieces-none codes (rules_of programs) w [])) (whole-none a.sunk);
     };
     counted = omega arith;
+    links_counted = omega arith;
     cause = λ f. absurd (cc);
   })
 
-  -- a step lacked memory
-  pub goes-memory : {T : Type 0} (step : Step) (IsThen IsNow : X → Type 0) (a : Log)
-      → Goes {T = T} does IsThen IsNow (step ∷ []) a a (Err NoMemory)
-  goes-memory step IsThen IsNow a = record {
-    runs = λ x is. record {
-      done = 0;
-      within = omega arith;
-      added = [];
-      grew = grew-none a.sunk;
-      written = subst (λ (es : List Entry). Begins (lines_of es) []) (sym (entries-none x)) (begins-none []);
-      part = begins-none (lines_of (each_of does (step ∷ []) x).entries);
-      last = λ f. absurd (cc);
-    };
-    counted = omega arith;
-    cause = λ f. absurd (cc);
-  }
+  module _ (step : Step) (IsThen IsNow : List Program → World → Type 0) (a : Log) (p q : Wire) (trips : List Trip)
+      (went : Went gives p.told q.told trips) (linked : p.faults ≤ q.faults) where
+    -- a step lacked memory
+    pub goes-memory : {T U E : Type 0} (e : E) (old new : List Entry)
+        → ((programs : List Program) (w : World) → IsThen programs w
+        → Does {T = U} codes (rules_of programs) (IsNow programs) step w trips old new (Err e))
+        → Goes {T = T} gives codes IsThen IsNow (step ∷ []) a a p q (Err NoMemory)
+    goes-memory e old new does = record {
+      trips = trips;
+      went = went;
+      runs = λ programs w is honest.
+          subst (λ (z : List Piece). IsBegun z trips a.sunk a.sunk)
+          (sym (pieces-one codes (rules_of programs) w step trips))
+          (begun-lacks programs w (does programs w is).sent);
+      counted = omega arith;
+      links_counted = linked;
+      cause = λ f. absurd (cc);
+    }
+      where
+        begun-lacks : (programs : List Program) (w : World) → Begins (sent_of trips) (images_of codes step w)
+            → IsBegun (step_piece codes (rules_of programs) step trips w ∷ []) trips a.sunk a.sunk
+        begun-lacks programs w sent =
+            let piece = step_piece codes (rules_of programs) step trips w in
+            begun-one piece piece.lines trips a.sunk a.sunk refl sent
+            (record { added = []; grew = grew-none a.sunk; begins = begins-none piece.lines })
 
-  -- a step was done, and these were its entries, whose lines were to be written
-  pub goes-written : {T : Type 0} (step : Step) (entries : List Entry) (IsThen IsNow : X → Type 0) (a b : Log)
-      (r : Result T Trouble)
-      → ((x : X) → IsThen x → IsNow (does step x).value × (entries ≡ (does step x).entries))
-      → Writes (lines_of entries) a b r → Goes does IsThen IsNow (step ∷ []) a b r
-  goes-written step entries IsThen IsNow a b (OkResult t) told w = record {
-    runs = λ x is. record {
-      value = subst IsNow (sym (value-one step x)) (told x is).0;
-      written = grew-is a.sunk b.sunk (lines_of entries) _ w.ok
-          (ap lines_of ((told x is).1 ∙ sym (entries-one step x)));
-    };
-    counted = w.counted;
-    cause = w.cause;
-  }
-  goes-written step entries IsThen IsNow a b (Err e) told w = record {
-    runs = λ x is. record {
-      done = 0;
-      within = omega arith;
-      added = w.part.added;
-      grew = w.part.grew;
-      written = subst (λ (es : List Entry). Begins (lines_of es) w.part.added) (sym (entries-none x))
-          (begins-none w.part.added);
-      part = begins-is w.part.added (lines_of entries) _ w.part.begins
-          (ap lines_of ((told x is).1 ∙ sym (entries-one step x)));
-      last = λ f. subst IsNow (sym (value-one step x)) (told x is).0;
-    };
-    counted = w.counted;
-    cause = w.cause;
-  }
+    -- a step was done, and these were its entries, whose lines were to be written
+    pub goes-written : {T U E : Type 0} (u : U) (before entries these : List Entry) (b : Log) (r : Result T Trouble)
+        → before ≡ [] → these ≡ entries
+        → ((programs : List Program) (w : World) → IsThen programs w
+        → Does {E = E} codes (rules_of programs) (IsNow programs) step w trips before entries (OkResult u))
+        → Writes (lines_of these) a b r → Goes gives codes IsThen IsNow (step ∷ []) a b p q r
+    goes-written {T = T} u before entries these b r none are does written = record {
+      trips = trips;
+      went = went;
+      runs = λ programs w is honest.
+          let d = does programs w is in
+          let told = d.tells honest in
+          goes r programs w told.0
+          (ap lines_of (are ∙ told.1 ∙ ap (λ (es : List Entry). es ++ (go_on (rules_of programs) step trips w).entries)
+          none))
+          d.sent written;
+      counted = written.counted;
+      links_counted = linked;
+      cause = written.cause;
+    }
+      where
+        goes : (r : Result T Trouble) (programs : List Program) (w : World)
+            → IsNow programs (go_on (rules_of programs) step trips w).value
+            → lines_of these ≡ lines_of (go_on (rules_of programs) step trips w).entries
+            → sent_of trips ≡ images_of codes step w → Writes (lines_of these) a b r
+            → Runs codes (rules_of programs) (IsNow programs) (step ∷ []) w trips a.sunk b.sunk r
+        goes (OkResult t) programs w is same sent written = record {
+          value = subst (IsNow programs) (sym (value-one codes (rules_of programs) w step trips)) is;
+          whole = subst (λ (z : List Piece). IsWhole z trips a.sunk b.sunk)
+              (sym (pieces-one codes (rules_of programs) w step trips))
+              (whole-one (step_piece codes (rules_of programs) step trips w) (lines_of these) trips a.sunk b.sunk
+              same sent written.ok);
+        }
+        goes (Err e) programs w is same sent written =
+            subst (λ (z : List Piece). IsBegun z trips a.sunk b.sunk)
+            (sym (pieces-one codes (rules_of programs) w step trips))
+            (begun-one (step_piece codes (rules_of programs) step trips w) (lines_of these) trips a.sunk b.sunk same
+            (record { others = []; whole = append-nil (sent_of trips) ∙ sent }) written.part)
 
   -- a step stopped, whatever was left to do behind it
-  pub goes-stop : {T : Type 0} (step : Step) (rest steps : List Step) (IsThen IsNow : X → Type 0) (a b : Log)
-      (e : Trouble) → steps ≡ step ∷ rest → Goes {T = T} does IsThen IsNow (step ∷ []) a b (Err e)
-      → Goes {T = T} does IsThen IsNow steps a b (Err e)
-  goes-stop step rest steps IsThen IsNow a b e are one = rw are (record {
-    runs = λ x is. behind x (one.runs x is);
+  pub goes-stop : {T : Type 0} (step : Step) (rest steps : List Step) (IsThen IsNow : List Program → World → Type 0)
+      (a b : Log) (p q : Wire) (e : Trouble) → steps ≡ step ∷ rest
+      → Goes {T = T} gives codes IsThen IsNow (step ∷ []) a b p q (Err e)
+      → Goes {T = T} gives codes IsThen IsNow steps a b p q (Err e)
+  goes-stop step rest steps IsThen IsNow a b p q e are one = rw are (record {
+    trips = one.trips;
+    went = one.went;
+    runs = λ programs w is honest.
+        let r = rules_of programs in
+        let piece = step_piece codes r step one.trips w in
+        subst (λ (z : List Piece). IsBegun z one.trips a.sunk b.sunk)
+        (sym (pieces-first codes r w step rest one.trips))
+        (begun-more (piece ∷ [])
+        (step_pieces codes r rest (left step w one.trips) (go_on r step one.trips w).value) one.trips a.sunk b.sunk
+        (subst (λ (z : List Piece). IsBegun z one.trips a.sunk b.sunk) (pieces-one codes r w step one.trips)
+        (one.runs programs w is honest)));
     counted = one.counted;
+    links_counted = one.links_counted;
     cause = one.cause;
   })
-    where
-      first : (x : X) (s : Stopped does IsNow (step ∷ []) x a.sunk b.sunk e) (n : ℕ) → s.done ≡ n
-          → Stopped does IsNow (step ∷ rest) x a.sunk b.sunk e
-      first x s zero is = record {
-        done = 0;
-        within = omega arith;
-        added = s.added;
-        grew = s.grew;
-        written = subst (λ (n : ℕ). Begins (lines_of (each_of does (take n (step ∷ [])) x).entries) s.added) is
-            s.written;
-        part = subst (λ (n : ℕ). Begins s.added (lines_of (each_of does (take (suc n) (step ∷ [])) x).entries)) is
-            s.part;
-        last = λ f. subst (λ (n : ℕ). IsNow (each_of does (take (suc n) (step ∷ [])) x).value) is (s.last f);
-      }
-      first x s (suc n) is = let within = s.within in absurd (omega arith)
-
-      behind : (x : X) → Stopped does IsNow (step ∷ []) x a.sunk b.sunk e
-          → Stopped does IsNow (step ∷ rest) x a.sunk b.sunk e
-      behind x s = first x s s.done refl
 
   -- a step was done, and then all that is left, or as far as that went
-  pub goes-then : {T U : Type 0} (u : U) (step : Step) (rest steps : List Step) (IsThen IsNow IsLast : X → Type 0)
-      (a b c : Log) (r : Result T Trouble) → steps ≡ step ∷ rest → Goes does IsThen IsNow (step ∷ []) a b (OkResult u)
-      → Goes does IsNow IsLast rest b c r → Goes does IsThen IsLast steps a c r
-  goes-then {T = T} u step rest steps IsThen IsNow IsLast a b c r are one others = rw are (record {
-    runs = λ x is. let d = one.runs x is in
-        runs r x (subst (λ (es : List Entry). Grew a.sunk b.sunk (lines_of es)) (entries-one step x) d.written)
-        (others.runs (does step x).value (subst IsNow (value-one step x) d.value));
+  pub goes-then : {T U : Type 0} (u : U) (step : Step) (rest steps : List Step)
+      (IsThen IsNow IsLast : List Program → World → Type 0) (a b c : Log) (p q s : Wire) (result : Result T Trouble)
+      → steps ≡ step ∷ rest → Goes gives codes IsThen IsNow (step ∷ []) a b p q (OkResult u)
+      → Goes gives codes IsNow IsLast rest b c q s result → Goes gives codes IsThen IsLast steps a c p s result
+  goes-then {T = T} u step rest steps IsThen IsNow IsLast a b c p q s result are one others = rw are (record {
+    trips = one.trips ++ others.trips;
+    went = went-then gives p.told q.told s.told one.trips others.trips one.went others.went;
+    runs = λ programs w is honest.
+        let r = rules_of programs in
+        let d = one.runs programs w is (honest-first one.trips others.trips honest) in
+        let whole = subst (λ (z : List Piece). IsWhole z one.trips a.sunk b.sunk)
+        (pieces-one codes r w step one.trips) d.whole in
+        runs result programs w whole
+        (others.runs programs (go_on r step one.trips w).value
+        (subst (IsNow programs) (value-one codes r w step one.trips) d.value)
+        (honest-second one.trips others.trips honest));
     counted = let le = one.counted in let more = others.counted in omega arith;
+    links_counted = let le = one.links_counted in let more = others.links_counted in omega arith;
     cause = λ f. rose-later a.faults b.faults c.faults one.counted others.counted (others.cause f);
   })
     where
-      runs : (r : Result T Trouble) (x : X) → Grew a.sunk b.sunk (lines_of (does step x).entries)
-          → Runs does IsLast rest (does step x).value b.sunk c.sunk r
-          → Runs does IsLast (step ∷ rest) x a.sunk c.sunk r
-      runs (OkResult t) x grew d =
-          let es = lines_of (does step x).entries in
-          let others = lines_of (each_of does rest (does step x).value).entries in
+      runs : (result : Result T Trouble) (programs : List Program) (w : World)
+          → IsWhole (step_piece codes (rules_of programs) step one.trips w ∷ []) one.trips a.sunk b.sunk
+          → Runs codes (rules_of programs) (IsLast programs) rest
+          (go_on (rules_of programs) step one.trips w).value others.trips b.sunk c.sunk result
+          → Runs codes (rules_of programs) (IsLast programs) (step ∷ rest) w (one.trips ++ others.trips) a.sunk c.sunk
+          result
+      runs (OkResult t) programs w whole d =
+          let r = rules_of programs in
+          let sent = whole.sent ∙ append-nil (images_of codes step w) in
+          let first = step_piece codes r step one.trips w ∷ [] in
+          let second = step_pieces codes r rest others.trips (go_on r step one.trips w).value in
           record {
-            value = subst IsLast (sym (value-cons step rest x)) d.value;
-            written = grew-is a.sunk c.sunk (es ++ others) _ (grew-then a.sunk b.sunk c.sunk es others grew d.written)
-                (sym (entries-cons step rest x));
+            value = subst (IsLast programs)
+                (sym (value-then codes r w step rest one.trips others.trips sent)) d.value;
+            whole = subst (λ (z : List Piece). IsWhole z (one.trips ++ others.trips) a.sunk c.sunk)
+                (sym (pieces-then codes r w step rest one.trips others.trips sent))
+                (whole-then first second one.trips others.trips a.sunk b.sunk c.sunk whole d.whole);
           }
-      runs (Err e) x grew s =
-          let y = (does step x).value in
-          let es = lines_of (does step x).entries in
-          record {
-            done = suc s.done;
-            within = let within = s.within in omega arith;
-            added = es ++ s.added;
-            grew = grew-then a.sunk b.sunk c.sunk es s.added grew s.grew;
-            written = subst (λ (z : List ℕ). Begins z (es ++ s.added)) (sym (entries-cons step (take s.done rest) x))
-                (begins-after es (lines_of (each_of does (take s.done rest) y).entries) s.added s.written);
-            part = subst (λ (z : List ℕ). Begins (es ++ s.added) z) (sym (entries-cons step (take (suc s.done) rest) x))
-                (begins-after es s.added (lines_of (each_of does (take (suc s.done) rest) y).entries) s.part);
-            last = λ f. subst IsLast (sym (value-cons step (take (suc s.done) rest) x)) (s.last f);
-          }
+      runs (Err e) programs w whole d =
+          let r = rules_of programs in
+          let sent = whole.sent ∙ append-nil (images_of codes step w) in
+          let first = step_piece codes r step one.trips w ∷ [] in
+          let second = step_pieces codes r rest others.trips (go_on r step one.trips w).value in
+          subst (λ (z : List Piece). IsBegun z (one.trips ++ others.trips) a.sunk c.sunk)
+          (sym (pieces-then codes r w step rest one.trips others.trips sent))
+          (begun-then first second one.trips others.trips a.sunk b.sunk c.sunk whole d)
 
-  -- steps that stopped wrote first ones of all lines
-  stopped-partly : (IsNow : X → Type 0) (steps : List Step) (x : X) (old new : Option (List ℕ)) (e : Trouble)
-      (more all : List ℕ) → lines_of (each_of does steps x).entries ++ more ≡ all
-      → Stopped does IsNow steps x old new e → GrewPartly old new all
-  stopped-partly IsNow steps x old new e more all same s =
-      let lines = lines_of (each_of does steps x).entries in
-      let rest = entries-begin (suc s.done) steps x in
-      partly-begins old new s.added all s.grew
-      (begins-is s.added (lines ++ more) all
-      (begins-more s.added lines more
-      (begins-is s.added _ lines (begins-more s.added _ rest.others s.part) rest.whole)) same)
+  pub goes-of : {T : Type 0} (done steps : List Step) (IsThen IsNow : List Program → World → Type 0) (a b : Log)
+      (p q : Wire) (result : Result T Trouble) → done ≡ steps → Goes gives codes IsThen IsNow done a b p q result
+      → Goes gives codes IsThen IsNow steps a b p q result
+  goes-of done steps IsThen IsNow a b p q result are goes =
+      subst (λ (ss : List Step). Goes gives codes IsThen IsNow ss a b p q result) are goes
 
-  pub writes-stopped : {T : Type 0} (IsThen IsNow : X → Type 0) (done steps : List Step) (x : X) (a b : Log)
-      (e : Trouble) (more all : List ℕ) → done ≡ steps → lines_of (each_of does steps x).entries ++ more ≡ all
-      → IsThen x → Goes {T = T} does IsThen IsNow done a b (Err e) → Writes {T = T} all a b (Err e)
-  writes-stopped IsThen IsNow done steps x a b e more all are same is goes = record {
-    ok = tt;
-    part = stopped-partly IsNow steps x a.sunk b.sunk e more all same
-        (subst (λ (ss : List Step). Stopped does IsNow ss x a.sunk b.sunk e) are (goes.runs x is));
-    counted = goes.counted;
-    cause = goes.cause;
-  }
-
-  pub done-of : (IsNow : X → Type 0) (done steps : List Step) (x : X) (old new : Option (List ℕ)) → done ≡ steps
-      → Done does IsNow done x old new → Done does IsNow steps x old new
-  done-of IsNow done steps x old new are d = subst (λ (ss : List Step). Done does IsNow ss x old new) are d
+-- by the same code
+pub goes-units : {T : Type 0} (gives : List ℕ → Option (List ℕ) → Type 0) (codes others : List Code) (steps : List Step)
+    (IsThen IsNow : List Program → World → Type 0) (a b : Log) (p q : Wire) (result : Result T Trouble)
+    → codes ≡ others → Goes gives codes IsThen IsNow steps a b p q result
+    → Goes gives others IsThen IsNow steps a b p q result
+goes-units {T = T} gives codes others steps IsThen IsNow a b p q result same goes =
+    subst (λ (units : List Code). Goes {T = T} gives units IsThen IsNow steps a b p q result) same goes

@@ -18,11 +18,11 @@ head_short file short = take_all 65537 file (omega arith)
 head_long : (file : List ℕ) → 65536 < length file → 65536 < length (head_of 65536 file)
 head_long file long = omega (arith, length-take 65537 file)
 
-pub accepted-head : (file : List ℕ) (program : Program) → Accepted (head_of 65536 file) program → Accepted file program
-accepted-head file program accepted =
-    let whole : head_of 65536 file ≡ file =
-    take_all 65537 file (omega (arith, length-take 65537 file, accepted.1.lexed.source.short)) in
-    subst (λ (z : List ℕ). Accepted z program) whole accepted
+-- what is accepted is all of the file
+pub accepted-whole : (file : List ℕ) (program : Program) → Accepted (head_of 65536 file) program
+    → head_of 65536 file ≡ file
+accepted-whole file program accepted =
+    take_all 65537 file (omega (arith, length-take 65537 file, accepted.1.lexed.source.short))
 
 -- bytes that are too many have the lexical fault of that, and no other
 long_fault : (head file : List ℕ) (fault : LexFault) → 65536 < length head → 65536 < length file

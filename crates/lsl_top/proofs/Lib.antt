@@ -3,8 +3,13 @@ pub mod Heads
 pub mod OneText
 pub mod FilesRead
 pub mod WorldRead
+pub mod OneCode
 pub mod OneAnswer
+pub mod Journals
 pub mod Written
+pub mod Pieces
+pub mod Trips
+pub mod Performing
 pub mod Goings
 pub mod Zips
 pub mod Ascii

@@ -4,15 +4,15 @@ use Rattle.std.specs.Prelude.{slice_get}
 use Rattle.std.proofs.lemmas.Bool.{cases_lt}
 use Rattle.lsl_ports.specs.Shelf.{Files}
 use Rattle.lsl_ports.specs.Trips.{Trip}
+use Rattle.lsl_code.specs.declared.woven_units.Woven.{Woven as Code}
 use Rattle.lsl_tree.specs.Program.{Program}
 use Rattle.lsl_build.specs.Accepted.{Accepted}
+use Rattle.lsl_build.specs.Codes.{AreCodesOf}
 use Rattle.lsl_build.specs.Faults.{FirstFault}
 use Rattle.lsl_build.specs.declared.faults.BuildFault.{BuildFault}
 use Rattle.lsl_build.proofs.Accepted.{one_program}
 use Rattle.lsl_build.proofs.FirstFault.{one_fault}
-use Rattle.lsl_lines.specs.NotYet.{IsPlayable, PlayFirst}
-use Rattle.lsl_lines.specs.World.{fault_at}
-use Rattle.lsl_lines.specs.declared.faults.FileKind.TheVariants.{NotYet}
+use Rattle.lsl_lines.specs.World.{FileFirst, IsWorld}
 use Rattle.lsl_lines.specs.declared.faults.FileFault.{FileFault}
 use Rattle.lsl_lines.specs.declared.file.WorldFile.{WorldFile}
 use Rattle.lsl_top.specs.Answers.{Answer, Answers, Checks, Plays, PlaysTexts, Replays, run_answer, script_refused, world_refused}
@@ -20,6 +20,7 @@ use Rattle.lsl_top.specs.Held.{AreHeld, Holds}
 use Rattle.lsl_top.specs.Plays.{Play, play_of, play_of_once}
 use Rattle.lsl_top.specs.Scripts.{AreAccepted, FirstRefused, IsRefusedAt}
 use Rattle.lsl_top.specs.Words.{Command, Once, Check, Replay}
+use Rattle.lsl_top.proofs.OneCode.{codes-one}
 use Rattle.lsl_top.proofs.OneText.{no_fault}
 
 some-one : (a b : List ℕ) → Some a ≡ Some b → a ≡ b
@@ -107,15 +108,32 @@ refused-one names texts n m f g r s =
 
 plays-texts-one : (trips : List Trip) (play : Play) (texts : List (List ℕ)) (a b : Answer)
     → PlaysTexts trips play texts a → PlaysTexts trips play texts b → a ≡ b
-plays-texts-one trips play texts a b (inl (ps, h, e)) (inl (qs, k, f)) =
-    e ∙ ap (λ (programs : List Program). run_answer programs play.world trips)
-    (programs-one texts ps qs h k) ∙ sym f
-plays-texts-one trips play texts a b (inl (ps, h, e)) (inr (name, fault, r, f)) =
+plays-texts-one trips play texts a b (inl (ps, cs, h, has, e)) (inl (qs, ds, k, have, f)) =
+    e ∙ ap (λ (programs : List Program). run_answer cs programs play.world trips) (programs-one texts ps qs h k)
+    ∙ ap (λ (codes : List Code). run_answer codes qs play.world trips) (codes-one texts cs ds has have) ∙ sym f
+plays-texts-one trips play texts a b (inl (ps, cs, h, has, e)) (inr (name, fault, r, f)) =
     absurd (accepted-refused texts ps r.place fault h r.refused)
-plays-texts-one trips play texts a b (inr (name, fault, r, e)) (inl (qs, k, f)) =
+plays-texts-one trips play texts a b (inr (name, fault, r, e)) (inl (qs, ds, k, have, f)) =
     absurd (accepted-refused texts qs r.place fault k r.refused)
 plays-texts-one trips play texts a b (inr (n, f, r, e)) (inr (m, g, s, k)) =
     e ∙ refused-one play.names texts n m f g r s ∙ sym k
+
+-- what is answered to a play whose scripts are these programs is a run of them
+pub plays-journal : (files : Files) (trips : List Trip) (play : Play) (programs : List Program) (answer : Answer)
+    (texts : List (List ℕ)) → AreHeld (Some files) play.names texts → AreAccepted texts programs
+    → Plays (Some files) trips play answer
+    → (codes : List Code) × (answer ≡ run_answer codes programs play.world trips)
+plays-journal files trips play programs answer texts are all (others, k, q) =
+    go (subst (λ (z : List (List ℕ)). PlaysTexts trips play z answer)
+    (texts-one files play.names others texts k are) q)
+  where
+    go : PlaysTexts trips play texts answer
+        → (codes : List Code) × (answer ≡ run_answer codes programs play.world trips)
+    go (inl (ps, cs, h, has, e)) = (
+      cs,
+      e ∙ ap (λ (qs : List Program). run_answer cs qs play.world trips) (programs-one texts ps programs h all),
+    )
+    go (inr (name, fault, r, e)) = absurd (accepted-refused texts programs r.place fault all r.refused)
 
 plays-one : (files : Files) (trips : List Trip) (play : Play) (a b : Answer) → Plays (Some files) trips play a
     → Plays (Some files) trips play b → a ≡ b
@@ -130,34 +148,35 @@ checks-one name text a b (inr (g, h, e)) (inl (q, k, f)) = absurd (no_fault text
 checks-one name text a b (inr (f, h, e)) (inr (g, k, d)) =
     e ∙ ap (λ fault. script_refused name fault) (one_fault text f g h k) ∙ sym d
 
-world-one : (bytes : List ℕ) (f g : WorldFile) → IsPlayable bytes f → IsPlayable bytes g → f ≡ g
-world-one bytes f g h k = ap value (sym h.world ∙ k.world)
+world-one : (bytes : List ℕ) (f g : WorldFile) → IsWorld bytes f → IsWorld bytes g → f ≡ g
+world-one bytes f g h k = ap value (sym h ∙ k)
   where
     value : Result WorldFile FileFault → WorldFile
     value (OkResult file) = file
     value (Err fault) = f
 
-world-no_fault : (bytes : List ℕ) (file : WorldFile) (fault : FileFault) → IsPlayable bytes file
-    → PlayFirst bytes fault → ⊥
-world-no_fault bytes file fault h (inl e) =
-    let both : OkResult file ≡ Err fault = sym h.world ∙ e in cc
-world-no_fault bytes file fault h (inr u) =
-    let both : Some u.line.0 ≡ None = sym u.line.1 ∙ h.built in cc
+world-no_fault : (bytes : List ℕ) (file : WorldFile) (fault : FileFault) → IsWorld bytes file
+    → FileFirst bytes fault → ⊥
+world-no_fault bytes file fault h e = let both : OkResult file ≡ Err fault = sym h ∙ e in cc
 
-world-fault-one : (bytes : List ℕ) (f g : FileFault) → PlayFirst bytes f → PlayFirst bytes g → f ≡ g
-world-fault-one bytes f g (inl e) (inl k) = ap value (sym e ∙ k)
+world-fault-one : (bytes : List ℕ) (f g : FileFault) → FileFirst bytes f → FileFirst bytes g → f ≡ g
+world-fault-one bytes f g e k = ap value (sym e ∙ k)
   where
     value : Result WorldFile FileFault → FileFault
     value (OkResult file) = f
     value (Err fault) = fault
-world-fault-one bytes f g (inl e) (inr u) = let both : OkResult u.world.0 ≡ Err f = sym u.world.1 ∙ e in absurd (cc)
-world-fault-one bytes f g (inr u) (inl k) = let both : OkResult u.world.0 ≡ Err g = sym u.world.1 ∙ k in absurd (cc)
-world-fault-one bytes f g (inr u) (inr v) =
-    u.line.2 ∙ ap (λ n. fault_at n NotYet) (ap value (sym u.line.1 ∙ v.line.1)) ∙ sym v.line.2
+
+-- what is answered to a world file is what is answered to its play
+pub replays-plays : (files : Files) (trips : List Trip) (name bytes : List ℕ) (file : WorldFile) (answer : Answer)
+    → Holds (Some files) name bytes → IsWorld bytes file → Answers (Some files) trips (Replay name) answer
+    → Plays (Some files) trips (play_of file) answer
+replays-plays files trips name bytes file answer is good (other, k, q) =
+    go (subst (λ (z : List ℕ). Replays (Some files) trips name z answer) (text-one files name other bytes k is) q)
   where
-    value : Option ℕ → ℕ
-    value (Some n) = n
-    value None = 0
+    go : Replays (Some files) trips name bytes answer → Plays (Some files) trips (play_of file) answer
+    go (inl (f, h, p)) =
+        subst (λ (z : WorldFile). Plays (Some files) trips (play_of z) answer) (world-one bytes f file h good) p
+    go (inr (fault, h, e)) = absurd (world-no_fault bytes file fault good h)
 
 replays-one : (files : Files) (trips : List Trip) (name bytes : List ℕ) (a b : Answer)
     → Replays (Some files) trips name bytes a → Replays (Some files) trips name bytes b → a ≡ b

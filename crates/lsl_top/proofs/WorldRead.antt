@@ -4,9 +4,8 @@ use Rattle.std.proofs.lemmas.List.{take_all, length-take}
 use Rattle.std.proofs.lemmas.Bool.{cases_lt, lt-leb}
 use Rattle.lsl_ports.specs.Shelf.{Files, IsHead, IsHeadOf, head_of}
 use Rattle.lsl_lines.specs.Lines.{lines_of}
-use Rattle.lsl_lines.specs.NotYet.{IsPlayable, PlayFirst}
 use Rattle.lsl_lines.specs.Reading.{begun}
-use Rattle.lsl_lines.specs.World.{IsWorld, fault_at, world_from, world_of}
+use Rattle.lsl_lines.specs.World.{FileFirst, IsWorld, fault_at, world_from, world_of}
 use Rattle.lsl_lines.specs.declared.faults.FileFault.{FileFault}
 use Rattle.lsl_lines.specs.declared.faults.FileKind.TheVariants.{TooLong}
 use Rattle.lsl_lines.specs.declared.file.WorldFile.{WorldFile}
@@ -20,13 +19,13 @@ long-world text long =
 
 -- what is found of the bytes that were read holds of the file
 pub record IsWorldReadOf (bytes file : List ℕ) : Type 0 where
-  pub playable : (world : WorldFile) → IsPlayable bytes world → IsPlayable file world
-  pub first : (fault : FileFault) → PlayFirst bytes fault → PlayFirst file fault
+  pub good : (world : WorldFile) → IsWorld bytes world → IsWorld file world
+  pub first : (fault : FileFault) → FileFirst bytes fault → FileFirst file fault
 
 same-read : (bytes file : List ℕ) → bytes ≡ file → IsWorldReadOf bytes file
 same-read bytes file e = record {
-  playable = λ world h. subst (λ (z : List ℕ). IsPlayable z world) e h;
-  first = λ fault h. subst (λ (z : List ℕ). PlayFirst z fault) e h;
+  good = λ world h. subst (λ (z : List ℕ). IsWorld z world) e h;
+  first = λ fault h. subst (λ (z : List ℕ). FileFirst z fault) e h;
 }
 
 no_world : (text : List ℕ) (world : WorldFile) → 1048576 < length text → IsWorld text world → ⊥
@@ -35,11 +34,8 @@ no_world text world long h =
 
 long-read : (bytes file : List ℕ) → 1048576 < length bytes → 1048576 < length file → IsWorldReadOf bytes file
 long-read bytes file many long = record {
-  playable = λ world h. absurd (no_world bytes world many h.world);
-  first = λ fault h. elim h [
-    | inl e ↦ inl (long-world file long ∙ sym (long-world bytes many) ∙ e)
-    | inr u ↦ absurd (no_world bytes u.world.0 many u.world.1)
-  ];
+  good = λ world h. absurd (no_world bytes world many h);
+  first = λ fault e. long-world file long ∙ sym (long-world bytes many) ∙ e;
 }
 
 world-head : (file bytes : List ℕ) → bytes ≡ head_of 1048576 file → IsWorldReadOf bytes file

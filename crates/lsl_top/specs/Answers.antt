@@ -1,50 +1,55 @@
 -- What a command answers, by the files and by what came back of what was sent: a case for each.
-use Rattle.std.specs.Prelude.{◌≡◌, ℕ, ◌⊎◌, List, [], Option}
+use Rattle.std.specs.Prelude.{◌≡◌, ℕ, ◌⊎◌, List, [], ◌∷◌, Option}
 use Rattle.lsl_ports.specs.Shelf.{Files}
 use Rattle.lsl_ports.specs.Trips.{Trip}
 use Rattle.lsl_tree.specs.Program.{Program}
 use Rattle.lsl_build.specs.Accepted.{Accepted}
 use Rattle.lsl_build.specs.Faults.{FirstFault}
 use Rattle.lsl_build.specs.declared.faults.BuildFault.{BuildFault}
-use Rattle.lsl_lines.specs.Journal.{lines_of}
-use Rattle.lsl_lines.specs.NotYet.{IsPlayable, PlayFirst}
+use Rattle.lsl_build.specs.Codes.{AreCodesOf}
+use Rattle.lsl_code.specs.declared.woven_units.Woven.{Woven as Code}
+use Rattle.lsl_lines.specs.World.{FileFirst, IsWorld}
 use Rattle.lsl_lines.specs.declared.faults.FileFault.{FileFault}
 use Rattle.lsl_lines.specs.declared.file.WorldFile.{WorldFile}
-use Rattle.lsl_world.specs.Reports.{journal_of}
+use Rattle.lsl_world.specs.Programs.{rules_of}
 use Rattle.lsl_top.specs.Held.{Holds, AreHeld}
 use Rattle.lsl_top.specs.Lines.{accepted_line, refusal_of, world_refusal_of}
+use Rattle.lsl_top.specs.Pieces.{Piece, run_pieces}
 use Rattle.lsl_top.specs.Plays.{Play, play_of, play_of_once}
 use Rattle.lsl_top.specs.Scripts.{AreAccepted, FirstRefused}
 use Rattle.lsl_top.specs.Words.{Command, Once, Check, Replay}
 use Rattle.lsl_top.specs.declared.status.Status.{Status}
 use Rattle.lsl_top.specs.declared.status.Status.TheVariants.{Ok, BadWorld, BadScript}
 
--- how a command ends, its whole output, and what it hands to the link, in order
+-- how a command ends, with its whole output and all that it hands to the link, piece by piece
 pub record Answer : Type 0 where
   pub status : Status
-  pub lines : List ℕ
-  pub sent : List (List ℕ)
+  pub pieces : List Piece
+
+-- these lines are written, and nothing is sent
+abbrev pub plain : Status → List ℕ → Answer
+plain status lines = record { status = status; pieces = record { lines = lines; sent = [] } ∷ [] }
 
 abbrev pub done : List ℕ → Answer
-done lines = record { status = Ok; lines = lines; sent = [] }
+done lines = plain Ok lines
 
 abbrev pub script_refused : List ℕ → BuildFault → Answer
-script_refused name fault = record { status = BadScript; lines = refusal_of name fault; sent = [] }
+script_refused name fault = plain BadScript (refusal_of name fault)
 
 abbrev pub world_refused : List ℕ → FileFault → Answer
-world_refused name fault = record { status = BadWorld; lines = world_refusal_of name fault; sent = [] }
+world_refused name fault = plain BadWorld (world_refusal_of name fault)
 
--- What is answered to the run of a world: its journal. A crossing goes as its trip did; no step that is played crosses
--- yet, so the run looks at no trip, and hands nothing to the link.
-abbrev pub run_answer : List Program → WorldFile → List Trip → Answer
-run_answer programs world trips = done (lines_of (journal_of programs world))
+-- what is answered to the run of a world, by the trips that are made
+abbrev pub run_answer : List Code → List Program → WorldFile → List Trip → Answer
+run_answer codes programs world trips =
+    record { status = Ok; pieces = run_pieces codes (rules_of programs) world trips }
 
--- what is answered to a play whose files have these texts: its journal, or the refusal of the first script that isn't
--- accepted
+-- what is answered to a play whose files have these texts: a run of the programs, by the code that
+-- they have, or the refusal of the first script that isn't accepted
 abbrev pub PlaysTexts : List Trip → Play → List (List ℕ) → Answer → Type 0
 PlaysTexts trips play texts answer =
-    ((programs : List Program) × AreAccepted texts programs
-    × (answer ≡ run_answer programs play.world trips))
+    ((programs : List Program) × (codes : List Code) × AreAccepted texts programs × AreCodesOf texts codes
+    × (answer ≡ run_answer codes programs play.world trips))
     ⊎ ((name : List ℕ) × (fault : BuildFault) × FirstRefused play.names texts name fault
     × (answer ≡ script_refused name fault))
 
@@ -58,11 +63,11 @@ Checks name text answer =
     ((program : Program) × Accepted text program × (answer ≡ done (accepted_line name)))
     ⊎ ((fault : BuildFault) × FirstFault text fault × (answer ≡ script_refused name fault))
 
--- these bytes are a world that is played, or are refused for their first fault
+-- these bytes are a world, or are refused for their first fault
 abbrev pub Replays : Option Files → List Trip → List ℕ → List ℕ → Answer → Type 0
 Replays held trips name bytes answer =
-    ((file : WorldFile) × IsPlayable bytes file × Plays held trips (play_of file) answer)
-    ⊎ ((fault : FileFault) × PlayFirst bytes fault × (answer ≡ world_refused name fault))
+    ((file : WorldFile) × IsWorld bytes file × Plays held trips (play_of file) answer)
+    ⊎ ((fault : FileFault) × FileFirst bytes fault × (answer ≡ world_refused name fault))
 
 -- the answer of a command over these files, where these trips were made
 abbrev pub Answers : Option Files → List Trip → Command → Answer → Type 0

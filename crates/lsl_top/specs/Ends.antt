@@ -1,14 +1,15 @@
 -- How a command ends, seen from outside: the contract of the top call as one fact, for whoever runs it.
-use Rattle.std.specs.Prelude.{◌≡◌, ◌≤◌, ◌↔◌, ◌⊎◌, ℕ, List, Option, Some, None}
+use Rattle.std.specs.Prelude.{◌≡◌, ◌≤◌, ◌↔◌, ◌⊎◌, ℕ, List, [], ◌++◌, Option, Some, None}
 use Rattle.lsl_ports.specs.Counts.{NoneFell, Rose}
-use Rattle.lsl_ports.specs.Trips.{Trip, Went}
+use Rattle.lsl_ports.specs.Trips.{Honest, Trip, Went}
 use Rattle.lsl_ports.specs.Shelf.{Files}
+use Rattle.lsl_image.specs.Images.{IsIntact}
 use Rattle.lsl_lines.specs.declared.file.WorldFile.{WorldFile}
 use Rattle.lsl_tree.specs.Program.{Program}
 use Rattle.lsl_top.specs.Answers.{Answer, Answers}
 use Rattle.lsl_top.specs.Headline.{Runs, WritesJournal}
 use Rattle.lsl_top.specs.Named.{NamedRose}
-use Rattle.lsl_top.specs.Promise.{Keeps, WritesNothing}
+use Rattle.lsl_top.specs.Promise.{Keeps, SendsNothing, WritesNothing}
 use Rattle.lsl_top.specs.Status.{number_of}
 use Rattle.lsl_top.specs.Words.{Command}
 use Rattle.lsl_top.specs.declared.status.Status.{Status}
@@ -45,18 +46,21 @@ pub record Ends (gives : List ℕ → Option (List ℕ) → Type 0) (words : Opt
   pub usage : (status ≡ Usage) ↔ (words ≡ None)
   pub nothing : WritesNothing status → new.sunk ≡ old.sunk
   pub kept : (trips : List Trip) × Went gives old.trips new.trips trips
-      × Keeps old.held trips words status old.sunk new.sunk
+      × (SendsNothing status → trips ≡ [])
+      × (Honest IsIntact trips → Keeps old.held trips words status old.sunk new.sunk)
   pub read_fault : status ≡ ReadFault → NamedRose old.held words old.read_faults new.read_faults
   pub write_fault : status ≡ WriteFault → Rose old.write_faults new.write_faults
   pub complete : (files : Files) (trips : List Trip) (command : Command) (answer : Answer) → old.held ≡ Some files → words ≡ Some command
       → Answers (Some files) trips command answer → IsCalm words old new → (status ≡ answer.status) ⊎ (status ≡ NoMemory)
   pub headline : (files : Files) (command : Command) (file : WorldFile) (programs : List Program)
-      → old.held ≡ Some files → words ≡ Some command → Runs files command file programs → IsCalm words old new
-      → WritesJournal file programs status old.sunk new.sunk
-  pub unchanged : (new.held ≡ old.held) × (new.trips ≡ old.trips)
+      (before trips : List Trip)
+      → old.held ≡ Some files → words ≡ Some command → Runs files command file programs → old.trips ≡ Some before
+      → new.trips ≡ Some (before ++ trips) → Honest IsIntact trips → IsCalm words old new
+      → WritesJournal file programs trips status old.sunk new.sunk
+  pub unchanged : new.held ≡ old.held
   pub reads_counted : NoneFell old.read_faults new.read_faults
   pub writes_counted : old.write_faults ≤ new.write_faults
-  pub links_counted : new.link_faults ≡ old.link_faults
+  pub links_counted : old.link_faults ≤ new.link_faults
 
 -- the command ended with the status of this number
 abbrev pub EndsAs : (List ℕ → Option (List ℕ) → Type 0) → ℕ → Option Command → Outside → Outside → Type 0

@@ -1,40 +1,55 @@
 -- Steps that are done one by one, each one's lines being written before the next step: for private functions.
-use Rattle.std.specs.Prelude.{◌≡◌, ℕ, suc, ◌<◌, ◌≤◌, List, Option, Result, MatchResult, IsErrOf, length, take}
+use Rattle.std.specs.Prelude.{◌≡◌, ℕ, ◌≤◌, List, Option, Result, MatchResult, IsErrOf}
 use Rattle.lsl_ports.specs.Counts.{Rose}
-use Rattle.lsl_ports.specs.Growth.{Begins, Grew}
-use Rattle.lsl_lines.specs.Journal.{lines_of}
+use Rattle.lsl_ports.specs.Trips.{Honest, Trip, Went}
+use Rattle.lsl_code.specs.declared.woven_units.Woven.{Woven as Code}
+use Rattle.lsl_image.specs.Images.{IsIntact}
+use Rattle.lsl_tree.specs.Program.{Program}
+use Rattle.lsl_script.specs.Rules.{Rules}
+use Rattle.lsl_region.specs.Worlds.{World}
 use Rattle.lsl_lines.specs.declared.file.Step.{Step}
-use Rattle.lsl_post.specs.Told.{Told, each_of}
-use Rattle.lsl_top.specs.Ports.{Log}
+use Rattle.lsl_world.specs.Programs.{rules_of}
+use Rattle.lsl_world.specs.Travels.{travel}
+use Rattle.lsl_top.specs.Pieces.{Piece, step_pieces}
+use Rattle.lsl_top.specs.Ports.{Log, Wire}
+use Rattle.lsl_top.specs.Promise.{IsBegun, IsWhole}
 use Rattle.lsl_top.specs.declared.writing.Trouble.{Trouble}
 use Rattle.lsl_top.specs.declared.writing.Trouble.TheVariants.{WriteFault}
 
--- all steps were done from this value, what they come to is there now, and their lines were written
-pub record Done {X : Type 0} (does : Step → X → Told X) (IsNow : X → Type 0) (steps : List Step) (x : X)
-    (old new : Option (List ℕ)) : Type 0 where
-  pub value : IsNow (each_of does steps x).value
-  pub written : Grew old new (lines_of (each_of does steps x).entries)
+-- all steps were done from this world, what they come to is there now, and they were written and sent
+pub record Done (codes : List Code) (r : Rules) (IsNow : World → Type 0) (steps : List Step) (w : World)
+    (trips : List Trip) (old new : Option (List ℕ)) : Type 0 where
+  pub value : IsNow (travel r steps trips w).value
+  pub whole : IsWhole (step_pieces codes r steps trips w) trips old new
 
--- So many steps were done, and their lines were written, and then first ones of the next step's. Where a write failed,
--- that step was the last that was done.
-pub record Stopped {X : Type 0} (does : Step → X → Told X) (IsNow : X → Type 0) (steps : List Step) (x : X)
-    (old new : Option (List ℕ)) (trouble : Trouble) : Type 0 where
-  pub done : ℕ
-  pub within : done < length steps
-  pub added : List ℕ
-  pub grew : Grew old new added
-  pub written : Begins (lines_of (each_of does (take done steps) x).entries) added
-  pub part : Begins added (lines_of (each_of does (take (suc done) steps) x).entries)
-  pub last : trouble ≡ WriteFault → IsNow (each_of does (take (suc done) steps) x).value
+abbrev pub Runs : {T : Type 0} → List Code → Rules → (World → Type 0) → List Step → World → List Trip
+    → Option (List ℕ) → Option (List ℕ) → Result T Trouble → Type 0
+Runs codes r IsNow steps w trips old new result =
+    MatchResult result (λ _. Done codes r IsNow steps w trips old new)
+    (λ _. IsBegun (step_pieces codes r steps trips w) trips old new)
 
-abbrev pub Runs : {T X : Type 0} → (Step → X → Told X) → (X → Type 0) → List Step → X → Option (List ℕ)
-    → Option (List ℕ) → Result T Trouble → Type 0
-Runs does IsNow steps x old new result =
-    MatchResult result (λ _. Done does IsNow steps x old new) (λ trouble. Stopped does IsNow steps x old new trouble)
-
--- From each value that is there then, the steps go so; that a write failed comes only where the count rose.
-pub record Goes {T X : Type 0} (does : Step → X → Told X) (IsThen IsNow : X → Type 0) (steps : List Step)
-    (old new : Log) (result : Result T Trouble) : Type 0 where
-  pub runs : (x : X) → IsThen x → Runs does IsNow steps x old.sunk new.sunk result
+-- These trips were made, and from each world that is there then, the steps go so by them, where they are honest; that a
+-- write failed comes only where the count rose.
+pub record Goes {T : Type 0} (gives : List ℕ → Option (List ℕ) → Type 0) (codes : List Code)
+    (IsThen IsNow : List Program → World → Type 0) (steps : List Step) (old new : Log) (before after : Wire)
+    (result : Result T Trouble) : Type 0 where
+  pub trips : List Trip
+  pub went : Went gives before.told after.told trips
+  pub runs : (programs : List Program) (w : World) → IsThen programs w → Honest IsIntact trips
+      → Runs codes (rules_of programs) (IsNow programs) steps w trips old.sunk new.sunk result
   pub counted : old.faults ≤ new.faults
+  pub links_counted : before.faults ≤ after.faults
+  pub cause : IsErrOf result WriteFault → Rose old.faults new.faults
+
+-- a run of programs was written and sent so, where the trips are honest
+pub record Performs {T : Type 0} (gives : List ℕ → Option (List ℕ) → Type 0) (IsRun : List Program → Type 0)
+    (pieces : List Program → List Trip → List Piece) (old new : Log) (before after : Wire)
+    (result : Result T Trouble) : Type 0 where
+  pub trips : List Trip
+  pub went : Went gives before.told after.told trips
+  pub runs : (programs : List Program) → IsRun programs → Honest IsIntact trips
+      → MatchResult result (λ _. IsWhole (pieces programs trips) trips old.sunk new.sunk)
+      (λ _. IsBegun (pieces programs trips) trips old.sunk new.sunk)
+  pub counted : old.faults ≤ new.faults
+  pub links_counted : before.faults ≤ after.faults
   pub cause : IsErrOf result WriteFault → Rose old.faults new.faults

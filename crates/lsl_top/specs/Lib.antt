@@ -4,6 +4,7 @@ pub mod Held
 pub mod Scripts
 pub mod Lines
 pub mod Plays
+pub mod Pieces
 pub mod Answers
 pub mod Named
 pub mod Promise

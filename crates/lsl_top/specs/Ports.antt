@@ -1,12 +1,14 @@
--- What the shelf and the sink tell at one moment, and what comes of a call over them: for private functions.
+-- What the shelf, the sink and the link tell at one moment, and what comes of a call over them: for private functions.
 use Rattle.std.specs.Prelude.{◌≡◌, ◌≢◌, ℕ, ◌≤◌, List, [], Option, Result, Ok as OkResult, Err, OnOk, IsErrOf}
 use Rattle.lsl_ports.specs.Counts.{NoneFell, Rose}
 use Rattle.lsl_ports.specs.Shelf.{Files, IsHead}
 use Rattle.lsl_ports.specs.declared.reading.ShelfFault.{ShelfFault}
 use Rattle.lsl_ports.specs.declared.reading.ShelfFault.TheVariants.{Failed, NoMemory as OutOfMemory}
 use Rattle.lsl_ports.specs.Growth.{Grew, GrewPartly}
+use Rattle.lsl_ports.specs.Trips.{Honest, Trip, Went}
+use Rattle.lsl_image.specs.Images.{IsIntact}
 use Rattle.lsl_top.specs.Answers.{Answer}
-use Rattle.lsl_top.specs.Promise.{KeepsTo}
+use Rattle.lsl_top.specs.Promise.{KeepsTo, SendsNothing}
 use Rattle.lsl_top.specs.declared.status.Status.{Status}
 use Rattle.lsl_top.specs.declared.status.Status.TheVariants as statuses
 use Rattle.lsl_top.specs.declared.writing.Trouble.{Trouble}
@@ -24,6 +26,14 @@ pub record Log : Type 0 where
 abbrev pub log : Option (List ℕ) → ℕ → Log
 log sunk faults = record { sunk = sunk; faults = faults }
 
+-- what the link tells
+pub record Wire : Type 0 where
+  pub told : Option (List Trip)
+  pub faults : ℕ
+
+abbrev pub wire : Option (List Trip) → ℕ → Wire
+wire told faults = record { told = told; faults = faults }
+
 -- these lines were written, all of them at Ok and else a prefix; that a write failed comes only where the count rose
 pub record Writes {T : Type 0} (lines : List ℕ) (old new : Log) (result : Result T Trouble) : Type 0 where
   pub ok : OnOk result (Grew old.sunk new.sunk lines)
@@ -37,28 +47,68 @@ status_after (OkResult t) status = status
 status_after (Err WriteFault) status = statuses.WriteFault
 status_after (Err NoMemory) status = statuses.NoMemory
 
+-- the statuses that answers have
+abbrev pub IsOwn : Status → Type 0
+IsOwn statuses.Ok = Unit {0}
+IsOwn statuses.BadWorld = Unit {0}
+IsOwn statuses.BadScript = Unit {0}
+IsOwn statuses.BadImage = Unit {0}
+IsOwn statuses.Usage = ⊥
+IsOwn statuses.ReadFault = ⊥
+IsOwn statuses.WriteFault = ⊥
+IsOwn statuses.NoMemory = ⊥
+
+-- there is an answer of this status
+abbrev pub HasAnswer : (Answer → Type 0) → Status → Type 0
+HasAnswer IsAnswer status = (answer : Answer) × IsAnswer answer × (answer.status ≡ status)
+
 -- an answer was written, as far as the status says, and nothing was handed to the link
 pub record Finishes (IsAnswer : Answer → Type 0) (old new : Log) (status : Status) : Type 0 where
   pub keeps : KeepsTo IsAnswer status [] old.sunk new.sunk
+  pub answers : IsOwn status → HasAnswer IsAnswer status
   pub counted : old.faults ≤ new.faults
   pub cause : status ≡ statuses.WriteFault → Rose old.faults new.faults
   pub no_read : status ≢ statuses.ReadFault
   pub no_usage : status ≢ statuses.Usage
 
--- what the shelf and the sink tell
+-- an answer by the trips that were made was written and sent, as far as the status says
+pub record Concludes (gives : List ℕ → Option (List ℕ) → Type 0) (IsAnswer : List Trip → Answer → Type 0)
+    (old new : Log) (before after : Wire) (status : Status) : Type 0 where
+  pub trips : List Trip
+  pub went : Went gives before.told after.told trips
+  pub silent : SendsNothing status → trips ≡ []
+  pub keeps : Honest IsIntact trips → KeepsTo (IsAnswer trips) status trips old.sunk new.sunk
+  pub answers : (trips : List Trip) → IsOwn status → HasAnswer (IsAnswer trips) status
+  pub counted : old.faults ≤ new.faults
+  pub links_counted : before.faults ≤ after.faults
+  pub cause : status ≡ statuses.WriteFault → Rose old.faults new.faults
+  pub no_read : status ≢ statuses.ReadFault
+  pub no_usage : status ≢ statuses.Usage
+
+-- what the shelf, the sink and the link tell
 pub record Ports : Type 0 where
   pub held : Option Files
   pub read_faults : List ℕ → ℕ
   pub log : Log
+  pub wire : Wire
 
-abbrev pub ports : Option Files → (List ℕ → ℕ) → Option (List ℕ) → ℕ → Ports
-ports held read_faults sunk write_faults =
-    record { held = held; read_faults = read_faults; log = log sunk write_faults }
+abbrev pub ports : Option Files → (List ℕ → ℕ) → Option (List ℕ) → ℕ → Option (List Trip) → ℕ → Ports
+ports held read_faults sunk write_faults told link_faults =
+    record {
+      held = held;
+      read_faults = read_faults;
+      log = log sunk write_faults;
+      wire = wire told link_faults;
+    }
 
 -- the same, after files of these names were read
-pub record Serves (IsAnswer : Answer → Type 0) (IsName : List ℕ → Type 0) (old new : Ports) (status : Status)
-    : Type 0 where
-  pub keeps : KeepsTo IsAnswer status [] old.log.sunk new.log.sunk
+pub record Serves (gives : List ℕ → Option (List ℕ) → Type 0) (IsAnswer : List Trip → Answer → Type 0)
+    (IsName : List ℕ → Type 0) (old new : Ports) (status : Status) : Type 0 where
+  pub trips : List Trip
+  pub went : Went gives old.wire.told new.wire.told trips
+  pub silent : SendsNothing status → trips ≡ []
+  pub keeps : Honest IsIntact trips → KeepsTo (IsAnswer trips) status trips old.log.sunk new.log.sunk
+  pub answers : (trips : List Trip) → IsOwn status → HasAnswer (IsAnswer trips) status
   pub nothing : status ≡ statuses.ReadFault → new.log.sunk ≡ old.log.sunk
   pub read_fault : status ≡ statuses.ReadFault
       → (name : List ℕ) × IsName name × Rose (old.read_faults name) (new.read_faults name)
@@ -67,6 +117,7 @@ pub record Serves (IsAnswer : Answer → Type 0) (IsName : List ℕ → Type 0) 
   pub unchanged : new.held ≡ old.held
   pub reads_counted : NoneFell old.read_faults new.read_faults
   pub writes_counted : old.log.faults ≤ new.log.faults
+  pub links_counted : old.wire.faults ≤ new.wire.faults
 
 -- the status of a file that wasn't read
 abbrev pub unread_status : ShelfFault → Status

@@ -1,40 +1,66 @@
 -- What the sink has taken, and what was handed to the link, at each status.
-use Rattle.std.specs.Prelude.{◌≡◌, ℕ, ◌⊎◌, List, [], Option, Some, None}
-use Rattle.lsl_ports.specs.Growth.{Begins, Grew, GrewPartly}
+use Rattle.std.specs.Prelude.{◌≡◌, ◌⊎◌, ℕ, suc, ◌<◌, List, [], length, take, Option, Some, None}
+use Rattle.lsl_ports.specs.Growth.{Begins, Grew}
 use Rattle.lsl_ports.specs.Shelf.{Files}
 use Rattle.lsl_ports.specs.Trips.{Trip, sent_of}
 use Rattle.lsl_top.specs.Answers.{Answer, Answers}
+use Rattle.lsl_top.specs.Pieces.{Piece, lines_in, sent_in}
 use Rattle.lsl_top.specs.Words.{Command}
 use Rattle.lsl_top.specs.declared.status.Status.{Status}
 use Rattle.lsl_top.specs.declared.status.Status.TheVariants.{Ok, Usage, BadWorld, BadScript, ReadFault, WriteFault, BadImage, NoMemory}
 
--- an answer of this status was written whole, and all that it sends was sent
+-- all of these pieces were written, and all that they send was sent
+pub record IsWhole (pieces : List Piece) (trips : List Trip) (old new : Option (List ℕ)) : Type 0 where
+  pub written : Grew old new (lines_in pieces)
+  pub sent : sent_of trips ≡ sent_in pieces
+
+-- So many pieces were written whole, and then first bytes of the next one; first ones of what these and the next one
+-- send were sent. So all lines before the last piece of which something was sent were written.
+pub record IsBegun (pieces : List Piece) (trips : List Trip) (old new : Option (List ℕ)) : Type 0 where
+  pub done : ℕ
+  pub within : done < length pieces
+  pub added : List ℕ
+  pub grew : Grew old new added
+  pub written : Begins (lines_in (take done pieces)) added
+  pub part : Begins added (lines_in (take (suc done) pieces))
+  pub sent : Begins (sent_of trips) (sent_in (take (suc done) pieces))
+
+-- an answer of this status was written and sent whole
 abbrev pub Wrote : (Answer → Type 0) → Status → List Trip → Option (List ℕ) → Option (List ℕ) → Type 0
 Wrote IsAnswer status trips old new =
-    (answer : Answer) × IsAnswer answer × (answer.status ≡ status) × Grew old new answer.lines
-    × (sent_of trips ≡ answer.sent)
+    (answer : Answer) × IsAnswer answer × (answer.status ≡ status) × IsWhole answer.pieces trips old new
 
--- first ones of an answer's bytes were written, and first ones of what it sends were sent
-abbrev pub WrotePrefix : (Answer → Type 0) → List Trip → Option (List ℕ) → Option (List ℕ) → Type 0
-WrotePrefix IsAnswer trips old new =
-    (answer : Answer) × IsAnswer answer × GrewPartly old new answer.lines × Begins (sent_of trips) answer.sent
+-- an answer was begun
+abbrev pub WrotePart : (Answer → Type 0) → List Trip → Option (List ℕ) → Option (List ℕ) → Type 0
+WrotePart IsAnswer trips old new =
+    (answer : Answer) × IsAnswer answer × IsBegun answer.pieces trips old new
 
--- a status of an answer's own comes with the whole of it; after a failed write or for want of memory the sink has
--- taken a prefix
+-- a status of an answer's own comes with the whole of it; after a failed write or for want of memory it was begun
 abbrev pub KeepsTo : (Answer → Type 0) → Status → List Trip → Option (List ℕ) → Option (List ℕ) → Type 0
 KeepsTo IsAnswer Ok trips old new = Wrote IsAnswer Ok trips old new
 KeepsTo IsAnswer BadWorld trips old new = Wrote IsAnswer BadWorld trips old new
 KeepsTo IsAnswer BadScript trips old new = Wrote IsAnswer BadScript trips old new
 KeepsTo IsAnswer BadImage trips old new = Wrote IsAnswer BadImage trips old new
-KeepsTo IsAnswer WriteFault trips old new = WrotePrefix IsAnswer trips old new
-KeepsTo IsAnswer NoMemory trips old new = ((new ≡ old) × (trips ≡ [])) ⊎ WrotePrefix IsAnswer trips old new
-KeepsTo IsAnswer Usage trips old new = trips ≡ []
-KeepsTo IsAnswer ReadFault trips old new = trips ≡ []
+KeepsTo IsAnswer WriteFault trips old new = WrotePart IsAnswer trips old new
+KeepsTo IsAnswer NoMemory trips old new = ((new ≡ old) × (trips ≡ [])) ⊎ WrotePart IsAnswer trips old new
+KeepsTo IsAnswer Usage trips old new = Unit {0}
+KeepsTo IsAnswer ReadFault trips old new = Unit {0}
 
--- the same of a command's answers, where the words are a command; else nothing was sent
+-- the same of a command's answers by these trips, where the words are a command
 abbrev pub Keeps : Option Files → List Trip → Option Command → Status → Option (List ℕ) → Option (List ℕ) → Type 0
-Keeps held trips None status old new = trips ≡ []
+Keeps held trips None status old new = Unit {0}
 Keeps held trips (Some command) status old new = KeepsTo (Answers held trips command) status trips old new
+
+-- the statuses at which nothing was sent, whatever came back
+abbrev pub SendsNothing : Status → Type 0
+SendsNothing Usage = Unit {0}
+SendsNothing BadWorld = Unit {0}
+SendsNothing BadScript = Unit {0}
+SendsNothing ReadFault = Unit {0}
+SendsNothing BadImage = Unit {0}
+SendsNothing Ok = ⊥
+SendsNothing WriteFault = ⊥
+SendsNothing NoMemory = ⊥
 
 -- the statuses at which nothing was written
 abbrev pub WritesNothing : Status → Type 0

@@ -1,6 +1,7 @@
 //! The code of a play's scripts.
 ghost use Rattle.std.specs.Prelude.{◌≡◌, List, length, map, IfOk, IsErrOf};
 ghost use Rattle.lsl_text.specs.declared.Refusal.TheVariants as refusals;
+ghost use Rattle.lsl_build.specs.Codes.{AreCodesOf};
 ghost use Rattle.lsl_tree.specs.Program.{Program};
 ghost use Rattle.lsl_world.specs.Codes.{AreRunBy};
 ghost use Rattle.lsl_top.specs.Meant.{refused_at};
@@ -23,6 +24,7 @@ pub struct Refused {
 pub fn build_scripts(alloc: Global, texts: &[Vec<u8>]) -> Result<Library, Refusal<Refused>>
     ensures ok { IfOk result (λ units. (programs : List Program)
         × AreAccepted (map (λ t. t.items) texts.now) programs × AreRunBy programs units) }
+    ensures codes { IfOk result (λ units. AreCodesOf (map (λ t. t.items) texts.now) units) }
     ensures refused { (refused : TheRefused) → IsErrOf result (refusals.Fault refused)
         → IsRefusedAt (map (λ t. t.items) texts.now) refused.place refused.fault }
     ensures len { IfOk result (λ units. length units ≡ length texts.now) }

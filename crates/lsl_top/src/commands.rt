@@ -1,11 +1,11 @@
 //! What each command does: its files are read, and then its answer is written.
-ghost use Rattle.std.specs.Prelude.{◌≡◌, List, [], ℕ, Contains, length, map};
+ghost use Rattle.std.specs.Prelude.{◌≡◌, List, ℕ, Contains, length, map};
 ghost use Rattle.lsl_world.specs.Ranges.{IsInRange};
 ghost use Rattle.lsl_top.specs.Answers.{Answers, Checks, Plays, PlaysTexts};
 ghost use Rattle.lsl_top.specs.Meant.{asked_by};
 ghost use Rattle.lsl_top.specs.Named.{IsNamed};
 ghost use Rattle.lsl_top.specs.Plays.{names_in, play_of};
-ghost use Rattle.lsl_top.specs.Ports.{Finishes, Serves, log, ports, unread_status};
+ghost use Rattle.lsl_top.specs.Ports.{Concludes, Finishes, Serves, log, ports, unread_status, wire};
 ghost use Rattle.lsl_top.specs.Words.{Check, Once, Replay};
 
 use crate::building::build_scripts;
@@ -18,7 +18,7 @@ use crate::words::Command;
 use crate::writing::{status_after, write_line};
 use lsl_build::accept;
 use lsl_lines::{WorldFile, read_world};
-use lsl_ports::{Shelf, ShelfFault, Sink, read_all};
+use lsl_ports::{Link, Shelf, ShelfFault, Sink, read_all};
 use lsl_text::{NoMemory, Refusal};
 use std::alloc::Global;
 
@@ -26,21 +26,24 @@ use std::alloc::Global;
 const MAX_WORLD_BYTES: u64 = 1_048_576;
 
 /// Does what a command asks for.
-pub fn serve<S: Shelf, K: Sink>(
+pub fn serve<S: Shelf, K: Sink, L: Link>(
     alloc: Global,
     command: Command<'_>,
     shelf: &mut S,
     sink: &mut K,
+    link: &mut L,
 ) -> Status
-    ensures { Serves (Answers (S.held shelf.old) [] (asked_by command.entry))
+    ensures { Serves L.gives (λ trips. Answers (S.held shelf.old) trips (asked_by command.entry))
         (IsNamed (S.held shelf.old) (asked_by command.entry))
-        (ports (S.held shelf.old) (S.faults shelf.old) (K.sunk sink.old) (K.faults sink.old))
-        (ports (S.held shelf.new) (S.faults shelf.new) (K.sunk sink.new) (K.faults sink.new)) result }
+        (ports (S.held shelf.old) (S.faults shelf.old) (K.sunk sink.old) (K.faults sink.old) (L.trips link.old)
+        (L.faults link.old))
+        (ports (S.held shelf.new) (S.faults shelf.new) (K.sunk sink.new) (K.faults sink.new) (L.trips link.new)
+        (L.faults link.new)) result }
 {
     match command {
-        Command::Once(file) => once(alloc, file, shelf, sink),
-        Command::Check(file) => check(alloc, file, shelf, sink),
-        Command::Replay(file) => replay(alloc, file, shelf, sink),
+        Command::Once(file) => once(alloc, file, shelf, sink, link),
+        Command::Check(file) => check(alloc, file, shelf, sink, link),
+        Command::Replay(file) => replay(alloc, file, shelf, sink, link),
     }
 }
 
@@ -55,10 +58,19 @@ fn unread(fault: ShelfFault) -> Status
 }
 
 /// Accepts a script, or refuses it.
-fn check<S: Shelf, K: Sink>(alloc: Global, name: &str, shelf: &mut S, sink: &mut K) -> Status
-    ensures { Serves (Answers (S.held shelf.old) [] (Check name.now)) (IsNamed (S.held shelf.old) (Check name.now))
-        (ports (S.held shelf.old) (S.faults shelf.old) (K.sunk sink.old) (K.faults sink.old))
-        (ports (S.held shelf.new) (S.faults shelf.new) (K.sunk sink.new) (K.faults sink.new)) result }
+fn check<S: Shelf, K: Sink, L: Link>(
+    alloc: Global,
+    name: &str,
+    shelf: &mut S,
+    sink: &mut K,
+    link: &mut L,
+) -> Status
+    ensures { Serves L.gives (λ trips. Answers (S.held shelf.old) trips (Check name.now))
+        (IsNamed (S.held shelf.old) (Check name.now))
+        (ports (S.held shelf.old) (S.faults shelf.old) (K.sunk sink.old) (K.faults sink.old) (L.trips link.old)
+        (L.faults link.old))
+        (ports (S.held shelf.new) (S.faults shelf.new) (K.sunk sink.new) (K.faults sink.new) (L.trips link.new)
+        (L.faults link.new)) result }
 {
     match read_script(alloc, shelf, name) {
         Ok(text) => write_check(alloc, name, text.as_slice(), sink),
@@ -83,29 +95,47 @@ fn write_check<K: Sink>(alloc: Global, name: &str, text: &[u8], sink: &mut K) ->
 }
 
 /// Runs a script in a world of its own.
-fn once<S: Shelf, K: Sink>(alloc: Global, name: &str, shelf: &mut S, sink: &mut K) -> Status
-    ensures { Serves (Answers (S.held shelf.old) [] (Once name.now)) (IsNamed (S.held shelf.old) (Once name.now))
-        (ports (S.held shelf.old) (S.faults shelf.old) (K.sunk sink.old) (K.faults sink.old))
-        (ports (S.held shelf.new) (S.faults shelf.new) (K.sunk sink.new) (K.faults sink.new)) result }
+fn once<S: Shelf, K: Sink, L: Link>(
+    alloc: Global,
+    name: &str,
+    shelf: &mut S,
+    sink: &mut K,
+    link: &mut L,
+) -> Status
+    ensures { Serves L.gives (λ trips. Answers (S.held shelf.old) trips (Once name.now))
+        (IsNamed (S.held shelf.old) (Once name.now))
+        (ports (S.held shelf.old) (S.faults shelf.old) (K.sunk sink.old) (K.faults sink.old) (L.trips link.old)
+        (L.faults link.old))
+        (ports (S.held shelf.new) (S.faults shelf.new) (K.sunk sink.new) (K.faults sink.new) (L.trips link.new)
+        (L.faults link.new)) result }
 {
     match once_world(alloc) {
-        Ok(world) => play(alloc, &[name], &world, shelf, sink),
+        Ok(world) => play(alloc, &[name], &world, shelf, sink, link),
         Err(_) => Status::NoMemory,
     }
 }
 
 /// Runs a world file, or refuses it.
-fn replay<S: Shelf, K: Sink>(alloc: Global, name: &str, shelf: &mut S, sink: &mut K) -> Status
-    ensures { Serves (Answers (S.held shelf.old) [] (Replay name.now)) (IsNamed (S.held shelf.old) (Replay name.now))
-        (ports (S.held shelf.old) (S.faults shelf.old) (K.sunk sink.old) (K.faults sink.old))
-        (ports (S.held shelf.new) (S.faults shelf.new) (K.sunk sink.new) (K.faults sink.new)) result }
+fn replay<S: Shelf, K: Sink, L: Link>(
+    alloc: Global,
+    name: &str,
+    shelf: &mut S,
+    sink: &mut K,
+    link: &mut L,
+) -> Status
+    ensures { Serves L.gives (λ trips. Answers (S.held shelf.old) trips (Replay name.now))
+        (IsNamed (S.held shelf.old) (Replay name.now))
+        (ports (S.held shelf.old) (S.faults shelf.old) (K.sunk sink.old) (K.faults sink.old) (L.trips link.old)
+        (L.faults link.old))
+        (ports (S.held shelf.new) (S.faults shelf.new) (K.sunk sink.new) (K.faults sink.new) (L.trips link.new)
+        (L.faults link.new)) result }
 {
     let text = match read_all(alloc, shelf, name, MAX_WORLD_BYTES) {
         Ok(text) => text,
         Err(fault) => return unread(fault),
     };
     match read_world(alloc, text.as_slice()) {
-        Ok(world) => play_world(alloc, &world, shelf, sink),
+        Ok(world) => play_world(alloc, &world, shelf, sink, link),
         Err(Refusal::Fault(fault)) => {
             status_after(
                 write_line(world_refusal(alloc, name, &fault), sink),
@@ -117,62 +147,71 @@ fn replay<S: Shelf, K: Sink>(alloc: Global, name: &str, shelf: &mut S, sink: &mu
 }
 
 /// Plays a world with the files that it names.
-fn play_world<S: Shelf, K: Sink>(
+fn play_world<S: Shelf, K: Sink, L: Link>(
     alloc: Global,
     world: &WorldFile,
     shelf: &mut S,
     sink: &mut K,
+    link: &mut L,
 ) -> Status
     requires { IsInRange world.now }
-    ensures { Serves (Plays (S.held shelf.old) [] (play_of world.now)) (Contains (names_in world.now))
-        (ports (S.held shelf.old) (S.faults shelf.old) (K.sunk sink.old) (K.faults sink.old))
-        (ports (S.held shelf.new) (S.faults shelf.new) (K.sunk sink.new) (K.faults sink.new)) result }
+    ensures { Serves L.gives (λ trips. Plays (S.held shelf.old) trips (play_of world.now)) (Contains (names_in world.now))
+        (ports (S.held shelf.old) (S.faults shelf.old) (K.sunk sink.old) (K.faults sink.old) (L.trips link.old)
+        (L.faults link.old))
+        (ports (S.held shelf.new) (S.faults shelf.new) (K.sunk sink.new) (K.faults sink.new) (L.trips link.new)
+        (L.faults link.new)) result }
 {
     match file_names(alloc, world.files.as_slice()) {
-        Ok(names) => play(alloc, names.as_slice(), world, shelf, sink),
+        Ok(names) => play(alloc, names.as_slice(), world, shelf, sink, link),
         Err(_) => Status::NoMemory,
     }
 }
 
 /// Plays a world whose scripts have their texts in the files of these names.
-fn play<S: Shelf, K: Sink>(
+fn play<S: Shelf, K: Sink, L: Link>(
     alloc: Global,
     names: &[&str],
     world: &WorldFile,
     shelf: &mut S,
     sink: &mut K,
+    link: &mut L,
 ) -> Status
     requires range { IsInRange world.now }
     requires names { length names.now ≡ length world.now.files }
-    ensures { Serves
-        (Plays (S.held shelf.old) [] (record { names = map (λ n. n.now) names.now; world = world.now }))
+    ensures { Serves L.gives
+        (λ trips. Plays (S.held shelf.old) trips (record { names = map (λ n. n.now) names.now; world = world.now }))
         (Contains (map (λ n. n.now) names.now))
-        (ports (S.held shelf.old) (S.faults shelf.old) (K.sunk sink.old) (K.faults sink.old))
-        (ports (S.held shelf.new) (S.faults shelf.new) (K.sunk sink.new) (K.faults sink.new)) result }
+        (ports (S.held shelf.old) (S.faults shelf.old) (K.sunk sink.old) (K.faults sink.old) (L.trips link.old)
+        (L.faults link.old))
+        (ports (S.held shelf.new) (S.faults shelf.new) (K.sunk sink.new) (K.faults sink.new) (L.trips link.new)
+        (L.faults link.new)) result }
 {
     match read_scripts(alloc, shelf, names) {
-        Ok(texts) => write_play(alloc, names, world, texts.as_slice(), sink),
+        Ok(texts) => write_play(alloc, names, world, texts.as_slice(), sink, link),
         Err(fault) => unread(fault),
     }
 }
 
-/// Writes the journal of a world whose scripts have these texts, or the refusal of the first that isn't accepted.
-fn write_play<K: Sink>(
+/// Runs a world whose scripts have these texts and writes its journal, or the refusal of the first that isn't accepted.
+fn write_play<K: Sink, L: Link>(
     alloc: Global,
     names: &[&str],
     world: &WorldFile,
     texts: &[Vec<u8>],
     sink: &mut K,
+    link: &mut L,
 ) -> Status
     requires range { IsInRange world.now }
     requires names { length names.now ≡ length world.now.files }
     requires texts { length texts.now ≡ length names.now }
-    ensures { Finishes
-        (PlaysTexts [] (record { names = map (λ n. n.now) names.now; world = world.now }) (map (λ t. t.items) texts.now))
-        (log (K.sunk sink.old) (K.faults sink.old)) (log (K.sunk sink.new) (K.faults sink.new)) result }
+    ensures { Concludes L.gives
+        (λ trips. PlaysTexts trips (record { names = map (λ n. n.now) names.now; world = world.now })
+        (map (λ t. t.items) texts.now))
+        (log (K.sunk sink.old) (K.faults sink.old)) (log (K.sunk sink.new) (K.faults sink.new))
+        (wire (L.trips link.old) (L.faults link.old)) (wire (L.trips link.new) (L.faults link.new)) result }
 {
     match build_scripts(alloc, texts) {
-        Ok(units) => status_after(write_report(alloc, world, units, sink), Status::Ok),
+        Ok(units) => status_after(write_report(alloc, world, units, sink, link), Status::Ok),
         Err(Refusal::Fault(refused)) => status_after(
             write_line(
                 refusal(alloc, name_at(names, refused.place), &refused.fault),

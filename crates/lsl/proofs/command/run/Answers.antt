@@ -14,8 +14,9 @@ returns-clause-ends g c =
         write_fault = done.write_fault;
         complete = λ files trips command answer told words answers calm.
             done.complete files trips command answer told words answers calm.reads calm.writes;
-        headline = λ files command file programs told words runs calm.
-            done.headline files command file programs told words runs calm.reads calm.writes;
+        headline = λ files command file programs before trips told words runs tells telling honest calm.
+            done.headline files command file programs before trips told words runs tells telling honest calm.reads
+            calm.writes;
         unchanged = done.unchanged;
         reads_counted = done.counted.0;
         writes_counted = done.counted.1;

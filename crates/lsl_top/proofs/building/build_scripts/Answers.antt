@@ -1,12 +1,14 @@
-use Rattle.std.proofs.Common.{Some, Err, ℕ, Vec, Global, map, List, [], ◌∷◌, ◌++◌, length, ap, sym, ◌∙◌, subst, arith, length-append}
+use Rattle.std.proofs.Common.{Some, Err, ℕ, Vec, Global, map, take, List, [], ◌∷◌, ◌++◌, ◌+◌, length, ap, sym, ◌∙◌, subst, arith, length-append}
 use Rattle.std.specs.List.{AllZip}
 use Rattle.lsl_code.specs.declared.woven_units.Woven.{Woven as Code}
 use Rattle.lsl_tree.specs.Program.{program_of}
 use Rattle.lsl_build.specs.Accepted.{Accepted}
+use Rattle.lsl_build.specs.Codes.{AreCodesOf, IsCodeOf}
 use Rattle.lsl_build.specs.Faults.{FirstFault}
 use Rattle.lsl_world.specs.Codes.{AreRunBy, IsRunBy}
 use Rattle.lsl_top.specs.Scripts.{IsRefusedAt}
 use Rattle.lsl_top.specs.declared.building.Refused.{Refused as TheRefused}
+use Rattle.lsl_top.proofs.OneCode.{codes-push}
 use Rattle.lsl_top.proofs.Faults.{refused-place}
 use Rattle.lsl_top.proofs.Zips.{get-at, zip-push, take-map-more}
 use Rattle.lsl_top.proofs.building.build_scripts.Goals as goal
@@ -37,6 +39,17 @@ loop-place-preserved c =
               shaped = built.shaped;
             })),
       );
+      codes = subst
+          (λ (z : List Code). AreCodesOf (take (c.loop-place.place + 1)
+          (map (λ (t : Vec ℕ Global). t.items) c.args.texts.now)) z) (sym added)
+          (subst (λ (z : List (List ℕ)). AreCodesOf z (c.loop-place.units ++ c.in-Ok.field-0.code ∷ []))
+          (sym (take-map-more (λ t. t.items) c.args.texts.now c.loop-place.place text text c.loop-place-test.true
+          c.index-texts-place.is))
+          (codes-push _ c.loop-place.units text.items c.in-Ok.field-0.code c.loop-place.invariant.codes (
+            program,
+            subst (λ (z : List ℕ). Accepted z program) c.as_slice.ensures.value built.found,
+            subst (λ (z : List ℕ). IsCodeOf z program c.in-Ok.field-0.code) c.as_slice.ensures.value built.code,
+          )));
       len = omega (
         arith,
         ap length added,

@@ -1,4 +1,5 @@
 use Rattle.std.proofs.Common.{◌≡◌, List, length, map, take}
+use Rattle.lsl_build.specs.Codes.{AreCodesOf}
 use Rattle.lsl_tree.specs.Program.{Program}
 use Rattle.lsl_world.specs.Codes.{AreRunBy}
 use Rattle.lsl_top.specs.Scripts.{AreAccepted}
@@ -9,5 +10,6 @@ invariant-loop-place l =
     record {
       built : (programs : List Program) × AreAccepted (take l.place (map (λ t. t.items) l.texts)) programs
           × AreRunBy programs l.units;
+      codes : AreCodesOf (take l.place (map (λ t. t.items) l.texts)) l.units;
       len : length l.units ≡ l.place;
     }

@@ -1,11 +1,11 @@
-use Rattle.std.proofs.Common.{[], Err, List, ℕ, refl, sym, ap, subst}
+use Rattle.std.proofs.Common.{Err, List, ℕ, refl, sym, ap, subst}
 use Rattle.lsl_top.specs.Answers.{Answers, Checks}
 use Rattle.lsl_top.specs.Named.{IsNamed}
-use Rattle.lsl_top.specs.Ports.{Serves, log, ports}
+use Rattle.lsl_top.specs.Ports.{Serves, log, ports, wire}
 use Rattle.lsl_top.specs.Words.{Check}
 use Rattle.lsl_top.specs.declared.status.Status.{Status}
 use Rattle.lsl_top.proofs.FilesRead.{checks-read, text-read}
-use Rattle.lsl_top.proofs.Finishing.{serve-finished, serve-unread}
+use Rattle.lsl_top.proofs.Finishing.{concludes-finished, serve-concluded, serve-unread}
 use Rattle.lsl_top.proofs.commands.check.Goals as goal
 
 pub returns-in-Ok : goal.returns-in-Ok
@@ -15,31 +15,35 @@ returns-in-Ok g c =
     let bytes = c.in-Ok.text.items in
     let read = c.in-Ok.ensures in
     let (text, is, of) = text-read held name bytes read.ok in
-    serve-finished (Checks name c.as_slice.result.now) (Answers held [] (Check name)) (IsNamed held (Check name)) held
+    let old = (log (g.K.Sink.sunk c.args.sink.now) (g.K.Sink.faults c.args.sink.now)) in
+    let new = (log (g.K.Sink.sunk c.write_check.new.sink) (g.K.Sink.faults c.write_check.new.sink)) in
+    let link = (wire (g.L.Link.trips c.args.link.now) (g.L.Link.faults c.args.link.now)) in
+    serve-concluded g.L.Link.gives (λ trips. Answers held trips (Check name)) (IsNamed held (Check name)) held
     (g.S.Shelf.held c.read_script.new.shelf) (g.S.Shelf.faults c.args.shelf.now)
-    (g.S.Shelf.faults c.read_script.new.shelf) read.unchanged read.counted (g.K.Sink.sunk c.args.sink.now)
-    (g.K.Sink.faults c.args.sink.now)
-    (log (g.K.Sink.sunk c.write_check.new.sink) (g.K.Sink.faults c.write_check.new.sink)) c.write_check.result
-    (λ answer h. (
+    (g.S.Shelf.faults c.read_script.new.shelf) read.unchanged read.counted
+    (λ trips. Checks name c.as_slice.result.now) old new link link c.write_check.result
+    (λ trips answer h. (
       text,
       is,
       checks-read name bytes text answer of
           (subst (λ (z : List ℕ). Checks name z answer) c.as_slice.ensures.value h),
     ))
-    c.write_check.ensures
+    (concludes-finished g.L.Link.gives (Checks name c.as_slice.result.now) (λ trips. Checks name c.as_slice.result.now)
+    old new link c.write_check.result (λ trips answer h. h) c.write_check.ensures)
 
 pub returns-in-Err : goal.returns-in-Err
 returns-in-Err g c =
     let held = g.S.Shelf.held c.args.shelf.now in
     let name = c.args.name.now in
     let read = c.in-Err.ensures in
-    let sunk = g.K.Sink.sunk c.args.sink.now in
-    let writes = g.K.Sink.faults c.args.sink.now in
-    subst (λ (status : Status). Serves (Answers held [] (Check name)) (IsNamed held (Check name))
-    (ports held (g.S.Shelf.faults c.args.shelf.now) sunk writes)
-    (ports (g.S.Shelf.held c.read_script.new.shelf) (g.S.Shelf.faults c.read_script.new.shelf) sunk writes) status)
+    subst (λ (status : Status). Serves g.L.Link.gives (λ trips. Answers held trips (Check name)) (IsNamed held (Check name))
+    (ports held (g.S.Shelf.faults c.args.shelf.now) (g.K.Sink.sunk c.args.sink.now) (g.K.Sink.faults c.args.sink.now)
+    (g.L.Link.trips c.args.link.now) (g.L.Link.faults c.args.link.now))
+    (ports (g.S.Shelf.held c.read_script.new.shelf) (g.S.Shelf.faults c.read_script.new.shelf) (g.K.Sink.sunk c.args.sink.now)
+    (g.K.Sink.faults c.args.sink.now) (g.L.Link.trips c.args.link.now) (g.L.Link.faults c.args.link.now)) status)
     (sym c.unread.ensures)
-    (serve-unread (Answers held [] (Check name)) (IsNamed held (Check name)) held
-    (g.S.Shelf.held c.read_script.new.shelf) (g.S.Shelf.faults c.args.shelf.now)
-    (g.S.Shelf.faults c.read_script.new.shelf) read.unchanged read.counted sunk writes c.in-Err.fault
+    (serve-unread g.L.Link.gives (λ trips. Answers held trips (Check name)) (IsNamed held (Check name)) held
+    (g.S.Shelf.held c.read_script.new.shelf) (g.S.Shelf.faults c.args.shelf.now) (g.S.Shelf.faults c.read_script.new.shelf)
+    read.unchanged read.counted (log (g.K.Sink.sunk c.args.sink.now) (g.K.Sink.faults c.args.sink.now))
+    (wire (g.L.Link.trips c.args.link.now) (g.L.Link.faults c.args.link.now)) c.in-Err.fault
     (λ e. (name, refl, read.err (ap (λ r. Err r) e))))

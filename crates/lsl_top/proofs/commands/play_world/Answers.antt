@@ -1,9 +1,9 @@
-use Rattle.std.proofs.Common.{[], ◌≡◌, List, ℕ, Bor, Contains, length, map, refl, sym, ap, ◌∙◌, subst, arith}
+use Rattle.std.proofs.Common.{◌≡◌, List, ℕ, Bor, Contains, length, map, refl, sym, ap, ◌∙◌, subst, arith}
 use Rattle.std.specs.Str.{encode_utf8_all}
 use Rattle.std.proofs.lemmas.List.{length-map}
 use Rattle.lsl_top.specs.Answers.{Plays}
 use Rattle.lsl_top.specs.Plays.{names_in, play_of}
-use Rattle.lsl_top.specs.Ports.{ports}
+use Rattle.lsl_top.specs.Ports.{log, ports, wire}
 use Rattle.lsl_top.proofs.Finishing.{serve-later, serve-memory}
 use Rattle.lsl_top.proofs.commands.play_world.Goals as goal
 
@@ -28,17 +28,21 @@ returns-in-Ok g c =
     let names = map name c.as_slice-in-Ok.result.now in
     let same : names ≡ names_in world =
     ap (map name) c.as_slice-in-Ok.ensures.value ∙ c.in-Ok.ensures ∙ ap (map encode_utf8_all) c.as_slice.ensures in
-    serve-later (Plays held [] (record { names = names; world = world })) (Plays held [] (play_of world))
-    (Contains names) (Contains (names_in world)) held held faults faults
-    (g.K.Sink.sunk c.args.sink.now) (g.K.Sink.faults c.args.sink.now)
+    serve-later g.L.Link.gives (λ trips. Plays held trips (record { names = names; world = world }))
+    (λ trips. Plays held trips (play_of world)) (Contains names) (Contains (names_in world)) held held faults faults
+    (log (g.K.Sink.sunk c.args.sink.now) (g.K.Sink.faults c.args.sink.now))
+    (wire (g.L.Link.trips c.args.link.now) (g.L.Link.faults c.args.link.now))
     (ports (g.S.Shelf.held c.play.new.shelf) (g.S.Shelf.faults c.play.new.shelf) (g.K.Sink.sunk c.play.new.sink)
-    (g.K.Sink.faults c.play.new.sink)) c.play.result refl (λ n. omega arith)
-    (λ answer h. subst (λ (ns : List (List ℕ)). Plays held [] (record { names = ns; world = world }) answer) same h)
+    (g.K.Sink.faults c.play.new.sink) (g.L.Link.trips c.play.new.link) (g.L.Link.faults c.play.new.link)) c.play.result refl (λ n. omega arith)
+    (λ trips answer h.
+    subst (λ (ns : List (List ℕ)). Plays held trips (record { names = ns; world = world }) answer) same h)
     (λ n h. subst (λ (ns : List (List ℕ)). Contains ns n) same h) c.play.ensures
 
 pub returns-in-Err : goal.returns-in-Err
 returns-in-Err g c =
     let held = g.S.Shelf.held c.args.shelf.now in
-    serve-memory (Plays held [] (play_of c.args.world.now)) (Contains (names_in c.args.world.now)) held held
-    (g.S.Shelf.faults c.args.shelf.now) (g.S.Shelf.faults c.args.shelf.now) refl (λ n. omega arith)
-    (g.K.Sink.sunk c.args.sink.now) (g.K.Sink.faults c.args.sink.now)
+    serve-memory g.L.Link.gives (λ trips. Plays held trips (play_of c.args.world.now))
+    (Contains (names_in c.args.world.now)) held held (g.S.Shelf.faults c.args.shelf.now)
+    (g.S.Shelf.faults c.args.shelf.now) refl (λ n. omega arith)
+    (log (g.K.Sink.sunk c.args.sink.now) (g.K.Sink.faults c.args.sink.now))
+    (wire (g.L.Link.trips c.args.link.now) (g.L.Link.faults c.args.link.now))

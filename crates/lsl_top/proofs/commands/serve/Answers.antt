@@ -1,4 +1,4 @@
-use Rattle.std.proofs.Common.{[], sym, ap, subst}
+use Rattle.std.proofs.Common.{sym, ap, subst}
 use Rattle.lsl_top.specs.Answers.{Answers}
 use Rattle.lsl_top.specs.Meant.{asked_by}
 use Rattle.lsl_top.specs.Named.{IsNamed}
@@ -9,26 +9,32 @@ use Rattle.lsl_top.proofs.commands.serve.Goals as goal
 pub returns-in-Once : goal.returns-in-Once
 returns-in-Once g c =
     let held = g.S.Shelf.held c.args.shelf.now in
-    subst (λ (command : Command). Serves (Answers held [] command) (IsNamed held command)
-    (ports held (g.S.Shelf.faults c.args.shelf.now) (g.K.Sink.sunk c.args.sink.now) (g.K.Sink.faults c.args.sink.now))
+    subst (λ (command : Command). Serves g.L.Link.gives (λ trips. Answers held trips command) (IsNamed held command)
+    (ports held (g.S.Shelf.faults c.args.shelf.now) (g.K.Sink.sunk c.args.sink.now) (g.K.Sink.faults c.args.sink.now)
+    (g.L.Link.trips c.args.link.now) (g.L.Link.faults c.args.link.now))
     (ports (g.S.Shelf.held c.once.new.shelf) (g.S.Shelf.faults c.once.new.shelf) (g.K.Sink.sunk c.once.new.sink)
-    (g.K.Sink.faults c.once.new.sink)) c.once.result)
+    (g.K.Sink.faults c.once.new.sink) (g.L.Link.trips c.once.new.link) (g.L.Link.faults c.once.new.link))
+    c.once.result)
     (sym (ap asked_by c.in-Once.is)) c.once.ensures
 
 pub returns-in-Check : goal.returns-in-Check
 returns-in-Check g c =
     let held = g.S.Shelf.held c.args.shelf.now in
-    subst (λ (command : Command). Serves (Answers held [] command) (IsNamed held command)
-    (ports held (g.S.Shelf.faults c.args.shelf.now) (g.K.Sink.sunk c.args.sink.now) (g.K.Sink.faults c.args.sink.now))
+    subst (λ (command : Command). Serves g.L.Link.gives (λ trips. Answers held trips command) (IsNamed held command)
+    (ports held (g.S.Shelf.faults c.args.shelf.now) (g.K.Sink.sunk c.args.sink.now) (g.K.Sink.faults c.args.sink.now)
+    (g.L.Link.trips c.args.link.now) (g.L.Link.faults c.args.link.now))
     (ports (g.S.Shelf.held c.check.new.shelf) (g.S.Shelf.faults c.check.new.shelf) (g.K.Sink.sunk c.check.new.sink)
-    (g.K.Sink.faults c.check.new.sink)) c.check.result)
+    (g.K.Sink.faults c.check.new.sink) (g.L.Link.trips c.check.new.link) (g.L.Link.faults c.check.new.link))
+    c.check.result)
     (sym (ap asked_by c.in-Check.is)) c.check.ensures
 
 pub returns-in-Replay : goal.returns-in-Replay
 returns-in-Replay g c =
     let held = g.S.Shelf.held c.args.shelf.now in
-    subst (λ (command : Command). Serves (Answers held [] command) (IsNamed held command)
-    (ports held (g.S.Shelf.faults c.args.shelf.now) (g.K.Sink.sunk c.args.sink.now) (g.K.Sink.faults c.args.sink.now))
+    subst (λ (command : Command). Serves g.L.Link.gives (λ trips. Answers held trips command) (IsNamed held command)
+    (ports held (g.S.Shelf.faults c.args.shelf.now) (g.K.Sink.sunk c.args.sink.now) (g.K.Sink.faults c.args.sink.now)
+    (g.L.Link.trips c.args.link.now) (g.L.Link.faults c.args.link.now))
     (ports (g.S.Shelf.held c.replay.new.shelf) (g.S.Shelf.faults c.replay.new.shelf) (g.K.Sink.sunk c.replay.new.sink)
-    (g.K.Sink.faults c.replay.new.sink)) c.replay.result)
+    (g.K.Sink.faults c.replay.new.sink) (g.L.Link.trips c.replay.new.link) (g.L.Link.faults c.replay.new.link))
+    c.replay.result)
     (sym (ap asked_by c.in-Replay.is)) c.replay.ensures

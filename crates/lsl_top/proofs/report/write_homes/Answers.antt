@@ -5,8 +5,8 @@ use Rattle.lsl_world.specs.Reports.{homes}
 use Rattle.lsl_top.specs.Ports.{Writes, log}
 use Rattle.lsl_top.proofs.report.write_homes.Goals as goal
 
-pub returns : goal.returns
-returns g c = λ programs w is.
+pub returns-clause-of : goal.returns-clause-of
+returns-clause-of g c = λ programs w is.
     let entries = c.as_slice.ensures ∙ c.in_ok-homes.ensures programs w is
     ∙ ap (λ (es : List Entry). es ++ homes w) c.new-entries.ensures in
     subst (λ (es : List Entry). Writes (lines_of es) (log (g.K.Sink.sunk c.args.sink.now)

@@ -1,16 +1,19 @@
-use Rattle.std.proofs.Common.{◌+◌, drop, ◌∙◌, refl, sym, subst, Ok as OkResult}
+use Rattle.std.proofs.Common.{◌+◌, [], ◌∷◌, drop, ◌∙◌, refl, sym, subst, Ok as OkResult}
 use Rattle.std.proofs.lemmas.List.{drop_all}
 use Rattle.std.proofs.lemmas.Result.{err_from_is_err_and}
 use Rattle.lsl_lines.specs.declared.file.Step.{Step}
-use Rattle.lsl_world.specs.Programs.{rules_of}
 use Rattle.lsl_world.specs.Sizes.{IsStepOf, Size}
 use Rattle.lsl_world.specs.Stands.{IsOf, size_of}
-use Rattle.lsl_world.specs.Steps.{next}
-use Rattle.lsl_top.proofs.Goings.{goes-none, goes-stop, goes-then, step-here}
+use Rattle.lsl_top.proofs.Goings.{goes-none, goes-stop, goes-then, goes-units, step-here}
 use Rattle.lsl_top.proofs.report.write_steps.Goals as goal
 
 pub loop-step-init : goal.loop-step-init
-loop-step-init g c = record { sound = c.requires.sound; size = refl; goes = λ programs last end r rest. rest }
+loop-step-init g c = record {
+  sound = c.requires.sound;
+  units = refl;
+  size = refl;
+  goes = λ last end done r rest. rest;
+}
 
 pub write_step-requires-clause-sound : goal.write_step-requires-clause-sound
 write_step-requires-clause-sound g c = c.loop-step.invariant.sound
@@ -25,30 +28,32 @@ pub returns-in_err-write_step : goal.returns-in_err-write_step
 returns-in_err-write_step g c =
     let p = err_from_is_err_and c.from_residual.result c.from_residual.ensures.1 in
     rw (p.1, p.2)
-    (λ programs.
-    c.loop-step.invariant.goes programs c.write_step.new.world _ _
-    (goes-stop (next (rules_of programs)) c.step-item.result
-    (drop (c.loop-step.step-index + 1) c.args.steps.now) (drop c.loop-step.step-index c.args.steps.now) _ _ _ _
+    (c.loop-step.invariant.goes c.write_step.new.world _ _ _
+    (goes-stop g.L.Link.gives c.args.world.now.units c.step-item.result
+    (drop (c.loop-step.step-index + 1) c.args.steps.now) (drop c.loop-step.step-index c.args.steps.now) _ _ _ _ _ _
     c.in_err-write_step.field-0.0
     (step-here c.args.steps.now c.loop-step.step-index c.step-item.result c.loop-step-test.true c.step-item.is)
-    (c.in_err-write_step.ensures.goes programs)))
+    (goes-units g.L.Link.gives c.loop-step.world.units c.args.world.now.units (c.step-item.result ∷ []) _ _ _ _ _ _ _
+    c.loop-step.invariant.units c.in_err-write_step.ensures.goes)))
 
 pub loop-step-preserved : goal.loop-step-preserved
 loop-step-preserved g c =
     record {
       sound = c.in_ok-write_step.ensures.sound;
+      units = c.in_ok-write_step.ensures.units ∙ c.loop-step.invariant.units;
       size = c.in_ok-write_step.ensures.size ∙ c.loop-step.invariant.size;
-      goes = λ programs last end r rest.
-          c.loop-step.invariant.goes programs last end r
-          (goes-then (next (rules_of programs)) tt c.step-item.result
+      goes = λ last end done r rest.
+          c.loop-step.invariant.goes last end done r
+          (goes-then g.L.Link.gives c.args.world.now.units tt c.step-item.result
           (drop (c.loop-step.step-index + 1) c.args.steps.now) (drop c.loop-step.step-index c.args.steps.now) _
-          (IsOf programs c.write_step.new.world) _ _ _ end r
+          (λ programs. IsOf programs c.write_step.new.world) _ _ _ end _ _ done r
           (step-here c.args.steps.now c.loop-step.step-index c.step-item.result c.loop-step-test.true c.step-item.is)
-          (c.in_ok-write_step.ensures.goes programs) rest);
+          (goes-units g.L.Link.gives c.loop-step.world.units c.args.world.now.units (c.step-item.result ∷ []) _ _ _ _ _ _ _
+          c.loop-step.invariant.units c.in_ok-write_step.ensures.goes) rest);
     }
 
 pub returns : goal.returns
-returns g c = λ programs.
-    c.loop-step.invariant.goes programs c.loop-step.world _ (OkResult tt)
-    (goes-none (next (rules_of programs)) tt _ _ _
+returns g c =
+    c.loop-step.invariant.goes c.loop-step.world _ _ (OkResult tt)
+    (goes-none g.L.Link.gives c.args.world.now.units tt _ _ _ _
     (drop_all c.loop-step.step-index c.args.steps.now c.loop-step-test.false))

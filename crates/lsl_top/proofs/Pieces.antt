@@ -1,0 +1,137 @@
+-- Pieces that are written and sent, and then others.
+use Rattle.std.proofs.Common.{◌≡◌, ℕ, zero, suc, ◌+◌, ◌<◌, ◌≤◌, List, [], ◌∷◌, ◌++◌, take, length, map, Option, refl, ap, ap₂, sym, ◌∙◌, subst, arith, append-nil, append_assoc, length-append}
+use Rattle.std.proofs.lemmas.List.{map-append, take_all, take-append-le}
+use Rattle.std.proofs.Math.Seq.{take-append-add}
+use Rattle.lsl_ports.specs.Growth.{Begins, Grew, GrewPartly}
+use Rattle.lsl_ports.specs.Trips.{Trip, sent_of}
+use Rattle.lsl_ports.proofs.Growth.{begins-after, begins-is, begins-more, begins-none, grew-is, grew-none, grew-then}
+use Rattle.lsl_top.specs.Pieces.{Piece, lines_in, sent_in}
+use Rattle.lsl_top.specs.Promise.{IsBegun, IsWhole}
+
+pub lines_in-append : (xs ys : List Piece) → lines_in (xs ++ ys) ≡ lines_in xs ++ lines_in ys
+lines_in-append [] ys = refl
+lines_in-append (x ∷ xs) ys =
+    ap (λ (z : List ℕ). x.lines ++ z) (lines_in-append xs ys) ∙ sym (append_assoc x.lines (lines_in xs) (lines_in ys))
+
+pub sent_in-append : (xs ys : List Piece) → sent_in (xs ++ ys) ≡ sent_in xs ++ sent_in ys
+sent_in-append [] ys = refl
+sent_in-append (x ∷ xs) ys =
+    ap (λ (z : List (List ℕ)). x.sent ++ z) (sent_in-append xs ys)
+    ∙ sym (append_assoc x.sent (sent_in xs) (sent_in ys))
+
+pub sent_of-append : (ts us : List Trip) → sent_of (ts ++ us) ≡ sent_of ts ++ sent_of us
+sent_of-append ts us = map-append (λ (t : Trip). t.sent) ts us
+
+-- the first pieces are the beginning of all
+take-begins : (n : ℕ) (xs : List Piece) → Begins (lines_in (take n xs)) (lines_in xs)
+take-begins zero xs = begins-none (lines_in xs)
+take-begins (suc n) [] = begins-none []
+take-begins (suc n) (x ∷ xs) =
+    begins-after x.lines (lines_in (take n xs)) (lines_in xs) (take-begins n xs)
+
+begins-through : {A : Type 0} (xs ys zs : List A) → Begins xs ys → Begins ys zs → Begins xs zs
+begins-through xs ys zs b c =
+    begins-is xs (ys ++ c.others) zs (begins-more xs ys c.others b) c.whole
+
+-- what was begun grew by first bytes of the whole
+pub begun-partly : (xs : List Piece) (ts : List Trip) (a b : Option (List ℕ)) → IsBegun xs ts a b
+    → GrewPartly a b (lines_in xs)
+begun-partly xs ts a b s = record {
+  added = s.added;
+  grew = s.grew;
+  begins = begins-through s.added (lines_in (take (suc s.done) xs)) (lines_in xs) s.part
+      (take-begins (suc s.done) xs);
+}
+
+pub whole-none : (a : Option (List ℕ)) → IsWhole [] [] a a
+whole-none a = record { written = grew-none a; sent = refl }
+
+pub begun-none : (xs : List Piece) (a : Option (List ℕ)) → 0 < length xs → IsBegun xs [] a a
+begun-none xs a some = record {
+  done = 0;
+  within = some;
+  added = [];
+  grew = grew-none a;
+  written = begins-none [];
+  part = begins-none (lines_in (take 1 xs));
+  sent = begins-none (sent_in (take 1 xs));
+}
+
+-- one piece, whose lines are these
+module _ (p : Piece) (lines : List ℕ) (ts : List Trip) (a b : Option (List ℕ)) (is : lines ≡ p.lines) where
+  pub whole-one : sent_of ts ≡ p.sent → Grew a b lines → IsWhole (p ∷ []) ts a b
+  whole-one sent grew = record {
+    written = grew-is a b lines (lines_in (p ∷ [])) grew (is ∙ sym (append-nil p.lines));
+    sent = sent ∙ sym (append-nil p.sent);
+  }
+
+  pub begun-one : Begins (sent_of ts) p.sent → GrewPartly a b lines → IsBegun (p ∷ []) ts a b
+  begun-one sent part = record {
+    done = 0;
+    within = omega arith;
+    added = part.added;
+    grew = part.grew;
+    written = begins-none part.added;
+    part = begins-is part.added lines (lines_in (p ∷ [])) part.begins (is ∙ sym (append-nil p.lines));
+    sent = begins-is (sent_of ts) p.sent (sent_in (p ∷ [])) sent (sym (append-nil p.sent));
+  }
+
+-- whole pieces, and then others
+module _ (xs ys : List Piece) (ts us : List Trip) (a b c : Option (List ℕ)) (first : IsWhole xs ts a b) where
+  pub whole-then : IsWhole ys us b c → IsWhole (xs ++ ys) (ts ++ us) a c
+  whole-then second = record {
+    written = grew-is a c (lines_in xs ++ lines_in ys) (lines_in (xs ++ ys))
+        (grew-then a b c (lines_in xs) (lines_in ys) first.written second.written) (sym (lines_in-append xs ys));
+    sent = sent_of-append ts us ∙ ap₂ (λ (x y : List (List ℕ)). x ++ y) first.sent second.sent
+        ∙ sym (sent_in-append xs ys);
+  }
+
+  taken : (n : ℕ) → take (length xs + n) (xs ++ ys) ≡ xs ++ take n ys
+  taken n = take-append-add xs ys n
+
+  lines-taken : (n : ℕ) → lines_in (take (length xs + n) (xs ++ ys)) ≡ lines_in xs ++ lines_in (take n ys)
+  lines-taken n = ap lines_in (taken n) ∙ lines_in-append xs (take n ys)
+
+  sent-taken : (n : ℕ) → sent_in (take (length xs + n) (xs ++ ys)) ≡ sent_in xs ++ sent_in (take n ys)
+  sent-taken n = ap sent_in (taken n) ∙ sent_in-append xs (take n ys)
+
+  pub begun-then : IsBegun ys us b c → IsBegun (xs ++ ys) (ts ++ us) a c
+  begun-then s =
+      let next : suc (length xs + s.done) ≡ length xs + suc s.done = omega arith in
+      let added = lines_in xs ++ s.added in
+      let lines = lines_in xs ++ lines_in (take (suc s.done) ys) in
+      let images = sent_in xs ++ sent_in (take (suc s.done) ys) in
+      record {
+        done = length xs + s.done;
+        within = let within = s.within in omega (arith, length-append xs ys);
+        added = added;
+        grew = grew-then a b c (lines_in xs) s.added first.written s.grew;
+        written = subst (λ (z : List ℕ). Begins z added) (sym (lines-taken s.done))
+            (begins-after (lines_in xs) (lines_in (take s.done ys)) s.added s.written);
+        part = begins-is added lines (lines_in (take (suc (length xs + s.done)) (xs ++ ys)))
+            (begins-after (lines_in xs) s.added (lines_in (take (suc s.done) ys)) s.part)
+            (sym (lines-taken (suc s.done)) ∙ ap (λ (n : ℕ). lines_in (take n (xs ++ ys))) (sym next));
+        sent = subst (λ (z : List (List ℕ)). Begins z (sent_in (take (suc (length xs + s.done)) (xs ++ ys))))
+            (sym (sent_of-append ts us ∙ ap (λ (z : List (List ℕ)). z ++ sent_of us) first.sent))
+            (begins-is (sent_in xs ++ sent_of us) images (sent_in (take (suc (length xs + s.done)) (xs ++ ys)))
+            (begins-after (sent_in xs) (sent_of us) (sent_in (take (suc s.done) ys)) s.sent)
+            (sym (sent-taken (suc s.done)) ∙ ap (λ (n : ℕ). sent_in (take n (xs ++ ys))) (sym next)));
+      }
+
+-- pieces that were begun, whatever follows them
+pub begun-more : (xs ys : List Piece) (ts : List Trip) (a b : Option (List ℕ)) → IsBegun xs ts a b
+    → IsBegun (xs ++ ys) ts a b
+begun-more xs ys ts a b s =
+    let within = s.within in
+    let at : take s.done (xs ++ ys) ≡ take s.done xs = take-append-le s.done xs ys (omega arith) in
+    let next : take (suc s.done) (xs ++ ys) ≡ take (suc s.done) xs =
+    take-append-le (suc s.done) xs ys (omega arith) in
+    record {
+      done = s.done;
+      within = omega (arith, length-append xs ys);
+      added = s.added;
+      grew = s.grew;
+      written = subst (λ (z : List Piece). Begins (lines_in z) s.added) (sym at) s.written;
+      part = subst (λ (z : List Piece). Begins s.added (lines_in z)) (sym next) s.part;
+      sent = subst (λ (z : List Piece). Begins (sent_of ts) (sent_in z)) (sym next) s.sent;
+    }

@@ -1,0 +1,47 @@
+-- What is written and sent, piece by piece: a run has a piece for each step, and then one that tells where each object
+-- is.
+use Rattle.std.specs.Prelude.{ℕ, List, [], ◌∷◌, ◌++◌}
+use Rattle.lsl_ports.specs.Trips.{Trip}
+use Rattle.lsl_code.specs.declared.woven_units.Woven.{Woven as Code}
+use Rattle.lsl_script.specs.Rules.{Rules}
+use Rattle.lsl_region.specs.Worlds.{World}
+use Rattle.lsl_lines.specs.Journal.{lines_of}
+use Rattle.lsl_lines.specs.declared.file.Step.{Step}
+use Rattle.lsl_lines.specs.declared.file.WorldFile.{WorldFile}
+use Rattle.lsl_world.specs.Reports.{homes}
+use Rattle.lsl_world.specs.Starts.{start}
+use Rattle.lsl_world.specs.Travels.{go_on, images_of, left, travel}
+
+-- lines, and what is handed to the link before they are written, in order
+pub record Piece : Type 0 where
+  pub lines : List ℕ
+  pub sent : List (List ℕ)
+
+abbrev pub lines_in : List Piece → List ℕ
+lines_in [] = []
+lines_in (piece ∷ pieces) = piece.lines ++ lines_in pieces
+
+abbrev pub sent_in : List Piece → List (List ℕ)
+sent_in [] = []
+sent_in (piece ∷ pieces) = piece.sent ++ sent_in pieces
+
+-- a step's lines, and the image that it sends, or none
+abbrev pub step_piece : List Code → Rules → Step → List Trip → World → Piece
+step_piece codes r step trips w =
+    record { lines = lines_of (go_on r step trips w).entries; sent = images_of codes step w }
+
+-- the pieces of all steps by the trips that are made, in order
+unfoldable pub step_pieces : List Code → Rules → List Step → List Trip → World → List Piece
+step_pieces codes r [] trips w = []
+step_pieces codes r (step ∷ steps) trips w =
+    step_piece codes r step trips w ∷ step_pieces codes r steps (left step w trips) (go_on r step trips w).value
+
+-- where each object is
+abbrev pub home_piece : World → Piece
+home_piece w = record { lines = lines_of (homes w); sent = [] }
+
+-- the pieces of a file's run, where its scripts' units are these and mean this
+abbrev pub run_pieces : List Code → Rules → WorldFile → List Trip → List Piece
+run_pieces codes r file trips =
+    step_pieces codes r file.steps trips (start r file)
+    ++ home_piece (travel r file.steps trips (start r file)).value ∷ []
