@@ -7,6 +7,7 @@ from .places import write_text
 
 COLOURS = {
     "step": "1;36",
+    "cross": "1;35",
     "name": "2",
     "took": "1",
     "chat": "32",
@@ -54,7 +55,8 @@ def lines(entries, world, painter, observed=None, hidden=()):
 
 def step_line(names, number, clock, painter):
     step = names.world.steps[number]
-    return painter.paint("step", f"[{telling.seconds(clock)}] {names.step(step)}")
+    sort = "cross" if step.word in ("cross", "pause") else "step"
+    return painter.paint(sort, f"[{telling.seconds(clock)}] {names.step(step)}")
 
 
 def summary(entries, world, painter):

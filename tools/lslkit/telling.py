@@ -3,6 +3,8 @@ from . import journal, worlds
 from .quoting import quoted
 
 MOST_SHOWN = 240
+# What is shown for a region whose name is empty.
+NO_NAME = '""'
 VOICES = {"say": "says", "whisper": "whispers", "shout": "shouts", "region": "says in the region"}
 
 
@@ -19,6 +21,26 @@ def seconds(milliseconds):
     return f"{milliseconds // 1000}.{milliseconds % 1000:03d}"
 
 
+def ways(world):
+    """For the line of each crossing the region that the object is to leave there, and for each object where it is to be
+    at the end: a crossing whose link fails leaves it where it was."""
+    found, homes = {}, {number: it.region for number, it in enumerate(world.objects, 1)}
+    for step in world.steps:
+        if step.word == "cross":
+            number = int(step.fields[0])
+            found[step.line] = homes.get(number)
+            homes[number] = step.fields[1]
+    return found, homes
+
+
+def pauses(gaps):
+    """What a `pause` step asks for."""
+    if gaps == ["0"]:
+        return "no pauses from now on"
+    each = f"each {segments(gaps[0])}" if len(gaps) == 1 else f"by gaps of {', '.join(gaps)} segments"
+    return f"pauses from now on, {each}"
+
+
 class Names:
     """The names of a world's scripts and objects, and of those whose keys come up in it."""
 
@@ -33,6 +55,7 @@ class Names:
                 self.keys.setdefault(step.fields[2].lower(), step.fields[1])
             elif step.word == "touch":
                 self.keys.setdefault(step.fields[2].lower(), step.fields[3])
+        self.ways, self.homes = ways(self.world)
 
     def script(self, number):
         return self.scripts[number - 1] if 0 < number <= len(self.scripts) else f"script {number}"
@@ -96,7 +119,16 @@ class Names:
         return f"stops for good: {journal.fields(entry.rest)[0][0]}"
 
     def tell_home(self, entry):
-        return f"{self.object_name(entry.number)} is in {journal.fields(entry.rest)[0][0]}"
+        region, wanted = journal.fields(entry.rest)[0][0], self.homes.get(entry.number)
+        more = "" if wanted in (region, None) else f", and didn't get to {wanted or NO_NAME}"
+        return f"{self.object_name(entry.number)} is in {region or NO_NAME}{more}"
+
+    def crossing(self, number, region, left):
+        """A crossing to a region, from the one that it leaves."""
+        where = region or NO_NAME
+        if left == region:
+            return f"{self.object_name(number)} stays in {where}, where it is already"
+        return f"{self.object_name(number)} crosses {'' if left is None else f'from {left or NO_NAME} '}to {where}"
 
     def step(self, step):
         """A step of the world file."""
@@ -109,7 +141,11 @@ class Names:
             return f"{fields[3] or 'someone'} touches {self.object_name(number)}{more}"
         if step.word == "clock":
             return f"the clock goes to {seconds(int(fields[0]))} s"
-        if step.word in ("changed", "rez", "cross"):
+        if step.word == "cross":
+            return self.crossing(int(fields[0]), fields[1], self.ways.get(step.line))
+        if step.word == "pause":
+            return pauses(fields)
+        if step.word in ("changed", "rez"):
             return f"{self.object_name(int(fields[0]))}: {step.word} {fields[1]}"
         if step.word == "go":
             return f"{self.script(int(fields[0]))} runs, at most {segments(fields[1])}"

@@ -100,8 +100,20 @@ def data_of(entries, world, observed):
         "texts": [names.entry(it, states.get(place)) for place, it in enumerate(entries)],
         "handlers": [[it.script, it.begin, it.end, ENDINGS[it.ending]] for it in handlers],
         "steps": [[place, clock, step.word, names.step(step)] for (step, place), clock in zip(places, clocks)],
+        "crossings": crossings(names, places),
         "arrows": Arrows(entries, world).all(places),
     }
+
+
+def crossings(names, places):
+    """Where objects cross: the line, the numbers of the object's scripts, and the words for it. An object that stays in
+    its region crosses nowhere."""
+    scripts = names.world.scripts
+    return [
+        [place, [at for at, it in enumerate(scripts, 1) if it.prim.object == int(step.fields[0])], names.step(step)]
+        for step, place in places
+        if step.word == "cross" and names.ways.get(step.line) != step.fields[1]
+    ]
 
 
 def prim_name(names, script):

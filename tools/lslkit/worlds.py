@@ -80,7 +80,7 @@ def wrong_word(line):
         return first.column, f"no line begins with `{first.text}`"
     fields = FORMS[first.text]
     if first.text == "pause":
-        return None
+        return wrong_gap(line, rest)
     for field, word in zip(fields, rest):
         reason = fault_of(field, word)
         if reason:
@@ -90,6 +90,18 @@ def wrong_word(line):
     if len(rest) < len(fields):
         return len(line.rstrip()) + 1, f"{fields[len(rest)]} is missing"
     return None
+
+
+def wrong_gap(line, words):
+    """Which gap of a `pause` is wrong, as its column and the reason. It takes up to 16 gaps, or 0 alone."""
+    if not words:
+        return len(line.rstrip()) + 1, "GAPS is missing"
+    if len(words) == 1 and words[0].text == "0" and not words[0].is_quoted:
+        return None
+    for word in words:
+        if word.text == "0" or fault_of("TICKS", word):
+            return word.column, "a gap is a decimal number from 1 to 1000000, and 0 stands alone"
+    return (words[16].column, "a gap too many: there are at most 16") if len(words) > 16 else None
 
 
 def fault_of(field, word):
