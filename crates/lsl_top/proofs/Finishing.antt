@@ -44,7 +44,7 @@ plain-whole status lines old new grew =
 plain-begun : (status : Status) (lines : List ℕ) (old new : Option (List ℕ)) → GrewPartly old new lines
     → IsBegun (plain status lines).pieces [] old new
 plain-begun status lines old new part =
-    begun-one (record { lines = lines; sent = [] }) lines [] old new refl (begins-none []) part
+    (0, begun-one (record { lines = lines; sent = [] }) lines [] old new refl (begins-none []) part)
 
 own-keeps : (IsAnswer : Answer → Type 0) (answer : Answer) (trips : List Trip) (old new : Option (List ℕ))
     (status : Status) → IsOwn status → answer.status ≡ status → IsAnswer answer

@@ -1,5 +1,5 @@
 -- Steps that go one by one.
-use Rattle.std.proofs.Common.{◌≡◌, ℕ, ◌+◌, ◌<◌, ◌≤◌, List, [], ◌∷◌, ◌++◌, drop, get_or, length, Option, Result, Ok as OkResult, Err, refl, ap, sym, ◌∙◌, subst, arith, append-nil}
+use Rattle.std.proofs.Common.{◌≡◌, ℕ, suc, ◌+◌, ◌<◌, ◌≤◌, List, [], ◌∷◌, ◌++◌, take, drop, get_or, length, Option, Result, Ok as OkResult, Err, refl, ap, sym, ◌∙◌, subst, arith, append-nil}
 use Rattle.std.specs.Prelude.{MatchResult}
 use Rattle.std.proofs.lemmas.List.{drop_more}
 use Rattle.lsl_code.specs.declared.woven_units.Woven.{Woven as Code}
@@ -16,10 +16,10 @@ use Rattle.lsl_script.specs.Rules.{Rules}
 use Rattle.lsl_region.specs.Worlds.{World}
 use Rattle.lsl_world.specs.Programs.{rules_of}
 use Rattle.lsl_world.specs.Travels.{Does, go_on, images_of, left, travel}
-use Rattle.lsl_top.specs.Goes.{Done, Goes, Runs}
+use Rattle.lsl_top.specs.Goes.{Done, Goes, Runs, StoppedAt}
 use Rattle.lsl_top.specs.Pieces.{Piece, sent_in, step_piece, step_pieces}
 use Rattle.lsl_top.specs.Ports.{Log, Wire, Writes}
-use Rattle.lsl_top.specs.Promise.{IsBegun, IsWhole}
+use Rattle.lsl_top.specs.Promise.{IsBegunAt, IsWhole}
 use Rattle.lsl_top.specs.declared.writing.Trouble.{Trouble}
 use Rattle.lsl_top.specs.declared.writing.Trouble.TheVariants.{NoMemory}
 use Rattle.lsl_top.proofs.Pieces.{begun-more, begun-one, begun-then, whole-none, whole-one, whole-then}
@@ -107,17 +107,22 @@ module _ (gives : List ℕ → Option (List ℕ) → Type 0) (codes : List Code)
     goes-memory e old new does = record {
       trips = trips;
       went = went;
-      runs = λ programs w is honest.
-          subst (λ (z : List Piece). IsBegun z trips a.sunk a.sunk)
-          (sym (pieces-one codes (rules_of programs) w step trips))
-          (begun-lacks programs w (does programs w is).sent);
+      runs = λ programs w is honest. (
+        0,
+        record {
+          begun = subst (λ (z : List Piece). IsBegunAt 0 z trips a.sunk a.sunk)
+              (sym (pieces-one codes (rules_of programs) w step trips))
+              (begun-lacks programs w (does programs w is).sent);
+          last = λ f. absurd (cc);
+        },
+      );
       counted = omega arith;
       links_counted = linked;
       cause = λ f. absurd (cc);
     }
       where
         begun-lacks : (programs : List Program) (w : World) → Begins (sent_of trips) (images_of codes step w)
-            → IsBegun (step_piece codes (rules_of programs) step trips w ∷ []) trips a.sunk a.sunk
+            → IsBegunAt 0 (step_piece codes (rules_of programs) step trips w ∷ []) trips a.sunk a.sunk
         begun-lacks programs w sent =
             let piece = step_piece codes (rules_of programs) step trips w in
             begun-one piece piece.lines trips a.sunk a.sunk refl sent
@@ -156,33 +161,53 @@ module _ (gives : List ℕ → Option (List ℕ) → Type 0) (codes : List Code)
               (whole-one (step_piece codes (rules_of programs) step trips w) (lines_of these) trips a.sunk b.sunk
               same sent written.ok);
         }
-        goes (Err e) programs w is same sent written =
-            subst (λ (z : List Piece). IsBegun z trips a.sunk b.sunk)
-            (sym (pieces-one codes (rules_of programs) w step trips))
-            (begun-one (step_piece codes (rules_of programs) step trips w) (lines_of these) trips a.sunk b.sunk same
-            (record { others = []; whole = append-nil (sent_of trips) ∙ sent }) written.part)
+        goes (Err e) programs w is same sent written = (
+          0,
+          record {
+            begun = subst (λ (z : List Piece). IsBegunAt 0 z trips a.sunk b.sunk)
+                (sym (pieces-one codes (rules_of programs) w step trips))
+                (begun-one (step_piece codes (rules_of programs) step trips w) (lines_of these) trips a.sunk b.sunk same
+                (record { others = []; whole = append-nil (sent_of trips) ∙ sent }) written.part);
+            last = λ f. subst (IsNow programs) (sym (value-one codes (rules_of programs) w step trips)) is;
+          },
+        )
 
   -- a step stopped, whatever was left to do behind it
   pub goes-stop : {T : Type 0} (step : Step) (rest steps : List Step) (IsThen IsNow : List Program → World → Type 0)
       (a b : Log) (p q : Wire) (e : Trouble) → steps ≡ step ∷ rest
       → Goes {T = T} gives codes IsThen IsNow (step ∷ []) a b p q (Err e)
       → Goes {T = T} gives codes IsThen IsNow steps a b p q (Err e)
-  goes-stop step rest steps IsThen IsNow a b p q e are one = rw are (record {
+  goes-stop {T = T} step rest steps IsThen IsNow a b p q e are one = rw are (record {
     trips = one.trips;
     went = one.went;
     runs = λ programs w is honest.
-        let r = rules_of programs in
-        let piece = step_piece codes r step one.trips w in
-        subst (λ (z : List Piece). IsBegun z one.trips a.sunk b.sunk)
-        (sym (pieces-first codes r w step rest one.trips))
-        (begun-more (piece ∷ [])
-        (step_pieces codes r rest (left step w one.trips) (go_on r step one.trips w).value) one.trips a.sunk b.sunk
-        (subst (λ (z : List Piece). IsBegun z one.trips a.sunk b.sunk) (pieces-one codes r w step one.trips)
-        (one.runs programs w is honest)));
+        let (n, stopped) = one.runs programs w is honest in
+        (n, stops programs w n stopped);
     counted = one.counted;
     links_counted = one.links_counted;
     cause = one.cause;
   })
+    where
+      stops : (programs : List Program) (w : World) (n : ℕ)
+          → StoppedAt {T = T} n codes (rules_of programs) (IsNow programs) (step ∷ []) w one.trips a.sunk b.sunk (Err e)
+          → StoppedAt {T = T} n codes (rules_of programs) (IsNow programs) (step ∷ rest) w one.trips a.sunk b.sunk (Err e)
+      stops programs w n s =
+          let r = rules_of programs in
+          let first = subst (λ (z : List Piece). IsBegunAt n z one.trips a.sunk b.sunk)
+          (pieces-one codes r w step one.trips) s.begun in
+          let within = first.within in
+          let none : n ≡ 0 = omega arith in
+          record {
+            begun = subst (λ (z : List Piece). IsBegunAt n z one.trips a.sunk b.sunk)
+                (sym (pieces-first codes r w step rest one.trips))
+                (begun-more n (step_piece codes r step one.trips w ∷ [])
+                (step_pieces codes r rest (left step w one.trips) (go_on r step one.trips w).value) one.trips a.sunk
+                b.sunk first);
+            last = λ f.
+                subst (λ (m : ℕ). IsNow programs (travel r (take (suc m) (step ∷ rest)) one.trips w).value) (sym none)
+                (subst (λ (m : ℕ). IsNow programs (travel r (take (suc m) (step ∷ [])) one.trips w).value) none
+                (s.last f));
+          }
 
   -- a step was done, and then all that is left, or as far as that went
   pub goes-then : {T U : Type 0} (u : U) (step : Step) (rest steps : List Step)
@@ -224,14 +249,24 @@ module _ (gives : List ℕ → Option (List ℕ) → Type 0) (codes : List Code)
                 (sym (pieces-then codes r w step rest one.trips others.trips sent))
                 (whole-then first second one.trips others.trips a.sunk b.sunk c.sunk whole d.whole);
           }
-      runs (Err e) programs w whole d =
+      runs (Err e) programs w whole (n, s) =
           let r = rules_of programs in
           let sent = whole.sent ∙ append-nil (images_of codes step w) in
           let first = step_piece codes r step one.trips w ∷ [] in
           let second = step_pieces codes r rest others.trips (go_on r step one.trips w).value in
-          subst (λ (z : List Piece). IsBegun z (one.trips ++ others.trips) a.sunk c.sunk)
-          (sym (pieces-then codes r w step rest one.trips others.trips sent))
-          (begun-then first second one.trips others.trips a.sunk b.sunk c.sunk whole d)
+          let next : suc (suc n) ≡ suc (length first + n) = omega arith in (
+            length first + n,
+            record {
+              begun = subst (λ (z : List Piece). IsBegunAt (length first + n) z (one.trips ++ others.trips) a.sunk c.sunk)
+                  (sym (pieces-then codes r w step rest one.trips others.trips sent))
+                  (begun-then first second one.trips others.trips a.sunk b.sunk c.sunk whole n s.begun);
+              last = λ f.
+                  subst (λ (m : ℕ). IsLast programs (travel r (take m (step ∷ rest)) (one.trips ++ others.trips) w).value)
+                  next
+                  (subst (IsLast programs)
+                  (sym (value-then codes r w step (take (suc n) rest) one.trips others.trips sent)) (s.last f));
+            },
+          )
 
   pub goes-of : {T : Type 0} (done steps : List Step) (IsThen IsNow : List Program → World → Type 0) (a b : Log)
       (p q : Wire) (result : Result T Trouble) → done ≡ steps → Goes gives codes IsThen IsNow done a b p q result

@@ -1,5 +1,5 @@
 -- A run of a file, from its steps to where each object is.
-use Rattle.std.proofs.Common.{◌≡◌, ℕ, ◌<◌, ◌≤◌, List, [], ◌∷◌, ◌++◌, length, Option, Result, Ok as OkResult, Err, refl, ap, sym, ◌∙◌, subst, arith, append-nil, length-append}
+use Rattle.std.proofs.Common.{◌≡◌, ℕ, ◌+◌, ◌<◌, ◌≤◌, List, [], ◌∷◌, ◌++◌, length, Option, Result, Ok as OkResult, Err, refl, ap, sym, ◌∙◌, subst, arith, append-nil, length-append}
 use Rattle.std.specs.Prelude.{IsErrOf, MatchResult}
 use Rattle.lsl_code.specs.declared.woven_units.Woven.{Woven as Code}
 use Rattle.lsl_ports.specs.Counts.{Rose}
@@ -45,7 +45,7 @@ module _ (gives : List ℕ → Option (List ℕ) → Type 0) (codes : List Code)
     trips = [];
     went = went-none gives p.told;
     runs = λ programs run honest.
-        begun-none (pieces programs []) a.sunk (some-pieces codes (rules_of programs) file []);
+        (0, begun-none (pieces programs []) a.sunk (some-pieces codes (rules_of programs) file []));
     counted = omega arith;
     links_counted = omega arith;
     cause = λ f. absurd (cc);
@@ -63,9 +63,11 @@ module _ (gives : List ℕ → Option (List ℕ) → Type 0) (codes : List Code)
       runs = λ programs run honest.
           let r = rules_of programs in
           let w = start r file in
-          begun-more (step_pieces codes r file.steps goes.trips w)
-          (home_piece (travel r file.steps goes.trips w).value ∷ []) goes.trips a.sunk b.sunk
-          (goes.runs programs w (starts programs run) honest);
+          let (done, stopped) = goes.runs programs w (starts programs run) honest in (
+            done,
+            begun-more done (step_pieces codes r file.steps goes.trips w)
+                (home_piece (travel r file.steps goes.trips w).value ∷ []) goes.trips a.sunk b.sunk stopped.begun,
+          );
       counted = goes.counted;
       links_counted = goes.links_counted;
       cause = goes.cause;
@@ -109,6 +111,8 @@ module _ (gives : List ℕ → Option (List ℕ) → Type 0) (codes : List Code)
             let r = rules_of programs in
             let home = home_piece (travel r file.steps goes.trips w).value in
             let first = step_pieces codes r file.steps goes.trips w in
-            subst (λ (z : List Trip). IsBegun (first ++ home ∷ []) z a.sunk c.sunk) (append-nil goes.trips)
-            (begun-then first (home ∷ []) goes.trips [] a.sunk b.sunk c.sunk d.whole
-            (begun-one home home.lines [] b.sunk c.sunk refl (begins-none []) written.part))
+            subst (λ (z : List Trip). IsBegun (first ++ home ∷ []) z a.sunk c.sunk) (append-nil goes.trips) (
+              length first + 0,
+              begun-then first (home ∷ []) goes.trips [] a.sunk b.sunk c.sunk d.whole 0
+                  (begun-one home home.lines [] b.sunk c.sunk refl (begins-none []) written.part),
+            )

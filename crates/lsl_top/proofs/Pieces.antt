@@ -6,7 +6,7 @@ use Rattle.lsl_ports.specs.Growth.{Begins, Grew, GrewPartly}
 use Rattle.lsl_ports.specs.Trips.{Trip, sent_of}
 use Rattle.lsl_ports.proofs.Growth.{begins-after, begins-is, begins-more, begins-none, grew-is, grew-none, grew-then}
 use Rattle.lsl_top.specs.Pieces.{Piece, lines_in, sent_in}
-use Rattle.lsl_top.specs.Promise.{IsBegun, IsWhole}
+use Rattle.lsl_top.specs.Promise.{IsBegun, IsBegunAt, IsWhole}
 
 pub lines_in-append : (xs ys : List Piece) → lines_in (xs ++ ys) ≡ lines_in xs ++ lines_in ys
 lines_in-append [] ys = refl
@@ -36,19 +36,17 @@ begins-through xs ys zs b c =
 -- what was begun grew by first bytes of the whole
 pub begun-partly : (xs : List Piece) (ts : List Trip) (a b : Option (List ℕ)) → IsBegun xs ts a b
     → GrewPartly a b (lines_in xs)
-begun-partly xs ts a b s = record {
+begun-partly xs ts a b (done, s) = record {
   added = s.added;
   grew = s.grew;
-  begins = begins-through s.added (lines_in (take (suc s.done) xs)) (lines_in xs) s.part
-      (take-begins (suc s.done) xs);
+  begins = begins-through s.added (lines_in (take (suc done) xs)) (lines_in xs) s.part (take-begins (suc done) xs);
 }
 
 pub whole-none : (a : Option (List ℕ)) → IsWhole [] [] a a
 whole-none a = record { written = grew-none a; sent = refl }
 
-pub begun-none : (xs : List Piece) (a : Option (List ℕ)) → 0 < length xs → IsBegun xs [] a a
+pub begun-none : (xs : List Piece) (a : Option (List ℕ)) → 0 < length xs → IsBegunAt 0 xs [] a a
 begun-none xs a some = record {
-  done = 0;
   within = some;
   added = [];
   grew = grew-none a;
@@ -65,9 +63,8 @@ module _ (p : Piece) (lines : List ℕ) (ts : List Trip) (a b : Option (List ℕ
     sent = sent ∙ sym (append-nil p.sent);
   }
 
-  pub begun-one : Begins (sent_of ts) p.sent → GrewPartly a b lines → IsBegun (p ∷ []) ts a b
+  pub begun-one : Begins (sent_of ts) p.sent → GrewPartly a b lines → IsBegunAt 0 (p ∷ []) ts a b
   begun-one sent part = record {
-    done = 0;
     within = omega arith;
     added = part.added;
     grew = part.grew;
@@ -95,39 +92,37 @@ module _ (xs ys : List Piece) (ts us : List Trip) (a b c : Option (List ℕ)) (f
   sent-taken : (n : ℕ) → sent_in (take (length xs + n) (xs ++ ys)) ≡ sent_in xs ++ sent_in (take n ys)
   sent-taken n = ap sent_in (taken n) ∙ sent_in-append xs (take n ys)
 
-  pub begun-then : IsBegun ys us b c → IsBegun (xs ++ ys) (ts ++ us) a c
-  begun-then s =
-      let next : suc (length xs + s.done) ≡ length xs + suc s.done = omega arith in
+  pub begun-then : (done : ℕ) → IsBegunAt done ys us b c → IsBegunAt (length xs + done) (xs ++ ys) (ts ++ us) a c
+  begun-then done s =
+      let next : suc (length xs + done) ≡ length xs + suc done = omega arith in
       let added = lines_in xs ++ s.added in
-      let lines = lines_in xs ++ lines_in (take (suc s.done) ys) in
-      let images = sent_in xs ++ sent_in (take (suc s.done) ys) in
+      let lines = lines_in xs ++ lines_in (take (suc done) ys) in
+      let images = sent_in xs ++ sent_in (take (suc done) ys) in
       record {
-        done = length xs + s.done;
         within = let within = s.within in omega (arith, length-append xs ys);
         added = added;
         grew = grew-then a b c (lines_in xs) s.added first.written s.grew;
-        written = subst (λ (z : List ℕ). Begins z added) (sym (lines-taken s.done))
-            (begins-after (lines_in xs) (lines_in (take s.done ys)) s.added s.written);
-        part = begins-is added lines (lines_in (take (suc (length xs + s.done)) (xs ++ ys)))
-            (begins-after (lines_in xs) s.added (lines_in (take (suc s.done) ys)) s.part)
-            (sym (lines-taken (suc s.done)) ∙ ap (λ (n : ℕ). lines_in (take n (xs ++ ys))) (sym next));
-        sent = subst (λ (z : List (List ℕ)). Begins z (sent_in (take (suc (length xs + s.done)) (xs ++ ys))))
+        written = subst (λ (z : List ℕ). Begins z added) (sym (lines-taken done))
+            (begins-after (lines_in xs) (lines_in (take done ys)) s.added s.written);
+        part = begins-is added lines (lines_in (take (suc (length xs + done)) (xs ++ ys)))
+            (begins-after (lines_in xs) s.added (lines_in (take (suc done) ys)) s.part)
+            (sym (lines-taken (suc done)) ∙ ap (λ (n : ℕ). lines_in (take n (xs ++ ys))) (sym next));
+        sent = subst (λ (z : List (List ℕ)). Begins z (sent_in (take (suc (length xs + done)) (xs ++ ys))))
             (sym (sent_of-append ts us ∙ ap (λ (z : List (List ℕ)). z ++ sent_of us) first.sent))
-            (begins-is (sent_in xs ++ sent_of us) images (sent_in (take (suc (length xs + s.done)) (xs ++ ys)))
-            (begins-after (sent_in xs) (sent_of us) (sent_in (take (suc s.done) ys)) s.sent)
-            (sym (sent-taken (suc s.done)) ∙ ap (λ (n : ℕ). sent_in (take n (xs ++ ys))) (sym next)));
+            (begins-is (sent_in xs ++ sent_of us) images (sent_in (take (suc (length xs + done)) (xs ++ ys)))
+            (begins-after (sent_in xs) (sent_of us) (sent_in (take (suc done) ys)) s.sent)
+            (sym (sent-taken (suc done)) ∙ ap (λ (n : ℕ). sent_in (take n (xs ++ ys))) (sym next)));
       }
 
 -- pieces that were begun, whatever follows them
-pub begun-more : (xs ys : List Piece) (ts : List Trip) (a b : Option (List ℕ)) → IsBegun xs ts a b
-    → IsBegun (xs ++ ys) ts a b
-begun-more xs ys ts a b s =
+pub begun-more : (done : ℕ) (xs ys : List Piece) (ts : List Trip) (a b : Option (List ℕ)) → IsBegunAt done xs ts a b
+    → IsBegunAt done (xs ++ ys) ts a b
+begun-more done xs ys ts a b s =
     let within = s.within in
-    let at : take s.done (xs ++ ys) ≡ take s.done xs = take-append-le s.done xs ys (omega arith) in
-    let next : take (suc s.done) (xs ++ ys) ≡ take (suc s.done) xs =
-    take-append-le (suc s.done) xs ys (omega arith) in
+    let at : take done (xs ++ ys) ≡ take done xs = take-append-le done xs ys (omega arith) in
+    let next : take (suc done) (xs ++ ys) ≡ take (suc done) xs =
+    take-append-le (suc done) xs ys (omega arith) in
     record {
-      done = s.done;
       within = omega (arith, length-append xs ys);
       added = s.added;
       grew = s.grew;

@@ -16,14 +16,16 @@ pub record IsWhole (pieces : List Piece) (trips : List Trip) (old new : Option (
 
 -- So many pieces were written whole, and then first bytes of the next one; first ones of what these and the next one
 -- send were sent. So all lines before the last piece of which something was sent were written.
-pub record IsBegun (pieces : List Piece) (trips : List Trip) (old new : Option (List ℕ)) : Type 0 where
-  pub done : ℕ
+pub record IsBegunAt (done : ℕ) (pieces : List Piece) (trips : List Trip) (old new : Option (List ℕ)) : Type 0 where
   pub within : done < length pieces
   pub added : List ℕ
   pub grew : Grew old new added
   pub written : Begins (lines_in (take done pieces)) added
   pub part : Begins added (lines_in (take (suc done) pieces))
   pub sent : Begins (sent_of trips) (sent_in (take (suc done) pieces))
+
+abbrev pub IsBegun : List Piece → List Trip → Option (List ℕ) → Option (List ℕ) → Type 0
+IsBegun pieces trips old new = (done : ℕ) × IsBegunAt done pieces trips old new
 
 -- an answer of this status was written and sent whole
 abbrev pub Wrote : (Answer → Type 0) → Status → List Trip → Option (List ℕ) → Option (List ℕ) → Type 0
