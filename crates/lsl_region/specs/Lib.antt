@@ -25,3 +25,4 @@ pub mod TurnEnds
 pub mod ObjectParts
 pub mod Crossings
 pub mod Journeys
+pub mod CrossingLaws

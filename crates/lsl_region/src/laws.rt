@@ -3,6 +3,7 @@
 ghost use Rattle.lsl_value.specs.declared.names.BuiltinId.TheVariants as calls;
 ghost use Rattle.lsl_post.specs.declared.entries.Voice.TheVariants as voices;
 ghost use Rattle.lsl_region.specs.ChatLaws.{OwnersAreTold, PrimsAreNamed, ScriptsHearByTheirListens, SpeaksAs};
+ghost use Rattle.lsl_region.specs.CrossingLaws.{CrossingsAreOneEvent, CrossingsToTheSameRegionAreNone};
 ghost use Rattle.lsl_region.specs.CutLaws.{NamesAreLongest, SpeechIsLongest};
 ghost use Rattle.lsl_region.specs.Laws.{CutsAreShort, NoSegmentDoesNothing, RegionIsSilentOnZero, RootHasTwoNumbers, ShortTextsAreWhole};
 ghost use Rattle.lsl_region.specs.LinkLaws.{ChildrenAreAllButTheRoot, NumbersMeanTheirPrim, OtherNumbersMeanNone, OthersAreAllButTheSender, PrimsAreNumbered, SetIsAll, ThisIsTheSender};
@@ -102,4 +103,11 @@ pub fn prims_are_named()
 /// A script hears what another prim than its own says, by any of its listens that asks it.
 pub fn scripts_hear_by_their_listens()
     ensures { ScriptsHearByTheirListens }
+{}
+
+/// An object that crosses is in the other region, and then its scripts are told by `changed` with CHANGED_REGION. To the
+/// region in which it is, nothing happens.
+pub fn crossings_are_one_event()
+    ensures elsewhere { CrossingsAreOneEvent }
+    ensures here { CrossingsToTheSameRegionAreNone }
 {}
