@@ -1,0 +1,86 @@
+//! How often scripts are saved: a row has the steps of a world with one script, and the count behind them.
+
+use crate::stepping::saves_of;
+use std::alloc::Global;
+use std::test::Fail;
+
+/// The box, its script, and one touch of it.
+const BEFORE: &str =
+    "object 00000000-0000-0000-0000-000000000001 \"Box\" 00000000-0000-0000-0000-000000000002 \"A\"
+script \"s\" \"s.lsl\"
+begin
+";
+
+const TOUCH: &str = "touch 1 0 00000000-0000-0000-0000-0000000000aa \"Ann\"";
+
+/// A call whose value is added to that of another one: seven segments.
+const CALLS: &str =
+    "integer f(integer n) { integer i; integer s; for (i = 0; i < n; ++i) s += i; return s; }
+integer g(integer n) { return n * 10; }
+default { touch_start(integer n) { llOwnerSay((string)(f(4) + g(1))); } }";
+
+/// A save is at the end of a turn that leaves the script in its handler, and behind each segment at which a gap ends.
+const OF_CALLS: &str = "touch; go 1 4; cross 1 \"B\"; run 100 -> 1
+pause 1; touch; go 1 4; cross 1 \"B\"; run 100 -> 7
+pause 2; touch; go 1 4; run 100 -> 4
+touch; run 100 -> 0
+touch; go 1 4; run 100 -> 1";
+
+/// A hundred rounds: a hundred and one segments.
+const LOOP: &str = "default { touch_start(integer n) { integer i; for (i = 0; i < 100; ++i) ; } }";
+
+const OF_LOOP: &str = "touch -> 0
+touch; go 1 0 -> 0
+touch; go 1 1 -> 1
+touch; go 1 100 -> 1
+touch; go 1 101 -> 0
+touch; go 1 1; go 1 100 -> 1
+touch; run 8 -> 1
+touch; run 9 -> 2
+touch; run 16 -> 2
+touch; run 100 -> 13
+touch; run 1000 -> 12
+pause 3; touch; go 1 10 -> 4
+pause 10; touch; go 1 10 -> 2
+pause 11; touch; go 1 10 -> 1
+pause 2 3; touch; go 1 10 -> 5
+pause 4; touch; go 1 3; pause 0; go 1 10 -> 2
+pause 4; touch; go 1 3; pause 4; go 1 3 -> 2
+pause 4; touch; go 1 3; go 1 3 -> 3
+pause 1; touch; go 1 101 -> 100";
+
+/// It sleeps in its first segment, and isn't ready before the clock goes on.
+const SLEEPER: &str =
+    "default { touch_start(integer n) { llSleep(1); llSleep(0); llOwnerSay(\"up\"); } }";
+
+const OF_SLEEPER: &str = "touch; go 1 5 -> 1
+pause 1; touch; go 1 5 -> 1
+pause 1; touch; go 1 5; go 1 5 -> 1
+pause 1; touch; go 1 5; clock 1000; go 1 1 -> 3
+pause 1; touch; go 1 5; clock 1000; go 1 5 -> 2";
+
+/// The world of a row's steps.
+fn world_of(alloc: Global, steps: &str) -> Result<String, Fail> {
+    let mut text = String::new(alloc);
+    text.push_str(BEFORE)?;
+    for step in steps.split("; ") {
+        text.push_str(if step == "touch" { TOUCH } else { step })?;
+        text.push('\n')?;
+    }
+    text.push_str("end\n")?;
+    Ok(text)
+}
+
+#[test]
+fn saves_are_counted(rt: HostRuntime) -> Result<(), Fail> {
+    for (script, rows) in [(CALLS, OF_CALLS), (LOOP, OF_LOOP), (SLEEPER, OF_SLEEPER)] {
+        for row in rows.split('\n') {
+            let (steps, want) = row.split_once(" -> ").ok_or("steps and a count")?;
+            let world = world_of(rt.alloc(), steps)?;
+            let saves = saves_of(rt.alloc(), world.as_str(), script)?;
+            let told = saves.ok_or("a good world and script")?;
+            assert!(rt; want.parse::<u64>() == Ok(told), "{row}: {told}");
+        }
+    }
+    Ok(())
+}
