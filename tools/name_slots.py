@@ -14,7 +14,7 @@ ROW = r'^ +\w+ "(\w+)" .*;$'
 PRIME = 65521
 NO_ROW = 255
 TABLES = [
-    ("calls", 128),
+    ("calls", 256),
     ("events", 16),
     ("constants", 32),
 ]

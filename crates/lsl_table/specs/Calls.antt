@@ -4,7 +4,7 @@ use Rattle.lsl_table.specs.declared.calls.Home.{Home}
 use Rattle.lsl_table.specs.declared.calls.Home.TheVariants as home
 use Rattle.lsl_table.specs.Names.{first_named}
 use Rattle.lsl_value.specs.declared.names.BuiltinId.{BuiltinId}
-use Rattle.lsl_value.specs.declared.names.BuiltinId.TheVariants.{Abs, StringLength, GetListLength, GetSubString, List2List, DeleteSubString, DeleteSubList, InsertString, ListInsertList, ListReplaceList, SubStringIndex, ListFindList, StringTrim, List2Integer, List2String, List2Key, GetListEntryType, DumpList2String, List2Csv, Csv2List, ParseString2List, ParseStringKeepNulls, GetUsedMemory, GetFreeMemory, Say, Whisper, Shout, RegionSay, OwnerSay, Listen, ListenRemove, ListenControl, SetTimerEvent, Sleep, ResetScript, MessageLinked, GetOwner, GetKey, GetLinkKey, GetLinkName, GetLinkNumber, GetNumberOfPrims, GetObjectName, SetObjectName, GetScriptName, GetRegionName, GetUnixTime, DetectedKey, DetectedName, DetectedLinkNumber}
+use Rattle.lsl_value.specs.declared.names.BuiltinId.TheVariants.{Abs, StringLength, GetListLength, GetSubString, List2List, DeleteSubString, DeleteSubList, InsertString, ListInsertList, ListReplaceList, SubStringIndex, ListFindList, StringTrim, List2Integer, List2String, List2Key, GetListEntryType, DumpList2String, List2Csv, Csv2List, ParseString2List, ParseStringKeepNulls, GetUsedMemory, GetFreeMemory, SetMemoryLimit, GetMemoryLimit, Say, Whisper, Shout, RegionSay, OwnerSay, Listen, ListenRemove, ListenControl, SetTimerEvent, Sleep, ResetScript, MessageLinked, GetOwner, GetKey, GetLinkKey, GetLinkName, GetLinkNumber, GetNumberOfPrims, GetObjectName, SetObjectName, GetScriptName, GetRegionName, GetUnixTime, DetectedKey, DetectedName, DetectedLinkNumber}
 use Rattle.lsl_value.specs.declared.tagged.Kind.{Kind}
 use Rattle.lsl_value.specs.declared.tagged.Kind.TheVariants.{Int, Str, Key, List as Items}
 
@@ -43,6 +43,8 @@ row_of ParseString2List = row home.Pure (codes "llParseString2List") (Str ∷ It
 row_of ParseStringKeepNulls = row home.Pure (codes "llParseStringKeepNulls") (Str ∷ Items ∷ Items ∷ []) (Some Items)
 row_of GetUsedMemory = row home.UsedMemory (codes "llGetUsedMemory") [] (Some Int)
 row_of GetFreeMemory = row home.FreeMemory (codes "llGetFreeMemory") [] (Some Int)
+row_of SetMemoryLimit = row home.SetLimit (codes "llSetMemoryLimit") (Int ∷ []) (Some Int)
+row_of GetMemoryLimit = row home.GetLimit (codes "llGetMemoryLimit") [] (Some Int)
 row_of Say = row home.Act (codes "llSay") (Int ∷ Str ∷ []) None
 row_of Whisper = row home.Act (codes "llWhisper") (Int ∷ Str ∷ []) None
 row_of Shout = row home.Act (codes "llShout") (Int ∷ Str ∷ []) None
@@ -79,10 +81,11 @@ builtins =
     Abs ∷ StringLength ∷ GetListLength ∷ GetSubString ∷ List2List ∷ DeleteSubString ∷ DeleteSubList ∷
     InsertString ∷ ListInsertList ∷ ListReplaceList ∷ SubStringIndex ∷ ListFindList ∷ StringTrim ∷
     List2Integer ∷ List2String ∷ List2Key ∷ GetListEntryType ∷ DumpList2String ∷ List2Csv ∷ Csv2List ∷
-    ParseString2List ∷ ParseStringKeepNulls ∷ GetUsedMemory ∷ GetFreeMemory ∷ Say ∷ Whisper ∷ Shout ∷
-    RegionSay ∷ OwnerSay ∷ Listen ∷ ListenRemove ∷ ListenControl ∷ SetTimerEvent ∷ Sleep ∷
-    ResetScript ∷ MessageLinked ∷ GetOwner ∷ GetKey ∷ GetLinkKey ∷ GetLinkName ∷ GetLinkNumber ∷
-    GetNumberOfPrims ∷ GetObjectName ∷ SetObjectName ∷ GetScriptName ∷ GetRegionName ∷ GetUnixTime ∷
+    ParseString2List ∷ ParseStringKeepNulls ∷ GetUsedMemory ∷ GetFreeMemory ∷ SetMemoryLimit ∷
+    GetMemoryLimit ∷ Say ∷ Whisper ∷ Shout ∷ RegionSay ∷ OwnerSay ∷ Listen ∷ ListenRemove ∷
+    ListenControl ∷ SetTimerEvent ∷ Sleep ∷ ResetScript ∷ MessageLinked ∷ GetOwner ∷ GetKey ∷
+    GetLinkKey ∷ GetLinkName ∷ GetLinkNumber ∷ GetNumberOfPrims ∷ GetObjectName ∷ SetObjectName ∷
+    GetScriptName ∷ GetRegionName ∷ GetUnixTime ∷
     DetectedKey ∷ DetectedName ∷ DetectedLinkNumber ∷ []
 
 -- the call of a name, and none where no call has it

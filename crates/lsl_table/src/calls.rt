@@ -18,6 +18,10 @@ pub enum Home {
     UsedMemory,
     /// by the machine: how much more it may be charged
     FreeMemory,
+    /// by the machine: how much it may be charged from now on
+    SetLimit,
+    /// by the machine: how much it may be charged
+    GetLimit,
     /// by the host, which only tells something
     Query,
     /// by the host, in the mailbox of the script that asks
@@ -70,6 +74,8 @@ macro_rules! builtins {
             ParseStringKeepNulls "llParseStringKeepNulls" Pure (Str, List, List) List;
             GetUsedMemory "llGetUsedMemory" UsedMemory () Int;
             GetFreeMemory "llGetFreeMemory" FreeMemory () Int;
+            SetMemoryLimit "llSetMemoryLimit" SetLimit (Int) Int;
+            GetMemoryLimit "llGetMemoryLimit" GetLimit () Int;
             Say "llSay" Act (Int, Str);
             Whisper "llWhisper" Act (Int, Str);
             Shout "llShout" Act (Int, Str);
@@ -151,21 +157,28 @@ impl BuiltinRow for BuiltinId {
 }
 
 /// The calls by their names' hashes, as computed by `tools/name_slots.py`.
-static CALLS: Rows<128> = Rows {
-    base: 59440,
+static CALLS: Rows<256> = Rows {
+    base: 82,
     slots: [
-        255, 255, 255, 6, 255, 255, 255, 255, 32, 48, 49, 46, 35, 20, 7, 255, 255, 0, 255, 255, 14,
-        255, 21, 255, 255, 30, 19, 41, 255, 255, 255, 255, 40, 18, 255, 255, 255, 16, 255, 44, 255,
-        29, 255, 24, 23, 255, 255, 43, 255, 31, 255, 255, 255, 255, 12, 11, 15, 9, 255, 255, 27,
-        22, 255, 47, 37, 255, 8, 34, 255, 255, 255, 255, 255, 255, 255, 255, 38, 255, 255, 255,
-        255, 255, 39, 255, 255, 5, 255, 255, 255, 255, 10, 255, 255, 255, 1, 13, 3, 45, 255, 255,
-        26, 36, 255, 255, 255, 255, 255, 255, 25, 255, 2, 28, 4, 255, 255, 255, 33, 255, 255, 255,
-        42, 255, 255, 255, 255, 255, 255, 17,
+        255, 255, 255, 255, 255, 255, 255, 255, 255, 255, 255, 38, 15, 255, 255, 255, 255, 255,
+        255, 11, 49, 255, 26, 255, 255, 255, 255, 27, 21, 255, 34, 255, 255, 255, 255, 255, 31, 14,
+        45, 255, 1, 255, 255, 255, 255, 37, 255, 255, 255, 255, 255, 33, 255, 255, 44, 255, 255,
+        255, 255, 255, 8, 255, 255, 255, 3, 255, 255, 20, 13, 40, 255, 47, 255, 255, 255, 255, 255,
+        255, 255, 255, 255, 255, 255, 255, 255, 6, 255, 255, 255, 50, 255, 255, 255, 255, 255, 16,
+        255, 46, 255, 255, 255, 255, 255, 255, 255, 9, 255, 12, 36, 255, 51, 255, 255, 255, 41,
+        255, 255, 255, 255, 255, 30, 255, 255, 255, 48, 255, 255, 255, 255, 255, 255, 255, 255,
+        255, 255, 255, 255, 255, 255, 0, 255, 255, 255, 32, 255, 255, 255, 255, 255, 255, 24, 29,
+        255, 25, 255, 39, 255, 255, 255, 255, 255, 42, 255, 255, 255, 255, 255, 22, 5, 255, 255,
+        255, 10, 17, 255, 255, 255, 255, 255, 255, 255, 28, 255, 255, 2, 255, 255, 255, 255, 255,
+        255, 255, 255, 255, 255, 255, 43, 255, 255, 255, 255, 255, 255, 255, 255, 255, 255, 255,
+        255, 255, 255, 255, 255, 255, 255, 255, 255, 255, 23, 255, 255, 19, 255, 255, 255, 255,
+        255, 7, 255, 255, 255, 255, 255, 35, 4, 255, 255, 255, 255, 255, 255, 255, 255, 255, 255,
+        255, 18, 255, 255, 255, 255, 255, 255, 255, 255, 255,
     ],
 };
 
 /// The calls in the order of their rows.
-static BUILTINS: [BuiltinId; 50] = builtins!(ids);
+static BUILTINS: [BuiltinId; 52] = builtins!(ids);
 
 /// The call of this name, or none. Takes no memory, and compares one name.
 pub fn find(name: &str) -> Option<BuiltinId>

@@ -27,6 +27,8 @@ pub enum BuiltinId {
     ParseStringKeepNulls,
     GetUsedMemory,
     GetFreeMemory,
+    SetMemoryLimit,
+    GetMemoryLimit,
     Say,
     Whisper,
     Shout,

@@ -31,7 +31,7 @@ fn tell_kinds(told: &mut String, kinds: &[Kind]) -> Result<(), NoMemory> {
 fn home_letter(home: Home) -> char {
     match home {
         Home::Pure => 'P',
-        Home::UsedMemory | Home::FreeMemory => 'O',
+        Home::UsedMemory | Home::FreeMemory | Home::SetLimit | Home::GetLimit => 'O',
         Home::Query | Home::Mail | Home::Act | Home::Sleep | Home::Reset => 'H',
     }
 }
@@ -139,6 +139,8 @@ builtin llParseString2List -> llParseString2List ParseString2List Psll>l pure
 builtin llParseStringKeepNulls -> llParseStringKeepNulls ParseStringKeepNulls Psll>l pure
 builtin llGetUsedMemory -> llGetUsedMemory GetUsedMemory O>i
 builtin llGetFreeMemory -> llGetFreeMemory GetFreeMemory O>i
+builtin llSetMemoryLimit -> llSetMemoryLimit SetMemoryLimit Oi>i
+builtin llGetMemoryLimit -> llGetMemoryLimit GetMemoryLimit O>i
 builtin llSay -> llSay Say His
 builtin llWhisper -> llWhisper Whisper His
 builtin llShout -> llShout Shout His
