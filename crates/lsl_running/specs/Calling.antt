@@ -1,5 +1,5 @@
--- What a built-in call is to a running script: a value of its arguments, a reading of its own memory, or a
--- question to the host.
+-- What a built-in call is to a running script: a value of its arguments, a reading of its own memory, a new
+-- limit of it, or a question to the host.
 use Rattle.std.specs.Prelude.{Bool, true, false, length, ℕ, Option, Some, None}
 use Rattle.lsl_value.specs.declared.names.BuiltinId.{BuiltinId}
 use Rattle.lsl_table.specs.declared.calls.Home.{Home}
@@ -16,6 +16,10 @@ pub data CallForm : Type 0 where
   UsedMemory : CallForm
   -- how much more it may be charged
   FreeMemory : CallForm
+  -- how much it may be charged from now on
+  SetLimit : CallForm
+  -- how much it may be charged
+  GetLimit : CallForm
   -- the host is asked
   Asked : CallForm
   -- the host is asked, and a tick passes behind its answer
@@ -28,6 +32,8 @@ abbrev pub form_at_home : Home → CallForm
 form_at_home home.Pure = Pure
 form_at_home home.UsedMemory = UsedMemory
 form_at_home home.FreeMemory = FreeMemory
+form_at_home home.SetLimit = SetLimit
+form_at_home home.GetLimit = GetLimit
 form_at_home home.Query = Asked
 form_at_home home.Mail = Asked
 form_at_home home.Act = Asked

@@ -1,4 +1,5 @@
 pub mod Calling
 pub mod Charging
+pub mod Limits
 pub mod Results
 pub mod Values

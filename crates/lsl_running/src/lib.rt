@@ -7,8 +7,10 @@ mod charges;
 mod ends;
 mod host;
 mod kept;
+mod limits;
 
 pub use crate::charges::{CALL_CHARGE, SCRIPT_CHARGE, charged_with_values};
 pub use crate::ends::{Fault, Outcome};
 pub use crate::host::{Call, Reply};
 pub use crate::kept::Kept;
+pub use crate::limits::{DEFAULT_LIMIT, granted_limit};
