@@ -1,11 +1,11 @@
 -- Calls and expressions with more ticks and more answers.
-use Rattle.std.proofs.Common.{ℕ, pos, ◌-◌, inl, inr, ⊎_elim, List, [], ◌∷◌, ◌++◌, Option, Some, None, refl, ap, reverse, slice_get}
+use Rattle.std.proofs.Common.{ℕ, pos, ◌-◌, get_or, inl, inr, ⊎_elim, List, [], ◌∷◌, ◌++◌, Option, Some, None, refl, ap, reverse, slice_get}
 use Rattle.lsl_value.specs.declared.names.BuiltinId.{BuiltinId}
 use Rattle.lsl_value.specs.declared.tagged.Kind.{Kind}
 use Rattle.lsl_value.specs.declared.tagged.Value.{Value}
 use Rattle.lsl_value.specs.declared.tagged.Value.TheVariants as value
 use Rattle.lsl_table.specs.Constants.{constant_value_of}
-use Rattle.lsl_ops.specs.Operations.{cast_of}
+use Rattle.lsl_ops.specs.Operations.{cast_of, integer_of}
 use Rattle.lsl_pure.specs.Pure.{pure_of}
 use Rattle.lsl_tree.specs.declared.expression.StepOp.{StepOp}
 use Rattle.lsl_tree.specs.declared.program_node.Callee.{Callee}
@@ -18,10 +18,11 @@ use Rattle.lsl_tree.specs.Program.{Routine}
 use Rattle.lsl_running.specs.declared.ends.Fault.TheVariants.{StackHeap}
 use Rattle.lsl_running.specs.declared.host.Reply.{Reply}
 use Rattle.lsl_running.specs.declared.host.Reply.TheVariants as reply
-use Rattle.lsl_running.specs.Calling.{CallForm, Pure, UsedMemory, FreeMemory, Asked, AskedAndWaits, Resets, call_form, is_answered_by}
+use Rattle.lsl_running.specs.Calling.{CallForm, Pure, UsedMemory, FreeMemory, SetLimit, GetLimit, Asked, AskedAndWaits, Resets, call_form, is_answered_by}
 use Rattle.lsl_running.specs.Charging.{used, is_within}
+use Rattle.lsl_running.specs.Limits.{granted, grant_value, with_limit}
 use Rattle.lsl_running.specs.Results.{Fails, Lost}
-use Rattle.lsl_running.specs.Values.{unary_value, binary_value, list_value}
+use Rattle.lsl_running.specs.Values.{absent, unary_value, binary_value, list_value}
 use Rattle.lsl_meaning.specs.State.{State, Site, holding, holding_all, within_call, Gives, Stops, bind, Flow, Normal, Returned, Jumped, give}
 use Rattle.lsl_meaning.specs.Calls.{Lower, first_slots, result_at_end, result_behind, run_routine, enter, reply_given, ask, call_builtin, call}
 use Rattle.lsl_meaning.specs.Expressions.{value_at, storing, assign, give_operation, step_operator, assign_step, step_behind, needed, value_of, values_of}
@@ -55,6 +56,10 @@ module _ (x : Surplus) where
       give_result_more x (Some (value.Int (pos (used site.held s.slots s.kept)))) site s
   builtin_more FreeMemory id line args site s =
       give_result_more x (Some (value.Int (pos (s.kept.limit - used site.held s.slots s.kept)))) site s
+  builtin_more SetLimit id line args site s =
+      let limit = granted (integer_of (get_or args 0 absent)) (used site.held s.slots s.kept) in
+      give_result_more x (Some (grant_value limit)) site (record s { kept = with_limit limit s.kept })
+  builtin_more GetLimit id line args site s = give_result_more x (Some (value.Int (pos s.kept.limit))) site s
   builtin_more Asked id line args site s = ask_more id args site s.answers s
   builtin_more AskedAndWaits id line args site s =
       bind_more x (ask id args site s.answers s) _ _ _

@@ -1,9 +1,10 @@
 -- What a call gives: of a routine of the script, and of a built-in one.
-use Rattle.std.specs.Prelude.{ℕ, ◌-◌, pos, List, [], ◌∷◌, ◌++◌, map, drop, slice_get, Option, Some, None, cond}
+use Rattle.std.specs.Prelude.{ℕ, ◌-◌, pos, List, [], ◌∷◌, ◌++◌, map, drop, get_or, slice_get, Option, Some, None, cond}
 use Rattle.lsl_value.specs.declared.names.BuiltinId.{BuiltinId}
 use Rattle.lsl_value.specs.declared.tagged.Kind.{Kind}
 use Rattle.lsl_value.specs.declared.tagged.Value.{Value}
 use Rattle.lsl_value.specs.declared.tagged.Value.TheVariants as value
+use Rattle.lsl_ops.specs.Operations.{integer_of}
 use Rattle.lsl_pure.specs.Pure.{pure_of}
 use Rattle.lsl_tree.specs.declared.program_node.Callee.{Callee}
 use Rattle.lsl_tree.specs.declared.program_node.Callee.TheVariants.{Function, Builtin}
@@ -13,10 +14,11 @@ use Rattle.lsl_running.specs.declared.ends.Fault.TheVariants.{StackHeap}
 use Rattle.lsl_running.specs.declared.ends.Outcome.TheVariants as outcome
 use Rattle.lsl_running.specs.declared.host.Reply.{Reply}
 use Rattle.lsl_running.specs.declared.host.Reply.TheVariants as reply
-use Rattle.lsl_running.specs.Calling.{CallForm, Pure, UsedMemory, FreeMemory, Asked, AskedAndWaits, Resets, call_form, is_answered_by}
+use Rattle.lsl_running.specs.Calling.{CallForm, Pure, UsedMemory, FreeMemory, SetLimit, GetLimit, Asked, AskedAndWaits, Resets, call_form, is_answered_by}
 use Rattle.lsl_running.specs.Charging.{used, is_within}
+use Rattle.lsl_running.specs.Limits.{granted, grant_value, with_limit}
 use Rattle.lsl_running.specs.Results.{Ends, Asks, Fails, Lost}
-use Rattle.lsl_running.specs.Values.{empty_of}
+use Rattle.lsl_running.specs.Values.{empty_of, absent}
 use Rattle.lsl_meaning.specs.State.{State, Site, within_call, Evaluation, Gives, Stops, bind, Flow, Normal, Returned, Jumped, give_result, tick}
 
 -- what is done behind a tick: a statement, from its start or from behind a label that stands directly in it
@@ -63,6 +65,11 @@ ask id arguments site [] s = Stops (Asks id arguments)
 ask id arguments site (answer ∷ more) s =
     cond (is_answered_by id answer) (reply_given answer site (record s { answers = more })) (Stops Lost)
 
+-- the limit that was asked for is got or not, and the script is told; its argument waits no more
+abbrev pub limit_given : Option ℕ → Site → State → Evaluation (Option Value)
+limit_given limit site s =
+    give_result (Some (grant_value limit)) site (record s { kept = with_limit limit s.kept })
+
 -- a built-in call
 abbrev pub call_builtin : CallForm → BuiltinId → ℕ → List Value → Site → State → Evaluation (Option Value)
 call_builtin Pure id line arguments site s = give_result (Some (pure_of id arguments)) site s
@@ -70,6 +77,9 @@ call_builtin UsedMemory id line arguments site s =
     give_result (Some (value.Int (pos (used site.held s.slots s.kept)))) site s
 call_builtin FreeMemory id line arguments site s =
     give_result (Some (value.Int (pos (s.kept.limit - used site.held s.slots s.kept)))) site s
+call_builtin SetLimit id line arguments site s =
+    limit_given (granted (integer_of (get_or arguments 0 absent)) (used site.held s.slots s.kept)) site s
+call_builtin GetLimit id line arguments site s = give_result (Some (value.Int (pos s.kept.limit))) site s
 call_builtin Asked id line arguments site s = ask id arguments site s.answers s
 call_builtin AskedAndWaits id line arguments site s =
     bind (ask id arguments site s.answers s) (λ result t. tick t.ticks line site t (Gives result))

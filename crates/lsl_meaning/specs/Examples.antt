@@ -1,6 +1,6 @@
 -- Scripts as checked programs, and what comes of them.
 use Rattle.std.specs.Prelude.{ℕ, ℤ, pos, List, [], ◌∷◌, map, Some, None, codes}
-use Rattle.lsl_value.specs.declared.names.BuiltinId.TheVariants.{OwnerSay, GetUsedMemory}
+use Rattle.lsl_value.specs.declared.names.BuiltinId.TheVariants.{OwnerSay, GetUsedMemory, SetMemoryLimit}
 use Rattle.lsl_value.specs.declared.names.EventId.{EventId}
 use Rattle.lsl_value.specs.declared.names.EventId.TheVariants.{StateEntry, TouchStart}
 use Rattle.lsl_value.specs.declared.operators.BinaryOp.TheVariants.{Add, Sub, Less, Equal, Both}
@@ -43,9 +43,13 @@ say text = Effect (Call (Builtin OwnerSay) 1 (AndNode NoNode text))
 abbrev pub said : List ℕ → Whole
 said text = Asks OwnerSay (value.Str text ∷ [])
 
--- a handler that has run to its end, with these integers in the globals
+-- a handler that has run to its end, with this limit and these integers in the globals
+abbrev pub left_within : ℕ → List ℤ → Whole
+left_within limit integers = Ends Return (record { globals = map value.Int integers; limit = limit })
+
+-- with the limit at the start
 abbrev pub left_with : List ℤ → Whole
-left_with integers = Ends Return (record { globals = map value.Int integers; limit = 65536 })
+left_with integers = left_within 65536 integers
 
 -- that a call was answered without a value
 abbrev pub done : Reply
@@ -83,6 +87,18 @@ measuring =
     (Declare 0 (Int (pos 7))))
     (Effect (Value (Assign (Global 0) kind.Int
     (Binary Add kind.Int (CallNode (Function 0) kind.Int 1 NoNode) (Int (pos 1))))))))
+
+-- the global of this number is set to whether the script got this limit
+abbrev pub setting : ℕ → ℤ → Action
+setting global limit =
+    Effect (Value (Assign (Global global) kind.Int
+    (CallNode (Builtin SetMemoryLimit) kind.Int 1 (AndNode NoNode (Int limit)))))
+
+-- `integer a; integer b; default { state_entry() { a = llSetMemoryLimit(1079); b = llSetMemoryLimit(1080); } }`
+abbrev pub limiting : Program
+limiting =
+    script StateEntry (Single (part.Int (pos 0)) ∷ Single (part.Int (pos 0)) ∷ []) []
+    (routine [] (AndAction (AndAction NoAction (setting 0 (pos 1079))) (setting 1 (pos 1080))))
 
 -- `integer i; default { state_entry() { @top; ++i; if (i < 3) jump top; } }`, with the jump on line 2
 abbrev pub jumping : Program

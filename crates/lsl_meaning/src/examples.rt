@@ -4,7 +4,7 @@ ghost use Rattle.std.specs.Prelude.{◌≡◌, [], ◌∷◌, codes, pos};
 ghost use Rattle.lsl_running.specs.Results.{Cut};
 ghost use Rattle.lsl_value.specs.declared.tagged.Value.TheVariants.{Int};
 ghost use Rattle.lsl_meaning.specs.Globals.{initial_kept};
-ghost use Rattle.lsl_meaning.specs.Examples.{adding, both, measuring, jumping, recursing, said, left_with, done, call_on, first_whole};
+ghost use Rattle.lsl_meaning.specs.Examples.{adding, both, measuring, limiting, jumping, recursing, said, left_with, left_within, done, call_on, first_whole};
 ghost use Rattle.lsl_meaning.specs.State.{active_call};
 ghost use Rattle.lsl_meaning.specs.Handlers.{outermost, whole};
 
@@ -24,6 +24,12 @@ pub fn both_operands_of_and()
 /// Two active calls, an integer in a slot, one that waits and one in a global are charged 1112.
 pub fn used_memory()
     ensures { first_whole measuring 1 2 [] ≡ left_with (pos 1113 ∷ []) }
+{}
+
+/// A script that is charged 1072 gets the limit that leaves an integer beside, 1080, and none below it: the argument
+/// of the call doesn't wait any more.
+pub fn memory_limit()
+    ensures { first_whole limiting 0 1 [] ≡ left_within 1080 (pos 0 ∷ pos 1 ∷ []) }
 {}
 
 /// A jump to a label before it passes a tick. The handler's start and two jumps take three; with two it is cut at the
