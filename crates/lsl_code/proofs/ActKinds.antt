@@ -11,7 +11,7 @@ use Rattle.lsl_value.specs.declared.tagged.Value.{Value}
 use Rattle.lsl_value.specs.declared.tagged.Value.TheVariants as value
 use Rattle.lsl_table.specs.Calls.{row_of}
 use Rattle.lsl_code.specs.declared.instructions.Instr.{Instr}
-use Rattle.lsl_code.specs.declared.instructions.Instr.TheVariants.{Int, Str, Load, LoadGlobal, Store, StoreGlobal, Set, Drop, Unary, Binary, Cast, MakeList, Jump, JumpIf, JumpIfNot, Pure, Used, Free, Host, Tick, Call, Return, ReturnValue, GoState, Reset, TestSave, KeepSlot, KeepTop, Seal, TestBack, Unpack, BackSlot, BackTop, Branch, Again, Awake}
+use Rattle.lsl_code.specs.declared.instructions.Instr.TheVariants.{Int, Str, Load, LoadGlobal, Store, StoreGlobal, Set, Drop, Unary, Binary, Cast, MakeList, Jump, JumpIf, JumpIfNot, Pure, Used, Free, SetLimit, GetLimit, Host, Tick, Call, Return, ReturnValue, GoState, Reset, TestSave, KeepSlot, KeepTop, Seal, TestBack, Unpack, BackSlot, BackTop, Branch, Again, Awake}
 use Rattle.lsl_code.specs.Bodies.{Body}
 use Rattle.lsl_code.specs.Effects.{gather, pushed, only_if, called, is_pure, is_asked, behind}
 use Rattle.lsl_code.specs.Kinds.{same_kind, kinds_of, Scope, builtin_signature}
@@ -19,10 +19,11 @@ use Rattle.lsl_running.specs.declared.ends.Fault.TheVariants.{StackHeap}
 use Rattle.lsl_running.specs.declared.kept.Kept.{Kept}
 use Rattle.lsl_running.specs.Calling.{parameter_count, call_form}
 use Rattle.lsl_running.specs.Charging.{call_charge, charges_of, hold_all, used, is_within, with_global}
+use Rattle.lsl_running.specs.Limits.{granted, grant_value}
 use Rattle.lsl_running.specs.Values.{empty_of, absent, unary_value, binary_value, list_value}
-use Rattle.lsl_ops.specs.Operations.{cast_of}
+use Rattle.lsl_ops.specs.Operations.{cast_of, integer_of}
 use Rattle.lsl_pure.specs.Pure.{pure_of}
-use Rattle.lsl_code.specs.Acts.{Did, Goes, Jumps, Enters, Leaves, Passes, Asks, Ends, Fails, Stuck, within, or_zero_divisor, first_slots, entered, gives, act}
+use Rattle.lsl_code.specs.Acts.{Did, Goes, Jumps, Enters, Leaves, Passes, Asks, Ends, Fails, Stuck, within, or_zero_divisor, first_slots, entered, gives, gives_limit, act}
 use Rattle.lsl_code.specs.Kinded.{IsOutcome}
 use Rattle.lsl_code.specs.Kinds.{signature_in}
 use Rattle.lsl_value.specs.Values.{truth_of}
@@ -70,6 +71,11 @@ module _ (bodies : List Body) (s : Scope) (signed : s.functions ≡ map signatur
     value_fit : (v : Value) (rest : List Value) (k : Kind) → kind_of v ≡ k → k ∷ kinds_of rest ≡ js
         → DidFit bodies s ops (gives held sl (v ∷ rest) g) js
     value_fit v rest k e f = gives_fit sl (v ∷ rest) g kg ks (ap (λ q. q ∷ kinds_of rest) e ∙ f)
+
+    limit_fit : (limit : Option ℕ) (rest : List Value) → kind.Int ∷ kinds_of rest ≡ js
+        → DidFit bodies s ops (gives_limit limit held sl rest g) js
+    limit_fit None rest f = gives_fit sl (grant_value None ∷ rest) g kg ks f
+    limit_fit (Some n) rest f = gives_fit sl (grant_value (Some n) ∷ rest) (record g { limit = n }) kg ks f
 
     divisor_fit : (o : Option Value) (rest : List Value) (k : Kind) → ((v : Value) → o ≡ Some v → kind_of v ≡ k)
         → k ∷ kinds_of rest ≡ js → DidFit bodies s ops (or_zero_divisor o (λ v. gives held sl (v ∷ rest) g)) js
@@ -185,6 +191,12 @@ module _ (bodies : List Body) (s : Scope) (signed : s.functions ≡ map signatur
     act_fits Free ops e =
         value_fit g held sl ops js kg ks (value.Int (pos (g.limit - used (hold_all held ops) sl g))) ops kind.Int
         refl (some_is _ _ e)
+    act_fits SetLimit [] e = absurd cc
+    act_fits SetLimit (v ∷ ops) e =
+        limit_fit g held sl (v ∷ ops) js kg ks (granted (integer_of v) (used (hold_all held ops) sl g)) ops
+        (only_is _ _ js e).1
+    act_fits GetLimit ops e =
+        value_fit g held sl ops js kg ks (value.Int (pos g.limit)) ops kind.Int refl (some_is _ _ e)
     act_fits (Host id) ops e =
         let r = row_taken (is_asked (call_form id)) (builtin_signature id) (kinds_of ops) js e in
         (r.1, arguments_kinds (builtin_signature id) ops js r.0, rest_kinds (builtin_signature id) ops js r.0)

@@ -1,11 +1,11 @@
 -- A charge within the limit lets in few calls.
-use Rattle.std.proofs.Common.{◌≡◌, ℕ, suc, ◌+◌, ◌-◌, ◌*◌, ◌<◌, ◌≤◌, pos, List, [], ◌∷◌, Bool, true, false, cond, Option, None, Some, refl, arith, length, take, drop, reverse, get_or, slice_get, slice_set}
+use Rattle.std.proofs.Common.{◌≡◌, ℕ, suc, ◌+◌, ◌-◌, ◌*◌, ◌<◌, ◌≤◌, ℤ, pos, List, [], ◌∷◌, Bool, true, false, cond, Option, None, Some, refl, arith, length, take, drop, reverse, get_or, slice_get, slice_set}
 use Rattle.std.proofs.lemmas.Bool.Decides.{nat_tests}
 use Rattle.lsl_value.specs.Values.{truth_of}
 use Rattle.lsl_value.specs.declared.names.BuiltinId.{BuiltinId}
 use Rattle.lsl_value.specs.declared.tagged.Value.{Value}
 use Rattle.lsl_value.specs.declared.tagged.Value.TheVariants as value
-use Rattle.lsl_ops.specs.Operations.{cast_of}
+use Rattle.lsl_ops.specs.Operations.{cast_of, integer_of}
 use Rattle.lsl_pure.specs.Pure.{pure_of}
 use Rattle.lsl_running.specs.declared.ends.Fault.TheVariants.{StackHeap}
 use Rattle.lsl_running.specs.declared.host.Reply.{Reply}
@@ -13,11 +13,13 @@ use Rattle.lsl_running.specs.declared.host.Reply.TheVariants as reply
 use Rattle.lsl_running.specs.declared.kept.Kept.{Kept}
 use Rattle.lsl_running.specs.Calling.{parameter_count, is_answered_by}
 use Rattle.lsl_running.specs.Charging.{call_charge, charges_of, hold_all, used, is_within, with_global}
+use Rattle.lsl_running.specs.Limits.{granted, grant_value}
 use Rattle.lsl_running.specs.Values.{absent, unary_value, binary_value, list_value}
+use Rattle.lsl_running.proofs.Granting.{granted_told}
 use Rattle.lsl_code.specs.declared.instructions.Instr.{Instr}
-use Rattle.lsl_code.specs.declared.instructions.Instr.TheVariants.{Int, Str, Load, LoadGlobal, Store, StoreGlobal, Set, Drop, Unary, Binary, Cast, MakeList, JumpIf, JumpIfNot, Pure, Used, Free, Call, ReturnValue, TestSave, TestBack}
+use Rattle.lsl_code.specs.declared.instructions.Instr.TheVariants.{Int, Str, Load, LoadGlobal, Store, StoreGlobal, Set, Drop, Unary, Binary, Cast, MakeList, JumpIf, JumpIfNot, Pure, Used, Free, SetLimit, GetLimit, Call, ReturnValue, TestSave, TestBack}
 use Rattle.lsl_code.specs.Bodies.{Body, instruction_at}
-use Rattle.lsl_code.specs.Acts.{Did, Goes, Jumps, Enters, Leaves, Passes, Asks, Ends, Fails, Stuck, on_top, or_zero_divisor, first_slots, entered, gives, act}
+use Rattle.lsl_code.specs.Acts.{Did, Goes, Jumps, Enters, Leaves, Passes, Asks, Ends, Fails, Stuck, on_top, or_zero_divisor, first_slots, entered, gives, gives_limit, act}
 use Rattle.lsl_code.specs.Machine.{MachineCall, Machine, Faulted, Lost, Passing, Waiting, Next, On, Pauses, Halts, base, used_in, call_at, put, checked, left_to, replied, answered, after, step_in}
 
 -- at most as many calls as the limit lets in
@@ -89,6 +91,13 @@ module _ (g : Kept) (held : ℕ) (sl : List Value) where
       elim (is_within g' (used (hold_all held ops) slots g')) as
       (λ b. Small g held sl (cond b (Goes slots ops g') (Fails StackHeap))) [ true ↦ lim | false ↦ tt ]
 
+  -- a limit that was got is no greater than the first one
+  limit_small : (rest : List Value) (n : ℤ) (charge : ℕ) → g.limit ≤ 65536 → (limit : Option ℕ)
+      → granted n charge ≡ limit → Small g held sl (gives_limit limit held sl rest g)
+  limit_small rest n charge lim None is = gives_small sl (grant_value None ∷ rest) g lim
+  limit_small rest n charge lim (Some m) is =
+      gives_small sl (grant_value (Some m) ∷ rest) (record g { limit = m }) (granted_told n charge m is).1
+
   on_top_small : (ops : List Value) (go : Value → List Value → Did)
       → ((v : Value) (vs : List Value) → Small g held sl (go v vs)) → Small g held sl (on_top ops go)
   on_top_small [] go h = tt
@@ -146,6 +155,11 @@ act_small bodies (Some Used) g held sl ops lim =
     gives_small g held sl sl (value.Int (pos (used (hold_all held ops) sl g)) ∷ ops) g lim
 act_small bodies (Some Free) g held sl ops lim =
     gives_small g held sl sl (value.Int (pos (g.limit - used (hold_all held ops) sl g)) ∷ ops) g lim
+act_small bodies (Some SetLimit) g held sl ops lim =
+    on_top_small g held sl ops _
+    (λ v rest. limit_small g held sl rest (integer_of v) (used (hold_all held rest) sl g) lim _ refl)
+act_small bodies (Some GetLimit) g held sl ops lim =
+    gives_small g held sl sl (value.Int (pos g.limit) ∷ ops) g lim
 act_small bodies (Some (JumpIf t)) g held sl ops lim =
     on_top_small g held sl ops _
     (λ v rest. branch_small g held sl (truth_of v) (Jumps t rest) (Goes sl rest g) tt lim)

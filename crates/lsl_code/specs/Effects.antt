@@ -8,7 +8,7 @@ use Rattle.lsl_value.specs.declared.tagged.Kind.TheVariants as kind
 use Rattle.lsl_running.specs.Calling as form
 use Rattle.lsl_running.specs.Calling.{CallForm, call_form}
 use Rattle.lsl_code.specs.declared.instructions.Instr.{Instr}
-use Rattle.lsl_code.specs.declared.instructions.Instr.TheVariants.{Int, Str, Load, LoadGlobal, Store, StoreGlobal, Set, Drop, Unary, Binary, Cast, MakeList, Jump, JumpIf, JumpIfNot, Pure, Used, Free, Host, Tick, Call, Return, ReturnValue, GoState, Reset, TestSave, KeepSlot, KeepTop, Seal, TestBack, Unpack, BackSlot, BackTop, Branch, Again, Awake}
+use Rattle.lsl_code.specs.declared.instructions.Instr.TheVariants.{Int, Str, Load, LoadGlobal, Store, StoreGlobal, Set, Drop, Unary, Binary, Cast, MakeList, Jump, JumpIf, JumpIfNot, Pure, Used, Free, SetLimit, GetLimit, Host, Tick, Call, Return, ReturnValue, GoState, Reset, TestSave, KeepSlot, KeepTop, Seal, TestBack, Unpack, BackSlot, BackTop, Branch, Again, Awake}
 use Rattle.lsl_code.specs.declared.signatures.Signature.{Signature}
 use Rattle.lsl_code.specs.Kinds.{same_kind, is_element, Scope, builtin_signature}
 
@@ -86,6 +86,8 @@ behind s (JumpIfNot to) ks = top_kind ks (λ k rest. Some rest)
 behind s (Pure id) ks = called_if (is_pure (call_form id)) (builtin_signature id) ks
 behind s Used ks = Some (kind.Int ∷ ks)
 behind s Free ks = Some (kind.Int ∷ ks)
+behind s SetLimit ks = top_kind ks (λ k rest. only_if (same_kind kind.Int k) (kind.Int ∷ rest))
+behind s GetLimit ks = Some (kind.Int ∷ ks)
 behind s (Host id) ks = called_if (is_asked (call_form id)) (builtin_signature id) ks
 behind s (Tick point) ks = Some ks
 behind s (Call f point) ks = called (slice_get s.functions f) ks

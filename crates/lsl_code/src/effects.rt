@@ -25,7 +25,7 @@ pub fn step(
     ensures { OnOk result (Some stack.new ≡ behind (scope names.now slots.now gives) instr.now stack.old) }
 {
     match instr {
-        Instr::Int(_) | Instr::Used | Instr::Free => {
+        Instr::Int(_) | Instr::Used | Instr::Free | Instr::GetLimit => {
             stack.push(Kind::Int)?;
         }
         Instr::Str(_) => {
@@ -36,7 +36,7 @@ pub fn step(
         Instr::Set(_) | Instr::Drop | Instr::JumpIf(_) | Instr::JumpIfNot(_) => {
             stack.pop();
         }
-        Instr::Unary(_) => {
+        Instr::Unary(_) | Instr::SetLimit => {
             stack.pop();
             stack.push(Kind::Int)?;
         }

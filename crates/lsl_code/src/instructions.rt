@@ -43,6 +43,10 @@ pub enum Instr {
     Used,
     /// Pushes how much more it may be charged.
     Free,
+    /// Pops a number, has it as the script's limit where it may be, pushes whether it is.
+    SetLimit,
+    /// Pushes the script's limit.
+    GetLimit,
     /// Pops the arguments of a host call, the last one first, asks for it, and pushes the answer if there is one.
     Host(BuiltinId),
     /// The machine halts before it, at this resume point.
