@@ -1,11 +1,12 @@
 -- Calls that are lost only by an answer that its call never has.
-use Rattle.std.proofs.Common.{◌≡◌, ℕ, ◌-◌, pos, List, [], ◌∷◌, Bool, true, false, cond, Option, Some, None, refl, sym, ap, ◌∙◌, subst, length, slice_get}
+use Rattle.std.proofs.Common.{◌≡◌, ℕ, ◌-◌, pos, List, [], ◌∷◌, Bool, true, false, cond, Option, Some, None, refl, sym, ap, ◌∙◌, subst, length, get_or, slice_get}
 use Rattle.std.specs.Prelude.{is_some}
 use Rattle.lsl_value.specs.declared.names.BuiltinId.{BuiltinId}
 use Rattle.lsl_value.specs.declared.tagged.Kind.{Kind}
 use Rattle.lsl_value.specs.declared.tagged.Value.{Value}
 use Rattle.lsl_value.specs.declared.tagged.Value.TheVariants as value
 use Rattle.lsl_table.specs.Calls.{row_of}
+use Rattle.lsl_ops.specs.Operations.{integer_of}
 use Rattle.lsl_pure.specs.Pure.{pure_of}
 use Rattle.lsl_tree.specs.declared.program_node.Callee.{Callee}
 use Rattle.lsl_tree.specs.declared.program_node.Callee.TheVariants.{Function, Builtin}
@@ -19,14 +20,16 @@ use Rattle.lsl_running.specs.declared.host.Reply.TheVariants as reply
 use Rattle.lsl_running.specs.Calling as form
 use Rattle.lsl_running.specs.Calling.{CallForm, call_form, is_answered_by}
 use Rattle.lsl_running.specs.Charging.{used, is_within}
+use Rattle.lsl_running.specs.Limits.{granted, grant_value, with_limit}
 use Rattle.lsl_running.specs.Results.{Lost}
+use Rattle.lsl_running.specs.Values.{absent}
 use Rattle.lsl_meaning.specs.Calls.{Lower, first_slots, result_behind, run_routine, enter, reply_given, ask, call_builtin, call}
 use Rattle.lsl_meaning.specs.State.{State, Site, within_call, Gives, Stops, bind, Flow, Normal, Returned, Jumped, tick}
 use Rattle.lsl_meaning.specs.Statements.{has_label}
 use Rattle.lsl_gen.proofs.Answered.{with_answers, Comes, Sound, Has, bind_sound, gives_sound, fails_sound, cond_sound, give_result_sound, tick_sound, taken_sound}
 use Rattle.lsl_gen.proofs.Bodies.{routine_at, shaped_at}
-use Rattle.lsl_gen.proofs.Calls.{answer_fits, empty_and}
-use Rattle.lsl_gen.proofs.Forms.{gives_integer, fits_form, form_fits, integer_given}
+use Rattle.lsl_gen.proofs.Calls.{answer_fits, both_true, empty_and}
+use Rattle.lsl_gen.proofs.Forms.{gives_integer, takes_integer, fits_form, form_fits, integer_given}
 use Rattle.lsl_gen.proofs.LabelScopes.{CanEnter}
 use Rattle.lsl_gen.proofs.Routines.{outline}
 
@@ -94,6 +97,15 @@ builtin_sound form.UsedMemory id line args site s fits =
 builtin_sound form.FreeMemory id line args site s fits =
     give_result_sound (is_some (row_of id).result)
     (Some (value.Int (pos (s.kept.limit - used site.held s.slots s.kept)))) site s
+    (value_there (row_of id).result (empty_and (length (row_of id).params) (gives_integer (row_of id).result) fits).1)
+builtin_sound form.SetLimit id line args site s fits =
+    let limit = granted (integer_of (get_or args 0 absent)) (used site.held s.slots s.kept) in
+    give_result_sound (is_some (row_of id).result) (Some (grant_value limit)) site
+    (record s { kept = with_limit limit s.kept })
+    (value_there (row_of id).result
+    (both_true (takes_integer (row_of id).params) (gives_integer (row_of id).result) fits).1)
+builtin_sound form.GetLimit id line args site s fits =
+    give_result_sound (is_some (row_of id).result) (Some (value.Int (pos s.kept.limit))) site s
     (value_there (row_of id).result (empty_and (length (row_of id).params) (gives_integer (row_of id).result) fits).1)
 builtin_sound form.Asked id line args site s fits = ask_sound id args site s.answers s
 builtin_sound form.AskedAndWaits id line args site s fits =

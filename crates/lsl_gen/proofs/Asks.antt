@@ -74,6 +74,8 @@ builtin_hosts : (call : CallForm) (id : BuiltinId) (line : ℕ) → hosts (built
 builtin_hosts form.Pure id line = omega arith
 builtin_hosts form.UsedMemory id line = omega arith
 builtin_hosts form.FreeMemory id line = omega arith
+builtin_hosts form.SetLimit id line = omega arith
+builtin_hosts form.GetLimit id line = omega arith
 builtin_hosts form.Asked id line = omega arith
 builtin_hosts form.AskedAndWaits id line = omega arith
 builtin_hosts form.Resets id line = omega arith

@@ -1,5 +1,5 @@
 -- Calls of built-in functions, and answers of the host.
-use Rattle.std.proofs.Common.{◌≡◌, ℕ, ◌+◌, ◌-◌, ◌≤◌, nat_eq, pos, List, [], ◌∷◌, ◌++◌, Bool, true, false, ◌&&◌, cond, Option, Some, None, refl, sym, ap, ap₂, ◌∙◌, subst, arith, length, take, drop, reverse}
+use Rattle.std.proofs.Common.{◌≡◌, ℕ, ◌+◌, ◌-◌, ◌≤◌, nat_eq, pos, List, [], ◌∷◌, ◌++◌, Bool, true, false, ◌&&◌, cond, Option, Some, None, refl, sym, ap, ap₂, ◌∙◌, subst, arith, length, get_or, take, drop, reverse}
 use Rattle.std.specs.Prelude.{is_some}
 use Rattle.std.proofs.lemmas.Bool.Decides.{nat_tests}
 use Rattle.lsl_value.specs.declared.names.BuiltinId.{BuiltinId}
@@ -7,26 +7,29 @@ use Rattle.lsl_value.specs.declared.tagged.Kind.{Kind}
 use Rattle.lsl_value.specs.declared.tagged.Value.{Value}
 use Rattle.lsl_value.specs.declared.tagged.Value.TheVariants as value
 use Rattle.lsl_table.specs.Calls.{row_of}
+use Rattle.lsl_ops.specs.Operations.{integer_of}
 use Rattle.lsl_pure.specs.Pure.{pure_of}
 use Rattle.lsl_running.specs.declared.host.Reply.{Reply}
 use Rattle.lsl_running.specs.declared.host.Reply.TheVariants as reply
 use Rattle.lsl_running.specs.Calling as form
 use Rattle.lsl_running.specs.Calling.{CallForm, call_form, parameter_count, is_answer_to, is_answered_by}
 use Rattle.lsl_running.specs.Charging.{hold_all, used}
+use Rattle.lsl_running.specs.Limits.{granted, grant_value, with_limit}
 use Rattle.lsl_running.specs.Results as whole
 use Rattle.lsl_running.specs.Results.{Whole}
-use Rattle.lsl_meaning.specs.Calls.{reply_given, ask, call_builtin}
+use Rattle.lsl_running.specs.Values.{absent}
+use Rattle.lsl_meaning.specs.Calls.{reply_given, ask, limit_given, call_builtin}
 use Rattle.lsl_meaning.specs.State.{State, Evaluation, Gives, Stops, give_result, tick}
 use Rattle.lsl_code.specs.declared.instructions.Instr.{Instr}
 use Rattle.lsl_code.specs.declared.instructions.Instr.TheVariants as instr
-use Rattle.lsl_code.specs.Acts.{Asks, gives}
+use Rattle.lsl_code.specs.Acts.{Asks, gives, gives_limit}
 use Rattle.lsl_code.specs.Bodies.{Body}
 use Rattle.lsl_code.specs.Machine.{MachineCall, Machine, Lost, Halts, base, replied, answered, step}
 use Rattle.lsl_code.specs.Pieces.{HasAt}
 use Rattle.lsl_code.specs.Runs.{on, passed, run}
 use Rattle.lsl_code.specs.Wholes.{told}
 use Rattle.lsl_gen.specs.Expressions.{builtin_code}
-use Rattle.lsl_gen.proofs.Forms.{gives_integer, fits_form, integer_given}
+use Rattle.lsl_gen.proofs.Forms.{gives_integer, takes_integer, fits_form, integer_given, integer_taken}
 use Rattle.lsl_gen.proofs.Leaves.{pushed, Results, site_of, here, at, led, one, give_sim, result_sim, asked, tick_sim, received_sim}
 use Rattle.lsl_gen.proofs.Simulations.{Sim, then_sim, from_sim}
 
@@ -56,7 +59,7 @@ no_values : (vs : List Value) → length vs ≡ 0 → vs ≡ []
 no_values [] e = refl
 no_values (v ∷ vs) e = absurd (omega arith)
 
-both_true : (a b : Bool) → (a && b) ≡ true → (a ≡ true) × (b ≡ true)
+pub both_true : (a b : Bool) → (a && b) ≡ true → (a ≡ true) × (b ≡ true)
 both_true true b e = (refl, e)
 both_true false b e = absurd cc
 
@@ -142,6 +145,31 @@ module _ (bodies : List Body) (law : (t : ℕ) (m : Machine)
       from_sim _ _ _ _ _ (ap (λ l. at bodies law f outer s pc (l ++ ops)) none ∙ step)
       (pushed_sim has v pc q ops ops s result le e)
 
+  -- a limit that was got or not, and what is told of it
+  limit_sim : (limit : Option ℕ) (has : Bool) (pc q : ℕ) (from ops : List Value) (s : State) → true ≡ has
+      → s.ticks ≤ n → pc + 1 ≡ q
+      → Sim (Results n has) (λ o t. at bodies law f outer t q (pushed o ops))
+      (limit_given limit (site_of bodies f outer ops) s)
+      (led bodies law f outer s pc from (gives_limit limit (base outer) s.slots ops s.kept))
+  limit_sim limit has pc q from ops s result le e =
+      let behind : State = record s { kept = with_limit limit s.kept } in
+      has_sim true has (λ o t. at bodies law f outer t q (pushed o ops)) _ _ result
+      (result_sim bodies law f outer n q (grant_value limit) ops behind _
+      (give_sim bodies law f outer n pc q s behind from (grant_value limit) ops e refl refl le))
+
+  set_sim : (has : Bool) (pc q : ℕ) (vs ops : List Value) (s : State) → length vs ≡ 1 → true ≡ has
+      → s.ticks ≤ n → pc + 1 ≡ q → HasAt bodies f pc (instr.SetLimit ∷ [])
+      → Sim (Results n has) (λ o t. at bodies law f outer t q (pushed o ops))
+      (limit_given (granted (integer_of (get_or (reverse vs) 0 absent))
+      (used (hold_all (base outer) ops) s.slots s.kept)) (site_of bodies f outer ops) s)
+      (at bodies law f outer s pc (vs ++ ops))
+  set_sim has pc q [] ops s count result le e there = absurd (omega arith)
+  set_sim has pc q (v ∷ []) ops s count result le e there =
+      from_sim _ _ _ _ _ (one bodies law f outer s pc (v ∷ ops) instr.SetLimit there.0)
+      (limit_sim (granted (integer_of v) (used (hold_all (base outer) ops) s.slots s.kept)) has pc q (v ∷ ops) ops
+      s result le e)
+  set_sim has pc q (v ∷ w ∷ vs) ops s count result le e there = absurd (omega arith)
+
   -- a built-in call, whose arguments are pushed
   pub builtin_sim : (call : CallForm) (id : BuiltinId) (line pc q : ℕ) (vs ops : List Value) (s : State)
       → fits_form call (row_of id) ≡ true → s.ticks ≤ n → length vs ≡ parameter_count id
@@ -166,6 +194,16 @@ module _ (bodies : List Body) (law : (t : ℕ) (m : Machine)
       q vs ops s
       (no_values vs (count ∙ both.0)) (sym (ap is_some (integer_given (row_of id).result both.1))) le e
       (one bodies law f outer s pc ops instr.Free has.0)
+  builtin_sim form.SetLimit id line pc q vs ops s fits le count has e =
+      let both = both_true (takes_integer (row_of id).params) (gives_integer (row_of id).result) fits in
+      set_sim (is_some (row_of id).result) pc q vs ops s
+      (count ∙ ap length (integer_taken (row_of id).params both.0))
+      (sym (ap is_some (integer_given (row_of id).result both.1))) le e has
+  builtin_sim form.GetLimit id line pc q vs ops s fits le count has e =
+      let both = empty_and (parameter_count id) (gives_integer (row_of id).result) fits in
+      own_sim instr.GetLimit _ (value.Int (pos s.kept.limit)) pc q vs ops s
+      (no_values vs (count ∙ both.0)) (sym (ap is_some (integer_given (row_of id).result both.1))) le e
+      (one bodies law f outer s pc ops instr.GetLimit has.0)
   builtin_sim form.Asked id line pc q vs ops s fits le count has e = host_sim id pc q vs ops s le count has e
   builtin_sim form.AskedAndWaits id line pc q vs ops s fits le count has e =
       let d : pc + 1 + 1 ≡ q = omega (arith, e) in

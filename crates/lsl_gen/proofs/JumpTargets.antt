@@ -76,6 +76,8 @@ module _ (p : Program) (r : Routine) (d : List Instr) where
   builtin_piece form.Pure id line pc = lone pc (instr.Pure id) refl
   builtin_piece form.UsedMemory id line pc = lone pc instr.Used refl
   builtin_piece form.FreeMemory id line pc = lone pc instr.Free refl
+  builtin_piece form.SetLimit id line pc = lone pc instr.SetLimit refl
+  builtin_piece form.GetLimit id line pc = lone pc instr.GetLimit refl
   builtin_piece form.Asked id line pc = lone pc (instr.Host id) refl
   builtin_piece form.AskedAndWaits id line pc =
       through_piece (scope_of p r) d (instr.Host id ∷ instr.Tick line ∷ []) pc refl

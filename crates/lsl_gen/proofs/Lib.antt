@@ -18,6 +18,7 @@ pub mod GlobalSteps
 pub mod LabelScopes
 pub mod Leaves
 pub mod Lengths
+pub mod Limits
 pub mod NeverLost
 pub mod Pieces
 pub mod ProgramSteps

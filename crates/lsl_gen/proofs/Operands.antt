@@ -43,8 +43,8 @@ use Rattle.lsl_gen.specs.Programs.{signature_of, scope_of}
 use Rattle.lsl_gen.specs.declared.label_places.LabelPlace.{LabelPlace}
 use Rattle.lsl_gen.specs.Statements.{sizes, places_in, action_code, actions_code}
 use Rattle.lsl_gen.proofs.Bodies.{routine_at}
-use Rattle.lsl_gen.proofs.Calls.{empty_and}
-use Rattle.lsl_gen.proofs.Forms.{gives_integer, fits_form, form_fits, integer_given}
+use Rattle.lsl_gen.proofs.Calls.{both_true, empty_and}
+use Rattle.lsl_gen.proofs.Forms.{gives_integer, takes_integer, fits_form, form_fits, integer_given, integer_taken}
 
 strip_self : (ps ks : List Kind) → strip ps (ps ++ ks) ≡ Some ks
 strip_self [] ks = refl
@@ -104,6 +104,16 @@ module _ (s : Scope) where
       ∙ ap (option_and_then (runs s [])) (step ks)
       ∙ ap (λ o. Some (pushed o ks)) (sym (integer_given (row_of id).result both.1) ∙ result)
 
+  limit_runs : (id : BuiltinId) (js : List Kind) (r : Option Kind) (ks : List Kind)
+      → (takes_integer (row_of id).params && gives_integer (row_of id).result) ≡ true
+      → reverse (row_of id).params ≡ js → (row_of id).result ≡ r
+      → runs s (instr.SetLimit ∷ []) (js ++ ks) ≡ Some (pushed r ks)
+  limit_runs id js r ks fits params result =
+      let both = both_true (takes_integer (row_of id).params) (gives_integer (row_of id).result) fits in
+      let taken : js ≡ kind.Int ∷ [] = sym params ∙ ap reverse (integer_taken (row_of id).params both.0) in
+      ap (λ l. runs s (instr.SetLimit ∷ []) (l ++ ks)) taken
+      ∙ ap (λ o. Some (pushed o ks)) (sym (integer_given (row_of id).result both.1) ∙ result)
+
   builtin_runs : (call : CallForm) (id : BuiltinId) (line : ℕ) (js : List Kind) (r : Option Kind) (ks : List Kind)
       → call_form id ≡ call → fits_form call (row_of id) ≡ true → reverse (row_of id).params ≡ js
       → (row_of id).result ≡ r → (r ≡ None → ks ≡ [])
@@ -116,6 +126,10 @@ module _ (s : Scope) where
       own_runs instr.Used id js r ks (λ ls. refl) fits params result
   builtin_runs form.FreeMemory id line js r ks e fits params result alone =
       own_runs instr.Free id js r ks (λ ls. refl) fits params result
+  builtin_runs form.SetLimit id line js r ks e fits params result alone =
+      limit_runs id js r ks fits params result
+  builtin_runs form.GetLimit id line js r ks e fits params result alone =
+      own_runs instr.GetLimit id js r ks (λ ls. refl) fits params result
   builtin_runs form.Asked id line js r ks e fits params result alone =
       ap (λ h. option_and_then (runs s []) (called_if (is_asked h) (builtin_signature id) (js ++ ks))) e
       ∙ ap (option_and_then (runs s [])) (called_some (builtin_signature id) js ks params)

@@ -40,6 +40,8 @@ abbrev pub builtin_code : CallForm → BuiltinId → ℕ → List Instr
 builtin_code form.Pure id line = instr.Pure id ∷ []
 builtin_code form.UsedMemory id line = instr.Used ∷ []
 builtin_code form.FreeMemory id line = instr.Free ∷ []
+builtin_code form.SetLimit id line = instr.SetLimit ∷ []
+builtin_code form.GetLimit id line = instr.GetLimit ∷ []
 builtin_code form.Asked id line = instr.Host id ∷ []
 builtin_code form.AskedAndWaits id line = instr.Host id ∷ instr.Tick line ∷ []
 builtin_code form.Resets id line = instr.Reset ∷ []

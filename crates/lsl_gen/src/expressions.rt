@@ -92,6 +92,14 @@ fn emit_builtin(draft: &mut Draft, id: BuiltinId, line: u32) -> Result<(), NoMem
             draft.push(Instr::Free)?;
             Ok(())
         }
+        Home::SetLimit => {
+            draft.push(Instr::SetLimit)?;
+            Ok(())
+        }
+        Home::GetLimit => {
+            draft.push(Instr::GetLimit)?;
+            Ok(())
+        }
         Home::Query | Home::Mail | Home::Act => {
             draft.push(Instr::Host(id))?;
             Ok(())

@@ -2,7 +2,9 @@
 
 ghost use Rattle.lsl_gen.specs.Laws.{CodeRunsAsMeant, UnitsAreWellFormed, AsksSoOften};
 ghost use Rattle.lsl_gen.specs.LossLaws.{IsNeverLost};
-ghost use Rattle.lsl_gen.specs.OwnCalls.{FreeMemoryIsTheRest, OwnCallsAreThese, UsedMemoryIsTheCharge};
+ghost use Rattle.lsl_code.specs.declared.instructions.Instr.TheVariants.{SetLimit};
+ghost use Rattle.lsl_gen.specs.OwnCalls.{FreeMemoryIsTheRest, HasCode, LimitIsKept, LimitIsSet, LimitIsTold, OwnCallsAreThese, UsedMemoryIsTheCharge};
+ghost use Rattle.lsl_value.specs.declared.names.BuiltinId.TheVariants.{SetMemoryLimit};
 
 /// A routine's code, run from its start, comes to what the routine means.
 pub fn code_runs_as_meant()
@@ -25,10 +27,16 @@ pub fn a_program_is_never_lost()
     ensures { IsNeverLost }
 {}
 
-/// `llGetUsedMemory` gives all that is charged and `llGetFreeMemory` what the limit leaves of it, each by an
-/// instruction of its own; each has a home in the table that no other call has.
+/// `llGetUsedMemory` gives all that is charged and `llGetFreeMemory` what the limit leaves of it; `llGetMemoryLimit`
+/// gives the limit, and `llSetMemoryLimit` sets it exactly where all that is charged is within it with the answer, and
+/// it isn't above the one at the start. Each is an instruction of its own, and has a home in the table that no other
+/// call has.
 pub fn own_calls_are_named()
     ensures used { UsedMemoryIsTheCharge }
     ensures free { FreeMemoryIsTheRest }
+    ensures told { LimitIsTold }
+    ensures set { LimitIsSet }
+    ensures kept { LimitIsKept }
+    ensures code { HasCode SetMemoryLimit SetLimit }
     ensures table { OwnCallsAreThese }
 {}
