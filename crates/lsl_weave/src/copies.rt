@@ -32,6 +32,8 @@ pub fn copy_instr(instr: &Instr) -> Result<Instr, NoMemory>
         Instr::Pure(id) => Instr::Pure(*id),
         Instr::Used => Instr::Used,
         Instr::Free => Instr::Free,
+        Instr::SetLimit => Instr::SetLimit,
+        Instr::GetLimit => Instr::GetLimit,
         Instr::Host(id) => Instr::Host(*id),
         Instr::Tick(point) => Instr::Tick(*point),
         Instr::Call(f, point) => Instr::Call(*f, *point),
