@@ -4,6 +4,7 @@ pub mod Charges
 pub mod Doing
 pub mod Parting
 pub mod Laying
+pub mod Limiting
 pub mod Leaving
 pub mod Remaining
 pub mod Viewing

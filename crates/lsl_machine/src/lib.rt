@@ -33,6 +33,7 @@ mod entering;
 mod fused;
 mod integers;
 mod jumps;
+mod limits;
 mod operands;
 mod operating;
 mod performing;

@@ -145,7 +145,7 @@ impl Running {
 }
 
 /// The number as a value.
-fn number(n: u64) -> Value
+pub fn number(n: u64) -> Value
     requires { n < 2 ^ 31 }
     ensures { result ≡ Value.Int (pos n) }
 {
@@ -167,7 +167,7 @@ pub fn integer_value(n: &i32) -> Value
 }
 
 /// The integer that a value has: a text's is the one that it begins with, and a key or list has 0.
-fn integer(value: &Value) -> i32
+pub fn integer(value: &Value) -> i32
     ensures { result ≡ integer_of value.now }
 {
     match value {
