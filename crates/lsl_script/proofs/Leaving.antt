@@ -1,11 +1,11 @@
 -- A run of a handler keeps its calls the handler's, and its globals charged within the limit.
-use Rattle.std.proofs.Common.{◌≡◌, ℕ, suc, pos, ◌+◌, ◌-◌, ◌<◌, ◌≤◌, List, [], ◌∷◌, Bool, true, false, cond, Option, None, Some, refl, arith, slice_get, length, reverse, take, drop, get_or}
+use Rattle.std.proofs.Common.{◌≡◌, ℕ, suc, ℤ, pos, ◌+◌, ◌-◌, ◌<◌, ◌≤◌, List, [], ◌∷◌, Bool, true, false, cond, Option, None, Some, refl, arith, slice_get, length, reverse, take, drop, get_or}
 use Rattle.std.proofs.lemmas.Bool.Decides.{nat_tests}
 use Rattle.std.specs.Prelude.{slice_set}
 use Rattle.lsl_value.specs.Values.{truth_of}
 use Rattle.lsl_value.specs.declared.tagged.Value.{Value}
 use Rattle.lsl_value.specs.declared.tagged.Value.TheVariants as value
-use Rattle.lsl_ops.specs.Operations.{cast_of}
+use Rattle.lsl_ops.specs.Operations.{cast_of, integer_of}
 use Rattle.lsl_pure.specs.Pure.{pure_of}
 use Rattle.lsl_running.specs.declared.ends.Fault.TheVariants.{StackHeap}
 use Rattle.lsl_running.specs.declared.host.Reply.{Reply}
@@ -13,16 +13,19 @@ use Rattle.lsl_running.specs.declared.host.Reply.TheVariants as reply
 use Rattle.lsl_running.specs.declared.kept.Kept.{Kept}
 use Rattle.lsl_running.specs.Calling.{parameter_count, is_answered_by}
 use Rattle.lsl_running.specs.Charging.{charges_of, default_limit, hold_all, used, is_within, with_global}
+use Rattle.lsl_running.specs.Limits.{granted, grant_value}
 use Rattle.lsl_running.specs.Values.{absent, unary_value, binary_value, list_value}
+use Rattle.lsl_running.proofs.Granting.{granted_told}
 use Rattle.lsl_code.specs.declared.instructions.Instr.{Instr}
-use Rattle.lsl_code.specs.declared.instructions.Instr.TheVariants.{Int, Str, Load, LoadGlobal, Store, StoreGlobal, Set, Drop, Unary, Binary, Cast, MakeList, JumpIf, JumpIfNot, Pure, Used, Free, Call, ReturnValue, TestSave, TestBack}
+use Rattle.lsl_code.specs.declared.instructions.Instr.TheVariants.{Int, Str, Load, LoadGlobal, Store, StoreGlobal, Set, Drop, Unary, Binary, Cast, MakeList, JumpIf, JumpIfNot, Pure, Used, Free, SetLimit, GetLimit, Call, ReturnValue, TestSave, TestBack}
 use Rattle.lsl_code.specs.Bodies.{Body, instruction_at}
-use Rattle.lsl_code.specs.Acts.{Did, Goes, Jumps, Enters, Leaves, Passes, Asks, Ends, Fails, Stuck, on_top, or_zero_divisor, entered, first_slots, gives, act}
+use Rattle.lsl_code.specs.Acts.{Did, Goes, Jumps, Enters, Leaves, Passes, Asks, Ends, Fails, Stuck, on_top, or_zero_divisor, entered, first_slots, gives, gives_limit, act}
 use Rattle.lsl_code.specs.Forward.{Forward}
 use Rattle.lsl_code.specs.Machine.{MachineCall, Machine, End, Ended, Faulted, Lost, Passing, Waiting, Next, On, Pauses, Halts, base, used_in, put, checked, left_to, replied, after, step_in, step}
 use Rattle.lsl_code.specs.Runs.{run}
 use Rattle.lsl_code.specs.Standing.{IsChain, IsChainedNext}
 use Rattle.lsl_code.proofs.Chaining.{stays_chained}
+use Rattle.lsl_code.proofs.FewCalls.{base_count, held_more}
 use Rattle.lsl_script.specs.Awake.{IsLeft}
 use Rattle.lsl_script.specs.Fitting.{least_limit}
 use Rattle.lsl_script.proofs.RunKeeps.{Kept as KeptBy, KeptAt, run_keeps}
@@ -65,6 +68,18 @@ gives_anew held sl ops g least small = go (is_within g (used (hold_all held ops)
       record { least = least; limit = small; charge = omega arith }
   go false e = tt
 
+-- a limit that was got is one that a script may have, and the globals are charged within it
+limit_left : (held : ℕ) (sl rest : List Value) (g : Kept) → IsLeft g → 1024 ≤ held → (n : ℤ) (limit : Option ℕ)
+    → granted n (used (hold_all held rest) sl g) ≡ limit → Left (gives_limit limit held sl rest g)
+limit_left held sl rest g h low n None got = gives_left held sl (grant_value None ∷ rest) g h
+limit_left held sl rest g h low n (Some m) got =
+    let told = granted_told n (used (hold_all held rest) sl g) m got in
+    let room : hold_all held rest + 32 + charges_of sl + charges_of g.globals + 8 ≤ m = told.0 in
+    let more = held_more held rest in
+    let left : IsLeft (record g { limit = m }) =
+    record { least = omega arith; limit = told.1; charge = omega arith } in
+    gives_left held sl (grant_value (Some m) ∷ rest) (record g { limit = m }) left
+
 top_left : (ops : List Value) (go : Value → List Value → Did) → ((v : Value) (rest : List Value) → Left (go v rest))
     → Left (on_top ops go)
 top_left [] go h = tt
@@ -87,42 +102,45 @@ entered_left (Some body) callee g held sl ops =
     (Fails StackHeap) tt tt
 
 act_left : (bodies : List Body) (o : Option Instr) (g : Kept) (held : ℕ) (sl ops : List Value) → IsLeft g
-    → Left (act bodies o g held sl ops)
-act_left bodies None g held sl ops h = tt
-act_left bodies (Some (Int n)) g held sl ops h = gives_left held sl (value.Int n ∷ ops) g h
-act_left bodies (Some (Str text)) g held sl ops h = gives_left held sl (value.Str text ∷ ops) g h
-act_left bodies (Some (Load n)) g held sl ops h = gives_left held sl (get_or sl n absent ∷ ops) g h
-act_left bodies (Some (LoadGlobal n)) g held sl ops h = gives_left held sl (get_or g.globals n absent ∷ ops) g h
-act_left bodies (Some (Store n)) g held sl ops h =
+    → 1024 ≤ held → Left (act bodies o g held sl ops)
+act_left bodies None g held sl ops h low = tt
+act_left bodies (Some (Int n)) g held sl ops h low = gives_left held sl (value.Int n ∷ ops) g h
+act_left bodies (Some (Str text)) g held sl ops h low = gives_left held sl (value.Str text ∷ ops) g h
+act_left bodies (Some (Load n)) g held sl ops h low = gives_left held sl (get_or sl n absent ∷ ops) g h
+act_left bodies (Some (LoadGlobal n)) g held sl ops h low = gives_left held sl (get_or g.globals n absent ∷ ops) g h
+act_left bodies (Some (Store n)) g held sl ops h low =
     top_left ops _ (λ v rest. gives_left held (slice_set sl n v) (v ∷ rest) g h)
-act_left bodies (Some (StoreGlobal n)) g held sl ops h =
+act_left bodies (Some (StoreGlobal n)) g held sl ops h low =
     top_left ops _ (λ v rest. gives_anew held sl (v ∷ rest) (with_global g n v) h.least h.limit)
-act_left bodies (Some (Set n)) g held sl ops h = top_left ops _ (λ v rest. h)
-act_left bodies (Some Drop) g held sl ops h = top_left ops _ (λ v rest. h)
-act_left bodies (Some (Unary op)) g held sl ops h =
+act_left bodies (Some (Set n)) g held sl ops h low = top_left ops _ (λ v rest. h)
+act_left bodies (Some Drop) g held sl ops h low = top_left ops _ (λ v rest. h)
+act_left bodies (Some (Unary op)) g held sl ops h low =
     top_left ops _ (λ v rest. gives_left held sl (unary_value op v ∷ rest) g h)
-act_left bodies (Some (Binary op)) g held sl ops h =
+act_left bodies (Some (Binary op)) g held sl ops h low =
     top_left ops _ (λ x more. top_left more _ (λ y rest.
     divided_left (binary_value op x y) _ (λ v. gives_left held sl (v ∷ rest) g h)))
-act_left bodies (Some (Cast kind)) g held sl ops h =
+act_left bodies (Some (Cast kind)) g held sl ops h low =
     top_left ops _ (λ v rest. gives_left held sl (cast_of v kind ∷ rest) g h)
-act_left bodies (Some (MakeList n)) g held sl ops h =
+act_left bodies (Some (MakeList n)) g held sl ops h low =
     gives_left held sl (list_value (reverse (take n ops)) ∷ drop n ops) g h
-act_left bodies (Some (JumpIf to)) g held sl ops h =
+act_left bodies (Some (JumpIf to)) g held sl ops h low =
     top_left ops _ (λ v rest. choice_left (truth_of v) (Jumps to rest) (Goes sl rest g) tt h)
-act_left bodies (Some (JumpIfNot to)) g held sl ops h =
+act_left bodies (Some (JumpIfNot to)) g held sl ops h low =
     top_left ops _ (λ v rest. choice_left (truth_of v) (Goes sl rest g) (Jumps to rest) h tt)
-act_left bodies (Some (Pure id)) g held sl ops h =
+act_left bodies (Some (Pure id)) g held sl ops h low =
     gives_left held sl (pure_of id (reverse (take (parameter_count id) ops)) ∷ drop (parameter_count id) ops) g h
-act_left bodies (Some Used) g held sl ops h =
+act_left bodies (Some Used) g held sl ops h low =
     gives_left held sl (value.Int (pos (used (hold_all held ops) sl g)) ∷ ops) g h
-act_left bodies (Some Free) g held sl ops h =
+act_left bodies (Some Free) g held sl ops h low =
     gives_left held sl (value.Int (pos (g.limit - used (hold_all held ops) sl g)) ∷ ops) g h
-act_left bodies (Some (Call f point)) g held sl ops h = entered_left (slice_get bodies f) f g held sl ops
-act_left bodies (Some ReturnValue) g held sl ops h = top_left ops _ (λ v rest. tt)
-act_left bodies (Some (TestSave to)) g held sl ops h = h
-act_left bodies (Some (TestBack to)) g held sl ops h = h
-act_left bodies (Some i) g held sl ops h = tt
+act_left bodies (Some SetLimit) g held sl ops h low =
+    top_left ops _ (λ v rest. limit_left held sl rest g h low (integer_of v) _ refl)
+act_left bodies (Some GetLimit) g held sl ops h low = gives_left held sl (value.Int (pos g.limit) ∷ ops) g h
+act_left bodies (Some (Call f point)) g held sl ops h low = entered_left (slice_get bodies f) f g held sl ops
+act_left bodies (Some ReturnValue) g held sl ops h low = top_left ops _ (λ v rest. tt)
+act_left bodies (Some (TestSave to)) g held sl ops h low = h
+act_left bodies (Some (TestBack to)) g held sl ops h low = h
+act_left bodies (Some i) g held sl ops h low = tt
 
 checked_left : (m : Machine) → IsLeft m.kept → LeftNext (checked m)
 checked_left m h =
@@ -165,9 +183,11 @@ step_left : (bodies : List Body) (g : Kept) (a : List Reply) (calls : List Machi
     → LeftNext (step_in bodies g a calls)
 step_left bodies g a [] h = tt
 step_left bodies g a (c ∷ outer) h =
+    let counted = base_count outer in
+    let at_least : 1024 ≤ base outer = omega arith in
     after_left (act bodies (instruction_at bodies c.function c.place) g (base outer) c.slots c.operands) g a c.function
     c.place c.slots c.operands outer h
-    (act_left bodies (instruction_at bodies c.function c.place) g (base outer) c.slots c.operands h)
+    (act_left bodies (instruction_at bodies c.function c.place) g (base outer) c.slots c.operands h at_least)
 
 pub left_keeps : (bodies : List Body) → Forward bodies → (t : ℕ) (m : Machine) → IsLeft m.kept
     → KeptAt IsLeftIn IsLeftAt bodies (run bodies t m)

@@ -18,13 +18,11 @@ ghost use Rattle.lsl_script.specs.Scripts.{Script as Source, entries_of_posting,
 
 use lsl_code::Woven;
 use lsl_post::{Event, Listens, Posted, Queue, Rest, ScriptParts, Timer};
+use lsl_running::DEFAULT_LIMIT;
 use lsl_text::NoMemory;
 use lsl_value::{EventId, Values};
 use std::alloc::Global;
 use std::marker::Model;
-
-/// The charge that a script may have at its start.
-pub const DEFAULT_LIMIT: u32 = 65_536;
 
 /// A script between turns. A contract sees its parts.
 #[derive(Drop)]
