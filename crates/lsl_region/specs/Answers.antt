@@ -185,6 +185,8 @@ abbrev pub does_more_at : Home → Bool
 does_more_at home.Pure = false
 does_more_at home.UsedMemory = false
 does_more_at home.FreeMemory = false
+does_more_at home.SetLimit = false
+does_more_at home.GetLimit = false
 does_more_at home.Query = false
 does_more_at home.Mail = true
 does_more_at home.Act = true
@@ -199,6 +201,8 @@ abbrev pub is_mailing_at : Home → Bool
 is_mailing_at home.Pure = false
 is_mailing_at home.UsedMemory = false
 is_mailing_at home.FreeMemory = false
+is_mailing_at home.SetLimit = false
+is_mailing_at home.GetLimit = false
 is_mailing_at home.Query = false
 is_mailing_at home.Mail = true
 is_mailing_at home.Act = false

@@ -119,7 +119,13 @@ fn does_more(id: BuiltinId) -> bool
 {
     match id.row().home {
         Home::Mail | Home::Act | Home::Sleep => true,
-        Home::Pure | Home::UsedMemory | Home::FreeMemory | Home::Query | Home::Reset => false,
+        Home::Pure
+        | Home::UsedMemory
+        | Home::FreeMemory
+        | Home::SetLimit
+        | Home::GetLimit
+        | Home::Query
+        | Home::Reset => false,
     }
 }
 
@@ -129,7 +135,13 @@ fn is_mailing(id: BuiltinId) -> bool
 {
     match id.row().home {
         Home::Mail | Home::Sleep => true,
-        Home::Pure | Home::UsedMemory | Home::FreeMemory | Home::Query | Home::Act | Home::Reset =>
-            false,
+        Home::Pure
+        | Home::UsedMemory
+        | Home::FreeMemory
+        | Home::SetLimit
+        | Home::GetLimit
+        | Home::Query
+        | Home::Act
+        | Home::Reset => false,
     }
 }
