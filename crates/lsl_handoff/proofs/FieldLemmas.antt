@@ -1,0 +1,45 @@
+-- Cards of one object, and objects of a field, by their numbers.
+use Rattle.std.proofs.Common.{◌≡◌, ◌≢◌, ◌∙◌, refl, sym, ap, subst, ℕ, zero, suc, ◌+◌, ◌-◌, ◌<◌, ◌≤◌, nat_eq, Bool, true, false, List, length, get_or, set, arith, Some, None, ◌⊎◌, inl, inr}
+use Rattle.std.proofs.lemmas.List.{get_or-set_same, get_or-set_other, get_or_past, get_or_read, set-get_or}
+use Rattle.std.proofs.lemmas.Grind.{common_steps}
+use Rattle.lsl_handoff.specs.declared.card.Card.{Card}
+use Rattle.lsl_handoff.specs.declared.card.Phase.{Phase}
+use Rattle.lsl_handoff.specs.declared.card.Phase.TheVariants.{Away, Live, Leaving, Cancelling}
+use Rattle.lsl_handoff.specs.Cards.{blank, is_live}
+use Rattle.lsl_handoff.specs.Fields.{IsFirstLive, IsOneOf, card_of, cards_of, with_card, with_cards}
+
+live-is : (phase : Phase) → is_live phase ≡ true → (held : List ℕ) × (phase ≡ Live held)
+live-is Away e = cc
+live-is (Live held) e = (held, refl)
+live-is (Leaving to held) e = cc
+live-is (Cancelling to held) e = cc
+
+card-at : (cards : List Card) (i : ℕ) (card : Card) → i < length cards → card ≡ get_or cards i card
+    → card_of cards (i + 1) ≡ card
+card-at cards i card within is =
+    let e : get_or cards i blank ≡ card = sym (get_or_read cards i card within is blank) in
+    grind (arith, e)
+
+-- a region beyond the cards has none
+card-past : (cards : List Card) (region : ℕ) → length cards < region → card_of cards region ≡ blank
+card-past cards region past =
+    let e : get_or cards (region - 1) blank ≡ blank = get_or_past cards (region - 1) blank (omega arith) in
+    grind (arith, e)
+
+module _ (cards : List Card) (i : ℕ)
+    (none : (region : ℕ) (held : List ℕ) → region ≤ i → (card_of cards region).phase ≡ Live held → ⊥) where
+  above : (region : ℕ) (held : List ℕ) → (card_of cards region).phase ≡ Live held → i + 1 ≤ region
+  above region held live = grind (arith, none region held)
+
+  pub first-live : (card : Card) → i < length cards → card ≡ get_or cards i card → is_live card.phase ≡ true
+      → IsFirstLive cards (Some (i + 1))
+  first-live card within is live =
+      let e = card-at cards i card within is in
+      let it = live-is card.phase live in
+      ((it.0, ap (λ (c : Card). c.phase) e ∙ it.1), above)
+
+  pub none-live : length cards ≤ i → IsFirstLive cards None
+  none-live all region held live =
+      let far = above region held live in
+      let e : (card_of cards region).phase ≡ Away = ap (λ (c : Card). c.phase) (card-past cards region (omega arith)) in
+      cc

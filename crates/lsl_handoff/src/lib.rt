@@ -1,0 +1,19 @@
+//! The handoff of objects among regions by numbered notes, over a link that loses, repeats and reorders them.
+//!
+//! A [`Field`] holds the cards of all regions. Each of its calls is one event of the protocol, and no run of events
+//! leaves an object live in two regions.
+#![tactic(auto)]
+
+mod card;
+mod faults;
+mod field;
+mod laws;
+mod note;
+mod parcel;
+
+pub use crate::card::{Card, Phase};
+pub use crate::faults::DepartFault;
+pub use crate::field::Field;
+pub use crate::laws::an_object_is_in_one_place;
+pub use crate::note::{Note, NoteKind};
+pub use crate::parcel::Parcel;
