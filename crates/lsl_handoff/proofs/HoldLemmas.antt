@@ -33,6 +33,19 @@ module _ (regions : ℕ) (at new : ℕ → Card) (parcel : List ℕ) (h : ℕ) (
       → (note.to ≡ h) × (to ≡ note.from) × ((at note.from).trip ≡ note.trip)
   refused-holder note to held same was fits = grind arith
 
+  -- what is under way goes to another region
+  pub leaving-apart : (r to : ℕ) (held : List ℕ) → (at r).phase ≡ Leaving to held → to ≢ r
+  leaving-apart r to held is = grind arith
+
+  pub leaving-there : (r to : ℕ) (held : List ℕ) → (at r).phase ≡ Leaving to held → IsOneOf regions to
+  leaving-there r to held is = grind arith
+
+  pub cancelling-apart : (r to : ℕ) (held : List ℕ) → (at r).phase ≡ Cancelling to held → to ≢ r
+  cancelling-apart r to held is = grind arith
+
+  pub cancelling-there : (r to : ℕ) (held : List ℕ) → (at r).phase ≡ Cancelling to held → IsOneOf regions to
+  cancelling-there r to held is = grind arith
+
   module _ (same : (q : ℕ) → q ≢ h → new q ≡ at q) where
     pub hold-departure : (next held : List ℕ) (to : ℕ) → (at h).phase ≡ Live held → to ≢ h → IsOneOf regions to
         → (new h).trip ≡ (at h).trip + 1 → (new h).phase ≡ Leaving to next → Holds regions new next h

@@ -1,6 +1,6 @@
 -- What holds of one object's cards and notes at each moment of a run. One region, the holder, has the object; a card is
 -- given by its region.
-use Rattle.std.proofs.Common.{◌≡◌, ◌≢◌, ℕ, ◌<◌, ◌≤◌, ◌⊎◌, true, false, List}
+use Rattle.std.proofs.Common.{◌≡◌, ◌≢◌, ℕ, ◌<◌, ◌≤◌, ◌⊎◌, true, false, List, Option, Some}
 use Rattle.lsl_handoff.specs.declared.card.Card.{Card}
 use Rattle.lsl_handoff.specs.declared.card.Phase.{Phase}
 use Rattle.lsl_handoff.specs.declared.card.Phase.TheVariants.{Away, Live, Leaving, Cancelling}
@@ -8,6 +8,7 @@ use Rattle.lsl_handoff.specs.declared.note.Note.{Note}
 use Rattle.lsl_handoff.specs.declared.note.NoteKind.{NoteKind}
 use Rattle.lsl_handoff.specs.declared.note.NoteKind.TheVariants.{Offer, Taken, Cancel, Refused}
 use Rattle.lsl_handoff.specs.Fields.{IsOneOf}
+use Rattle.lsl_handoff.specs.Rules.{Effect}
 
 -- the card's region didn't take the object on this trip, and may have heard that it shall not
 abbrev pub IsUntaken : Card → ℕ → Type 0
@@ -95,3 +96,19 @@ pub record Known (regions : ℕ) (at : ℕ → Card) (holder : ℕ) (note : Note
   pub apart : note.from ≢ note.to
   pub below : note.trip ≤ (at holder).trip
   pub fits : Fits at note note.kind
+
+-- all of it, of the notes that were sent
+pub record Keeps (regions : ℕ) (at : ℕ → Card) (sent : Note → Type 0) (parcel : List ℕ) : Type 0 where
+  pub holder : ℕ
+  pub holds : Holds regions at parcel holder
+  pub known : (note : Note) → sent note → Known regions at holder note
+
+-- one note more was sent, or none
+abbrev pub OrSent : (Note → Type 0) → Option Note → Note → Type 0
+OrSent sent more note = sent note ⊎ (more ≡ Some note)
+
+-- all of it holds again, where the card of this region has become that of the effect, and its note was sent
+abbrev pub Leads : ℕ → (ℕ → Card) → (Note → Type 0) → ℕ → List ℕ → Effect → Type 0
+Leads regions at sent region parcel effect =
+    (new : ℕ → Card) → new region ≡ effect.0 → ((q : ℕ) → q ≢ region → new q ≡ at q) →
+    Keeps regions new (OrSent sent effect.1) parcel

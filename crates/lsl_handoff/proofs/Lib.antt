@@ -1,5 +1,9 @@
+pub mod DeliveryLemmas
+pub mod EventLemmas
 pub mod FieldLemmas
 pub mod Holding
 pub mod HoldLemmas
 pub mod KeptLemmas
+pub mod RunLemmas
 pub mod SentLemmas
+pub mod StartLemmas
