@@ -80,164 +80,164 @@ elsewhere-to-go true rest e = cc
 elsewhere-to-go false rest e = refl
 
 module _ (regions : ℕ) (at : ℕ → Card) (sent : Note → Type 0) (parcel : List ℕ) (keeps : Keeps regions at sent parcel)
-    where
-  -- a departure that does something
-  module _ (region object to : ℕ) (next held : List ℕ) (was : (at region).phase ≡ Live held) (apart : to ≢ region)
-      (there : IsOneOf regions to) (new : ℕ → Card)
-      (here : new region ≡ record { trip = (at region).trip + 1; took = false; phase = Leaving to next })
-      (same : (q : ℕ) → q ≢ region → new q ≡ at q) where
-    is-held : region ≡ keeps.holder
-    is-held = live-holder regions at at parcel keeps.holder keeps.holds region held was
+  where
+    -- a departure that does something
+    module _ (region object to : ℕ) (next held : List ℕ) (was : (at region).phase ≡ Live held) (apart : to ≢ region)
+        (there : IsOneOf regions to) (new : ℕ → Card)
+        (here : new region ≡ record { trip = (at region).trip + 1; took = false; phase = Leaving to next })
+        (same : (q : ℕ) → q ≢ region → new q ≡ at q) where
+      is-held : region ≡ keeps.holder
+      is-held = live-holder regions at at parcel keeps.holder keeps.holds region held was
 
-    holds-here : Holds regions at parcel region
-    holds-here = subst (Holds regions at parcel) (sym is-held) keeps.holds
+      holds-here : Holds regions at parcel region
+      holds-here = subst (Holds regions at parcel) (sym is-held) keeps.holds
 
-    holds-new : Holds regions new next region
-    holds-new = hold-departure regions at new parcel region holds-here same next held to was apart there
-        (ap (λ (c : Card). c.trip) here) (ap (λ (c : Card). c.phase) here)
+      holds-new : Holds regions new next region
+      holds-new = hold-departure regions at new parcel region holds-here same next held to was apart there
+          (ap (λ (c : Card). c.trip) here) (ap (λ (c : Card). c.phase) here)
 
-    known-old : (note : Note) → sent note → Known regions new region note
-    known-old note old =
-        let k : Known regions at region note = subst (λ (h : ℕ). Known regions at h note) (sym is-held) (keeps.known note old) in
-        let trip : (new region).trip ≡ (at region).trip + 1 = ap (λ (c : Card). c.trip) here in
-        record {
-          from = k.from;
-          to = k.to;
-          apart = k.apart;
-          below = omega (arith, k.below);
-          fits = kept_by_departure regions at new parcel region note holds-here k.below next held to note.kind was trip
-              (ap (λ (c : Card). c.took) here) (ap (λ (c : Card). c.phase) here) same k.fits;
-        }
+      known-old : (note : Note) → sent note → Known regions new region note
+      known-old note old =
+          let k : Known regions at region note = subst (λ (h : ℕ). Known regions at h note) (sym is-held) (keeps.known note old) in
+          let trip : (new region).trip ≡ (at region).trip + 1 = ap (λ (c : Card). c.trip) here in
+          record {
+            from = k.from;
+            to = k.to;
+            apart = k.apart;
+            below = omega (arith, k.below);
+            fits = kept_by_departure regions at new parcel region note holds-here k.below next held to note.kind was trip
+                (ap (λ (c : Card). c.took) here) (ap (λ (c : Card). c.phase) here) same k.fits;
+          }
 
-    offer : Note
-    offer = offer_of object ((at region).trip + 1) region to next
+      offer : Note
+      offer = offer_of object ((at region).trip + 1) region to next
 
-    known-offer : Known regions new region offer
-    unfolding offer
-    known-offer =
-        let trip : (new region).trip ≡ (at region).trip + 1 = ap (λ (c : Card). c.trip) here in
-        record {
-          from = holds-here.there;
-          to = there;
-          apart = λ e. apart (sym e);
-          below = omega arith;
-          fits = subst (λ (n : ℕ). Fits new (offer_of object n region to next) Offer) trip
-              (offer-sent regions new next region holds-new object region to next (ap (λ (c : Card). c.phase) here));
-        }
+      known-offer : Known regions new region offer
+      unfolding offer
+      known-offer =
+          let trip : (new region).trip ≡ (at region).trip + 1 = ap (λ (c : Card). c.trip) here in
+          record {
+            from = holds-here.there;
+            to = there;
+            apart = λ e. apart (sym e);
+            below = omega arith;
+            fits = subst (λ (n : ℕ). Fits new (offer_of object n region to next) Offer) trip
+                (offer-sent regions new next region holds-new object region to next (ap (λ (c : Card). c.phase) here));
+          }
 
-    pub departure-keeps : Keeps regions new (OrSent sent (Some (offer_of object ((at region).trip + 1) region to next)))
-        next
-    unfolding offer
-    departure-keeps = keeps-note regions new sent next (offer_of object ((at region).trip + 1) region to next)
-        (record { holder = region; holds = holds-new; known = known-old }) known-offer
+      pub departure-keeps : Keeps regions new (OrSent sent (Some (offer_of object ((at region).trip + 1) region to next)))
+          next
+      unfolding offer
+      departure-keeps = keeps-note regions new sent next (offer_of object ((at region).trip + 1) region to next)
+          (record { holder = region; holds = holds-new; known = known-old }) known-offer
 
-  -- a region sends again what it sent
-  known-sent : (object region to : ℕ) (held : List ℕ) → IsOneOf regions region → IsOneOf regions to → to ≢ region
-      → (at region).phase ≡ Leaving to held
-      → Known regions at keeps.holder (offer_of object (at region).trip region to held)
-  known-sent object region to held from there apart is = record {
-    from = from;
-    to = there;
-    apart = λ e. apart (sym e);
-    below = keeps.holds.greatest region;
-    fits = offer-sent regions at parcel keeps.holder keeps.holds object region to held is;
-  }
-
-  known-cancel : (object region to : ℕ) (held : List ℕ) → IsOneOf regions region → IsOneOf regions to → to ≢ region
-      → (at region).phase ≡ Cancelling to held
-      → Known regions at keeps.holder (cancel_of object (at region).trip region to)
-  known-cancel object region to held from there apart is = record {
-    from = from;
-    to = there;
-    apart = λ e. apart (sym e);
-    below = keeps.holds.greatest region;
-    fits = cancel-sent regions at parcel keeps.holder keeps.holds object region to held is;
-  }
-
-  pub leads-again : (region object : ℕ) → IsOneOf regions region → (phase : Phase) → (at region).phase ≡ phase
-      → Leads regions at sent region parcel (at region, awaited phase (at region).trip region object)
-  leads-again region object from Away is =
-      leads-same regions at sent region parcel (at region) None refl (keeps-none regions at sent parcel keeps)
-  leads-again region object from (Live held) is =
-      leads-same regions at sent region parcel (at region) None refl (keeps-none regions at sent parcel keeps)
-  leads-again region object from (Leaving to held) is =
-      leads-same regions at sent region parcel (at region) (Some (offer_of object (at region).trip region to held)) refl
-      (keeps-note regions at sent parcel (offer_of object (at region).trip region to held) keeps
-      (known-sent object region to held from
-      (leaving-there regions at at parcel keeps.holder keeps.holds region to held is)
-      (leaving-apart regions at at parcel keeps.holder keeps.holds region to held is) is))
-  leads-again region object from (Cancelling to held) is =
-      leads-same regions at sent region parcel (at region) (Some (cancel_of object (at region).trip region to)) refl
-      (keeps-note regions at sent parcel (cancel_of object (at region).trip region to) keeps
-      (known-cancel object region to held from
-      (cancelling-there regions at at parcel keeps.holder keeps.holds region to held is)
-      (cancelling-apart regions at at parcel keeps.holder keeps.holds region to held is) is))
-
-  pub leads-departing : (region object to : ℕ) (next : List ℕ) → IsOneOf regions to → (fault : Option DepartFault)
-      → depart_fault (at region) region to ≡ fault
-      → Leads regions at sent region (if is_none fault then next else parcel)
-      (departs_unless fault (at region) region object to next)
-  leads-departing region object to next there (Some fault) is =
-      leads-same regions at sent region parcel (at region) None refl (keeps-none regions at sent parcel keeps)
-  leads-departing region object to next there None is =
-      let live = live-to-go (at region).phase (if nat_eq to region then Some Here else
-      if nat_eq (at region).trip last_trip then Some LastTrip else None) is in
-      let apart : to ≢ region = eqb-false to region (elsewhere-to-go (nat_eq to region)
-      (if nat_eq (at region).trip last_trip then Some LastTrip else None) live.2) in
-      λ new here same. departure-keeps region object to next live.0 live.1 apart there new here same
-
-  -- a region calls back what is leaving
-  module _ (region object to : ℕ) (held : List ℕ) (from : IsOneOf regions region)
-      (was : (at region).phase ≡ Leaving to held) (new : ℕ → Card)
-      (here : new region ≡ record (at region) { phase = Cancelling to held })
-      (same : (q : ℕ) → q ≢ region → new q ≡ at q) where
-    trip-stays : (new region).trip ≡ (at region).trip
-    trip-stays = ap (λ (c : Card). c.trip) here
-
-    took-stays : (new region).took ≡ (at region).took
-    took-stays = ap (λ (c : Card). c.took) here
-
-    cancels : (new region).phase ≡ Cancelling to held
-    cancels = ap (λ (c : Card). c.phase) here
-
-    holds-called : Holds regions new parcel keeps.holder
-    holds-called = hold-giving_up regions at new parcel keeps.holder keeps.holds region same to held was trip-stays
-        took-stays cancels
-
-    known-called : (note : Note) → sent note → Known regions new keeps.holder note
-    known-called note old =
-        let k = keeps.known note old in
-        let holder_trip : (at keeps.holder).trip ≤ (new keeps.holder).trip = grind arith in
-        record {
-          from = k.from;
-          to = k.to;
-          apart = k.apart;
-          below = omega (arith, k.below, holder_trip);
-          fits = kept_by_giving_up regions at new parcel keeps.holder note keeps.holds k.below held region to was
-              trip-stays took-stays cancels same note.kind k.fits;
-        }
-
-    known-back : Known regions new keeps.holder (cancel_of object (at region).trip region to)
-    known-back = record {
+    -- a region sends again what it sent
+    known-sent : (object region to : ℕ) (held : List ℕ) → IsOneOf regions region → IsOneOf regions to → to ≢ region
+        → (at region).phase ≡ Leaving to held
+        → Known regions at keeps.holder (offer_of object (at region).trip region to held)
+    known-sent object region to held from there apart is = record {
       from = from;
-      to = leaving-there regions at at parcel keeps.holder keeps.holds region to held was;
-      apart = λ e. leaving-apart regions at at parcel keeps.holder keeps.holds region to held was (sym e);
-      below = omega (arith, holds-called.greatest region, trip-stays);
-      fits = subst (λ (n : ℕ). Fits new (cancel_of object n region to) Cancel) trip-stays
-          (cancel-sent regions new parcel keeps.holder holds-called object region to held cancels);
+      to = there;
+      apart = λ e. apart (sym e);
+      below = keeps.holds.greatest region;
+      fits = offer-sent regions at parcel keeps.holder keeps.holds object region to held is;
     }
 
-    pub giving_up-keeps : Keeps regions new (OrSent sent (Some (cancel_of object (at region).trip region to))) parcel
-    giving_up-keeps = keeps-note regions new sent parcel (cancel_of object (at region).trip region to)
-        (record { holder = keeps.holder; holds = holds-called; known = known-called }) known-back
+    known-cancel : (object region to : ℕ) (held : List ℕ) → IsOneOf regions region → IsOneOf regions to → to ≢ region
+        → (at region).phase ≡ Cancelling to held
+        → Known regions at keeps.holder (cancel_of object (at region).trip region to)
+    known-cancel object region to held from there apart is = record {
+      from = from;
+      to = there;
+      apart = λ e. apart (sym e);
+      below = keeps.holds.greatest region;
+      fits = cancel-sent regions at parcel keeps.holder keeps.holds object region to held is;
+    }
 
-  pub leads-giving_up : (region object : ℕ) → IsOneOf regions region → (phase : Phase) → (at region).phase ≡ phase
-      → Leads regions at sent region parcel (call_back phase (at region) region object)
-  leads-giving_up region object from Away is =
-      leads-same regions at sent region parcel (at region) None refl (keeps-none regions at sent parcel keeps)
-  leads-giving_up region object from (Live held) is =
-      leads-same regions at sent region parcel (at region) None refl (keeps-none regions at sent parcel keeps)
-  leads-giving_up region object from (Leaving to held) is = λ new here same.
-      giving_up-keeps region object to held from is new here same
-  leads-giving_up region object from (Cancelling to held) is =
-      leads-same regions at sent region parcel (at region) None refl (keeps-none regions at sent parcel keeps)
+    pub leads-again : (region object : ℕ) → IsOneOf regions region → (phase : Phase) → (at region).phase ≡ phase
+        → Leads regions at sent region parcel (at region, awaited phase (at region).trip region object)
+    leads-again region object from Away is =
+        leads-same regions at sent region parcel (at region) None refl (keeps-none regions at sent parcel keeps)
+    leads-again region object from (Live held) is =
+        leads-same regions at sent region parcel (at region) None refl (keeps-none regions at sent parcel keeps)
+    leads-again region object from (Leaving to held) is =
+        leads-same regions at sent region parcel (at region) (Some (offer_of object (at region).trip region to held)) refl
+        (keeps-note regions at sent parcel (offer_of object (at region).trip region to held) keeps
+        (known-sent object region to held from
+        (leaving-there regions at at parcel keeps.holder keeps.holds region to held is)
+        (leaving-apart regions at at parcel keeps.holder keeps.holds region to held is) is))
+    leads-again region object from (Cancelling to held) is =
+        leads-same regions at sent region parcel (at region) (Some (cancel_of object (at region).trip region to)) refl
+        (keeps-note regions at sent parcel (cancel_of object (at region).trip region to) keeps
+        (known-cancel object region to held from
+        (cancelling-there regions at at parcel keeps.holder keeps.holds region to held is)
+        (cancelling-apart regions at at parcel keeps.holder keeps.holds region to held is) is))
+
+    pub leads-departing : (region object to : ℕ) (next : List ℕ) → IsOneOf regions to → (fault : Option DepartFault)
+        → depart_fault (at region) region to ≡ fault
+        → Leads regions at sent region (if is_none fault then next else parcel)
+        (departs_unless fault (at region) region object to next)
+    leads-departing region object to next there (Some fault) is =
+        leads-same regions at sent region parcel (at region) None refl (keeps-none regions at sent parcel keeps)
+    leads-departing region object to next there None is =
+        let live = live-to-go (at region).phase (if nat_eq to region then Some Here else
+        if nat_eq (at region).trip last_trip then Some LastTrip else None) is in
+        let apart : to ≢ region = eqb-false to region (elsewhere-to-go (nat_eq to region)
+        (if nat_eq (at region).trip last_trip then Some LastTrip else None) live.2) in
+        λ new here same. departure-keeps region object to next live.0 live.1 apart there new here same
+
+    -- a region calls back what is leaving
+    module _ (region object to : ℕ) (held : List ℕ) (from : IsOneOf regions region)
+        (was : (at region).phase ≡ Leaving to held) (new : ℕ → Card)
+        (here : new region ≡ record (at region) { phase = Cancelling to held })
+        (same : (q : ℕ) → q ≢ region → new q ≡ at q) where
+      trip-stays : (new region).trip ≡ (at region).trip
+      trip-stays = ap (λ (c : Card). c.trip) here
+
+      took-stays : (new region).took ≡ (at region).took
+      took-stays = ap (λ (c : Card). c.took) here
+
+      cancels : (new region).phase ≡ Cancelling to held
+      cancels = ap (λ (c : Card). c.phase) here
+
+      holds-called : Holds regions new parcel keeps.holder
+      holds-called = hold-giving_up regions at new parcel keeps.holder keeps.holds region same to held was trip-stays
+          took-stays cancels
+
+      known-called : (note : Note) → sent note → Known regions new keeps.holder note
+      known-called note old =
+          let k = keeps.known note old in
+          let holder_trip : (at keeps.holder).trip ≤ (new keeps.holder).trip = grind arith in
+          record {
+            from = k.from;
+            to = k.to;
+            apart = k.apart;
+            below = omega (arith, k.below, holder_trip);
+            fits = kept_by_giving_up regions at new parcel keeps.holder note keeps.holds k.below held region to was
+                trip-stays took-stays cancels same note.kind k.fits;
+          }
+
+      known-back : Known regions new keeps.holder (cancel_of object (at region).trip region to)
+      known-back = record {
+        from = from;
+        to = leaving-there regions at at parcel keeps.holder keeps.holds region to held was;
+        apart = λ e. leaving-apart regions at at parcel keeps.holder keeps.holds region to held was (sym e);
+        below = omega (arith, holds-called.greatest region, trip-stays);
+        fits = subst (λ (n : ℕ). Fits new (cancel_of object n region to) Cancel) trip-stays
+            (cancel-sent regions new parcel keeps.holder holds-called object region to held cancels);
+      }
+
+      pub giving_up-keeps : Keeps regions new (OrSent sent (Some (cancel_of object (at region).trip region to))) parcel
+      giving_up-keeps = keeps-note regions new sent parcel (cancel_of object (at region).trip region to)
+          (record { holder = keeps.holder; holds = holds-called; known = known-called }) known-back
+
+    pub leads-giving_up : (region object : ℕ) → IsOneOf regions region → (phase : Phase) → (at region).phase ≡ phase
+        → Leads regions at sent region parcel (call_back phase (at region) region object)
+    leads-giving_up region object from Away is =
+        leads-same regions at sent region parcel (at region) None refl (keeps-none regions at sent parcel keeps)
+    leads-giving_up region object from (Live held) is =
+        leads-same regions at sent region parcel (at region) None refl (keeps-none regions at sent parcel keeps)
+    leads-giving_up region object from (Leaving to held) is = λ new here same.
+        giving_up-keeps region object to held from is new here same
+    leads-giving_up region object from (Cancelling to held) is =
+        leads-same regions at sent region parcel (at region) None refl (keeps-none regions at sent parcel keeps)

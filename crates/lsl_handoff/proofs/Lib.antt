@@ -1,9 +1,14 @@
+pub mod AnswerLemmas
 pub mod DeliveryLemmas
 pub mod EventLemmas
+pub mod FaultlessLemmas
 pub mod FieldLemmas
-pub mod Holding
 pub mod HoldLemmas
+pub mod Holding
 pub mod KeptLemmas
+pub mod OuterLemmas
+pub mod PartLemmas
 pub mod RunLemmas
 pub mod SentLemmas
 pub mod StartLemmas
+pub mod WrittenLemmas

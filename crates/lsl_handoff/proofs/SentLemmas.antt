@@ -42,14 +42,14 @@ module _ (regions : ℕ) (at : ℕ → Card) (parcel : List ℕ) (h : ℕ) (hold
 
 -- the answers to an offer that is taken and to a cancel that closes the region
 module _ (at new : ℕ → Card) (note : Note) (trip : (new note.to).trip ≡ note.trip) (from : new note.from ≡ at note.from)
-    where
-  pub taking-sent : (new note.to).took ≡ true → IsOffering (at note.from).phase note.to note.parcel
-      → Fits new (answer_of Taken note) Taken
-  taking-sent took is = grind arith
+  where
+    pub taking-sent : (new note.to).took ≡ true → IsOffering (at note.from).phase note.to note.parcel
+        → Fits new (answer_of Taken note) Taken
+    taking-sent took is = grind arith
 
-  pub closing-sent : (new note.to).took ≡ false → (at note.from).trip ≡ note.trip
-      → IsCancelling (at note.from).phase note.to → Fits new (answer_of Refused note) Refused
-  closing-sent took same is = grind arith
+    pub closing-sent : (new note.to).took ≡ false → (at note.from).trip ≡ note.trip
+        → IsCancelling (at note.from).phase note.to → Fits new (answer_of Refused note) Refused
+    closing-sent took same is = grind arith
 
 -- a question of a later trip than its target's is open
 pub offer-asked : (at : ℕ → Card) (note : Note) → (at note.to).trip < note.trip → Fits at note Offer

@@ -1,7 +1,10 @@
 pub mod Cards
 pub mod Fields
 pub mod Laws
+pub mod NoteBytes
+pub mod NoteFaults
 pub mod Notes
 pub mod Parcels
+pub mod Reading
 pub mod Rules
 pub mod Runs

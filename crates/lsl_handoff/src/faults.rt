@@ -1,6 +1,10 @@
-//! Why an object doesn't depart.
+//! Why an object doesn't depart, and what is wrong with bytes that are no note.
 
-use lsl_text::NoMemory;
+ghost use Rattle.std.specs.Prelude.{◌≡◌};
+ghost use Rattle.lsl_text.specs.declared.Refusal.TheVariants.{Fault};
+ghost use Rattle.lsl_handoff.specs.declared.faults.NoteFault.TheVariants.{Body};
+
+use lsl_text::{NoMemory, Refusal};
 
 /// Why an object doesn't depart: the first that holds, in this order.
 #[derive(Clone, Copy, Debug, PartialEq, Eq)]
@@ -15,7 +19,6 @@ pub enum DepartFault {
 }
 
 impl From<NoMemory> for DepartFault {
-    ghost use Rattle.std.specs.Prelude.{◌≡◌};
     ghost use Rattle.lsl_handoff.specs.declared.faults.DepartFault.TheVariants.{NoMemory};
 
     ghost from_gives = { λ _ e. e ≡ NoMemory };
@@ -23,4 +26,24 @@ impl From<NoMemory> for DepartFault {
     fn from(_e: NoMemory) -> DepartFault {
         DepartFault::NoMemory
     }
+}
+
+/// Why bytes are no note, the first fault in the order of the tests.
+#[derive(Clone, Copy, Debug, PartialEq, Eq)]
+pub enum NoteFault {
+    /// There are this many bytes, and that many are wanted.
+    Size { found: u64, wanted: u64 },
+    /// The bytes have this digest, and that one stands behind them.
+    Digest { found: [u8; 32], wanted: [u8; 32] },
+    /// The note has a version that isn't known.
+    Version(u16),
+    /// The field that begins at this place can't be.
+    Body(u64),
+}
+
+/// The field at this place can't be.
+pub(crate) fn wrong(place: u64) -> Refusal<NoteFault>
+    ensures { result ≡ Fault (Body place) }
+{
+    Refusal::Fault(NoteFault::Body(place))
 }

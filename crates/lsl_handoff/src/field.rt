@@ -100,7 +100,9 @@ impl Field {
         ensures first { MatchResult result (λ _. depart_fault (card_at self.old object region) region to ≡ None)
             (λ fault. depart_fault (card_at self.old object region) region to ≡ cause fault) }
     {
-        self.objects[(object - 1) as usize].list[(region - 1) as usize].depart(region, object, to, parcel)
+        self.objects[(object - 1) as usize].list[(region - 1) as usize].depart(
+            region, object, to, parcel,
+        )
     }
 
     /// What this region sends once more about the object: its offer or its cancel while no answer came. None exactly

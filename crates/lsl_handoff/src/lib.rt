@@ -10,10 +10,15 @@ mod field;
 mod laws;
 mod note;
 mod parcel;
+mod reader;
+mod seal;
+mod writer;
 
 pub use crate::card::{Card, Phase};
-pub use crate::faults::DepartFault;
+pub use crate::faults::{DepartFault, NoteFault};
 pub use crate::field::Field;
 pub use crate::laws::an_object_is_in_one_place;
 pub use crate::note::{Note, NoteKind};
 pub use crate::parcel::Parcel;
+pub use crate::reader::read_note;
+pub use crate::writer::write_note;

@@ -50,7 +50,10 @@ impl Parcel {
         ensures { IfOk result (λ parcel. parcel ≡ self.now) }
     {
         match &self.held {
-            Some(held) => Ok(Parcel::from_vec(Vec::from_slice(*held.allocator(), held.as_slice())?)),
+            Some(held) => Ok(Parcel::from_vec(Vec::from_slice(
+                *held.allocator(),
+                held.as_slice(),
+            )?)),
             None => Ok(Parcel::empty()),
         }
     }
