@@ -1,8 +1,10 @@
 pub mod Cards
+pub mod Examples
 pub mod Fields
 pub mod Laws
 pub mod NoteBytes
 pub mod NoteFaults
+pub mod NoteLaws
 pub mod Notes
 pub mod Parcels
 pub mod Reading

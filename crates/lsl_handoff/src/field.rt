@@ -1,6 +1,6 @@
 //! Fields: the cards of all regions.
 
-ghost use Rattle.std.specs.Prelude.{◌≡◌, All, IfOk, OnErr, MatchResult, length};
+ghost use Rattle.std.specs.Prelude.{◌≡◌, ◌↔◌, All, IfOk, IsTrue, OnErr, MatchResult, length};
 ghost use Rattle.lsl_handoff.specs.Cards.{cause, depart_fault};
 ghost use Rattle.lsl_handoff.specs.Fields.{HasCard, IsFirstLive, IsOneOf, card_at, cards_at_start, cards_of, does, field_at_start};
 ghost use Rattle.lsl_handoff.specs.Rules.{Depart, Again, GiveUp, Deliver};
@@ -44,6 +44,13 @@ impl Cards {
         Ok(Cards { list })
     }
 
+    // Whether there is a card of this region.
+    fn has(&self, region: u32) -> bool
+        ensures { IsTrue result ↔ IsOneOf (length self.now) region }
+    {
+        region >= 1 && region as usize <= self.list.len()
+    }
+
     // The first region whose card is live.
     fn live(&self) -> Option<u32>
         ensures { IsFirstLive self.now result }
@@ -83,6 +90,16 @@ impl Field {
             objects.push(Cards::at_start(alloc, regions, *home)?)?;
         }
         Ok(Field { objects })
+    }
+
+    /// Whether the region has a card of the object: whether both numbers are there. Takes no memory.
+    pub fn has_card(&self, region: u32, object: u32) -> bool
+        ensures { IsTrue result ↔ HasCard self.now object region }
+    {
+        if object == 0 || object as usize > self.objects.len() {
+            return false;
+        }
+        self.objects[(object - 1) as usize].has(region)
     }
 
     /// The object leaves this region for another as this parcel: the offer that is sent. Takes memory for the offer's

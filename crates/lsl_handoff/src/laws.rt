@@ -1,10 +1,25 @@
 //! Laws of the handoff. Each law is a function whose clause is the law; it does nothing.
 
 ghost use Rattle.lsl_handoff.specs.Laws.{RunsKeepOnePlace};
+ghost use Rattle.lsl_handoff.specs.NoteLaws.{NotesAreOne, NotesAreSpelled, NotesHaveNoFault, NotesHaveOneSpelling, OthersHaveOne};
 
 /// After each run, whatever is lost, repeated or late, each object is live in one region at most, as the parcel of its
 /// last departure that did something; where it is live in none, some region holds it as that parcel and is leaving or
 /// cancelling, at the greatest trip of its cards.
 pub fn an_object_is_in_one_place()
     ensures { RunsKeepOnePlace }
+{}
+
+/// Bytes are those of one note at most, and a note has one spelling.
+pub fn notes_are_of_one()
+    ensures one { NotesAreOne }
+    ensures spelling { NotesHaveOneSpelling }
+{}
+
+/// The bytes of a note have no fault, and other bytes have a first one: so a note that was written is read back, and
+/// what is read is written as it was.
+pub fn notes_or_faults()
+    ensures spelled { NotesAreSpelled }
+    ensures notes { NotesHaveNoFault }
+    ensures others { OthersHaveOne }
 {}

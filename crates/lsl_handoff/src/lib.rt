@@ -5,6 +5,7 @@
 #![tactic(auto)]
 
 mod card;
+mod examples;
 mod faults;
 mod field;
 mod laws;
@@ -15,9 +16,10 @@ mod seal;
 mod writer;
 
 pub use crate::card::{Card, Phase};
+pub use crate::examples::{called_back_for_good, handed_over_in_the_end, notes_in_bytes};
 pub use crate::faults::{DepartFault, NoteFault};
 pub use crate::field::Field;
-pub use crate::laws::an_object_is_in_one_place;
+pub use crate::laws::{an_object_is_in_one_place, notes_are_of_one, notes_or_faults};
 pub use crate::note::{Note, NoteKind};
 pub use crate::parcel::Parcel;
 pub use crate::reader::read_note;
