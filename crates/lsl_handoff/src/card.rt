@@ -155,7 +155,7 @@ impl Card {
     fn offered(&mut self, note: Note) -> Note
         ensures { delivered Offer self.old note ≡ (self.new, Some result) }
     {
-        if note.trip <= self.trip {
+        if self.trip >= note.trip {
             return self.known_answer(&note);
         }
         let answer = note.answer(NoteKind::Taken);
@@ -174,11 +174,9 @@ impl Card {
         if note.trip <= self.trip {
             return self.known_answer(note);
         }
-        *self = Card {
-            trip: note.trip,
-            took: false,
-            phase: Phase::Away,
-        };
+        self.trip = note.trip;
+        self.took = false;
+        self.phase = Phase::Away;
         note.answer(NoteKind::Refused)
     }
 

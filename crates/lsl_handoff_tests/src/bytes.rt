@@ -8,6 +8,7 @@ use std::test::Fail;
 
 /// How many objects and regions there are.
 const OBJECTS: u32 = 2;
+
 const REGIONS: u32 = 3;
 
 /// What is read: the note in words, or the fault.
@@ -113,7 +114,11 @@ fn each_byte_counts(rt: HostRuntime) -> Result<(), Fail> {
         let was = bytes[place];
         bytes[place] = was.wrapping_add(1);
         let told = read(rt.alloc(), bytes.as_slice())?;
-        let wanted = if place >= 6 && place < 14 { "Size {" } else { "Digest {" };
+        let wanted = if place >= 6 && place < 14 {
+            "Size {"
+        } else {
+            "Digest {"
+        };
         assert!(rt; told.starts_with(wanted), "{place}: {told}");
         bytes[place] = was;
     }

@@ -54,7 +54,10 @@ fn again(field: &Field, region: u32) -> Result<Option<Note>, NoMemory> {
 /// Whether the object is live in this region: only there it would depart, if it went elsewhere.
 fn is_live(field: &mut Field, region: u32) -> bool {
     field.has_card(region, 1)
-        && matches!(field.depart(region, 1, region, Parcel::empty()), Err(DepartFault::Here))
+        && matches!(
+            field.depart(region, 1, region, Parcel::empty()),
+            Err(DepartFault::Here)
+        )
 }
 
 fn live(field: &Field) -> Option<u32> {
@@ -159,7 +162,9 @@ fn schedules_in_words(rt: HostRuntime) -> Result<(), Fail> {
         let mut worth = 1usize;
         let mut choices = CHOICES;
         for event in events.split(" ") {
-            schedule = schedule.wrapping_add(worth.wrapping_mul(event.parse::<u8>().unwrap_or(0) as usize));
+            schedule = schedule.wrapping_add(worth.wrapping_mul(
+                event.parse::<u8>().unwrap_or(0) as usize,
+            ));
             worth = worth.wrapping_mul(choices);
             choices = choices.wrapping_add(1);
         }
