@@ -1,22 +1,21 @@
 -- Each event keeps what holds of its object.
-use Rattle.std.proofs.Common.{◌≡◌, ◌≢◌, ◌∙◌, refl, sym, ap, subst, ℕ, ◌+◌, ◌<◌, ◌≤◌, nat_eq, nat_lt, is_none, ◌⊎◌, Bool, true, false, if◌then◌else◌, List, Option, Some, None, inl, inr, arith}
-use Rattle.std.proofs.lemmas.Bool.{cases_eq, eqb-false, eqb-true, ltb-true, ltb-false}
+use Rattle.std.proofs.Common.{◌≡◌, ◌≢◌, ◌∙◌, refl, sym, ap, subst, ℕ, ◌+◌, ◌≤◌, nat_eq, is_none, ◌⊎◌, Bool, true, false, if◌then◌else◌, List, Option, Some, None, inl, inr, arith}
+use Rattle.std.proofs.lemmas.Bool.{cases_eq, eqb-false}
 use Rattle.lsl_handoff.specs.declared.card.Card.{Card}
 use Rattle.lsl_handoff.specs.declared.card.Phase.{Phase}
 use Rattle.lsl_handoff.specs.declared.card.Phase.TheVariants.{Away, Live, Leaving, Cancelling}
 use Rattle.lsl_handoff.specs.declared.faults.DepartFault.{DepartFault}
 use Rattle.lsl_handoff.specs.declared.faults.DepartFault.TheVariants.{NotLive, Here, LastTrip}
 use Rattle.lsl_handoff.specs.declared.note.Note.{Note}
-use Rattle.lsl_handoff.specs.declared.note.NoteKind.{NoteKind}
-use Rattle.lsl_handoff.specs.declared.note.NoteKind.TheVariants.{Offer, Taken, Cancel, Refused}
+use Rattle.lsl_handoff.specs.declared.note.NoteKind.TheVariants.{Offer, Cancel}
 use Rattle.lsl_handoff.specs.Cards.{depart_fault, is_live, last_trip}
 use Rattle.lsl_handoff.specs.Fields.{IsOneOf}
-use Rattle.lsl_handoff.specs.Notes.{answer_of, cancel_of, offer_of}
-use Rattle.lsl_handoff.specs.Rules.{Effect, awaited, call_back, delivered, departs, departs_unless, known_answer, was_refused, was_taken}
-use Rattle.lsl_handoff.proofs.Holding.{Fits, Holds, IsCancelling, IsOffering, Keeps, Known, Leads, OrSent}
-use Rattle.lsl_handoff.proofs.HoldLemmas.{cancel-holder, hold-closing, hold-departure, hold-giving_up, hold-refused, hold-taken, hold-taking, cancelling-apart, cancelling-there, leaving-apart, leaving-there, live-holder, offer-holder, refused-holder, taken-elsewhere}
-use Rattle.lsl_handoff.proofs.KeptLemmas.{kept_by_departure, kept_by_giving_up, kept_by_refused, kept_by_rise, kept_by_taken}
-use Rattle.lsl_handoff.proofs.SentLemmas.{cancel-sent, offer-sent, refused-sent_cancel, refused-sent_offer, taken-sent_cancel, taken-sent_offer, took-sent_cancel, took-sent_offer}
+use Rattle.lsl_handoff.specs.Notes.{cancel_of, offer_of}
+use Rattle.lsl_handoff.specs.Rules.{Effect, awaited, call_back, departs_unless}
+use Rattle.lsl_handoff.proofs.Holding.{Fits, Holds, Keeps, Known, Leads, OrSent}
+use Rattle.lsl_handoff.proofs.HoldLemmas.{hold-departure, hold-giving_up, cancelling-apart, cancelling-there, leaving-apart, leaving-there, live-holder}
+use Rattle.lsl_handoff.proofs.KeptLemmas.{kept_by_departure, kept_by_giving_up}
+use Rattle.lsl_handoff.proofs.SentLemmas.{cancel-sent, offer-sent}
 
 module _ (regions : ℕ) (at : ℕ → Card) (sent : Note → Type 0) where
   -- what is known of the notes that were sent, and of one more

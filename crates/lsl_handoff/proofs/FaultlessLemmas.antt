@@ -1,23 +1,21 @@
 -- Bytes without a fault are those of the note that stands in them.
-use Rattle.std.proofs.Common.{◌≡◌, ◌∙◌, refl, sym, ap, subst, arith, ℕ, ◌+◌, ◌-◌, ◌<◌, ◌≤◌, ◌^◌, ◌==◌, nat_le, Bool, true, false, ◌&&◌, if◌then◌else◌, List, [], ◌∷◌, ◌++◌, length, take, drop, get_or, append_assoc, Option, Some, None}
-use Rattle.std.specs.Int.{w16, w32, w64, from_be_bytes}
+use Rattle.std.proofs.Common.{◌≡◌, ◌∙◌, refl, sym, ap, arith, ℕ, ◌+◌, ◌-◌, ◌<◌, ◌≤◌, ◌==◌, nat_le, Bool, true, false, ◌&&◌, if◌then◌else◌, List, [], ◌++◌, length, take, drop, get_or, append_assoc, Option, None}
+use Rattle.std.specs.Int.{w64, from_be_bytes}
 use Rattle.std.specs.Prelude.{codes}
 use Rattle.std.specs.Str.{bytes_eq}
 use Rattle.std.proofs.lemmas.Bool.{eqb-true, leb-true}
 use Rattle.std.proofs.lemmas.Bool.Decides.{nat_tests}
-use Rattle.std.proofs.lemmas.List.{append-nil, drop-append-le, get_or-take, length-append, length-drop, length-take, nil_from_length, take-append-drop, take-append-le}
+use Rattle.std.proofs.lemmas.List.{drop-append-le, length-drop, length-take, nil_from_length, take-append-drop, take-append-le}
 use Rattle.std.proofs.lemmas.Slice.Eq.{bytes_eq-Decides}
 use Rattle.sha2.specs.Sha256.{sha256}
 use Rattle.lsl_bytes.specs.Fields.{u8_bytes, u16_bytes, u32_bytes, u64_bytes}
-use Rattle.lsl_bytes.proofs.NumberLemmas.{length-u8, length-u32, length-u64}
 use Rattle.lsl_handoff.specs.declared.faults.NoteFault.{NoteFault}
-use Rattle.lsl_handoff.specs.declared.faults.NoteFault.TheVariants.{Size, Digest, Version, Body}
-use Rattle.lsl_handoff.specs.declared.note.Note.{Note}
+use Rattle.lsl_handoff.specs.declared.faults.NoteFault.TheVariants.{Body}
 use Rattle.lsl_handoff.specs.declared.note.NoteKind.{NoteKind}
 use Rattle.lsl_handoff.specs.declared.note.NoteKind.TheVariants.{Offer, Taken, Cancel, Refused}
 use Rattle.lsl_handoff.specs.Fields.{IsOneOf}
-use Rattle.lsl_handoff.specs.NoteBytes.{HasItsParcel, IsNote, IsNoteOf, digested_bytes, fields_bytes, head_bytes, kind_number, note_bytes, parcel_bytes}
-use Rattle.lsl_handoff.specs.NoteFaults.{covered, digest_in, end_fault, first_fault, head_fault, is_kind, is_one_of, kind_of, outer_fault, part_at, u16_at, u32_at, u64_at, unless}
+use Rattle.lsl_handoff.specs.NoteBytes.{HasItsParcel, IsNoteOf, digested_bytes, fields_bytes, head_bytes, kind_number, note_bytes, parcel_bytes}
+use Rattle.lsl_handoff.specs.NoteFaults.{covered, digest_in, end_fault, first_fault, is_kind, is_one_of, kind_of, part_at, u16_at, u32_at, u64_at, unless}
 use Rattle.lsl_handoff.specs.Reading.{head_in, note_in, note_of, parcel_in}
 use Rattle.lsl_handoff.proofs.PartLemmas.{byte-part, glue, part-small, u16-part, u32-part, u64-part, u64-small}
 

@@ -1,6 +1,6 @@
 -- What is around the fields of a note, read and written.
-use Rattle.std.proofs.Common.{◌≡◌, ◌∙◌, refl, sym, ap, subst, arith, ℕ, ◌+◌, ◌-◌, ◌≤◌, ◌==◌, nat_le, Bool, true, false, not, List, [], ◌++◌, length, take, drop, get_or, Option, Some, None, Result}
-use Rattle.std.specs.Prelude.{MatchBool, MatchResult, codes}
+use Rattle.std.proofs.Common.{◌≡◌, ◌∙◌, refl, sym, ap, subst, arith, ℕ, ◌+◌, ◌-◌, ◌≤◌, ◌==◌, nat_le, Bool, true, false, not, List, [], ◌++◌, length, drop, get_or, Option, Some, None, Result}
+use Rattle.std.specs.Prelude.{MatchBool, MatchResult}
 use Rattle.std.specs.Result.{IsErrAnd}
 use Rattle.std.specs.Str.{bytes_eq}
 use Rattle.std.proofs.lemmas.Bool.{eq-eqb, le-leb}
@@ -15,7 +15,7 @@ use Rattle.lsl_handoff.specs.declared.faults.NoteFault.{NoteFault}
 use Rattle.lsl_handoff.specs.declared.faults.NoteFault.TheVariants.{Size, Digest, Body}
 use Rattle.lsl_handoff.specs.declared.note.Note.{Note}
 use Rattle.lsl_handoff.specs.declared.note.NoteKind.{NoteKind}
-use Rattle.lsl_handoff.specs.declared.note.NoteKind.TheVariants.{Offer, Taken, Cancel, Refused}
+use Rattle.lsl_handoff.specs.declared.note.NoteKind.TheVariants.{Offer}
 use Rattle.lsl_handoff.specs.NoteBytes.{digested_bytes, fields_bytes, head_bytes, kind_number, note_bytes, parcel_bytes}
 use Rattle.lsl_handoff.specs.NoteFaults.{IsRefusedBy, covered, digest_in, end_fault, first_fault, head_fault, kind_of, outer_fault, part_at, u64_at, unless}
 use Rattle.lsl_handoff.specs.Reading.{note_in}

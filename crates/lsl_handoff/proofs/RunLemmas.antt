@@ -1,9 +1,9 @@
 -- Runs keep what holds of each object.
-use Rattle.std.proofs.Common.{◌≡◌, ◌≢◌, ◌∙◌, refl, sym, ap, subst, ℕ, ◌+◌, ◌-◌, ◌<◌, ◌≤◌, nat_eq, nat_lt, ◌&&◌, if◌then◌else◌, is_none, ◌⊎◌, Bool, true, false, List, [], ◌∷◌, ◌++◌, length, map, replicate, get_or, Option, Some, None, inl, inr, arith}
-use Rattle.std.proofs.lemmas.Bool.{cases_eq, eqb-true, eqb-false, eq-eqb, ne_eqb}
-use Rattle.std.proofs.lemmas.List.{length-set, length-map, length-replicate, get_or-map, get_or-replicate, append-nil}
+use Rattle.std.proofs.Common.{◌≡◌, ◌≢◌, ◌∙◌, refl, sym, ap, subst, ℕ, ◌-◌, nat_eq, nat_lt, ◌&&◌, if◌then◌else◌, is_none, ◌⊎◌, Bool, true, false, List, [], ◌∷◌, length, get_or, Option, Some, None, inl, inr, arith}
+use Rattle.std.proofs.lemmas.Bool.{cases_eq, eq-eqb, ne_eqb}
+use Rattle.std.proofs.lemmas.List.{length-set}
 use Rattle.std.proofs.lemmas.List.Elements.{Contains-append_cases}
-use Rattle.std.specs.Prelude.{All, Contains, option_to_list}
+use Rattle.std.specs.Prelude.{Contains, option_to_list}
 use Rattle.lsl_handoff.specs.declared.card.Card.{Card}
 use Rattle.lsl_handoff.specs.declared.card.Phase.{Phase}
 use Rattle.lsl_handoff.specs.declared.card.Phase.TheVariants.{Away, Live, Leaving, Cancelling}
@@ -11,12 +11,12 @@ use Rattle.lsl_handoff.specs.declared.faults.DepartFault.{DepartFault}
 use Rattle.lsl_handoff.specs.declared.note.Note.{Note}
 use Rattle.lsl_handoff.specs.declared.note.NoteKind.{NoteKind}
 use Rattle.lsl_handoff.specs.declared.note.NoteKind.TheVariants.{Offer, Taken, Cancel, Refused}
-use Rattle.lsl_handoff.specs.Cards.{blank, depart_fault, home_card}
-use Rattle.lsl_handoff.specs.Fields.{IsOneOf, card_at, card_of, cards_at_start, cards_of, does, field_at_start, with_card, with_cards}
+use Rattle.lsl_handoff.specs.Cards.{depart_fault}
+use Rattle.lsl_handoff.specs.Fields.{IsOneOf, card_at, card_of, cards_of, with_card}
 use Rattle.lsl_handoff.specs.Rules.{Event, Depart, Again, GiveUp, Deliver, Effect, acts, awaited, call_back, delivered, departs, departs_unless, known_answer, object_of, region_of, was_refused, was_taken}
 use Rattle.lsl_handoff.specs.Notes.{answer_of}
-use Rattle.lsl_handoff.specs.Runs.{MayAllHappen, MayHappen, Run, after, happens, last_parcel, newer_parcel, start}
-use Rattle.lsl_handoff.proofs.Holding.{Holds, Keeps, Known, Leads, OrSent}
+use Rattle.lsl_handoff.specs.Runs.{MayAllHappen, MayHappen, Run, after, happens, last_parcel, newer_parcel}
+use Rattle.lsl_handoff.proofs.Holding.{Keeps, Known, Leads, OrSent}
 use Rattle.lsl_handoff.proofs.EventLemmas.{leads-again, leads-departing, leads-giving_up}
 use Rattle.lsl_handoff.proofs.DeliveryLemmas.{leads-delivered}
 use Rattle.lsl_handoff.proofs.FieldLemmas.{card-others, card-replaced, cards-others, cards-replaced}

@@ -1,7 +1,7 @@
 -- Each note that an event sends fits the cards that the event leaves.
-use Rattle.std.proofs.Common.{◌≡◌, ◌≢◌, ℕ, ◌+◌, ◌<◌, ◌≤◌, ◌⊎◌, true, false, List, inl, inr, arith}
+use Rattle.std.proofs.Common.{◌≡◌, ℕ, ◌<◌, true, false, List, inl, inr, arith}
 use Rattle.lsl_handoff.specs.declared.card.Card.{Card}
-use Rattle.lsl_handoff.specs.declared.card.Phase.TheVariants.{Away, Live, Leaving, Cancelling}
+use Rattle.lsl_handoff.specs.declared.card.Phase.TheVariants.{Leaving, Cancelling}
 use Rattle.lsl_handoff.specs.declared.note.Note.{Note}
 use Rattle.lsl_handoff.specs.declared.note.NoteKind.TheVariants.{Offer, Taken, Cancel, Refused}
 use Rattle.lsl_handoff.specs.Notes.{answer_of, cancel_of, offer_of}

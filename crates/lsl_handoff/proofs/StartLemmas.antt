@@ -1,6 +1,6 @@
 -- What holds at the start of a run, and what it tells of an object.
 use Rattle.std.proofs.Common.{◌≡◌, ◌≢◌, ◌∙◌, refl, sym, ap, subst, ℕ, ◌-◌, ◌<◌, ◌≤◌, nat_eq, Bool, true, false, if◌then◌else◌, ◌⊎◌, List, [], length, map, replicate, get_or, inl, inr, arith}
-use Rattle.std.proofs.lemmas.Bool.{cases_eq, cases_lt, eqb-false, eqb-true}
+use Rattle.std.proofs.lemmas.Bool.{cases_eq, cases_lt, eqb-true}
 use Rattle.std.proofs.lemmas.List.{get_or-map, get_or-replicate, get_or_past, length-map, length-replicate, length-set}
 use Rattle.std.specs.Prelude.{All}
 use Rattle.lsl_handoff.specs.declared.card.Card.{Card}
@@ -13,7 +13,7 @@ use Rattle.lsl_handoff.specs.Runs.{Run, start}
 use Rattle.lsl_handoff.proofs.FieldLemmas.{card-others, card-replaced}
 use Rattle.lsl_handoff.proofs.Holding.{Has, HasNot, Holds}
 use Rattle.lsl_handoff.proofs.HoldLemmas.{live-holder}
-use Rattle.lsl_handoff.proofs.RunLemmas.{KeepsNumbers, KeepsObject, SentOf}
+use Rattle.lsl_handoff.proofs.RunLemmas.{KeepsNumbers, KeepsObject}
 
 blank-at : (regions i : ℕ) → get_or (replicate regions blank) i blank ≡ blank
 blank-at regions i = by-place (cases_lt i regions)

@@ -1,10 +1,10 @@
 -- The bytes of a note have no fault, and the note is what stands in them.
-use Rattle.std.proofs.Common.{◌≡◌, ◌∙◌, refl, sym, ap, subst, arith, ℕ, ◌+◌, ◌-◌, ◌<◌, ◌≤◌, ◌^◌, ◌==◌, nat_le, Bool, true, false, ◌&&◌, List, [], ◌∷◌, ◌++◌, length, take, drop, get_or, append_assoc, Option, Some, None}
+use Rattle.std.proofs.Common.{◌≡◌, ◌∙◌, refl, sym, ap, arith, ℕ, ◌+◌, ◌-◌, ◌<◌, ◌^◌, ◌==◌, nat_le, Bool, true, false, ◌&&◌, List, ◌++◌, length, take, drop, get_or, append_assoc, Option, None}
 use Rattle.std.specs.Int.{w16, w32, w64, from_be_bytes}
 use Rattle.std.specs.Prelude.{codes}
 use Rattle.std.specs.Str.{bytes_eq}
 use Rattle.std.proofs.lemmas.Bool.{eq-eqb, le-leb}
-use Rattle.std.proofs.lemmas.List.{append-nil, drop_at, length-append, take_at}
+use Rattle.std.proofs.lemmas.List.{drop_at, length-append, take_at}
 use Rattle.std.proofs.lemmas.Slice.Eq.{bytes_eq-Decides}
 use Rattle.sha2.specs.Sha256.{sha256}
 use Rattle.sha2.proofs.Facts256.{length-sha256}
@@ -16,10 +16,10 @@ use Rattle.lsl_handoff.specs.declared.note.Note.{Note}
 use Rattle.lsl_handoff.specs.declared.note.NoteKind.{NoteKind}
 use Rattle.lsl_handoff.specs.declared.note.NoteKind.TheVariants.{Offer, Taken, Cancel, Refused}
 use Rattle.lsl_handoff.specs.Fields.{IsOneOf}
-use Rattle.lsl_handoff.specs.NoteBytes.{HasItsParcel, IsNote, IsNoteOf, fields_bytes, head_bytes, kind_number, note_bytes, parcel_bytes}
+use Rattle.lsl_handoff.specs.NoteBytes.{HasItsParcel, IsNoteOf, fields_bytes, head_bytes, kind_number, note_bytes, parcel_bytes}
 use Rattle.lsl_handoff.specs.NoteFaults.{covered, digest_in, end_fault, first_fault, head_fault, is_kind, is_one_of, kind_of, outer_fault, part_at, u16_at, u32_at, u64_at, unless}
 use Rattle.lsl_handoff.specs.Reading.{head_in, note_in, note_of, parcel_in}
-use Rattle.lsl_handoff.proofs.PartLemmas.{IsCut, byte-at, cut, u16-again, u32-again, u64-again}
+use Rattle.lsl_handoff.proofs.PartLemmas.{byte-at, cut, u16-again, u32-again, u64-again}
 
 pub unless-good : (good : Bool) (fault : NoteFault) (next : Option NoteFault) → good ≡ true
     → unless good fault next ≡ next

@@ -1,5 +1,5 @@
 -- Cards, and when an object can depart.
-use Rattle.std.specs.Prelude.{ℕ, nat_eq, Bool, true, false, if◌then◌else◌, List, [], Option, Some, None}
+use Rattle.std.specs.Prelude.{ℕ, nat_eq, Bool, true, false, if◌then◌else◌, [], Option, Some, None}
 use Rattle.lsl_handoff.specs.declared.card.Card.{Card}
 use Rattle.lsl_handoff.specs.declared.card.Phase.{Phase}
 use Rattle.lsl_handoff.specs.declared.card.Phase.TheVariants.{Away, Live, Leaving, Cancelling}

@@ -1,5 +1,5 @@
 -- What is wrong first with bytes that are no note. The fields but the last have their places.
-use Rattle.std.specs.Prelude.{◌≡◌, ℕ, ◌+◌, ◌-◌, ◌==◌, nat_le, Bool, ◌&&◌, if◌then◌else◌, ◌⊎◌, List, [], length, take, drop, slice_index, codes, Option, Some, None, MatchResult, Result}
+use Rattle.std.specs.Prelude.{◌≡◌, ℕ, ◌+◌, ◌-◌, ◌==◌, nat_le, Bool, ◌&&◌, if◌then◌else◌, ◌⊎◌, List, length, take, drop, slice_index, codes, Option, Some, None, MatchResult, Result}
 use Rattle.std.specs.Int.{w16, w32, w64, from_be_bytes}
 use Rattle.std.specs.Str.{bytes_eq}
 use Rattle.sha2.specs.Sha256.{sha256}

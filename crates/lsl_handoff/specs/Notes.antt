@@ -2,7 +2,7 @@
 use Rattle.std.specs.Prelude.{ℕ, List, []}
 use Rattle.lsl_handoff.specs.declared.note.Note.{Note}
 use Rattle.lsl_handoff.specs.declared.note.NoteKind.{NoteKind}
-use Rattle.lsl_handoff.specs.declared.note.NoteKind.TheVariants.{Offer, Taken, Cancel, Refused}
+use Rattle.lsl_handoff.specs.declared.note.NoteKind.TheVariants.{Offer, Cancel}
 
 -- on this trip the object leaves one region for another, as this parcel
 abbrev pub offer_of : ℕ → ℕ → ℕ → ℕ → List ℕ → Note

@@ -1,5 +1,5 @@
 -- Events, and what each makes of the one card that it changes.
-use Rattle.std.specs.Prelude.{ℕ, ◌+◌, nat_eq, nat_lt, Bool, true, false, if◌then◌else◌, List, Option, Some, None}
+use Rattle.std.specs.Prelude.{ℕ, ◌+◌, nat_eq, nat_lt, true, false, if◌then◌else◌, List, Option, Some, None}
 use Rattle.lsl_handoff.specs.declared.card.Card.{Card}
 use Rattle.lsl_handoff.specs.declared.card.Phase.{Phase}
 use Rattle.lsl_handoff.specs.declared.card.Phase.TheVariants.{Away, Live, Leaving, Cancelling}

@@ -1,5 +1,5 @@
 -- Runs: any events, one after another, with the notes that were sent so far.
-use Rattle.std.specs.Prelude.{ℕ, nat_eq, Bool, true, false, ◌&&◌, if◌then◌else◌, is_none, List, [], ◌∷◌, ◌++◌, length, Contains, option_to_list}
+use Rattle.std.specs.Prelude.{ℕ, nat_eq, ◌&&◌, if◌then◌else◌, is_none, List, [], ◌∷◌, ◌++◌, Contains, option_to_list}
 use Rattle.lsl_handoff.specs.declared.card.Card.{Card}
 use Rattle.lsl_handoff.specs.declared.note.Note.{Note}
 use Rattle.lsl_handoff.specs.Cards.{depart_fault}
