@@ -1,0 +1,5 @@
+pub mod Answering
+pub mod Histories
+pub mod InOrder
+pub mod Keeping
+pub mod PairLemmas

@@ -1,0 +1,6 @@
+pub mod Answers
+pub mod History
+pub mod Kept
+pub mod Laws
+pub mod Listing
+pub mod Pairs
