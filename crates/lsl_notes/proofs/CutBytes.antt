@@ -129,7 +129,8 @@ scalars_cut room text h =
 -- so its bytes are a text's
 pub cut_text : (room : ℕ) (text bytes : List ℕ) → room ≤ 1024 → all_scalars text ≡ true
     → bytes ≡ encode_utf8_all (cut_to room text) → IsNoText bytes → ⊥
-cut_text room text bytes few h e (inl bad) = bad (IsUtf8-spelled bytes (cut_to room text) e (scalars_cut room text h))
+cut_text room text bytes few h e (inl bad) =
+    bad (IsUtf8-spelled bytes (cut_to room text) e (scalars_cut room text h))
 cut_text room text bytes few h e (inr long) = omega (arith, long, few, ap length e, cut_short room text)
 
 pub cut_found : (room : ℕ) (text bytes cut : List ℕ) → all_scalars text ≡ true

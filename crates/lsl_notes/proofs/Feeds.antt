@@ -27,7 +27,8 @@ parts-cons x [] h = absurd (omega arith)
 parts-cons x (p ∷ parts) h = refl
 
 -- what stands before the first feed is a line, without the return at its end
-lines-fed : (line rest : List ℕ) → HasNoFeed line → lines (line ++ 10 ∷ rest) ≡ strip_carriage_return line ∷ lines rest
+lines-fed : (line rest : List ℕ) → HasNoFeed line
+    → lines (line ++ 10 ∷ rest) ≡ strip_carriage_return line ∷ lines rest
 lines-fed line rest h =
     ap lines_of_parts (slice_split_at is_feed line 10 rest (no-feed line h) refl)
     ∙ parts-cons line (slice_split is_feed rest) (omega (arith, length-slice_split is_feed rest))
@@ -37,7 +38,8 @@ strip-return line =
     let l : List ℕ = line ++ 13 ∷ [] in
     let n : length l - 1 ≡ length line = omega (arith, length-append line (13 ∷ [])) in
     let e : slice_index l (length l - 1) ≡ 13 = ap (slice_index l) n ∙ mid-at line 13 [] in
-    ap (λ v. cond (eqb v 13) (take (length l - 1) l) l) e ∙ ap (λ k. take k l) n ∙ take_at line (13 ∷ []) (length line) refl
+    ap (λ v. cond (eqb v 13) (take (length l - 1) l) l) e ∙ ap (λ k. take k l) n
+    ∙ take_at line (13 ∷ []) (length line) refl
 
 strip-none : (line : List ℕ) → EndsInNoReturn line → strip_carriage_return line ≡ line
 strip-none [] h = refl
@@ -99,7 +101,8 @@ parts-short (b ∷ bytes) = at (is_feed b) (parts-short bytes)
     parts : List (List ℕ)
     parts = slice_split is_feed bytes
 
-    at : (t : Bool) → total parts ≤ length bytes → total (cond t ([] ∷ parts) (onto_first b parts)) ≤ length (b ∷ bytes)
+    at : (t : Bool) → total parts ≤ length bytes
+        → total (cond t ([] ∷ parts) (onto_first b parts)) ≤ length (b ∷ bytes)
     at true h = omega (arith, total-cons [] parts, h)
     at false h = omega (arith, onto-total b parts, h)
 
@@ -126,9 +129,15 @@ lines-of-short (x ∷ y ∷ parts) =
       lines-of-short (y ∷ parts),
     )
 
-pub line-short : (bytes : List ℕ) (i : ℕ) (d : List ℕ) → i < length (lines bytes) → length (get_or (lines bytes) i d) ≤ length bytes
+pub line-short : (bytes : List ℕ) (i : ℕ) (d : List ℕ) → i < length (lines bytes)
+    → length (get_or (lines bytes) i d) ≤ length bytes
 line-short bytes i d h =
-    omega (arith, get_or-le-sum_by (λ l. length l) (lines bytes) i d h, lines-of-short (slice_split is_feed bytes), parts-short bytes)
+    omega (
+      arith,
+      get_or-le-sum_by (λ l. length l) (lines bytes) i d h,
+      lines-of-short (slice_split is_feed bytes),
+      parts-short bytes,
+    )
 
 lines-of-few : (parts : List (List ℕ)) → length (lines_of_parts parts) ≤ length parts
 lines-of-few [] = omega arith
@@ -141,4 +150,9 @@ lines-of-few (x ∷ y ∷ parts) = omega (arith, lines-of-few (y ∷ parts))
 
 pub lines-few : (bytes : List ℕ) → length (lines bytes) ≤ length bytes + 1
 lines-few bytes =
-    omega (arith, lines-of-few (slice_split is_feed bytes), length-slice_split is_feed bytes, count_by-le-length is_feed bytes)
+    omega (
+      arith,
+      lines-of-few (slice_split is_feed bytes),
+      length-slice_split is_feed bytes,
+      count_by-le-length is_feed bytes,
+    )

@@ -32,7 +32,13 @@ first-line (b ∷ bytes) = at (first-line bytes) (is_feed b) refl
     at : FirstLine bytes → (t : Bool) → is_feed b ≡ t → FirstLine (b ∷ bytes)
     at f true is =
         let ten : b ≡ 10 = grind (arith, nat_tests) in
-        record { line = []; behind = b ∷ bytes; whole = refl; alone = tt; ends = inr (bytes, ap (λ x. x ∷ bytes) ten) }
+        record {
+          line = [];
+          behind = b ∷ bytes;
+          whole = refl;
+          alone = tt;
+          ends = inr (bytes, ap (λ x. x ∷ bytes) ten);
+        }
     at f false is =
         record {
           line = b ∷ f.line;
@@ -81,7 +87,8 @@ feed : IsUtf8 (10 ∷ [])
 feed = (10 ∷ [], (refl, ap (λ e. e ++ []) (encode_ascii 10 (lit< tt))))
 
 -- a character begins behind a line feed
-behind-feed : (before rest : List ℕ) → EndsWithFeed before → IsUtf8 (before ++ rest) → IsCharBoundary (before ++ rest) (length before)
+behind-feed : (before rest : List ℕ) → EndsWithFeed before → IsUtf8 (before ++ rest)
+    → IsCharBoundary (before ++ rest) (length before)
 behind-feed before rest (inl none) h =
     subst (λ (b : List ℕ). IsCharBoundary (b ++ rest) (length b)) (sym none)
     (IsCharBoundary-start rest (subst (λ (b : List ℕ). IsUtf8 (b ++ rest)) none h))
@@ -91,7 +98,8 @@ behind-feed before rest (inr ends) h =
     ap (λ b. get_or (b ++ rest) (length ends.0) 0) ends.1
     ∙ ap (λ xs. get_or xs (length ends.0) 0) (append_assoc ends.0 (10 ∷ []) rest) ∙ mid-at ends.0 10 rest in
     subst (IsCharBoundary (before ++ rest)) (sym long)
-    (IsCharBoundary-after_ascii (before ++ rest) (length ends.0) h (omega (arith, long, length-append before rest)) (omega (arith, here)))
+    (IsCharBoundary-after_ascii (before ++ rest) (length ends.0) h
+    (omega (arith, long, length-append before rest)) (omega (arith, here)))
 
 front-text : (before rest : List ℕ) → EndsWithFeed before → IsUtf8 (before ++ rest) → IsUtf8 before
 front-text before rest ends h =
@@ -118,7 +126,8 @@ line-text line behind (inr begins) h =
 pub no-bad-line : TextsHaveNoBadLine
 no-bad-line bytes number text bad =
     let all : IsUtf8 (bad.before ++ (bad.line ++ bad.behind)) = subst IsUtf8 bad.whole text in
-    bad.other (line-text bad.line bad.behind bad.ends (rest-text bad.before (bad.line ++ bad.behind) bad.begins all))
+    bad.other
+    (line-text bad.line bad.behind bad.ends (rest-text bad.before (bad.line ++ bad.behind) bad.begins all))
 
 none-joined : (xs ys : List ℕ) → HasNoFeed xs → HasNoFeed ys → HasNoFeed (xs ++ ys)
 none-joined [] ys h k = k
@@ -133,18 +142,21 @@ none-counted (b ∷ line) h =
 
 -- what follows the longest front doesn't make it longer
 module _ (bytes : List ℕ) (n : ℕ) (valid : IsValidUpTo bytes n) where
-  longer : (more behind : List ℕ) → drop n bytes ≡ more ++ behind → 0 < length more → IsUtf8 (take n bytes ++ more) → ⊥
+  longer : (more behind : List ℕ) → drop n bytes ≡ more ++ behind → 0 < length more
+      → IsUtf8 (take n bytes ++ more) → ⊥
   longer more behind rest some text =
       let e : take (n + length more) bytes ≡ take n bytes ++ more =
       take-add n (length more) bytes ∙ ap (λ r. take n bytes ++ take (length more) r) rest
       ∙ ap (λ r. take n bytes ++ r) (take_at more behind (length more) refl) in
       valid.longest (n + length more) (omega arith) (subst IsUtf8 (sym e) text)
 
-  grown : (line behind : List ℕ) → BeginsWithFeed behind → drop n bytes ≡ line ++ behind → IsUtf8 (take n bytes ++ line) → ⊥
+  grown : (line behind : List ℕ) → BeginsWithFeed behind → drop n bytes ≡ line ++ behind
+      → IsUtf8 (take n bytes ++ line) → ⊥
   grown [] behind (inl none) rest text =
       absurd (omega (arith, valid.short, length-drop n bytes, ap length (rest ∙ none)))
   grown [] behind (inr begins) rest text =
-      longer (10 ∷ []) begins.0 (rest ∙ begins.1) (omega arith) (IsUtf8-append (take n bytes) (10 ∷ []) valid.front feed)
+      longer (10 ∷ []) begins.0 (rest ∙ begins.1) (omega arith)
+      (IsUtf8-append (take n bytes) (10 ∷ []) valid.front feed)
   grown (c ∷ line) behind ends rest text = longer (c ∷ line) behind rest (omega arith) text
 
   -- the line in which the longest front that is UTF-8 ends is the first that is none
@@ -159,8 +171,9 @@ module _ (bytes : List ℕ) (n : ℕ) (valid : IsValidUpTo bytes n) where
         alone = none-joined l.line f.line l.alone f.alone;
         ends = f.ends;
         counted = feeds;
-        text = front-text l.before l.line l.begins (subst IsUtf8 l.whole valid.front);
-        other = λ line. grown f.line f.behind f.ends f.whole (subst IsUtf8 (sym spelled) (IsUtf8-append l.before (l.line ++ f.line) (front-text l.before l.line l.begins (subst IsUtf8 l.whole valid.front)) line));
+        text = before;
+        other = λ line. grown f.line f.behind f.ends f.whole
+            (subst IsUtf8 (sym spelled) (IsUtf8-append l.before (l.line ++ f.line) before line));
       }
     where
       l : LastLine (take n bytes)
@@ -168,6 +181,9 @@ module _ (bytes : List ℕ) (n : ℕ) (valid : IsValidUpTo bytes n) where
 
       f : FirstLine (drop n bytes)
       f = first-line (drop n bytes)
+
+      before : IsUtf8 l.before
+      before = front-text l.before l.line l.begins (subst IsUtf8 l.whole valid.front)
 
       cut : bytes ≡ l.before ++ ((l.line ++ f.line) ++ f.behind)
       cut =

@@ -18,18 +18,22 @@ byte-small (suc k) n = omega arith
 
 bytes-small : (k n : ℕ) → All (λ b. b < 256) (bytes_high_first k n)
 bytes-small zero n = All-nil (λ b. b < 256)
-bytes-small (suc k) n = All-cons (λ b. b < 256) (byte_at k n) (bytes_high_first k n) (byte-small k n) (bytes-small k n)
+bytes-small (suc k) n = All-cons (λ b. b < 256) (byte_at k n) (bytes_high_first k n) (byte-small k n)
+    (bytes-small k n)
 
 kind-small : (line : Option ℕ) → All (λ b. b < 256) (kind_bytes line)
 kind-small (Some line) =
-    All-cons (λ b. b < 256) 128 (0 ∷ []) (lit< tt) (All-cons (λ b. b < 256) 0 [] (lit< tt) (All-nil (λ b. b < 256)))
+    All-cons (λ b. b < 256) 128 (0 ∷ []) (lit< tt) (All-cons (λ b. b < 256) 0 [] (lit< tt)
+    (All-nil (λ b. b < 256)))
 kind-small None =
-    All-cons (λ b. b < 256) 143 (255 ∷ []) (lit< tt) (All-cons (λ b. b < 256) 255 [] (lit< tt) (All-nil (λ b. b < 256)))
+    All-cons (λ b. b < 256) 143 (255 ∷ []) (lit< tt) (All-cons (λ b. b < 256) 255 [] (lit< tt)
+    (All-nil (λ b. b < 256)))
 
 middle-small : All (λ b. b < 256) (0 ∷ 0 ∷ 64 ∷ 0 ∷ [])
 middle-small =
     All-cons (λ b. b < 256) 0 (0 ∷ 64 ∷ 0 ∷ []) (lit< tt) (All-cons (λ b. b < 256) 0 (64 ∷ 0 ∷ []) (lit< tt)
-    (All-cons (λ b. b < 256) 64 (0 ∷ []) (lit< tt) (All-cons (λ b. b < 256) 0 [] (lit< tt) (All-nil (λ b. b < 256)))))
+    (All-cons (λ b. b < 256) 64 (0 ∷ []) (lit< tt) (All-cons (λ b. b < 256) 0 [] (lit< tt)
+    (All-nil (λ b. b < 256)))))
 
 all-small : (script card : ℕ) (line : Option ℕ) → All (λ b. b < 256) (query_bytes script card line)
 all-small script card line =
@@ -40,7 +44,8 @@ all-small script card line =
     let front = All-append (λ b. b < 256) s m (bytes-small 4 script) middle-small in
     let kinds = All-append (λ b. b < 256) (s ++ m) k front (kind-small line) in
     let cards = All-append (λ b. b < 256) (s ++ m ++ k) n kinds (bytes-small 2 card) in
-    All-append (λ b. b < 256) (s ++ m ++ k ++ n) (to_be_bytes w32 (line_asked line)) cards (bytes-small 4 (line_asked line))
+    All-append (λ b. b < 256) (s ++ m ++ k ++ n) (to_be_bytes w32 (line_asked line)) cards
+    (bytes-small 4 (line_asked line))
 
 sixteen : (script card : ℕ) (line : Option ℕ) → length (query_bytes script card line) ≡ 16
 sixteen script card (Some line) = refl
@@ -62,17 +67,21 @@ queries-differ script other card second line more q r e =
     (same-bytes (query_bytes script card line) (query_bytes other second more) (sixteen script card line)
     (sixteen other second more) (all-small script card line) (all-small other second more) e)
   where
-    scripts : (bs cs : List ℕ) → take 4 bs ≡ to_be_bytes w32 script → take 4 cs ≡ to_be_bytes w32 other → bs ≡ cs → script ≡ other
+    scripts : (bs cs : List ℕ) → take 4 bs ≡ to_be_bytes w32 script → take 4 cs ≡ to_be_bytes w32 other
+        → bs ≡ cs → script ≡ other
     scripts bs cs a b same =
         sym (from_be_bytes-to_be_bytes_4 script q.by) ∙ ap (from_be_bytes w32) (sym a ∙ ap (take 4) same ∙ b)
         ∙ from_be_bytes-to_be_bytes_4 other r.by
 
-    cards : (bs cs : List ℕ) → take 2 (drop 10 bs) ≡ to_be_bytes w16 card → take 2 (drop 10 cs) ≡ to_be_bytes w16 second → bs ≡ cs → card ≡ second
+    cards : (bs cs : List ℕ) → take 2 (drop 10 bs) ≡ to_be_bytes w16 card
+        → take 2 (drop 10 cs) ≡ to_be_bytes w16 second → bs ≡ cs → card ≡ second
     cards bs cs a b same =
-        sym (from_be_bytes-to_be_bytes_2 card q.of) ∙ ap (from_be_bytes w16) (sym a ∙ ap (λ xs. take 2 (drop 10 xs)) same ∙ b)
+        sym (from_be_bytes-to_be_bytes_2 card q.of)
+        ∙ ap (from_be_bytes w16) (sym a ∙ ap (λ xs. take 2 (drop 10 xs)) same ∙ b)
         ∙ from_be_bytes-to_be_bytes_2 second r.of
 
-    lines : (m n : ℕ) (bs cs : List ℕ) → m < 2 ^ 32 → n < 2 ^ 32 → drop 12 bs ≡ to_be_bytes w32 m → drop 12 cs ≡ to_be_bytes w32 n → bs ≡ cs → m ≡ n
+    lines : (m n : ℕ) (bs cs : List ℕ) → m < 2 ^ 32 → n < 2 ^ 32 → drop 12 bs ≡ to_be_bytes w32 m
+        → drop 12 cs ≡ to_be_bytes w32 n → bs ≡ cs → m ≡ n
     lines m n bs cs f g a b same =
         sym (from_be_bytes-to_be_bytes_4 m f) ∙ ap (from_be_bytes w32) (sym a ∙ ap (drop 12) same ∙ b)
         ∙ from_be_bytes-to_be_bytes_4 n g

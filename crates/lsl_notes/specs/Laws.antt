@@ -11,7 +11,8 @@ use Rattle.lsl_notes.specs.Queries.{query_of}
 -- Asking for lines 0, 1 and on gives each line, cut, then the end: at the count, and at every later number.
 pub record IsReadThrough (bytes : List ℕ) (card : List (List ℕ)) : Type 0 where
   pub count : length card ≡ length (lines bytes)
-  pub each : (i : ℕ) (line : List ℕ) → slice_get (lines bytes) i ≡ Some line → data_of card i ≡ cut_line (chars line)
+  pub each : (i : ℕ) (line : List ℕ) → slice_get (lines bytes) i ≡ Some line
+      → data_of card i ≡ cut_line (chars line)
   pub behind : (i : ℕ) → length card ≤ i → data_of card i ≡ end_of_card
 
 abbrev pub CardsAreReadThrough : Type 0
@@ -24,7 +25,8 @@ EndsInNoReturn line = (front : List ℕ) → line ≢ front ++ 13 ∷ []
 -- How bytes are cut into lines.
 pub record AreCutAtFeeds : Type 0 where
   pub none : lines [] ≡ []
-  pub fed : (line rest : List ℕ) → HasNoFeed line → EndsInNoReturn line → lines (line ++ 10 ∷ rest) ≡ line ∷ lines rest
+  pub fed : (line rest : List ℕ) → HasNoFeed line → EndsInNoReturn line
+      → lines (line ++ 10 ∷ rest) ≡ line ∷ lines rest
   pub returned : (line rest : List ℕ) → HasNoFeed line → lines (line ++ 13 ∷ 10 ∷ rest) ≡ line ∷ lines rest
   pub last : (line : List ℕ) → HasNoFeed line → 0 < length line → lines line ≡ line ∷ []
 

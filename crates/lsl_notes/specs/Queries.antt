@@ -13,7 +13,8 @@ abbrev pub line_asked : Option ℕ → ℕ
 line_asked (Some line) = line
 line_asked None = 0
 
--- the sixteen bytes of a query's key: the script's number, 0000 4000, the kind, the card's number, and the line
+-- the sixteen bytes of a query's key: the script's number, 0000 4000, the kind, the card's number, and the
+-- line
 abbrev pub query_bytes : ℕ → ℕ → Option ℕ → List ℕ
 query_bytes script card line =
     to_be_bytes w32 script ++ (0 ∷ 0 ∷ 64 ∷ 0 ∷ [])

@@ -1,6 +1,6 @@
 //! The notecards of a world, each in its prim.
 
-ghost use Rattle.std.specs.Prelude.{◌≡◌, ◌==◌, ◌++◌, ◌∷◌, [], ◌≤◌, ◌<◌, length, IfOk, OnOk, OnErr};
+ghost use Rattle.std.specs.Prelude.{◌≡◌, ◌==◌, ◌++◌, ◌∷◌, [], ◌≤◌, ◌<◌, length, IfOk, IfSome, OnOk, OnErr};
 ghost use Rattle.lsl_notes.specs.Notecards.{card_at, data_of, end_of_card, lies_at, most_cards, number_of, IsListed};
 
 use crate::card::Card;
@@ -72,17 +72,19 @@ impl Cards {
     /// Adds a notecard, which gets the next number.
     pub fn add(&mut self, prim: u32, name: Text, card: Card) -> Result<(), NoMemory>
         requires { length self.old < most_cards }
-        ensures ok { OnOk result (self.new ≡ self.old ++ (record { prim = prim; name = name; card = card }) ∷ []) }
+        ensures ok { OnOk result
+            (self.new ≡ self.old ++ (record { prim = prim; name = name; card = card }) ∷ []) }
         ensures unchanged { OnErr result (self.new ≡ self.old) }
     {
         self.list.push(Notecard { prim, name, card })?;
         Ok(())
     }
 
-    /// The number of the first notecard of this prim with this name: none exactly where the prim has none. Walks the
-    /// list of notecards, and takes no memory.
+    /// The number of the first notecard of this prim with this name: none exactly where the prim has none.
+    /// Walks the list of notecards, and takes no memory.
     pub fn find(&self, prim: u32, name: &Text) -> Option<u32>
-        ensures { result ≡ number_of self.now prim name.now }
+        ensures number { result ≡ number_of self.now prim name.now }
+        ensures listed { IfSome result (λ number. IsListed self.now number) }
     {
         match self.list.iter().position(|card| card.lies_at(prim, name)) {
             Some(place) => Some(place as u32 + 1),
@@ -90,9 +92,9 @@ impl Cards {
         }
     }
 
-    /// What a script is told that asks for this line, counted from 0: the line's first 1,024 bytes, without a
-    /// character that would be split, or three line feeds where the notecard has no such line. A line of at most
-    /// 1,024 bytes is shared, and no other line is walked.
+    /// What a script is told that asks for this line, counted from 0: the line's first 1,024 bytes, without
+    /// a character that would be split, or three line feeds where the notecard has no such line. A line of
+    /// at most 1,024 bytes is shared, and no other line is walked.
     pub fn line(&self, card: u32, line: u32) -> Result<Text, NoMemory>
         requires { IsListed self.now card }
         ensures { IfOk result (λ text. text ≡ data_of (card_at self.now card) line) }
@@ -107,7 +109,8 @@ impl Cards {
     /// How many lines the notecard has. Takes no memory, and no walk.
     pub fn count(&self, card: u32) -> u32
         requires { IsListed self.now card }
-        ensures { result ≡ length (card_at self.now card) }
+        ensures value { result ≡ length (card_at self.now card) }
+        ensures within { result ≤ 65537 }
     {
         self.card(card).count()
     }

@@ -11,8 +11,8 @@ use std::alloc::Global;
 /// How many bytes of a line a script is told at most.
 const MOST_LINE_BYTES: usize = 1_024;
 
-/// The line as a script is told it: its first 1,024 bytes, without a character that would be split. A short one is
-/// shared.
+/// The line as a script is told it: its first 1,024 bytes, without a character that would be split. A short
+/// one is shared.
 pub(crate) fn cut_line(alloc: Global, line: &Text) -> Result<Text, NoMemory>
     ensures { IfOk result (λ cut. cut ≡ cut_line line.now) }
 {

@@ -3,14 +3,14 @@
 ghost use Rattle.lsl_notes.specs.CutLaws.{LinesAreLongest};
 ghost use Rattle.lsl_notes.specs.Laws.{AreCutAtFeeds, CardsAreReadThrough, QueriesDiffer, TextsHaveNoBadLine};
 
-/// Asking for lines 0, 1 and on gives each line of a notecard, cut, then the end: at the count, and at every later
-/// number.
+/// Asking for lines 0, 1 and on gives each line of a notecard, cut, then the end: at the count, and at
+/// every later number.
 pub fn cards_are_read_through()
     ensures { CardsAreReadThrough }
 {}
 
-/// Lines are what stands before line feeds, without a carriage return directly before one, and what stands behind the
-/// last, if anything.
+/// Lines are what stands before line feeds, without a carriage return directly before one, and what stands
+/// behind the last, if anything.
 pub fn lines_are_cut_at_feeds()
     ensures { AreCutAtFeeds }
 {}

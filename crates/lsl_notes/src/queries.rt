@@ -8,8 +8,8 @@ use lsl_value::Text;
 use std::alloc::Global;
 use uuid::Uuid;
 
-/// The key of a query: of a script, by its number, for a line of a notecard, or for the count of its lines. Keys of
-/// different script, notecard, line or kind differ.
+/// The key of a query: of a script, by its number, for a line of a notecard, or for the count of its lines.
+/// Keys of different script, notecard, line or kind differ.
 pub fn query(alloc: Global, script: u32, card: u32, line: Option<u32>) -> Result<Text, NoMemory>
     requires { card < 2 ^ 16 }
     ensures { IfOk result (λ key. key ≡ query_of script card line) }

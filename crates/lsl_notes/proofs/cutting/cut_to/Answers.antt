@@ -11,7 +11,10 @@ kept n bytes = take n bytes
 
 pub returns-then-bytes-room : goal.returns-then-bytes-room
 returns-then-bytes-room c =
-    let short : length (encode_utf8_all c.args.text.now) ≤ c.args.room = omega (arith, ap length c.bytes.ensures.value)
+    let short : length (encode_utf8_all c.args.text.now) ≤ c.args.room = omega (
+      arith,
+      ap length c.bytes.ensures.value,
+    )
     in
     rw (cut_whole c.args.room c.args.text.now short) (search rules)
 
