@@ -62,7 +62,8 @@ module _ (pairs : List Pair) (n v : List ℕ) where
       (nat_lt 65536 (bytes_of (with_pair pairs (pair n v)))) (delete_answer pairs n)) (no-length n a)
       ∙ ap (λ t. pick false t (holds (value_at pairs n) v)
       (nat_lt 65536 (bytes_of (with_pair pairs (pair n v)))) (delete_answer pairs n)) (no-length v b)
-      ∙ ap (λ t. pick false false t (nat_lt 65536 (bytes_of (with_pair pairs (pair n v)))) (delete_answer pairs n)) e
+      ∙ ap (λ t. pick false false t (nat_lt 65536 (bytes_of (with_pair pairs (pair n v))))
+      (delete_answer pairs n)) e
       ∙ ap (λ t. pick false false c t (delete_answer pairs n)) f
 
   pub write-same : 0 < length n → 0 < length v → holds (value_at pairs n) v ≡ true → Same ≡ write_answer pairs n v
@@ -89,13 +90,15 @@ module _ (pairs : List Pair) (n : List ℕ) where
   pub delete-no-key : length n ≡ 0 → NoKey ≡ delete_answer pairs n
   unfolding delete_answer
   delete-no-key a =
-      sym (ap (λ (t : Bool). if t then NoKey else (if is_some (pair_at pairs n) then Deleted else NotFound)) (is-length n a))
+      sym (ap (λ (t : Bool). if t then NoKey else (if is_some (pair_at pairs n) then Deleted else NotFound))
+      (is-length n a))
 
   found : 0 < length n → (o : Option Pair) → pair_at pairs n ≡ o
       → delete_answer pairs n ≡ (if is_some o then Deleted else NotFound)
   unfolding delete_answer
   found a o e =
-      ap (λ (t : Bool). if t then NoKey else (if is_some (pair_at pairs n) then Deleted else NotFound)) (no-length n a)
+      ap (λ (t : Bool). if t then NoKey else (if is_some (pair_at pairs n) then Deleted else NotFound))
+      (no-length n a)
       ∙ ap (λ (p : Option Pair). if is_some p then Deleted else NotFound) e
 
   pub delete-deleted : 0 < length n → (p : Pair) → pair_at pairs n ≡ Some p → Deleted ≡ delete_answer pairs n
@@ -138,7 +141,8 @@ never-stored pairs name = by (eqb (length name) 0) (is_some (pair_at pairs name)
     by false true e = cc
     by false false e = cc
 
-unstored : (w : Wrote) (pairs : List Pair) (n v : List ℕ) → (w ≡ Stored → ⊥) → pairs_after w pairs n [] ≡ pairs_after w pairs n v
+unstored : (w : Wrote) (pairs : List Pair) (n v : List ℕ) → (w ≡ Stored → ⊥)
+    → pairs_after w pairs n [] ≡ pairs_after w pairs n v
 unstored Stored pairs n v never = absurd (never refl)
 unstored Deleted pairs n v never = refl
 unstored NoKey pairs n v never = refl
@@ -153,7 +157,8 @@ deleted-written pairs n v e =
     unstored (delete_answer pairs n) pairs n v (never-stored pairs n) ∙ ap (λ w. pairs_after w pairs n v) e
 
 -- what a test of a text's bytes says of its characters
-pub emptied : (text bytes : List ℕ) (r : Bool) → bytes ≡ encode_utf8_all text → r ≡ eqb (length bytes) 0 → r ≡ true
+pub emptied : (text bytes : List ℕ) (r : Bool) → bytes ≡ encode_utf8_all text → r ≡ eqb (length bytes) 0
+    → r ≡ true
     → length text ≡ 0
 emptied text bytes r same is none =
     empty-name text (ap length (sym same) ∙ zero-is (length bytes) (sym is ∙ none))
@@ -161,7 +166,8 @@ emptied text bytes r same is none =
     zero-is : (k : ℕ) → eqb k 0 ≡ true → k ≡ 0
     zero-is k e = grind (arith, nat_tests)
 
-pub filled : (text bytes : List ℕ) (r : Bool) → bytes ≡ encode_utf8_all text → r ≡ eqb (length bytes) 0 → r ≡ false
+pub filled : (text bytes : List ℕ) (r : Bool) → bytes ≡ encode_utf8_all text → r ≡ eqb (length bytes) 0
+    → r ≡ false
     → 0 < length text
 filled text bytes r same is differs =
     some-name text (subst (λ (b : List ℕ). 0 < length b) same (above (length bytes) (sym is ∙ differs)))

@@ -70,7 +70,8 @@ reads-from (c ∷ commands) pairs name =
 
 pub reads-are-last : ReadsAreLastAccepted
 unfolding pair_at
-reads-are-last commands name = reads-from commands [] name ∙ first (filter_map (tells name) (accepted_from [] commands))
+reads-are-last commands name = reads-from commands [] name
+    ∙ first (filter_map (tells name) (accepted_from [] commands))
   where
     first : (told : List (Option (List ℕ))) → last_told (None ∷ told) ≡ last_told told
     first [] = refl
@@ -83,7 +84,8 @@ record HadRoom (a b d : Bool) : Type 0 where
   room : d ≡ false
 
 had-room : (a b c d : Bool) (gone : Wrote) → (gone ≡ Stored → ⊥)
-    → (if a then NoKey else if b then gone else if c then Same else if d then Full else Stored) ≡ Stored → HadRoom a b d
+    → (if a then NoKey else if b then gone else if c then Same else if d then Full else Stored) ≡ Stored
+    → HadRoom a b d
 had-room true b c d gone other e = absurd (let never : ⊥ = cc in never)
 had-room false true c d gone other e = absurd (other e)
 had-room false false true d gone other e = absurd (let never : ⊥ = cc in never)
@@ -107,7 +109,8 @@ stored pairs n v e =
     within k e = grind (arith, nat_tests)
 
 kept-after : (w : Wrote) (pairs : List Pair) (n v : List ℕ) → IsStore pairs
-    → (w ≡ Stored → IsPair (pair n v) × (bytes_of (with_pair pairs (pair n v)) ≤ 65536)) → IsStore (pairs_after w pairs n v)
+    → (w ≡ Stored → IsPair (pair n v) × (bytes_of (with_pair pairs (pair n v)) ≤ 65536))
+    → IsStore (pairs_after w pairs n v)
 kept-after Stored pairs n v s had = let h = had refl in store-with_pair pairs (pair n v) s h.0 h.1
 kept-after Deleted pairs n v s had = store-without pairs n s
 kept-after NoKey pairs n v s had = s
@@ -121,7 +124,8 @@ kept-command pairs (Delete n) s =
     kept-after (delete_answer pairs n) pairs n [] s (λ e. absurd (never-stored pairs n e))
 kept-command pairs Reset s = store-none
 
-kept-from : (commands : List Command) (pairs : List Pair) → IsStore pairs → IsStore (fold after_command pairs commands)
+kept-from : (commands : List Command) (pairs : List Pair) → IsStore pairs
+    → IsStore (fold after_command pairs commands)
 kept-from [] pairs s = s
 kept-from (c ∷ commands) pairs s = kept-from commands (after_command pairs c) (kept-command pairs c s)
 

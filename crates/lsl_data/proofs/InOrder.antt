@@ -32,7 +32,8 @@ module _ {X : Type 0} (P : X → Type 0) where
   each-append [] ys h k = k
   each-append (x ∷ xs) ys h k = (h.0, each-append xs ys h.1 k)
 
-  each-cond : (b : Bool) (xs ys : List X) → AllByRecursion P xs → AllByRecursion P ys → AllByRecursion P (cond b xs ys)
+  each-cond : (b : Bool) (xs ys : List X) → AllByRecursion P xs → AllByRecursion P ys
+      → AllByRecursion P (cond b xs ys)
   each-cond true xs ys h k = h
   each-cond false xs ys h k = k
 
@@ -41,7 +42,8 @@ module _ {X : Type 0} (P : X → Type 0) where
   each-filter p (x ∷ xs) h =
       each-cond (p x) (x ∷ filter p xs) (filter p xs) (h.0, each-filter p xs h.1) (each-filter p xs h.1)
 
-  pub each-map : (Q : X → Type 0) → ((x : X) → P x → Q x) → (xs : List X) → AllByRecursion P xs → AllByRecursion Q xs
+  pub each-map : (Q : X → Type 0) → ((x : X) → P x → Q x) → (xs : List X) → AllByRecursion P xs
+      → AllByRecursion Q xs
   each-map Q f [] h = tt
   each-map Q f (x ∷ xs) h = (f x h.0, each-map Q f xs h.1)
 
@@ -75,7 +77,8 @@ module _ {X K : Type 0} {R : K → K → Ordering} (o : IsTotalOrder R) (key : X
 
   pub above-all : (k : K) (ys : List X) → AllAbove k ys → filter (above k) ys ≡ ys
   above-all k ys h =
-      filter-all (above k) ys (each-map (λ y. R k (key y) ≡ Less) (λ y. above k y ≡ true) (λ y e. ap is_lt e) ys h)
+      filter-all (above k) ys
+      (each-map (λ y. R k (key y) ≡ Less) (λ y. above k y ≡ true) (λ y e. ap is_lt e) ys h)
 
   pub below-none : (k : K) (ys : List X) → AllAbove k ys → filter (below k) ys ≡ []
   below-none k ys h =
@@ -83,7 +86,8 @@ module _ {X K : Type 0} {R : K → K → Ordering} (o : IsTotalOrder R) (key : X
       (each-map (λ y. R k (key y) ≡ Less) (λ y. below k y ≡ false) (λ y e. ap is_lt (less-back k (key y) e)) ys h)
 
   pub above-trans : (a b : K) (ys : List X) → R a b ≡ Less → AllAbove b ys → AllAbove a ys
-  above-trans a b ys e = each-map (λ y. R b (key y) ≡ Less) (λ y. R a (key y) ≡ Less) (λ y. o.trans a b (key y) e) ys
+  above-trans a b ys e =
+      each-map (λ y. R b (key y) ≡ Less) (λ y. R a (key y) ≡ Less) (λ y. o.trans a b (key y) e) ys
 
   above-same : (a b : K) (ys : List X) → R a b ≡ Equal → AllAbove b ys → AllAbove a ys
   above-same a b ys e =
@@ -94,24 +98,28 @@ module _ {X K : Type 0} {R : K → K → Ordering} (o : IsTotalOrder R) (key : X
       ap (λ zs. zs ++ x ∷ filter (above (key x)) ys) (below-none (key x) ys h)
       ∙ ap (λ zs. x ∷ zs) (above-all (key x) ys h)
 
-  put-first : (x y : X) (ys : List X) → R (key x) (key y) ≡ Less → AllAbove (key y) ys → put (y ∷ ys) x ≡ x ∷ y ∷ ys
+  put-first : (x y : X) (ys : List X) → R (key x) (key y) ≡ Less → AllAbove (key y) ys
+      → put (y ∷ ys) x ≡ x ∷ y ∷ ys
   put-first x y ys e h = put-empty x (y ∷ ys) (e, above-trans (key x) (key y) ys e h)
 
   put-here : (x y : X) (ys : List X) → R (key x) (key y) ≡ Equal → AllAbove (key y) ys → put (y ∷ ys) x ≡ x ∷ ys
   put-here x y ys e h =
-      ap (λ zs. zs ++ x ∷ filter (above (key x)) (y ∷ ys)) (filter-leave (below (key x)) y ys (ap is_lt (equal-back (key x) (key y) e)))
+      ap (λ zs. zs ++ x ∷ filter (above (key x)) (y ∷ ys))
+      (filter-leave (below (key x)) y ys (ap is_lt (equal-back (key x) (key y) e)))
       ∙ ap (λ zs. filter (below (key x)) ys ++ x ∷ zs) (filter-leave (above (key x)) y ys (ap is_lt e))
       ∙ put-empty x ys (above-same (key x) (key y) ys e h)
 
   put-later : (x y : X) (ys : List X) → R (key x) (key y) ≡ Greater → put (y ∷ ys) x ≡ y ∷ put ys x
   put-later x y ys e =
-      ap (λ zs. zs ++ x ∷ filter (above (key x)) (y ∷ ys)) (filter-keep (below (key x)) y ys (ap is_lt (greater-back (key x) (key y) e)))
+      ap (λ zs. zs ++ x ∷ filter (above (key x)) (y ∷ ys))
+      (filter-keep (below (key x)) y ys (ap is_lt (greater-back (key x) (key y) e)))
       ∙ ap (λ zs. y ∷ filter (below (key x)) ys ++ x ∷ zs) (filter-leave (above (key x)) y ys (ap is_lt e))
 
   -- what holds of all and of the element holds of all with it
   pub each-put : (P : X → Type 0) (xs : List X) (x : X) → AllByRecursion P xs → P x → AllByRecursion P (put xs x)
   each-put P xs x h p =
-      each-append P (filter (below (key x)) xs) (x ∷ filter (above (key x)) xs) (each-filter P (below (key x)) xs h)
+      each-append P (filter (below (key x)) xs) (x ∷ filter (above (key x)) xs)
+      (each-filter P (below (key x)) xs h)
       (p, each-filter P (above (key x)) xs h)
 
   pub Rises-put : (xs : List X) (x : X) → Rises xs → Rises (put xs x)
@@ -150,7 +158,8 @@ module _ {X K : Type 0} {R : K → K → Ordering} (o : IsTotalOrder R) (key : X
     abbrev pub AreCoded : List (E × X) → Type 0
     AreCoded = AllByRecursion (λ e. code e.0 ≡ key e.1)
 
-    pub values-insert_entry : (es : List (E × X)) (k : E) (x : X) → code k ≡ key x → AreCoded es → Rises (values_of es)
+    pub values-insert_entry : (es : List (E × X)) (k : E) (x : X) → code k ≡ key x → AreCoded es
+        → Rises (values_of es)
         → values_of (insert_entry (λ a b. R (code a) (code b)) es k x) ≡ put (values_of es) x
     values-insert_entry [] k x c h r = refl
     values-insert_entry (e ∷ es) k x c h r =
@@ -161,7 +170,8 @@ module _ {X K : Type 0} {R : K → K → Ordering} (o : IsTotalOrder R) (key : X
 
         at : values_of (insert_entry (λ a b. R (code a) (code b)) es k x) ≡ put (values_of es) x
             → (q : Ordering) → R (code k) (code e.0) ≡ q
-            → values_of (match_ordering q ((k, x) ∷ e ∷ es) ((e.0, x) ∷ es) (e ∷ insert_entry (λ a b. R (code a) (code b)) es k x))
+            → values_of (match_ordering q ((k, x) ∷ e ∷ es) ((e.0, x) ∷ es)
+            (e ∷ insert_entry (λ a b. R (code a) (code b)) es k x))
             ≡ put (e.1 ∷ values_of es) x
         at rest Less q = sym (put-first x e.1 (values_of es) (same ∙ q) r.0)
         at rest Equal q = sym (put-here x e.1 (values_of es) (same ∙ q) r.0)
@@ -175,8 +185,10 @@ module _ {X K : Type 0} {R : K → K → Ordering} (o : IsTotalOrder R) (key : X
     coded-insert_entry (e ∷ es) k x c h exact =
         at (coded-insert_entry es k x c h.1 exact) (R (code k) (code e.0)) refl
       where
-        at : AreCoded (insert_entry (λ a b. R (code a) (code b)) es k x) → (q : Ordering) → R (code k) (code e.0) ≡ q
-            → AreCoded (match_ordering q ((k, x) ∷ e ∷ es) ((e.0, x) ∷ es) (e ∷ insert_entry (λ a b. R (code a) (code b)) es k x))
+        at : AreCoded (insert_entry (λ a b. R (code a) (code b)) es k x) → (q : Ordering)
+            → R (code k) (code e.0) ≡ q
+            → AreCoded (match_ordering q ((k, x) ∷ e ∷ es) ((e.0, x) ∷ es)
+            (e ∷ insert_entry (λ a b. R (code a) (code b)) es k x))
         at rest Less q = (c, h)
         at rest Equal q = (sym (exact k e.0 q) ∙ c, h.1)
         at rest Greater q = (h.0, rest)
@@ -206,18 +218,21 @@ module _ {X K : Type 0} {R : K → K → Ordering} (o : IsTotalOrder R) (key : X
               → e.1 ∷ values_of (remove_entry (λ a. is_eq (R k (code a))) es) ≡ others (e.1 ∷ values_of es) k
           kept rest q is other =
               ap (λ zs. e.1 ∷ zs) rest
-              ∙ sym (filter-keep (λ y. not (same k (key y))) e.1 (values_of es) (ap not (here ∙ ap is_eq is ∙ other)))
+              ∙ sym (filter-keep (λ y. not (same k (key y))) e.1 (values_of es)
+              (ap not (here ∙ ap is_eq is ∙ other)))
 
           at : values_of (remove_entry (λ a. is_eq (R k (code a))) es) ≡ others (values_of es) k
               → (q : Ordering) → R k (code e.0) ≡ q
-              → values_of (cond (is_eq q) es (e ∷ remove_entry (λ a. is_eq (R k (code a))) es)) ≡ others (e.1 ∷ values_of es) k
+              → values_of (cond (is_eq q) es (e ∷ remove_entry (λ a. is_eq (R k (code a))) es))
+              ≡ others (e.1 ∷ values_of es) k
           at rest Less q = kept rest Less q refl
           at rest Equal q =
               sym (apart k (values_of es) (above-same k (key e.1) (values_of es) (ap (R k) (sym h.0) ∙ q) r.0))
               ∙ sym (filter-leave (λ y. not (same k (key y))) e.1 (values_of es) (ap not (here ∙ ap is_eq q)))
           at rest Greater q = kept rest Greater q refl
 
-      pub coded-remove_entry : (es : List (E × X)) (test : E → Bool) → AreCoded code es → AreCoded code (remove_entry test es)
+      pub coded-remove_entry : (es : List (E × X)) (test : E → Bool) → AreCoded code es
+          → AreCoded code (remove_entry test es)
       coded-remove_entry [] test h = tt
       coded-remove_entry (e ∷ es) test h =
           each-cond (λ d. code d.0 ≡ key d.1) (test e.0) es (e ∷ remove_entry test es) h.1
@@ -259,7 +274,9 @@ module _ {X : Type 0} (p : X → Bool) where
       at rest true is true also =
           ap (λ (s : Bool). cond s (Some x) (find p (filter q xs))) is
           ∙ ap (λ (c : Bool). cond c (Some x) None) (sym also ∙ h x is)
-      at rest true is false also = subst (λ (c : Bool). find p (filter q xs) ≡ cond c (Some x) None) (sym also ∙ h x is) (rest ∙ ap (λ (c : Bool). cond c (find p xs) None) (sym (h x is) ∙ also))
+      at rest true is false also =
+          subst (λ (c : Bool). find p (filter q xs) ≡ cond c (Some x) None) (sym also ∙ h x is)
+          (rest ∙ ap (λ (c : Bool). cond c (find p xs) None) (sym (h x is) ∙ also))
       at rest false is true also = ap (λ (s : Bool). cond s (Some x) (find p (filter q xs))) is ∙ rest
       at rest false is false also = rest
 
@@ -270,21 +287,25 @@ module _ {X K : Type 0} {R : K → K → Ordering} (o : IsTotalOrder R) (key : X
 
   -- what stands at a key after an element is put in its place
   pub find-put : (k : K) (xs : List X) (x : X)
-      → find (λ y. same k (key y)) (put o key xs x) ≡ cond (same k (key x)) (Some x) (find (λ y. same k (key y)) xs)
+      → find (λ y. same k (key y)) (put o key xs x)
+      ≡ cond (same k (key x)) (Some x) (find (λ y. same k (key y)) xs)
   find-put k xs x = at (R k (key x)) refl
     where
       named : X → Bool
       named y = same k (key y)
 
-      lows : (q : Ordering) → R k (key x) ≡ q → find named (filter (below o key (key x)) xs) ≡ cond (is_lt q) (find named xs) None
+      lows : (q : Ordering) → R k (key x) ≡ q
+          → find named (filter (below o key (key x)) xs) ≡ cond (is_lt q) (find named xs) None
       lows q is =
           find-filter named (below o key (key x)) (is_lt q)
           (λ y e. ap is_lt (sym (o.congr k (key y) (key x) (equal-of k (key y) e)) ∙ is)) xs
 
-      highs : (q : Ordering) → R k (key x) ≡ q → find named (filter (above o key (key x)) xs) ≡ cond (is_lt (ordering_reverse q)) (find named xs) None
+      highs : (q : Ordering) → R k (key x) ≡ q
+          → find named (filter (above o key (key x)) xs) ≡ cond (is_lt (ordering_reverse q)) (find named xs) None
       highs q is =
           find-filter named (above o key (key x)) (is_lt (ordering_reverse q))
-          (λ y e. ap is_lt (o.antisymm (key x) (key y) ∙ ap ordering_reverse (sym (o.congr k (key y) (key x) (equal-of k (key y) e)) ∙ is))) xs
+          (λ y e. ap is_lt (o.antisymm (key x) (key y)
+          ∙ ap ordering_reverse (sym (o.congr k (key y) (key x) (equal-of k (key y) e)) ∙ is))) xs
 
       here : (q : Ordering) → R k (key x) ≡ q → same k (key x) ≡ is_eq q
       here q is = agrees k (key x) ∙ ap is_eq is
@@ -293,14 +314,17 @@ module _ {X K : Type 0} {R : K → K → Ordering} (o : IsTotalOrder R) (key : X
           → find named (put o key xs x) ≡ cond (same k (key x)) (Some x) (find named xs)
       at Less is =
           find-before named (filter (below o key (key x)) xs) (x ∷ filter (above o key (key x)) xs)
-          (ap (λ (b : Bool). cond b (Some x) (find named (filter (above o key (key x)) xs))) (here Less is) ∙ highs Less is)
+          (ap (λ (b : Bool). cond b (Some x) (find named (filter (above o key (key x)) xs))) (here Less is)
+          ∙ highs Less is)
           ∙ lows Less is ∙ sym (ap (λ (b : Bool). cond b (Some x) (find named xs)) (here Less is))
       at Equal is =
-          find-behind named (filter (below o key (key x)) xs) (x ∷ filter (above o key (key x)) xs) (lows Equal is)
+          find-behind named (filter (below o key (key x)) xs) (x ∷ filter (above o key (key x)) xs)
+          (lows Equal is)
           ∙ ap (λ (b : Bool). cond b (Some x) (find named (filter (above o key (key x)) xs))) (here Equal is)
           ∙ sym (ap (λ (b : Bool). cond b (Some x) (find named xs)) (here Equal is))
       at Greater is =
-          find-behind named (filter (below o key (key x)) xs) (x ∷ filter (above o key (key x)) xs) (lows Greater is)
+          find-behind named (filter (below o key (key x)) xs) (x ∷ filter (above o key (key x)) xs)
+          (lows Greater is)
           ∙ ap (λ (b : Bool). cond b (Some x) (find named (filter (above o key (key x)) xs))) (here Greater is)
           ∙ highs Greater is ∙ sym (ap (λ (b : Bool). cond b (Some x) (find named xs)) (here Greater is))
 
@@ -310,10 +334,12 @@ module _ {X K : Type 0} {R : K → K → Ordering} (o : IsTotalOrder R) (key : X
       ≡ cond (same gone k) None (find (λ y. same k (key y)) xs)
   find-others k gone xs =
       find-filter (λ y. same k (key y)) (λ y. not (same gone (key y))) (not (same gone k))
-      (λ y e. ap not (agrees gone (key y) ∙ ap is_eq (sym (alike_right o k (key y) gone (equal-of k (key y) e))) ∙ sym (agrees gone k))) xs
+      (λ y e. ap not (agrees gone (key y)
+      ∙ ap is_eq (sym (alike_right o k (key y) gone (equal-of k (key y) e))) ∙ sym (agrees gone k))) xs
       ∙ turned (same gone k)
     where
-      turned : (b : Bool) → cond (not b) (find (λ y. same k (key y)) xs) None ≡ cond b None (find (λ y. same k (key y)) xs)
+      turned : (b : Bool) → cond (not b) (find (λ y. same k (key y)) xs) None
+          ≡ cond b None (find (λ y. same k (key y)) xs)
       turned true = refl
       turned false = refl
 
@@ -329,11 +355,13 @@ module _ {X K : Type 0} {R : K → K → Ordering} (o : IsTotalOrder R) (key : X
 
   worth-head : (k : K) (y : X) (ys : List X) → R k (key y) ≡ Equal → worth k (y ∷ ys) ≡ f y
   worth-head k y ys e =
-      ap (λ (b : Bool). unwrap_or (option_map f (cond b (Some y) (find (λ z. same k (key z)) ys))) 0) (agrees k (key y) ∙ ap is_eq e)
+      ap (λ (b : Bool). unwrap_or (option_map f (cond b (Some y) (find (λ z. same k (key z)) ys))) 0)
+      (agrees k (key y) ∙ ap is_eq e)
 
   worth-tail : (k : K) (y : X) (ys : List X) → is_eq (R k (key y)) ≡ false → worth k (y ∷ ys) ≡ worth k ys
   worth-tail k y ys e =
-      ap (λ (b : Bool). unwrap_or (option_map f (cond b (Some y) (find (λ z. same k (key z)) ys))) 0) (agrees k (key y) ∙ e)
+      ap (λ (b : Bool). unwrap_or (option_map f (cond b (Some y) (find (λ z. same k (key z)) ys))) 0)
+      (agrees k (key y) ∙ e)
 
   worth-none : (k : K) (ys : List X) → AllAbove o key k ys → worth k ys ≡ 0
   worth-none k [] h = refl
@@ -345,13 +373,20 @@ module _ {X K : Type 0} {R : K → K → Ordering} (o : IsTotalOrder R) (key : X
   sum-put [] x h = omega arith
   sum-put (y ∷ ys) x h = at (sum-put ys x h.1) (R (key x) (key y)) refl
     where
-      at : sum_by f (put o key ys x) + worth (key x) ys ≡ sum_by f ys + f x → (q : Ordering) → R (key x) (key y) ≡ q
+      at : sum_by f (put o key ys x) + worth (key x) ys ≡ sum_by f ys + f x → (q : Ordering)
+          → R (key x) (key y) ≡ q
           → sum_by f (put o key (y ∷ ys) x) + worth (key x) (y ∷ ys) ≡ sum_by f (y ∷ ys) + f x
       at rest Less e =
           let none = worth-none (key x) (y ∷ ys) (e, above-trans o key (key x) (key y) ys e h.0) in
           omega (arith, ap (sum_by f) (put-first o key x y ys e h.0), sum-cons f x (y ∷ ys), none)
       at rest Equal e =
-          omega (arith, ap (sum_by f) (put-here o key x y ys e h.0), sum-cons f x ys, sum-cons f y ys, worth-head (key x) y ys e)
+          omega (
+            arith,
+            ap (sum_by f) (put-here o key x y ys e h.0),
+            sum-cons f x ys,
+            sum-cons f y ys,
+            worth-head (key x) y ys e,
+          )
       at rest Greater e =
           omega (
             arith,

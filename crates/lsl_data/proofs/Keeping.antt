@@ -35,7 +35,8 @@ twice (p ∷ pairs) each =
 pub store-none : IsStore []
 store-none = record { few = omega arith; each = tt; ascend = tt; room = omega arith }
 
-pub store-with_pair : (pairs : List Pair) (p : Pair) → IsStore pairs → IsPair p → bytes_of (with_pair pairs p) ≤ 65536
+pub store-with_pair : (pairs : List Pair) (p : Pair) → IsStore pairs → IsPair p
+    → bytes_of (with_pair pairs p) ≤ 65536
     → IsStore (with_pair pairs p)
 unfolding with_pair
 store-with_pair pairs p s is room =
@@ -97,7 +98,8 @@ module _ (es new : Entries) (used : ℕ) (kept : IsKept es used) (named : AreNam
   kept-put p now is put counted room =
       record {
         named = named;
-        store = subst IsStore (sym put) (store-with_pair (values_of es) p kept.store is (omega (arith, counted, room)));
+        store = subst IsStore (sym put)
+            (store-with_pair (values_of es) p kept.store is (omega (arith, counted, room)));
         counted = counted ∙ ap bytes_of (sym put);
       }
 
@@ -120,7 +122,13 @@ module _ (es new : Entries) (used : ℕ) (kept : IsKept es used) (named : AreNam
       record {
         named = named;
         store = subst IsStore (sym left) (store-without (values_of es) name kept.store);
-        counted = omega (arith, kept.counted, bytes-without (values_of es) name kept.store.ascend, worth, ap bytes_of left);
+        counted = omega (
+          arith,
+          kept.counted,
+          bytes-without (values_of es) name kept.store.ascend,
+          worth,
+          ap bytes_of left,
+        );
       }
 
   pub kept-same : values_of new ≡ values_of es → IsKept new used

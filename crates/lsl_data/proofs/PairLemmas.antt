@@ -62,7 +62,8 @@ unfolding without
 Ascend-without pairs name a =
     ascending (without pairs name) (Rises-filter nat_list_cmp_total key _ pairs (rising pairs a))
 
-pub with_pair-last : (pairs : List Pair) (p : Pair) → Ascend (pairs ++ p ∷ []) → with_pair pairs p ≡ pairs ++ p ∷ []
+pub with_pair-last : (pairs : List Pair) (p : Pair) → Ascend (pairs ++ p ∷ [])
+    → with_pair pairs p ≡ pairs ++ p ∷ []
 unfolding with_pair
 with_pair-last pairs p a = put-last nat_list_cmp_total key pairs p (rising (pairs ++ p ∷ []) a)
 
@@ -70,10 +71,12 @@ pub value-with_pair : (pairs : List Pair) (p : Pair) (name : List ℕ)
     → value_at (with_pair pairs p) name ≡ cond (same_name name p.name) (Some p.value) (value_at pairs name)
 unfolding with_pair pair_at
 value-with_pair pairs p name =
-    ap (option_map (λ q. q.value)) (find-put nat_list_cmp_total key bytes_eq agrees (encode_utf8_all name) pairs p)
+    ap (option_map (λ q. q.value)) (find-put nat_list_cmp_total key bytes_eq agrees
+    (encode_utf8_all name) pairs p)
     ∙ under (same_name name p.name)
   where
-    under : (b : Bool) → option_map (λ (q : Pair). q.value) (cond b (Some p) (find (λ q. same_name name q.name) pairs))
+    under : (b : Bool) → option_map (λ (q : Pair). q.value)
+        (cond b (Some p) (find (λ q. same_name name q.name) pairs))
         ≡ cond b (Some p.value) (option_map (λ (q : Pair). q.value) (find (λ q. same_name name q.name) pairs))
     under true = refl
     under false = refl
@@ -82,11 +85,14 @@ pub value-without : (pairs : List Pair) (gone name : List ℕ)
     → value_at (without pairs gone) name ≡ cond (same_name name gone) None (value_at pairs name)
 unfolding without pair_at
 value-without pairs gone name =
-    ap (option_map (λ q. q.value)) (find-others nat_list_cmp_total key bytes_eq agrees (encode_utf8_all name) (encode_utf8_all gone) pairs)
+    ap (option_map (λ q. q.value)) (find-others nat_list_cmp_total key bytes_eq agrees (encode_utf8_all name)
+    (encode_utf8_all gone) pairs)
     ∙ under (same_name gone name)
-    ∙ ap (λ (b : Bool). cond b None (value_at pairs name)) (nat_list_eq_equiv.symm (encode_utf8_all gone) (encode_utf8_all name))
+    ∙ ap (λ (b : Bool). cond b None (value_at pairs name)) (nat_list_eq_equiv.symm (encode_utf8_all gone)
+    (encode_utf8_all name))
   where
-    under : (b : Bool) → option_map (λ (q : Pair). q.value) (cond b None (find (λ q. same_name name q.name) pairs))
+    under : (b : Bool) → option_map (λ (q : Pair). q.value)
+        (cond b None (find (λ q. same_name name q.name) pairs))
         ≡ cond b None (option_map (λ (q : Pair). q.value) (find (λ q. same_name name q.name) pairs))
     under true = refl
     under false = refl
@@ -109,7 +115,9 @@ bytes-without pairs name a =
 -- the entries of a map
 
 exact : (a b : String Global) → order (string_bytes a) (string_bytes b) ≡ Equal → string_bytes a ≡ string_bytes b
-exact a b e = (bytes_eq-Decides (string_bytes a) (string_bytes b)).0 (agrees (string_bytes a) (string_bytes b) ∙ ap is_eq e)
+exact a b e =
+    (bytes_eq-Decides (string_bytes a) (string_bytes b)).0
+    (agrees (string_bytes a) (string_bytes b) ∙ ap is_eq e)
 
 module _ (es : Entries) where
   pub values-put : (k : String Global) (p : Pair) → string_bytes k ≡ encode_utf8_all p.name → AreNamed es
@@ -127,12 +135,15 @@ module _ (es : Entries) where
     abbrev pub finds : String Global → Bool
     finds k = is_eq (slice_cmp nat_cmp bytes (string_bytes k))
 
-    pub values-take : AreNamed es → Ascend (values_of es) → values_of (remove_entry finds es) ≡ without (values_of es) name
+    pub values-take : AreNamed es → Ascend (values_of es)
+        → values_of (remove_entry finds es) ≡ without (values_of es) name
     unfolding without
     values-take named a =
-        subst (λ (b : List ℕ). values_of (remove_entry (λ k. is_eq (slice_cmp nat_cmp b (string_bytes k))) es) ≡ without (values_of es) name)
+        subst (λ (b : List ℕ). values_of (remove_entry (λ k. is_eq (slice_cmp nat_cmp b (string_bytes k))) es)
+        ≡ without (values_of es) name)
         (sym spelt)
-        (values-remove_entry nat_list_cmp_total key bytes_eq agrees string_bytes es (encode_utf8_all name) named (rising (values_of es) a))
+        (values-remove_entry nat_list_cmp_total key bytes_eq agrees string_bytes es
+        (encode_utf8_all name) named (rising (values_of es) a))
 
     pub named-take : AreNamed es → AreNamed (remove_entry finds es)
     named-take named = coded-remove_entry nat_list_cmp_total key bytes_eq agrees string_bytes es finds named
@@ -140,6 +151,7 @@ module _ (es : Entries) where
     pub value-found : AreNamed es → lookup finds es ≡ pair_at (values_of es) name
     unfolding pair_at
     value-found named =
-        subst (λ (b : List ℕ). lookup (λ k. is_eq (slice_cmp nat_cmp b (string_bytes k))) es ≡ pair_at (values_of es) name)
+        subst (λ (b : List ℕ). lookup (λ k. is_eq (slice_cmp nat_cmp b (string_bytes k))) es
+        ≡ pair_at (values_of es) name)
         (sym spelt)
         (lookup-find nat_list_cmp_total key bytes_eq agrees string_bytes es (encode_utf8_all name) named)

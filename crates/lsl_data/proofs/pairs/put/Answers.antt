@@ -7,11 +7,13 @@ use Rattle.lsl_data.proofs.pairs.put.Goals as goal
 pub returns-clause-ok : goal.returns-clause-ok
 returns-clause-ok c =
     ap values_of c.in_ok-insert.ensures.entries
-    ∙ values-put c.args.map.now.entries c.in_ok-name.name c.args.pair (c.in_ok-name.ensures.ok ∙ c.as_str.ensures.value)
+    ∙ values-put c.args.map.now.entries c.in_ok-name.name c.args.pair
+    (c.in_ok-name.ensures.ok ∙ c.as_str.ensures.value)
     c.requires.named c.requires.ascend
 
 pub returns-clause-named : goal.returns-clause-named
 returns-clause-named c =
     subst AreNamed (sym c.in_ok-insert.ensures.entries)
-    (named-put c.args.map.now.entries c.in_ok-name.name c.args.pair (c.in_ok-name.ensures.ok ∙ c.as_str.ensures.value)
+    (named-put c.args.map.now.entries c.in_ok-name.name c.args.pair
+    (c.in_ok-name.ensures.ok ∙ c.as_str.ensures.value)
     c.requires.named)

@@ -30,5 +30,6 @@ returns-in-None c =
     let pairs = values_of c.args.map.now.entries in
     let p = c.args.pair.now in
     let none = sym c.pair_at.ensures ∙ ap option_copied c.in-None.is in
-    let all = used-with pairs p c.args.used 0 c.requires.store.ascend c.requires.counted (worth-none pairs p.name none) in
+    let all = used-with pairs p c.args.used 0 c.requires.store.ascend c.requires.counted
+    (worth-none pairs p.name none) in
     (holds-none pairs p.name p.value none, omega (arith, all, c.length_of-in-None.ensures.value))

@@ -23,7 +23,8 @@ overflow_sub-self c =
 pub invariant_of-self : goal.invariant_of-self
 invariant_of-self c =
     kept-take c.self.inside.pairs.entries c.take.new.map.entries c.self.inside.used c.self.invariant
-    c.take.ensures.named c.args.name.now c.in-Some.gone (sym c.in-Some.is ∙ c.take.ensures.gone) c.take.ensures.left
+    c.take.ensures.named c.args.name.now c.in-Some.gone
+    (sym c.in-Some.is ∙ c.take.ensures.gone) c.take.ensures.left
 
 pub returns-in-Some-clause-answer : goal.returns-in-Some-clause-answer
 returns-in-Some-clause-answer c =

@@ -10,14 +10,16 @@ push-requires c =
     let t = YieldsList-turn (YieldsList-from_vec {s = c.into_iter-pair-iterator.result} c.args.pairs (cc) (cc))
     c.loop-pair.yielded c.loop-pair.pair-iterator
     c.loop-pair.yielded_by c.next.result c.next.new.self c.in-Some.pair c.in-Some.is c.next.ensures.steps in
-    store-more c.args.pairs c.loop-pair.store (length c.loop-pair.yielded) c.in-Some.pair c.requires c.loop-pair.invariant t
+    store-more c.args.pairs c.loop-pair.store
+    (length c.loop-pair.yielded) c.in-Some.pair c.requires c.loop-pair.invariant t
 
 pub loop-pair-preserved : goal.loop-pair-preserved
 loop-pair-preserved c =
     let t = YieldsList-turn (YieldsList-from_vec {s = c.into_iter-pair-iterator.result} c.args.pairs (cc) (cc))
     c.loop-pair.yielded c.loop-pair.pair-iterator
     c.loop-pair.yielded_by c.next.result c.next.new.self c.in-Some.pair c.in-Some.is c.next.ensures.steps in
-    c.in_ok-push.ensures ∙ more-is c.args.pairs c.loop-pair.store (length c.loop-pair.yielded) c.in-Some.pair c.loop-pair.invariant t
+    c.in_ok-push.ensures ∙ more-is c.args.pairs c.loop-pair.store
+    (length c.loop-pair.yielded) c.in-Some.pair c.loop-pair.invariant t
     ∙ ap (λ k. take k c.args.pairs) (sym (length_push c.loop-pair.yielded c.in-Some.pair))
 
 pub returns : goal.returns

@@ -44,4 +44,5 @@ returns-in_ok-put-in-Some-2-clause-answer c =
 pub returns-in_ok-put-in-Some-2-clause-after : goal.returns-in_ok-put-in-Some-2-clause-after
 returns-in_ok-put-in-Some-2-clause-after c =
     c.in_ok-put-in-Some-2.ensures.ok ∙ ap (λ ps. with_pair ps c.args.pair) c.self.view_is
-    ∙ ap (λ w. pairs_after w c.args.self.now c.args.pair.name c.args.pair.value) (returns-in_ok-put-in-Some-2-clause-answer c)
+    ∙ ap (λ w. pairs_after w c.args.self.now c.args.pair.name c.args.pair.value)
+    (returns-in_ok-put-in-Some-2-clause-answer c)
