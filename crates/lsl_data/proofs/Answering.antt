@@ -11,7 +11,7 @@ use Rattle.lsl_image.specs.Valid.{Ascend}
 use Rattle.lsl_data.specs.declared.answers.Wrote.{Wrote}
 use Rattle.lsl_data.specs.declared.answers.Wrote.TheVariants.{Stored, Deleted, NoKey, NotFound, Same, Full}
 use Rattle.lsl_data.specs.Answers.{delete_answer, deleted, holds, pairs_after, write_answer, written}
-use Rattle.lsl_data.specs.Pairs.{bytes_of, pair_at, value_at, with_pair, without}
+use Rattle.lsl_data.specs.Pairs.{bytes_of, pair_at, value_at, with_pair}
 use Rattle.lsl_data.proofs.PairLemmas.{bytes_at, bytes-with_pair, bytes-without}
 
 pub empty-name : (name : List ℕ) → length (encode_utf8_all name) ≡ 0 → length name ≡ 0

@@ -1,5 +1,5 @@
 -- Commands one after another, and what was accepted of them.
-use Rattle.std.proofs.Common.{◌≡◌, ◌≢◌, ◌∙◌, refl, sym, ap, subst, ℕ, ◌≤◌, ◌<◌, Bool, true, false, cond, eqb, List, [], ◌∷◌, ◌++◌, length, fold, Option, Some, None, arith}
+use Rattle.std.proofs.Common.{◌≡◌, ◌∙◌, refl, sym, ap, ℕ, ◌≤◌, ◌<◌, Bool, true, false, cond, eqb, List, [], ◌∷◌, ◌++◌, length, fold, Option, Some, None, arith}
 use Rattle.std.specs.Prelude.{if◌then◌else◌, nat_lt}
 use Rattle.std.specs.List.{cons_option, filter_map}
 use Rattle.std.proofs.lemmas.Bool.Decides.{nat_tests}
@@ -9,8 +9,8 @@ use Rattle.lsl_image.specs.Object.{pair}
 use Rattle.lsl_image.specs.Valid.{IsPair, IsStore}
 use Rattle.lsl_data.specs.declared.answers.Wrote.{Wrote}
 use Rattle.lsl_data.specs.declared.answers.Wrote.TheVariants.{Stored, Deleted, NoKey, NotFound, Same, Full}
-use Rattle.lsl_data.specs.Answers.{delete_answer, holds, pairs_after, write_answer, written}
-use Rattle.lsl_data.specs.History.{Command, Write, Delete, Reset, accepted_from, accepted_of, after_command, if_accepted, last_told, last_value, store_after, tells}
+use Rattle.lsl_data.specs.Answers.{delete_answer, holds, pairs_after, write_answer}
+use Rattle.lsl_data.specs.History.{Command, Write, Delete, Reset, accepted_from, accepted_of, after_command, if_accepted, last_told, tells}
 use Rattle.lsl_data.specs.Laws.{ReadsAreLastAccepted, StoresAreKept}
 use Rattle.lsl_data.specs.Pairs.{bytes_of, pair_at, same_name, value_at, with_pair}
 use Rattle.lsl_data.proofs.Answering.{never-stored}

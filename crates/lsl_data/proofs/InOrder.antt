@@ -1,5 +1,5 @@
 -- Lists in rising order of a key: an element that is put in its place, and those that a test leaves.
-use Rattle.std.proofs.Common.{◌≡◌, ◌∙◌, refl, sym, ap, subst, cond, Bool, true, false, List, [], ◌∷◌, ◌++◌, map, filter, find, Option, Some, None, unwrap_or, ℕ, ◌+◌, arith}
+use Rattle.std.proofs.Common.{◌≡◌, ◌∙◌, refl, sym, ap, subst, cond, Bool, true, false, List, [], ◌∷◌, ◌++◌, filter, find, Some, None, unwrap_or, ℕ, ◌+◌, arith}
 use Rattle.std.specs.Prelude.{not, sum_by}
 use Rattle.std.specs.Option.{option_map}
 use Rattle.std.specs.List.{AllByRecursion}

@@ -11,7 +11,7 @@ use Rattle.std.proofs.lemmas.Map.Entries.{length-values_of}
 use Rattle.lsl_value.specs.declared.list.Atom.{Atom}
 use Rattle.lsl_value.specs.declared.list.Atom.TheVariants.{Str}
 use Rattle.lsl_post.specs.declared.parts.Pair.{Pair}
-use Rattle.lsl_data.specs.Listing.{first_place, most_listed, name_of, names_listed}
+use Rattle.lsl_data.specs.Listing.{first_place, most_listed, name_of}
 use Rattle.lsl_data.proofs.listing.names.Goals as goal
 
 more : (all : List Pair) (names new : List Atom) (n m : ℕ) (p : Pair) (name : List ℕ)

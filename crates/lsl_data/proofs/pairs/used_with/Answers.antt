@@ -1,8 +1,6 @@
-use Rattle.std.proofs.Common.{◌≡◌, ◌∙◌, ap, sym, ℕ, ◌+◌, ◌-◌, arith, Some, None}
+use Rattle.std.proofs.Common.{◌∙◌, ap, sym, ◌+◌, ◌-◌, arith}
 use Rattle.std.specs.Map.{values_of}
 use Rattle.std.specs.Option.{option_copied}
-use Rattle.lsl_post.specs.declared.parts.Pair.{Pair}
-use Rattle.lsl_data.specs.Pairs.{pair_at}
 use Rattle.lsl_data.proofs.Answering.{holds-found, holds-none, old-within, used-with, worth-found, worth-none}
 use Rattle.lsl_data.proofs.pairs.used_with.Goals as goal
 

@@ -1,4 +1,4 @@
-use Rattle.std.proofs.Common.{◌≡◌, ◌∙◌, ◌≤◌, ◌<◌, ap, sym, subst, true, false, ℕ, List, arith}
+use Rattle.std.proofs.Common.{◌≡◌, ◌∙◌, ◌≤◌, ◌<◌, ap, subst, true, false, ℕ, List, arith}
 use Rattle.lsl_post.specs.declared.parts.Pair.{Pair}
 use Rattle.lsl_data.specs.Answers.{holds, pairs_after}
 use Rattle.lsl_data.specs.Pairs.{bytes_of, value_at, with_pair}
