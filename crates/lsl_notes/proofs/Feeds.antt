@@ -1,7 +1,7 @@
 -- Bytes that are cut into lines at line feeds.
-use Rattle.std.proofs.Common.{◌≡◌, ◌≢◌, ◌∙◌, refl, sym, ap, cond, ℕ, suc, ◌+◌, ◌-◌, ◌≤◌, ◌<◌, Bool, true, false, eqb, List, [], ◌∷◌, ◌++◌, length, take, get_or, arith, length-append, append_assoc}
-use Rattle.std.specs.Prelude.{slice_index, sum_by, if◌then◌else◌}
-use Rattle.std.specs.List.{slice_split, onto_first, All, AllByRecursion}
+use Rattle.std.proofs.Common.{◌≡◌, ◌∙◌, refl, sym, ap, cond, ℕ, ◌+◌, ◌-◌, ◌≤◌, ◌<◌, Bool, true, false, eqb, List, [], ◌∷◌, ◌++◌, length, take, get_or, arith, length-append, append_assoc}
+use Rattle.std.specs.Prelude.{slice_index, sum_by}
+use Rattle.std.specs.List.{slice_split, onto_first, All}
 use Rattle.std.specs.Str.Lines.{lines, lines_of_parts, strip_carriage_return}
 use Rattle.std.proofs.lemmas.Bool.Decides.{nat_tests}
 use Rattle.std.proofs.lemmas.Grind.{take_at_read}

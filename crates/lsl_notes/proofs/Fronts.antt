@@ -1,13 +1,12 @@
 -- The longest front that is UTF-8, and the line in which it ends.
-use Rattle.std.proofs.Common.{◌≡◌, ◌∙◌, refl, sym, ap, subst, cond, ℕ, ◌+◌, ◌≤◌, ◌<◌, Bool, true, false, List, [], ◌∷◌, ◌++◌, length, take, drop, get_or, inl, inr, ◌⊎◌, arith, take-add, length-append, append_assoc, lit<}
+use Rattle.std.proofs.Common.{◌≡◌, ◌∙◌, refl, sym, ap, subst, cond, ℕ, ◌+◌, ◌<◌, Bool, true, false, List, [], ◌∷◌, ◌++◌, length, take, drop, get_or, inl, inr, arith, take-add, length-append, append_assoc, lit<}
 use Rattle.std.specs.Prelude.{count_by}
 use Rattle.std.specs.Str.{IsUtf8, IsValidUpTo, IsCharBoundary}
-use Rattle.std.specs.Str.Lossy.{utf8_valid_len}
 use Rattle.std.proofs.lemmas.Bool.Decides.{nat_tests}
-use Rattle.std.proofs.lemmas.Str.{IsUtf8-append, IsUtf8-nil, IsUtf8-take, IsUtf8-drop, encode_ascii, IsCharBoundary-start, IsCharBoundary-before_ascii, IsCharBoundary-after_ascii, utf8_valid_len-IsValidUpTo}
+use Rattle.std.proofs.lemmas.Str.{IsUtf8-append, IsUtf8-take, IsUtf8-drop, encode_ascii, IsCharBoundary-start, IsCharBoundary-before_ascii, IsCharBoundary-after_ascii}
 use Rattle.std.proofs.lemmas.List.{take_at, drop_at, take-append-drop, length-drop, append-nil}
 use Rattle.std.proofs.lemmas.List.Sums.{sum_by-append}
-use Rattle.lsl_notes.specs.Lines.{is_feed, bad_line, HasNoFeed, BeginsWithFeed, EndsWithFeed, IsFirstBad}
+use Rattle.lsl_notes.specs.Lines.{is_feed, HasNoFeed, BeginsWithFeed, EndsWithFeed, IsFirstBad}
 use Rattle.lsl_notes.specs.Laws.{TextsHaveNoBadLine}
 use Rattle.lsl_notes.proofs.Feeds.{mid-at}
 

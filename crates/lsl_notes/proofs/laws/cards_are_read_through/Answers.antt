@@ -1,12 +1,10 @@
-use Rattle.std.proofs.Common.{◌≡◌, ◌∙◌, ℕ, ◌≤◌, List, length, map, Some, ap}
+use Rattle.std.proofs.Common.{◌∙◌, length, ap}
 use Rattle.std.specs.Prelude.{slice_get}
 use Rattle.std.specs.Option.{option_map}
 use Rattle.std.specs.Str.{chars}
 use Rattle.std.specs.Str.Lines.{lines}
 use Rattle.std.proofs.lemmas.List.{length-map}
 use Rattle.std.proofs.lemmas.Option.{slice_get-map, slice_get_past}
-use Rattle.lsl_notes.specs.Card.{IsCard}
-use Rattle.lsl_notes.specs.Laws.{IsReadThrough}
 use Rattle.lsl_notes.specs.Notecards.{told}
 use Rattle.lsl_notes.proofs.laws.cards_are_read_through.Goals as goal
 
