@@ -1,0 +1,5 @@
+pub mod Rows
+pub mod Spelling
+pub mod StepLaws
+pub mod WorldLines
+pub mod WorldSpelling
