@@ -24,3 +24,5 @@ mod texts;
 mod values;
 #[cfg(test)]
 mod words;
+#[cfg(test)]
+mod worlds;

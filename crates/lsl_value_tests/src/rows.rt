@@ -1,6 +1,6 @@
 //! Rows of text: what is asked, ` -> `, what is told of it, and behind ` # ` what the row shows.
 
-use crate::{bytes, calls, lists, numbers, operators, ports, tables, texts, values};
+use crate::{bytes, calls, lists, numbers, operators, ports, tables, texts, values, worlds};
 use lsl_table::find;
 use lsl_text::NoMemory;
 use std::alloc::Global;
@@ -50,6 +50,8 @@ fn told(alloc: Global, asked: &str) -> Result<String, NoMemory> {
         "write" => ports::write(alloc, rest),
         "sink" => ports::sink(alloc, rest),
         "link" => ports::link(alloc, rest),
+        "world" => worlds::world(alloc, rest),
+        "script" => worlds::script(alloc, rest),
         "charged" => calls::charged(alloc, rest),
         _ => called(alloc, word, rest),
     }
