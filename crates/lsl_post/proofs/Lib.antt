@@ -1,5 +1,8 @@
 pub mod Adding
 pub mod Amid
+pub mod DueOrder
+pub mod DuePuts
+pub mod DueTimes
 pub mod Free
 pub mod Places
 pub mod Queues

@@ -1,4 +1,6 @@
 pub mod Adding
+pub mod Due
+pub mod DueTables
 pub mod FilterLaws
 pub mod Filters
 pub mod Fitting

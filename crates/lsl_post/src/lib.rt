@@ -1,7 +1,8 @@
 //! What waits for a script and what it waits for: events in a queue, listens and a timer; a script at rest;
-//! and the journal's entries. Nothing here runs a script.
+//! when scripts are due; and the journal's entries. Nothing here runs a script.
 #![tactic(auto)]
 
+mod due;
 mod entries;
 mod events;
 mod filters;
@@ -13,6 +14,7 @@ mod queue;
 mod timer;
 mod timing;
 
+pub use crate::due::Due;
 pub use crate::entries::{Entries, Entry, Voice};
 pub use crate::events::{Event, Toucher};
 pub use crate::filters::Filter;
