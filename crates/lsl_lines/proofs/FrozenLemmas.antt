@@ -14,7 +14,9 @@ use Rattle.hex.specs.declared.error.FromHexError.{FromHexError}
 use Rattle.hex.specs.declared.error.FromHexError.TheVariants.{OutOfMemory}
 use Rattle.lsl_text.specs.declared.Refusal.{Refusal}
 use Rattle.lsl_text.specs.declared.Refusal.TheVariants.{Fault, NoMemory}
-use Rattle.lsl_lines.specs.Frozen.{HasFrozenLine, IsFrozen, is_lower_digit}
+use Rattle.lsl_image.specs.declared.faults.ImageFault.{ImageFault}
+use Rattle.lsl_image.specs.declared.faults.ImageFault.TheVariants.{NotFrozen}
+use Rattle.lsl_lines.specs.Frozen.{HasFrozenLine, IsFrozen, IsNotFrozen, is_lower_digit}
 use Rattle.lsl_text.specs.Place.{is_line_feed}
 
 abbrev pub upper : List ℕ → Bool
@@ -143,12 +145,15 @@ frozen_line_is text h =
     (read.0, record { short = h.short; line = h.line ∙ ap (λ d. codes "frozen " ++ d) (sym same); fits = fits })
 
 -- what would give a value if it had any is refused for want of memory, or has none
-pub refused_of : {V F H : Type 0} (P : List ℕ → V → Type 0) (r : Result V (Refusal F)) (E : List ℕ → Type 0)
+pub refused_of : {V H : Type 0} (P : List ℕ → V → Type 0) (r : Result V (Refusal ImageFault)) (E : List ℕ → Type 0)
     → ((bytes : List ℕ) → E bytes → MatchResult r (P bytes) (λ refusal. refusal ≡ NoMemory))
-    → (H → (bytes : List ℕ) × E bytes) → IfErr r (λ refusal. (refusal ≡ NoMemory) ⊎ (¬ H))
-refused_of P (Ok v) E h has = tt
-refused_of P (Err NoMemory) E h has = inl refl
-refused_of P (Err (Fault fault)) E h has = inr (λ holds. let found = has holds in absurd (cc (h found.0 found.1)))
+    → (H → (bytes : List ℕ) × E bytes) → IfErr r IsNotFrozen
+    → IfErr r (λ refusal. (refusal ≡ NoMemory) ⊎ ((refusal ≡ Fault NotFrozen) × (¬ H)))
+refused_of P (Ok v) E h has kind = tt
+refused_of P (Err NoMemory) E h has kind = inl refl
+refused_of P (Err (Fault fault)) E h has (inl e) = absurd (cc e)
+refused_of P (Err (Fault fault)) E h has (inr e) =
+    inr (e, λ holds. let found = has holds in absurd (cc (h found.0 found.1)))
 
 -- ---- what stands behind the last line feed
 

@@ -1,8 +1,12 @@
 -- A frozen world as a line of text.
-use Rattle.std.specs.Prelude.{◌≡◌, ℕ, ◌%◌, ◌≤◌, nat_le, Bool, true, ◌&&◌, ◌||◌, List, [], ◌∷◌, ◌++◌, length, codes}
+use Rattle.std.specs.Prelude.{◌≡◌, ◌⊎◌, ℕ, ◌%◌, ◌≤◌, nat_le, Bool, true, ◌&&◌, ◌||◌, List, [], ◌∷◌, ◌++◌, length, codes}
 use Rattle.std.specs.Io.BufRead.{strip_last}
 use Rattle.std.specs.List.{after_last, list_all}
 use Rattle.lsl_text.specs.Place.{is_line_feed}
+use Rattle.lsl_text.specs.declared.Refusal.{Refusal}
+use Rattle.lsl_text.specs.declared.Refusal.TheVariants.{Fault, NoMemory}
+use Rattle.lsl_image.specs.declared.faults.ImageFault.{ImageFault}
+use Rattle.lsl_image.specs.declared.faults.ImageFault.TheVariants.{NotFrozen}
 use Rattle.hex.specs.Hex.{IsBytes, encode_lower}
 
 -- how many bytes a text with a frozen world has at most
@@ -38,3 +42,7 @@ pub record IsFrozen (text bytes : List ℕ) : Type 0 where
   pub short : length text ≤ most_frozen_text
   pub line : last_line text ≡ frozen_text bytes
   pub fits : IsBytes bytes
+
+-- why a text gives no bytes
+abbrev pub IsNotFrozen : Refusal ImageFault → Type 0
+IsNotFrozen refusal = (refusal ≡ NoMemory) ⊎ (refusal ≡ Fault NotFrozen)

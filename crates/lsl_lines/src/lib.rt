@@ -35,7 +35,7 @@ mod world;
 
 pub use crate::faults::{FileFault, FileKind};
 pub use crate::file::{Gaps, ObjectLine, PrimLine, ScriptLine, Step, WorldFile};
-pub use crate::frozen::{NotFrozen, push_frozen, take_frozen};
+pub use crate::frozen::{push_frozen, take_frozen};
 pub use crate::journal::{push_line, push_lines};
 
 /// The world that a file tells, or the file's first fault.

@@ -1,6 +1,7 @@
 //! The line of a frozen world, written and read.
 
-use lsl_lines::{NotFrozen, push_frozen, take_frozen};
+use lsl_image::ImageFault;
+use lsl_lines::{push_frozen, take_frozen};
 use lsl_text::Refusal;
 use std::alloc::{AllocError, Global};
 use std::test::Fail;
@@ -48,7 +49,8 @@ frozen 11^home 1 \"A\"^ -> none";
 fn taken(alloc: Global, text: &[u8]) -> Result<String, AllocError> {
     match take_frozen(alloc, text) {
         Ok(bytes) => format!(in alloc; "{:?}", bytes.as_slice()),
-        Err(Refusal::Fault(NotFrozen)) => String::from_str(alloc, "none"),
+        Err(Refusal::Fault(ImageFault::NotFrozen)) => String::from_str(alloc, "none"),
+        Err(Refusal::Fault(_)) => String::from_str(alloc, "another fault"),
         Err(Refusal::NoMemory) => Err(AllocError),
     }
 }

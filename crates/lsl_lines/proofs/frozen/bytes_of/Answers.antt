@@ -26,5 +26,5 @@ returns-in-Ok-clause-every c bytes fits e =
 
 pub returns-in-Err-clause-every : goal.returns-in-Err-clause-every
 returns-in-Err-clause-every c bytes fits e =
-    c.refusal.ensures (wants_memory c.args.digits.now bytes c.in-Err.fault c.in-Err.ensures.err
+    c.refusal.ensures.memory (wants_memory c.args.digits.now bytes c.in-Err.fault c.in-Err.ensures.err
     (ap decode_of (sym e) ∙ decode_of-encode_lower bytes fits))

@@ -8,4 +8,4 @@ returns-in-Some-clause-refused c =
     refused_of _ c.bytes_of.result (IsFrozen c.args.text.now)
     (λ bytes f. c.bytes_of.ensures.every bytes f.fits
     (ap (drop 7) (sym f.line ∙ sym c.last_line.ensures ∙ c.in-Some.ensures)))
-    (frozen_line_is c.args.text.now)
+    (frozen_line_is c.args.text.now) c.bytes_of.ensures.kind
