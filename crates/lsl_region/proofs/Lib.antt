@@ -37,3 +37,7 @@ pub mod Notices
 pub mod Furnishing
 pub mod Journeys
 pub mod Passages
+pub mod Refilling
+pub mod Thawing
+pub mod Thawed
+pub mod ThawLoop

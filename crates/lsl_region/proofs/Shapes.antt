@@ -62,7 +62,7 @@ module _ (bytes : List ℕ) where
       ∙ ap (λ (k : ℕ). map unit_number before ++ k ∷ units)
       (unit-is version n (slice_get library n) p s.value s.middle s.first)
 
-  body-shape : (version : ℕ) (shape : Shape) (library : List Code) (p : ℕ) (o : ObjectParts) (q : ℕ)
+  pub body-shape : (version : ℕ) (shape : Shape) (library : List Code) (p : ℕ) (o : ObjectParts) (q : ℕ)
       → Given bytes (body version shape library) p o q → shape_of o ≡ shape
   unfolding body
   body-shape version shape library p o q g =

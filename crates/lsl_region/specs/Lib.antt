@@ -26,3 +26,4 @@ pub mod ObjectParts
 pub mod Crossings
 pub mod Journeys
 pub mod CrossingLaws
+pub mod GridParts

@@ -157,7 +157,13 @@ impl Grid {
     }
 
     // The object at this place has prims of these names, this store and this region.
-    fn furnish(&mut self, place: usize, names: Sequence<Text>, store: Pairs, region: Text)
+    pub(crate) fn furnish(
+        &mut self,
+        place: usize,
+        names: Sequence<Text>,
+        store: Pairs,
+        region: Text,
+    )
         requires place { place < length self.old.objects }
         requires names { length names ≤ length (object_in_grid self.old place).prims }
         requires store { IsStore store }
@@ -176,7 +182,7 @@ impl Grid {
     }
 
     // These scripts come into the seats of the object at this place, in order.
-    fn reseat(&mut self, place: usize, scripts: Sequence<ScriptParts>, library: &Library)
+    pub(crate) fn reseat(&mut self, place: usize, scripts: Sequence<ScriptParts>, library: &Library)
         requires seated { AreSeated library.now self.old.seats }
         requires valid { AllByRecursion (IsOfUnit library.now) scripts }
         requires units { map unit_number scripts ≡ map unit_number (filter_map (parts_in_seat place) self.old.seats) }

@@ -12,6 +12,7 @@ mod audience;
 mod channels;
 mod crossing;
 mod events;
+mod freezing;
 mod grid;
 mod heard;
 mod hearing;
