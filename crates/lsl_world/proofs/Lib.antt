@@ -14,6 +14,10 @@ pub mod Still
 pub mod Alone
 pub mod Ending
 pub mod Filling
+pub mod FileShapes
+pub mod Lawfulness
+pub mod ImageShapes
+pub mod Thawing
 pub mod Beginning
 pub mod Going
 pub mod Regions

@@ -11,4 +11,5 @@ pub mod Codes
 pub mod Sound
 pub mod Stands
 pub mod Seats
+pub mod Frozen
 pub mod Laws

@@ -2,6 +2,7 @@
 //! is in the end.
 #![tactic(auto)]
 
+mod freezing;
 mod homes;
 pub mod laws;
 mod rounds;

@@ -1,0 +1,121 @@
+//! A world is frozen as an image, and thawed from one.
+
+ghost use Rattle.std.specs.Prelude.{◌≡◌, List, length, map, IfErr, IfOk, MatchResult};
+ghost use Rattle.lsl_text.specs.declared.Refusal.TheVariants.{NoMemory as WantsMemory};
+ghost use Rattle.lsl_image.specs.declared.faults.ImageFault.{ImageFault as AFault};
+ghost use Rattle.lsl_image.specs.declared.parts.WorldParts.{WorldParts as TheParts};
+ghost use Rattle.lsl_image.specs.Answers.{GivesThat, RefusesWith};
+ghost use Rattle.lsl_image.specs.Bytes.{world_image};
+ghost use Rattle.lsl_image.specs.Images.{WorldFirst, WorldImage};
+ghost use Rattle.lsl_image.specs.Reading.{IsRefusedBy};
+ghost use Rattle.lsl_image.specs.Valid.{IsWorld, placed_shape, shapes_of};
+ghost use Rattle.lsl_tree.specs.Program.{Program};
+ghost use Rattle.lsl_region.specs.GridParts.{fixed_in, fixed_of, placed_in};
+ghost use Rattle.lsl_region.specs.Pausing.{Counts, no_tally};
+ghost use Rattle.lsl_region.specs.Worlds.{World as SourceWorld};
+ghost use Rattle.lsl_world.specs.Codes.{AreRunBy};
+ghost use Rattle.lsl_world.specs.Frozen.{AgreesWith, IsImageIn, frozen_image, parts_in, parts_of_world, shapes_of_file};
+ghost use Rattle.lsl_world.specs.Programs.{rules_of};
+ghost use Rattle.lsl_world.specs.Ranges.{IsInRange};
+ghost use Rattle.lsl_world.specs.Sizes.{size_of_file};
+ghost use Rattle.lsl_world.specs.Sound.{IsSound};
+ghost use Rattle.lsl_world.specs.Stands.{IsOf, size_of};
+ghost use Rattle.lsl_world.specs.Starts.{start};
+
+use crate::starting::grid_of;
+use crate::world::World;
+use lsl_code::Library;
+use lsl_image::{ImageFault, WorldParts, read_world, write_world};
+use lsl_lines::WorldFile;
+use lsl_region::{Grid, Pause};
+use lsl_text::{NoMemory, Refusal};
+use std::alloc::Global;
+
+impl World {
+    /// The image of the world as it is: its clock, and of each object the region and the parts. It takes memory for the
+    /// parts and the image, which is written once, and walked once more for its digest.
+    pub fn freeze(&self) -> Result<Vec<u8>, NoMemory>
+        requires sound { IsSound self.now }
+        ensures image { IfOk result (λ image.
+            WorldImage (shapes_of (parts_in self.now)) self.now.units (parts_in self.now) image.items) }
+        ensures bytes { IfOk result (λ image. image.items ≡ world_image 2 self.now.units (parts_in self.now)) }
+        ensures of { (programs : List Program) (w : SourceWorld) → IsOf programs self.now w
+            → parts_in self.now ≡ parts_of_world self.now.units w }
+    {
+        let parts = self.parts()?;
+        write_world(self.alloc, &parts, &self.units)
+    }
+
+    // The parts of the world, which can be written as an image.
+    fn parts(&self) -> Result<WorldParts, NoMemory>
+        requires sound { IsSound self.now }
+        ensures parts { IfOk result (λ parts. parts ≡ parts_in self.now) }
+        ensures written { IfOk result (IsWorld self.now.units) }
+    {
+        let objects = self.grid.all_parts()?;
+        Ok(WorldParts {
+            clock: self.clock,
+            objects,
+        })
+    }
+
+    /// The world of which these bytes are an image in version 1 or 2, with the objects and scripts of a file, or the first
+    /// fault of the bytes. The units are those of the file's scripts, in the order of its `files`. Pausing is off. It takes
+    /// memory for the objects and scripts.
+    pub fn thaw(
+        alloc: Global,
+        file: &WorldFile,
+        units: Library,
+        bytes: &[u8],
+    ) -> Result<World, Refusal<ImageFault>>
+        requires file { IsInRange file.now }
+        requires units { length units ≡ length file.now.files }
+        ensures found { IfOk result (λ world. IsImageIn units file.now (parts_in world) bytes.now) }
+        ensures every { (parts : TheParts) → IsImageIn units file.now parts bytes.now
+            → MatchResult result (λ world. parts_in world ≡ parts) (λ refusal. refusal ≡ WantsMemory) }
+        ensures first { IfErr result (IsRefusedBy (WorldFirst (shapes_of_file file.now) units bytes.now)) }
+        ensures only { (fault : AFault) → WorldFirst (shapes_of_file file.now) units bytes.now fault
+            → RefusesWith result fault }
+        ensures of { (programs : List Program) (w : SourceWorld) → AreRunBy programs units
+            → AgreesWith programs file.now w → IsImageIn units file.now (parts_of_world units w) bytes.now
+            → IfOk result (λ world. IsOf programs world w) }
+        ensures fixed { (programs : List Program) → AreRunBy programs units
+            → IfOk result (λ world. fixed_of world.grid ≡ fixed_in (start (rules_of programs) file.now)) }
+        ensures size { IfOk result (λ world. size_of world ≡ size_of_file file.now) }
+        ensures sound { IfOk result IsSound }
+        ensures saves { IfOk result (λ world. Counts world.pause no_tally) }
+        ensures units { IfOk result (λ world. world.units ≡ units) }
+    {
+        let mut grid = grid_of(alloc, file.objects.as_slice(), &units)?;
+        let WorldParts { clock, objects } = read_parts(alloc, &grid, &units, bytes)?;
+        grid.thaw(objects, &units);
+        Ok(World {
+            alloc,
+            clock,
+            grid,
+            units,
+            pause: Pause::off(alloc),
+        })
+    }
+}
+
+// The parts of which these bytes are an image, where the objects have the shapes of the grid's, or the first fault of the
+// bytes.
+fn read_parts(
+    alloc: Global,
+    grid: &Grid,
+    units: &Library,
+    bytes: &[u8],
+) -> Result<WorldParts, Refusal<ImageFault>>
+    ensures found { IfOk result (λ parts.
+        WorldImage (map placed_shape (placed_in grid.now)) units.now parts bytes.now) }
+    ensures every { (parts : TheParts) → WorldImage (map placed_shape (placed_in grid.now)) units.now parts bytes.now
+        → GivesThat result parts }
+    ensures first { IfErr result (IsRefusedBy
+        (WorldFirst (map placed_shape (placed_in grid.now)) units.now bytes.now)) }
+    ensures only { (fault : AFault) → WorldFirst (map placed_shape (placed_in grid.now)) units.now bytes.now fault
+        → RefusesWith result fault }
+{
+    let shapes = grid.shapes()?;
+    read_world(alloc, bytes, &shapes, units)
+}
