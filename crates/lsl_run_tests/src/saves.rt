@@ -1,23 +1,8 @@
 //! How often scripts are saved: a row has the steps of a world with one script, and the count behind them.
 
 use crate::stepping::saves_of;
-use std::alloc::Global;
+use crate::texts::{CALLS, world_of};
 use std::test::Fail;
-
-/// The box, its script, and one touch of it.
-const BEFORE: &str =
-    "object 00000000-0000-0000-0000-000000000001 \"Box\" 00000000-0000-0000-0000-000000000002 \"A\"
-script \"s\" \"s.lsl\"
-begin
-";
-
-const TOUCH: &str = "touch 1 0 00000000-0000-0000-0000-0000000000aa \"Ann\"";
-
-/// A call whose value is added to that of another one: seven segments.
-const CALLS: &str =
-    "integer f(integer n) { integer i; integer s; for (i = 0; i < n; ++i) s += i; return s; }
-integer g(integer n) { return n * 10; }
-default { touch_start(integer n) { llOwnerSay((string)(f(4) + g(1))); } }";
 
 /// A save is at the end of a turn that leaves the script in its handler, and behind each segment at which a gap ends.
 const OF_CALLS: &str = "touch; go 1 4; cross 1 \"B\"; run 100 -> 1
@@ -58,18 +43,6 @@ pause 1; touch; go 1 5 -> 1
 pause 1; touch; go 1 5; go 1 5 -> 1
 pause 1; touch; go 1 5; clock 1000; go 1 1 -> 3
 pause 1; touch; go 1 5; clock 1000; go 1 5 -> 2";
-
-/// The world of a row's steps.
-fn world_of(alloc: Global, steps: &str) -> Result<String, Fail> {
-    let mut text = String::new(alloc);
-    text.push_str(BEFORE)?;
-    for step in steps.split("; ") {
-        text.push_str(if step == "touch" { TOUCH } else { step })?;
-        text.push('\n')?;
-    }
-    text.push_str("end\n")?;
-    Ok(text)
-}
 
 #[test]
 fn saves_are_counted(rt: HostRuntime) -> Result<(), Fail> {

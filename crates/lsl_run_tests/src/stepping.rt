@@ -10,10 +10,10 @@ use lsl_code::Library;
 use lsl_lines::{Step, WorldFile, read_world};
 use lsl_ports::MemoryLink;
 use lsl_post::Entries;
-use lsl_text::NoMemory;
+use lsl_text::{NoMemory, Refusal};
 use lsl_world::World;
 use lsl_world::laws::good_files_are_in_range;
-use std::alloc::Global;
+use std::alloc::{AllocError, Global};
 
 /// How often the scripts of a world were saved in all of its steps, where the world is good and has one script file, which
 /// is accepted.
@@ -22,15 +22,61 @@ pub(crate) fn saves_of(alloc: Global, world: &str, script: &str) -> Result<Optio
     let Ok(file) = read_world(alloc, world.as_bytes()) else {
         return Ok(None);
     };
-    let Ok(built) = build(alloc, script.as_bytes()) else {
-        return Ok(None);
-    };
-    let mut units = Library::new(alloc);
-    units.add(built.code)?;
+    let units = library_of(alloc, script)?;
     if file.files.len() != units.len() {
         return Ok(None);
     }
     Ok(Some(saves_in(alloc, &file, units)?))
+}
+
+/// The image of such a world behind its steps, and that of the world that it thaws to.
+pub(crate) fn frozen_twice(
+    alloc: Global,
+    world: &str,
+    script: &str,
+) -> Result<Option<(Vec<u8>, Vec<u8>)>, NoMemory> {
+    good_files_are_in_range();
+    let Ok(file) = read_world(alloc, world.as_bytes()) else {
+        return Ok(None);
+    };
+    let units = library_of(alloc, script)?;
+    let others = library_of(alloc, script)?;
+    if file.files.len() != units.len() || file.files.len() != others.len() {
+        return Ok(None);
+    }
+    frozen_in(alloc, &file, units, others)
+}
+
+/// The code of a script, or none where it isn't accepted.
+fn library_of(alloc: Global, script: &str) -> Result<Library, NoMemory> {
+    let mut units = Library::new(alloc);
+    if let Ok(built) = build(alloc, script.as_bytes()) {
+        units.add(built.code)?;
+    }
+    Ok(units)
+}
+
+fn frozen_in(
+    alloc: Global,
+    file: &WorldFile,
+    units: Library,
+    others: Library,
+) -> Result<Option<(Vec<u8>, Vec<u8>)>, NoMemory>
+    requires file { IsInRange file.now }
+    requires units { length units ≡ length file.now.files }
+    requires others { length others ≡ length file.now.files }
+{
+    let mut world = World::start(alloc, file, units)?;
+    steps_done(alloc, &mut world, file.steps.as_slice())?;
+    let frozen = world.freeze()?;
+    match World::thaw(alloc, file, others, frozen.as_slice()) {
+        Ok(thawed) => {
+            let again = thawed.freeze()?;
+            Ok(Some((frozen, again)))
+        }
+        Err(Refusal::Fault(_)) => Ok(None),
+        Err(Refusal::NoMemory) => Err(AllocError),
+    }
 }
 
 fn saves_in(alloc: Global, file: &WorldFile, units: Library) -> Result<u64, NoMemory>

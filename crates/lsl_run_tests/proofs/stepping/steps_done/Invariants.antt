@@ -1,7 +1,7 @@
 use Rattle.std.proofs.Common.{◌≡◌}
 use Rattle.lsl_world.specs.Sound.{IsSound}
 use Rattle.lsl_world.specs.Stands.{size_of}
-use Rattle.lsl_saves_tests.proofs.stepping.steps_done.Given as goal
+use Rattle.lsl_run_tests.proofs.stepping.steps_done.Given as goal
 
 abbrev pub invariant-loop-step : goal.invariant-loop-step
 invariant-loop-step l =
