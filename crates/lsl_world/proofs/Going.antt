@@ -1,16 +1,17 @@
 -- What a step comes to with the trips that it made.
 use Rattle.std.proofs.Common.{◌≡◌, ℕ, ◌-◌, List, [], length, map, refl, ap, sym, ◌∙◌, subst, arith}
-use Rattle.std.specs.Prelude.{Option, Result, Ok, Err}
+use Rattle.std.specs.Prelude.{None, OnOk, Option, Result, Ok, Err}
 use Rattle.lsl_code.specs.declared.woven_units.Woven.{Woven as Code}
-use Rattle.lsl_ports.proofs.Growth.{begins-none, grew-none}
-use Rattle.lsl_ports.specs.Trips.{Trip, Went}
+use Rattle.lsl_ports.proofs.Growth.{begins-all, begins-is, begins-none, grew-none}
+use Rattle.lsl_ports.specs.Trips.{Trip, Went, sent_of}
 use Rattle.lsl_post.specs.declared.entries.Entry.{Entry}
 use Rattle.lsl_post.specs.Journal.{Tells}
 use Rattle.lsl_post.specs.Told.{Told}
 use Rattle.lsl_tree.specs.Program.{Program}
 use Rattle.lsl_script.specs.Rules.{Rules}
-use Rattle.lsl_region.specs.Grids.{AreSeated, Contents}
-use Rattle.lsl_region.specs.Journeys.{Sends, Travels}
+use Rattle.lsl_region.specs.Grids.{AreSeated, Contents, Stands}
+use Rattle.lsl_region.specs.Crossings.{images_to}
+use Rattle.lsl_region.specs.Journeys.{Sends, Travels, contents_of, cross_by}
 use Rattle.lsl_region.specs.Worlds.{World as SourceWorld}
 use Rattle.lsl_lines.specs.declared.file.Step.{Step}
 use Rattle.lsl_lines.specs.declared.file.Step.TheVariants.{Cross}
@@ -21,7 +22,8 @@ use Rattle.lsl_world.specs.Stands.{IsOf, prims_of, size_of}
 use Rattle.lsl_world.specs.Steps.{next}
 use Rattle.lsl_world.specs.Travels.{Does, go_on, images_of}
 use Rattle.lsl_world.proofs.Counts.{IsHere}
-use Rattle.lsl_world.proofs.Kept.{with_grid}
+use Rattle.lsl_world.specs.Timers.{AreNumbered, IsIndexOf, timings_of}
+use Rattle.lsl_world.proofs.Kept.{part-all}
 
 -- no other step makes a trip
 pub go_on-here : (r : Rules) (step : Step) → IsHere step → (trips : List Trip) (w : SourceWorld)
@@ -79,35 +81,59 @@ goes-cross gives old now step form is world new before after result goes = (
       (goes.2 programs w of),
 )
 
--- an object crossed
+-- an object crossed, and the due times were put
+abbrev pub with_due : World → Contents → List (ℕ × ℕ) → World
+with_due world grid due = record world { grid = grid; due = due }
+
 module _ {T E F : Type 0} (programs : List Program) (world : World) (w : SourceWorld) (is : IsOf programs world w)
-    (grid : Contents) (before after : List Entry) (trips : List Trip) (object : ℕ) (region : List ℕ) where
-  pub crossed-ok : {U : Type 0} (t : T) (u : U)
+    (grid : Contents) (due : List (ℕ × ℕ)) (before after : List Entry) (trips : List Trip) (object : ℕ)
+    (region : List ℕ) where
+  pub crossed-ok : {U : Type 0} (t : T) (result : Result U F)
       → Travels {T = T} {E = E} world.units (rules_of programs) world.clock (object - 1) region w trips grid before
       after (Ok t) → AreSeated world.units grid.seats
-      → Does {T = U} {E = F} world.units (rules_of programs) (IsOf programs (with_grid world grid))
-      (Cross object region) w trips before after (Ok u)
-  crossed-ok t u travels seated = record {
+      → OnOk result ((codes : List Code) (clock : ℕ) (v : SourceWorld) → Stands codes None clock grid v
+      → IsIndexOf (timings_of v) due)
+      → Does {T = U} {E = F} world.units (rules_of programs) (IsOf programs (with_due world grid due))
+      (Cross object region) w trips before after result
+  crossed-ok t (Ok u) travels seated index = record {
     tells = λ honest. let told = travels.tells honest in (
-      record { runs = is.runs; seated = seated; timely = is.timely; stands = told.0 },
+      record {
+        runs = is.runs;
+        seated = seated;
+        timely = is.timely;
+        stands = told.0;
+        index = index world.units world.clock _ told.0;
+      },
       told.1,
     );
     sent = travels.sent;
+  }
+  crossed-ok t (Err f) travels seated index = record {
+    tells = λ honest. part-all before after
+        (cross_by (rules_of programs) (object - 1) region trips w).entries (travels.tells honest).1;
+    sent = begins-is (sent_of trips) (sent_of trips)
+        (images_to world.units (contents_of world.units w) (object - 1) region) (begins-all (sent_of trips))
+        travels.sent;
   }
 
   pub crossed-err : {U : Type 0} (e : E) (f : F) (result : Result U F) → result ≡ Err f
       → Travels {T = T} {E = E} world.units (rules_of programs) world.clock (object - 1) region w trips grid before
       after (Err e)
-      → Does {T = U} {E = F} world.units (rules_of programs) (IsOf programs (with_grid world grid))
+      → Does {T = U} {E = F} world.units (rules_of programs) (IsOf programs (with_due world grid due))
       (Cross object region) w trips before after result
   crossed-err {U = U} e f result is travels =
-      subst (λ (r : Result U F). Does world.units (rules_of programs) (IsOf programs (with_grid world grid))
+      subst (λ (r : Result U F). Does world.units (rules_of programs) (IsOf programs (with_due world grid due))
       (Cross object region) w trips before after r) (sym is)
       (record { tells = travels.tells; sent = travels.sent })
 
 -- as many objects, prims and scripts
-pub size-as : (world : World) (grid : Contents) → map prims_of grid.objects ≡ map prims_of world.grid.objects
-    → length grid.seats ≡ length world.grid.seats → size_of (with_grid world grid) ≡ size_of world
-size-as world grid objects seats =
+pub size-as : (world : World) (grid : Contents) (due : List (ℕ × ℕ))
+    → map prims_of grid.objects ≡ map prims_of world.grid.objects → length grid.seats ≡ length world.grid.seats
+    → size_of (with_due world grid due) ≡ size_of world
+size-as world grid due objects seats =
     ap {A = ℕ} {B = Size} (λ n. record { prims = map prims_of grid.objects; scripts = n }) seats
     ∙ ap {A = List ℕ} {B = Size} (λ prims. record { prims = prims; scripts = length world.grid.seats }) objects
+
+pub numbered-as : (world : World) (grid : Contents) (due : List (ℕ × ℕ)) → length grid.seats ≡ length world.grid.seats
+    → AreNumbered (length world.grid.seats) due → AreNumbered (length grid.seats) due
+numbered-as world grid due seats are = subst (λ (n : ℕ). AreNumbered n due) (sym seats) are

@@ -10,7 +10,7 @@ use Rattle.lsl_image.specs.declared.parts.Shape.{Shape}
 use Rattle.lsl_image.specs.declared.parts.WorldParts.{WorldParts}
 use Rattle.lsl_image.specs.Images.{WorldImage, covered, digested}
 use Rattle.lsl_image.specs.Layout.{each_behind}
-use Rattle.lsl_image.specs.Valid.{IsWorld, placed_shape, shape_of, shapes_of}
+use Rattle.lsl_image.specs.Valid.{IsWorld, placed_shape, shapes_of}
 use Rattle.lsl_image.specs.World.{placed, world}
 use Rattle.lsl_image.proofs.GivenLemmas.{Given, ended, split}
 use Rattle.lsl_image.proofs.ValidPartLemmas.{world-valid}

@@ -3,12 +3,11 @@ use Rattle.std.proofs.Common.{◌≡◌, ℕ, ◌<◌, List, length, refl, ap, s
 use Rattle.std.specs.Prelude.{Option, Some, None}
 use Rattle.lsl_value.specs.declared.tagged.Value.{Value}
 use Rattle.lsl_running.specs.declared.host.Reply.{Reply}
-use Rattle.lsl_running.specs.Results.{Whole}
 use Rattle.lsl_code.specs.declared.woven_units.Woven.{Woven as Code}
 use Rattle.lsl_code.specs.Kinds.{kinds_of}
 use Rattle.lsl_script.specs.Codes.{Meant, rules_of}
-use Rattle.lsl_script.specs.Lawful.{AreGiven, IsKept, IsLawfulDoing, IsLawfulFlight, Lawful, flight_whole}
-use Rattle.lsl_script.specs.Rules.{Rules, whole_in}
+use Rattle.lsl_script.specs.Lawful.{IsLawfulDoing, IsLawfulFlight, Lawful, flight_whole}
+use Rattle.lsl_script.specs.Rules.{whole_in}
 use Rattle.lsl_script.specs.Scripts.{Doing, Resting, Flying, Stopped, Flight, Script}
 use Rattle.lsl_script.proofs.Comes.{given_as}
 

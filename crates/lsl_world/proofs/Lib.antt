@@ -2,7 +2,11 @@ pub mod Passing
 pub mod StepRanges
 pub mod Ranges
 pub mod Meanings
+pub mod Keeping
 pub mod Counts
+pub mod Timings
+pub mod Indexing
+pub mod Ripe
 pub mod Sounding
 pub mod Kept
 pub mod Seams

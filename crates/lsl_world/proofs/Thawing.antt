@@ -1,5 +1,5 @@
 -- A grid with the parts that bytes stand for is the world of which they are an image.
-use Rattle.std.proofs.Common.{◌≡◌, ◌∙◌, refl, sym, ap, subst, arith, ℕ, ◌<◌, ◌≤◌, suc, zero, false, true, List, [], ◌∷◌, length}
+use Rattle.std.proofs.Common.{◌≡◌, ◌∙◌, refl, sym, ap, subst, arith, ℕ, ◌<◌, ◌≤◌, true, List, [], ◌∷◌, length}
 use Rattle.std.specs.Prelude.{All, None, Option, Some, map, slice_get}
 use Rattle.std.specs.Option.{option_map}
 use Rattle.std.proofs.lemmas.List.{length-map}
@@ -27,6 +27,7 @@ use Rattle.lsl_world.specs.Programs.{rules_of}
 use Rattle.lsl_world.specs.Ranges.{IsObjectOf}
 use Rattle.lsl_world.specs.Seats.{seats_of_objects}
 use Rattle.lsl_world.specs.Stands.{IsOf, prims_of}
+use Rattle.lsl_world.specs.Timers.{IsIndexOf, timings_of}
 use Rattle.lsl_world.specs.Starts.{members_of_objects, object_of_line, start}
 use Rattle.lsl_world.proofs.Beginning.{size_in, starts}
 use Rattle.lsl_world.proofs.Lawfulness.{script-lawful}
@@ -97,8 +98,9 @@ module _ (codes : List Code) (file : WorldFile) (grid : Contents)
         → ((v : SourceWorld) → AreScripts codes v → fixed_in v ≡ fixed_of grid
         → placed_in (contents_of codes v) ≡ parts.objects → Stands codes None v.clock thawed v)
         → AreSeated codes thawed.seats → parts.clock ≤ latest_clock
+        → ((clock : ℕ) (v : SourceWorld) → Stands codes None clock thawed v → IsIndexOf (timings_of v) memory.due)
         → memory.units ≡ codes → memory.clock ≡ parts.clock → memory.grid ≡ thawed → IsOf programs memory w
-    thawed-is w thawed parts bytes memory agrees image wanted stands seated timely units clock there =
+    thawed-is w thawed parts bytes memory agrees image wanted stands seated timely index units clock there =
         let is : parts ≡ parts_of_world codes w =
         image-one (world (shapes_of_file file) codes) bytes parts (parts_of_world codes w) image wanted in
         let objects : placed_in (contents_of codes w) ≡ parts.objects = ap (λ (p : WorldParts). p.objects) (sym is) in
@@ -112,6 +114,7 @@ module _ (codes : List Code) (file : WorldFile) (grid : Contents)
           stands = subst (λ (cs : List Code). Stands cs None memory.clock memory.grid w) (sym units)
               (subst (λ (g : Contents). Stands codes None memory.clock g w) (sym there)
               (subst (λ (t : ℕ). Stands codes None t thawed w) (sym time) st));
+          index = index w.clock w st;
         }
 
 -- as many objects, prims and scripts

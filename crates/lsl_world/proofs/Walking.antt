@@ -1,11 +1,13 @@
 -- What a world in memory stands for while its scripts are walked.
 use Rattle.std.proofs.Common.{◌≡◌, ℕ, ◌+◌, ◌-◌, ◌<◌, Bool, true, false, List, ◌++◌, length, ap, sym, ◌∙◌, subst, arith}
-use Rattle.std.specs.Prelude.{◌==◌, None, min}
+use Rattle.std.specs.Prelude.{◌==◌, All, None, get_or, min}
+use Rattle.lsl_post.specs.Due.{IsRipe}
+use Rattle.lsl_world.proofs.Ripe.{ripe-all, rings}
 use Rattle.lsl_tree.specs.Program.{Program}
 use Rattle.lsl_post.specs.declared.entries.Entry.{Entry}
 use Rattle.lsl_post.specs.Journal.{Part}
 use Rattle.lsl_region.proofs.Placed.{stands-length}
-use Rattle.lsl_region.specs.Posting.{ring_at}
+use Rattle.lsl_region.specs.Posting.{ring_all}
 use Rattle.lsl_region.specs.Segments.{turn}
 use Rattle.lsl_region.specs.Worlds.{World as SourceWorld}
 use Rattle.lsl_world.specs.declared.world.World.{World}
@@ -33,17 +35,21 @@ numbered world old count place e k h =
     let scripts = ap (λ (s : Size). s.scripts) e in
     (omega arith, omega (arith, scripts, k, h))
 
-module _ (programs : List Program) (new : World) (place : ℕ) (old now : List Entry) (w : SourceWorld) where
-  pub ring-on : IsOf programs new (ring_at (rules_of programs) ((place + 1) - 1) w).value
-      × (now ≡ old ++ (ring_at (rules_of programs) ((place + 1) - 1) w).entries)
-      → IsOf programs new (ring_at (rules_of programs) place w).value
-      × (now ≡ old ++ (ring_at (rules_of programs) place w).entries)
-  ring-on told = subst (λ (n : ℕ). IsOf programs new (ring_at (rules_of programs) n w).value
-      × (now ≡ old ++ (ring_at (rules_of programs) n w).entries)) (back place) told
+pub numbered-item : (world old : World) (scripts : List ℕ) (i d : ℕ) → size_of world ≡ size_of old
+    → All (HasNumber (length old.grid.seats)) scripts → i < length scripts
+    → HasNumber (length world.grid.seats) (get_or scripts i d)
+numbered-item world old scripts i d e all h =
+    let there = all i d h in
+    let count = ap (λ (s : Size). s.scripts) e in
+    (there.0, omega (arith, there.1, count))
 
-  pub ring-part : Part old now (ring_at (rules_of programs) ((place + 1) - 1) w).entries
-      → Part old now (ring_at (rules_of programs) place w).entries
-  ring-part p = subst (λ (n : ℕ). Part old now (ring_at (rules_of programs) n w).entries) (back place) p
+-- reading the timers that are due is reading all
+pub reads : (programs : List Program) (world : World) (w : SourceWorld) → IsOf programs world w → (scripts : List ℕ)
+    → IsRipe world.clock world.due scripts
+    → ring_all (rules_of programs) w ≡ rings (rules_of programs) scripts w
+reads programs world w is scripts ripe =
+    ripe-all w world.due scripts is.index
+    (subst (λ (clock : ℕ). IsRipe clock world.due scripts) (sym is.stands.time) ripe) (rules_of programs)
 
 -- a turn of at most 8 segments
 module _ (programs : List Program) (world new : World) (place left most spent : ℕ) (old now : List Entry)

@@ -6,6 +6,7 @@ pub mod Saves
 pub mod Kept
 pub mod Reports
 pub mod Sizes
+pub mod Timers
 pub mod Ranges
 pub mod Codes
 pub mod Sound

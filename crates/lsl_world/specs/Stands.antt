@@ -7,15 +7,17 @@ use Rattle.lsl_region.specs.Grids.{AreSeated, Stands}
 use Rattle.lsl_region.specs.Worlds.{World as SourceWorld}
 use Rattle.lsl_world.specs.Codes.{AreRunBy}
 use Rattle.lsl_world.specs.Sizes.{Size}
+use Rattle.lsl_world.specs.Timers.{IsIndexOf, timings_of}
 use Rattle.lsl_world.specs.declared.world.World.{World}
 
--- the world in memory is this one, whose scripts mean these programs: its units run them, its grid stands for it, and
--- its clock is in its range
+-- the world in memory is this one, whose scripts mean these programs: its units run them, its grid stands for it, its
+-- clock is in its range, and its due times are those of the scripts whose timers run
 pub record IsOf (programs : List Program) (world : World) (w : SourceWorld) : Type 0 where
   pub runs : AreRunBy programs world.units
   pub seated : AreSeated world.units world.grid.seats
   pub timely : world.clock ≤ latest_clock
   pub stands : Stands world.units None world.clock world.grid w
+  pub index : IsIndexOf (timings_of w) world.due
 
 abbrev pub prims_of : Linkset → ℕ
 prims_of object = length object.prims

@@ -23,6 +23,7 @@ ghost use Rattle.lsl_world.specs.Stands.{IsOf, size_of};
 ghost use Rattle.lsl_world.specs.Starts.{start};
 
 use crate::starting::grid_of;
+use crate::timers::index_of;
 use crate::world::World;
 use lsl_code::Library;
 use lsl_image::{ImageFault, WorldParts, read_world, write_world};
@@ -89,12 +90,14 @@ impl World {
         let mut grid = grid_of(alloc, file.objects.as_slice(), &units)?;
         let WorldParts { clock, objects } = read_parts(alloc, &grid, &units, bytes)?;
         grid.thaw(objects, &units);
+        let due = index_of(alloc, &grid)?;
         Ok(World {
             alloc,
             clock,
             grid,
             units,
             pause: Pause::off(alloc),
+            due,
         })
     }
 }

@@ -8,6 +8,7 @@ pub mod laws;
 mod rounds;
 mod starting;
 mod stepping;
+mod timers;
 mod world;
 
 pub use crate::world::World;

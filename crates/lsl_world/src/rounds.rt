@@ -15,6 +15,7 @@ ghost use Rattle.lsl_world.specs.Sound.{IsSound};
 ghost use Rattle.lsl_world.specs.Stands.{IsOf, size_of};
 ghost use Rattle.lsl_world.specs.Steps.{round, rounds};
 
+use crate::timers::note_timer;
 use crate::world::World;
 use lsl_post::Entries;
 use lsl_text::NoMemory;
@@ -23,7 +24,7 @@ use lsl_text::NoMemory;
 const MOST_IN_TURN: u32 = 8;
 
 impl World {
-    /// Reads all timers.
+    /// Reads all timers. Costs the timers that are due, and the logarithm of all that run.
     pub(crate) fn read_timers(&mut self, out: &mut Entries) -> Result<(), NoMemory>
         requires sound { IsSound self.old }
         ensures tells { (programs : List Program) (w : SourceWorld) → IsOf programs self.old w
@@ -33,8 +34,9 @@ impl World {
         ensures size { size_of self.new ≡ size_of self.old }
         ensures sound { OnOk result (IsSound self.new) }
     {
-        for place in 0..self.grid.scripts() {
-            self.read_timer(place as u32 + 1, out)?;
+        let ripe = self.due.ripe(self.alloc, self.clock)?;
+        for script in &ripe {
+            self.read_timer(*script, out)?;
         }
         Ok(())
     }
@@ -51,7 +53,8 @@ impl World {
         ensures size { size_of self.new ≡ size_of self.old }
         ensures sound { OnOk result (IsSound self.new) }
     {
-        self.grid.read_timer(script, self.clock, &self.units, out)
+        self.grid.read_timer(script, self.clock, &self.units, out)?;
+        note_timer(&self.grid, script, &mut self.due)
     }
 
     /// Rounds, until one finds no script ready or so many segments have run. Costs the segments, and in each round a
@@ -127,6 +130,8 @@ impl World {
         if !self.grid.ready(script, self.clock) {
             return Ok(0);
         }
-        self.grid.turn(script, most, self.clock, &mut self.pause, &self.units, out)
+        let spent = self.grid.turn(script, most, self.clock, &mut self.pause, &self.units, out)?;
+        note_timer(&self.grid, script, &mut self.due)?;
+        Ok(spent)
     }
 }

@@ -18,6 +18,7 @@ ghost use Rattle.lsl_world.specs.Stands.{IsOf, size_of};
 ghost use Rattle.lsl_world.specs.Steps.{next};
 ghost use Rattle.lsl_world.specs.Travels.{Does};
 
+use crate::timers::note_timers;
 use crate::world::World;
 use lsl_lines::{Gaps, Step};
 use lsl_ports::Link;
@@ -133,7 +134,7 @@ impl World {
         self.grid.post(object, EventId::OnRez, n, &self.units, out)
     }
 
-    // The clock goes on, if it is to, and all timers are read.
+    // The clock goes on, if it is to, and the timers that are due are read.
     fn read_clock(&mut self, time: u64, out: &mut Entries) -> Result<(), NoMemory>
         requires sound { IsSound self.old }
         requires time { time ≤ latest_clock }
@@ -203,6 +204,6 @@ impl World {
         ensures counted { L.faults link.old ≤ L.faults link.new }
     {
         self.grid.cross(object, region, &self.units, link, out)?;
-        Ok(())
+        note_timers(&self.grid, &mut self.due)
     }
 }

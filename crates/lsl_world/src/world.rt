@@ -18,16 +18,17 @@ ghost use Rattle.lsl_world.specs.Starts.{start};
 ghost use Rattle.lsl_world.specs.Travels.{Does};
 
 use crate::starting::grid_of;
+use crate::timers::index_of;
 use lsl_code::Library;
 use lsl_lines::{Step, WorldFile};
 use lsl_ports::Link;
-use lsl_post::Entries;
+use lsl_post::{Due, Entries};
 use lsl_region::{Grid, Pause};
 use lsl_text::NoMemory;
 use std::alloc::Global;
 
-/// The reading of the clock, the objects of a world file, the units of its scripts' files, and at which segments scripts
-/// are saved and restored.
+/// The reading of the clock, the objects of a world file, the units of its scripts' files, at which segments scripts are
+/// saved and restored, and when the timers that run are due.
 #[derive(Drop)]
 pub struct World {
     pub(crate) alloc: Global,
@@ -35,6 +36,7 @@ pub struct World {
     pub(crate) grid: Grid,
     pub(crate) units: Library,
     pub(crate) pause: Pause,
+    pub(crate) due: Due,
 }
 
 impl World {
@@ -51,12 +53,14 @@ impl World {
         ensures units { IfOk result (λ world. world.units ≡ units) }
     {
         let grid = grid_of(alloc, file.objects.as_slice(), &units)?;
+        let due = index_of(alloc, &grid)?;
         Ok(World {
             alloc,
             clock: 0,
             grid,
             units,
             pause: Pause::off(alloc),
+            due,
         })
     }
 

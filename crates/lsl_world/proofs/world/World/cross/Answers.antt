@@ -1,7 +1,14 @@
 use Rattle.std.proofs.lemmas.Result.{err_from_is_err_and}
-use Rattle.lsl_world.proofs.Going.{crossed-err, crossed-ok, size-as}
+use Rattle.lsl_world.proofs.Going.{crossed-err, crossed-ok, numbered-as, size-as}
+use Rattle.lsl_world.proofs.Kept.{on-ok}
 use Rattle.lsl_world.proofs.Meanings.{meant}
 use Rattle.lsl_world.proofs.world.World.cross.Goals as goal
+
+pub note_timers-requires : goal.note_timers-requires
+note_timers-requires g c = record {
+  numbered = numbered-as c.args.self.now c.cross.new.self c.args.self.now.due c.cross.ensures.scripts
+      c.requires.sound.numbered;
+}
 
 pub returns-clause-goes : goal.returns-clause-goes
 returns-clause-goes g c =
@@ -9,17 +16,23 @@ returns-clause-goes g c =
     let k = c.in_ok-cross.ensures.crosses in (
       k.0,
       k.1,
-      λ programs w is. crossed-ok programs world w is c.cross.new.self c.args.out.now c.cross.new.out k.0
-          c.args.object c.args.region.now _ _ (k.3 (meant programs world.units is.runs) world.clock w is.stands)
-          c.in_ok-cross.ensures.seated,
+      λ programs w is. crossed-ok programs world w is c.cross.new.self c.note_timers.new.due c.args.out.now
+          c.cross.new.out k.0 c.args.object c.args.region.now _ c.note_timers.result
+          (k.3 (meant programs world.units is.runs) world.clock w is.stands) c.in_ok-cross.ensures.seated
+          c.note_timers.ensures.exact,
     )
 
 pub returns-clause-size : goal.returns-clause-size
-returns-clause-size g c = size-as c.args.self.now c.cross.new.self c.cross.ensures.objects c.cross.ensures.scripts
+returns-clause-size g c =
+    size-as c.args.self.now c.cross.new.self c.note_timers.new.due c.cross.ensures.objects c.cross.ensures.scripts
 
 pub returns-clause-sound : goal.returns-clause-sound
 returns-clause-sound g c =
-    record { seated = c.in_ok-cross.ensures.seated; timely = c.requires.sound.timely }
+    on-ok c.note_timers.result (record {
+      seated = c.in_ok-cross.ensures.seated;
+      timely = c.requires.sound.timely;
+      numbered = c.note_timers.ensures.numbered;
+    })
 
 pub returns-in_err-cross-clause-goes : goal.returns-in_err-cross-clause-goes
 returns-in_err-cross-clause-goes g c =
@@ -28,11 +41,11 @@ returns-in_err-cross-clause-goes g c =
     let k = c.in_err-cross.ensures.crosses in (
       k.0,
       k.1,
-      λ programs w is. crossed-err programs world w is c.cross.new.self c.args.out.now c.cross.new.out k.0
+      λ programs w is. crossed-err programs world w is c.cross.new.self world.due c.args.out.now c.cross.new.out k.0
           c.args.object c.args.region.now _ p.0 c.from_residual.result p.1
           (k.3 (meant programs world.units is.runs) world.clock w is.stands),
     )
 
 pub returns-in_err-cross-clause-size : goal.returns-in_err-cross-clause-size
 returns-in_err-cross-clause-size g c =
-    size-as c.args.self.now c.cross.new.self c.cross.ensures.objects c.cross.ensures.scripts
+    size-as c.args.self.now c.cross.new.self c.args.self.now.due c.cross.ensures.objects c.cross.ensures.scripts

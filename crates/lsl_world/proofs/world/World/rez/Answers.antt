@@ -7,13 +7,15 @@ use Rattle.lsl_region.specs.Grids.{Stands}
 use Rattle.lsl_world.specs.Programs.{rules_of}
 use Rattle.lsl_world.proofs.Kept.{changed, size-kept, sound-kept}
 use Rattle.lsl_world.proofs.Meanings.{meant}
+use Rattle.lsl_world.proofs.Timings.{post-timings}
 use Rattle.lsl_world.proofs.world.World.rez.Goals as goal
 
 pub returns-clause-tells : goal.returns-clause-tells
 returns-clause-tells c = λ programs w is.
     let world = c.args.self.now in
     changed programs world w is c.post.new.self c.args.out.now c.post.new.out c.post.result
-    (post_object (rules_of programs) (c.args.object - 1) (rez_event c.args.n) w) c.post.ensures.seated
+    (post_object (rules_of programs) (c.args.object - 1) (rez_event c.args.n) w)
+    (post-timings (rules_of programs) _ _ w) c.post.ensures.seated
     (subst (λ (n : ℤ). Tells c.post.result (λ v _. Stands world.units None world.clock c.post.new.self v)
     c.args.out.now c.post.new.out (post_object (rules_of programs) (c.args.object - 1) (rez_event n) w))
     (to_z-of_z c.ranges.n)
@@ -24,4 +26,5 @@ returns-clause-size c = size-kept c.args.self.now c.post.new.self c.post.ensures
 
 pub returns-clause-sound : goal.returns-clause-sound
 returns-clause-sound c =
-    sound-kept c.args.self.now c.post.new.self c.post.result c.requires.sound c.post.ensures.seated
+    sound-kept c.args.self.now c.post.new.self c.post.result c.requires.sound c.post.ensures.outline
+    c.post.ensures.seated

@@ -11,14 +11,16 @@ pub returns-clause-of : goal.returns-clause-of
 returns-clause-of c = λ programs runs.
     let codes = c.args.units in
     let file = c.args.file.now in
+    let begins = starts codes (meant programs codes runs) file c.in_ok-grid.grid
+    (subst (λ (n : ℕ). All (IsObjectOf n) file.objects) (sym c.requires.units) c.requires.file.objects_fit)
+    (c.in_ok-grid.ensures.objects ∙ ap (map object_of_line) c.as_slice.ensures)
+    (c.in_ok-grid.ensures.seats ∙ ap (seats_of_objects codes 0) c.as_slice.ensures) in
     record {
       runs = runs;
       seated = c.in_ok-grid.ensures.seated;
       timely = omega arith;
-      stands = starts codes (meant programs codes runs) file c.in_ok-grid.grid
-          (subst (λ (n : ℕ). All (IsObjectOf n) file.objects) (sym c.requires.units) c.requires.file.objects_fit)
-          (c.in_ok-grid.ensures.objects ∙ ap (map object_of_line) c.as_slice.ensures)
-          (c.in_ok-grid.ensures.seats ∙ ap (seats_of_objects codes 0) c.as_slice.ensures);
+      stands = begins;
+      index = c.in_ok-due.ensures.exact codes 0 _ begins;
     }
 
 pub returns-clause-size : goal.returns-clause-size
@@ -29,4 +31,8 @@ returns-clause-size c =
     (c.in_ok-grid.ensures.seats ∙ ap (seats_of_objects codes 0) c.as_slice.ensures)
 
 pub returns-clause-sound : goal.returns-clause-sound
-returns-clause-sound c = record { seated = c.in_ok-grid.ensures.seated; timely = omega arith }
+returns-clause-sound c = record {
+  seated = c.in_ok-grid.ensures.seated;
+  timely = omega arith;
+  numbered = c.in_ok-due.ensures.numbered;
+}

@@ -1,4 +1,4 @@
-use Rattle.std.proofs.Common.{◌≡◌, ◌≤◌, ◌∙◌, ℕ, List, ap, arith, length, refl, subst, sym}
+use Rattle.std.proofs.Common.{◌≤◌, ◌∙◌, ℕ, List, ap, arith, length, refl, subst, sym}
 use Rattle.std.specs.Prelude.{All, map}
 use Rattle.std.proofs.lemmas.Result.{err_from_is_err_and}
 use Rattle.lsl_image.specs.declared.parts.Placed.{Placed}
@@ -118,7 +118,7 @@ returns-clause-of c = λ programs w runs agrees wanted.
     (keys-known (length file.files) file.objects c.requires.file.objects_fit) image in
     let timely : parts.clock ≤ latest_clock = omega (arith, valid.clock) in
     thawed-is codes file c.in_ok-grid.grid objects seats all programs runs w c.thaw.new.self parts c.args.bytes.now _
-    agrees image wanted c.thaw.ensures.stands c.thaw.ensures.seated timely refl refl refl
+    agrees image wanted c.thaw.ensures.stands c.thaw.ensures.seated timely (λ clock v stands. c.in_ok-due.ensures.exact codes clock v stands) refl refl refl
 
 pub returns-clause-fixed : goal.returns-clause-fixed
 returns-clause-fixed c = λ programs runs.
@@ -148,4 +148,8 @@ returns-clause-sound c =
     subst (λ (s : List Shape). WorldImage s c.args.units parts c.args.bytes.now) known c.in_ok-clock.ensures.found in
     let valid = image-valid (shapes_of_file file) c.args.units parts c.args.bytes.now
     (keys-known (length file.files) file.objects c.requires.file.objects_fit) image in
-    record { seated = c.thaw.ensures.seated; timely = omega (arith, valid.clock) }
+    record {
+      seated = c.thaw.ensures.seated;
+      timely = omega (arith, valid.clock);
+      numbered = c.in_ok-due.ensures.numbered;
+    }

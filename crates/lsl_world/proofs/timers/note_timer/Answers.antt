@@ -1,0 +1,12 @@
+use Rattle.lsl_world.proofs.Indexing.{numbered-after, puts-due}
+use Rattle.lsl_world.proofs.timers.note_timer.Goals as goal
+
+pub returns-clause-puts : goal.returns-clause-puts
+returns-clause-puts c =
+    puts-due c.args.grid.now c.args.script c.due.result c.args.due.now c.put.new.self c.requires.script c.put.result
+    (λ codes clock w m st at. c.due.ensures.source codes clock w m st at) c.put.ensures.ok
+
+pub returns-clause-numbered : goal.returns-clause-numbered
+returns-clause-numbered c =
+    numbered-after c.args.grid.now c.args.script c.due.result c.args.due.now c.put.new.self c.requires.script
+    c.put.result c.requires.numbered c.put.ensures.ok c.put.ensures.unchanged

@@ -1,0 +1,27 @@
+-- When the scripts of a world are due, and the index of these times.
+use Rattle.std.specs.Prelude.{◌≡◌, ℕ, ◌↔◌, List, map, Option, Some, None, Contains, get_or}
+use Rattle.std.proofs.Common.{zero, suc}
+use Rattle.lsl_post.specs.Timing.{Timing, stopped}
+use Rattle.lsl_region.specs.Timers.{next_due}
+use Rattle.lsl_region.specs.Worlds.{Member, World}
+use Rattle.lsl_world.specs.Sizes.{HasNumber}
+
+-- the timers of the scripts, in the order of their numbers
+abbrev pub timing_in : Member → Timing
+timing_in m = m.script.mailbox.timing
+
+abbrev pub timings_of : World → List Timing
+timings_of w = map timing_in w.members
+
+-- when the script of this number is next due: never where its timer doesn't run, or there is no such script
+abbrev pub due_of : List Timing → ℕ → Option ℕ
+due_of timings zero = None
+due_of timings (suc place) = next_due (get_or timings place stopped)
+
+-- the entries are exactly the scripts whose timers run, with their due times
+pub record IsIndexOf (timings : List Timing) (entries : List (ℕ × ℕ)) : Type 0 where
+  pub exact : (at number : ℕ) → Contains entries (at, number) ↔ (due_of timings number ≡ Some at)
+
+-- each is of one of so many scripts
+abbrev pub AreNumbered : ℕ → List (ℕ × ℕ) → Type 0
+AreNumbered count entries = (at number : ℕ) → Contains entries (at, number) → HasNumber count number

@@ -1,0 +1,49 @@
+//! The index of due times, kept in step with the scripts' timers.
+
+ghost use Rattle.std.specs.Prelude.{◌≡◌, ℕ, List, None, length, IfOk, OnOk};
+ghost use Rattle.lsl_code.specs.declared.woven_units.Woven.{Woven as Code};
+ghost use Rattle.lsl_post.specs.Due.{Puts};
+ghost use Rattle.lsl_region.specs.Grids.{Stands};
+ghost use Rattle.lsl_region.specs.Worlds.{World as SourceWorld};
+ghost use Rattle.lsl_world.specs.Sizes.{HasNumber};
+ghost use Rattle.lsl_world.specs.Timers.{AreNumbered, IsIndexOf, due_of, timings_of};
+
+use lsl_post::Due;
+use lsl_region::Grid;
+use lsl_text::NoMemory;
+use std::alloc::Global;
+
+/// When the scripts of this grid are due.
+pub(crate) fn index_of(alloc: Global, grid: &Grid) -> Result<Due, NoMemory>
+    ensures exact { IfOk result (λ due. (codes : List Code) (clock : ℕ) (w : SourceWorld)
+        → Stands codes None clock grid.now w → IsIndexOf (timings_of w) due) }
+    ensures numbered { IfOk result (AreNumbered (length grid.now.seats)) }
+{
+    let mut due = Due::new(alloc);
+    note_timers(grid, &mut due)?;
+    Ok(due)
+}
+
+/// The entries of all scripts become what their timers say. Walks the scripts.
+pub(crate) fn note_timers(grid: &Grid, due: &mut Due) -> Result<(), NoMemory>
+    requires numbered { AreNumbered (length grid.now.seats) due.old }
+    ensures exact { OnOk result ((codes : List Code) (clock : ℕ) (w : SourceWorld)
+        → Stands codes None clock grid.now w → IsIndexOf (timings_of w) due.new) }
+    ensures numbered { AreNumbered (length grid.now.seats) due.new }
+{
+    for place in 0..grid.scripts() {
+        note_timer(grid, place as u32 + 1, due)?;
+    }
+    Ok(())
+}
+
+/// The entry of the script of this number becomes what its timer says.
+pub(crate) fn note_timer(grid: &Grid, script: u32, due: &mut Due) -> Result<(), NoMemory>
+    requires script { HasNumber (length grid.now.seats) script }
+    requires numbered { AreNumbered (length grid.now.seats) due.old }
+    ensures puts { OnOk result ((codes : List Code) (clock : ℕ) (w : SourceWorld)
+        → Stands codes None clock grid.now w → Puts script (due_of (timings_of w) script) due.old due.new) }
+    ensures numbered { AreNumbered (length grid.now.seats) due.new }
+{
+    due.put(script, grid.due(script))
+}
