@@ -7,7 +7,7 @@ use Rattle.lsl_build.specs.declared.faults.BuildFault.{BuildFault}
 use Rattle.lsl_top.specs.Meant.{refused_at}
 use Rattle.lsl_top.specs.declared.building.Refused.{Refused}
 
-err-one : {T E : Type 0} (a b : E) → IsErrOf {T = T} (Err a) b → a ≡ b
+pub err-one : {T E : Type 0} (a b : E) → IsErrOf {T = T} (Err a) b → a ≡ b
 err-one {T = T} {E = E} a b e = ap value e
   where
     value : Result T E → E

@@ -9,7 +9,10 @@ use Rattle.lsl_build.specs.Accepted.{Accepted}
 use Rattle.lsl_build.specs.Codes.{AreCodesOf}
 use Rattle.lsl_build.specs.Faults.{FirstFault}
 use Rattle.lsl_build.specs.declared.faults.BuildFault.{BuildFault}
-use Rattle.lsl_top.specs.Answers.{Answer, Checks, PlaysTexts}
+use Rattle.lsl_code.specs.declared.woven_units.Woven.{Woven as Code}
+use Rattle.lsl_region.specs.Worlds.{World}
+use Rattle.lsl_top.specs.Answers.{Answer, Checks, Grade, PlaysTexts}
+use Rattle.lsl_top.specs.Froms.{IsFromTexts}
 use Rattle.lsl_top.specs.Held.{AreHeld, Holds}
 use Rattle.lsl_top.specs.Plays.{Play}
 use Rattle.lsl_top.specs.Ports.{IsRead}
@@ -114,18 +117,24 @@ checks-read name bytes text answer of (inl (program, accepted, e)) =
     inl (program, subst (λ (z : List ℕ). Accepted z program) (of.accepted program accepted) accepted, e)
 checks-read name bytes text answer of (inr (fault, first, e)) = inr (fault, of.first fault first, e)
 
-pub plays-read : (trips : List Trip) (play : Play) (read texts : List (List ℕ)) (answer : Answer) → AllZip IsReadOf read texts
-    → PlaysTexts trips play read answer → PlaysTexts trips play texts answer
-plays-read trips play read texts answer h (inl (programs, codes, accepted, has, e)) =
-    let same = accepted-same read texts programs h accepted in
+-- the code of texts that are accepted, and those texts
+codes-read : (read texts : List (List ℕ)) (programs : List Program) (codes : List Code) → AllZip IsReadOf read texts
+    → AreAccepted read programs → AreCodesOf read codes → AreCodesOf texts codes
+codes-read read texts programs codes h a has =
+    subst (λ (z : List (List ℕ)). AreCodesOf z codes) (accepted-same read texts programs h a) has
+
+pub plays-read : (grade : Grade) (from : World) (trips : List Trip) (play : Play) (read texts : List (List ℕ))
+    (text : List ℕ) (answer : Answer) → AllZip IsReadOf read texts → PlaysTexts grade from trips play read text answer
+    → PlaysTexts grade from trips play texts text answer
+plays-read grade from trips play read texts text answer h (inl (programs, codes, accepted, has, e)) =
     inl (
       programs,
       codes,
-      subst (λ (z : List (List ℕ)). AreAccepted z programs) same accepted,
-      subst (λ (z : List (List ℕ)). AreCodesOf z codes) same has,
+      accepted-read read texts programs h accepted,
+      codes-read read texts programs codes h accepted has,
       e,
     )
-plays-read trips play read texts answer h (inr (name, fault, first, e)) =
+plays-read grade from trips play read texts text answer h (inr (name, fault, first, e)) =
     inr (
       name,
       fault,
@@ -136,3 +145,10 @@ plays-read trips play read texts answer h (inr (name, fault, first, e)) =
       },
       e,
     )
+
+-- a world that fits the texts fits what was read of them
+pub from-read : (play : Play) (read texts : List (List ℕ)) (text : List ℕ) (from : World) → AllZip IsReadOf read texts
+    → IsFromTexts play texts text from → IsFromTexts play read text from
+from-read play read texts text from h fits programs codes accepted has =
+    fits programs codes (accepted-read read texts programs h accepted)
+    (codes-read read texts programs codes h accepted has)

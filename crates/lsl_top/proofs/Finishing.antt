@@ -1,5 +1,5 @@
 -- What is written for an answer, and how the command then ends.
-use Rattle.std.proofs.Common.{◌≡◌, ◌≢◌, ℕ, ◌≤◌, List, [], ◌∷◌, Option, Result, Ok as OkResult, Err, inl, inr, refl, sym, ◌∙◌, subst, arith}
+use Rattle.std.proofs.Common.{◌≡◌, ◌≢◌, ℕ, List, [], Option, Result, Ok as OkResult, Err, inl, inr, refl, ◌∙◌, subst, arith}
 use Rattle.lsl_ports.specs.Counts.{NoneFell, Rose}
 use Rattle.lsl_ports.specs.Shelf.{Files}
 use Rattle.lsl_ports.specs.Growth.{Grew, GrewPartly}
@@ -8,7 +8,8 @@ use Rattle.lsl_ports.proofs.Growth.{begins-none}
 use Rattle.lsl_ports.specs.declared.reading.ShelfFault.{ShelfFault}
 use Rattle.lsl_ports.specs.declared.reading.ShelfFault.TheVariants.{Failed, NoMemory as OutOfMemory}
 use Rattle.lsl_tree.specs.Program.{Program}
-use Rattle.lsl_top.specs.Answers.{Answer, plain}
+use Rattle.lsl_region.specs.Worlds.{World}
+use Rattle.lsl_top.specs.Answers.{Answer, Grade, Due, Written, plain}
 use Rattle.lsl_top.specs.Goes.{Performs}
 use Rattle.lsl_top.specs.Pieces.{Piece}
 use Rattle.lsl_top.specs.Ports.{Concludes, Finishes, IsOwn, Log, Ports, Serves, Wire, Writes, status_after, unread_status}
@@ -22,16 +23,16 @@ use Rattle.lsl_top.proofs.Pieces.{begun-one, whole-one}
 use Rattle.lsl_top.proofs.Trips.{went-none}
 
 -- what keeps to some answers keeps to answers that these are
-keeps-as : (IsOne IsOther : Answer → Type 0) (status : Status) (trips : List Trip) (old new : Option (List ℕ))
-    → ((answer : Answer) → IsOne answer → IsOther answer) → KeepsTo IsOne status trips old new
-    → KeepsTo IsOther status trips old new
-keeps-as IsOne IsOther Ok trips old new f k = (k.0, f k.0 k.1, k.2, k.3)
-keeps-as IsOne IsOther BadWorld trips old new f k = (k.0, f k.0 k.1, k.2, k.3)
-keeps-as IsOne IsOther BadScript trips old new f k = (k.0, f k.0 k.1, k.2, k.3)
-keeps-as IsOne IsOther BadImage trips old new f k = (k.0, f k.0 k.1, k.2, k.3)
-keeps-as IsOne IsOther WriteFault trips old new f k = (k.0, f k.0 k.1, k.2)
+keeps-as : (IsOne IsOther : Grade → Answer → Type 0) (status : Status) (trips : List Trip) (old new : Option (List ℕ))
+    → ((grade : Grade) (answer : Answer) → IsOne grade answer → IsOther grade answer)
+    → KeepsTo IsOne status trips old new → KeepsTo IsOther status trips old new
+keeps-as IsOne IsOther Ok trips old new f k = (k.0, f Written k.0 k.1, k.2, k.3)
+keeps-as IsOne IsOther BadWorld trips old new f k = (k.0, f Written k.0 k.1, k.2, k.3)
+keeps-as IsOne IsOther BadScript trips old new f k = (k.0, f Written k.0 k.1, k.2, k.3)
+keeps-as IsOne IsOther BadImage trips old new f k = (k.0, f Written k.0 k.1, k.2, k.3)
+keeps-as IsOne IsOther WriteFault trips old new f k = (k.0, f Due k.0 k.1, k.2)
 keeps-as IsOne IsOther NoMemory trips old new f (inl e) = inl e
-keeps-as IsOne IsOther NoMemory trips old new f (inr k) = inr (k.0, f k.0 k.1, k.2)
+keeps-as IsOne IsOther NoMemory trips old new f (inr k) = inr (k.0, f Due k.0 k.1, k.2)
 keeps-as IsOne IsOther Usage trips old new f k = k
 keeps-as IsOne IsOther ReadFault trips old new f k = k
 
@@ -48,7 +49,7 @@ plain-begun status lines old new part =
 
 own-keeps : (IsAnswer : Answer → Type 0) (answer : Answer) (trips : List Trip) (old new : Option (List ℕ))
     (status : Status) → IsOwn status → answer.status ≡ status → IsAnswer answer
-    → IsWhole answer.pieces trips old new → KeepsTo IsAnswer status trips old new
+    → IsWhole answer.pieces trips old new → KeepsTo (λ grade. IsAnswer) status trips old new
 own-keeps IsAnswer answer trips old new Ok own e is whole = (answer, is, e, whole)
 own-keeps IsAnswer answer trips old new BadWorld own e is whole = (answer, is, e, whole)
 own-keeps IsAnswer answer trips old new BadScript own e is whole = (answer, is, e, whole)
@@ -109,16 +110,18 @@ finish-memory IsAnswer a = record {
 }
 
 -- the same of what doesn't look at trips, and where the link wasn't called
-pub concludes-finished : (gives : List ℕ → Option (List ℕ) → Type 0) (IsOne : Answer → Type 0)
-    (IsAnswer : List Trip → Answer → Type 0) (a b : Log) (p : Wire) (status : Status)
-    → ((trips : List Trip) (answer : Answer) → IsOne answer → IsAnswer trips answer) → Finishes IsOne a b status
-    → Concludes gives IsAnswer a b p p status
-concludes-finished gives IsOne IsAnswer a b p status f h = record {
+pub concludes-finished : (gives : List ℕ → Option (List ℕ) → Type 0) (IsOne : Answer → Type 0) (Fits : World → Type 0)
+    (IsAnswer : Grade → World → List Trip → Answer → Type 0) (a b : Log) (p : Wire) (status : Status)
+    → ((grade : Grade) (from : World) (trips : List Trip) (answer : Answer) → IsOne answer
+    → IsAnswer grade from trips answer)
+    → Finishes IsOne a b status → Concludes gives Fits IsAnswer a b p p status
+concludes-finished gives IsOne Fits IsAnswer a b p status f h = record {
   trips = [];
   went = went-none gives p.told;
   silent = λ e. refl;
-  keeps = λ honest. keeps-as IsOne (IsAnswer []) status [] a.sunk b.sunk (f []) h.keeps;
-  answers = λ trips own. let (answer, is, e) = h.answers own in (answer, f trips answer is, e);
+  keeps = λ from fits honest. keeps-as (λ grade. IsOne) (λ grade. IsAnswer grade from []) status [] a.sunk b.sunk
+      (λ grade. f grade from []) h.keeps;
+  answers = λ from trips own. let (answer, is, e) = h.answers own in (answer, f Due from trips answer is, e);
   counted = h.counted;
   links_counted = omega arith;
   cause = h.cause;
@@ -126,72 +129,72 @@ concludes-finished gives IsOne IsAnswer a b p status f h = record {
   no_usage = h.no_usage;
 }
 
--- a run was written and sent, or begun
-pub concludes-performed : {T : Type 0} (gives : List ℕ → Option (List ℕ) → Type 0)
-    (IsAnswer : List Trip → Answer → Type 0) (IsRun : List Program → Type 0)
-    (pieces : List Program → List Trip → List Piece) (programs : List Program) (a b : Log) (p q : Wire)
-    (r : Result T Trouble) → IsRun programs
-    → ((trips : List Trip) → IsAnswer trips (record { status = Ok; pieces = pieces programs trips }))
-    → Performs gives IsRun pieces a b p q r → Concludes gives IsAnswer a b p q (status_after r Ok)
-concludes-performed gives IsAnswer IsRun pieces programs a b p q (OkResult t) run is h = record {
-  trips = h.trips;
-  went = h.went;
-  silent = λ e. absurd e;
-  keeps = λ honest. (
-    record { status = Ok; pieces = pieces programs h.trips },
-    is h.trips,
-    refl,
-    h.runs programs run honest,
-  );
-  answers = λ trips own. (record { status = Ok; pieces = pieces programs trips }, is trips, refl);
-  counted = h.counted;
-  links_counted = h.links_counted;
-  cause = λ f. absurd (cc);
-  no_read = λ f. cc;
-  no_usage = λ f. cc;
-}
-concludes-performed gives IsAnswer IsRun pieces programs a b p q (Err WriteTrouble) run is h = record {
-  trips = h.trips;
-  went = h.went;
-  silent = λ e. absurd e;
-  keeps = λ honest. (
-    record { status = Ok; pieces = pieces programs h.trips },
-    is h.trips,
-    h.runs programs run honest,
-  );
-  answers = λ trips own. absurd own;
-  counted = h.counted;
-  links_counted = h.links_counted;
-  cause = λ f. h.cause refl;
-  no_read = λ f. cc;
-  no_usage = λ f. cc;
-}
-concludes-performed gives IsAnswer IsRun pieces programs a b p q (Err MemoryTrouble) run is h = record {
-  trips = h.trips;
-  went = h.went;
-  silent = λ e. absurd e;
-  keeps = λ honest. inr (
-    record { status = Ok; pieces = pieces programs h.trips },
-    is h.trips,
-    h.runs programs run honest,
-  );
-  answers = λ trips own. absurd own;
-  counted = h.counted;
-  links_counted = h.links_counted;
-  cause = λ f. absurd (cc);
-  no_read = λ f. cc;
-  no_usage = λ f. cc;
-}
+-- a run of these programs, from the world that was frozen or from another
+module _ (gives : List ℕ → Option (List ℕ) → Type 0) (Fits : World → Type 0)
+    (IsAnswer : Grade → World → List Trip → Answer → Type 0) (IsThen : List Program → World → Type 0)
+    (Then : List Program → World → List Trip → Type 0) (pieces : List Program → World → List Trip → List Piece)
+    (programs : List Program) (whence : World → World)
+    (there : (from : World) → Fits from → IsThen programs (whence from)) where
+  abbrev run_of : World → List Trip → Answer
+  run_of from trips = record { status = Ok; pieces = pieces programs (whence from) trips }
+
+  -- it was written and sent, or begun
+  pub concludes-performed : {T : Type 0} (a b : Log) (p q : Wire) (r : Result T Trouble)
+      → ((from : World) (trips : List Trip) → IsAnswer Due from trips (run_of from trips))
+      → ((from : World) (trips : List Trip) → Then programs (whence from) trips
+      → IsAnswer Written from trips (run_of from trips))
+      → Performs gives IsThen Then pieces a b p q r → Concludes gives Fits IsAnswer a b p q (status_after r Ok)
+  concludes-performed a b p q (OkResult t) due written h = record {
+    trips = h.trips;
+    went = h.went;
+    silent = λ e. absurd e;
+    keeps = λ from fits honest.
+        let (whole, last) = h.runs programs (whence from) (there from fits) honest in
+        (run_of from h.trips, written from h.trips last, refl, whole);
+    answers = λ from trips own. (run_of from trips, due from trips, refl);
+    counted = h.counted;
+    links_counted = h.links_counted;
+    cause = λ f. absurd (cc);
+    no_read = λ f. cc;
+    no_usage = λ f. cc;
+  }
+  concludes-performed a b p q (Err WriteTrouble) due written h = record {
+    trips = h.trips;
+    went = h.went;
+    silent = λ e. absurd e;
+    keeps = λ from fits honest.
+        (run_of from h.trips, due from h.trips, h.runs programs (whence from) (there from fits) honest);
+    answers = λ from trips own. absurd own;
+    counted = h.counted;
+    links_counted = h.links_counted;
+    cause = λ f. h.cause refl;
+    no_read = λ f. cc;
+    no_usage = λ f. cc;
+  }
+  concludes-performed a b p q (Err MemoryTrouble) due written h = record {
+    trips = h.trips;
+    went = h.went;
+    silent = λ e. absurd e;
+    keeps = λ from fits honest.
+        inr (run_of from h.trips, due from h.trips, h.runs programs (whence from) (there from fits) honest);
+    answers = λ from trips own. absurd own;
+    counted = h.counted;
+    links_counted = h.links_counted;
+    cause = λ f. absurd (cc);
+    no_read = λ f. cc;
+    no_usage = λ f. cc;
+  }
 
 -- there was no memory before anything was written or sent
-pub concludes-memory : (gives : List ℕ → Option (List ℕ) → Type 0) (IsAnswer : List Trip → Answer → Type 0) (a : Log)
-    (p : Wire) → Concludes gives IsAnswer a a p p NoMemory
-concludes-memory gives IsAnswer a p = record {
+pub concludes-memory : (gives : List ℕ → Option (List ℕ) → Type 0) (Fits : World → Type 0)
+    (IsAnswer : Grade → World → List Trip → Answer → Type 0) (a : Log) (p : Wire)
+    → Concludes gives Fits IsAnswer a a p p NoMemory
+concludes-memory gives Fits IsAnswer a p = record {
   trips = [];
   went = went-none gives p.told;
   silent = λ e. refl;
-  keeps = λ honest. inl (refl, refl);
-  answers = λ trips own. absurd own;
+  keeps = λ from fits honest. inl (refl, refl);
+  answers = λ from trips own. absurd own;
   counted = omega arith;
   links_counted = omega arith;
   cause = λ f. absurd (cc);
@@ -199,22 +202,48 @@ concludes-memory gives IsAnswer a p = record {
   no_usage = λ f. cc;
 }
 
-module _ (gives : List ℕ → Option (List ℕ) → Type 0) (IsAnswer : List Trip → Answer → Type 0)
-    (IsName : List ℕ → Type 0) (held later : Option Files) (faults counted : List ℕ → ℕ) (same : later ≡ held)
-    (fell : NoneFell faults counted) where
+-- what fits one play and comes of it fits another, and comes of that
+pub concludes-as : (gives : List ℕ → Option (List ℕ) → Type 0) (OneFits Fits : World → Type 0)
+    (IsOne IsAnswer : Grade → World → List Trip → Answer → Type 0) (a b : Log) (p q : Wire) (status : Status)
+    → ((from : World) → Fits from → OneFits from)
+    → ((grade : Grade) (from : World) (trips : List Trip) (answer : Answer) → IsOne grade from trips answer
+    → IsAnswer grade from trips answer)
+    → Concludes gives OneFits IsOne a b p q status → Concludes gives Fits IsAnswer a b p q status
+concludes-as gives OneFits Fits IsOne IsAnswer a b p q status fit f h = record {
+  trips = h.trips;
+  went = h.went;
+  silent = h.silent;
+  keeps = λ from fits honest.
+      keeps-as (λ grade. IsOne grade from h.trips) (λ grade. IsAnswer grade from h.trips) status h.trips a.sunk b.sunk
+      (λ grade. f grade from h.trips) (h.keeps from (fit from fits) honest);
+  answers = λ from trips own. let (answer, is, e) = h.answers from trips own in (answer, f Due from trips answer is, e);
+  counted = h.counted;
+  links_counted = h.links_counted;
+  cause = h.cause;
+  no_read = h.no_read;
+  no_usage = h.no_usage;
+}
+
+module _ (gives : List ℕ → Option (List ℕ) → Type 0) (Fits : World → Type 0)
+    (IsAnswer : Grade → World → List Trip → Answer → Type 0) (IsName : List ℕ → Type 0) (held later : Option Files)
+    (faults counted : List ℕ → ℕ) (same : later ≡ held) (fell : NoneFell faults counted) where
   -- the files were read, and then an answer was written and sent
-  pub serve-concluded : (IsOne : List Trip → Answer → Type 0) (a b : Log) (p q : Wire) (status : Status)
-      → ((trips : List Trip) (answer : Answer) → IsOne trips answer → IsAnswer trips answer)
-      → Concludes gives IsOne a b p q status
-      → Serves gives IsAnswer IsName (record { held = held; read_faults = faults; log = a; wire = p })
+  pub serve-concluded : (OneFits : World → Type 0) (IsOne : Grade → World → List Trip → Answer → Type 0) (a b : Log)
+      (p q : Wire) (status : Status) → ((from : World) → Fits from → OneFits from)
+      → ((grade : Grade) (from : World) (trips : List Trip) (answer : Answer) → IsOne grade from trips answer
+      → IsAnswer grade from trips answer)
+      → Concludes gives OneFits IsOne a b p q status
+      → Serves gives Fits IsAnswer IsName (record { held = held; read_faults = faults; log = a; wire = p })
       (record { held = later; read_faults = counted; log = b; wire = q }) status
-  serve-concluded IsOne a b p q status f h = record {
+  serve-concluded OneFits IsOne a b p q status fit f h = record {
     trips = h.trips;
     went = h.went;
     silent = h.silent;
-    keeps = λ honest.
-        keeps-as (IsOne h.trips) (IsAnswer h.trips) status h.trips a.sunk b.sunk (f h.trips) (h.keeps honest);
-    answers = λ trips own. let (answer, is, e) = h.answers trips own in (answer, f trips answer is, e);
+    keeps = λ from fits honest.
+        keeps-as (λ grade. IsOne grade from h.trips) (λ grade. IsAnswer grade from h.trips) status h.trips a.sunk b.sunk
+        (λ grade. f grade from h.trips) (h.keeps from (fit from fits) honest);
+    answers = λ from trips own.
+        let (answer, is, e) = h.answers from trips own in (answer, f Due from trips answer is, e);
     nothing = λ e. absurd (h.no_read e);
     read_fault = λ e. absurd (h.no_read e);
     write_fault = h.cause;
@@ -227,23 +256,24 @@ module _ (gives : List ℕ → Option (List ℕ) → Type 0) (IsAnswer : List Tr
 
   -- memory lacked before anything was written
   pub serve-memory : (a : Log) (p : Wire)
-      → Serves gives IsAnswer IsName (record { held = held; read_faults = faults; log = a; wire = p })
+      → Serves gives Fits IsAnswer IsName (record { held = held; read_faults = faults; log = a; wire = p })
       (record { held = later; read_faults = counted; log = a; wire = p }) NoMemory
   serve-memory a p =
-      serve-concluded IsAnswer a a p p NoMemory (λ trips answer is. is) (concludes-memory gives IsAnswer a p)
+      serve-concluded Fits IsAnswer a a p p NoMemory (λ from fits. fits) (λ grade from trips answer is. is)
+      (concludes-memory gives Fits IsAnswer a p)
 
   -- a file wasn't read
   pub serve-unread : (a : Log) (p : Wire) (fault : ShelfFault)
       → (fault ≡ Failed → (name : List ℕ) × IsName name × Rose (faults name) (counted name))
-      → Serves gives IsAnswer IsName (record { held = held; read_faults = faults; log = a; wire = p })
+      → Serves gives Fits IsAnswer IsName (record { held = held; read_faults = faults; log = a; wire = p })
       (record { held = later; read_faults = counted; log = a; wire = p }) (unread_status fault)
   serve-unread a p OutOfMemory rose = serve-memory a p
   serve-unread a p Failed rose = record {
     trips = [];
     went = went-none gives p.told;
     silent = λ e. refl;
-    keeps = λ honest. tt;
-    answers = λ trips own. absurd own;
+    keeps = λ from fits honest. tt;
+    answers = λ from trips own. absurd own;
     nothing = λ e. refl;
     read_fault = λ e. rose refl;
     write_fault = λ e. absurd (cc);
@@ -255,31 +285,36 @@ module _ (gives : List ℕ → Option (List ℕ) → Type 0) (IsAnswer : List Tr
   }
 
 -- a file was read before, and nothing was written or sent yet
-pub serve-later : (gives : List ℕ → Option (List ℕ) → Type 0) (IsOne IsAnswer : List Trip → Answer → Type 0)
-    (IsOneName IsName : List ℕ → Type 0) (held later : Option Files) (faults counted : List ℕ → ℕ) (a : Log) (p : Wire)
-    (new : Ports) (status : Status) → later ≡ held → NoneFell faults counted
-    → ((trips : List Trip) (answer : Answer) → IsOne trips answer → IsAnswer trips answer)
+pub serve-later : (gives : List ℕ → Option (List ℕ) → Type 0) (OneFits Fits : World → Type 0)
+    (IsOne IsAnswer : Grade → World → List Trip → Answer → Type 0) (IsOneName IsName : List ℕ → Type 0)
+    (held later : Option Files) (faults counted : List ℕ → ℕ) (a : Log) (p : Wire) (new : Ports) (status : Status)
+    → later ≡ held → NoneFell faults counted → ((from : World) → Fits from → OneFits from)
+    → ((grade : Grade) (from : World) (trips : List Trip) (answer : Answer) → IsOne grade from trips answer
+    → IsAnswer grade from trips answer)
     → ((name : List ℕ) → IsOneName name → IsName name)
-    → Serves gives IsOne IsOneName (record { held = later; read_faults = counted; log = a; wire = p }) new status
-    → Serves gives IsAnswer IsName (record { held = held; read_faults = faults; log = a; wire = p }) new status
-serve-later gives IsOne IsAnswer IsOneName IsName held later faults counted a p new status same fell f g h = record {
-  trips = h.trips;
-  went = h.went;
-  silent = h.silent;
-  keeps = λ honest.
-      keeps-as (IsOne h.trips) (IsAnswer h.trips) status h.trips a.sunk new.log.sunk (f h.trips) (h.keeps honest);
-  answers = λ trips own. let (answer, is, e) = h.answers trips own in (answer, f trips answer is, e);
-  nothing = h.nothing;
-  read_fault = λ e. let (name, is, rose) = h.read_fault e in (
-    name,
-    g name is,
-    rose-later (faults name) (counted name) (new.read_faults name) (fell name)
-        (h.reads_counted name) rose,
-  );
-  write_fault = h.write_fault;
-  no_usage = h.no_usage;
-  unchanged = h.unchanged ∙ same;
-  reads_counted = λ name. let x = fell name in let y = h.reads_counted name in omega arith;
-  writes_counted = h.writes_counted;
-  links_counted = h.links_counted;
-}
+    → Serves gives OneFits IsOne IsOneName (record { held = later; read_faults = counted; log = a; wire = p }) new
+    status
+    → Serves gives Fits IsAnswer IsName (record { held = held; read_faults = faults; log = a; wire = p }) new status
+serve-later gives OneFits Fits IsOne IsAnswer IsOneName IsName held later faults counted a p new status same fell fit f
+    g h = record {
+      trips = h.trips;
+      went = h.went;
+      silent = h.silent;
+      keeps = λ from fits honest.
+          keeps-as (λ grade. IsOne grade from h.trips) (λ grade. IsAnswer grade from h.trips) status h.trips a.sunk
+          new.log.sunk (λ grade. f grade from h.trips) (h.keeps from (fit from fits) honest);
+      answers = λ from trips own. let (answer, is, e) = h.answers from trips own in (answer, f Due from trips answer is, e);
+      nothing = h.nothing;
+      read_fault = λ e. let (name, is, rose) = h.read_fault e in (
+        name,
+        g name is,
+        rose-later (faults name) (counted name) (new.read_faults name) (fell name)
+            (h.reads_counted name) rose,
+      );
+      write_fault = h.write_fault;
+      no_usage = h.no_usage;
+      unchanged = h.unchanged ∙ same;
+      reads_counted = λ name. let x = fell name in let y = h.reads_counted name in omega arith;
+      writes_counted = h.writes_counted;
+      links_counted = h.links_counted;
+    }

@@ -1,12 +1,10 @@
 -- Steps that go one by one.
 use Rattle.std.proofs.Common.{◌≡◌, ℕ, suc, ◌+◌, ◌<◌, ◌≤◌, List, [], ◌∷◌, ◌++◌, take, drop, get_or, length, Option, Result, Ok as OkResult, Err, refl, ap, sym, ◌∙◌, subst, arith, append-nil}
-use Rattle.std.specs.Prelude.{MatchResult}
 use Rattle.std.proofs.lemmas.List.{drop_more}
 use Rattle.lsl_code.specs.declared.woven_units.Woven.{Woven as Code}
 use Rattle.lsl_ports.specs.Growth.{Begins}
-use Rattle.lsl_ports.specs.Trips.{Honest, Trip, Went, sent_of}
+use Rattle.lsl_ports.specs.Trips.{Trip, Went, sent_of}
 use Rattle.lsl_ports.proofs.Growth.{begins-none, grew-none}
-use Rattle.lsl_image.specs.Images.{IsIntact}
 use Rattle.lsl_tree.specs.Program.{Program}
 use Rattle.lsl_lines.specs.Journal.{lines_of}
 use Rattle.lsl_lines.specs.declared.file.Step.{Step}
@@ -16,8 +14,8 @@ use Rattle.lsl_script.specs.Rules.{Rules}
 use Rattle.lsl_region.specs.Worlds.{World}
 use Rattle.lsl_world.specs.Programs.{rules_of}
 use Rattle.lsl_world.specs.Travels.{Does, go_on, images_of, left, travel}
-use Rattle.lsl_top.specs.Goes.{Done, Goes, Runs, StoppedAt}
-use Rattle.lsl_top.specs.Pieces.{Piece, sent_in, step_piece, step_pieces}
+use Rattle.lsl_top.specs.Goes.{Goes, Runs, StoppedAt}
+use Rattle.lsl_top.specs.Pieces.{Piece, step_piece, step_pieces}
 use Rattle.lsl_top.specs.Ports.{Log, Wire, Writes}
 use Rattle.lsl_top.specs.Promise.{IsBegunAt, IsWhole}
 use Rattle.lsl_top.specs.declared.writing.Trouble.{Trouble}

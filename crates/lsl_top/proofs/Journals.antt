@@ -1,21 +1,26 @@
--- The pieces of a run are its journal, and send its images.
+-- The pieces of a run are its journal and what is told at its end, and send its images.
 use Rattle.std.proofs.Common.{◌≡◌, ℕ, List, [], ◌∷◌, ◌++◌, refl, ap, sym, ◌∙◌, append-nil}
 use Rattle.lsl_code.specs.declared.woven_units.Woven.{Woven as Code}
 use Rattle.lsl_ports.specs.Trips.{Trip}
 use Rattle.lsl_tree.specs.Program.{Program}
+use Rattle.lsl_lines.specs.Frozen.{frozen_line}
 use Rattle.lsl_lines.specs.Journal.{lines_of}
 use Rattle.lsl_lines.specs.declared.file.Step.{Step}
 use Rattle.lsl_lines.specs.declared.file.WorldFile.{WorldFile}
-use Rattle.lsl_post.specs.declared.entries.Entry.{Entry}
+use Rattle.lsl_post.specs.Told.{Told}
 use Rattle.lsl_script.specs.Rules.{Rules}
 use Rattle.lsl_region.specs.Worlds.{World}
+use Rattle.lsl_world.specs.Frozen.{frozen_image}
 use Rattle.lsl_world.specs.Programs.{rules_of}
-use Rattle.lsl_world.specs.Reports.{homes, images_sent, journal_of}
-use Rattle.lsl_world.specs.Starts.{start}
+use Rattle.lsl_world.specs.Reports.{homes}
+use Rattle.lsl_world.specs.Steps.{reference}
 use Rattle.lsl_world.specs.Travels.{go_on, images, images_of, left, travel}
-use Rattle.lsl_world.proofs.Taking.{journal-travels}
+use Rattle.lsl_world.proofs.Taking.{all-taken}
+use Rattle.lsl_top.specs.Headline.{kept_from, output_from, report_from}
 use Rattle.lsl_top.specs.Laws.{RunsAreJournals}
-use Rattle.lsl_top.specs.Pieces.{home_piece, lines_in, run_pieces, sent_in, step_pieces}
+use Rattle.lsl_top.specs.Pieces.{last_piece, lines_in, pieces_from, sent_in, step_pieces}
+use Rattle.lsl_top.specs.Plays.{Mode, Whole, Freezing, Thawing}
+use Rattle.lsl_top.proofs.Performing.{last-silent}
 use Rattle.lsl_top.proofs.Pieces.{lines_in-append, sent_in-append}
 use Rattle.lsl_top.proofs.Written.{lines-append}
 
@@ -36,29 +41,52 @@ step-images codes r (step ∷ steps) trips w =
     ap (λ (z : List (List ℕ)). images_of codes step w ++ z)
     (step-images codes r steps (left step w trips) (go_on r step trips w).value)
 
-pub journal-pieces : (codes : List Code) (programs : List Program) (file : WorldFile) (trips : List Trip)
-    → lines_in (run_pieces codes (rules_of programs) file trips) ≡ lines_of (journal_of programs file trips)
-journal-pieces codes programs file trips =
-    let r = rules_of programs in
-    let w = start r file in
-    let told = travel r file.steps trips w in
-    lines_in-append (step_pieces codes r file.steps trips w) (home_piece told.value ∷ [])
-    ∙ ap (λ (z : List ℕ). z ++ lines_in (home_piece told.value ∷ [])) (step-lines codes r file.steps trips w)
-    ∙ ap (λ (z : List ℕ). lines_of told.entries ++ z) (append-nil (lines_of (homes told.value)))
-    ∙ sym (lines-append told.entries (homes told.value))
-    ∙ sym (ap lines_of (journal-travels r file trips))
+pub pieces-lines : (mode : Mode) (codes : List Code) (r : Rules) (steps : List Step) (trips : List Trip) (w : World)
+    → lines_in (pieces_from mode codes r steps trips w)
+    ≡ lines_of (travel r steps trips w).entries ++ (last_piece mode codes (travel r steps trips w).value).lines
+pieces-lines mode codes r steps trips w =
+    let told = travel r steps trips w in
+    let end = last_piece mode codes told.value in
+    lines_in-append (step_pieces codes r steps trips w) (end ∷ [])
+    ∙ ap (λ (z : List ℕ). z ++ lines_in (end ∷ [])) (step-lines codes r steps trips w)
+    ∙ ap (λ (z : List ℕ). lines_of told.entries ++ z) (append-nil end.lines)
 
-pub image-pieces : (codes : List Code) (programs : List Program) (file : WorldFile) (trips : List Trip)
-    → sent_in (run_pieces codes (rules_of programs) file trips) ≡ images_sent codes programs file trips
-image-pieces codes programs file trips =
-    let r = rules_of programs in
-    let w = start r file in
-    let told = travel r file.steps trips w in
-    sent_in-append (step_pieces codes r file.steps trips w) (home_piece told.value ∷ [])
-    ∙ append-nil (sent_in (step_pieces codes r file.steps trips w)) ∙ step-images codes r file.steps trips w
+pub pieces-images : (mode : Mode) (codes : List Code) (r : Rules) (steps : List Step) (trips : List Trip) (w : World)
+    → sent_in (pieces_from mode codes r steps trips w) ≡ images codes r steps trips w
+pieces-images mode codes r steps trips w =
+    let end = last_piece mode codes (travel r steps trips w).value in
+    sent_in-append (step_pieces codes r steps trips w) (end ∷ [])
+    ∙ ap (λ (z : List (List ℕ)). sent_in (step_pieces codes r steps trips w) ++ (z ++ []))
+    (sym (last-silent mode codes (travel r steps trips w).value))
+    ∙ append-nil (sent_in (step_pieces codes r steps trips w)) ∙ step-images codes r steps trips w
+
+-- the run of the kept steps is that of all steps by their trips
+kept-travels : (programs : List Program) (file : WorldFile) (trips : List Trip) (w : World)
+    → travel (rules_of programs) file.steps trips w ≡ reference (rules_of programs) (kept_from file trips w) w
+kept-travels programs file trips w = all-taken (rules_of programs) file.steps trips w
+
+report-lines : (programs : List Program) (file : WorldFile) (trips : List Trip) (w : World)
+    → lines_of (travel (rules_of programs) file.steps trips w).entries
+    ++ lines_of (homes (travel (rules_of programs) file.steps trips w).value) ≡ report_from programs file trips w
+report-lines programs file trips w =
+    let told = travel (rules_of programs) file.steps trips w in
+    sym (lines-append told.entries (homes told.value))
+    ∙ ap (λ (a : Told World). lines_of (a.entries ++ homes a.value)) (kept-travels programs file trips w)
+
+pub journal-pieces : (mode : Mode) (codes : List Code) (programs : List Program) (file : WorldFile) (trips : List Trip)
+    (w : World) → lines_in (pieces_from mode codes (rules_of programs) file.steps trips w)
+    ≡ output_from mode codes programs file trips w
+journal-pieces Whole codes programs file trips w =
+    pieces-lines Whole codes (rules_of programs) file.steps trips w ∙ report-lines programs file trips w
+journal-pieces (Thawing frozen) codes programs file trips w =
+    pieces-lines (Thawing frozen) codes (rules_of programs) file.steps trips w ∙ report-lines programs file trips w
+journal-pieces Freezing codes programs file trips w =
+    pieces-lines Freezing codes (rules_of programs) file.steps trips w
+    ∙ ap (λ (a : Told World). lines_of a.entries ++ frozen_line (frozen_image codes a.value))
+    (kept-travels programs file trips w)
 
 pub runs-journals : RunsAreJournals
-runs-journals codes programs file trips = record {
-  lines = journal-pieces codes programs file trips;
-  sent = image-pieces codes programs file trips;
+runs-journals mode codes programs file trips w = record {
+  lines = journal-pieces mode codes programs file trips w;
+  sent = pieces-images mode codes (rules_of programs) file.steps trips w;
 }

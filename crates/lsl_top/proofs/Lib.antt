@@ -2,6 +2,8 @@ pub mod Finishing
 pub mod Heads
 pub mod OneText
 pub mod FilesRead
+pub mod FrozenRead
+pub mod FrozenOne
 pub mod WorldRead
 pub mod OneCode
 pub mod OneAnswer
@@ -10,9 +12,16 @@ pub mod Written
 pub mod Pieces
 pub mod Trips
 pub mod Performing
+pub mod Fixed
+pub mod Shaped
+pub mod Frozen
+pub mod Lasting
+pub mod Runs
 pub mod Goings
 pub mod Zips
 pub mod Ascii
 pub mod Faults
 pub mod OnceRange
+pub mod Outputs
 pub mod Promises
+pub mod Halves

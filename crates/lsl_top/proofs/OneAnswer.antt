@@ -15,25 +15,35 @@ use Rattle.lsl_build.proofs.FirstFault.{one_fault}
 use Rattle.lsl_lines.specs.World.{FileFirst, IsWorld}
 use Rattle.lsl_lines.specs.declared.faults.FileFault.{FileFault}
 use Rattle.lsl_lines.specs.declared.file.WorldFile.{WorldFile}
-use Rattle.lsl_top.specs.Answers.{Answer, Answers, Checks, Plays, PlaysTexts, Replays, run_answer, script_refused, world_refused}
-use Rattle.lsl_top.specs.Held.{AreHeld, Holds}
-use Rattle.lsl_top.specs.Plays.{Play, play_of, play_of_once}
+use Rattle.lsl_image.specs.Images.{WorldFirst}
+use Rattle.lsl_image.specs.World.{world}
+use Rattle.lsl_image.specs.declared.faults.ImageFault.{ImageFault}
+use Rattle.lsl_image.specs.declared.parts.WorldParts.{WorldParts}
+use Rattle.lsl_image.proofs.ImageLemmas.{first-one, image-no_fault}
+use Rattle.lsl_region.specs.Worlds.{World}
+use Rattle.lsl_world.specs.Frozen.{shapes_of_file}
+use Rattle.lsl_top.specs.Answers.{Answer, Checks, Comes, Grade, Plays, PlaysTexts, Replays, ReplaysFile, image_refused, script_refused, world_refused}
+use Rattle.lsl_top.specs.Held.{AreHeld, Holds, HoldsFrozen}
+use Rattle.lsl_top.specs.Laws.{AnswersAreOne}
+use Rattle.lsl_top.specs.Plays.{Mode, Whole, Freezing, Thawing, Play, play_of, play_of_once, played}
 use Rattle.lsl_top.specs.Scripts.{AreAccepted, FirstRefused, IsRefusedAt}
-use Rattle.lsl_top.specs.Words.{Command, Once, Check, Replay}
+use Rattle.lsl_top.specs.Thaws.{IsThawFault, IsThawOf}
+use Rattle.lsl_top.specs.Words.{Once, Check, Replay, Freeze, Thaw}
+use Rattle.lsl_top.proofs.FrozenOne.{frozen-one, has-line}
 use Rattle.lsl_top.proofs.OneCode.{codes-one}
 use Rattle.lsl_top.proofs.OneText.{no_fault}
 
-some-one : (a b : List ℕ) → Some a ≡ Some b → a ≡ b
+pub some-one : (a b : List ℕ) → Some a ≡ Some b → a ≡ b
 some-one a b e = ap value e
   where
     value : Option (List ℕ) → List ℕ
     value (Some x) = x
     value None = a
 
-text-one : (files : Files) (name a b : List ℕ) → Holds (Some files) name a → Holds (Some files) name b → a ≡ b
+pub text-one : (files : Files) (name a b : List ℕ) → Holds (Some files) name a → Holds (Some files) name b → a ≡ b
 text-one files name a b h k = some-one a b (sym h ∙ k)
 
-texts-one : (files : Files) (names ts us : List (List ℕ)) → AreHeld (Some files) names ts
+pub texts-one : (files : Files) (names ts us : List (List ℕ)) → AreHeld (Some files) names ts
     → AreHeld (Some files) names us → ts ≡ us
 texts-one files [] [] [] h k = refl
 texts-one files (name ∷ names) (a ∷ ts) (b ∷ us) h k =
@@ -43,7 +53,7 @@ texts-one files [] [] (b ∷ us) h k = absurd k
 texts-one files (name ∷ names) [] us h k = absurd h
 texts-one files (name ∷ names) (a ∷ ts) [] h k = absurd k
 
-programs-one : (texts : List (List ℕ)) (ps qs : List Program) → AreAccepted texts ps → AreAccepted texts qs → ps ≡ qs
+pub programs-one : (texts : List (List ℕ)) (ps qs : List Program) → AreAccepted texts ps → AreAccepted texts qs → ps ≡ qs
 programs-one [] [] [] h k = refl
 programs-one (t ∷ texts) (p ∷ ps) (q ∷ qs) h k =
     ap₂ (λ x xs. x ∷ xs) (one_program t p q h.0 k.0) (programs-one texts ps qs h.1 k.1)
@@ -106,40 +116,108 @@ refused-one names texts n m f g r s =
     let named = some-one n m (sym r.named ∙ ap (λ place. slice_get names place) at ∙ s.named) in
     ap₂ (λ name fault. script_refused name fault) named same
 
-plays-texts-one : (trips : List Trip) (play : Play) (texts : List (List ℕ)) (a b : Answer)
-    → PlaysTexts trips play texts a → PlaysTexts trips play texts b → a ≡ b
-plays-texts-one trips play texts a b (inl (ps, cs, h, has, e)) (inl (qs, ds, k, have, f)) =
-    e ∙ ap (λ (programs : List Program). run_answer cs programs play.world trips) (programs-one texts ps qs h k)
-    ∙ ap (λ (codes : List Code). run_answer codes qs play.world trips) (codes-one texts cs ds has have) ∙ sym f
-plays-texts-one trips play texts a b (inl (ps, cs, h, has, e)) (inr (name, fault, r, f)) =
-    absurd (accepted-refused texts ps r.place fault h r.refused)
-plays-texts-one trips play texts a b (inr (name, fault, r, e)) (inl (qs, ds, k, have, f)) =
-    absurd (accepted-refused texts qs r.place fault k r.refused)
-plays-texts-one trips play texts a b (inr (n, f, r, e)) (inr (m, g, s, k)) =
-    e ∙ refused-one play.names texts n m f g r s ∙ sym k
+-- a text that gives a world has no fault, and one fault else
+pub thaw-no_fault : (codes : List Code) (file : WorldFile) (text : List ℕ) (parts : WorldParts) (fault : ImageFault)
+    → IsThawOf codes file text parts → IsThawFault codes file text fault → ⊥
+thaw-no_fault codes file text parts fault (image, is, stands) (inl (lacks, e)) = lacks (has-line text image is)
+thaw-no_fault codes file text parts fault (image, is, stands) (inr (other, k, first)) =
+    image-no_fault (world (shapes_of_file file) codes) image parts fault stands
+    (subst (λ (z : List ℕ). WorldFirst (shapes_of_file file) codes z fault) (frozen-one text other image k is) first)
 
--- what is answered to a play whose scripts are these programs is a run of them
-pub plays-journal : (files : Files) (trips : List Trip) (play : Play) (programs : List Program) (answer : Answer)
-    (texts : List (List ℕ)) → AreHeld (Some files) play.names texts → AreAccepted texts programs
-    → Plays (Some files) trips play answer
-    → (codes : List Code) × (answer ≡ run_answer codes programs play.world trips)
-plays-journal files trips play programs answer texts are all (others, k, q) =
-    go (subst (λ (z : List (List ℕ)). PlaysTexts trips play z answer)
+thaw-fault-one : (codes : List Code) (file : WorldFile) (text : List ℕ) (f g : ImageFault)
+    → IsThawFault codes file text f → IsThawFault codes file text g → f ≡ g
+thaw-fault-one codes file text f g (inl (lacks, e)) (inl (other, k)) = e ∙ sym k
+thaw-fault-one codes file text f g (inl (lacks, e)) (inr (image, is, first)) = absurd (lacks (has-line text image is))
+thaw-fault-one codes file text f g (inr (image, is, first)) (inl (lacks, e)) = absurd (lacks (has-line text image is))
+thaw-fault-one codes file text f g (inr (image, is, first)) (inr (other, k, second)) =
+    first-one (world (shapes_of_file file) codes) other f g
+    (subst (λ (z : List ℕ). WorldFirst (shapes_of_file file) codes z f) (frozen-one text image other is k) first) second
+
+-- of the same scripts and texts comes one answer, due or written
+comes-one : (g h : Grade) (from : World) (trips : List Trip) (mode : Mode) (codes : List Code) (programs : List Program)
+    (file : WorldFile) (text : List ℕ) (a b : Answer) → Comes g from trips mode codes programs file text a
+    → Comes h from trips mode codes programs file text b → a ≡ b
+comes-one g h from trips Whole codes programs file text a b (l, e) (m, f) = e ∙ sym f
+comes-one g h from trips Freezing codes programs file text a b (l, e) (m, f) = e ∙ sym f
+comes-one g h from trips (Thawing name) codes programs file text a b (inl (p, t, e)) (inl (q, u, f)) = e ∙ sym f
+comes-one g h from trips (Thawing name) codes programs file text a b (inl (p, t, e)) (inr (fault, u, f)) =
+    absurd (thaw-no_fault codes file text p fault t u)
+comes-one g h from trips (Thawing name) codes programs file text a b (inr (fault, t, e)) (inl (p, u, f)) =
+    absurd (thaw-no_fault codes file text p fault u t)
+comes-one g h from trips (Thawing name) codes programs file text a b (inr (one, t, e)) (inr (other, u, f)) =
+    e ∙ ap (λ (fault : ImageFault). image_refused name fault) (thaw-fault-one codes file text one other t u) ∙ sym f
+
+plays-texts-one : (g h : Grade) (from : World) (trips : List Trip) (play : Play) (texts : List (List ℕ)) (text : List ℕ)
+    (a b : Answer) → PlaysTexts g from trips play texts text a → PlaysTexts h from trips play texts text b → a ≡ b
+plays-texts-one g h from trips play texts text a b (inl (ps, cs, all, has, e)) (inl (qs, ds, other, have, f)) =
+    comes-one g h from trips play.mode ds qs play.world text a b
+    (subst (λ (codes : List Code). Comes g from trips play.mode codes qs play.world text a) (codes-one texts cs ds has have)
+    (subst (λ (programs : List Program). Comes g from trips play.mode cs programs play.world text a)
+    (programs-one texts ps qs all other) e)) f
+plays-texts-one g h from trips play texts text a b (inl (ps, cs, all, has, e)) (inr (name, fault, r, f)) =
+    absurd (accepted-refused texts ps r.place fault all r.refused)
+plays-texts-one g h from trips play texts text a b (inr (name, fault, r, e)) (inl (qs, ds, all, have, f)) =
+    absurd (accepted-refused texts qs r.place fault all r.refused)
+plays-texts-one g h from trips play texts text a b (inr (n, f, r, e)) (inr (m, k, s, d)) =
+    e ∙ refused-one play.names texts n m f k r s ∙ sym d
+
+-- the frozen text of a play is one, where it has any
+texts-come : (files : Files) (mode : Mode) (g : Grade) (from : World) (trips : List Trip) (names : List (List ℕ))
+    (file : WorldFile) (texts : List (List ℕ)) (t u : List ℕ) (a : Answer) → HoldsFrozen (Some files) mode t
+    → HoldsFrozen (Some files) mode u → PlaysTexts g from trips (played mode names file) texts t a
+    → PlaysTexts g from trips (played mode names file) texts u a
+texts-come files Whole g from trips names file texts t u a h k p = p
+texts-come files Freezing g from trips names file texts t u a h k p = p
+texts-come files (Thawing name) g from trips names file texts t u a h k p =
+    subst (λ (z : List ℕ). PlaysTexts g from trips (played (Thawing name) names file) texts z a)
+    (text-one files name t u h k) p
+
+-- what is answered to a play whose scripts have these texts
+pub plays-texts : (files : Files) (g : Grade) (from : World) (trips : List Trip) (play : Play) (texts : List (List ℕ))
+    (text : List ℕ) (a : Answer) → AreHeld (Some files) play.names texts → HoldsFrozen (Some files) play.mode text
+    → Plays g (Some files) from trips play a → PlaysTexts g from trips play texts text a
+plays-texts files g from trips play texts text a are holds (others, other, k, held, q) =
+    texts-come files play.mode g from trips play.names play.world texts other text a held holds
+    (subst (λ (z : List (List ℕ)). PlaysTexts g from trips play z other a)
+    (texts-one files play.names others texts k are) q)
+
+-- where they are accepted as these programs and have this code, it comes of these
+pub texts-accepted : (g : Grade) (from : World) (trips : List Trip) (play : Play) (texts : List (List ℕ))
+    (text : List ℕ) (programs : List Program) (codes : List Code) (a : Answer) → AreAccepted texts programs
+    → AreCodesOf texts codes → PlaysTexts g from trips play texts text a
+    → Comes g from trips play.mode codes programs play.world text a
+texts-accepted g from trips play texts text programs codes a all has (inl (ps, cs, accepted, have, e)) =
+    subst (λ (z : List Code). Comes g from trips play.mode z programs play.world text a)
+    (codes-one texts cs codes have has)
+    (subst (λ (z : List Program). Comes g from trips play.mode cs z play.world text a)
+    (programs-one texts ps programs accepted all) e)
+texts-accepted g from trips play texts text programs codes a all has (inr (name, fault, r, e)) =
+    absurd (accepted-refused texts programs r.place fault all r.refused)
+
+-- and where only the programs are known, by some code
+pub plays-programs : (files : Files) (g : Grade) (from : World) (trips : List Trip) (play : Play)
+    (programs : List Program) (a : Answer) (texts : List (List ℕ)) → AreHeld (Some files) play.names texts
+    → AreAccepted texts programs → Plays g (Some files) from trips play a
+    → (codes : List Code) × (text : List ℕ) × Comes g from trips play.mode codes programs play.world text a
+plays-programs files g from trips play programs a texts are all (others, text, k, held, q) =
+    go (subst (λ (z : List (List ℕ)). PlaysTexts g from trips play z text a)
     (texts-one files play.names others texts k are) q)
   where
-    go : PlaysTexts trips play texts answer
-        → (codes : List Code) × (answer ≡ run_answer codes programs play.world trips)
+    go : PlaysTexts g from trips play texts text a
+        → (codes : List Code) × (text : List ℕ) × Comes g from trips play.mode codes programs play.world text a
     go (inl (ps, cs, h, has, e)) = (
       cs,
-      e ∙ ap (λ (qs : List Program). run_answer cs qs play.world trips) (programs-one texts ps programs h all),
+      text,
+      subst (λ (z : List Program). Comes g from trips play.mode cs z play.world text a)
+          (programs-one texts ps programs h all) e,
     )
     go (inr (name, fault, r, e)) = absurd (accepted-refused texts programs r.place fault all r.refused)
 
-plays-one : (files : Files) (trips : List Trip) (play : Play) (a b : Answer) → Plays (Some files) trips play a
-    → Plays (Some files) trips play b → a ≡ b
-plays-one files trips play a b (texts, h, p) (others, k, q) =
-    plays-texts-one trips play others a b
-    (subst (λ (z : List (List ℕ)). PlaysTexts trips play z a) (texts-one files play.names texts others h k) p) q
+plays-one : (files : Files) (g h : Grade) (from : World) (trips : List Trip) (play : Play) (a b : Answer)
+    → Plays g (Some files) from trips play a → Plays h (Some files) from trips play b → a ≡ b
+plays-one files g h from trips play a b p (texts, text, are, holds, q) =
+    plays-texts-one g h from trips play texts text a b
+    (plays-texts files g from trips play texts text a are holds p) q
 
 checks-one : (name text : List ℕ) (a b : Answer) → Checks name text a → Checks name text b → a ≡ b
 checks-one name text a b (inl (p, h, e)) (inl (q, k, f)) = e ∙ sym f
@@ -148,7 +226,7 @@ checks-one name text a b (inr (g, h, e)) (inl (q, k, f)) = absurd (no_fault text
 checks-one name text a b (inr (f, h, e)) (inr (g, k, d)) =
     e ∙ ap (λ fault. script_refused name fault) (one_fault text f g h k) ∙ sym d
 
-world-one : (bytes : List ℕ) (f g : WorldFile) → IsWorld bytes f → IsWorld bytes g → f ≡ g
+pub world-one : (bytes : List ℕ) (f g : WorldFile) → IsWorld bytes f → IsWorld bytes g → f ≡ g
 world-one bytes f g h k = ap value (sym h ∙ k)
   where
     value : Result WorldFile FileFault → WorldFile
@@ -167,33 +245,46 @@ world-fault-one bytes f g e k = ap value (sym e ∙ k)
     value (Err fault) = fault
 
 -- what is answered to a world file is what is answered to its play
-pub replays-plays : (files : Files) (trips : List Trip) (name bytes : List ℕ) (file : WorldFile) (answer : Answer)
-    → Holds (Some files) name bytes → IsWorld bytes file → Answers (Some files) trips (Replay name) answer
-    → Plays (Some files) trips (play_of file) answer
-replays-plays files trips name bytes file answer is good (other, k, q) =
-    go (subst (λ (z : List ℕ). Replays (Some files) trips name z answer) (text-one files name other bytes k is) q)
+pub replays-plays : (files : Files) (g : Grade) (from : World) (trips : List Trip) (mode : Mode) (name bytes : List ℕ)
+    (file : WorldFile) (answer : Answer) → Holds (Some files) name bytes → IsWorld bytes file
+    → ReplaysFile g (Some files) from trips mode name answer → Plays g (Some files) from trips (play_of mode file) answer
+replays-plays files g from trips mode name bytes file answer is good (other, k, q) =
+    go (subst (λ (z : List ℕ). Replays g (Some files) from trips mode name z answer)
+    (text-one files name other bytes k is) q)
   where
-    go : Replays (Some files) trips name bytes answer → Plays (Some files) trips (play_of file) answer
+    go : Replays g (Some files) from trips mode name bytes answer
+        → Plays g (Some files) from trips (play_of mode file) answer
     go (inl (f, h, p)) =
-        subst (λ (z : WorldFile). Plays (Some files) trips (play_of z) answer) (world-one bytes f file h good) p
+        subst (λ (z : WorldFile). Plays g (Some files) from trips (play_of mode z) answer)
+        (world-one bytes f file h good) p
     go (inr (fault, h, e)) = absurd (world-no_fault bytes file fault good h)
 
-replays-one : (files : Files) (trips : List Trip) (name bytes : List ℕ) (a b : Answer)
-    → Replays (Some files) trips name bytes a → Replays (Some files) trips name bytes b → a ≡ b
-replays-one files trips name bytes a b (inl (f, h, p)) (inl (g, k, q)) =
-    plays-one files trips (play_of g) a b
-    (subst (λ (z : WorldFile). Plays (Some files) trips (play_of z) a) (world-one bytes f g h k) p) q
-replays-one files trips name bytes a b (inl (f, h, p)) (inr (g, k, q)) = absurd (world-no_fault bytes f g h k)
-replays-one files trips name bytes a b (inr (f, h, p)) (inl (g, k, q)) = absurd (world-no_fault bytes g f k h)
-replays-one files trips name bytes a b (inr (f, h, e)) (inr (g, k, d)) =
-    e ∙ ap (λ (fault : FileFault). world_refused name fault) (world-fault-one bytes f g h k) ∙ sym d
+replays-one : (files : Files) (g h : Grade) (from : World) (trips : List Trip) (mode : Mode) (name bytes : List ℕ)
+    (a b : Answer) → Replays g (Some files) from trips mode name bytes a
+    → Replays h (Some files) from trips mode name bytes b → a ≡ b
+replays-one files g h from trips mode name bytes a b (inl (f, w, p)) (inl (d, k, q)) =
+    plays-one files g h from trips (play_of mode d) a b
+    (subst (λ (z : WorldFile). Plays g (Some files) from trips (play_of mode z) a) (world-one bytes f d w k) p) q
+replays-one files g h from trips mode name bytes a b (inl (f, w, p)) (inr (d, k, q)) =
+    absurd (world-no_fault bytes f d w k)
+replays-one files g h from trips mode name bytes a b (inr (f, w, p)) (inl (d, k, q)) =
+    absurd (world-no_fault bytes d f k w)
+replays-one files g h from trips mode name bytes a b (inr (f, w, e)) (inr (d, k, c)) =
+    e ∙ ap (λ (fault : FileFault). world_refused name fault) (world-fault-one bytes f d w k) ∙ sym c
 
-pub answers-one : (files : Files) (trips : List Trip) (command : Command) (a b : Answer)
-    → Answers (Some files) trips command a → Answers (Some files) trips command b → a ≡ b
-answers-one files trips (Once name) a b h k = plays-one files trips (play_of_once name) a b h k
-answers-one files trips (Check name) a b (text, h, p) (other, k, q) =
+files-one : (files : Files) (g h : Grade) (from : World) (trips : List Trip) (mode : Mode) (name : List ℕ)
+    (a b : Answer) → ReplaysFile g (Some files) from trips mode name a
+    → ReplaysFile h (Some files) from trips mode name b → a ≡ b
+files-one files g h from trips mode name a b (bytes, is, p) (other, k, q) =
+    replays-one files g h from trips mode name other a b
+    (subst (λ (z : List ℕ). Replays g (Some files) from trips mode name z a) (text-one files name bytes other is k) p) q
+
+pub answers-one : AnswersAreOne
+answers-one files from trips (Once name) g h a b p q = plays-one files g h from trips (play_of_once name) a b p q
+answers-one files from trips (Check name) g h a b (text, is, p) (other, k, q) =
     checks-one name other a b
-    (subst (λ (z : List ℕ). Checks name z a) (text-one files name text other h k) p) q
-answers-one files trips (Replay name) a b (bytes, h, p) (other, k, q) =
-    replays-one files trips name other a b
-    (subst (λ (z : List ℕ). Replays (Some files) trips name z a) (text-one files name bytes other h k) p) q
+    (subst (λ (z : List ℕ). Checks name z a) (text-one files name text other is k) p) q
+answers-one files from trips (Replay name) g h a b p q = files-one files g h from trips Whole name a b p q
+answers-one files from trips (Freeze name) g h a b p q = files-one files g h from trips Freezing name a b p q
+answers-one files from trips (Thaw frozen name) g h a b p q =
+    files-one files g h from trips (Thawing frozen) name a b p q

@@ -1,15 +1,13 @@
 -- Trips that were made, and then others.
-use Rattle.std.proofs.Common.{◌≡◌, ℕ, ◌-◌, Bool, true, false, List, [], ◌∷◌, ◌++◌, length, drop, take, map, Option, Some, None, refl, ap, sym, ◌∙◌, subst, arith, inl, inr}
-use Rattle.std.specs.Prelude.{All, if◌then◌else◌, not}
+use Rattle.std.proofs.Common.{◌≡◌, ℕ, Bool, true, false, List, [], ◌∷◌, ◌++◌, length, drop, take, Option, Some, None, refl, ap, sym, ◌∙◌, subst, arith, inl}
+use Rattle.std.specs.Prelude.{if◌then◌else◌}
 use Rattle.std.proofs.lemmas.List.{append_cancel_left, length-map}
 use Rattle.std.proofs.lemmas.List.Elements.{All-append, All-drop, All-nil, All-take, All-weaker}
-use Rattle.std.proofs.Math.Seq.{take-append-le}
 use Rattle.lsl_ports.specs.Growth.{Grew}
 use Rattle.lsl_ports.specs.Trips.{CameBackSo, Honest, Trip, Went, sent_of}
 use Rattle.lsl_ports.proofs.Growth.{grew-none, grew-then}
 use Rattle.lsl_code.specs.declared.woven_units.Woven.{Woven as Code}
 use Rattle.lsl_image.specs.Images.{IsIntact}
-use Rattle.lsl_post.specs.Told.{Told}
 use Rattle.lsl_script.specs.Rules.{Rules}
 use Rattle.lsl_region.specs.Worlds.{World}
 use Rattle.lsl_lines.specs.declared.file.Step.{Step}

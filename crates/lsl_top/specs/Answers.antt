@@ -1,4 +1,5 @@
--- What a command answers, by the files and by what came back of what was sent: a case for each.
+-- What a command answers, by the files, by the world that was frozen before and by what came back of what was sent: a
+-- case for each.
 use Rattle.std.specs.Prelude.{◌≡◌, ℕ, ◌⊎◌, List, [], ◌∷◌, Option}
 use Rattle.lsl_ports.specs.Shelf.{Files}
 use Rattle.lsl_ports.specs.Trips.{Trip}
@@ -11,15 +12,21 @@ use Rattle.lsl_code.specs.declared.woven_units.Woven.{Woven as Code}
 use Rattle.lsl_lines.specs.World.{FileFirst, IsWorld}
 use Rattle.lsl_lines.specs.declared.faults.FileFault.{FileFault}
 use Rattle.lsl_lines.specs.declared.file.WorldFile.{WorldFile}
+use Rattle.lsl_image.specs.declared.faults.ImageFault.{ImageFault}
+use Rattle.lsl_image.specs.declared.parts.WorldParts.{WorldParts}
+use Rattle.lsl_region.specs.Worlds.{World}
 use Rattle.lsl_world.specs.Programs.{rules_of}
-use Rattle.lsl_top.specs.Held.{Holds, AreHeld}
-use Rattle.lsl_top.specs.Lines.{accepted_line, refusal_of, world_refusal_of}
-use Rattle.lsl_top.specs.Pieces.{Piece, run_pieces}
-use Rattle.lsl_top.specs.Plays.{Play, play_of, play_of_once}
+use Rattle.lsl_world.specs.Starts.{start}
+use Rattle.lsl_world.specs.Travels.{travel}
+use Rattle.lsl_top.specs.Held.{Holds, HoldsFrozen, AreHeld}
+use Rattle.lsl_top.specs.Lines.{accepted_line, image_refusal_of, refusal_of, world_refusal_of}
+use Rattle.lsl_top.specs.Pieces.{Piece, pieces_from}
+use Rattle.lsl_top.specs.Plays.{Mode, Whole, Freezing, Thawing, Play, play_of, play_of_once}
 use Rattle.lsl_top.specs.Scripts.{AreAccepted, FirstRefused}
-use Rattle.lsl_top.specs.Words.{Command, Once, Check, Replay}
+use Rattle.lsl_top.specs.Thaws.{CanThaw, IsThawFault, IsThawOf}
+use Rattle.lsl_top.specs.Words.{Command, Once, Check, Replay, Freeze, Thaw}
 use Rattle.lsl_top.specs.declared.status.Status.{Status}
-use Rattle.lsl_top.specs.declared.status.Status.TheVariants.{Ok, BadWorld, BadScript}
+use Rattle.lsl_top.specs.declared.status.Status.TheVariants.{Ok, BadWorld, BadScript, BadImage}
 
 -- how a command ends, with its whole output and all that it hands to the link, piece by piece
 pub record Answer : Type 0 where
@@ -39,23 +46,57 @@ script_refused name fault = plain BadScript (refusal_of name fault)
 abbrev pub world_refused : List ℕ → FileFault → Answer
 world_refused name fault = plain BadWorld (world_refusal_of name fault)
 
--- what is answered to the run of a world, by the trips that are made
-abbrev pub run_answer : List Code → List Program → WorldFile → List Trip → Answer
-run_answer codes programs world trips =
-    record { status = Ok; pieces = run_pieces codes (rules_of programs) world trips }
+abbrev pub image_refused : List ℕ → ImageFault → Answer
+image_refused name fault = plain BadImage (image_refusal_of name fault)
 
--- what is answered to a play whose files have these texts: a run of the programs, by the code that
--- they have, or the refusal of the first script that isn't accepted
-abbrev pub PlaysTexts : List Trip → Play → List (List ℕ) → Answer → Type 0
-PlaysTexts trips play texts answer =
+-- what is answered to a run from a world, by the trips that are made
+abbrev pub run_answer : Mode → List Code → List Program → WorldFile → List Trip → World → Answer
+run_answer mode codes programs world trips w =
+    record { status = Ok; pieces = pieces_from mode codes (rules_of programs) world.steps trips w }
+
+-- an answer that is due, or one that was written: then also the world that was frozen can be thawed
+pub data Grade : Type 0 where
+  Due : Grade
+  Written : Grade
+
+abbrev pub Lasts : Grade → Mode → List Code → List Program → WorldFile → World → Type 0
+Lasts Due mode codes programs file w = Unit {0}
+Lasts Written Whole codes programs file w = Unit {0}
+Lasts Written Freezing codes programs file w = CanThaw codes programs file w
+Lasts Written (Thawing name) codes programs file w = Unit {0}
+
+-- a run from the file's start
+abbrev pub ComesFromStart : Grade → List Trip → Mode → List Code → List Program → WorldFile → Answer → Type 0
+ComesFromStart grade trips mode codes programs file answer =
+    let w = start (rules_of programs) file in
+    Lasts grade mode codes programs file (travel (rules_of programs) file.steps trips w).value
+    × (answer ≡ run_answer mode codes programs file trips w)
+
+-- what comes of scripts that are accepted as these programs: a run from the file's start, or from the world that was
+-- frozen, where the text is of a frozen world of the file
+abbrev pub Comes : Grade → World → List Trip → Mode → List Code → List Program → WorldFile → List ℕ → Answer → Type 0
+Comes grade from trips Whole codes programs file text answer =
+    ComesFromStart grade trips Whole codes programs file answer
+Comes grade from trips Freezing codes programs file text answer =
+    ComesFromStart grade trips Freezing codes programs file answer
+Comes grade from trips (Thawing name) codes programs file text answer =
+    ((parts : WorldParts) × IsThawOf codes file text parts
+    × (answer ≡ run_answer (Thawing name) codes programs file trips from))
+    ⊎ ((fault : ImageFault) × IsThawFault codes file text fault × (answer ≡ image_refused name fault))
+
+-- what is answered to a play whose files have these texts, its scripts' and the frozen one: what comes of the programs,
+-- by the code that they have, or the refusal of the first script that isn't accepted
+abbrev pub PlaysTexts : Grade → World → List Trip → Play → List (List ℕ) → List ℕ → Answer → Type 0
+PlaysTexts grade from trips play texts text answer =
     ((programs : List Program) × (codes : List Code) × AreAccepted texts programs × AreCodesOf texts codes
-    × (answer ≡ run_answer codes programs play.world trips))
+    × Comes grade from trips play.mode codes programs play.world text answer)
     ⊎ ((name : List ℕ) × (fault : BuildFault) × FirstRefused play.names texts name fault
     × (answer ≡ script_refused name fault))
 
-abbrev pub Plays : Option Files → List Trip → Play → Answer → Type 0
-Plays held trips play answer =
-    (texts : List (List ℕ)) × AreHeld held play.names texts × PlaysTexts trips play texts answer
+abbrev pub Plays : Grade → Option Files → World → List Trip → Play → Answer → Type 0
+Plays grade held from trips play answer =
+    (texts : List (List ℕ)) × (text : List ℕ) × AreHeld held play.names texts × HoldsFrozen held play.mode text
+    × PlaysTexts grade from trips play texts text answer
 
 -- a text is accepted, or refused for its first fault
 abbrev pub Checks : List ℕ → List ℕ → Answer → Type 0
@@ -64,14 +105,20 @@ Checks name text answer =
     ⊎ ((fault : BuildFault) × FirstFault text fault × (answer ≡ script_refused name fault))
 
 -- these bytes are a world, or are refused for their first fault
-abbrev pub Replays : Option Files → List Trip → List ℕ → List ℕ → Answer → Type 0
-Replays held trips name bytes answer =
-    ((file : WorldFile) × IsWorld bytes file × Plays held trips (play_of file) answer)
+abbrev pub Replays : Grade → Option Files → World → List Trip → Mode → List ℕ → List ℕ → Answer → Type 0
+Replays grade held from trips mode name bytes answer =
+    ((file : WorldFile) × IsWorld bytes file × Plays grade held from trips (play_of mode file) answer)
     ⊎ ((fault : FileFault) × FileFirst bytes fault × (answer ≡ world_refused name fault))
 
--- the answer of a command over these files, where these trips were made
-abbrev pub Answers : Option Files → List Trip → Command → Answer → Type 0
-Answers held trips (Once name) answer = Plays held trips (play_of_once name) answer
-Answers held trips (Check name) answer = (text : List ℕ) × Holds held name text × Checks name text answer
-Answers held trips (Replay name) answer =
-    (bytes : List ℕ) × Holds held name bytes × Replays held trips name bytes answer
+-- a world file is read, and played so
+abbrev pub ReplaysFile : Grade → Option Files → World → List Trip → Mode → List ℕ → Answer → Type 0
+ReplaysFile grade held from trips mode name answer =
+    (bytes : List ℕ) × Holds held name bytes × Replays grade held from trips mode name bytes answer
+
+-- the answer of a command over these files, where this world was frozen before and these trips were made
+abbrev pub Answers : Grade → Option Files → World → List Trip → Command → Answer → Type 0
+Answers grade held from trips (Once name) answer = Plays grade held from trips (play_of_once name) answer
+Answers grade held from trips (Check name) answer = (text : List ℕ) × Holds held name text × Checks name text answer
+Answers grade held from trips (Replay name) answer = ReplaysFile grade held from trips Whole name answer
+Answers grade held from trips (Freeze name) answer = ReplaysFile grade held from trips Freezing name answer
+Answers grade held from trips (Thaw frozen name) answer = ReplaysFile grade held from trips (Thawing frozen) name answer

@@ -4,10 +4,10 @@ use Rattle.lsl_ports.specs.Counts.{NoneFell, Rose}
 use Rattle.lsl_ports.specs.Trips.{Honest, Trip, Went}
 use Rattle.lsl_ports.specs.Shelf.{Files}
 use Rattle.lsl_image.specs.Images.{IsIntact}
-use Rattle.lsl_lines.specs.declared.file.WorldFile.{WorldFile}
-use Rattle.lsl_tree.specs.Program.{Program}
-use Rattle.lsl_top.specs.Answers.{Answer, Answers}
-use Rattle.lsl_top.specs.Headline.{Runs, WritesJournal}
+use Rattle.lsl_region.specs.Worlds.{World}
+use Rattle.lsl_top.specs.Answers.{Answer, Answers, Due}
+use Rattle.lsl_top.specs.Froms.{IsFromWords}
+use Rattle.lsl_top.specs.Headline.{Outputs, WritesLines}
 use Rattle.lsl_top.specs.Named.{NamedRose}
 use Rattle.lsl_top.specs.Promise.{Keeps, SendsNothing, WritesNothing}
 use Rattle.lsl_top.specs.Status.{number_of}
@@ -47,16 +47,17 @@ pub record Ends (gives : List ℕ → Option (List ℕ) → Type 0) (words : Opt
   pub nothing : WritesNothing status → new.sunk ≡ old.sunk
   pub kept : (trips : List Trip) × Went gives old.trips new.trips trips
       × (SendsNothing status → trips ≡ [])
-      × (Honest IsIntact trips → Keeps old.held trips words status old.sunk new.sunk)
+      × ((from : World) → IsFromWords old.held words from → Honest IsIntact trips
+      → Keeps old.held from trips words status old.sunk new.sunk)
   pub read_fault : status ≡ ReadFault → NamedRose old.held words old.read_faults new.read_faults
   pub write_fault : status ≡ WriteFault → Rose old.write_faults new.write_faults
-  pub complete : (files : Files) (trips : List Trip) (command : Command) (answer : Answer) → old.held ≡ Some files → words ≡ Some command
-      → Answers (Some files) trips command answer → IsCalm words old new → (status ≡ answer.status) ⊎ (status ≡ NoMemory)
-  pub headline : (files : Files) (command : Command) (file : WorldFile) (programs : List Program)
-      (before trips : List Trip)
-      → old.held ≡ Some files → words ≡ Some command → Runs files command file programs → old.trips ≡ Some before
-      → new.trips ≡ Some (before ++ trips) → Honest IsIntact trips → IsCalm words old new
-      → WritesJournal file programs trips status old.sunk new.sunk
+  pub complete : (files : Files) (from : World) (trips : List Trip) (command : Command) (answer : Answer)
+      → old.held ≡ Some files → words ≡ Some command → Answers Due (Some files) from trips command answer
+      → IsCalm words old new → (status ≡ answer.status) ⊎ (status ≡ NoMemory)
+  pub headline : (files : Files) (from : World) (command : Command) (before trips : List Trip) (lines : List ℕ)
+      → old.held ≡ Some files → words ≡ Some command → old.trips ≡ Some before
+      → new.trips ≡ Some (before ++ trips) → Honest IsIntact trips → Outputs files from command trips lines
+      → IsCalm words old new → WritesLines lines status old.sunk new.sunk
   pub unchanged : new.held ≡ old.held
   pub reads_counted : NoneFell old.read_faults new.read_faults
   pub writes_counted : old.write_faults ≤ new.write_faults

@@ -1,16 +1,21 @@
 -- Steps that are done one by one, each one's lines being written before the next step: for private functions.
-use Rattle.std.specs.Prelude.{◌≡◌, ℕ, suc, ◌≤◌, List, take, Option, Result, MatchResult, IsErrOf}
+use Rattle.std.specs.Prelude.{◌≡◌, ℕ, suc, ◌≤◌, List, take, Option, Some, Result, MatchResult, IsErrOf, slice_get}
+use Rattle.hex.specs.Hex.{IsBytes}
 use Rattle.lsl_ports.specs.Counts.{Rose}
 use Rattle.lsl_ports.specs.Trips.{Honest, Trip, Went}
 use Rattle.lsl_code.specs.declared.woven_units.Woven.{Woven as Code}
-use Rattle.lsl_image.specs.Images.{IsIntact}
+use Rattle.lsl_image.specs.Images.{IsIntact, WorldImage}
+use Rattle.lsl_image.specs.Valid.{shapes_of}
 use Rattle.lsl_tree.specs.Program.{Program}
+use Rattle.lsl_script.specs.Lawful.{Lawful}
 use Rattle.lsl_script.specs.Rules.{Rules}
-use Rattle.lsl_region.specs.Worlds.{World}
+use Rattle.lsl_region.specs.Worlds.{Member, World}
 use Rattle.lsl_lines.specs.declared.file.Step.{Step}
+use Rattle.lsl_world.specs.Frozen.{frozen_image, parts_of_world}
 use Rattle.lsl_world.specs.Programs.{rules_of}
 use Rattle.lsl_world.specs.Travels.{travel}
 use Rattle.lsl_top.specs.Pieces.{Piece, step_pieces}
+use Rattle.lsl_top.specs.Plays.{Mode, Whole, Freezing, Thawing}
 use Rattle.lsl_top.specs.Ports.{Log, Wire}
 use Rattle.lsl_top.specs.Promise.{IsBegun, IsBegunAt, IsWhole}
 use Rattle.lsl_top.specs.declared.writing.Trouble.{Trouble}
@@ -49,15 +54,29 @@ pub record Goes {T : Type 0} (gives : List ℕ → Option (List ℕ) → Type 0)
   pub links_counted : before.faults ≤ after.faults
   pub cause : IsErrOf result WriteFault → Rose old.faults new.faults
 
--- a run of programs was written and sent so, where the trips are honest
-pub record Performs {T : Type 0} (gives : List ℕ → Option (List ℕ) → Type 0) (IsRun : List Program → Type 0)
-    (pieces : List Program → List Trip → List Piece) (old new : Log) (before after : Wire)
-    (result : Result T Trouble) : Type 0 where
+-- From each world that is there, a run of programs was written and sent so, where the trips are honest; and then this
+-- holds.
+pub record Performs {T : Type 0} (gives : List ℕ → Option (List ℕ) → Type 0) (IsThen : List Program → World → Type 0)
+    (Then : List Program → World → List Trip → Type 0) (pieces : List Program → World → List Trip → List Piece)
+    (old new : Log) (before after : Wire) (result : Result T Trouble) : Type 0 where
   pub trips : List Trip
   pub went : Went gives before.told after.told trips
-  pub runs : (programs : List Program) → IsRun programs → Honest IsIntact trips
-      → MatchResult result (λ _. IsWhole (pieces programs trips) trips old.sunk new.sunk)
-      (λ _. IsBegun (pieces programs trips) trips old.sunk new.sunk)
+  pub runs : (programs : List Program) (w : World) → IsThen programs w → Honest IsIntact trips
+      → MatchResult result
+      (λ _. IsWhole (pieces programs w trips) trips old.sunk new.sunk × Then programs w trips)
+      (λ _. IsBegun (pieces programs w trips) trips old.sunk new.sunk)
   pub counted : old.faults ≤ new.faults
   pub links_counted : before.faults ≤ after.faults
   pub cause : IsErrOf result WriteFault → Rose old.faults new.faults
+
+-- a world that was frozen: its handlers in flight are ones that its scripts can have, and these bytes are its image
+pub record IsFrozenWell (codes : List Code) (programs : List Program) (w : World) : Type 0 where
+  pub lawful : (n : ℕ) (m : Member) → slice_get w.members n ≡ Some m → Lawful (rules_of programs) m.script
+  pub image : WorldImage (shapes_of (parts_of_world codes w)) codes (parts_of_world codes w) (frozen_image codes w)
+  pub bytes : IsBytes (frozen_image codes w)
+
+-- what holds at the end of a run that was written
+abbrev pub IsLast : Mode → List Code → List Program → World → Type 0
+IsLast Whole codes programs w = Unit {0}
+IsLast Freezing codes programs w = IsFrozenWell codes programs w
+IsLast (Thawing frozen) codes programs w = Unit {0}

@@ -1,17 +1,28 @@
 -- Good files and accepted scripts, and what comes of a call over them.
-use Rattle.std.specs.Prelude.{◌≡◌, ℕ, ◌⊎◌, List, [], ◌∷◌, Option, Some}
+use Rattle.std.specs.Prelude.{◌≡◌, ℕ, ◌⊎◌, List, [], ◌∷◌, ◌++◌, Option, Some}
 use Rattle.std.specs.List.{AllZip}
 use Rattle.lsl_ports.specs.Shelf.{Files}
 use Rattle.lsl_ports.specs.Growth.{Grew, GrewPartly}
 use Rattle.lsl_ports.specs.Trips.{Trip}
+use Rattle.lsl_code.specs.declared.woven_units.Woven.{Woven as Code}
 use Rattle.lsl_tree.specs.Program.{Program}
 use Rattle.lsl_build.specs.Accepted.{Accepted}
+use Rattle.lsl_build.specs.Codes.{AreCodesOf}
+use Rattle.lsl_lines.specs.Frozen.{IsFrozen, frozen_line}
 use Rattle.lsl_lines.specs.Journal.{lines_of}
 use Rattle.lsl_lines.specs.World.{IsWorld}
+use Rattle.lsl_lines.specs.declared.file.Step.{Step}
 use Rattle.lsl_lines.specs.declared.file.WorldFile.{WorldFile}
-use Rattle.lsl_world.specs.Reports.{journal_of}
-use Rattle.lsl_top.specs.Plays.{names_in, once_world}
-use Rattle.lsl_top.specs.Words.{Command, Once, Replay}
+use Rattle.lsl_region.specs.Worlds.{World}
+use Rattle.lsl_world.specs.Frozen.{AgreesWith, IsImageIn, frozen_image, parts_of_world}
+use Rattle.lsl_world.specs.Kept.{kept_steps, regions_of}
+use Rattle.lsl_world.specs.Programs.{rules_of}
+use Rattle.lsl_world.specs.Reports.{homes, journal_of}
+use Rattle.lsl_world.specs.Starts.{start}
+use Rattle.lsl_world.specs.Steps.{reference}
+use Rattle.lsl_top.specs.Held.{AreHeld}
+use Rattle.lsl_top.specs.Plays.{Mode, Whole, Freezing, Thawing, names_in, once_world}
+use Rattle.lsl_top.specs.Words.{Command, Once, Check, Replay, Freeze, Thaw}
 use Rattle.lsl_top.specs.declared.status.Status.{Status}
 use Rattle.lsl_top.specs.declared.status.Status.TheVariants.{Ok, NoMemory}
 
@@ -19,20 +30,65 @@ use Rattle.lsl_top.specs.declared.status.Status.TheVariants.{Ok, NoMemory}
 abbrev pub IsScriptIn : Files → List ℕ → Program → Type 0
 IsScriptIn files name program = (text : List ℕ) × (files name ≡ Some text) × Accepted text program
 
+-- the files of those names are there, and their texts have this code
+abbrev pub IsCodeIn : Files → List (List ℕ) → List Code → Type 0
+IsCodeIn files names codes = (texts : List (List ℕ)) × AreHeld (Some files) names texts × AreCodesOf texts codes
+
 -- the file of that name is there, and is the file of this world
 abbrev pub IsWorldIn : Files → List ℕ → WorldFile → Type 0
 IsWorldIn files name file = (bytes : List ℕ) × (files name ≡ Some bytes) × IsWorld bytes file
 
--- the command runs this world, whose scripts are these programs
-abbrev pub Runs : Files → Command → WorldFile → List Program → Type 0
-Runs files (Once name) file programs = (file ≡ once_world) × AllZip (IsScriptIn files) (name ∷ []) programs
-Runs files (Replay name) file programs =
-    IsWorldIn files name file × AllZip (IsScriptIn files) (names_in file) programs
-Runs files _ file programs = ⊥
+-- good files: that of the world, and those of its scripts, which are accepted as these programs
+abbrev pub AreGood : Files → List ℕ → WorldFile → List Program → Type 0
+AreGood files name file programs = IsWorldIn files name file × AllZip (IsScriptIn files) (names_in file) programs
 
--- the sink grew by exactly the journal of the scripts' meaning by these trips, or memory lacked, and it grew by a
--- prefix of that
-abbrev pub WritesJournal : WorldFile → List Program → List Trip → Status → Option (List ℕ) → Option (List ℕ) → Type 0
-WritesJournal file programs trips status old new =
-    ((status ≡ Ok) × Grew old new (lines_of (journal_of programs file trips)))
-    ⊎ ((status ≡ NoMemory) × GrewPartly old new (lines_of (journal_of programs file trips)))
+-- the file of that name is there, and its last line is the image of this world, which agrees with the world's file
+abbrev pub IsFrozenIn : Files → List ℕ → List Code → List Program → WorldFile → World → Type 0
+IsFrozenIn files name codes programs file from =
+    (text : List ℕ) × (bytes : List ℕ) × (files name ≡ Some text) × IsFrozen text bytes
+    × AgreesWith programs file from × IsImageIn codes file (parts_of_world codes from) bytes
+
+-- the steps that are kept in a run from a world
+abbrev pub kept_from : WorldFile → List Trip → World → List Step
+kept_from file trips w = kept_steps (regions_of w) file.steps trips
+
+-- the journal of the scripts' meaning over the steps without refused crossings, and then where each object is
+abbrev pub report_from : List Program → WorldFile → List Trip → World → List ℕ
+report_from programs file trips w =
+    let all = reference (rules_of programs) (kept_from file trips w) w in
+    lines_of (all.entries ++ homes all.value)
+
+-- that journal, and then the image of the world to which the steps lead
+abbrev pub frozen_from : List Code → List Program → WorldFile → List Trip → World → List ℕ
+frozen_from codes programs file trips w =
+    let all = reference (rules_of programs) (kept_from file trips w) w in
+    lines_of all.entries ++ frozen_line (frozen_image codes all.value)
+
+-- what a run from a world writes
+abbrev pub output_from : Mode → List Code → List Program → WorldFile → List Trip → World → List ℕ
+output_from Whole codes programs file trips w = report_from programs file trips w
+output_from Freezing codes programs file trips w = frozen_from codes programs file trips w
+output_from (Thawing frozen) codes programs file trips w = report_from programs file trips w
+
+-- what a command that runs a world is to write, where this world was frozen and these trips were made
+abbrev pub Outputs : Files → World → Command → List Trip → List ℕ → Type 0
+Outputs files from (Once name) trips lines =
+    (programs : List Program) × AllZip (IsScriptIn files) (name ∷ []) programs
+    × (lines ≡ lines_of (journal_of programs once_world trips))
+Outputs files from (Check name) trips lines = ⊥
+Outputs files from (Replay name) trips lines =
+    (file : WorldFile) × (programs : List Program) × AreGood files name file programs
+    × (lines ≡ lines_of (journal_of programs file trips))
+Outputs files from (Freeze name) trips lines =
+    (file : WorldFile) × (programs : List Program) × (codes : List Code) × AreGood files name file programs
+    × IsCodeIn files (names_in file) codes
+    × (lines ≡ frozen_from codes programs file trips (start (rules_of programs) file))
+Outputs files from (Thaw frozen name) trips lines =
+    (file : WorldFile) × (programs : List Program) × (codes : List Code) × AreGood files name file programs
+    × IsCodeIn files (names_in file) codes × IsFrozenIn files frozen codes programs file from
+    × (lines ≡ report_from programs file trips from)
+
+-- the sink grew by exactly these lines, or memory lacked, and it grew by a prefix of them
+abbrev pub WritesLines : List ℕ → Status → Option (List ℕ) → Option (List ℕ) → Type 0
+WritesLines lines status old new =
+    ((status ≡ Ok) × Grew old new lines) ⊎ ((status ≡ NoMemory) × GrewPartly old new lines)

@@ -2,6 +2,7 @@
 use Rattle.std.specs.Prelude.{◌≡◌, ℕ, List, Option, Some, None}
 use Rattle.std.specs.List.{AllZip}
 use Rattle.lsl_ports.specs.Shelf.{Files}
+use Rattle.lsl_top.specs.Plays.{Mode, Whole, Freezing, Thawing}
 
 -- the file of that name has these bytes; of a shelf that doesn't tell nothing is known
 abbrev pub Holds : Option Files → List ℕ → List ℕ → Type 0
@@ -11,6 +12,12 @@ Holds (Some files) name text = files name ≡ Some text
 -- the files of those names have these bytes, in order
 abbrev pub AreHeld : Option Files → List (List ℕ) → List (List ℕ) → Type 0
 AreHeld held names texts = AllZip (Holds held) names texts
+
+-- the frozen file of a play, where it has one
+abbrev pub HoldsFrozen : Option Files → Mode → List ℕ → Type 0
+HoldsFrozen held Whole text = Unit {0}
+HoldsFrozen held Freezing text = Unit {0}
+HoldsFrozen held (Thawing name) text = Holds held name text
 
 -- the shelf tells what it holds
 abbrev pub IsToldBy : Option Files → Files → Type 0

@@ -5,33 +5,40 @@ use Rattle.lsl_ports.specs.Trips.{Honest, Trip, Went}
 use Rattle.lsl_code.specs.declared.woven_units.Woven.{Woven as Code}
 use Rattle.lsl_image.specs.Images.{IsIntact}
 use Rattle.lsl_tree.specs.Program.{Program}
-use Rattle.lsl_lines.specs.Journal.{lines_of}
 use Rattle.lsl_lines.specs.declared.file.WorldFile.{WorldFile}
+use Rattle.lsl_region.specs.Worlds.{World}
 use Rattle.lsl_world.specs.Programs.{rules_of}
-use Rattle.lsl_world.specs.Reports.{images_sent, journal_of}
-use Rattle.lsl_top.specs.Answers.{Answer, Answers}
+use Rattle.lsl_world.specs.Travels.{images}
+use Rattle.lsl_top.specs.Answers.{Answer, Answers, Grade}
 use Rattle.lsl_top.specs.Ends.{Ends, Outside}
-use Rattle.lsl_top.specs.Pieces.{lines_in, run_pieces, sent_in}
+use Rattle.lsl_top.specs.Froms.{IsFromWords}
+use Rattle.lsl_top.specs.Headline.{output_from}
+use Rattle.lsl_top.specs.Pieces.{lines_in, pieces_from, sent_in}
+use Rattle.lsl_top.specs.Plays.{Mode}
 use Rattle.lsl_top.specs.Promise.{Keeps}
 use Rattle.lsl_top.specs.Words.{Command}
 use Rattle.lsl_top.specs.declared.status.Status.{Status}
 
--- over files that are told, and with these trips, a command has one answer at most
+-- over files that are told, from a world that was frozen before, and with these trips, a command has one answer at most,
+-- due or written
 abbrev pub AnswersAreOne : Type 0
 AnswersAreOne =
-    (files : Files) (trips : List Trip) (command : Command) (a b : Answer)
-    → Answers (Some files) trips command a → Answers (Some files) trips command b → a ≡ b
+    (files : Files) (from : World) (trips : List Trip) (command : Command) (g h : Grade) (a b : Answer)
+    → Answers g (Some files) from trips command a → Answers h (Some files) from trips command b → a ≡ b
 
--- the pieces of a run are its journal, and send its images
-pub record ArePiecesOf (codes : List Code) (programs : List Program) (file : WorldFile) (trips : List Trip) : Type 0
-  where
-    pub lines : lines_in (run_pieces codes (rules_of programs) file trips) ≡ lines_of (journal_of programs file trips)
-    pub sent : sent_in (run_pieces codes (rules_of programs) file trips) ≡ images_sent codes programs file trips
+-- the pieces of a run are its journal over the steps without refused crossings, with what is told at its end, and they
+-- send its images
+pub record ArePiecesOf (mode : Mode) (codes : List Code) (programs : List Program) (file : WorldFile)
+    (trips : List Trip) (w : World) : Type 0 where
+  pub lines : lines_in (pieces_from mode codes (rules_of programs) file.steps trips w)
+      ≡ output_from mode codes programs file trips w
+  pub sent : sent_in (pieces_from mode codes (rules_of programs) file.steps trips w)
+      ≡ images codes (rules_of programs) file.steps trips w
 
 abbrev pub RunsAreJournals : Type 0
 RunsAreJournals =
-    (codes : List Code) (programs : List Program) (file : WorldFile) (trips : List Trip)
-    → ArePiecesOf codes programs file trips
+    (mode : Mode) (codes : List Code) (programs : List Program) (file : WorldFile) (trips : List Trip) (w : World)
+    → ArePiecesOf mode codes programs file trips w
 
 -- a link that gives back what it is sent
 abbrev pub copies : List ℕ → Option (List ℕ) → Type 0
@@ -47,4 +54,4 @@ abbrev pub CopiesKeep : Type 0
 CopiesKeep =
     (words : Option Command) (old new : Outside) (status : Status) → Ends copies words old new status
     → (trips : List Trip) × Went copies old.trips new.trips trips
-    × Keeps old.held trips words status old.sunk new.sunk
+    × ((from : World) → IsFromWords old.held words from → Keeps old.held from trips words status old.sunk new.sunk)

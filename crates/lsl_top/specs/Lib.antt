@@ -5,12 +5,15 @@ pub mod Scripts
 pub mod Lines
 pub mod Plays
 pub mod Pieces
+pub mod Thaws
 pub mod Answers
+pub mod Froms
 pub mod Named
 pub mod Promise
 pub mod Headline
 pub mod Ends
 pub mod Laws
+pub mod Halves
 pub mod Meant
 pub mod Ports
 pub mod Goes

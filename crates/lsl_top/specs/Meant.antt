@@ -6,12 +6,22 @@ use Rattle.lsl_build.specs.declared.faults.BuildFault.{BuildFault}
 use Rattle.lsl_top.specs.declared.building.Refused.{Refused}
 use Rattle.lsl_top.specs.declared.words.Command.{Command as Found}
 use Rattle.lsl_top.specs.declared.words.Command.TheVariants as found
-use Rattle.lsl_top.specs.Words.{Command, Once, Check, Replay}
+use Rattle.lsl_top.specs.declared.modes.Mode.{Mode as AMode}
+use Rattle.lsl_top.specs.declared.modes.Mode.TheVariants as modes
+use Rattle.lsl_top.specs.Plays.{Mode, Whole, Freezing, Thawing}
+use Rattle.lsl_top.specs.Words.{Command, Once, Check, Replay, Freeze, Thaw}
 
 abbrev pub asked_by : Found → Command
 asked_by (found.Once file) = Once file.now
 asked_by (found.Check file) = Check file.now
 asked_by (found.Replay file) = Replay file.now
+asked_by (found.Freeze file) = Freeze file.now
+asked_by (found.Thaw frozen file) = Thaw frozen.now file.now
+
+abbrev pub mode_of : AMode → Mode
+mode_of modes.Whole = Whole
+mode_of modes.Freezing = Freezing
+mode_of (modes.Thawing frozen) = Thawing frozen.now
 
 abbrev pub meant_by : Option Found → Option Command
 meant_by None = None

@@ -5,8 +5,8 @@ use Rattle.lsl_ports.specs.Shelf.{Files}
 use Rattle.lsl_lines.specs.World.{IsWorld}
 use Rattle.lsl_lines.specs.declared.file.WorldFile.{WorldFile}
 use Rattle.lsl_top.specs.Held.{Holds}
-use Rattle.lsl_top.specs.Plays.{names_in}
-use Rattle.lsl_top.specs.Words.{Command, Once, Check, Replay}
+use Rattle.lsl_top.specs.Plays.{Mode, Whole, Freezing, Thawing, names_in}
+use Rattle.lsl_top.specs.Words.{Command, Once, Check, Replay, Freeze, Thaw}
 
 -- the world's own file, as it is held, is good, and a script of it has its text in the file of that name
 abbrev pub IsNamedInWorld : Option Files → List ℕ → List ℕ → Type 0
@@ -14,11 +14,27 @@ IsNamedInWorld held world name =
     (bytes : List ℕ) × (file : WorldFile) × Holds held world bytes × IsWorld bytes file
     × Contains (names_in file) name
 
+-- the frozen file of a play
+abbrev pub IsFrozenName : Mode → List ℕ → Type 0
+IsFrozenName Whole name = ⊥
+IsFrozenName Freezing name = ⊥
+IsFrozenName (Thawing frozen) name = name ≡ frozen
+
+-- one of the files of a play: of its scripts', or the frozen one
+abbrev pub IsPlayName : Mode → List (List ℕ) → List ℕ → Type 0
+IsPlayName mode names name = IsFrozenName mode name ⊎ Contains names name
+
+-- the file of the world that is played so, or one that it names, or the frozen one
+abbrev pub IsNamedIn : Option Files → Mode → List ℕ → List ℕ → Type 0
+IsNamedIn held mode world name = IsFrozenName mode name ⊎ ((name ≡ world) ⊎ IsNamedInWorld held world name)
+
 -- the words name the file, or the world that they name does
 abbrev pub IsNamed : Option Files → Command → List ℕ → Type 0
 IsNamed held (Once file) name = name ≡ file
 IsNamed held (Check file) name = name ≡ file
-IsNamed held (Replay world) name = (name ≡ world) ⊎ IsNamedInWorld held world name
+IsNamed held (Replay world) name = IsNamedIn held Whole world name
+IsNamed held (Freeze world) name = IsNamedIn held Freezing world name
+IsNamed held (Thaw frozen world) name = IsNamedIn held (Thawing frozen) world name
 
 -- the count of one of these files rose
 abbrev pub NamedRose : Option Files → Option Command → (List ℕ → ℕ) → (List ℕ → ℕ) → Type 0

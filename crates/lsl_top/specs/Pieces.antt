@@ -1,16 +1,17 @@
 -- What is written and sent, piece by piece: a run has a piece for each step, and then one that tells where each object
--- is.
+-- is, or the frozen world.
 use Rattle.std.specs.Prelude.{ℕ, List, [], ◌∷◌, ◌++◌}
 use Rattle.lsl_ports.specs.Trips.{Trip}
 use Rattle.lsl_code.specs.declared.woven_units.Woven.{Woven as Code}
 use Rattle.lsl_script.specs.Rules.{Rules}
 use Rattle.lsl_region.specs.Worlds.{World}
+use Rattle.lsl_lines.specs.Frozen.{frozen_line}
 use Rattle.lsl_lines.specs.Journal.{lines_of}
 use Rattle.lsl_lines.specs.declared.file.Step.{Step}
-use Rattle.lsl_lines.specs.declared.file.WorldFile.{WorldFile}
+use Rattle.lsl_world.specs.Frozen.{frozen_image}
 use Rattle.lsl_world.specs.Reports.{homes}
-use Rattle.lsl_world.specs.Starts.{start}
 use Rattle.lsl_world.specs.Travels.{go_on, images_of, left, travel}
+use Rattle.lsl_top.specs.Plays.{Mode, Whole, Freezing, Thawing}
 
 -- lines, and what is handed to the link before they are written, in order
 pub record Piece : Type 0 where
@@ -40,8 +41,17 @@ step_pieces codes r (step ∷ steps) trips w =
 abbrev pub home_piece : World → Piece
 home_piece w = record { lines = lines_of (homes w); sent = [] }
 
--- the pieces of a file's run, where its scripts' units are these and mean this
-abbrev pub run_pieces : List Code → Rules → WorldFile → List Trip → List Piece
-run_pieces codes r file trips =
-    step_pieces codes r file.steps trips (start r file)
-    ++ home_piece (travel r file.steps trips (start r file)).value ∷ []
+-- the frozen world
+abbrev pub frozen_piece : List Code → World → Piece
+frozen_piece codes w = record { lines = frozen_line (frozen_image codes w); sent = [] }
+
+-- what is told at the end
+abbrev pub last_piece : Mode → List Code → World → Piece
+last_piece Whole codes w = home_piece w
+last_piece Freezing codes w = frozen_piece codes w
+last_piece (Thawing frozen) codes w = home_piece w
+
+-- the pieces of these steps from a world, and then the last one
+abbrev pub pieces_from : Mode → List Code → Rules → List Step → List Trip → World → List Piece
+pieces_from mode codes r steps trips w =
+    step_pieces codes r steps trips w ++ last_piece mode codes (travel r steps trips w).value ∷ []

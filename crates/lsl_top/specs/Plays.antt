@@ -1,21 +1,34 @@
--- What is played: the world of a file, or the one that `once` makes for a script.
+-- What is played: the world of a file, or the one that `once` makes for a script; from where, and what is told at its end.
 use Rattle.std.specs.Prelude.{ℕ, codes, List, [], ◌∷◌, map}
 use Rattle.std.specs.Str.{encode_utf8_all}
 use Rattle.lsl_lines.specs.declared.file.PrimLine.{PrimLine}
 use Rattle.lsl_lines.specs.declared.file.Step.TheVariants.{Run}
 use Rattle.lsl_lines.specs.declared.file.WorldFile.{WorldFile}
 
--- a world, and the names of its scripts' files, each once, in the order of their first naming
+-- how a world is played
+pub data Mode : Type 0 where
+  -- from its start, and then it is told where each object is
+  Whole : Mode
+  -- from its start, and then the world is frozen
+  Freezing : Mode
+  -- from the frozen world of this file, and then it is told where each object is
+  Thawing : (frozen : List ℕ) → Mode
+
+-- a world, the names of its scripts' files, each once, in the order of their first naming, and how it is played
 pub record Play : Type 0 where
   pub names : List (List ℕ)
   pub world : WorldFile
+  pub mode : Mode
 
 -- the names of the files of a world's scripts
 abbrev pub names_in : WorldFile → List (List ℕ)
 names_in file = map encode_utf8_all file.files
 
-abbrev pub play_of : WorldFile → Play
-play_of file = record { names = names_in file; world = file }
+abbrev pub played : Mode → List (List ℕ) → WorldFile → Play
+played mode names file = record { names = names; world = file; mode = mode }
+
+abbrev pub play_of : Mode → WorldFile → Play
+play_of mode file = played mode (names_in file) file
 
 -- one script in an object of its own, run for 1,000,000 segments; the name of its file doesn't stand here
 abbrev pub once_prim : PrimLine
@@ -37,4 +50,4 @@ once_world = record {
 }
 
 abbrev pub play_of_once : List ℕ → Play
-play_of_once name = record { names = name ∷ []; world = once_world }
+play_of_once name = record { names = name ∷ []; world = once_world; mode = Whole }

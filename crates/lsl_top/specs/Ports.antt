@@ -7,7 +7,11 @@ use Rattle.lsl_ports.specs.declared.reading.ShelfFault.TheVariants.{Failed, NoMe
 use Rattle.lsl_ports.specs.Growth.{Grew, GrewPartly}
 use Rattle.lsl_ports.specs.Trips.{Honest, Trip, Went}
 use Rattle.lsl_image.specs.Images.{IsIntact}
-use Rattle.lsl_top.specs.Answers.{Answer}
+use Rattle.lsl_region.specs.Worlds.{World}
+use Rattle.lsl_top.specs.Answers.{Answer, Grade, Due, PlaysTexts}
+use Rattle.lsl_top.specs.Froms.{IsFromTexts}
+use Rattle.lsl_top.specs.Held.{HoldsFrozen}
+use Rattle.lsl_top.specs.Plays.{Mode, Whole, Freezing, Thawing, Play}
 use Rattle.lsl_top.specs.Promise.{KeepsTo, SendsNothing}
 use Rattle.lsl_top.specs.declared.status.Status.{Status}
 use Rattle.lsl_top.specs.declared.status.Status.TheVariants as statuses
@@ -17,6 +21,21 @@ use Rattle.lsl_top.specs.declared.writing.Trouble.TheVariants.{WriteFault, NoMem
 -- what was read of a script's file: all of it, or one byte more than a script may have
 abbrev pub IsRead : Option Files → List ℕ → List ℕ → Type 0
 IsRead held name bytes = IsHead held name 65536 bytes
+
+-- what was read of a frozen file: all of it, or one byte more than it may have
+abbrev pub IsFrozenRead : Option Files → Mode → List ℕ → Type 0
+IsFrozenRead held Whole bytes = Unit {0}
+IsFrozenRead held Freezing bytes = Unit {0}
+IsFrozenRead held (Thawing name) bytes = IsHead held name 2147483647 bytes
+
+-- a play whose scripts were read, and its frozen file wasn't yet
+abbrev pub PlaysRead : Grade → Option Files → World → List Trip → Play → List (List ℕ) → Answer → Type 0
+PlaysRead grade held from trips play texts answer =
+    (text : List ℕ) × HoldsFrozen held play.mode text × PlaysTexts grade from trips play texts text answer
+
+abbrev pub IsFromRead : Option Files → Play → List (List ℕ) → World → Type 0
+IsFromRead held play texts from =
+    (text : List ℕ) → HoldsFrozen held play.mode text → IsFromTexts play texts text from
 
 -- what the sink tells
 pub record Log : Type 0 where
@@ -64,26 +83,29 @@ HasAnswer IsAnswer status = (answer : Answer) × IsAnswer answer × (answer.stat
 
 -- an answer was written, as far as the status says, and nothing was handed to the link
 pub record Finishes (IsAnswer : Answer → Type 0) (old new : Log) (status : Status) : Type 0 where
-  pub keeps : KeepsTo IsAnswer status [] old.sunk new.sunk
+  pub keeps : KeepsTo (λ grade. IsAnswer) status [] old.sunk new.sunk
   pub answers : IsOwn status → HasAnswer IsAnswer status
   pub counted : old.faults ≤ new.faults
   pub cause : status ≡ statuses.WriteFault → Rose old.faults new.faults
   pub no_read : status ≢ statuses.ReadFault
   pub no_usage : status ≢ statuses.Usage
 
--- an answer by the trips that were made was written and sent, as far as the status says
-pub record Concludes (gives : List ℕ → Option (List ℕ) → Type 0) (IsAnswer : List Trip → Answer → Type 0)
-    (old new : Log) (before after : Wire) (status : Status) : Type 0 where
-  pub trips : List Trip
-  pub went : Went gives before.told after.told trips
-  pub silent : SendsNothing status → trips ≡ []
-  pub keeps : Honest IsIntact trips → KeepsTo (IsAnswer trips) status trips old.sunk new.sunk
-  pub answers : (trips : List Trip) → IsOwn status → HasAnswer (IsAnswer trips) status
-  pub counted : old.faults ≤ new.faults
-  pub links_counted : before.faults ≤ after.faults
-  pub cause : status ≡ statuses.WriteFault → Rose old.faults new.faults
-  pub no_read : status ≢ statuses.ReadFault
-  pub no_usage : status ≢ statuses.Usage
+-- an answer by the trips that were made was written and sent, as far as the status says, from each world that can have
+-- been frozen
+pub record Concludes (gives : List ℕ → Option (List ℕ) → Type 0) (Fits : World → Type 0)
+    (IsAnswer : Grade → World → List Trip → Answer → Type 0) (old new : Log) (before after : Wire) (status : Status) : Type 0
+  where
+    pub trips : List Trip
+    pub went : Went gives before.told after.told trips
+    pub silent : SendsNothing status → trips ≡ []
+    pub keeps : (from : World) → Fits from → Honest IsIntact trips
+        → KeepsTo (λ grade. IsAnswer grade from trips) status trips old.sunk new.sunk
+    pub answers : (from : World) (trips : List Trip) → IsOwn status → HasAnswer (IsAnswer Due from trips) status
+    pub counted : old.faults ≤ new.faults
+    pub links_counted : before.faults ≤ after.faults
+    pub cause : status ≡ statuses.WriteFault → Rose old.faults new.faults
+    pub no_read : status ≢ statuses.ReadFault
+    pub no_usage : status ≢ statuses.Usage
 
 -- what the shelf, the sink and the link tell
 pub record Ports : Type 0 where
@@ -102,22 +124,24 @@ ports held read_faults sunk write_faults told link_faults =
     }
 
 -- the same, after files of these names were read
-pub record Serves (gives : List ℕ → Option (List ℕ) → Type 0) (IsAnswer : List Trip → Answer → Type 0)
-    (IsName : List ℕ → Type 0) (old new : Ports) (status : Status) : Type 0 where
-  pub trips : List Trip
-  pub went : Went gives old.wire.told new.wire.told trips
-  pub silent : SendsNothing status → trips ≡ []
-  pub keeps : Honest IsIntact trips → KeepsTo (IsAnswer trips) status trips old.log.sunk new.log.sunk
-  pub answers : (trips : List Trip) → IsOwn status → HasAnswer (IsAnswer trips) status
-  pub nothing : status ≡ statuses.ReadFault → new.log.sunk ≡ old.log.sunk
-  pub read_fault : status ≡ statuses.ReadFault
-      → (name : List ℕ) × IsName name × Rose (old.read_faults name) (new.read_faults name)
-  pub write_fault : status ≡ statuses.WriteFault → Rose old.log.faults new.log.faults
-  pub no_usage : status ≢ statuses.Usage
-  pub unchanged : new.held ≡ old.held
-  pub reads_counted : NoneFell old.read_faults new.read_faults
-  pub writes_counted : old.log.faults ≤ new.log.faults
-  pub links_counted : old.wire.faults ≤ new.wire.faults
+pub record Serves (gives : List ℕ → Option (List ℕ) → Type 0) (Fits : World → Type 0)
+    (IsAnswer : Grade → World → List Trip → Answer → Type 0) (IsName : List ℕ → Type 0) (old new : Ports) (status : Status) : Type 0
+  where
+    pub trips : List Trip
+    pub went : Went gives old.wire.told new.wire.told trips
+    pub silent : SendsNothing status → trips ≡ []
+    pub keeps : (from : World) → Fits from → Honest IsIntact trips
+        → KeepsTo (λ grade. IsAnswer grade from trips) status trips old.log.sunk new.log.sunk
+    pub answers : (from : World) (trips : List Trip) → IsOwn status → HasAnswer (IsAnswer Due from trips) status
+    pub nothing : status ≡ statuses.ReadFault → new.log.sunk ≡ old.log.sunk
+    pub read_fault : status ≡ statuses.ReadFault
+        → (name : List ℕ) × IsName name × Rose (old.read_faults name) (new.read_faults name)
+    pub write_fault : status ≡ statuses.WriteFault → Rose old.log.faults new.log.faults
+    pub no_usage : status ≢ statuses.Usage
+    pub unchanged : new.held ≡ old.held
+    pub reads_counted : NoneFell old.read_faults new.read_faults
+    pub writes_counted : old.log.faults ≤ new.log.faults
+    pub links_counted : old.wire.faults ≤ new.wire.faults
 
 -- the status of a file that wasn't read
 abbrev pub unread_status : ShelfFault → Status

@@ -3,7 +3,8 @@ use Rattle.std.specs.Prelude.{◌≡◌, ◌⊎◌, ℕ, suc, ◌<◌, List, [],
 use Rattle.lsl_ports.specs.Growth.{Begins, Grew}
 use Rattle.lsl_ports.specs.Shelf.{Files}
 use Rattle.lsl_ports.specs.Trips.{Trip, sent_of}
-use Rattle.lsl_top.specs.Answers.{Answer, Answers}
+use Rattle.lsl_region.specs.Worlds.{World}
+use Rattle.lsl_top.specs.Answers.{Answer, Answers, Grade, Due, Written}
 use Rattle.lsl_top.specs.Pieces.{Piece, lines_in, sent_in}
 use Rattle.lsl_top.specs.Words.{Command}
 use Rattle.lsl_top.specs.declared.status.Status.{Status}
@@ -38,20 +39,22 @@ WrotePart IsAnswer trips old new =
     (answer : Answer) × IsAnswer answer × IsBegun answer.pieces trips old new
 
 -- a status of an answer's own comes with the whole of it; after a failed write or for want of memory it was begun
-abbrev pub KeepsTo : (Answer → Type 0) → Status → List Trip → Option (List ℕ) → Option (List ℕ) → Type 0
-KeepsTo IsAnswer Ok trips old new = Wrote IsAnswer Ok trips old new
-KeepsTo IsAnswer BadWorld trips old new = Wrote IsAnswer BadWorld trips old new
-KeepsTo IsAnswer BadScript trips old new = Wrote IsAnswer BadScript trips old new
-KeepsTo IsAnswer BadImage trips old new = Wrote IsAnswer BadImage trips old new
-KeepsTo IsAnswer WriteFault trips old new = WrotePart IsAnswer trips old new
-KeepsTo IsAnswer NoMemory trips old new = ((new ≡ old) × (trips ≡ [])) ⊎ WrotePart IsAnswer trips old new
+abbrev pub KeepsTo : (Grade → Answer → Type 0) → Status → List Trip → Option (List ℕ) → Option (List ℕ) → Type 0
+KeepsTo IsAnswer Ok trips old new = Wrote (IsAnswer Written) Ok trips old new
+KeepsTo IsAnswer BadWorld trips old new = Wrote (IsAnswer Written) BadWorld trips old new
+KeepsTo IsAnswer BadScript trips old new = Wrote (IsAnswer Written) BadScript trips old new
+KeepsTo IsAnswer BadImage trips old new = Wrote (IsAnswer Written) BadImage trips old new
+KeepsTo IsAnswer WriteFault trips old new = WrotePart (IsAnswer Due) trips old new
+KeepsTo IsAnswer NoMemory trips old new = ((new ≡ old) × (trips ≡ [])) ⊎ WrotePart (IsAnswer Due) trips old new
 KeepsTo IsAnswer Usage trips old new = Unit {0}
 KeepsTo IsAnswer ReadFault trips old new = Unit {0}
 
--- the same of a command's answers by these trips, where the words are a command
-abbrev pub Keeps : Option Files → List Trip → Option Command → Status → Option (List ℕ) → Option (List ℕ) → Type 0
-Keeps held trips None status old new = Unit {0}
-Keeps held trips (Some command) status old new = KeepsTo (Answers held trips command) status trips old new
+-- the same of a command's answers from this world and by these trips, where the words are a command
+abbrev pub Keeps : Option Files → World → List Trip → Option Command → Status → Option (List ℕ) → Option (List ℕ)
+    → Type 0
+Keeps held from trips None status old new = Unit {0}
+Keeps held from trips (Some command) status old new =
+    KeepsTo (λ grade. Answers grade held from trips command) status trips old new
 
 -- the statuses at which nothing was sent, whatever came back
 abbrev pub SendsNothing : Status → Type 0

@@ -1,5 +1,5 @@
 -- What a command's words ask for.
-use Rattle.std.specs.Prelude.{ℕ, Bool, false, ◌==◌, not, codes, List, [], ◌∷◌, Option, Some, None, if◌then◌else◌, map, string_bytes, String}
+use Rattle.std.specs.Prelude.{ℕ, Bool, false, ◌==◌, ◌&&◌, not, codes, List, [], ◌∷◌, Option, Some, None, if◌then◌else◌, map, string_bytes, String}
 use Rattle.std.specs.Str.{bytes_eq}
 
 -- a command
@@ -10,6 +10,10 @@ pub data Command : Type 0 where
   Check : (file : List ℕ) → Command
   -- runs a world file
   Replay : (world : List ℕ) → Command
+  -- runs a world file, and freezes the world to which its steps lead
+  Freeze : (world : List ℕ) → Command
+  -- runs a world file from the frozen world of another file
+  Thaw : (frozen world : List ℕ) → Command
 
 -- a word that may name a file: it isn't empty, and doesn't begin with `-`
 abbrev pub names_file : List ℕ → Bool
@@ -20,10 +24,17 @@ names_file (c ∷ word) = not (c == 45)
 abbrev pub command_named : List ℕ → List ℕ → Option Command
 command_named word file = if bytes_eq word (codes "once") then Some (Once file)
     else if bytes_eq word (codes "check") then Some (Check file)
-    else if bytes_eq word (codes "replay") then Some (Replay file) else None
+    else if bytes_eq word (codes "replay") then Some (Replay file)
+    else if bytes_eq word (codes "freeze") then Some (Freeze file) else None
+
+-- the command of this word, for two files
+abbrev pub command_of_two : List ℕ → List ℕ → List ℕ → Option Command
+command_of_two word first second = if bytes_eq word (codes "thaw") then Some (Thaw first second) else None
 
 abbrev pub command_in : List (List ℕ) → Option Command
 command_in (word ∷ file ∷ []) = if names_file file then command_named word file else None
+command_in (word ∷ first ∷ second ∷ []) =
+    if names_file first && names_file second then command_of_two word first second else None
 command_in _ = None
 
 -- what the words ask for, or none where they are no command

@@ -1,18 +1,20 @@
 //! What each command does: its files are read, and then its answer is written.
-ghost use Rattle.std.specs.Prelude.{◌≡◌, List, ℕ, Contains, length, map};
+ghost use Rattle.std.specs.Prelude.{◌≡◌, length, map};
 ghost use Rattle.lsl_world.specs.Ranges.{IsInRange};
-ghost use Rattle.lsl_top.specs.Answers.{Answers, Checks, Plays, PlaysTexts};
-ghost use Rattle.lsl_top.specs.Meant.{asked_by};
-ghost use Rattle.lsl_top.specs.Named.{IsNamed};
-ghost use Rattle.lsl_top.specs.Plays.{names_in, play_of};
-ghost use Rattle.lsl_top.specs.Ports.{Concludes, Finishes, Serves, log, ports, unread_status, wire};
-ghost use Rattle.lsl_top.specs.Words.{Check, Once, Replay};
+ghost use Rattle.lsl_top.specs.Answers.{Answers, Checks, Plays, PlaysTexts, ReplaysFile};
+ghost use Rattle.lsl_top.specs.Froms.{IsFromFile, IsFromOf, IsFromPlay, IsFromTexts};
+ghost use Rattle.lsl_top.specs.Meant.{asked_by, mode_of};
+ghost use Rattle.lsl_top.specs.Named.{IsFrozenName, IsNamed, IsNamedIn, IsPlayName};
+ghost use Rattle.lsl_top.specs.Plays.{names_in, play_of, played};
+ghost use Rattle.lsl_top.specs.Ports.{Concludes, Finishes, IsFromRead, PlaysRead, Serves, log, ports, unread_status, wire};
+ghost use Rattle.lsl_top.specs.Words.{Check, Once};
 
 use crate::building::build_scripts;
 use crate::lines::{acceptance, refusal, world_refusal};
+use crate::modes::Mode;
 use crate::once::once_world;
-use crate::reading::{file_names, name_at, read_script, read_scripts};
-use crate::report::write_report;
+use crate::reading::{file_names, name_at, read_frozen, read_script, read_scripts};
+use crate::running::run_built;
 use crate::status::Status;
 use crate::words::Command;
 use crate::writing::{status_after, write_line};
@@ -33,7 +35,8 @@ pub fn serve<S: Shelf, K: Sink, L: Link>(
     sink: &mut K,
     link: &mut L,
 ) -> Status
-    ensures { Serves L.gives (λ trips. Answers (S.held shelf.old) trips (asked_by command.entry))
+    ensures { Serves L.gives (IsFromOf (S.held shelf.old) (asked_by command.entry))
+        (λ grade from trips. Answers grade (S.held shelf.old) from trips (asked_by command.entry))
         (IsNamed (S.held shelf.old) (asked_by command.entry))
         (ports (S.held shelf.old) (S.faults shelf.old) (K.sunk sink.old) (K.faults sink.old) (L.trips link.old)
         (L.faults link.old))
@@ -43,7 +46,16 @@ pub fn serve<S: Shelf, K: Sink, L: Link>(
     match command {
         Command::Once(file) => once(alloc, file, shelf, sink, link),
         Command::Check(file) => check(alloc, file, shelf, sink, link),
-        Command::Replay(file) => replay(alloc, file, shelf, sink, link),
+        Command::Replay(file) => replay(alloc, Mode::Whole, file, shelf, sink, link),
+        Command::Freeze(file) => replay(alloc, Mode::Freezing, file, shelf, sink, link),
+        Command::Thaw(frozen, file) => replay(
+            alloc,
+            Mode::Thawing(frozen),
+            file,
+            shelf,
+            sink,
+            link,
+        ),
     }
 }
 
@@ -65,7 +77,8 @@ fn check<S: Shelf, K: Sink, L: Link>(
     sink: &mut K,
     link: &mut L,
 ) -> Status
-    ensures { Serves L.gives (λ trips. Answers (S.held shelf.old) trips (Check name.now))
+    ensures { Serves L.gives (IsFromOf (S.held shelf.old) (Check name.now))
+        (λ grade from trips. Answers grade (S.held shelf.old) from trips (Check name.now))
         (IsNamed (S.held shelf.old) (Check name.now))
         (ports (S.held shelf.old) (S.faults shelf.old) (K.sunk sink.old) (K.faults sink.old) (L.trips link.old)
         (L.faults link.old))
@@ -102,7 +115,8 @@ fn once<S: Shelf, K: Sink, L: Link>(
     sink: &mut K,
     link: &mut L,
 ) -> Status
-    ensures { Serves L.gives (λ trips. Answers (S.held shelf.old) trips (Once name.now))
+    ensures { Serves L.gives (IsFromOf (S.held shelf.old) (Once name.now))
+        (λ grade from trips. Answers grade (S.held shelf.old) from trips (Once name.now))
         (IsNamed (S.held shelf.old) (Once name.now))
         (ports (S.held shelf.old) (S.faults shelf.old) (K.sunk sink.old) (K.faults sink.old) (L.trips link.old)
         (L.faults link.old))
@@ -110,21 +124,23 @@ fn once<S: Shelf, K: Sink, L: Link>(
         (L.faults link.new)) result }
 {
     match once_world(alloc) {
-        Ok(world) => play(alloc, &[name], &world, shelf, sink, link),
+        Ok(world) => play(alloc, Mode::Whole, &[name], &world, shelf, sink, link),
         Err(_) => Status::NoMemory,
     }
 }
 
-/// Runs a world file, or refuses it.
+/// Plays a world file, or refuses it.
 fn replay<S: Shelf, K: Sink, L: Link>(
     alloc: Global,
+    mode: Mode<'_>,
     name: &str,
     shelf: &mut S,
     sink: &mut K,
     link: &mut L,
 ) -> Status
-    ensures { Serves L.gives (λ trips. Answers (S.held shelf.old) trips (Replay name.now))
-        (IsNamed (S.held shelf.old) (Replay name.now))
+    ensures { Serves L.gives (IsFromFile (S.held shelf.old) (mode_of mode.entry) name.now)
+        (λ grade from trips. ReplaysFile grade (S.held shelf.old) from trips (mode_of mode.entry) name.now)
+        (IsNamedIn (S.held shelf.old) (mode_of mode.entry) name.now)
         (ports (S.held shelf.old) (S.faults shelf.old) (K.sunk sink.old) (K.faults sink.old) (L.trips link.old)
         (L.faults link.old))
         (ports (S.held shelf.new) (S.faults shelf.new) (K.sunk sink.new) (K.faults sink.new) (L.trips link.new)
@@ -135,7 +151,7 @@ fn replay<S: Shelf, K: Sink, L: Link>(
         Err(fault) => return unread(fault),
     };
     match read_world(alloc, text.as_slice()) {
-        Ok(world) => play_world(alloc, &world, shelf, sink, link),
+        Ok(world) => play_world(alloc, mode, &world, shelf, sink, link),
         Err(Refusal::Fault(fault)) => {
             status_after(
                 write_line(world_refusal(alloc, name, &fault), sink),
@@ -149,20 +165,23 @@ fn replay<S: Shelf, K: Sink, L: Link>(
 /// Plays a world with the files that it names.
 fn play_world<S: Shelf, K: Sink, L: Link>(
     alloc: Global,
+    mode: Mode<'_>,
     world: &WorldFile,
     shelf: &mut S,
     sink: &mut K,
     link: &mut L,
 ) -> Status
     requires { IsInRange world.now }
-    ensures { Serves L.gives (λ trips. Plays (S.held shelf.old) trips (play_of world.now)) (Contains (names_in world.now))
+    ensures { Serves L.gives (IsFromPlay (S.held shelf.old) (play_of (mode_of mode.entry) world.now))
+        (λ grade from trips. Plays grade (S.held shelf.old) from trips (play_of (mode_of mode.entry) world.now))
+        (IsPlayName (mode_of mode.entry) (names_in world.now))
         (ports (S.held shelf.old) (S.faults shelf.old) (K.sunk sink.old) (K.faults sink.old) (L.trips link.old)
         (L.faults link.old))
         (ports (S.held shelf.new) (S.faults shelf.new) (K.sunk sink.new) (K.faults sink.new) (L.trips link.new)
         (L.faults link.new)) result }
 {
     match file_names(alloc, world.files.as_slice()) {
-        Ok(names) => play(alloc, names.as_slice(), world, shelf, sink, link),
+        Ok(names) => play(alloc, mode, names.as_slice(), world, shelf, sink, link),
         Err(_) => Status::NoMemory,
     }
 }
@@ -170,6 +189,7 @@ fn play_world<S: Shelf, K: Sink, L: Link>(
 /// Plays a world whose scripts have their texts in the files of these names.
 fn play<S: Shelf, K: Sink, L: Link>(
     alloc: Global,
+    mode: Mode<'_>,
     names: &[&str],
     world: &WorldFile,
     shelf: &mut S,
@@ -179,25 +199,78 @@ fn play<S: Shelf, K: Sink, L: Link>(
     requires range { IsInRange world.now }
     requires names { length names.now ≡ length world.now.files }
     ensures { Serves L.gives
-        (λ trips. Plays (S.held shelf.old) trips (record { names = map (λ n. n.now) names.now; world = world.now }))
-        (Contains (map (λ n. n.now) names.now))
+        (IsFromPlay (S.held shelf.old) (played (mode_of mode.entry) (map (λ n. n.now) names.now) world.now))
+        (λ grade from trips. Plays grade (S.held shelf.old) from trips
+        (played (mode_of mode.entry) (map (λ n. n.now) names.now) world.now))
+        (IsPlayName (mode_of mode.entry) (map (λ n. n.now) names.now))
         (ports (S.held shelf.old) (S.faults shelf.old) (K.sunk sink.old) (K.faults sink.old) (L.trips link.old)
         (L.faults link.old))
         (ports (S.held shelf.new) (S.faults shelf.new) (K.sunk sink.new) (K.faults sink.new) (L.trips link.new)
         (L.faults link.new)) result }
 {
     match read_scripts(alloc, shelf, names) {
-        Ok(texts) => write_play(alloc, names, world, texts.as_slice(), sink, link),
+        Ok(texts) => play_texts(
+            alloc,
+            mode,
+            names,
+            world,
+            texts.as_slice(),
+            shelf,
+            sink,
+            link,
+        ),
         Err(fault) => unread(fault),
     }
 }
 
-/// Runs a world whose scripts have these texts and writes its journal, or the refusal of the first that isn't accepted.
-fn write_play<K: Sink, L: Link>(
+/// Plays a world whose scripts have these texts.
+fn play_texts<S: Shelf, K: Sink, L: Link>(
     alloc: Global,
+    mode: Mode<'_>,
     names: &[&str],
     world: &WorldFile,
     texts: &[Vec<u8>],
+    shelf: &mut S,
+    sink: &mut K,
+    link: &mut L,
+) -> Status
+    requires range { IsInRange world.now }
+    requires names { length names.now ≡ length world.now.files }
+    requires texts { length texts.now ≡ length names.now }
+    ensures { Serves L.gives
+        (IsFromRead (S.held shelf.old) (played (mode_of mode.entry) (map (λ n. n.now) names.now) world.now)
+        (map (λ t. t.items) texts.now))
+        (λ grade from trips. PlaysRead grade (S.held shelf.old) from trips
+        (played (mode_of mode.entry) (map (λ n. n.now) names.now) world.now) (map (λ t. t.items) texts.now))
+        (IsFrozenName (mode_of mode.entry))
+        (ports (S.held shelf.old) (S.faults shelf.old) (K.sunk sink.old) (K.faults sink.old) (L.trips link.old)
+        (L.faults link.old))
+        (ports (S.held shelf.new) (S.faults shelf.new) (K.sunk sink.new) (K.faults sink.new) (L.trips link.new)
+        (L.faults link.new)) result }
+{
+    match read_frozen(alloc, mode, shelf) {
+        Ok(text) => write_play(
+            alloc,
+            mode,
+            names,
+            world,
+            texts,
+            text.as_slice(),
+            sink,
+            link,
+        ),
+        Err(fault) => unread(fault),
+    }
+}
+
+/// Plays a world whose scripts have these texts, or writes the refusal of the first that isn't accepted.
+fn write_play<K: Sink, L: Link>(
+    alloc: Global,
+    mode: Mode<'_>,
+    names: &[&str],
+    world: &WorldFile,
+    texts: &[Vec<u8>],
+    text: &[u8],
     sink: &mut K,
     link: &mut L,
 ) -> Status
@@ -205,13 +278,15 @@ fn write_play<K: Sink, L: Link>(
     requires names { length names.now ≡ length world.now.files }
     requires texts { length texts.now ≡ length names.now }
     ensures { Concludes L.gives
-        (λ trips. PlaysTexts trips (record { names = map (λ n. n.now) names.now; world = world.now })
-        (map (λ t. t.items) texts.now))
+        (IsFromTexts (played (mode_of mode.entry) (map (λ n. n.now) names.now) world.now) (map (λ t. t.items) texts.now)
+        text.now)
+        (λ grade from trips. PlaysTexts grade from trips
+        (played (mode_of mode.entry) (map (λ n. n.now) names.now) world.now) (map (λ t. t.items) texts.now) text.now)
         (log (K.sunk sink.old) (K.faults sink.old)) (log (K.sunk sink.new) (K.faults sink.new))
         (wire (L.trips link.old) (L.faults link.old)) (wire (L.trips link.new) (L.faults link.new)) result }
 {
     match build_scripts(alloc, texts) {
-        Ok(units) => status_after(write_report(alloc, world, units, sink, link), Status::Ok),
+        Ok(units) => run_built(alloc, mode, world, units, text, sink, link),
         Err(Refusal::Fault(refused)) => status_after(
             write_line(
                 refusal(alloc, name_at(names, refused.place), &refused.fault),

@@ -1,14 +1,15 @@
 //! Laws of answers. Each law is a function whose clause is the law; it does nothing.
 
+ghost use Rattle.lsl_top.specs.Halves.{TwoHalvesAreOneRun};
 ghost use Rattle.lsl_top.specs.Laws.{AnswersAreOne, CopiesKeep, RunsAreJournals};
 
-/// Over files that are told, and by the trips that are made, a command has one answer at most: its status, its output and
-/// what it hands to the link.
+/// Over files that are told, from the world that was frozen before, and by the trips that are made, a command has one
+/// answer at most: its status, its output and what it hands to the link.
 pub fn answers_are_one()
     ensures { AnswersAreOne }
 {}
 
-/// The pieces of a run are its journal, and send the images of the objects that cross.
+/// The pieces of a run are its journal and what is told at its end, and send the images of the objects that cross.
 pub fn runs_are_journals()
     ensures { RunsAreJournals }
 {}
@@ -16,4 +17,11 @@ pub fn runs_are_journals()
 /// Over a link that gives back what it is sent, what a command keeps to holds without a premise on what comes back.
 pub fn copies_keep()
     ensures { CopiesKeep }
+{}
+
+/// A run may be frozen and thawed between two steps: where `freeze` ends well on the first steps, and its output is a file
+/// of at most 2,147,483,647 bytes, then its journal and after that the output of `thaw` on the other steps are the report
+/// of `replay` on all; and the two hand to the link what that does.
+pub fn two_halves_are_one_run()
+    ensures { TwoHalvesAreOneRun }
 {}

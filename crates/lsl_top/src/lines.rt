@@ -1,9 +1,13 @@
 //! The lines of a command that come from no run.
 
-ghost use Rattle.std.specs.Prelude.{◌≡◌, ◌++◌, IfOk, OnOk};
-ghost use Rattle.lsl_top.specs.Lines.{accepted_line, fault_words, place_words, refusal_of, world_refusal_of};
+ghost use Rattle.std.specs.Prelude.{◌≡◌, ◌++◌, codes, decimal, IfOk, OnOk};
+ghost use Rattle.hex.specs.Hex.{encode_lower};
+ghost use Rattle.lsl_top.specs.Lines.{accepted_line, detail_of, fault_words, image_refusal_of, number_of_image, place_words, refusal_of, two_words, world_refusal_of};
 
+use hex::encode;
+use itoa::Buffer;
 use lsl_build::BuildFault;
+use lsl_image::ImageFault;
 use lsl_lines::FileFault;
 use lsl_text::{NoMemory, Span, push_decimal, push_quoted};
 use std::alloc::Global;
@@ -41,6 +45,81 @@ pub fn world_refusal(alloc: Global, file: &str, fault: &FileFault) -> Result<Vec
     push_decimal(&mut out, i64::from(fault.line))?;
     push_fault(&mut out, fault.kind.number())?;
     Ok(out)
+}
+
+/// The line of a frozen file whose world isn't that of the world file. It takes memory for the line.
+pub fn image_refusal(alloc: Global, file: &str, fault: &ImageFault) -> Result<Vec<u8>, NoMemory>
+    ensures { IfOk result (λ line. line.items ≡ image_refusal_of file.now fault.now) }
+{
+    let mut out = Vec::new(alloc);
+    out.extend_from_slice(b"bad image ")?;
+    push_quoted(&mut out, file.as_bytes())?;
+    out.extend_from_slice(b" fault ")?;
+    push_decimal(&mut out, i64::from(image_number(fault)))?;
+    push_detail(&mut out, fault)?;
+    out.push(b'\n')?;
+    Ok(out)
+}
+
+/// The fault's number, as it is printed.
+fn image_number(fault: &ImageFault) -> u8
+    ensures { result ≡ number_of_image fault.now }
+{
+    match fault {
+        ImageFault::Size { .. } => 40,
+        ImageFault::Digest { .. } => 41,
+        ImageFault::Version(_) => 42,
+        ImageFault::WrongCode { .. } => 43,
+        ImageFault::Body(_) => 44,
+        ImageFault::NotFrozen => 45,
+    }
+}
+
+/// What is told of a fault: what was found and what is wanted, or where.
+fn push_detail(out: &mut Vec<u8>, fault: &ImageFault) -> Result<(), NoMemory>
+    ensures { OnOk result (out.new.items ≡ out.old.items ++ detail_of fault.now) }
+{
+    match fault {
+        ImageFault::Size { found, wanted } => push_sizes(out, *found, *wanted),
+        ImageFault::Digest { found, wanted } => push_digests(out, found, wanted),
+        ImageFault::Version(version) => push_number(out, u64::from(*version)),
+        ImageFault::WrongCode { found, wanted } => push_digests(out, found, wanted),
+        ImageFault::Body(place) => push_number(out, *place),
+        ImageFault::NotFrozen => Ok(()),
+    }
+}
+
+fn push_sizes(out: &mut Vec<u8>, found: u64, wanted: u64) -> Result<(), NoMemory>
+    ensures { OnOk result (out.new.items ≡ out.old.items ++ two_words (decimal found) (decimal wanted)) }
+{
+    push_number(out, found)?;
+    push_number(out, wanted)
+}
+
+fn push_digests(out: &mut Vec<u8>, found: &[u8; 32], wanted: &[u8; 32]) -> Result<(), NoMemory>
+    ensures { OnOk result (out.new.items ≡ out.old.items ++ two_words (encode_lower found.now) (encode_lower wanted.now)) }
+{
+    push_hex(out, found.as_slice())?;
+    push_hex(out, wanted.as_slice())
+}
+
+/// Appends a space, and the bytes in hexadecimal.
+fn push_hex(out: &mut Vec<u8>, bytes: &[u8]) -> Result<(), NoMemory>
+    ensures { OnOk result (out.new.items ≡ out.old.items ++ (codes " " ++ encode_lower bytes.now)) }
+{
+    let digits = encode(*out.allocator(), bytes)?;
+    out.push(b' ')?;
+    out.extend_from_slice(digits.as_bytes())
+}
+
+/// Appends a space, and the number in decimal.
+fn push_number(out: &mut Vec<u8>, n: u64) -> Result<(), NoMemory>
+    ensures { OnOk result (out.new.items ≡ out.old.items ++ (codes " " ++ decimal n)) }
+{
+    let mut buffer = Buffer::new();
+    let digits = buffer.format(n);
+    out.push(b' ')?;
+    out.extend_from_slice(digits.as_bytes())
 }
 
 fn push_place(out: &mut Vec<u8>, span: &Span, number: u8) -> Result<(), NoMemory>

@@ -3,8 +3,11 @@ ghost use Rattle.std.specs.Prelude.{◌≡◌, ◌<◌, length, slice_get, ℕ, 
 ghost use Rattle.std.specs.List.{AllZip};
 ghost use Rattle.std.specs.Str.{encode_utf8_all};
 ghost use Rattle.lsl_ports.specs.Counts.{NoneFell, Rose};
-ghost use Rattle.lsl_top.specs.Ports.{IsRead};
+ghost use Rattle.lsl_top.specs.Meant.{mode_of};
+ghost use Rattle.lsl_top.specs.Named.{IsFrozenName};
+ghost use Rattle.lsl_top.specs.Ports.{IsFrozenRead, IsRead};
 
+use crate::modes::Mode;
 use lsl_ports::{Shelf, ShelfFault, read_all};
 use lsl_text::NoMemory;
 use lsl_value::Text;
@@ -12,6 +15,9 @@ use std::alloc::Global;
 
 /// How many bytes of a script are read, but for one more, which shows that it is too long.
 const MAX_SCRIPT_BYTES: u64 = 65_536;
+
+/// How many bytes of a frozen file are read, but for one more.
+const MAX_FROZEN_BYTES: u64 = 2_147_483_647;
 
 /// The text of a script, or its first bytes where it is too long.
 pub fn read_script<S: Shelf>(
@@ -25,6 +31,25 @@ pub fn read_script<S: Shelf>(
     ensures counted { NoneFell (S.faults shelf.old) (S.faults shelf.new) }
 {
     read_all(alloc, shelf, name, MAX_SCRIPT_BYTES)
+}
+
+/// The text of the frozen file of a play, or its first bytes where it is too long; none of a play without one.
+pub fn read_frozen<S: Shelf>(
+    alloc: Global,
+    mode: Mode<'_>,
+    shelf: &mut S,
+) -> Result<Vec<u8>, ShelfFault>
+    ensures ok { IfOk result (λ text. IsFrozenRead (S.held shelf.old) (mode_of mode.entry) text.items) }
+    ensures unchanged { S.held shelf.new ≡ S.held shelf.old }
+    ensures err { IsErrOf result ShelfFault.Failed → (name : List ℕ) × IsFrozenName (mode_of mode.entry) name
+        × Rose (S.faults shelf.old name) (S.faults shelf.new name) }
+    ensures counted { NoneFell (S.faults shelf.old) (S.faults shelf.new) }
+{
+    match mode {
+        Mode::Whole => Ok(Vec::new(alloc)),
+        Mode::Freezing => Ok(Vec::new(alloc)),
+        Mode::Thawing(name) => read_all(alloc, shelf, name, MAX_FROZEN_BYTES),
+    }
 }
 
 /// The texts of these scripts, in order; each file is read once.

@@ -1,25 +1,29 @@
 //! The run of a world, written step by step.
-ghost use Rattle.std.specs.Prelude.{◌≡◌, ◌≤◌, List, [], ◌∷◌, All, length, IsErrOf, OnOk};
+ghost use Rattle.std.specs.Prelude.{◌≡◌, ◌≤◌, List, [], ◌∷◌, All, IfOk, IsErrOf, OnOk};
+ghost use Rattle.hex.specs.Hex.{IsBytes};
 ghost use Rattle.lsl_ports.specs.Counts.{Rose};
+ghost use Rattle.lsl_lines.specs.Frozen.{frozen_line};
 ghost use Rattle.lsl_lines.specs.Journal.{lines_of};
 ghost use Rattle.lsl_tree.specs.Program.{Program};
 ghost use Rattle.lsl_region.specs.Worlds.{World as SourceWorld};
-ghost use Rattle.lsl_world.specs.Codes.{AreRunBy};
+ghost use Rattle.lsl_world.specs.Frozen.{frozen_image};
 ghost use Rattle.lsl_world.specs.Programs.{rules_of};
-ghost use Rattle.lsl_world.specs.Ranges.{IsInRange};
 ghost use Rattle.lsl_world.specs.Reports.{homes};
 ghost use Rattle.lsl_world.specs.Sizes.{IsStepOf};
 ghost use Rattle.lsl_world.specs.Sound.{IsSound};
 ghost use Rattle.lsl_world.specs.Stands.{IsOf, size_of};
-ghost use Rattle.lsl_top.specs.Goes.{Goes, Performs};
-ghost use Rattle.lsl_top.specs.Pieces.{run_pieces};
+ghost use Rattle.lsl_world.specs.Travels.{travel};
+ghost use Rattle.lsl_top.specs.Goes.{Goes, IsFrozenWell, IsLast, Performs};
+ghost use Rattle.lsl_top.specs.Meant.{mode_of};
+ghost use Rattle.lsl_top.specs.Pieces.{last_piece, pieces_from};
 ghost use Rattle.lsl_top.specs.Ports.{Writes, log, wire};
 
-use crate::writing::{Trouble, write_entries};
-use lsl_code::Library;
-use lsl_lines::{Step, WorldFile};
+use crate::modes::Mode;
+use crate::writing::{Trouble, write_bytes, write_entries};
+use lsl_lines::{Step, push_frozen};
 use lsl_ports::{Link, Sink};
 use lsl_post::Entries;
+use lsl_text::NoMemory;
 use lsl_world::World;
 use std::alloc::Global;
 
@@ -57,10 +61,12 @@ fn write_steps<K: Sink, L: Link>(
 ) -> Result<(), Trouble>
     requires sound { IsSound world.old }
     requires steps { All (IsStepOf (size_of world.old)) steps.now }
-    ensures { Goes L.gives world.old.units (λ programs. IsOf programs world.old)
+    ensures goes { Goes L.gives world.old.units (λ programs. IsOf programs world.old)
         (λ programs. IsOf programs world.new) steps.now
         (log (K.sunk sink.old) (K.faults sink.old)) (log (K.sunk sink.new) (K.faults sink.new))
         (wire (L.trips link.old) (L.faults link.old)) (wire (L.trips link.new) (L.faults link.new)) result }
+    ensures units { OnOk result (world.new.units ≡ world.old.units) }
+    ensures sound { OnOk result (IsSound world.new) }
 {
     let mut lines = Vec::new(alloc);
     for step in steps {
@@ -82,22 +88,84 @@ fn write_homes<K: Sink>(alloc: Global, world: &World, sink: &mut K) -> Result<()
     write_entries(entries.as_slice(), &mut Vec::new(alloc), sink)
 }
 
-/// Runs a world file, whose scripts' files have these units, and writes its journal.
-pub fn write_report<K: Sink, L: Link>(
+/// The line of the frozen world.
+fn frozen_line(alloc: Global, world: &World) -> Result<Vec<u8>, NoMemory>
+    requires { IsSound world.now }
+    ensures { (programs : List Program) (w : SourceWorld) → IsOf programs world.now w
+        → IfOk result (λ line. (line.items ≡ frozen_line (frozen_image world.now.units w))
+        × IsFrozenWell world.now.units programs w) }
+{
+    let image = world.freeze()?;
+    image_line(alloc, image.as_slice())
+}
+
+/// The line of a frozen world of these bytes.
+fn image_line(alloc: Global, image: &[u8]) -> Result<Vec<u8>, NoMemory>
+    ensures line { IfOk result (λ line. line.items ≡ frozen_line image.now) }
+    ensures bytes { IsBytes image.now }
+{
+    let mut line = Vec::new(alloc);
+    push_frozen(&mut line, image)?;
+    Ok(line)
+}
+
+/// Writes the frozen world.
+fn write_frozen<K: Sink>(alloc: Global, world: &World, sink: &mut K) -> Result<(), Trouble>
+    requires { IsSound world.now }
+    ensures of { (programs : List Program) (w : SourceWorld) → IsOf programs world.now w
+        → Writes (frozen_line (frozen_image world.now.units w)) (log (K.sunk sink.old) (K.faults sink.old))
+        (log (K.sunk sink.new) (K.faults sink.new)) result }
+    ensures last { (programs : List Program) (w : SourceWorld) → IsOf programs world.now w
+        → OnOk result (IsFrozenWell world.now.units programs w) }
+    ensures counted { K.faults sink.old ≤ K.faults sink.new }
+    ensures cause { IsErrOf result Trouble.WriteFault → Rose (K.faults sink.old) (K.faults sink.new) }
+{
+    let line = frozen_line(alloc, world)?;
+    write_bytes(line.as_slice(), sink)
+}
+
+/// Writes what is told at the end.
+fn write_last<K: Sink>(
     alloc: Global,
-    file: &WorldFile,
-    units: Library,
+    mode: Mode<'_>,
+    world: &World,
+    sink: &mut K,
+) -> Result<(), Trouble>
+    requires { IsSound world.now }
+    ensures of { (programs : List Program) (w : SourceWorld) → IsOf programs world.now w
+        → Writes (last_piece (mode_of mode.entry) world.now.units w).lines
+        (log (K.sunk sink.old) (K.faults sink.old)) (log (K.sunk sink.new) (K.faults sink.new)) result }
+    ensures last { (programs : List Program) (w : SourceWorld) → IsOf programs world.now w
+        → OnOk result (IsLast (mode_of mode.entry) world.now.units programs w) }
+    ensures counted { K.faults sink.old ≤ K.faults sink.new }
+    ensures cause { IsErrOf result Trouble.WriteFault → Rose (K.faults sink.old) (K.faults sink.new) }
+{
+    match mode {
+        Mode::Whole => write_homes(alloc, world, sink),
+        Mode::Freezing => write_frozen(alloc, world, sink),
+        Mode::Thawing(_) => write_homes(alloc, world, sink),
+    }
+}
+
+/// Runs a world, and writes its journal and what is told at its end.
+pub fn write_run<K: Sink, L: Link>(
+    alloc: Global,
+    mode: Mode<'_>,
+    world: World,
+    steps: &[Step],
     sink: &mut K,
     link: &mut L,
 ) -> Result<(), Trouble>
-    requires file { IsInRange file.now }
-    requires units { length units ≡ length file.now.files }
-    ensures { Performs L.gives (λ programs. AreRunBy programs units)
-        (λ programs trips. run_pieces units (rules_of programs) file.now trips)
+    requires sound { IsSound world }
+    requires steps { All (IsStepOf (size_of world)) steps.now }
+    ensures { Performs L.gives (λ programs w. IsOf programs world w)
+        (λ programs w trips. IsLast (mode_of mode.entry) world.units programs
+        (travel (rules_of programs) steps.now trips w).value)
+        (λ programs w trips. pieces_from (mode_of mode.entry) world.units (rules_of programs) steps.now trips w)
         (log (K.sunk sink.old) (K.faults sink.old)) (log (K.sunk sink.new) (K.faults sink.new))
         (wire (L.trips link.old) (L.faults link.old)) (wire (L.trips link.new) (L.faults link.new)) result }
 {
-    let mut world = World::start(alloc, file, units)?;
-    write_steps(alloc, &mut world, file.steps.as_slice(), sink, link)?;
-    write_homes(alloc, &world, sink)
+    let mut world = world;
+    write_steps(alloc, &mut world, steps, sink, link)?;
+    write_last(alloc, mode, &world, sink)
 }

@@ -1,6 +1,6 @@
 //! The words of a command, read by hand.
 ghost use Rattle.std.specs.Prelude.{◌≡◌};
-ghost use Rattle.lsl_top.specs.Words.{command_named, command_of, names_file};
+ghost use Rattle.lsl_top.specs.Words.{command_named, command_of, command_of_two, names_file};
 ghost use Rattle.lsl_top.specs.Meant.{meant_by};
 
 /// What the words ask for, with the file that they name.
@@ -12,6 +12,10 @@ pub enum Command<'a> {
     Check(&'a str),
     /// Runs a world file.
     Replay(&'a str),
+    /// Runs a world file, and freezes the world to which its steps lead.
+    Freeze(&'a str),
+    /// Runs a world file, the second, from the frozen world of the first.
+    Thaw(&'a str, &'a str),
 }
 
 fn names_file(word: &str) -> bool
@@ -30,6 +34,16 @@ fn command_named<'a>(word: &str, file: &'a str) -> Option<Command<'a>>
         "once" => Some(Command::Once(file)),
         "check" => Some(Command::Check(file)),
         "replay" => Some(Command::Replay(file)),
+        "freeze" => Some(Command::Freeze(file)),
+        _ => None,
+    }
+}
+
+fn command_of_two<'a>(word: &str, first: &'a str, second: &'a str) -> Option<Command<'a>>
+    ensures { command_of_two word.now first.now second.now ≡ meant_by result }
+{
+    match word {
+        "thaw" => Some(Command::Thaw(first, second)),
         _ => None,
     }
 }
@@ -40,6 +54,9 @@ pub fn parse_words(words: &[String]) -> Option<Command<'_>>
 {
     match words {
         [word, file] if names_file(file.as_str()) => command_named(word.as_str(), file.as_str()),
+        [word, first, second] if names_file(first.as_str()) && names_file(second.as_str()) => {
+            command_of_two(word.as_str(), first.as_str(), second.as_str())
+        }
         _ => None,
     }
 }

@@ -48,7 +48,7 @@ pub fn status_after(written: Result<(), Trouble>, status: Status) -> Status
 }
 
 /// Writes bytes. It takes no memory.
-fn write_bytes<K: Sink>(bytes: &[u8], sink: &mut K) -> Result<(), Trouble>
+pub fn write_bytes<K: Sink>(bytes: &[u8], sink: &mut K) -> Result<(), Trouble>
     ensures { Writes bytes.now (log (K.sunk sink.old) (K.faults sink.old)) (log (K.sunk sink.new) (K.faults sink.new))
         result }
 {

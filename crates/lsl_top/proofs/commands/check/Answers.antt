@@ -1,5 +1,8 @@
 use Rattle.std.proofs.Common.{Err, List, ℕ, refl, sym, ap, subst}
-use Rattle.lsl_top.specs.Answers.{Answers, Checks}
+use Rattle.lsl_ports.specs.Trips.{Trip}
+use Rattle.lsl_region.specs.Worlds.{World}
+use Rattle.lsl_top.specs.Answers.{Answer, Answers, Checks, Grade}
+use Rattle.lsl_top.specs.Froms.{IsFromOf}
 use Rattle.lsl_top.specs.Named.{IsNamed}
 use Rattle.lsl_top.specs.Ports.{Serves, log, ports, wire}
 use Rattle.lsl_top.specs.Words.{Check}
@@ -18,31 +21,36 @@ returns-in-Ok g c =
     let old = (log (g.K.Sink.sunk c.args.sink.now) (g.K.Sink.faults c.args.sink.now)) in
     let new = (log (g.K.Sink.sunk c.write_check.new.sink) (g.K.Sink.faults c.write_check.new.sink)) in
     let link = (wire (g.L.Link.trips c.args.link.now) (g.L.Link.faults c.args.link.now)) in
-    serve-concluded g.L.Link.gives (λ trips. Answers held trips (Check name)) (IsNamed held (Check name)) held
+    let Fits = IsFromOf held (Check name) in
+    let IsOne : Grade → World → List Trip → Answer → Type 0 = λ grade from trips. Checks name c.as_slice.result.now in
+    serve-concluded g.L.Link.gives Fits (λ grade from trips. Answers grade held from trips (Check name))
+    (IsNamed held (Check name)) held
     (g.S.Shelf.held c.read_script.new.shelf) (g.S.Shelf.faults c.args.shelf.now)
     (g.S.Shelf.faults c.read_script.new.shelf) read.unchanged read.counted
-    (λ trips. Checks name c.as_slice.result.now) old new link link c.write_check.result
-    (λ trips answer h. (
+    Fits IsOne old new link link c.write_check.result (λ from fits. fits)
+    (λ grade from trips answer h. (
       text,
       is,
       checks-read name bytes text answer of
           (subst (λ (z : List ℕ). Checks name z answer) c.as_slice.ensures.value h),
     ))
-    (concludes-finished g.L.Link.gives (Checks name c.as_slice.result.now) (λ trips. Checks name c.as_slice.result.now)
-    old new link c.write_check.result (λ trips answer h. h) c.write_check.ensures)
+    (concludes-finished g.L.Link.gives (Checks name c.as_slice.result.now) Fits IsOne
+    old new link c.write_check.result (λ grade from trips answer h. h) c.write_check.ensures)
 
 pub returns-in-Err : goal.returns-in-Err
 returns-in-Err g c =
     let held = g.S.Shelf.held c.args.shelf.now in
     let name = c.args.name.now in
     let read = c.in-Err.ensures in
-    subst (λ (status : Status). Serves g.L.Link.gives (λ trips. Answers held trips (Check name)) (IsNamed held (Check name))
+    let Fits = IsFromOf held (Check name) in
+    let IsThis : Grade → World → List Trip → Answer → Type 0 = λ grade from trips. Answers grade held from trips (Check name) in
+    subst (λ (status : Status). Serves g.L.Link.gives Fits IsThis (IsNamed held (Check name))
     (ports held (g.S.Shelf.faults c.args.shelf.now) (g.K.Sink.sunk c.args.sink.now) (g.K.Sink.faults c.args.sink.now)
     (g.L.Link.trips c.args.link.now) (g.L.Link.faults c.args.link.now))
     (ports (g.S.Shelf.held c.read_script.new.shelf) (g.S.Shelf.faults c.read_script.new.shelf) (g.K.Sink.sunk c.args.sink.now)
     (g.K.Sink.faults c.args.sink.now) (g.L.Link.trips c.args.link.now) (g.L.Link.faults c.args.link.now)) status)
     (sym c.unread.ensures)
-    (serve-unread g.L.Link.gives (λ trips. Answers held trips (Check name)) (IsNamed held (Check name)) held
+    (serve-unread g.L.Link.gives Fits IsThis (IsNamed held (Check name)) held
     (g.S.Shelf.held c.read_script.new.shelf) (g.S.Shelf.faults c.args.shelf.now) (g.S.Shelf.faults c.read_script.new.shelf)
     read.unchanged read.counted (log (g.K.Sink.sunk c.args.sink.now) (g.K.Sink.faults c.args.sink.now))
     (wire (g.L.Link.trips c.args.link.now) (g.L.Link.faults c.args.link.now)) c.in-Err.fault

@@ -1,8 +1,10 @@
-use Rattle.std.proofs.Common.{Contains, [], ◌∷◌, length, refl, sym, ap, subst, arith}
+use Rattle.std.proofs.Common.{[], ◌∷◌, length, inl, inr, refl, sym, ap, subst, arith}
 use Rattle.lsl_lines.specs.declared.file.WorldFile.{WorldFile}
 use Rattle.lsl_world.specs.Ranges.{IsInRange}
 use Rattle.lsl_top.specs.Answers.{Answers, Plays}
-use Rattle.lsl_top.specs.Named.{IsNamed}
+use Rattle.lsl_top.specs.Froms.{IsFromOf, IsFromPlay}
+use Rattle.lsl_top.specs.Named.{IsNamed, IsPlayName}
+use Rattle.lsl_top.specs.Plays.{Whole, played}
 use Rattle.lsl_top.specs.Ports.{log, ports, wire}
 use Rattle.lsl_top.specs.Words.{Once}
 use Rattle.lsl_top.proofs.Finishing.{serve-later, serve-memory}
@@ -20,21 +22,28 @@ returns-in-Ok g c =
     let held = g.S.Shelf.held c.args.shelf.now in
     let name = c.args.name.now in
     let faults = g.S.Shelf.faults c.args.shelf.now in
-    serve-later g.L.Link.gives (λ trips. Plays held trips (record { names = name ∷ []; world = c.in-Ok.world }))
-    (λ trips. Answers held trips (Once name)) (Contains (name ∷ [])) (IsNamed held (Once name)) held held faults faults
+    serve-later g.L.Link.gives (IsFromPlay held (played Whole (name ∷ []) c.in-Ok.world)) (IsFromOf held (Once name))
+    (λ grade from trips. Plays grade held from trips (played Whole (name ∷ []) c.in-Ok.world))
+    (λ grade from trips. Answers grade held from trips (Once name)) (IsPlayName Whole (name ∷ []))
+    (IsNamed held (Once name)) held held faults faults
     (log (g.K.Sink.sunk c.args.sink.now) (g.K.Sink.faults c.args.sink.now))
     (wire (g.L.Link.trips c.args.link.now) (g.L.Link.faults c.args.link.now))
     (ports (g.S.Shelf.held c.play.new.shelf) (g.S.Shelf.faults c.play.new.shelf) (g.K.Sink.sunk c.play.new.sink)
     (g.K.Sink.faults c.play.new.sink) (g.L.Link.trips c.play.new.link) (g.L.Link.faults c.play.new.link)) c.play.result refl (λ n. omega arith)
-    (λ trips answer h. subst (λ (w : WorldFile). Plays held trips (record { names = name ∷ []; world = w }) answer)
-    c.in-Ok.ensures h)
-    (λ n h. only-name name n h) c.play.ensures
+    (λ from fits texts text are holds programs codes all has. tt)
+    (λ grade from trips answer h.
+    subst (λ (w : WorldFile). Plays grade held from trips (played Whole (name ∷ []) w) answer) c.in-Ok.ensures h)
+    (λ n h. elim h [
+      | inl never ↦ absurd never
+      | inr has ↦ only-name name n has
+    ]) c.play.ensures
 
 pub returns-in-Err : goal.returns-in-Err
 returns-in-Err g c =
     let held = g.S.Shelf.held c.args.shelf.now in
     let name = c.args.name.now in
-    serve-memory g.L.Link.gives (λ trips. Answers held trips (Once name)) (IsNamed held (Once name)) held held
+    serve-memory g.L.Link.gives (IsFromOf held (Once name)) (λ grade from trips. Answers grade held from trips (Once name))
+    (IsNamed held (Once name)) held held
     (g.S.Shelf.faults c.args.shelf.now) (g.S.Shelf.faults c.args.shelf.now) refl (λ n. omega arith)
     (log (g.K.Sink.sunk c.args.sink.now) (g.K.Sink.faults c.args.sink.now))
     (wire (g.L.Link.trips c.args.link.now) (g.L.Link.faults c.args.link.now))

@@ -1,22 +1,28 @@
-use Rattle.std.proofs.Common.{◌≡◌, Err, ap, List, ℕ, Vec, Global, Bor, Contains, map, length, sym, ◌∙◌, subst}
+use Rattle.std.proofs.Common.{◌≡◌, Err, Option, ap, List, ℕ, Vec, Global, Bor, map, length, inl, inr, sym, ◌∙◌, subst}
 use Rattle.std.proofs.lemmas.List.{length-map}
 use Rattle.std.proofs.lemmas.List.Elements.{length_all_zip}
-use Rattle.lsl_top.specs.Answers.{Plays, PlaysTexts}
-use Rattle.lsl_top.specs.Plays.{Play}
-use Rattle.lsl_top.specs.Ports.{IsRead, Serves, log, ports, wire}
+use Rattle.lsl_ports.specs.Shelf.{Files}
+use Rattle.lsl_ports.specs.Trips.{Trip}
+use Rattle.lsl_region.specs.Worlds.{World}
+use Rattle.lsl_top.specs.Answers.{Answer, Grade, Plays}
+use Rattle.lsl_top.specs.Froms.{IsFromPlay}
+use Rattle.lsl_top.specs.Meant.{mode_of}
+use Rattle.lsl_top.specs.Named.{IsFrozenName, IsPlayName}
+use Rattle.lsl_top.specs.Plays.{Play, played}
+use Rattle.lsl_top.specs.Ports.{IsFromRead, IsRead, PlaysRead, Serves, log, ports, wire}
 use Rattle.lsl_top.specs.declared.status.Status.{Status}
-use Rattle.lsl_top.proofs.FilesRead.{plays-read, texts-read}
-use Rattle.lsl_top.proofs.Finishing.{serve-concluded, serve-unread}
+use Rattle.lsl_top.proofs.FilesRead.{from-read, plays-read, texts-read}
+use Rattle.lsl_top.proofs.Finishing.{serve-later, serve-unread}
 use Rattle.lsl_top.proofs.commands.play.Goals as goal
 
-pub write_play-requires-clause-range : goal.write_play-requires-clause-range
-write_play-requires-clause-range g c = c.requires.range
+pub play_texts-requires-clause-range : goal.play_texts-requires-clause-range
+play_texts-requires-clause-range g c = c.requires.range
 
-pub write_play-requires-clause-names : goal.write_play-requires-clause-names
-write_play-requires-clause-names g c = c.requires.names
+pub play_texts-requires-clause-names : goal.play_texts-requires-clause-names
+play_texts-requires-clause-names g c = c.requires.names
 
-pub write_play-requires-clause-texts : goal.write_play-requires-clause-texts
-write_play-requires-clause-texts g c =
+pub play_texts-requires-clause-texts : goal.play_texts-requires-clause-texts
+play_texts-requires-clause-texts g c =
     let names = map (λ (n : Bor (List ℕ)). n.now) c.args.names.now in
     subst (λ (z : List (Vec ℕ Global)). length z ≡ length c.args.names.now) (sym c.as_slice.ensures.value)
     (sym (length-map c.in-Ok.texts.items (λ t. t.items))
@@ -27,42 +33,52 @@ write_play-requires-clause-texts g c =
 pub returns-in-Ok : goal.returns-in-Ok
 returns-in-Ok g c =
     let held = g.S.Shelf.held c.args.shelf.now in
+    let later = g.S.Shelf.held c.read_scripts.new.shelf in
+    let mode = mode_of c.args.mode in
     let names = map (λ (n : Bor (List ℕ)). n.now) c.args.names.now in
-    let play : Play = record { names = names; world = c.args.world.now } in
+    let play : Play = played mode names c.args.world.now in
     let bytes = map (λ t. t.items) c.in-Ok.texts.items in
+    let given = map (λ (t : Vec ℕ Global). t.items) c.as_slice.result.now in
     let read = c.in-Ok.ensures in
     let (texts, are, of) = texts-read held names bytes read.ok in
-    serve-concluded g.L.Link.gives (λ trips. Plays held trips play) (Contains names) held
-    (g.S.Shelf.held c.read_scripts.new.shelf) (g.S.Shelf.faults c.args.shelf.now)
-    (g.S.Shelf.faults c.read_scripts.new.shelf) read.unchanged read.counted
-    (λ trips. PlaysTexts trips play (map (λ t. t.items) c.as_slice.result.now))
+    serve-later g.L.Link.gives (IsFromRead later play given) (IsFromPlay held play)
+    (λ grade from trips. PlaysRead grade later from trips play given) (λ grade from trips. Plays grade held from trips play)
+    (IsFrozenName mode) (IsPlayName mode names) held later (g.S.Shelf.faults c.args.shelf.now)
+    (g.S.Shelf.faults c.read_scripts.new.shelf)
     (log (g.K.Sink.sunk c.args.sink.now) (g.K.Sink.faults c.args.sink.now))
-    (log (g.K.Sink.sunk c.write_play.new.sink) (g.K.Sink.faults c.write_play.new.sink))
     (wire (g.L.Link.trips c.args.link.now) (g.L.Link.faults c.args.link.now))
-    (wire (g.L.Link.trips c.write_play.new.link) (g.L.Link.faults c.write_play.new.link)) c.write_play.result
-    (λ trips answer h. (
-      texts,
-      are,
-      plays-read trips play bytes texts answer of
-          (subst (λ (z : List (Vec ℕ Global)). PlaysTexts trips play (map (λ t. t.items) z) answer)
-          c.as_slice.ensures.value h),
-    ))
-    c.write_play.ensures
+    (ports (g.S.Shelf.held c.play_texts.new.shelf) (g.S.Shelf.faults c.play_texts.new.shelf) (g.K.Sink.sunk c.play_texts.new.sink)
+    (g.K.Sink.faults c.play_texts.new.sink) (g.L.Link.trips c.play_texts.new.link) (g.L.Link.faults c.play_texts.new.link))
+    c.play_texts.result read.unchanged read.counted
+    (λ from fits.
+    subst (λ (z : Option Files). IsFromRead z play given from) (sym read.unchanged)
+    (subst (λ (z : List (Vec ℕ Global)). IsFromRead held play (map (λ t. t.items) z) from) (sym c.as_slice.ensures.value)
+    (λ text holds. from-read play bytes texts text from of (fits texts text are holds))))
+    (λ grade from trips answer h.
+    let (text, holds, p) =
+    subst (λ (z : Option Files). PlaysRead grade z from trips play bytes answer) read.unchanged
+    (subst (λ (z : List (Vec ℕ Global)). PlaysRead grade later from trips play (map (λ t. t.items) z) answer)
+    c.as_slice.ensures.value h) in
+    (texts, text, are, holds, plays-read grade from trips play bytes texts text answer of p))
+    (λ n h. inl h)
+    c.play_texts.ensures
 
 pub returns-in-Err : goal.returns-in-Err
 returns-in-Err g c =
     let held = g.S.Shelf.held c.args.shelf.now in
+    let mode = mode_of c.args.mode in
     let names = map (λ (n : Bor (List ℕ)). n.now) c.args.names.now in
-    let play : Play = record { names = names; world = c.args.world.now } in
+    let play : Play = played mode names c.args.world.now in
     let read = c.in-Err.ensures in
-    subst (λ (status : Status). Serves g.L.Link.gives (λ trips. Plays held trips play) (Contains names)
+    let IsThis : Grade → World → List Trip → Answer → Type 0 = λ grade from trips. Plays grade held from trips play in
+    subst (λ (status : Status). Serves g.L.Link.gives (IsFromPlay held play) IsThis (IsPlayName mode names)
     (ports held (g.S.Shelf.faults c.args.shelf.now) (g.K.Sink.sunk c.args.sink.now) (g.K.Sink.faults c.args.sink.now)
     (g.L.Link.trips c.args.link.now) (g.L.Link.faults c.args.link.now))
     (ports (g.S.Shelf.held c.read_scripts.new.shelf) (g.S.Shelf.faults c.read_scripts.new.shelf) (g.K.Sink.sunk c.args.sink.now)
     (g.K.Sink.faults c.args.sink.now) (g.L.Link.trips c.args.link.now) (g.L.Link.faults c.args.link.now)) status)
     (sym c.unread.ensures)
-    (serve-unread g.L.Link.gives (λ trips. Plays held trips play) (Contains names) held
+    (serve-unread g.L.Link.gives (IsFromPlay held play) IsThis (IsPlayName mode names) held
     (g.S.Shelf.held c.read_scripts.new.shelf) (g.S.Shelf.faults c.args.shelf.now) (g.S.Shelf.faults c.read_scripts.new.shelf)
     read.unchanged read.counted (log (g.K.Sink.sunk c.args.sink.now) (g.K.Sink.faults c.args.sink.now))
     (wire (g.L.Link.trips c.args.link.now) (g.L.Link.faults c.args.link.now)) c.in-Err.fault
-    (λ e. read.err (ap (λ r. Err r) e)))
+    (λ e. let (n, has, rose) = read.err (ap (λ r. Err r) e) in (n, inr has, rose)))

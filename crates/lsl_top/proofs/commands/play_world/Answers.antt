@@ -1,8 +1,11 @@
-use Rattle.std.proofs.Common.{◌≡◌, List, ℕ, Bor, Contains, length, map, refl, sym, ap, ◌∙◌, subst, arith}
+use Rattle.std.proofs.Common.{◌≡◌, List, ℕ, Bor, length, map, refl, sym, ap, ◌∙◌, subst, arith}
 use Rattle.std.specs.Str.{encode_utf8_all}
 use Rattle.std.proofs.lemmas.List.{length-map}
 use Rattle.lsl_top.specs.Answers.{Plays}
-use Rattle.lsl_top.specs.Plays.{names_in, play_of}
+use Rattle.lsl_top.specs.Froms.{IsFromPlay}
+use Rattle.lsl_top.specs.Meant.{mode_of}
+use Rattle.lsl_top.specs.Named.{IsPlayName}
+use Rattle.lsl_top.specs.Plays.{names_in, play_of, played}
 use Rattle.lsl_top.specs.Ports.{log, ports, wire}
 use Rattle.lsl_top.proofs.Finishing.{serve-later, serve-memory}
 use Rattle.lsl_top.proofs.commands.play_world.Goals as goal
@@ -23,26 +26,32 @@ pub returns-in-Ok : goal.returns-in-Ok
 returns-in-Ok g c =
     let held = g.S.Shelf.held c.args.shelf.now in
     let faults = g.S.Shelf.faults c.args.shelf.now in
+    let mode = mode_of c.args.mode in
     let world = c.args.world.now in
     let name : Bor (List ℕ) → List ℕ = λ n. n.now in
     let names = map name c.as_slice-in-Ok.result.now in
     let same : names ≡ names_in world =
     ap (map name) c.as_slice-in-Ok.ensures.value ∙ c.in-Ok.ensures ∙ ap (map encode_utf8_all) c.as_slice.ensures in
-    serve-later g.L.Link.gives (λ trips. Plays held trips (record { names = names; world = world }))
-    (λ trips. Plays held trips (play_of world)) (Contains names) (Contains (names_in world)) held held faults faults
+    serve-later g.L.Link.gives (IsFromPlay held (played mode names world)) (IsFromPlay held (play_of mode world))
+    (λ grade from trips. Plays grade held from trips (played mode names world))
+    (λ grade from trips. Plays grade held from trips (play_of mode world)) (IsPlayName mode names)
+    (IsPlayName mode (names_in world)) held held faults faults
     (log (g.K.Sink.sunk c.args.sink.now) (g.K.Sink.faults c.args.sink.now))
     (wire (g.L.Link.trips c.args.link.now) (g.L.Link.faults c.args.link.now))
     (ports (g.S.Shelf.held c.play.new.shelf) (g.S.Shelf.faults c.play.new.shelf) (g.K.Sink.sunk c.play.new.sink)
     (g.K.Sink.faults c.play.new.sink) (g.L.Link.trips c.play.new.link) (g.L.Link.faults c.play.new.link)) c.play.result refl (λ n. omega arith)
-    (λ trips answer h.
-    subst (λ (ns : List (List ℕ)). Plays held trips (record { names = ns; world = world }) answer) same h)
-    (λ n h. subst (λ (ns : List (List ℕ)). Contains ns n) same h) c.play.ensures
+    (λ from fits. subst (λ (ns : List (List ℕ)). IsFromPlay held (played mode ns world) from) (sym same) fits)
+    (λ grade from trips answer h.
+    subst (λ (ns : List (List ℕ)). Plays grade held from trips (played mode ns world) answer) same h)
+    (λ n h. subst (λ (ns : List (List ℕ)). IsPlayName mode ns n) same h) c.play.ensures
 
 pub returns-in-Err : goal.returns-in-Err
 returns-in-Err g c =
     let held = g.S.Shelf.held c.args.shelf.now in
-    serve-memory g.L.Link.gives (λ trips. Plays held trips (play_of c.args.world.now))
-    (Contains (names_in c.args.world.now)) held held (g.S.Shelf.faults c.args.shelf.now)
+    let mode = mode_of c.args.mode in
+    serve-memory g.L.Link.gives (IsFromPlay held (play_of mode c.args.world.now))
+    (λ grade from trips. Plays grade held from trips (play_of mode c.args.world.now))
+    (IsPlayName mode (names_in c.args.world.now)) held held (g.S.Shelf.faults c.args.shelf.now)
     (g.S.Shelf.faults c.args.shelf.now) refl (λ n. omega arith)
     (log (g.K.Sink.sunk c.args.sink.now) (g.K.Sink.faults c.args.sink.now))
     (wire (g.L.Link.trips c.args.link.now) (g.L.Link.faults c.args.link.now))

@@ -1,12 +1,16 @@
-use Rattle.std.proofs.Common.{◌≡◌, Err, List, ℕ, Contains, refl, sym, ap, subst, inl, inr}
+use Rattle.std.proofs.Common.{◌≡◌, Err, List, ℕ, Option, refl, sym, ap, subst, inl, inr}
+use Rattle.lsl_ports.specs.Shelf.{Files}
+use Rattle.lsl_ports.specs.Trips.{Trip}
 use Rattle.lsl_lines.specs.World.{FileFirst, IsRefused, IsWorld}
+use Rattle.lsl_region.specs.Worlds.{World}
 use Rattle.lsl_world.proofs.Ranges.{good-in_range}
-use Rattle.lsl_top.specs.Answers.{Answer, Answers, Plays, world_refused}
+use Rattle.lsl_top.specs.Answers.{Answer, Grade, Plays, ReplaysFile, world_refused}
+use Rattle.lsl_top.specs.Froms.{IsFromFile, IsFromPlay}
 use Rattle.lsl_top.specs.Lines.{world_refusal_of}
-use Rattle.lsl_top.specs.Named.{IsNamed}
+use Rattle.lsl_top.specs.Meant.{mode_of}
+use Rattle.lsl_top.specs.Named.{IsNamedIn, IsPlayName}
 use Rattle.lsl_top.specs.Plays.{names_in, play_of}
 use Rattle.lsl_top.specs.Ports.{Finishes, Serves, log, ports, wire}
-use Rattle.lsl_top.specs.Words.{Replay}
 use Rattle.lsl_top.specs.declared.status.Status.{Status}
 use Rattle.lsl_top.specs.declared.status.Status.TheVariants.{BadWorld}
 use Rattle.lsl_top.proofs.Finishing.{concludes-finished, finish-written, serve-concluded, serve-later, serve-memory, serve-unread}
@@ -20,44 +24,62 @@ play_world-requires g c =
 pub returns-in-Err : goal.returns-in-Err
 returns-in-Err g c =
     let held = g.S.Shelf.held c.args.shelf.now in
+    let mode = mode_of c.args.mode in
     let name = c.args.name.now in
     let read = c.in-Err.ensures in
-    subst (λ (status : Status). Serves g.L.Link.gives (λ trips. Answers held trips (Replay name)) (IsNamed held (Replay name))
+    let IsThis : Grade → World → List Trip → Answer → Type 0 = λ grade from trips. ReplaysFile grade held from trips mode name in
+    subst (λ (status : Status). Serves g.L.Link.gives (IsFromFile held mode name) IsThis (IsNamedIn held mode name)
     (ports held (g.S.Shelf.faults c.args.shelf.now) (g.K.Sink.sunk c.args.sink.now) (g.K.Sink.faults c.args.sink.now)
     (g.L.Link.trips c.args.link.now) (g.L.Link.faults c.args.link.now))
     (ports (g.S.Shelf.held c.read_all.new.shelf) (g.S.Shelf.faults c.read_all.new.shelf) (g.K.Sink.sunk c.args.sink.now)
     (g.K.Sink.faults c.args.sink.now) (g.L.Link.trips c.args.link.now) (g.L.Link.faults c.args.link.now)) status)
     (sym c.unread.ensures)
-    (serve-unread g.L.Link.gives (λ trips. Answers held trips (Replay name)) (IsNamed held (Replay name)) held
+    (serve-unread g.L.Link.gives (IsFromFile held mode name) IsThis (IsNamedIn held mode name) held
     (g.S.Shelf.held c.read_all.new.shelf) (g.S.Shelf.faults c.args.shelf.now) (g.S.Shelf.faults c.read_all.new.shelf)
     read.unchanged read.counted (log (g.K.Sink.sunk c.args.sink.now) (g.K.Sink.faults c.args.sink.now))
     (wire (g.L.Link.trips c.args.link.now) (g.L.Link.faults c.args.link.now)) c.in-Err.fault
-    (λ e. (name, inl refl, read.err (ap (λ r. Err r) e))))
+    (λ e. (name, inr (inl refl), read.err (ap (λ r. Err r) e))))
 
 pub returns-in-Ok-read_world : goal.returns-in-Ok-read_world
 returns-in-Ok-read_world g c =
     let held = g.S.Shelf.held c.args.shelf.now in
     let later = g.S.Shelf.held c.read_all.new.shelf in
+    let mode = mode_of c.args.mode in
     let name = c.args.name.now in
     let read = c.in-Ok.ensures in
     let world = c.in-Ok-read_world.world in
     let (file, is, of) = world-read held name c.in-Ok.text.items read.ok in
     let good : IsWorld file world = of.good world
     (subst (λ (z : List ℕ). IsWorld z world) c.as_slice.ensures.value c.in-Ok-read_world.ensures.found) in
-    serve-later g.L.Link.gives (λ trips. Plays later trips (play_of world)) (λ trips. Answers held trips (Replay name))
-    (Contains (names_in world)) (IsNamed held (Replay name)) held later (g.S.Shelf.faults c.args.shelf.now)
+    serve-later g.L.Link.gives (IsFromPlay later (play_of mode world)) (IsFromFile held mode name)
+    (λ grade from trips. Plays grade later from trips (play_of mode world))
+    (λ grade from trips. ReplaysFile grade held from trips mode name)
+    (IsPlayName mode (names_in world)) (IsNamedIn held mode name) held later (g.S.Shelf.faults c.args.shelf.now)
     (g.S.Shelf.faults c.read_all.new.shelf)
     (log (g.K.Sink.sunk c.args.sink.now) (g.K.Sink.faults c.args.sink.now))
     (wire (g.L.Link.trips c.args.link.now) (g.L.Link.faults c.args.link.now))
     (ports (g.S.Shelf.held c.play_world.new.shelf) (g.S.Shelf.faults c.play_world.new.shelf) (g.K.Sink.sunk c.play_world.new.sink)
     (g.K.Sink.faults c.play_world.new.sink) (g.L.Link.trips c.play_world.new.link) (g.L.Link.faults c.play_world.new.link)) c.play_world.result read.unchanged read.counted
-    (λ trips answer h.
-    (file, is, inl (world, good, subst (λ z. Plays z trips (play_of world) answer) read.unchanged h)))
-    (λ n h. inr (file, world, is, good, h)) c.play_world.ensures
+    (λ from fits. subst (λ (z : Option Files). IsFromPlay z (play_of mode world) from) (sym read.unchanged)
+    (fits file world is good))
+    (λ grade from trips answer h. (
+      file,
+      is,
+      inl (
+        world,
+        good,
+        subst (λ (z : Option Files). Plays grade z from trips (play_of mode world) answer) read.unchanged h,
+      ),
+    ))
+    (λ n h. elim h [
+      | inl frozen ↦ inl frozen
+      | inr has ↦ inr (inr (file, world, is, good, has))
+    ]) c.play_world.ensures
 
 pub returns-in-Err-Fault : goal.returns-in-Err-Fault
 returns-in-Err-Fault g c =
     let held = g.S.Shelf.held c.args.shelf.now in
+    let mode = mode_of c.args.mode in
     let name = c.args.name.now in
     let read = c.in-Ok.ensures in
     let fault = c.in-Err-Fault.fault in
@@ -69,12 +91,14 @@ returns-in-Err-Fault g c =
     let new = (log (g.K.Sink.sunk c.write_line.new.sink) (g.K.Sink.faults c.write_line.new.sink)) in
     let link = (wire (g.L.Link.trips c.args.link.now) (g.L.Link.faults c.args.link.now)) in
     let IsThis : Answer → Type 0 = λ answer. answer ≡ world_refused name fault in
-    serve-concluded g.L.Link.gives (λ trips. Answers held trips (Replay name)) (IsNamed held (Replay name)) held
+    serve-concluded g.L.Link.gives (IsFromFile held mode name)
+    (λ grade from trips. ReplaysFile grade held from trips mode name) (IsNamedIn held mode name) held
     (g.S.Shelf.held c.read_all.new.shelf) (g.S.Shelf.faults c.args.shelf.now)
-    (g.S.Shelf.faults c.read_all.new.shelf) read.unchanged read.counted (λ trips. IsThis) old new link link
-    c.status_after.result (λ trips answer e. (file, is, inr (fault, first, e)))
-    (concludes-finished g.L.Link.gives IsThis (λ trips. IsThis) old new link c.status_after.result
-    (λ trips answer e. e)
+    (g.S.Shelf.faults c.read_all.new.shelf) read.unchanged read.counted (IsFromFile held mode name)
+    (λ grade from trips. IsThis) old new link link
+    c.status_after.result (λ from fits. fits) (λ grade from trips answer e. (file, is, inr (fault, first, e)))
+    (concludes-finished g.L.Link.gives IsThis (IsFromFile held mode name) (λ grade from trips. IsThis) old new link
+    c.status_after.result (λ grade from trips answer e. e)
     (subst (λ (status : Status). Finishes IsThis old new status) (sym c.status_after.ensures)
     (finish-written IsThis BadWorld (world_refusal_of name fault) old new c.write_line.result tt refl
     (c.write_line.ensures (world_refusal_of name fault) c.world_refusal.ensures))))
@@ -82,9 +106,11 @@ returns-in-Err-Fault g c =
 pub returns : goal.returns
 returns g c =
     let held = g.S.Shelf.held c.args.shelf.now in
+    let mode = mode_of c.args.mode in
     let name = c.args.name.now in
     let read = c.in-Ok.ensures in
-    serve-memory g.L.Link.gives (λ trips. Answers held trips (Replay name)) (IsNamed held (Replay name)) held
+    serve-memory g.L.Link.gives (IsFromFile held mode name)
+    (λ grade from trips. ReplaysFile grade held from trips mode name) (IsNamedIn held mode name) held
     (g.S.Shelf.held c.read_all.new.shelf) (g.S.Shelf.faults c.args.shelf.now)
     (g.S.Shelf.faults c.read_all.new.shelf) read.unchanged read.counted
     (log (g.K.Sink.sunk c.args.sink.now) (g.K.Sink.faults c.args.sink.now))

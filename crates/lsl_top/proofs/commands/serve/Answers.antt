@@ -1,5 +1,6 @@
 use Rattle.std.proofs.Common.{sym, ap, subst}
 use Rattle.lsl_top.specs.Answers.{Answers}
+use Rattle.lsl_top.specs.Froms.{IsFromOf}
 use Rattle.lsl_top.specs.Meant.{asked_by}
 use Rattle.lsl_top.specs.Named.{IsNamed}
 use Rattle.lsl_top.specs.Ports.{Serves, ports}
@@ -9,7 +10,8 @@ use Rattle.lsl_top.proofs.commands.serve.Goals as goal
 pub returns-in-Once : goal.returns-in-Once
 returns-in-Once g c =
     let held = g.S.Shelf.held c.args.shelf.now in
-    subst (λ (command : Command). Serves g.L.Link.gives (λ trips. Answers held trips command) (IsNamed held command)
+    subst (λ (command : Command). Serves g.L.Link.gives (IsFromOf held command)
+    (λ grade from trips. Answers grade held from trips command) (IsNamed held command)
     (ports held (g.S.Shelf.faults c.args.shelf.now) (g.K.Sink.sunk c.args.sink.now) (g.K.Sink.faults c.args.sink.now)
     (g.L.Link.trips c.args.link.now) (g.L.Link.faults c.args.link.now))
     (ports (g.S.Shelf.held c.once.new.shelf) (g.S.Shelf.faults c.once.new.shelf) (g.K.Sink.sunk c.once.new.sink)
@@ -20,7 +22,8 @@ returns-in-Once g c =
 pub returns-in-Check : goal.returns-in-Check
 returns-in-Check g c =
     let held = g.S.Shelf.held c.args.shelf.now in
-    subst (λ (command : Command). Serves g.L.Link.gives (λ trips. Answers held trips command) (IsNamed held command)
+    subst (λ (command : Command). Serves g.L.Link.gives (IsFromOf held command)
+    (λ grade from trips. Answers grade held from trips command) (IsNamed held command)
     (ports held (g.S.Shelf.faults c.args.shelf.now) (g.K.Sink.sunk c.args.sink.now) (g.K.Sink.faults c.args.sink.now)
     (g.L.Link.trips c.args.link.now) (g.L.Link.faults c.args.link.now))
     (ports (g.S.Shelf.held c.check.new.shelf) (g.S.Shelf.faults c.check.new.shelf) (g.K.Sink.sunk c.check.new.sink)
@@ -31,10 +34,35 @@ returns-in-Check g c =
 pub returns-in-Replay : goal.returns-in-Replay
 returns-in-Replay g c =
     let held = g.S.Shelf.held c.args.shelf.now in
-    subst (λ (command : Command). Serves g.L.Link.gives (λ trips. Answers held trips command) (IsNamed held command)
+    subst (λ (command : Command). Serves g.L.Link.gives (IsFromOf held command)
+    (λ grade from trips. Answers grade held from trips command) (IsNamed held command)
     (ports held (g.S.Shelf.faults c.args.shelf.now) (g.K.Sink.sunk c.args.sink.now) (g.K.Sink.faults c.args.sink.now)
     (g.L.Link.trips c.args.link.now) (g.L.Link.faults c.args.link.now))
     (ports (g.S.Shelf.held c.replay.new.shelf) (g.S.Shelf.faults c.replay.new.shelf) (g.K.Sink.sunk c.replay.new.sink)
     (g.K.Sink.faults c.replay.new.sink) (g.L.Link.trips c.replay.new.link) (g.L.Link.faults c.replay.new.link))
     c.replay.result)
     (sym (ap asked_by c.in-Replay.is)) c.replay.ensures
+
+pub returns-in-Freeze : goal.returns-in-Freeze
+returns-in-Freeze g c =
+    let held = g.S.Shelf.held c.args.shelf.now in
+    subst (λ (command : Command). Serves g.L.Link.gives (IsFromOf held command)
+    (λ grade from trips. Answers grade held from trips command) (IsNamed held command)
+    (ports held (g.S.Shelf.faults c.args.shelf.now) (g.K.Sink.sunk c.args.sink.now) (g.K.Sink.faults c.args.sink.now)
+    (g.L.Link.trips c.args.link.now) (g.L.Link.faults c.args.link.now))
+    (ports (g.S.Shelf.held c.replay-in-Freeze.new.shelf) (g.S.Shelf.faults c.replay-in-Freeze.new.shelf) (g.K.Sink.sunk c.replay-in-Freeze.new.sink)
+    (g.K.Sink.faults c.replay-in-Freeze.new.sink) (g.L.Link.trips c.replay-in-Freeze.new.link) (g.L.Link.faults c.replay-in-Freeze.new.link))
+    c.replay-in-Freeze.result)
+    (sym (ap asked_by c.in-Freeze.is)) c.replay-in-Freeze.ensures
+
+pub returns-in-Thaw : goal.returns-in-Thaw
+returns-in-Thaw g c =
+    let held = g.S.Shelf.held c.args.shelf.now in
+    subst (λ (command : Command). Serves g.L.Link.gives (IsFromOf held command)
+    (λ grade from trips. Answers grade held from trips command) (IsNamed held command)
+    (ports held (g.S.Shelf.faults c.args.shelf.now) (g.K.Sink.sunk c.args.sink.now) (g.K.Sink.faults c.args.sink.now)
+    (g.L.Link.trips c.args.link.now) (g.L.Link.faults c.args.link.now))
+    (ports (g.S.Shelf.held c.replay-in-Thaw.new.shelf) (g.S.Shelf.faults c.replay-in-Thaw.new.shelf) (g.K.Sink.sunk c.replay-in-Thaw.new.sink)
+    (g.K.Sink.faults c.replay-in-Thaw.new.sink) (g.L.Link.trips c.replay-in-Thaw.new.link) (g.L.Link.faults c.replay-in-Thaw.new.link))
+    c.replay-in-Thaw.result)
+    (sym (ap asked_by c.in-Thaw.is)) c.replay-in-Thaw.ensures

@@ -24,8 +24,8 @@ write_step-requires-clause-step g c =
     (subst (λ (step : Step). IsStepOf (size_of c.args.world.now) step) (sym c.step-item.is)
     (c.requires.steps c.loop-step.step-index c.step-item.result c.loop-step-test.true))
 
-pub returns-in_err-write_step : goal.returns-in_err-write_step
-returns-in_err-write_step g c =
+pub returns-in_err-write_step-clause-goes : goal.returns-in_err-write_step-clause-goes
+returns-in_err-write_step-clause-goes g c =
     let p = err_from_is_err_and c.from_residual.result c.from_residual.ensures.1 in
     rw (p.1, p.2)
     (c.loop-step.invariant.goes c.write_step.new.world _ _ _
@@ -52,8 +52,14 @@ loop-step-preserved g c =
           c.loop-step.invariant.units c.in_ok-write_step.ensures.goes) rest);
     }
 
-pub returns : goal.returns
-returns g c =
+pub returns-clause-goes : goal.returns-clause-goes
+returns-clause-goes g c =
     c.loop-step.invariant.goes c.loop-step.world _ _ (OkResult tt)
     (goes-none g.L.Link.gives c.args.world.now.units tt _ _ _ _
     (drop_all c.loop-step.step-index c.args.steps.now c.loop-step-test.false))
+
+pub returns-clause-units : goal.returns-clause-units
+returns-clause-units g c = c.loop-step.invariant.units
+
+pub returns-clause-sound : goal.returns-clause-sound
+returns-clause-sound g c = c.loop-step.invariant.sound

@@ -1,4 +1,4 @@
-use Rattle.std.proofs.Common.{◌≡◌, List, Result, drop}
+use Rattle.std.proofs.Common.{◌≡◌, Result, drop}
 use Rattle.lsl_world.specs.Sound.{IsSound}
 use Rattle.lsl_world.specs.Stands.{IsOf, size_of}
 use Rattle.lsl_world.specs.declared.world.World.{World}

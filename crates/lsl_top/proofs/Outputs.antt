@@ -1,0 +1,148 @@
+-- What a command that runs a world is to write is what its answer has, from the world that it says.
+use Rattle.std.proofs.Common.{◌≡◌, ℕ, List, [], ◌∷◌, Some, inl, inr, sym, ap, ◌∙◌, subst}
+use Rattle.std.specs.List.{AllZip}
+use Rattle.lsl_ports.specs.Shelf.{Files}
+use Rattle.lsl_ports.specs.Trips.{Trip}
+use Rattle.lsl_code.specs.declared.woven_units.Woven.{Woven as Code}
+use Rattle.lsl_image.specs.World.{world}
+use Rattle.lsl_image.proofs.ImageLemmas.{image-one}
+use Rattle.lsl_build.specs.Codes.{AreCodesOf}
+use Rattle.lsl_lines.specs.Frozen.{IsFrozen}
+use Rattle.lsl_lines.specs.World.{IsWorld}
+use Rattle.lsl_lines.specs.declared.file.WorldFile.{WorldFile}
+use Rattle.lsl_tree.specs.Program.{Program}
+use Rattle.lsl_region.specs.Worlds.{World}
+use Rattle.lsl_world.specs.Frozen.{IsImageIn, parts_of_world, shapes_of_file}
+use Rattle.lsl_world.specs.Programs.{rules_of}
+use Rattle.lsl_world.specs.Starts.{start}
+use Rattle.lsl_top.specs.Answers.{Answer, Answers, Comes, Grade, run_answer}
+use Rattle.lsl_top.specs.Froms.{IsFromOf}
+use Rattle.lsl_top.specs.Headline.{IsFrozenIn, IsScriptIn, IsWorldIn, Outputs, output_from, report_from}
+use Rattle.lsl_top.specs.Held.{AreHeld}
+use Rattle.lsl_top.specs.Pieces.{lines_in}
+use Rattle.lsl_top.specs.Plays.{Mode, Whole, Freezing, Thawing, names_in, once_world, play_of, play_of_once}
+use Rattle.lsl_top.specs.Scripts.{AreAccepted}
+use Rattle.lsl_top.specs.Thaws.{IsFrom}
+use Rattle.lsl_top.specs.Words.{Command, Once, Check, Replay, Freeze, Thaw}
+use Rattle.lsl_top.specs.declared.status.Status.TheVariants.{Ok}
+use Rattle.lsl_top.proofs.FrozenOne.{frozen-one}
+use Rattle.lsl_top.proofs.Journals.{journal-pieces}
+use Rattle.lsl_top.proofs.OneAnswer.{plays-programs, plays-texts, programs-one, replays-plays, some-one, text-one, texts-accepted, texts-one, thaw-no_fault, world-one}
+use Rattle.lsl_top.proofs.OneCode.{codes-one}
+
+-- the texts of scripts that are accepted
+abbrev TextsOf : Files → List (List ℕ) → List Program → Type 0
+TextsOf files names programs = (texts : List (List ℕ)) × AreHeld (Some files) names texts × AreAccepted texts programs
+
+texts-of : (files : Files) (names : List (List ℕ)) (programs : List Program) → AllZip (IsScriptIn files) names programs
+    → TextsOf files names programs
+texts-of files [] [] h = ([], tt, tt)
+texts-of files (name ∷ names) (p ∷ programs) h =
+    let (text, is, accepted) = h.0 in
+    let (texts, are, all) = texts-of files names programs h.1 in
+    (text ∷ texts, (is, are), (accepted, all))
+texts-of files [] (p ∷ programs) h = absurd h
+texts-of files (name ∷ names) [] h = absurd h
+
+-- the texts that have this code are those that are accepted
+accepted-texts : (files : Files) (names : List (List ℕ)) (programs : List Program) (texts : List (List ℕ))
+    → AllZip (IsScriptIn files) names programs → AreHeld (Some files) names texts → AreAccepted texts programs
+accepted-texts files names programs texts h are =
+    let (others, held, all) = texts-of files names programs h in
+    subst (λ (z : List (List ℕ)). AreAccepted z programs) (texts-one files names others texts held are) all
+
+-- the command ends well, and these are its lines
+pub record IsOutput (lines : List ℕ) (answer : Answer) : Type 0 where
+  pub well : answer.status ≡ Ok
+  pub is : lines_in answer.pieces ≡ lines
+
+run-output : (mode : Mode) (codes : List Code) (programs : List Program) (file : WorldFile) (trips : List Trip)
+    (w : World) (lines : List ℕ) (answer : Answer) → answer ≡ run_answer mode codes programs file trips w
+    → lines ≡ output_from mode codes programs file trips w → IsOutput lines answer
+run-output mode codes programs file trips w lines answer e are = record {
+  well = ap (λ (a : Answer). a.status) e;
+  is = ap (λ (a : Answer). lines_in a.pieces) e ∙ journal-pieces mode codes programs file trips w ∙ sym are;
+}
+
+thaw-output : (g : Grade) (from : World) (trips : List Trip) (name : List ℕ) (codes : List Code)
+    (programs : List Program) (file : WorldFile) (text image : List ℕ) (lines : List ℕ) (answer : Answer)
+    → IsFrozen text image → IsImageIn codes file (parts_of_world codes from) image
+    → lines ≡ report_from programs file trips from → Comes g from trips (Thawing name) codes programs file text answer
+    → IsOutput lines answer
+thaw-output g from trips name codes programs file text image lines answer is stands are (inl (parts, thaw, e)) =
+    run-output (Thawing name) codes programs file trips from lines answer e are
+thaw-output g from trips name codes programs file text image lines answer is stands are (inr (fault, first, e)) =
+    absurd (thaw-no_fault codes file text (parts_of_world codes from) fault (image, is, stands) first)
+
+pub outputs-answer : (g : Grade) (files : Files) (from : World) (command : Command) (trips : List Trip)
+    (lines : List ℕ) (answer : Answer) → Outputs files from command trips lines
+    → Answers g (Some files) from trips command answer → IsOutput lines answer
+outputs-answer g files from (Once name) trips lines answer (programs, h, e) answers =
+    let (texts, are, all) = texts-of files (name ∷ []) programs h in
+    let (codes, text, come) = plays-programs files g from trips (play_of_once name) programs answer texts are all answers
+    in
+    run-output Whole codes programs once_world trips (start (rules_of programs) once_world) lines answer come.1 e
+outputs-answer g files from (Check name) trips lines answer h answers = absurd h
+outputs-answer g files from (Replay name) trips lines answer (file, programs, ((bytes, is, good), h), e) answers =
+    let (texts, are, all) = texts-of files (names_in file) programs h in
+    let (codes, text, come) = plays-programs files g from trips (play_of Whole file) programs answer texts are all
+    (replays-plays files g from trips Whole name bytes file answer is good answers) in
+    run-output Whole codes programs file trips (start (rules_of programs) file) lines answer come.1 e
+outputs-answer g files from (Freeze name) trips lines answer
+    (file, programs, codes, ((bytes, is, good), h), (texts, are, has), e) answers =
+    let come = texts-accepted g from trips (play_of Freezing file) texts [] programs codes answer
+    (accepted-texts files (names_in file) programs texts h are) has
+    (plays-texts files g from trips (play_of Freezing file) texts [] answer are tt
+    (replays-plays files g from trips Freezing name bytes file answer is good answers)) in
+    run-output Freezing codes programs file trips (start (rules_of programs) file) lines answer come.1 e
+outputs-answer g files from (Thaw frozen name) trips lines answer
+    (file, programs, codes, ((bytes, is, good), h), (texts, are, has), (text, image, held, of, agrees, stands), e)
+    answers =
+    let come = texts-accepted g from trips (play_of (Thawing frozen) file) texts text programs codes answer
+    (accepted-texts files (names_in file) programs texts h are) has
+    (plays-texts files g from trips (play_of (Thawing frozen) file) texts text answer are held
+    (replays-plays files g from trips (Thawing frozen) name bytes file answer is good answers)) in
+    thaw-output g from trips frozen codes programs file text image lines answer of stands e come
+
+-- a frozen world is that of its text
+pub frozen-from : (files : Files) (frozen : List ℕ) (codes : List Code) (programs : List Program) (file : WorldFile)
+    (from : World) (text : List ℕ) → files frozen ≡ Some text → IsFrozenIn files frozen codes programs file from
+    → IsFrom codes programs file text from
+frozen-from files frozen codes programs file from text held (other, bytes, is, of, agrees, stands) parts
+    (image, given, like) =
+    let same : bytes ≡ image = frozen-one text bytes image
+    (subst (λ (z : List ℕ). IsFrozen z bytes) (some-one other text (sym is ∙ held)) of) given in (
+      agrees,
+      image-one (world (shapes_of_file file) codes) image (parts_of_world codes from) parts
+          (subst (λ (z : List ℕ). IsImageIn codes file (parts_of_world codes from) z) same stands) like,
+    )
+
+-- so whatever good files the command has, the world fits them
+pub thaw-fits : (files : Files) (frozen name : List ℕ) (file : WorldFile) (texts : List (List ℕ))
+    (programs : List Program) (codes : List Code) (from : World) → IsWorldIn files name file
+    → AreHeld (Some files) (names_in file) texts → AreAccepted texts programs → AreCodesOf texts codes
+    → IsFrozenIn files frozen codes programs file from → IsFromOf (Some files) (Thaw frozen name) from
+thaw-fits files frozen name file texts programs codes from (bytes, is, good) are accepted has given other_bytes other
+    other_is other_good others text held holds ps cs all have =
+    let same : file ≡ other = world-one other_bytes file other
+    (subst (λ (z : List ℕ). IsWorld z file) (text-one files name bytes other_bytes is other_is) good) other_good in
+    let alike : texts ≡ others = texts-one files (names_in other) texts others
+    (subst (λ (z : WorldFile). AreHeld (Some files) (names_in z) texts) same are) held in
+    let known : AreAccepted others programs = subst (λ (z : List (List ℕ)). AreAccepted z programs) alike accepted in
+    let coded : AreCodesOf others codes = subst (λ (z : List (List ℕ)). AreCodesOf z codes) alike has in
+    frozen-from files frozen cs ps other from text holds
+    (subst (λ (z : List Code). IsFrozenIn files frozen z ps other from) (codes-one others codes cs coded have)
+    (subst (λ (z : List Program). IsFrozenIn files frozen codes z other from) (programs-one others programs ps known all)
+    (subst (λ (z : WorldFile). IsFrozenIn files frozen codes programs z from) same given)))
+
+pub outputs-fit : (files : Files) (from : World) (command : Command) (trips : List Trip) (lines : List ℕ)
+    → Outputs files from command trips lines → IsFromOf (Some files) command from
+outputs-fit files from (Once name) trips lines h = tt
+outputs-fit files from (Check name) trips lines h = tt
+outputs-fit files from (Replay name) trips lines h =
+    λ bytes file is good texts text are holds programs codes all has. tt
+outputs-fit files from (Freeze name) trips lines h =
+    λ bytes file is good texts text are holds programs codes all has. tt
+outputs-fit files from (Thaw frozen name) trips lines (file, programs, codes, (world, h), (texts, are, has), given, e) =
+    thaw-fits files frozen name file texts programs codes from world are
+    (accepted-texts files (names_in file) programs texts h are) has given

@@ -1,0 +1,121 @@
+-- Runs of worlds whose scripts are built.
+use Rattle.std.proofs.Common.{◌≡◌, ◌⊎◌, ℕ, List, Option, Result, Ok, Err, inl, inr, sym, ap, ◌∙◌, subst}
+use Rattle.std.specs.Prelude.{IfErr, IfOk, IsErrOf}
+use Rattle.lsl_text.specs.declared.Refusal.{Refusal}
+use Rattle.lsl_text.specs.declared.Refusal.TheVariants.{Fault, NoMemory as WantsMemory}
+use Rattle.lsl_ports.specs.Trips.{Trip}
+use Rattle.lsl_code.specs.declared.woven_units.Woven.{Woven as Code}
+use Rattle.lsl_image.specs.declared.faults.ImageFault.{ImageFault}
+use Rattle.lsl_image.specs.declared.faults.ImageFault.TheVariants.{NotFrozen}
+use Rattle.lsl_image.specs.declared.parts.WorldParts.{WorldParts}
+use Rattle.lsl_image.specs.Images.{WorldFirst}
+use Rattle.lsl_image.specs.Reading.{IsRefusedBy}
+use Rattle.lsl_lines.specs.Frozen.{HasFrozenLine, IsFrozen}
+use Rattle.lsl_lines.specs.declared.file.WorldFile.{WorldFile}
+use Rattle.lsl_lines.specs.declared.file.Step.{Step}
+use Rattle.lsl_tree.specs.Program.{Program}
+use Rattle.lsl_region.specs.Worlds.{World}
+use Rattle.lsl_world.specs.declared.world.World.{World as Memory}
+use Rattle.lsl_world.specs.Frozen.{AgreesWith, IsImageIn, parts_in, parts_of_world, shapes_of_file}
+use Rattle.lsl_world.specs.Programs.{rules_of}
+use Rattle.lsl_world.specs.Stands.{IsOf}
+use Rattle.lsl_world.specs.Travels.{travel}
+use Rattle.lsl_top.specs.Answers.{Comes, ComesFromStart}
+use Rattle.lsl_top.specs.Froms.{IsFromIn}
+use Rattle.lsl_top.specs.Goes.{IsLast, Performs}
+use Rattle.lsl_top.specs.Pieces.{pieces_from}
+use Rattle.lsl_top.specs.Plays.{Mode, Whole, Freezing, Thawing}
+use Rattle.lsl_top.specs.Ports.{Concludes, Log, Wire}
+use Rattle.lsl_top.specs.Thaws.{IsFrom, IsThawFault, IsThawOf}
+use Rattle.lsl_top.specs.declared.status.Status.{Status}
+use Rattle.lsl_top.specs.declared.writing.Trouble.{Trouble}
+use Rattle.lsl_top.proofs.Faults.{err-one}
+use Rattle.lsl_top.proofs.Finishing.{concludes-as}
+
+-- a run from the file's start is what comes of it, where nothing is thawed
+pub built-started : (gives : List ℕ → Option (List ℕ) → Type 0) (mode : Mode) (codes : List Code)
+    (programs : List Program) (file : WorldFile) (text : List ℕ) (a b : Log) (p q : Wire) (status : Status)
+    → (mode ≡ Whole) ⊎ (mode ≡ Freezing)
+    → Concludes gives (λ from. Unit {0}) (λ grade from trips. ComesFromStart grade trips mode codes programs file) a b p q
+    status
+    → Concludes gives (IsFromIn mode codes programs file text)
+    (λ grade from trips. Comes grade from trips mode codes programs file text) a b p q status
+built-started gives Whole codes programs file text a b p q status e h =
+    concludes-as gives (λ from. Unit {0}) (IsFromIn Whole codes programs file text)
+    (λ grade from trips. ComesFromStart grade trips Whole codes programs file)
+    (λ grade from trips. Comes grade from trips Whole codes programs file text) a b p q status
+    (λ from fits. tt) (λ grade from trips answer come. come) h
+built-started gives Freezing codes programs file text a b p q status e h =
+    concludes-as gives (λ from. Unit {0}) (IsFromIn Freezing codes programs file text)
+    (λ grade from trips. ComesFromStart grade trips Freezing codes programs file)
+    (λ grade from trips. Comes grade from trips Freezing codes programs file text) a b p q status
+    (λ from fits. tt) (λ grade from trips answer come. come) h
+built-started gives (Thawing name) codes programs file text a b p q status (inl e) h = absurd (cc)
+built-started gives (Thawing name) codes programs file text a b p q status (inr e) h = absurd (cc)
+
+abbrev Ended : Mode → List Code → List Step → List Program → World → List Trip → Type 0
+Ended mode codes steps programs w trips =
+    IsLast mode codes programs (travel (rules_of programs) steps trips w).value
+
+-- a run of these units and steps
+pub performs-by : {T : Type 0} (gives : List ℕ → Option (List ℕ) → Type 0) (IsThen : List Program → World → Type 0)
+    (mode : Mode) (codes units : List Code) (steps others : List Step) (a b : Log) (p q : Wire)
+    (result : Result T Trouble) → codes ≡ units → steps ≡ others
+    → Performs gives IsThen (λ programs w trips. IsLast mode codes programs (travel (rules_of programs) steps trips w).value)
+    (λ programs w trips. pieces_from mode codes (rules_of programs) steps trips w) a b p q result
+    → Performs gives IsThen
+    (λ programs w trips. IsLast mode units programs (travel (rules_of programs) others trips w).value)
+    (λ programs w trips. pieces_from mode units (rules_of programs) others trips w) a b p q result
+performs-by gives IsThen mode codes units steps others a b p q result e f h =
+    subst (λ (z : List Step). Performs gives IsThen
+    (λ programs w trips. IsLast mode units programs (travel (rules_of programs) z trips w).value)
+    (λ programs w trips. pieces_from mode units (rules_of programs) z trips w) a b p q result) f
+    (subst (λ (z : List Code). Performs gives IsThen
+    (λ programs w trips. IsLast mode z programs (travel (rules_of programs) steps trips w).value)
+    (λ programs w trips. pieces_from mode z (rules_of programs) steps trips w) a b p q result) e h)
+
+-- the refusal of a text without a frozen world, and of one whose world isn't that of the file
+pub untaken : {T : Type 0} (codes : List Code) (file : WorldFile) (text : List ℕ) (refusal : Refusal ImageFault)
+    → (refusal ≡ WantsMemory) ⊎ ((refusal ≡ Fault NotFrozen) × (HasFrozenLine text → ⊥)) → (fault : ImageFault)
+    → IsErrOf {T = T} (Err refusal) (Fault fault) → IsThawFault codes file text fault
+untaken {T} codes file text refusal (inl e) fault is =
+    let both : WantsMemory ≡ Fault fault = sym e ∙ err-one {T = T} refusal (Fault fault) is in absurd (cc)
+untaken {T} codes file text refusal (inr (e, lacks)) fault is =
+    inl (lacks, sym (ap value (sym e ∙ err-one {T = T} refusal (Fault fault) is)))
+  where
+    value : Refusal ImageFault → ImageFault
+    value (Fault f) = f
+    value WantsMemory = fault
+
+pub unthawed : {T : Type 0} (codes : List Code) (file : WorldFile) (text image : List ℕ) (result : Result T (Refusal ImageFault))
+    → IsFrozen text image → IfErr result (IsRefusedBy (WorldFirst (shapes_of_file file) codes image))
+    → (fault : ImageFault) → IsErrOf result (Fault fault) → IsThawFault codes file text fault
+unthawed codes file text image (Ok t) of first fault is = absurd (cc)
+unthawed {T} codes file text image (Err refusal) of first fault is =
+    inr (
+      image,
+      of,
+      subst (λ (z : Refusal ImageFault). IsRefusedBy (WorldFirst (shapes_of_file file) codes image) z)
+          (err-one {T = T} refusal (Fault fault) is) first,
+    )
+
+-- what was read of the text's bytes is what the text has
+pub thaw-found : {E : Type 0} (codes : List Code) (file : WorldFile) (text image slice : List ℕ)
+    (result : Result Memory E) → IsFrozen text image → slice ≡ image
+    → IfOk result (λ m. IsImageIn codes file (parts_in m) slice)
+    → IfOk result (λ m. IsThawOf codes file text (parts_in m))
+thaw-found codes file text image slice (Ok m) of same is =
+    (image, of, subst (λ (z : List ℕ). IsImageIn codes file (parts_in m) z) same is)
+thaw-found codes file text image slice (Err e) of same is = tt
+
+-- and it is the world that the text has, where there is one
+pub thaw-of : {E : Type 0} (codes : List Code) (programs : List Program) (file : WorldFile) (text image slice : List ℕ)
+    (w : World) (result : Result Memory E) → IsFrozen text image → slice ≡ image
+    → IfOk result (λ m. IsImageIn codes file (parts_in m) slice) → IsFrom codes programs file text w
+    → (AgreesWith programs file w → IsImageIn codes file (parts_of_world codes w) slice
+    → IfOk result (λ m. IsOf programs m w)) → IfOk result (λ m. IsOf programs m w)
+thaw-of codes programs file text image slice w (Ok m) of same is from then_is =
+    let (agrees, parts) = from (parts_in m)
+    (image, of, subst (λ (z : List ℕ). IsImageIn codes file (parts_in m) z) same is) in
+    then_is agrees (subst (λ (p : WorldParts). IsImageIn codes file p slice) (sym parts) is)
+thaw-of codes programs file text image slice w (Err e) of same is from then_is = tt

@@ -1,0 +1,56 @@
+use Rattle.std.proofs.Common.{List, refl, sym, subst}
+use Rattle.std.specs.Prelude.{All}
+use Rattle.lsl_lines.specs.declared.file.Step.{Step}
+use Rattle.lsl_world.specs.Programs.{rules_of}
+use Rattle.lsl_world.specs.Sizes.{IsStepOf, Size, size_of_file}
+use Rattle.lsl_world.specs.Stands.{IsOf}
+use Rattle.lsl_world.specs.Starts.{start}
+use Rattle.lsl_world.specs.Travels.{travel}
+use Rattle.lsl_top.specs.Answers.{ComesFromStart}
+use Rattle.lsl_top.specs.Goes.{IsLast}
+use Rattle.lsl_top.specs.Meant.{mode_of}
+use Rattle.lsl_top.specs.Pieces.{pieces_from}
+use Rattle.lsl_top.specs.Ports.{Concludes, log, wire}
+use Rattle.lsl_top.specs.declared.status.Status.{Status}
+use Rattle.lsl_top.proofs.Finishing.{concludes-memory, concludes-performed}
+use Rattle.lsl_top.proofs.Frozen.{lasts-started}
+use Rattle.lsl_top.proofs.Runs.{performs-by}
+use Rattle.lsl_top.proofs.running.run_started.Goals as goal
+
+pub write_run-requires-clause-sound : goal.write_run-requires-clause-sound
+write_run-requires-clause-sound g c = c.in-Ok.ensures.sound
+
+pub write_run-requires-clause-steps : goal.write_run-requires-clause-steps
+write_run-requires-clause-steps g c =
+    subst (λ (size : Size). All (IsStepOf size) c.as_slice.result.now) (sym c.in-Ok.ensures.size)
+    (subst (λ (steps : List Step). All (IsStepOf (size_of_file c.args.file.now)) steps) (sym c.as_slice.ensures) c.requires.file.steps_fit)
+
+pub returns-in-Ok : goal.returns-in-Ok
+returns-in-Ok g c = λ programs run.
+    let mode = mode_of c.args.mode in
+    let units = c.args.units in
+    let file = c.args.file.now in
+    let world = c.in-Ok.world in
+    let old = (log (g.K.Sink.sunk c.args.sink.now) (g.K.Sink.faults c.args.sink.now)) in
+    let new = (log (g.K.Sink.sunk c.write_run.new.sink) (g.K.Sink.faults c.write_run.new.sink)) in
+    let before = (wire (g.L.Link.trips c.args.link.now) (g.L.Link.faults c.args.link.now)) in
+    let after = (wire (g.L.Link.trips c.write_run.new.link) (g.L.Link.faults c.write_run.new.link)) in
+    subst (λ (status : Status). Concludes g.L.Link.gives (λ from. Unit {0})
+    (λ grade from trips. ComesFromStart grade trips mode units programs file) old new before after status)
+    (sym c.status_after.ensures)
+    (concludes-performed g.L.Link.gives (λ from. Unit {0})
+    (λ grade from trips. ComesFromStart grade trips mode units programs file) (λ ps w. IsOf ps world w)
+    (λ ps w trips. IsLast mode units ps (travel (rules_of ps) file.steps trips w).value)
+    (λ ps w trips. pieces_from mode units (rules_of ps) file.steps trips w) programs
+    (λ from. start (rules_of programs) file) (λ from fits. c.in-Ok.ensures.of programs run) old new before after
+    c.write_run.result (λ from trips. (tt, refl))
+    (λ from trips last. (lasts-started units programs file run c.requires.file c.requires.units mode trips last, refl))
+    (performs-by g.L.Link.gives (λ ps w. IsOf ps world w) mode world.units units c.as_slice.result.now file.steps old new
+    before after c.write_run.result c.in-Ok.ensures.units c.as_slice.ensures c.write_run.ensures))
+
+pub returns-in-Err : goal.returns-in-Err
+returns-in-Err g c = λ programs run.
+    concludes-memory g.L.Link.gives (λ from. Unit {0})
+    (λ grade from trips. ComesFromStart grade trips (mode_of c.args.mode) c.args.units programs c.args.file.now)
+    (log (g.K.Sink.sunk c.args.sink.now) (g.K.Sink.faults c.args.sink.now))
+    (wire (g.L.Link.trips c.args.link.now) (g.L.Link.faults c.args.link.now))

@@ -1,0 +1,85 @@
+use Rattle.std.proofs.Common.{◌≡◌, Err, List, inl, inr, refl, sym, ap, subst}
+use Rattle.std.specs.Prelude.{All}
+use Rattle.lsl_ports.specs.Trips.{Trip}
+use Rattle.lsl_lines.specs.declared.file.Step.{Step}
+use Rattle.lsl_region.specs.Worlds.{World}
+use Rattle.lsl_world.specs.Frozen.{parts_in}
+use Rattle.lsl_world.specs.Programs.{rules_of}
+use Rattle.lsl_world.specs.Sizes.{IsStepOf, Size, size_of_file}
+use Rattle.lsl_world.specs.Stands.{IsOf}
+use Rattle.lsl_world.specs.Travels.{travel}
+use Rattle.lsl_top.specs.Answers.{Answer, Comes, Grade, image_refused}
+use Rattle.lsl_top.specs.Goes.{IsLast}
+use Rattle.lsl_top.specs.Lines.{image_refusal_of}
+use Rattle.lsl_top.specs.Pieces.{pieces_from}
+use Rattle.lsl_top.specs.Plays.{Thawing}
+use Rattle.lsl_top.specs.Ports.{Concludes, log, status_after, wire}
+use Rattle.lsl_top.specs.Thaws.{IsFrom}
+use Rattle.lsl_top.specs.declared.status.Status.{Status}
+use Rattle.lsl_top.specs.declared.status.Status.TheVariants.{BadImage}
+use Rattle.lsl_top.proofs.Finishing.{concludes-finished, concludes-memory, concludes-performed, finish-written}
+use Rattle.lsl_top.proofs.Runs.{performs-by}
+use Rattle.lsl_top.proofs.running.run_thawed.Goals as goal
+
+pub write_run-requires-clause-sound : goal.write_run-requires-clause-sound
+write_run-requires-clause-sound g c = c.in-Ok.ensures.sound
+
+pub write_run-requires-clause-steps : goal.write_run-requires-clause-steps
+write_run-requires-clause-steps g c =
+    subst (λ (size : Size). All (IsStepOf size) c.as_slice.result.now) (sym c.in-Ok.ensures.size)
+    (subst (λ (steps : List Step). All (IsStepOf (size_of_file c.args.file.now)) steps) (sym c.as_slice.ensures) c.requires.file.steps_fit)
+
+pub returns-in-Ok : goal.returns-in-Ok
+returns-in-Ok g c = λ programs run.
+    let name = c.args.name.now in
+    let units = c.args.units in
+    let file = c.args.file.now in
+    let text = c.args.text.now in
+    let world = c.in-Ok.world in
+    let thaws = c.in-Ok.ensures in
+    let old = (log (g.K.Sink.sunk c.args.sink.now) (g.K.Sink.faults c.args.sink.now)) in
+    let new = (log (g.K.Sink.sunk c.write_run.new.sink) (g.K.Sink.faults c.write_run.new.sink)) in
+    let before = (wire (g.L.Link.trips c.args.link.now) (g.L.Link.faults c.args.link.now)) in
+    let after = (wire (g.L.Link.trips c.write_run.new.link) (g.L.Link.faults c.write_run.new.link)) in
+    let mode = Thawing name in
+    subst (λ (status : Status). Concludes g.L.Link.gives (IsFrom units programs file text)
+    (λ grade from trips. Comes grade from trips (Thawing name) units programs file text) old new before after status)
+    (sym c.status_after.ensures)
+    (concludes-performed g.L.Link.gives (IsFrom units programs file text)
+    (λ grade from trips. Comes grade from trips (Thawing name) units programs file text) (λ ps w. IsOf ps world w)
+    (λ ps w trips. IsLast (Thawing name) units ps (travel (rules_of ps) file.steps trips w).value)
+    (λ ps w trips. pieces_from (Thawing name) units (rules_of ps) file.steps trips w) programs
+    (λ from. from) (λ from fits. thaws.of programs from run fits) old new before after
+    c.write_run.result (λ from trips. inl (parts_in world, thaws.found, refl))
+    (λ from trips last. inl (parts_in world, thaws.found, refl))
+    (performs-by g.L.Link.gives (λ ps w. IsOf ps world w) (Thawing name) world.units units c.as_slice.result.now file.steps old
+    new before after c.write_run.result thaws.units c.as_slice.ensures c.write_run.ensures))
+
+pub returns-in-Err-NoMemory : goal.returns-in-Err-NoMemory
+returns-in-Err-NoMemory g c = λ programs run.
+    concludes-memory g.L.Link.gives (IsFrom c.args.units programs c.args.file.now c.args.text.now)
+    (λ grade from trips. Comes grade from trips (Thawing c.args.name.now) c.args.units programs c.args.file.now
+    c.args.text.now)
+    (log (g.K.Sink.sunk c.args.sink.now) (g.K.Sink.faults c.args.sink.now))
+    (wire (g.L.Link.trips c.args.link.now) (g.L.Link.faults c.args.link.now))
+
+pub returns-in-Err-Fault : goal.returns-in-Err-Fault
+returns-in-Err-Fault g c = λ programs run.
+    let name = c.args.name.now in
+    let units = c.args.units in
+    let file = c.args.file.now in
+    let text = c.args.text.now in
+    let fault = c.in-Err-Fault.fault in
+    let refused = c.in-Err-Fault.ensures.refused fault (ap (λ r. Err r) c.in-Err-Fault.field-0-is) in
+    let old = (log (g.K.Sink.sunk c.args.sink.now) (g.K.Sink.faults c.args.sink.now)) in
+    let new = (log (g.K.Sink.sunk c.write_line.new.sink) (g.K.Sink.faults c.write_line.new.sink)) in
+    let link = (wire (g.L.Link.trips c.args.link.now) (g.L.Link.faults c.args.link.now)) in
+    let IsThis : Answer → Type 0 = λ answer. answer ≡ image_refused name fault in
+    let IsAll : Grade → World → List Trip → Answer → Type 0 =
+    λ grade from trips. Comes grade from trips (Thawing name) units programs file text in
+    subst (λ (status : Status). Concludes g.L.Link.gives (IsFrom units programs file text) IsAll old new link link status)
+    (sym c.status_after-in-Err-Fault.ensures)
+    (concludes-finished g.L.Link.gives IsThis (IsFrom units programs file text) IsAll old new link
+    (status_after c.write_line.result BadImage) (λ grade from trips answer e. inr (fault, refused, e))
+    (finish-written IsThis BadImage (image_refusal_of name fault) old new c.write_line.result tt refl
+    (c.write_line.ensures (image_refusal_of name fault) c.image_refusal.ensures)))

@@ -1,0 +1,46 @@
+-- The worlds that can have been frozen, by the files of a command: if they have a frozen world of the command's world
+-- file, it is that one. Where a command thaws nothing, any.
+use Rattle.std.specs.Prelude.{ℕ, List, Option, Some, None}
+use Rattle.lsl_ports.specs.Shelf.{Files}
+use Rattle.lsl_build.specs.Codes.{AreCodesOf}
+use Rattle.lsl_code.specs.declared.woven_units.Woven.{Woven as Code}
+use Rattle.lsl_lines.specs.World.{IsWorld}
+use Rattle.lsl_lines.specs.declared.file.WorldFile.{WorldFile}
+use Rattle.lsl_tree.specs.Program.{Program}
+use Rattle.lsl_region.specs.Worlds.{World}
+use Rattle.lsl_top.specs.Held.{Holds, HoldsFrozen, AreHeld}
+use Rattle.lsl_top.specs.Plays.{Mode, Whole, Freezing, Thawing, Play, play_of}
+use Rattle.lsl_top.specs.Scripts.{AreAccepted}
+use Rattle.lsl_top.specs.Thaws.{IsFrom}
+use Rattle.lsl_top.specs.Words.{Command, Once, Check, Replay, Freeze, Thaw}
+
+abbrev pub IsFromIn : Mode → List Code → List Program → WorldFile → List ℕ → World → Type 0
+IsFromIn Whole codes programs file text from = Unit {0}
+IsFromIn Freezing codes programs file text from = Unit {0}
+IsFromIn (Thawing name) codes programs file text from = IsFrom codes programs file text from
+
+abbrev pub IsFromTexts : Play → List (List ℕ) → List ℕ → World → Type 0
+IsFromTexts play texts text from =
+    (programs : List Program) (codes : List Code) → AreAccepted texts programs → AreCodesOf texts codes
+    → IsFromIn play.mode codes programs play.world text from
+
+abbrev pub IsFromPlay : Option Files → Play → World → Type 0
+IsFromPlay held play from =
+    (texts : List (List ℕ)) (text : List ℕ) → AreHeld held play.names texts → HoldsFrozen held play.mode text
+    → IsFromTexts play texts text from
+
+abbrev pub IsFromFile : Option Files → Mode → List ℕ → World → Type 0
+IsFromFile held mode name from =
+    (bytes : List ℕ) (file : WorldFile) → Holds held name bytes → IsWorld bytes file
+    → IsFromPlay held (play_of mode file) from
+
+abbrev pub IsFromOf : Option Files → Command → World → Type 0
+IsFromOf held (Once name) from = Unit {0}
+IsFromOf held (Check name) from = Unit {0}
+IsFromOf held (Replay name) from = IsFromFile held Whole name from
+IsFromOf held (Freeze name) from = IsFromFile held Freezing name from
+IsFromOf held (Thaw frozen name) from = IsFromFile held (Thawing frozen) name from
+
+abbrev pub IsFromWords : Option Files → Option Command → World → Type 0
+IsFromWords held None from = Unit {0}
+IsFromWords held (Some command) from = IsFromOf held command from

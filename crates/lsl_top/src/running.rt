@@ -1,0 +1,141 @@
+//! Worlds whose scripts are built: their runs, from the file's start or from a frozen world.
+
+ghost use Rattle.std.specs.Prelude.{◌≡◌, List, length, IfOk, IsErrOf};
+ghost use Rattle.lsl_text.specs.declared.Refusal.TheVariants.{Fault};
+ghost use Rattle.lsl_image.specs.declared.faults.ImageFault.{ImageFault as AFault};
+ghost use Rattle.lsl_tree.specs.Program.{Program};
+ghost use Rattle.lsl_region.specs.Worlds.{World as SourceWorld};
+ghost use Rattle.lsl_world.specs.Codes.{AreRunBy};
+ghost use Rattle.lsl_world.specs.Frozen.{parts_in};
+ghost use Rattle.lsl_world.specs.Ranges.{IsInRange};
+ghost use Rattle.lsl_world.specs.Sizes.{size_of_file};
+ghost use Rattle.lsl_world.specs.Sound.{IsSound};
+ghost use Rattle.lsl_world.specs.Stands.{IsOf, size_of};
+ghost use Rattle.lsl_top.specs.Answers.{Comes, ComesFromStart};
+ghost use Rattle.lsl_top.specs.Froms.{IsFromIn};
+ghost use Rattle.lsl_top.specs.Meant.{mode_of};
+ghost use Rattle.lsl_top.specs.Plays.{Thawing};
+ghost use Rattle.lsl_top.specs.Ports.{Concludes, log, wire};
+ghost use Rattle.lsl_top.specs.Thaws.{IsFrom, IsThawFault, IsThawOf};
+
+use crate::lines::image_refusal;
+use crate::modes::Mode;
+use crate::report::write_run;
+use crate::status::Status;
+use crate::writing::{status_after, write_line};
+use lsl_code::Library;
+use lsl_image::ImageFault;
+use lsl_lines::{WorldFile, take_frozen};
+use lsl_ports::{Link, Sink};
+use lsl_text::Refusal;
+use lsl_world::World;
+use std::alloc::Global;
+
+/// Runs a world, whose scripts' files have these units.
+pub fn run_built<K: Sink, L: Link>(
+    alloc: Global,
+    mode: Mode<'_>,
+    file: &WorldFile,
+    units: Library,
+    text: &[u8],
+    sink: &mut K,
+    link: &mut L,
+) -> Status
+    requires file { IsInRange file.now }
+    requires units { length units ≡ length file.now.files }
+    ensures { (programs : List Program) → AreRunBy programs units → Concludes L.gives
+        (IsFromIn (mode_of mode.entry) units programs file.now text.now)
+        (λ grade from trips. Comes grade from trips (mode_of mode.entry) units programs file.now text.now)
+        (log (K.sunk sink.old) (K.faults sink.old)) (log (K.sunk sink.new) (K.faults sink.new))
+        (wire (L.trips link.old) (L.faults link.old)) (wire (L.trips link.new) (L.faults link.new)) result }
+{
+    match mode {
+        Mode::Whole => run_started(alloc, mode, file, units, sink, link),
+        Mode::Freezing => run_started(alloc, mode, file, units, sink, link),
+        Mode::Thawing(name) => run_thawed(alloc, name, file, units, text, sink, link),
+    }
+}
+
+/// Runs a world from its file's start.
+fn run_started<K: Sink, L: Link>(
+    alloc: Global,
+    mode: Mode<'_>,
+    file: &WorldFile,
+    units: Library,
+    sink: &mut K,
+    link: &mut L,
+) -> Status
+    requires file { IsInRange file.now }
+    requires units { length units ≡ length file.now.files }
+    ensures { (programs : List Program) → AreRunBy programs units → Concludes L.gives (λ from. Unit {0})
+        (λ grade from trips. ComesFromStart grade trips (mode_of mode.entry) units programs file.now)
+        (log (K.sunk sink.old) (K.faults sink.old)) (log (K.sunk sink.new) (K.faults sink.new))
+        (wire (L.trips link.old) (L.faults link.old)) (wire (L.trips link.new) (L.faults link.new)) result }
+{
+    match World::start(alloc, file, units) {
+        Ok(world) => status_after(
+            write_run(alloc, mode, world, file.steps.as_slice(), sink, link),
+            Status::Ok,
+        ),
+        Err(_) => Status::NoMemory,
+    }
+}
+
+/// Runs a world from the frozen one of this text, or writes the refusal of the text, whose file has this name.
+fn run_thawed<K: Sink, L: Link>(
+    alloc: Global,
+    name: &str,
+    file: &WorldFile,
+    units: Library,
+    text: &[u8],
+    sink: &mut K,
+    link: &mut L,
+) -> Status
+    requires file { IsInRange file.now }
+    requires units { length units ≡ length file.now.files }
+    ensures { (programs : List Program) → AreRunBy programs units → Concludes L.gives
+        (IsFrom units programs file.now text.now)
+        (λ grade from trips. Comes grade from trips (Thawing name.now) units programs file.now text.now)
+        (log (K.sunk sink.old) (K.faults sink.old)) (log (K.sunk sink.new) (K.faults sink.new))
+        (wire (L.trips link.old) (L.faults link.old)) (wire (L.trips link.new) (L.faults link.new)) result }
+{
+    match thawed(alloc, file, units, text) {
+        Ok(world) => status_after(
+            write_run(
+                alloc,
+                Mode::Thawing(name),
+                world,
+                file.steps.as_slice(),
+                sink,
+                link,
+            ),
+            Status::Ok,
+        ),
+        Err(Refusal::Fault(fault)) => status_after(
+            write_line(image_refusal(alloc, name, &fault), sink),
+            Status::BadImage,
+        ),
+        Err(Refusal::NoMemory) => Status::NoMemory,
+    }
+}
+
+/// The frozen world of this text, with the objects of the file, or why there is none.
+fn thawed(
+    alloc: Global,
+    file: &WorldFile,
+    units: Library,
+    text: &[u8],
+) -> Result<World, Refusal<ImageFault>>
+    requires file { IsInRange file.now }
+    requires units { length units ≡ length file.now.files }
+    ensures found { IfOk result (λ world. IsThawOf units file.now text.now (parts_in world)) }
+    ensures refused { (fault : AFault) → IsErrOf result (Fault fault) → IsThawFault units file.now text.now fault }
+    ensures of { (programs : List Program) (w : SourceWorld) → AreRunBy programs units
+        → IsFrom units programs file.now text.now w → IfOk result (λ world. IsOf programs world w) }
+    ensures size { IfOk result (λ world. size_of world ≡ size_of_file file.now) }
+    ensures sound { IfOk result IsSound }
+    ensures units { IfOk result (λ world. world.units ≡ units) }
+{
+    let bytes = take_frozen(alloc, text)?;
+    World::thaw(alloc, file, units, bytes.as_slice())
+}
