@@ -11,6 +11,6 @@ use std::io;
 
 fn main(rt: HostRuntime) -> io::Result<()> {
     play_named(&rt, &Memory)?;
-    let (image, memory) = (Status::BadImage.number(), Status::NoMemory.number());
-    println!(rt; "statuses of no case: {image} {memory}")
+    let memory = Status::NoMemory.number();
+    println!(rt; "statuses of no case: {memory}")
 }
