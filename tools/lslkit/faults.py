@@ -1,4 +1,5 @@
-"""The lines that refuse a script or a world file, said in words with the line and a caret."""
+"""The lines that refuse a script, a world file or a frozen world, said in words; the first two with the line and a caret."""
+import hashlib
 import re
 
 from . import places, script_hints, world_hints
@@ -13,13 +14,16 @@ def meaning(fault):
     return row[1] if row else "a fault without words"
 
 
-def explained(line):
-    """The words for a line that refuses a file; nothing for any other line."""
+def explained(line, scripts=()):
+    """The words for a line that refuses a file; nothing for any other line. `scripts` are the files of the scripts of
+    the world over which a frozen one was to be thawed."""
     refusal = REFUSAL.fullmatch(line)
     if not refusal:
         return None
     sort, name, number, row, column, fault, more = refusal.groups()
     name, fault = unquoted(name), int(fault)
+    if sort == "image":
+        return f"{name}:1:1: error: {'; '.join([meaning(fault), *image_hint(fault, more.split(), scripts)])} (fault {fault})"
     if number is None and row is None:
         return f"{name}:1:1: error: {meaning(fault)}{more} (fault {fault})"
     text = places.bytes_of(name)
@@ -29,6 +33,24 @@ def explained(line):
     world = (text or b"").decode(errors="surrogateescape")
     column, hints = world_hints.hint(fault, world, int(number))
     return with_line(name, text, int(number), column, fault, hints)
+
+
+def image_hint(fault, details, scripts):
+    """What the details of a frozen world's fault tell."""
+    if fault == 40:
+        found, wanted = details
+        short = int(found) < 46
+        return [f"it has {found} bytes, and the shortest has 46" if short else f"it has {found} bytes, and names {wanted}"]
+    if fault == 42:
+        return [f"it has version {details[0]}"]
+    if fault == 43:
+        names = [it for it in dict.fromkeys(scripts) if digest_of(it) == details[1]]
+        return [f"frozen under another text of {it}" for it in names]
+    return [f"at byte {details[0]}"] if fault == 44 else []
+
+
+def digest_of(name):
+    return hashlib.sha256(places.bytes_of(name) or b"").hexdigest()
 
 
 def script_hint(fault, text, row, column):

@@ -12,6 +12,8 @@ USAGE = """\
 usage: lsl once FILE                runs a script, and prints its journal
        lsl replay WORLD             plays a world file, and prints its journal
                                     both: with --show readably, with --html PAGE as a page with a timeline
+       lsl freeze WORLD             plays a world file, and then prints the world as one line
+       lsl thaw FROZEN WORLD        goes on from what 'freeze' printed, with the steps of a world file
        lsl check FILE               says that a script is accepted, or tells its first fault
        lsl play FILE ..             plays a script without a world file: 'lsl play --help'
        lsl --try WORDS              the same words, by a program that isn't proved, after a minute at first
@@ -20,7 +22,8 @@ usage: lsl once FILE                runs a script, and prints its journal
 Write ./-x for a file whose name begins with '-'. The first call proves and builds the program, and says for how
 long: about half an hour on four processors. Later calls start at once, until a source of the program changes.
 'tools/explain FILE' tells a script's first fault in words, as 'lsl check FILE' does on a terminal."""
-COMMANDS = ("once", "replay", "check")
+COMMANDS = ("once", "replay", "freeze", "thaw", "check")
+OF_WORLDS = ("replay", "freeze", "thaw")
 SHOWN = ("once", "replay")
 READ_FAULT = 4
 NOT_MADE = 125
@@ -31,7 +34,7 @@ class Bad(Exception):
 
 
 class Options:
-    """A command of the program: its word, its file, and how its journal is shown."""
+    """A command of the program: its word, its file, the frozen one of a thaw, and how its journal is shown."""
 
     def __init__(self, words):
         self.command, self.show, self.html, names = words[0], False, None, []
@@ -47,13 +50,25 @@ class Options:
                 raise Bad(f"'{word}' is no option of it")
             else:
                 names.append(word)
-        if len(names) != 1 or (self.html is None and "--html" in words):
-            raise Bad(f"'{self.command}' takes one file")
+        self.frozen = names.pop(0) if self.command == "thaw" and len(names) == 2 else None
+        is_short = self.command == "thaw" and self.frozen is None
+        if len(names) != 1 or is_short or (self.html is None and "--html" in words):
+            raise Bad(f"'{self.command}' takes {'two files' if self.command == 'thaw' else 'one file'}")
         self.name = names[0]
 
     @property
     def is_world(self):
-        return self.command == "replay"
+        return self.command in OF_WORLDS
+
+    @property
+    def files(self):
+        """The files that its words name, without those that the world names."""
+        return [it for it in (self.frozen, self.name) if it is not None]
+
+    @property
+    def scripts(self):
+        """The files of the scripts of the world."""
+        return [it.file for it in worlds.read(self.world()).scripts] if self.is_world else []
 
     def world(self):
         """The text of the world that is played."""
@@ -80,9 +95,10 @@ def main(words):
 
 
 def with_program(command, is_tried):
-    if isinstance(command, Options) and not program.is_plain(command.name):
-        print(f'lsl: "{command.name}" {program.unread(command.name)} (status 4)', file=sys.stderr)
-        return READ_FAULT
+    if isinstance(command, Options):
+        for name in (it for it in command.files if not program.is_plain(it)):
+            print(f'lsl: "{name}" {program.unread(name)} (status 4)', file=sys.stderr)
+            return READ_FAULT
     binary = making.program(is_tried)
     if binary is None:
         more = "" if is_tried else ". 'lsl --try WORDS' runs it unproved"
@@ -99,18 +115,19 @@ def carry(binary, command):
     """Runs a command with its journal handed on as it comes, and says at its end what its status leaves unsaid."""
     follower, first = standing.Follower(), b""
     with tempfile.TemporaryDirectory(prefix="lsl-") as room, tempfile.TemporaryFile() as notes:
-        words = [command.command, handed_name(command, room)]
+        handed = handed_name(command, room)
+        words = [command.command, *command.files[:-1], handed]
         with subprocess.Popen([binary, *words], stdout=subprocess.PIPE, stderr=notes) as running:
             for piece in iter(lambda: os.read(running.stdout.fileno(), 65536), b""):
                 first = (first + piece)[:4096]
                 follower.feed(piece)
-                if not hand_on(as_given(piece, words[1], command.name)):
+                if not hand_on(as_given(piece, handed, command.name)):
                     running.stdout.close()
                     break
         notes.seek(0)
-        status, said = program.status_of(running.returncode), as_given(notes.read(), words[1], command.name)
+        status, said = program.status_of(running.returncode), as_given(notes.read(), handed, command.name)
     tell(command, status, first, said)
-    if status == 0 and follower.running:
+    if status == 0 and follower.running and command.command in SHOWN:
         tell_standing(binary, command, follower)
     return status
 
@@ -147,14 +164,15 @@ def handed_name(command, room):
 
 def tell(command, status, first, notes):
     """Says on standard error how the run ended; on a terminal a refusal in words."""
-    said = faults.explained(first.decode(errors="surrogateescape").split("\n")[0]) if status in (2, 3) else None
+    line = first.decode(errors="surrogateescape").split("\n")[0]
+    said = faults.explained(line, command.scripts) if status in (2, 3, 6) else None
     if said and sys.stderr.isatty():
         print(said, file=sys.stderr)
         return
     sys.stderr.buffer.write(notes)
     sys.stderr.flush()
     if status == READ_FAULT:
-        program.tell_unread(command.name, command.is_world)
+        program.tell_unread(command.name, command.is_world, command.frozen)
     if status > program.SIGNALLED:
         print(f"lsl: the program was ended by signal {status - program.SIGNALLED}", file=sys.stderr)
 

@@ -60,13 +60,14 @@ def world_of(name):
     return "" if text is None else text.decode(errors="surrogateescape")
 
 
-def unread_files(name, is_world):
+def unread_files(name, is_world, frozen=None):
     """Each file of a command that can't be read: its name, who names it, and why it can't."""
     said = unread(name)
     if said:
         return [f'"{name}" {said}']
     scripts = worlds.read(world_of(name)).scripts if is_world else []
-    return [unread_script(name, it) for it in scripts if unread(it.file)]
+    unfrozen = [f'"{frozen}" {unread(frozen)}'] if frozen is not None and unread(frozen) else []
+    return [unread_script(name, it) for it in scripts if unread(it.file)] + unfrozen
 
 
 def unread_script(world, script):
@@ -80,6 +81,6 @@ def unread_script(world, script):
     return f"{said}; it is read from the folder in which the program was started, and stands there from {folder}"
 
 
-def tell_unread(name, is_world):
-    for it in unread_files(name, is_world):
+def tell_unread(name, is_world, frozen=None):
+    for it in unread_files(name, is_world, frozen):
         print(f"lsl: {it}", file=sys.stderr)
