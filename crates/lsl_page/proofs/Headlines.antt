@@ -1,0 +1,194 @@
+-- What is written of a good world with accepted scripts, from how its request ended.
+use Rattle.std.proofs.Common.{◌≡◌, ℕ, zero, suc, ◌<◌, List, [], ◌∷◌, ◌++◌, length, get_or, Option, Some, None, Result, Ok as OkResult, Err, inl, inr, refl, ap, sym, ◌∙◌, subst, arith, lit<}
+use Rattle.std.specs.Prelude.{unwrap_or}
+use Rattle.std.specs.List.{AllZip}
+use Rattle.lsl_code.specs.declared.woven_units.Woven.{Woven as Code}
+use Rattle.lsl_ports.specs.Growth.{Begins}
+use Rattle.lsl_ports.specs.Shelf.{Files}
+use Rattle.lsl_ports.specs.Trips.{Trip}
+use Rattle.lsl_ports.proofs.Growth.{begins-is, begins-none}
+use Rattle.lsl_lines.specs.Journal.{lines_of}
+use Rattle.lsl_lines.specs.World.{IsWorld}
+use Rattle.lsl_lines.specs.declared.faults.FileFault.{FileFault}
+use Rattle.lsl_lines.specs.declared.file.Step.{Step}
+use Rattle.lsl_lines.specs.declared.file.WorldFile.{WorldFile}
+use Rattle.lsl_tree.specs.Program.{Program}
+use Rattle.lsl_post.specs.declared.entries.Entry.{Entry}
+use Rattle.lsl_region.specs.Worlds.{World}
+use Rattle.lsl_world.specs.Programs.{rules_of}
+use Rattle.lsl_world.specs.Reports.{homes, journal_of}
+use Rattle.lsl_world.specs.Starts.{start}
+use Rattle.lsl_world.specs.Steps.{reference}
+use Rattle.lsl_world.specs.Travels.{images}
+use Rattle.lsl_top.specs.Answers.{Answer, Answers, run_answer}
+use Rattle.lsl_top.specs.Headline.{IsScriptIn, Runs}
+use Rattle.lsl_top.specs.Held.{AreHeld}
+use Rattle.lsl_top.specs.Pieces.{lines_in, sent_in}
+use Rattle.lsl_top.specs.Plays.{names_in, play_of, play_of_once}
+use Rattle.lsl_top.specs.Promise.{KeepsTo, Wrote, WrotePart}
+use Rattle.lsl_top.specs.Scripts.{AreAccepted}
+use Rattle.lsl_top.specs.Status.{number_of}
+use Rattle.lsl_top.specs.Words.{Command, Once, Check, Replay}
+use Rattle.lsl_top.specs.declared.status.Status.{Status}
+use Rattle.lsl_top.specs.declared.status.Status.TheVariants.{Ok, Usage, BadWorld, BadScript, ReadFault, WriteFault, BadImage, NoMemory}
+use Rattle.lsl_top.proofs.Journals.{image-pieces, journal-pieces}
+use Rattle.lsl_top.proofs.OneAnswer.{plays-journal, replays-plays}
+use Rattle.lsl_top.proofs.Pieces.{begun-partly}
+use Rattle.lsl_top.proofs.Trips.{copies-honest}
+use Rattle.lsl_page.specs.Ended.{Ended}
+use Rattle.lsl_page.specs.Faults.{IsMissing}
+use Rattle.lsl_page.specs.Headline.{AreCopied, IsFirst, WritesJournal, whole_journal}
+use Rattle.lsl_page.proofs.Arrivals.{all-kept}
+use Rattle.lsl_page.proofs.Endings.{missing}
+
+some-one : (a b : List ℕ) → Some a ≡ Some b → a ≡ b
+some-one a b e = ap (λ (told : Option (List ℕ)). unwrap_or told a) e
+
+some-none : (files : Files) (name : List ℕ) (text : List ℕ) → files name ≡ Some text → files name ≡ None → ⊥
+some-none files name text is none = let both : Some text ≡ None = sym is ∙ none in absurd (cc)
+
+-- scripts that are there and accepted have texts
+texts-of : (files : Files) (names : List (List ℕ)) (programs : List Program) → AllZip (IsScriptIn files) names programs
+    → (texts : List (List ℕ)) × AreHeld (Some files) names texts × AreAccepted texts programs
+texts-of files [] [] h = ([], tt, tt)
+texts-of files (name ∷ names) (p ∷ programs) h =
+    let (text, is, accepted) = h.0 in
+    let (texts, are, all) = texts-of files names programs h.1 in
+    (text ∷ texts, (is, are), (accepted, all))
+texts-of files [] (p ∷ programs) h = absurd h
+texts-of files (name ∷ names) [] h = absurd h
+
+-- the file of each of them is there
+script-there : (files : Files) (names : List (List ℕ)) (programs : List Program) (place : ℕ) (name : List ℕ)
+    → AllZip (IsScriptIn files) names programs → place < length names → get_or names place name ≡ name
+    → files name ≡ None → ⊥
+script-there files [] programs place name h lt at none = absurd (omega (arith, lt))
+script-there files (n ∷ names) (p ∷ programs) zero name h lt at none =
+    let (text, is, accepted) = h.0 in some-none files n text is (ap files at ∙ none)
+script-there files (n ∷ names) (p ∷ programs) (suc place) name h lt at none =
+    script-there files names programs place name h.1 (omega (arith, lt)) at none
+script-there files (n ∷ names) [] place name h lt at none = absurd h
+
+world-one : (bytes : List ℕ) (f g : WorldFile) → IsWorld bytes f → IsWorld bytes g → f ≡ g
+world-one bytes f g h k = ap value (sym h ∙ k)
+  where
+    value : Result WorldFile FileFault → WorldFile
+    value (OkResult file) = file
+    value (Err fault) = f
+
+-- of a good world with accepted scripts every file is there
+none-missing : (files : Files) (command : Command) (file : WorldFile) (programs : List Program)
+    → Runs files command file programs → IsMissing files (Some command) → ⊥
+none-missing files (Once name) file programs (is, h) (other, e, none) =
+    script-there files (name ∷ []) programs 0 other h (omega arith) (sym e) none
+none-missing files (Replay name) file programs ((bytes, there, good), h) (other, inl e, none) =
+    some-none files name bytes there (ap files (sym e) ∙ none)
+none-missing files (Replay name) file programs ((bytes, there, good), h)
+    (other, inr (others, world, held, read, (place, lt, at)), none) =
+    let same = some-one others bytes (sym held ∙ there) in
+    let one = world-one bytes world file (subst (λ (z : List ℕ). IsWorld z world) same read) good in
+    script-there files (names_in file) programs place other h
+    (subst (λ (w : WorldFile). place < length (names_in w)) one lt)
+    (subst (λ (w : WorldFile). get_or (names_in w) place other ≡ other) one at) none
+none-missing files (Check name) file programs h missing = absurd h
+
+module _ (files : Files) (command : Command) (file : WorldFile) (programs : List Program) (trips : List Trip)
+    (runs : Runs files command file programs) (copied : AreCopied trips) where
+  abbrev lines : List ℕ
+  lines = lines_of (journal_of programs file trips)
+
+  abbrev begun : World
+  begun = start (rules_of programs) file
+
+  abbrev entries_of : List Step → List Entry
+  entries_of steps = let all = reference (rules_of programs) steps begun in all.entries ++ homes all.value
+
+  -- the answer is a run of these programs in this world, by some code
+  record IsRun (answer : Answer) : Type 0 where
+    codes : List Code
+    ended : answer.status ≡ Ok
+    wrote : lines_in answer.pieces ≡ lines
+    sent : sent_in answer.pieces ≡ images codes (rules_of programs) file.steps trips begun
+
+  run-is : (answer : Answer) (codes : List Code) → answer ≡ run_answer codes programs file trips → IsRun answer
+  run-is answer codes e = record {
+    codes = codes;
+    ended = ap (λ (a : Answer). a.status) e;
+    wrote = ap (λ (a : Answer). lines_in a.pieces) e ∙ journal-pieces codes programs file trips;
+    sent = ap (λ (a : Answer). sent_in a.pieces) e ∙ image-pieces codes programs file trips;
+  }
+
+  answer-run : (c : Command) → Runs files c file programs → (answer : Answer) → Answers (Some files) trips c answer
+      → IsRun answer
+  answer-run (Once name) (is, h) answer answers =
+      let (texts, are, all) = texts-of files (name ∷ []) programs h in
+      let run = plays-journal files trips (play_of_once name) programs answer texts are all answers in
+      run-is answer run.0 (run.1 ∙ ap (λ (w : WorldFile). run_answer run.0 programs w trips) (sym is))
+  answer-run (Replay name) ((bytes, is, good), h) answer answers =
+      let (texts, are, all) = texts-of files (names_in file) programs h in
+      let run = plays-journal files trips (play_of file) programs answer texts are all
+      (replays-plays files trips name bytes file answer is good answers) in
+      run-is answer run.0 run.1
+  answer-run (Check name) h answer answers = absurd h
+
+  module _ (output : List ℕ) where
+    abbrev IsThis : Answer → Type 0
+    IsThis = Answers (Some files) trips command
+
+    part : WrotePart IsThis trips (Some []) (Some output) → IsFirst file programs output
+    part (answer, is, begun) =
+        let run = answer-run command runs answer is in
+        let grew = begun-partly answer.pieces trips (Some []) (Some output) begun in
+        let same = some-one output grew.added grew.grew in (
+          trips,
+          copied,
+          begins-is output (lines_in answer.pieces) lines
+              (subst (λ (z : List ℕ). Begins z (lines_in answer.pieces)) (sym same) grew.begins) run.wrote,
+        )
+
+    -- all was sent, so every step is kept
+    whole : (status : Status) → Wrote IsThis status trips (Some []) (Some output)
+        → (number_of status ≡ number_of Ok) × (output ≡ lines_of (whole_journal programs file))
+    whole status (answer, is, e, wrote) =
+        let run = answer-run command runs answer is in
+        let kept = all-kept run.codes (rules_of programs) file.steps trips begun copied (wrote.sent ∙ run.sent) in (
+          ap number_of (sym e ∙ run.ended),
+          some-one output (lines_in answer.pieces) wrote.written ∙ run.wrote
+              ∙ ap (λ (steps : List Step). lines_of (entries_of steps)) kept,
+        )
+
+    written : (status : Status) → KeepsTo IsThis status trips (Some []) (Some output) → (status ≡ Usage → ⊥)
+        → (status ≡ ReadFault → ⊥) → WritesJournal file programs (number_of status) output
+    written Ok k u r = inl (whole Ok k)
+    written BadWorld k u r = inl (whole BadWorld k)
+    written BadScript k u r = inl (whole BadScript k)
+    written BadImage k u r = inl (whole BadImage k)
+    written WriteFault k u r = inr (inl refl, part k)
+    written NoMemory (inl (e, none)) u r = inr (inr refl, (trips, copied, nothing (some-one output [] e)))
+      where
+        nothing : output ≡ [] → Begins output lines
+        nothing e = subst (λ (z : List ℕ). Begins z lines) (sym e) (begins-none lines)
+    written NoMemory (inr k) u r = inr (inr refl, part k)
+    written Usage k u r = absurd (u refl)
+    written ReadFault k u r = absurd (r refl)
+
+pub headline-of : (files : Files) (command : Command) (file : WorldFile) (programs : List Program) (room : ℕ)
+    (status : Status) (output : List ℕ) → Ended files (Some command) room status output
+    → Runs files command file programs → WritesJournal file programs (number_of status) output
+headline-of files command file programs room status output ended runs =
+    let (trips, went, silent, keeps) = ended.ends.kept in
+    written files command file programs trips runs went.given output status (keeps (copies-honest None None trips went))
+    (λ e. let both : Some command ≡ None = ended.ends.usage.0 e in absurd (cc))
+    (λ e. none-missing files command file programs runs
+    (missing files (Some command) ended.missed (ended.ends.read_fault e)))
+
+-- a status has a number below 8
+pub number-below : (status : Status) → number_of status < 8
+number-below Ok = lit< tt
+number-below Usage = lit< tt
+number-below BadWorld = lit< tt
+number-below BadScript = lit< tt
+number-below ReadFault = lit< tt
+number-below WriteFault = lit< tt
+number-below BadImage = lit< tt
+number-below NoMemory = lit< tt

@@ -1,0 +1,4 @@
+pub mod Marks
+pub mod Endings
+pub mod Arrivals
+pub mod Headlines

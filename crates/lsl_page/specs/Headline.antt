@@ -1,0 +1,36 @@
+-- What is written where a world is good and its scripts are accepted.
+use Rattle.std.specs.Prelude.{◌≡◌, ◌⊎◌, ℕ, All, List, ◌++◌}
+use Rattle.lsl_ports.specs.Growth.{Begins}
+use Rattle.lsl_ports.specs.Trips.{Trip}
+use Rattle.lsl_lines.specs.Journal.{lines_of}
+use Rattle.lsl_lines.specs.declared.file.WorldFile.{WorldFile}
+use Rattle.lsl_post.specs.declared.entries.Entry.{Entry}
+use Rattle.lsl_tree.specs.Program.{Program}
+use Rattle.lsl_world.specs.Programs.{rules_of}
+use Rattle.lsl_world.specs.Reports.{homes, journal_of}
+use Rattle.lsl_world.specs.Starts.{start}
+use Rattle.lsl_world.specs.Steps.{reference}
+use Rattle.lsl_top.specs.Laws.{copies}
+use Rattle.lsl_top.specs.Status.{number_of}
+use Rattle.lsl_top.specs.declared.status.Status.TheVariants.{Ok, WriteFault, NoMemory}
+
+-- of each of these trips what was sent came back
+abbrev pub AreCopied : List Trip → Type 0
+AreCopied trips = All (λ (t : Trip). copies t.sent t.back) trips
+
+-- the journal of a file whose scripts are these programs, where all steps are done: no crossing is refused
+abbrev pub whole_journal : List Program → WorldFile → List Entry
+whole_journal programs file =
+    let all = reference (rules_of programs) file.steps (start (rules_of programs) file) in
+    all.entries ++ homes all.value
+
+-- the first lines of its journal, by trips of which each brought back what was sent
+abbrev pub IsFirst : WorldFile → List Program → List ℕ → Type 0
+IsFirst file programs output =
+    (trips : List Trip) × AreCopied trips × Begins output (lines_of (journal_of programs file trips))
+
+-- the whole journal was written, or its first lines, where the room was full or memory lacked
+abbrev pub WritesJournal : WorldFile → List Program → ℕ → List ℕ → Type 0
+WritesJournal file programs number output =
+    ((number ≡ number_of Ok) × (output ≡ lines_of (whole_journal programs file)))
+    ⊎ (((number ≡ number_of WriteFault) ⊎ (number ≡ number_of NoMemory)) × IsFirst file programs output)

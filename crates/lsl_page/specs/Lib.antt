@@ -1,0 +1,5 @@
+pub mod Request
+pub mod Faults
+pub mod Room
+pub mod Ended
+pub mod Headline

@@ -1,0 +1,35 @@
+//! The words of a request.
+ghost use Rattle.std.specs.Prelude.{◌≡◌, IfOk, IsErrOf, string_bytes};
+ghost use Rattle.std.specs.Str.{IsUtf8};
+ghost use Rattle.lsl_page.specs.declared.words.Refused.TheVariants.{NoMemory as WithoutMemory};
+
+use std::alloc::{AllocError, Global};
+use std::str;
+
+/// Why a request isn't run.
+#[derive(Clone, Copy, Debug, PartialEq, Eq)]
+pub enum Refused {
+    /// It isn't in its form.
+    NotInForm,
+    /// There was no memory for its words.
+    NoMemory,
+}
+
+impl From<AllocError> for Refused {
+    ghost from_gives = { λ _ refused. refused ≡ WithoutMemory };
+
+    fn from(_: AllocError) -> Refused {
+        Refused::NoMemory
+    }
+}
+
+/// A word from its bytes. It takes memory for a copy.
+pub fn read_word(alloc: Global, bytes: &[u8]) -> Result<String, Refused>
+    ensures ok { IfOk result (λ word. (string_bytes word ≡ bytes.now) × IsUtf8 bytes.now) }
+    ensures form { IsErrOf result Refused.NotInForm → ¬ IsUtf8 bytes.now }
+{
+    match str::from_utf8(bytes) {
+        Ok(word) => Ok(String::from_str(alloc, word)?),
+        Err(_) => Err(Refused::NotInForm),
+    }
+}
