@@ -1,0 +1,69 @@
+"""The folder out/page, which any server of files can serve: the page in the browser, its module, the examples to choose
+from, the words of the faults, and what draws timelines."""
+import glob
+import json
+import os
+
+from . import faults, timeline, webmodule, worlds
+from .places import in_top, text_of, write_text
+
+FOLDER = os.path.dirname(webmodule.MODULE)
+# The files of page/ that are no part of the page that is served.
+ASIDE = ("heap.c", "package.json", "picture.png")
+FAULTS = range(1, 58)
+# How a script is played that does nothing by itself.
+STEPS = "touch Ann\nwait 1s\ntouch Ben"
+FIRST = "examples/door/door.world"
+
+
+def named(*pattern):
+    found = glob.glob(in_top("examples", *pattern))
+    return sorted((os.path.relpath(it, in_top()) for it in found), key=lambda it: (it != FIRST, it))
+
+
+def title_of(path):
+    return os.path.splitext(os.path.basename(path))[0].replace("_", " ")
+
+
+def example(group, path, files, how, steps=""):
+    texts = [[it, text_of(it)] for it in files]
+    return {"group": group, "title": title_of(path), "files": texts, "how": how, "file": path, "steps": steps}
+
+
+def world(group, path):
+    scripts = dict.fromkeys(it.file for it in worlds.read(text_of(path)).scripts)
+    return example(group, path, [path, *scripts], "replay")
+
+
+def script(path):
+    is_played = text_of(os.path.splitext(path)[0] + ".out").startswith("accepted ")
+    return example("Scripts", path, [path], *(("play", STEPS) if is_played else ("once", "")))
+
+
+def examples():
+    """What the page offers to choose from, each with its files and how it is run."""
+    found = [world("Worlds", it) for it in named("*", "*.world")]
+    found += [script(it) for it in named("*.lsl")]
+    found += [example("Broken scripts", it, [it], "check") for it in named("bad", "*.lsl")]
+    return found + [world("Broken worlds", it) for it in named("bad", "worlds", "*.world")]
+
+
+def meanings():
+    """The words of all faults, by their numbers."""
+    found = {str(it): faults.meaning(it) for it in FAULTS}
+    return {number: words for number, words in found.items() if words != faults.meaning(0)}
+
+
+def write(path, text):
+    write_text(os.path.join(FOLDER, path), text)
+
+
+def make():
+    """Writes all files of the folder but the module."""
+    os.makedirs(FOLDER, exist_ok=True)
+    for path in glob.glob(in_top("page", "*.*")):
+        if os.path.basename(path) not in ASIDE:
+            webmodule.copied(path, os.path.join(FOLDER, os.path.basename(path)))
+    write("examples.json", json.dumps(examples()))
+    write("faults.json", json.dumps(meanings()))
+    webmodule.copied(timeline.TEMPLATE, os.path.join(FOLDER, "timeline.html"))
