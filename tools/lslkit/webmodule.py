@@ -30,7 +30,7 @@ OF_PROCESSOR = re.compile(r' "(?:frame-pointer|probe-stack|stack-probe-size|targ
 EMPTY_GROUP = re.compile(r"^(attributes #\d+ = \{)\s*\}")
 # A compiler that keeps the module it is given, and goes on.
 KEEPER = """#!/bin/sh
-for word in "$@"; do case "$word" in */module.bc) cp "$word" '{kept}' ;; esac; done
+for word in "$@"; do case "$word" in module.bc | */module.bc) cp "$word" '{kept}' ;; esac; done
 exec '{clang}' "$@"
 """
 
