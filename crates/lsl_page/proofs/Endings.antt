@@ -3,7 +3,9 @@ use Rattle.std.proofs.Common.{◌≡◌, ℕ, ◌<◌, ◌≤◌, List, [], ◌�
 use Rattle.std.specs.Prelude.{length, unwrap_or}
 use Rattle.lsl_ports.specs.Counts.{Rose}
 use Rattle.lsl_ports.specs.Shelf.{Files}
+use Rattle.lsl_region.specs.Worlds.{World}
 use Rattle.lsl_top.specs.Ends.{Ends, Outside}
+use Rattle.lsl_top.specs.Froms.{IsFromWords}
 use Rattle.lsl_top.specs.Laws.{copies}
 use Rattle.lsl_top.specs.Named.{NamedRose}
 use Rattle.lsl_top.specs.Status.{number_of}
@@ -37,11 +39,12 @@ module _ (files : Files) (words : Option Command) (status : Status) (m n : ℕ) 
   after = outside_of files missed (n ∷ output) refused
 
   module _ (e : Ends copies words before after status) where
-    -- the mark is as it was
-    pub mark-of : n ≡ m
-    mark-of =
+    -- the mark is as it was, where some world fits the words
+    pub mark-of : (from : World) → IsFromWords (Some files) words from → n ≡ m
+    mark-of from fits =
         let (trips, went, silent, keeps) = e.kept in
-        keeps-mark m n [] output files words status trips e.usage.1 e.nothing (keeps (copies-honest None None trips went))
+        keeps-mark m n [] output files from words status trips e.usage.1 e.nothing
+        (keeps from fits (copies-honest None None trips went))
 
     -- what stands behind it ends so too
     pub ends-behind : Ends copies words (outside_of files 0 [] 0) (outside_of files missed output refused) status
@@ -52,13 +55,13 @@ module _ (files : Files) (words : Option Command) (status : Status) (m n : ℕ) 
         trips,
         went,
         silent,
-        λ honest. keeps-behind m n [] output files words status trips (keeps honest),
+        λ from fits honest. keeps-behind m n [] output files from words status trips (keeps from fits honest),
       );
       read_fault = e.read_fault;
       write_fault = e.write_fault;
-      complete = λ fs trips command answer held is answers calm.
-          e.complete fs trips command answer held is answers (record { reads = calm.reads; writes = calm.writes });
-      headline = λ fs command file programs trips more held is runs tells. absurd (cc);
+      complete = λ fs from trips command answer held is answers calm.
+          e.complete fs from trips command answer held is answers (record { reads = calm.reads; writes = calm.writes });
+      headline = λ fs from command trips more lines held is tells. absurd (cc);
       unchanged = e.unchanged;
       reads_counted = e.reads_counted;
       writes_counted = e.writes_counted;
@@ -70,7 +73,8 @@ module _ (files others : Files) (words : Option Command) (status : Status) (m n 
     (reads missed writes refused : ℕ)
     (e : Ends copies words (outside_of files reads (m ∷ start) writes) (outside_of others missed (n ∷ output) refused)
     status)
-    (fresh : reads ≡ 0) (empty : start ≡ []) (calm : writes ≡ 0) where
+    (fresh : reads ≡ 0) (empty : start ≡ []) (calm : writes ≡ 0) (from : World)
+    (fits : IsFromWords (Some files) words from) where
   abbrev after-files : Files → Outside
   after-files fs = outside_of fs missed (n ∷ output) refused
 
@@ -83,7 +87,7 @@ module _ (files others : Files) (words : Option Command) (status : Status) (m n 
       (subst (λ (k : ℕ). Ends copies words (outside_of files k (m ∷ start) writes) (after-files others) status) fresh e)))
 
   pub same-mark : n ≡ m
-  same-mark = mark-of files words status m n output missed refused from-nothing
+  same-mark = mark-of files words status m n output missed refused from-nothing from fits
 
   pub ended-of : (room : ℕ) → (0 < refused → length output ≡ room) → Ended files words room status output
   ended-of room full = record {

@@ -20,24 +20,25 @@ use Rattle.lsl_world.specs.Reports.{homes, journal_of}
 use Rattle.lsl_world.specs.Starts.{start}
 use Rattle.lsl_world.specs.Steps.{reference}
 use Rattle.lsl_world.specs.Travels.{images}
-use Rattle.lsl_top.specs.Answers.{Answer, Answers, run_answer}
-use Rattle.lsl_top.specs.Headline.{IsScriptIn, Runs}
+use Rattle.lsl_top.specs.Answers.{Answer, Answers, Grade, Due, Written, run_answer}
+use Rattle.lsl_top.specs.Froms.{IsFromOf}
+use Rattle.lsl_top.specs.Headline.{IsScriptIn}
 use Rattle.lsl_top.specs.Held.{AreHeld}
 use Rattle.lsl_top.specs.Pieces.{lines_in, sent_in}
-use Rattle.lsl_top.specs.Plays.{names_in, play_of, play_of_once}
+use Rattle.lsl_top.specs.Plays.{Whole, names_in, once_world, play_of, play_of_once}
 use Rattle.lsl_top.specs.Promise.{KeepsTo, Wrote, WrotePart}
 use Rattle.lsl_top.specs.Scripts.{AreAccepted}
 use Rattle.lsl_top.specs.Status.{number_of}
-use Rattle.lsl_top.specs.Words.{Command, Once, Check, Replay}
+use Rattle.lsl_top.specs.Words.{Command, Once, Check, Replay, Freeze, Thaw}
 use Rattle.lsl_top.specs.declared.status.Status.{Status}
 use Rattle.lsl_top.specs.declared.status.Status.TheVariants.{Ok, Usage, BadWorld, BadScript, ReadFault, WriteFault, BadImage, NoMemory}
-use Rattle.lsl_top.proofs.Journals.{image-pieces, journal-pieces}
-use Rattle.lsl_top.proofs.OneAnswer.{plays-journal, replays-plays}
+use Rattle.lsl_top.proofs.Journals.{journal-pieces, pieces-images}
+use Rattle.lsl_top.proofs.OneAnswer.{plays-programs, replays-plays}
 use Rattle.lsl_top.proofs.Pieces.{begun-partly}
 use Rattle.lsl_top.proofs.Trips.{copies-honest}
 use Rattle.lsl_page.specs.Ended.{Ended}
 use Rattle.lsl_page.specs.Faults.{IsMissing}
-use Rattle.lsl_page.specs.Headline.{AreCopied, IsFirst, WritesJournal, whole_journal}
+use Rattle.lsl_page.specs.Headline.{AreCopied, IsFirst, Runs, WritesJournal, whole_journal}
 use Rattle.lsl_page.proofs.Arrivals.{all-kept}
 use Rattle.lsl_page.proofs.Endings.{missing}
 
@@ -81,16 +82,19 @@ none-missing : (files : Files) (command : Command) (file : WorldFile) (programs 
     → Runs files command file programs → IsMissing files (Some command) → ⊥
 none-missing files (Once name) file programs (is, h) (other, e, none) =
     script-there files (name ∷ []) programs 0 other h (omega arith) (sym e) none
-none-missing files (Replay name) file programs ((bytes, there, good), h) (other, inl e, none) =
+none-missing files (Replay name) file programs h (other, inl frozen, none) = absurd frozen
+none-missing files (Replay name) file programs ((bytes, there, good), h) (other, inr (inl e), none) =
     some-none files name bytes there (ap files (sym e) ∙ none)
 none-missing files (Replay name) file programs ((bytes, there, good), h)
-    (other, inr (others, world, held, read, (place, lt, at)), none) =
+    (other, inr (inr (others, world, held, read, (place, lt, at))), none) =
     let same = some-one others bytes (sym held ∙ there) in
     let one = world-one bytes world file (subst (λ (z : List ℕ). IsWorld z world) same read) good in
     script-there files (names_in file) programs place other h
     (subst (λ (w : WorldFile). place < length (names_in w)) one lt)
     (subst (λ (w : WorldFile). get_or (names_in w) place other ≡ other) one at) none
 none-missing files (Check name) file programs h missing = absurd h
+none-missing files (Freeze name) file programs h missing = absurd h
+none-missing files (Thaw frozen name) file programs h missing = absurd h
 
 module _ (files : Files) (command : Command) (file : WorldFile) (programs : List Program) (trips : List Trip)
     (runs : Runs files command file programs) (copied : AreCopied trips) where
@@ -110,35 +114,43 @@ module _ (files : Files) (command : Command) (file : WorldFile) (programs : List
     wrote : lines_in answer.pieces ≡ lines
     sent : sent_in answer.pieces ≡ images codes (rules_of programs) file.steps trips begun
 
-  run-is : (answer : Answer) (codes : List Code) → answer ≡ run_answer codes programs file trips → IsRun answer
+  run-is : (answer : Answer) (codes : List Code) → answer ≡ run_answer Whole codes programs file trips begun
+      → IsRun answer
   run-is answer codes e = record {
     codes = codes;
     ended = ap (λ (a : Answer). a.status) e;
-    wrote = ap (λ (a : Answer). lines_in a.pieces) e ∙ journal-pieces codes programs file trips;
-    sent = ap (λ (a : Answer). sent_in a.pieces) e ∙ image-pieces codes programs file trips;
+    wrote = ap (λ (a : Answer). lines_in a.pieces) e ∙ journal-pieces Whole codes programs file trips begun;
+    sent = ap (λ (a : Answer). sent_in a.pieces) e
+        ∙ pieces-images Whole codes (rules_of programs) file.steps trips begun;
   }
 
-  answer-run : (c : Command) → Runs files c file programs → (answer : Answer) → Answers (Some files) trips c answer
-      → IsRun answer
-  answer-run (Once name) (is, h) answer answers =
+  -- nothing is thawed, so the world that was frozen before may be any
+  answer-run : (g : Grade) (from : World) (c : Command) → Runs files c file programs → (answer : Answer)
+      → Answers g (Some files) from trips c answer → IsRun answer
+  answer-run g from (Once name) (is, h) answer answers =
       let (texts, are, all) = texts-of files (name ∷ []) programs h in
-      let run = plays-journal files trips (play_of_once name) programs answer texts are all answers in
-      run-is answer run.0 (run.1 ∙ ap (λ (w : WorldFile). run_answer run.0 programs w trips) (sym is))
-  answer-run (Replay name) ((bytes, is, good), h) answer answers =
+      let (codes, text, comes) = plays-programs files g from trips (play_of_once name) programs answer texts are all
+      answers in
+      run-is answer codes
+      (subst (λ (w : WorldFile). answer ≡ run_answer Whole codes programs w trips (start (rules_of programs) w))
+      (sym is) comes.1)
+  answer-run g from (Replay name) ((bytes, is, good), h) answer answers =
       let (texts, are, all) = texts-of files (names_in file) programs h in
-      let run = plays-journal files trips (play_of file) programs answer texts are all
-      (replays-plays files trips name bytes file answer is good answers) in
-      run-is answer run.0 run.1
-  answer-run (Check name) h answer answers = absurd h
+      let (codes, text, comes) = plays-programs files g from trips (play_of Whole file) programs answer texts are all
+      (replays-plays files g from trips Whole name bytes file answer is good answers) in
+      run-is answer codes comes.1
+  answer-run g from (Check name) h answer answers = absurd h
+  answer-run g from (Freeze name) h answer answers = absurd h
+  answer-run g from (Thaw frozen name) h answer answers = absurd h
 
   module _ (output : List ℕ) where
-    abbrev IsThis : Answer → Type 0
-    IsThis = Answers (Some files) trips command
+    abbrev IsThis : Grade → Answer → Type 0
+    IsThis grade = Answers grade (Some files) begun trips command
 
-    part : WrotePart IsThis trips (Some []) (Some output) → IsFirst file programs output
-    part (answer, is, begun) =
-        let run = answer-run command runs answer is in
-        let grew = begun-partly answer.pieces trips (Some []) (Some output) begun in
+    part : WrotePart (IsThis Due) trips (Some []) (Some output) → IsFirst file programs output
+    part (answer, is, some) =
+        let run = answer-run Due begun command runs answer is in
+        let grew = begun-partly answer.pieces trips (Some []) (Some output) some in
         let same = some-one output grew.added grew.grew in (
           trips,
           copied,
@@ -147,10 +159,10 @@ module _ (files : Files) (command : Command) (file : WorldFile) (programs : List
         )
 
     -- all was sent, so every step is kept
-    whole : (status : Status) → Wrote IsThis status trips (Some []) (Some output)
+    whole : (status : Status) → Wrote (IsThis Written) status trips (Some []) (Some output)
         → (number_of status ≡ number_of Ok) × (output ≡ lines_of (whole_journal programs file))
     whole status (answer, is, e, wrote) =
-        let run = answer-run command runs answer is in
+        let run = answer-run Written begun command runs answer is in
         let kept = all-kept run.codes (rules_of programs) file.steps trips begun copied (wrote.sent ∙ run.sent) in (
           ap number_of (sym e ∙ run.ended),
           some-one output (lines_in answer.pieces) wrote.written ∙ run.wrote
@@ -172,12 +184,24 @@ module _ (files : Files) (command : Command) (file : WorldFile) (programs : List
     written Usage k u r = absurd (u refl)
     written ReadFault k u r = absurd (r refl)
 
+-- nothing is thawed, so any world fits
+fits-any : (files : Files) (command : Command) (file : WorldFile) (programs : List Program) (from : World)
+    → Runs files command file programs → IsFromOf (Some files) command from
+fits-any files (Once name) file programs from runs = tt
+fits-any files (Replay name) file programs from runs =
+    λ bytes other is good texts text are holds accepted codes all has. tt
+fits-any files (Check name) file programs from runs = absurd runs
+fits-any files (Freeze name) file programs from runs = absurd runs
+fits-any files (Thaw frozen name) file programs from runs = absurd runs
+
 pub headline-of : (files : Files) (command : Command) (file : WorldFile) (programs : List Program) (room : ℕ)
     (status : Status) (output : List ℕ) → Ended files (Some command) room status output
     → Runs files command file programs → WritesJournal file programs (number_of status) output
 headline-of files command file programs room status output ended runs =
     let (trips, went, silent, keeps) = ended.ends.kept in
-    written files command file programs trips runs went.given output status (keeps (copies-honest None None trips went))
+    let from = start (rules_of programs) file in
+    written files command file programs trips runs went.given output status
+    (keeps from (fits-any files command file programs from runs) (copies-honest None None trips went))
     (λ e. let both : Some command ≡ None = ended.ends.usage.0 e in absurd (cc))
     (λ e. none-missing files command file programs runs
     (missing files (Some command) ended.missed (ended.ends.read_fault e)))

@@ -1,4 +1,5 @@
 pub mod Marks
 pub mod Endings
+mod Fits
 pub mod Arrivals
 pub mod Headlines

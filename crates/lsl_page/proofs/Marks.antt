@@ -3,7 +3,8 @@ use Rattle.std.proofs.Common.{◌≡◌, ℕ, List, [], ◌∷◌, ◌++◌, Opt
 use Rattle.lsl_ports.specs.Growth.{Grew}
 use Rattle.lsl_ports.specs.Shelf.{Files}
 use Rattle.lsl_ports.specs.Trips.{Trip}
-use Rattle.lsl_top.specs.Answers.{Answer, Answers}
+use Rattle.lsl_region.specs.Worlds.{World}
+use Rattle.lsl_top.specs.Answers.{Answer, Answers, Grade}
 use Rattle.lsl_top.specs.Pieces.{Piece, lines_in}
 use Rattle.lsl_top.specs.Promise.{IsBegun, IsWhole, Keeps, KeepsTo, WritesNothing}
 use Rattle.lsl_top.specs.Words.{Command}
@@ -47,7 +48,7 @@ module _ (m n : ℕ) (a b : List ℕ) where
     )
 
   -- what is kept to with the mark is kept to behind it
-  keeps_to-behind : (IsAnswer : Answer → Type 0) (status : Status) (trips : List Trip)
+  keeps_to-behind : (IsAnswer : Grade → Answer → Type 0) (status : Status) (trips : List Trip)
       → KeepsTo IsAnswer status trips old new → KeepsTo IsAnswer status trips (Some a) (Some b)
   keeps_to-behind IsAnswer Ok trips (answer, is, e, w) = (answer, is, e, whole-behind answer.pieces trips w)
   keeps_to-behind IsAnswer BadWorld trips (answer, is, e, w) = (answer, is, e, whole-behind answer.pieces trips w)
@@ -59,14 +60,15 @@ module _ (m n : ℕ) (a b : List ℕ) where
   keeps_to-behind IsAnswer Usage trips k = tt
   keeps_to-behind IsAnswer ReadFault trips k = tt
 
-  pub keeps-behind : (files : Files) (words : Option Command) (status : Status) (trips : List Trip)
-      → Keeps (Some files) trips words status old new → Keeps (Some files) trips words status (Some a) (Some b)
-  keeps-behind files None status trips k = tt
-  keeps-behind files (Some command) status trips k =
-      keeps_to-behind (Answers (Some files) trips command) status trips k
+  pub keeps-behind : (files : Files) (from : World) (words : Option Command) (status : Status) (trips : List Trip)
+      → Keeps (Some files) from trips words status old new
+      → Keeps (Some files) from trips words status (Some a) (Some b)
+  keeps-behind files from None status trips k = tt
+  keeps-behind files from (Some command) status trips k =
+      keeps_to-behind (λ grade. Answers grade (Some files) from trips command) status trips k
 
   -- whatever the status, the mark is as it was
-  keeps_to-mark : (IsAnswer : Answer → Type 0) (status : Status) (trips : List Trip)
+  keeps_to-mark : (IsAnswer : Grade → Answer → Type 0) (status : Status) (trips : List Trip)
       → (WritesNothing status → new ≡ old) → KeepsTo IsAnswer status trips old new → n ≡ m
   keeps_to-mark IsAnswer Ok trips nothing (answer, is, e, w) = ap mark w.written
   keeps_to-mark IsAnswer BadWorld trips nothing (answer, is, e, w) = ap mark w.written
@@ -78,10 +80,10 @@ module _ (m n : ℕ) (a b : List ℕ) where
   keeps_to-mark IsAnswer Usage trips nothing k = ap mark (nothing tt)
   keeps_to-mark IsAnswer ReadFault trips nothing k = ap mark (nothing tt)
 
-  pub keeps-mark : (files : Files) (words : Option Command) (status : Status) (trips : List Trip)
+  pub keeps-mark : (files : Files) (from : World) (words : Option Command) (status : Status) (trips : List Trip)
       → (words ≡ None → status ≡ Usage) → (WritesNothing status → new ≡ old)
-      → Keeps (Some files) trips words status old new → n ≡ m
-  keeps-mark files None status trips usage nothing k =
+      → Keeps (Some files) from trips words status old new → n ≡ m
+  keeps-mark files from None status trips usage nothing k =
       ap mark (nothing (subst WritesNothing (sym (usage refl)) tt))
-  keeps-mark files (Some command) status trips usage nothing k =
-      keeps_to-mark (Answers (Some files) trips command) status trips nothing k
+  keeps-mark files from (Some command) status trips usage nothing k =
+      keeps_to-mark (λ grade. Answers grade (Some files) from trips command) status trips nothing k

@@ -1,6 +1,8 @@
 -- What is written where a world is good and its scripts are accepted.
-use Rattle.std.specs.Prelude.{◌≡◌, ◌⊎◌, ℕ, All, List, ◌++◌}
+use Rattle.std.specs.Prelude.{◌≡◌, ◌⊎◌, ℕ, All, List, [], ◌∷◌, ◌++◌}
+use Rattle.std.specs.List.{AllZip}
 use Rattle.lsl_ports.specs.Growth.{Begins}
+use Rattle.lsl_ports.specs.Shelf.{Files}
 use Rattle.lsl_ports.specs.Trips.{Trip}
 use Rattle.lsl_lines.specs.Journal.{lines_of}
 use Rattle.lsl_lines.specs.declared.file.WorldFile.{WorldFile}
@@ -10,9 +12,20 @@ use Rattle.lsl_world.specs.Programs.{rules_of}
 use Rattle.lsl_world.specs.Reports.{homes, journal_of}
 use Rattle.lsl_world.specs.Starts.{start}
 use Rattle.lsl_world.specs.Steps.{reference}
+use Rattle.lsl_top.specs.Headline.{AreGood, IsScriptIn}
 use Rattle.lsl_top.specs.Laws.{copies}
+use Rattle.lsl_top.specs.Plays.{once_world}
 use Rattle.lsl_top.specs.Status.{number_of}
+use Rattle.lsl_top.specs.Words.{Command, Once, Check, Replay, Freeze, Thaw}
 use Rattle.lsl_top.specs.declared.status.Status.TheVariants.{Ok, WriteFault, NoMemory}
+
+-- the command plays this world from its start to its end, and the world's scripts are accepted as these programs
+abbrev pub Runs : Files → Command → WorldFile → List Program → Type 0
+Runs files (Once name) file programs = (file ≡ once_world) × AllZip (IsScriptIn files) (name ∷ []) programs
+Runs files (Replay name) file programs = AreGood files name file programs
+Runs files (Check name) file programs = ⊥
+Runs files (Freeze name) file programs = ⊥
+Runs files (Thaw frozen name) file programs = ⊥
 
 -- of each of these trips what was sent came back
 abbrev pub AreCopied : List Trip → Type 0

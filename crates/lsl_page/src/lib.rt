@@ -4,13 +4,12 @@
 ghost use Rattle.std.specs.Prelude.{◌≡◌, ◌<◌, ◌≤◌, ◌∷◌, [], List, Some, length, take};
 ghost use Rattle.lsl_lines.specs.declared.file.WorldFile.{WorldFile};
 ghost use Rattle.lsl_tree.specs.Program.{Program};
-ghost use Rattle.lsl_top.specs.Headline.{Runs};
 ghost use Rattle.lsl_top.specs.Status.{number_of};
 ghost use Rattle.lsl_top.specs.Words.{Command, command_in};
 ghost use Rattle.lsl_top.specs.declared.status.Status.TheVariants.{ReadFault, WriteFault};
 ghost use Rattle.lsl_page.specs.Ended.{EndedAs};
 ghost use Rattle.lsl_page.specs.Faults.{IsMissing};
-ghost use Rattle.lsl_page.specs.Headline.{WritesJournal};
+ghost use Rattle.lsl_page.specs.Headline.{Runs, WritesJournal};
 ghost use Rattle.lsl_page.specs.Request.{IsRequest, files_in};
 
 mod place;
@@ -31,7 +30,7 @@ const NOT_IN_FORM: u8 = 8;
 /// What is answered where there is no memory for the words of a request.
 const NO_MEMORY: u8 = 9;
 
-/// Runs a command over the files of a request: `word` is `once`, `check` or `replay`, and `file` the name of its file.
+/// Runs a command over the files of a request: `word` is `once`, `check`, `replay` or `freeze`, and `file` the name of its file.
 /// The files stand at `places` among `bytes`; of two of one name the first counts. What is written stands at the front
 /// of `page`, and `written` is how many bytes that are. The answer is the number of the command's status, or 8 where the
 /// request isn't in its form, or 9 where there is no memory for its words.

@@ -31,13 +31,14 @@ fn end<S: Shelf, K: Sink, L: Link>(
     lsl(alloc, words, shelf, sink, link)
 }
 
-/// Does what the words ask for over this shelf and this sink, into which nothing was written yet.
+/// Does what two words ask for over this shelf and this sink, into which nothing was written yet.
 fn run_over(
     alloc: Global,
     words: &[String],
     shelf: &mut RequestShelf<'_>,
     sink: &mut RoomSink<'_>,
 ) -> Status
+    requires two { length words.now ≡ 2 }
     requires fresh { shelf.old.faults ≡ 0 }
     requires empty { sink.old.count ≡ 0 }
     requires calm { sink.old.faults ≡ 0 }
@@ -48,7 +49,7 @@ fn run_over(
     end(alloc, words, shelf, sink, &mut ReturningLink)
 }
 
-/// Does what the words ask for over the files of a request. What is written stands at the front of the room.
+/// Does what two words ask for over the files of a request. What is written stands at the front of the room.
 fn run(
     alloc: Global,
     words: &[String],
@@ -57,6 +58,7 @@ fn run(
     room: &mut [u8],
     written: &mut usize,
 ) -> Status
+    requires two { length words.now ≡ 2 }
     ensures ended { Ended (files_in bytes.now places.now) (command_of words.now)
         (length room.new) result (take written.new room.new) }
     ensures within { written.new ≤ length room.new }
