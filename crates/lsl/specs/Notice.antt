@@ -10,10 +10,10 @@ use Rattle.lsl_top.specs.declared.status.Status.TheVariants.{ReadFault, WriteFau
 -- what a status means, as a line
 abbrev pub meaning_of : Status → List ℕ
 meaning_of Ok = []
-meaning_of Usage = codes "usage: lsl once FILE | lsl check FILE | lsl replay WORLD\n"
+meaning_of Usage = codes "usage: lsl once FILE | lsl check FILE | lsl replay WORLD | lsl freeze WORLD | lsl thaw FROZEN WORLD\n"
 meaning_of BadWorld = codes "not in the form of a world file; standard output has the fault (lsl: status 2)\n"
 meaning_of BadScript = codes "a script isn't accepted; standard output has the fault, tools/explain says it in words (lsl: status 3)\n"
-meaning_of ReadFault = codes "it, or a file that it names, can't be read (lsl: status 4)\n"
+meaning_of ReadFault = codes "it, or a file that is named in it or beside it, can't be read (lsl: status 4)\n"
 meaning_of WriteFault = codes "standard output took no more, and is cut short (lsl: status 5)\n"
 meaning_of BadImage = codes "not a frozen form of that world; standard output has the fault (lsl: status 6)\n"
 meaning_of NoMemory = codes "there isn't memory enough (lsl: status 7)\n"
@@ -22,13 +22,19 @@ meaning_of NoMemory = codes "there isn't memory enough (lsl: status 7)\n"
 abbrev pub no_words : List ℕ
 no_words = codes "the command's words can't be read: one isn't UTF-8 (lsl: status 9)\n"
 
--- the file that the words name
-abbrev pub named_in : List (List ℕ) → Option (List ℕ)
-named_in (word ∷ file ∷ []) = Some file
-named_in _ = None
+-- of two files the frozen one comes first: it is the one that isn't of the world
+abbrev pub one_of_two : Status → List ℕ → List ℕ → List ℕ
+one_of_two BadImage frozen world = frozen
+one_of_two status frozen world = world
 
-abbrev pub file_in : {Z : Type 0} → List (String Z) → Option (List ℕ)
-file_in words = named_in (map string_bytes words)
+-- the file that the words name, and of which a status speaks
+abbrev pub named_in : Status → List (List ℕ) → Option (List ℕ)
+named_in status (word ∷ file ∷ []) = Some file
+named_in status (word ∷ frozen ∷ world ∷ []) = Some (one_of_two status frozen world)
+named_in status _ = None
+
+abbrev pub file_in : {Z : Type 0} → Status → List (String Z) → Option (List ℕ)
+file_in status words = named_in status (map string_bytes words)
 
 -- the file's name, where there is one, in front of what the status means
 abbrev pub named_notice : Option (List ℕ) → List ℕ → List ℕ

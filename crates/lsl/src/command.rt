@@ -40,10 +40,10 @@ pub fn run<S: Shelf, K: Sink, L: Link, N: Sink>(
     // The line of that status was said, but where the notes failed.
     ensures told { (status : Ended) → exit_status result ≡ number_of status
         → Rose (N.faults notes.old) (N.faults notes.new)
-        ⊎ IsTold status (file_in words.now) (N.sunk notes.old) (N.sunk notes.new) }
+        ⊎ IsTold status (file_in status words.now) (N.sunk notes.old) (N.sunk notes.new) }
 {
     let status = lsl(alloc, words, shelf, sink, link);
-    say(status, named_file(words), notes);
+    say(status, named_file(status, words), notes);
     ExitCode::from(status.number())
 }
 

@@ -6,7 +6,7 @@ ghost use Rattle.lsl_text.specs.Quoted.{escaped, quoted};
 ghost use Rattle.lsl_ports.specs.Counts.{Rose};
 ghost use Rattle.lsl_ports.specs.Growth.{Grew};
 ghost use Rattle.lsl_top.specs.declared.status.Status.TheVariants.{NoMemory};
-ghost use Rattle.lsl.specs.Notice.{IsTold, file_in, meaning_of, no_words, notice_of};
+ghost use Rattle.lsl.specs.Notice.{IsTold, file_in, meaning_of, no_words, notice_of, one_of_two};
 
 use lsl_ports::{Failed, Sink, write_all};
 use lsl_top::Status;
@@ -17,12 +17,15 @@ fn meaning(status: Status) -> &'static str
 {
     match status {
         Status::Ok => "",
-        Status::Usage => "usage: lsl once FILE | lsl check FILE | lsl replay WORLD\n",
+        Status::Usage =>
+            "usage: lsl once FILE | lsl check FILE | lsl replay WORLD | lsl freeze WORLD | lsl thaw FROZEN WORLD\n",
         Status::BadWorld =>
             "not in the form of a world file; standard output has the fault (lsl: status 2)\n",
         Status::BadScript =>
             "a script isn't accepted; standard output has the fault, tools/explain says it in words (lsl: status 3)\n",
-        Status::ReadFault => "it, or a file that it names, can't be read (lsl: status 4)\n",
+        Status::ReadFault => {
+            "it, or a file that is named in it or beside it, can't be read (lsl: status 4)\n"
+        },
         Status::WriteFault => "standard output took no more, and is cut short (lsl: status 5)\n",
         Status::BadImage =>
             "not a frozen form of that world; standard output has the fault (lsl: status 6)\n",
@@ -30,13 +33,24 @@ fn meaning(status: Status) -> &'static str
     }
 }
 
-/// The file that the words name.
-pub fn named_file(words: &[String]) -> Option<&str>
-    ensures { file_in words.now ≡ option_map (λ file. file.now) result }
+/// The file that the words name, and of which a status speaks.
+pub fn named_file(status: Status, words: &[String]) -> Option<&str>
+    ensures { file_in status words.now ≡ option_map (λ file. file.now) result }
 {
     match words {
         [_, file] => Some(file.as_str()),
+        [_, frozen, world] => Some(one_of_two(status, frozen.as_str(), world.as_str())),
         _ => None,
+    }
+}
+
+/// Of a frozen file and one of a world, the one of which a status speaks.
+fn one_of_two<'a>(status: Status, frozen: &'a str, world: &'a str) -> &'a str
+    ensures { result.now ≡ one_of_two status frozen.now world.now }
+{
+    match status {
+        Status::BadImage => frozen,
+        _ => world,
     }
 }
 

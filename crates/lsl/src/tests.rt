@@ -73,13 +73,13 @@ fn each_status_is_said(rt: HostRuntime) -> Result<(), Fail> {
             Case::of(&["replay"], LITERAL),
             1,
             b"".as_slice(),
-            "usage: lsl once FILE | lsl check FILE | lsl replay WORLD\n",
+            "usage: lsl once FILE | lsl check FILE | lsl replay WORLD | lsl freeze WORLD | lsl thaw FROZEN WORLD\n",
         ),
         (
             Case::of(&["once", "-x"], LITERAL),
             1,
             b"".as_slice(),
-            "usage: lsl once FILE | lsl check FILE | lsl replay WORLD\n",
+            "usage: lsl once FILE | lsl check FILE | lsl replay WORLD | lsl freeze WORLD | lsl thaw FROZEN WORLD\n",
         ),
         (
             Case::of(&["replay", "s.lsl"], b"begin\n"),
@@ -98,7 +98,13 @@ fn each_status_is_said(rt: HostRuntime) -> Result<(), Fail> {
             Case::of(&["once", "a\nb"], LITERAL),
             4,
             b"".as_slice(),
-            "\"a\\nb\": it, or a file that it names, can't be read (lsl: status 4)\n",
+            "\"a\\nb\": it, or a file that is named in it or beside it, can't be read (lsl: status 4)\n",
+        ),
+        (
+            Case::of(&["thaw", "s.lsl", "s.lsl"], b"begin\nend\n"),
+            6,
+            b"bad image \"s.lsl\" fault 45\n".as_slice(),
+            "\"s.lsl\": not a frozen form of that world; standard output has the fault (lsl: status 6)\n",
         ),
         (
             Case { room: 7, ..literal },

@@ -36,7 +36,7 @@ pub fn start<S: Shelf, K: Sink, L: Link, N: Sink>(
     // The line of that status was said, but where the notes failed.
     ensures told { IfOk words (λ words. (status : Ended) → exit_status result ≡ number_of status
         → Rose (N.faults notes.old) (N.faults notes.new)
-        ⊎ IsTold status (file_in words.items) (N.sunk notes.old) (N.sunk notes.new)) }
+        ⊎ IsTold status (file_in status words.items) (N.sunk notes.old) (N.sunk notes.new)) }
     // Where they aren't, it ends with 7 for want of memory, and else with 9.
     ensures refused { IfErr words (λ error. IsRefusal (error_kind error) (exit_status result)) }
     // The line of that was said, but where the notes failed.

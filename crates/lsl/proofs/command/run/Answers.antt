@@ -12,10 +12,10 @@ returns-clause-ends g c =
         kept = done.kept;
         read_fault = done.read_fault;
         write_fault = done.write_fault;
-        complete = λ files trips command answer told words answers calm.
-            done.complete files trips command answer told words answers calm.reads calm.writes;
-        headline = λ files command file programs before trips told words runs tells telling honest calm.
-            done.headline files command file programs before trips told words runs tells telling honest calm.reads
+        complete = λ files from trips command answer told words answers calm.
+            done.complete files from trips command answer told words answers calm.reads calm.writes;
+        headline = λ files from command before trips lines told words tells telling honest outputs calm.
+            done.headline files from command before trips lines told words tells telling honest outputs calm.reads
             calm.writes;
         unchanged = done.unchanged;
         reads_counted = done.counted.0;
