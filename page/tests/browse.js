@@ -160,12 +160,14 @@ async function browse(tab) {
 }
 
 const profile = fs.mkdtempSync(path.join(os.tmpdir(), "lsl-page-"));
-const browser = spawn(chromium, [...FLAGS, `--user-data-dir=${profile}`, "about:blank"], { stdio: "ignore" });
+const words = [...FLAGS, `--user-data-dir=${profile}`, "about:blank"];
+const browser = spawn(chromium, words, { stdio: "ignore", detached: true });
 try {
   const tab = await attached(profile);
   process.stdout.write(JSON.stringify(await browse(tab)));
 } finally {
-  browser.kill();
+  // Its helpers end with it: they write into the profile too.
+  process.kill(-browser.pid, "SIGKILL");
   await new Promise(resolve => browser.once("exit", resolve));
   fs.rmSync(profile, { recursive: true, force: true, maxRetries: 20, retryDelay: 100 });
 }
