@@ -1,5 +1,6 @@
 pub mod AnswerLemmas
 pub mod DeliveryLemmas
+pub mod DriveLemmas
 pub mod EventLemmas
 pub mod FaultlessLemmas
 pub mod FieldLemmas

@@ -1,4 +1,5 @@
 pub mod Cards
+pub mod Drives
 pub mod Examples
 pub mod Fields
 pub mod Laws

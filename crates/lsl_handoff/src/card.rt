@@ -1,6 +1,6 @@
 //! Cards: what a region knows of an object, and what each event makes of it.
 
-ghost use Rattle.std.specs.Prelude.{◌≡◌, nat_eq, if◌then◌else◌, IfOk, MatchResult, OnErr};
+ghost use Rattle.std.specs.Prelude.{◌≡◌, nat_eq, if◌then◌else◌, is_some, IfOk, MatchResult, OnErr};
 ghost use Rattle.lsl_handoff.specs.declared.note.NoteKind.TheVariants.{Offer, Cancel};
 ghost use Rattle.lsl_handoff.specs.Cards.{blank, cause, depart_fault, home_card, is_live};
 ghost use Rattle.lsl_handoff.specs.Rules.{awaited, call_back, delivered, departs, known_answer, was_refused, was_taken};
@@ -115,6 +115,13 @@ impl Card {
             Phase::Cancelling(to, _) => Ok(Some(Note::cancel(object, self.trip, region, *to))),
             Phase::Away | Phase::Live(_) => Ok(None),
         }
+    }
+
+    /// Whether an answer is awaited.
+    pub(crate) fn awaits(&self, region: u32, object: u32) -> bool
+        ensures { result ≡ is_some (awaited self.now.phase self.now.trip region object) }
+    {
+        matches!(&self.phase, Phase::Leaving(_, _) | Phase::Cancelling(_, _))
     }
 
     /// The object is called back, where it is leaving.

@@ -1,9 +1,9 @@
 //! Fields: the cards of all regions.
 
-ghost use Rattle.std.specs.Prelude.{◌≡◌, ◌↔◌, All, IfOk, IsTrue, OnErr, MatchResult, length};
+ghost use Rattle.std.specs.Prelude.{◌≡◌, ◌↔◌, All, IfOk, IsTrue, OnErr, MatchResult, is_some, length};
 ghost use Rattle.lsl_handoff.specs.Cards.{cause, depart_fault};
 ghost use Rattle.lsl_handoff.specs.Fields.{HasCard, IsFirstLive, IsOneOf, card_at, cards_at_start, cards_of, does, field_at_start};
-ghost use Rattle.lsl_handoff.specs.Rules.{Depart, Again, GiveUp, Deliver};
+ghost use Rattle.lsl_handoff.specs.Rules.{Depart, Again, GiveUp, Deliver, awaited};
 
 use crate::card::Card;
 use crate::faults::DepartFault;
@@ -129,6 +129,23 @@ impl Field {
         ensures { IfOk result (λ note. does self.now (Again region object) ≡ (self.now, note)) }
     {
         self.objects[(object - 1) as usize].list[(region - 1) as usize].again(region, object)
+    }
+
+    /// Whether this region awaits an answer about the object. Takes no memory.
+    pub fn awaits(&self, region: u32, object: u32) -> bool
+        requires { HasCard self.now object region }
+        ensures { (let card = card_at self.now object region in
+            result ≡ is_some (awaited card.phase card.trip region object)) }
+    {
+        self.objects[(object - 1) as usize].list[(region - 1) as usize].awaits(region, object)
+    }
+
+    /// The last trip of the object that this region heard of. Takes no memory.
+    pub fn trip(&self, region: u32, object: u32) -> u64
+        requires { HasCard self.now object region }
+        ensures { result ≡ (card_at self.now object region).trip }
+    {
+        self.objects[(object - 1) as usize].list[(region - 1) as usize].trip
     }
 
     /// The object is called back: the cancel that is sent, and none exactly where it isn't leaving. Takes no memory.

@@ -5,6 +5,7 @@
 #![tactic(auto)]
 
 mod card;
+mod drive;
 mod examples;
 mod faults;
 mod field;
@@ -16,6 +17,7 @@ mod seal;
 mod writer;
 
 pub use crate::card::{Card, Phase};
+pub use crate::drive::{Drive, Way};
 pub use crate::examples::{called_back_for_good, handed_over_in_the_end, notes_in_bytes};
 pub use crate::faults::{DepartFault, NoteFault};
 pub use crate::field::Field;

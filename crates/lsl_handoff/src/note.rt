@@ -1,8 +1,9 @@
 //! Notes: what one region sends another about an object.
 
-ghost use Rattle.std.specs.Prelude.{◌≡◌};
+ghost use Rattle.std.specs.Prelude.{◌≡◌, IfOk};
 
 use crate::parcel::Parcel;
+use lsl_text::NoMemory;
 
 /// What a note says.
 #[derive(Clone, Copy, Debug, PartialEq, Eq)]
@@ -58,6 +59,20 @@ impl Note {
             to,
             parcel: Parcel::empty(),
         }
+    }
+
+    /// An equal note. Takes memory for its parcel, unless there is none.
+    pub fn copy(&self) -> Result<Note, NoMemory>
+        ensures { IfOk result (λ note. note ≡ self.now) }
+    {
+        Ok(Note {
+            kind: self.kind,
+            object: self.object,
+            trip: self.trip,
+            from: self.from,
+            to: self.to,
+            parcel: self.parcel.copy()?,
+        })
     }
 
     /// The answer of this kind to a note.
