@@ -1,5 +1,5 @@
 -- How a request ended, from what the top call says over its shelf, its sink and its link.
-use Rattle.std.proofs.Common.{◌≡◌, ℕ, ◌<◌, ◌≤◌, List, [], ◌∷◌, Option, Some, None, ap, ◌∙◌, refl, sym, subst, arith, lit<}
+use Rattle.std.proofs.Common.{◌≡◌, ℕ, ◌<◌, List, [], ◌∷◌, Option, Some, None, ap, refl, subst, arith, lit<}
 use Rattle.std.specs.Prelude.{length, unwrap_or}
 use Rattle.lsl_ports.specs.Counts.{Rose}
 use Rattle.lsl_ports.specs.Shelf.{Files}

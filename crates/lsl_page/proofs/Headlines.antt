@@ -25,7 +25,7 @@ use Rattle.lsl_top.specs.Froms.{IsFromOf}
 use Rattle.lsl_top.specs.Headline.{IsScriptIn}
 use Rattle.lsl_top.specs.Held.{AreHeld}
 use Rattle.lsl_top.specs.Pieces.{lines_in, sent_in}
-use Rattle.lsl_top.specs.Plays.{Whole, names_in, once_world, play_of, play_of_once}
+use Rattle.lsl_top.specs.Plays.{Whole, names_in, play_of, play_of_once}
 use Rattle.lsl_top.specs.Promise.{KeepsTo, Wrote, WrotePart}
 use Rattle.lsl_top.specs.Scripts.{AreAccepted}
 use Rattle.lsl_top.specs.Status.{number_of}

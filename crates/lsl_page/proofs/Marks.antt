@@ -1,11 +1,10 @@
 -- A sink that tells a mark in front of what it took: the mark stays, and what stands behind it grows as the whole does.
-use Rattle.std.proofs.Common.{◌≡◌, ℕ, List, [], ◌∷◌, ◌++◌, Option, Some, None, refl, ap, sym, subst, inl, inr}
-use Rattle.lsl_ports.specs.Growth.{Grew}
+use Rattle.std.proofs.Common.{◌≡◌, ℕ, List, [], ◌∷◌, Option, Some, None, refl, ap, sym, subst, inl, inr}
 use Rattle.lsl_ports.specs.Shelf.{Files}
 use Rattle.lsl_ports.specs.Trips.{Trip}
 use Rattle.lsl_region.specs.Worlds.{World}
 use Rattle.lsl_top.specs.Answers.{Answer, Answers, Grade}
-use Rattle.lsl_top.specs.Pieces.{Piece, lines_in}
+use Rattle.lsl_top.specs.Pieces.{Piece}
 use Rattle.lsl_top.specs.Promise.{IsBegun, IsWhole, Keeps, KeepsTo, WritesNothing}
 use Rattle.lsl_top.specs.Words.{Command}
 use Rattle.lsl_top.specs.declared.status.Status.{Status}
