@@ -33,18 +33,18 @@ converted span kind t = do
   row ← must (casts_of (node_kind_of t) kind ≡ true) (at NoCast span)
   gives (node.Cast kind t)
 
-abbrev pub prefixed : UnaryOp → Span → Node → Judgement Node
-prefixed op span t = do
+abbrev pub check_unary : UnaryOp → Span → Node → Judgement Node
+check_unary op span t = do
   row ← must (is_int (node_kind_of t) ≡ true) (at NoOperator span)
   gives (node.Unary op t)
 
-abbrev pub joined : BinaryOp → Span → Node → Node → Judgement Node
-joined op span left right = do
+abbrev pub check_binary : BinaryOp → Span → Node → Node → Judgement Node
+check_binary op span left right = do
   kind ← entry (result_kind_of op (node_kind_of left) (node_kind_of right)) (at NoOperator span)
   gives (node.Binary op kind left right)
 
-abbrev pub listed : Exprs → Nodes → Judgement Node
-listed es ts = do
+abbrev pub check_list : Exprs → Nodes → Judgement Node
+check_list es ts = do
   elements ← flat es ts
   gives (node.ListLiteral ts)
 
@@ -62,18 +62,18 @@ abbrev mutual
     call_value c x es ts
   value known s (expr.ListLiteral span es) = do
     ts ← values known s es
-    listed es ts
+    check_list es ts
   value known s (expr.Parens span e) = value known s e
   value known s (expr.Cast span kind e) = do
     t ← value known s e
     converted span kind t
   value known s (expr.Unary op span e) = do
     t ← value known s e
-    prefixed op span t
+    check_unary op span t
   value known s (expr.Binary op span a b) = do
     left ← value known s a
     right ← value known s b
-    joined op span left right
+    check_binary op span left right
   value known s (expr.Assign x op span e) = do
     t ← target s x
     right ← value known s e

@@ -19,7 +19,7 @@ use lsl_value::{BinaryOp, Kind, UnaryOp};
 use std::alloc::Global;
 
 /// A list of these elements: none of them is a list.
-pub(crate) fn listed(exprs: &[Expr], nodes: Vec<Node>) -> Result<Node, Refused>
+pub(crate) fn check_list(exprs: &[Expr], nodes: Vec<Node>) -> Result<Node, Refused>
     requires { length exprs.now ≡ length nodes.items }
     ensures { Rules node_of result (listed_verdict (exprs_of exprs.now) (nodes_of nodes.items)) }
 {
@@ -65,7 +65,12 @@ pub(crate) fn converted(alloc: Global, span: Span, kind: Kind, node: Node) -> Re
     }
 }
 
-pub(crate) fn prefixed(alloc: Global, op: UnaryOp, span: Span, node: Node) -> Result<Node, Refused>
+pub(crate) fn check_unary(
+    alloc: Global,
+    op: UnaryOp,
+    span: Span,
+    node: Node,
+) -> Result<Node, Refused>
     ensures { Rules node_of result (prefixed_verdict op span (node_of node)) }
 {
     match node.kind() {
@@ -77,7 +82,7 @@ pub(crate) fn prefixed(alloc: Global, op: UnaryOp, span: Span, node: Node) -> Re
     }
 }
 
-pub(crate) fn joined(
+pub(crate) fn check_binary(
     alloc: Global,
     op: BinaryOp,
     span: Span,

@@ -13,7 +13,7 @@ use crate::assignments::stored;
 use crate::checker::Checker;
 use crate::faults::Refused;
 use crate::frame::Scope;
-use crate::operators::{converted, joined, listed, prefixed};
+use crate::operators::{check_binary, check_list, check_unary, converted};
 use lsl_text::Span;
 use lsl_tree::{AssignOp, Expr, Name, Node};
 use lsl_value::{Kind, UnaryOp};
@@ -34,7 +34,7 @@ impl Checker<'_> {
             Expr::Call { name, arguments } => self.call(scope, name, arguments.as_slice()),
             Expr::List { elements, .. } => {
                 let nodes = self.values(scope, elements.as_slice())?;
-                listed(elements.as_slice(), nodes)
+                check_list(elements.as_slice(), nodes)
             }
             Expr::Parens { inner, .. } => self.value(scope, inner),
             Expr::Cast {
@@ -51,7 +51,7 @@ impl Checker<'_> {
             } => {
                 let left = self.value(scope, left)?;
                 let right = self.value(scope, right)?;
-                joined(self.alloc, *op, *span, left, right)
+                check_binary(self.alloc, *op, *span, left, right)
             }
             Expr::Assign {
                 name,
@@ -94,7 +94,7 @@ impl Checker<'_> {
             (expr.Unary op span (expr_of operand.now))) }
     {
         let node = self.value(scope, operand)?;
-        prefixed(self.alloc, op, span, node)
+        check_unary(self.alloc, op, span, node)
     }
 
     #[inline(never)]

@@ -80,7 +80,7 @@ pub fn build(alloc: Global, text: &[u8]) -> Result<Built, Refusal<BuildFault>>
     compiled(alloc, text)
 }
 
-// The same, as far as it is said of what is found and of a fault.
+// What `build` does, as far as it is said of what is found and of a fault.
 fn compiled(alloc: Global, text: &[u8]) -> Result<Built, Refusal<BuildFault>>
     ensures found { IfOk result (λ b. Accepted text.now (program_of b.program)) }
     ensures first { (fault : Fault) → IsErrOf result (refusals.Fault fault) → FirstFault text.now fault }

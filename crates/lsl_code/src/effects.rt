@@ -98,7 +98,7 @@ fn call_builtin(id: BuiltinId, stack: &mut KindStack) -> Result<(), NoMemory>
     Ok(())
 }
 
-// The same of a function.
+// Takes off the kinds of a function's arguments, and adds that of its value if it gives one.
 fn call_function(names: &Names, f: u16, stack: &mut KindStack) -> Result<(), NoMemory>
     requires { IsTrue (is_some (called (slice_get names.now.functions f) stack.old)) }
     ensures { OnOk result (Some stack.new ≡ called (slice_get names.now.functions f) stack.old) }

@@ -9,7 +9,7 @@ ghost use Rattle.lsl_meaning.specs.Expressions.{step_operator};
 ghost use Rattle.lsl_code.specs.Drafts.{carries_point};
 ghost use Rattle.lsl_gen.specs.Expressions.{literal as literal_of, load as load_of, store as store_of, builtin_code, call_code, step_code, value_code, values_code, effect_code, effects_code};
 
-use crate::numbers::{long, short};
+use crate::numbers::{to_u16, to_u32};
 use crate::texts::{ascii_text, copy_text};
 use lsl_code::{Draft, Instr};
 use lsl_table::{BuiltinRow, ConstantValue, Home, constant_value};
@@ -39,11 +39,11 @@ fn load(place: Place) -> Result<Instr, NoMemory>
 {
     match place {
         Place::Slot(n) => {
-            let n = short(n)?;
+            let n = to_u16(n)?;
             Ok(Instr::Load(n))
         }
         Place::Global(n) => {
-            let n = short(n)?;
+            let n = to_u16(n)?;
             Ok(Instr::LoadGlobal(n))
         }
     }
@@ -56,11 +56,11 @@ fn store(place: Place) -> Result<Instr, NoMemory>
 {
     match place {
         Place::Slot(n) => {
-            let n = short(n)?;
+            let n = to_u16(n)?;
             Ok(Instr::Store(n))
         }
         Place::Global(n) => {
-            let n = short(n)?;
+            let n = to_u16(n)?;
             Ok(Instr::StoreGlobal(n))
         }
     }
@@ -122,7 +122,7 @@ fn emit_call(draft: &mut Draft, callee: Callee, line: u32) -> Result<(), NoMemor
 {
     match callee {
         Callee::Function(n) => {
-            let n = short(n)?;
+            let n = to_u16(n)?;
             draft.push_call(n, line)?;
             Ok(())
         }
@@ -181,7 +181,7 @@ pub fn emit_value(alloc: Global, draft: &mut Draft, node: &Node) -> Result<(), N
         }
         Node::List { elements } => {
             emit_values(alloc, draft, elements)?;
-            let count = long(elements.len())?;
+            let count = to_u32(elements.len())?;
             draft.push(Instr::MakeList(count))?;
             Ok(())
         }

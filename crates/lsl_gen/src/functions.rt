@@ -6,7 +6,7 @@ ghost use Rattle.lsl_tree.specs.Signatures.{handlers_of};
 ghost use Rattle.lsl_gen.specs.Programs.{draft_of, functions_made, handlers_made, made_by, IsReady, IsShort, numbered_handlers, numbered_states};
 
 use crate::labels::Labels;
-use crate::numbers::short;
+use crate::numbers::to_u16;
 use crate::statements::emit_block;
 use crate::texts::{ascii_text, copy_text};
 use lsl_code::{Draft, FunctionCode, Handler, Instr, Names, Sequence, StateCode, finish};
@@ -100,7 +100,7 @@ fn push_handlers(
 {
     let mut handlers = Sequence::new(alloc);
     for r in routines {
-        let number = short(functions.len())?;
+        let number = to_u16(functions.len())?;
         handlers.push(Handler {
             event: r.event,
             function: number,

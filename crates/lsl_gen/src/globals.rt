@@ -42,7 +42,7 @@ fn initial_value(alloc: Global, before: &[Value], initial: &Initial) -> Result<V
         }
         Initial::Cast { kind, part } => {
             let value = part_value(alloc, before, part)?;
-            Ok(casted(value, *kind))
+            Ok(cast_initial(value, *kind))
         }
         Initial::List { parts } => {
             let items = items_of(alloc, before, parts)?;
@@ -90,7 +90,7 @@ fn constant(alloc: Global, id: ConstantId) -> Result<Value, NoMemory>
 }
 
 // The string as a key, or the key as a string: the same text, so it takes no memory.
-fn casted(value: Value, kind: Kind) -> Value
+fn cast_initial(value: Value, kind: Kind) -> Value
     requires { casts_implicitly_of (kind_of value) kind ≡ true }
     ensures { result ≡ cast_of value kind }
 {

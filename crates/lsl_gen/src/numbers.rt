@@ -16,7 +16,7 @@ pub fn add(a: usize, b: usize) -> Result<usize, NoMemory>
 }
 
 /// The number of a slot, a global, a function or a state.
-pub fn short(n: usize) -> Result<u16, NoMemory>
+pub fn to_u16(n: usize) -> Result<u16, NoMemory>
     ensures { IfOk result (λ m. m ≡ n) }
 {
     match u16::try_from(n) {
@@ -26,7 +26,7 @@ pub fn short(n: usize) -> Result<u16, NoMemory>
 }
 
 /// A place, or a count of elements.
-pub fn long(n: usize) -> Result<u32, NoMemory>
+pub fn to_u32(n: usize) -> Result<u32, NoMemory>
     ensures { IfOk result (λ m. m ≡ n) }
 {
     match u32::try_from(n) {

@@ -6,7 +6,7 @@ ghost use Rattle.lsl_gen.specs.Statements.{action_code, actions_code};
 
 use crate::expressions::{emit_effect, emit_effects, emit_value};
 use crate::labels::Labels;
-use crate::numbers::{add, long, short};
+use crate::numbers::{add, to_u16, to_u32};
 use crate::sizes::{action_size, effects_size};
 use lsl_code::{Draft, Instr};
 use lsl_text::NoMemory;
@@ -36,7 +36,7 @@ pub fn emit_action(
         }
         Action::Declare { slot, value } => {
             emit_value(alloc, draft, value)?;
-            let slot = short(*slot)?;
+            let slot = to_u16(*slot)?;
             draft.push(Instr::Set(slot))?;
             Ok(())
         }
@@ -46,7 +46,7 @@ pub fn emit_action(
             let size = action_size(then)?;
             let start = add(draft.len(), 1)?;
             let end = add(start, size)?;
-            let to = long(end)?;
+            let to = to_u32(end)?;
             draft.push(Instr::JumpIfNot(to))?;
             emit_action(alloc, draft, labels, then)?;
             Ok(())
@@ -63,8 +63,8 @@ pub fn emit_action(
             let middle = add(start, first)?;
             let middle = add(middle, 1)?;
             let end = add(middle, second)?;
-            let to = long(middle)?;
-            let over = long(end)?;
+            let to = to_u32(middle)?;
+            let over = to_u32(end)?;
             draft.push(Instr::JumpIfNot(to))?;
             emit_action(alloc, draft, labels, then)?;
             draft.push(Instr::Jump(over))?;
@@ -77,7 +77,7 @@ pub fn emit_action(
             steps,
             body,
         } => {
-            let start = long(draft.len())?;
+            let start = to_u32(draft.len())?;
             emit_value(alloc, draft, test)?;
             let first = action_size(body)?;
             let second = effects_size(steps)?;
@@ -85,7 +85,7 @@ pub fn emit_action(
             let end = add(end, first)?;
             let end = add(end, second)?;
             let end = add(end, 2)?;
-            let to = long(end)?;
+            let to = to_u32(end)?;
             draft.push(Instr::JumpIfNot(to))?;
             emit_action(alloc, draft, labels, body)?;
             emit_effects(alloc, draft, steps)?;
@@ -94,18 +94,18 @@ pub fn emit_action(
             Ok(())
         }
         Action::Do { line, body, test } => {
-            let start = long(draft.len())?;
+            let start = to_u32(draft.len())?;
             emit_action(alloc, draft, labels, body)?;
             emit_value(alloc, draft, test)?;
             let end = add(draft.len(), 3)?;
-            let to = long(end)?;
+            let to = to_u32(end)?;
             draft.push(Instr::JumpIfNot(to))?;
             draft.push_tick(*line)?;
             draft.push(Instr::Jump(start))?;
             Ok(())
         }
         Action::Jump { line, label } => {
-            let to = long(labels.place(*label))?;
+            let to = to_u32(labels.place(*label))?;
             draft.push_tick(*line)?;
             draft.push(Instr::Jump(to))?;
             Ok(())
@@ -120,7 +120,7 @@ pub fn emit_action(
             Ok(())
         }
         Action::State { state } => {
-            let state = short(*state)?;
+            let state = to_u16(*state)?;
             draft.push(Instr::GoState(state))?;
             Ok(())
         }

@@ -15,7 +15,7 @@ const CHOICES: usize = 3;
 /// So many schedules there are.
 const SCHEDULES: usize = 3 * 4 * 5 * 6 * 7 * 8;
 
-/// The same note.
+/// A copy of a note.
 fn copied(note: &Note) -> Result<Note, NoMemory> {
     Ok(Note {
         kind: note.kind,

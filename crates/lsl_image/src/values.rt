@@ -49,7 +49,8 @@ pub fn read_values(alloc: Global, bytes: &[u8], place: usize, kinds: &[Kind]) ->
     read_charged_values(alloc, bytes, place, kinds, &mut charged)
 }
 
-/// The same, and what they are charged beside what is charged so far.
+/// A value of each of these kinds, and what they are charged beside what is charged so far. What is reserved is no
+/// more than can stand in the bytes that are left.
 #[inline(always)]
 pub fn read_charged_values(
     alloc: Global,

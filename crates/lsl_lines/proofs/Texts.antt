@@ -6,7 +6,7 @@ use Rattle.std.specs.Prelude.{nat_le}
 use Rattle.std.specs.Str.{IsUtf8, chars, is_utf8}
 use Rattle.lsl_value.specs.Limits.{most_text_bytes}
 use Rattle.lsl_value.specs.Text.{IsTextOf, IsNoText}
-use Rattle.lsl_lines.specs.Checks.{must}
+use Rattle.lsl_lines.specs.Checks.{fault_unless}
 use Rattle.lsl_lines.specs.Words.{text_of}
 use Rattle.lsl_lines.specs.declared.faults.FileKind.TheVariants.{BadLine}
 
@@ -33,7 +33,7 @@ text_of-no_text bytes h = ⊎_elim invalid long h
     invalid : (IsUtf8 bytes → ⊥) → text_of bytes ≡ Err BadLine
     invalid no_text = rw (not_utf8 bytes no_text) refl
 
-    both : (a b : Bool) → b ≡ false → must (a && b) BadLine (Ok (chars bytes)) ≡ Err BadLine
+    both : (a b : Bool) → b ≡ false → fault_unless (a && b) BadLine (Ok (chars bytes)) ≡ Err BadLine
     both true false h = refl
     both true true h = absurd (cc)
     both false b h = refl

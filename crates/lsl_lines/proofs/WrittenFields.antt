@@ -15,7 +15,7 @@ use Rattle.lsl_text.specs.Number.{decimal_of}
 use Rattle.lsl_value.specs.Key.{fits_place, is_hex_digit, is_hyphen_place, is_valid_key}
 use Rattle.lsl_value.specs.Limits.{most_text_bytes}
 use Rattle.lsl_value.proofs.KeyLemmas.{passes-in_range}
-use Rattle.lsl_lines.specs.Checks.{◌>>=◌, must}
+use Rattle.lsl_lines.specs.Checks.{◌>>=◌, fault_unless}
 use Rattle.lsl_lines.specs.Fields.{digits_of, integer_of, is_decimal, is_negative, key_of, magnitude_of, name_of, natural_of, signed_of}
 use Rattle.lsl_lines.specs.Words.{text_of}
 use Rattle.lsl_lines.specs.Writable.{IsInteger, IsLowerKey, IsName}
@@ -79,9 +79,9 @@ number_plain n small =
 pub number_back : (most n : ℕ) → n ≤ most → n < 2 ^ 64 → natural_of most (number n) ≡ Ok n
 number_back most n le small =
     let (numeral, value) = decimal_is_IsNumeral n small in
-    ap (λ (r : Number). r >>= λ m. must (nat_le m (cond (is_negative (decimal n)) 0 most)) BadLine (given m))
+    ap (λ (r : Number). r >>= λ m. fault_unless (nat_le m (cond (is_negative (decimal n)) 0 most)) BadLine (given m))
     (read_decimal n small)
-    ∙ ap (λ (t : Bool). must (nat_le n (cond t 0 most)) BadLine (given n)) (no_sign (decimal n) numeral)
+    ∙ ap (λ (t : Bool). fault_unless (nat_le n (cond t 0 most)) BadLine (given n)) (no_sign (decimal n) numeral)
     ∙ cond-true (nat_le n most) _ _ (le-leb n most le)
 
 small_from : (n most : ℕ) → n ≤ most → most < 2 ^ 64 → n < 2 ^ 64
@@ -162,7 +162,7 @@ key_text key h =
 
 pub key_back : (key : List ℕ) → IsLowerKey key → key_of (Plain key) ≡ Ok key
 key_back key h =
-    let checked : List ℕ → Result (List ℕ) FileKind = λ k. must (is_valid_key k) BadLine (Ok k) in
+    let checked : List ℕ → Result (List ℕ) FileKind = λ k. fault_unless (is_valid_key k) BadLine (Ok k) in
     ap (λ (l : List ℕ). text_of l >>= checked) h.lower
     ∙ ap (λ (r : Result (List ℕ) FileKind). r >>= checked) (key_text key h)
     ∙ cond-true (is_valid_key key) _ _ h.valid

@@ -6,7 +6,7 @@ use Rattle.std.proofs.lemmas.Str.{is_utf8-from_IsUtf8}
 use Rattle.std.specs.List.{AllByRecursion, list_all}
 use Rattle.std.specs.Str.{is_utf8}
 use Rattle.lsl_value.specs.Text.{IsText}
-use Rattle.lsl_lines.specs.Checks.{◌>>=◌, must}
+use Rattle.lsl_lines.specs.Checks.{◌>>=◌, fault_unless}
 use Rattle.lsl_lines.specs.Fields.{integer_of, key_of, name_of, natural_of, quoted_of}
 use Rattle.lsl_lines.specs.Forms.{clock_of, say_of, touch_of, changed_of, rez_of, go_of, run_of, pause_of, cross_of, object_of, prim_of, script_of, each_gap, form_of, form_of_words, gap_of, gaps_of, number_of, row_of, step_of, ticks_of}
 use Rattle.lsl_lines.specs.Lines.{lines_of}
@@ -132,7 +132,7 @@ ticks_back n le = number_back 1000000 n le (small n 1000000 le (lit< tt))
 
 gap_back : (gap : ℕ) → IsGap gap → gap_of (number gap) ≡ Ok gap
 gap_back gap (some, le) =
-    given (ticks_of (number gap)) gap (λ n. must (nat_lt 0 n) BadLine (Ok n)) (Ok gap) (ticks_back gap le)
+    given (ticks_of (number gap)) gap (λ n. fault_unless (nat_lt 0 n) BadLine (Ok n)) (Ok gap) (ticks_back gap le)
     (cond-true (nat_lt 0 gap) _ _ (lt-ltb 0 gap some))
 
 each_back : (gaps : List ℕ) → AllByRecursion IsGap gaps → each_gap (map number gaps) ≡ Ok gaps

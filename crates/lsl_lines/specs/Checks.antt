@@ -8,5 +8,5 @@ abbrev pub ◌>>=◌ : {A B : Type 0} → Result A FileKind → (A → Result B 
 (Err kind) >>= f = Err kind
 
 -- this fault where the test fails, else what comes of the further checks
-abbrev pub must : {A : Type 0} → Bool → FileKind → Result A FileKind → Result A FileKind
-must test kind more = cond test more (Err kind)
+abbrev pub fault_unless : {A : Type 0} → Bool → FileKind → Result A FileKind → Result A FileKind
+fault_unless test kind more = cond test more (Err kind)

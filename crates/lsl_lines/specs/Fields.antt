@@ -5,7 +5,7 @@ use Rattle.std.specs.List.{list_all}
 use Rattle.std.specs.Str.{encode_utf8_all}
 use Rattle.std.specs.Str.Parse.{digits_value}
 use Rattle.lsl_value.specs.Key.{is_valid_key}
-use Rattle.lsl_lines.specs.Checks.{◌>>=◌, must}
+use Rattle.lsl_lines.specs.Checks.{◌>>=◌, fault_unless}
 use Rattle.lsl_lines.specs.Words.{text_of}
 use Rattle.lsl_lines.specs.declared.faults.FileKind.{FileKind}
 use Rattle.lsl_lines.specs.declared.faults.FileKind.TheVariants.{BadLine}
@@ -27,7 +27,7 @@ is_decimal b = is_digit b 10
 -- the number of one decimal digit or more
 abbrev pub digits_of : List ℕ → Result ℕ FileKind
 digits_of digits =
-    must (nat_lt 0 (length digits) && list_all is_decimal digits) BadLine (Ok (digits_value 10 digits))
+    fault_unless (nat_lt 0 (length digits) && list_all is_decimal digits) BadLine (Ok (digits_value 10 digits))
 
 -- a minus sign stands before the digits
 abbrev pub is_negative : List ℕ → Bool
@@ -43,12 +43,12 @@ magnitude_of (b ∷ digits) = cond (b == 45) (digits_of digits) (digits_of (b �
 abbrev pub natural_of : ℕ → Word → Result ℕ FileKind
 natural_of most word =
     plain_of word >>= λ bytes. magnitude_of bytes >>= λ n.
-    must (nat_le n (cond (is_negative bytes) 0 most)) BadLine (Ok n)
+    fault_unless (nat_le n (cond (is_negative bytes) 0 most)) BadLine (Ok n)
 
 -- the integer of 32 bits of a sign and a magnitude
 abbrev pub signed_of : Bool → ℕ → Result ℤ FileKind
-signed_of true n = must (nat_le n 2147483648) BadLine (Ok (neg_ℤ (pos n)))
-signed_of false n = must (nat_le n 2147483647) BadLine (Ok (pos n))
+signed_of true n = fault_unless (nat_le n 2147483648) BadLine (Ok (neg_ℤ (pos n)))
+signed_of false n = fault_unless (nat_le n 2147483647) BadLine (Ok (pos n))
 
 -- a number of 32 bits with its sign
 abbrev pub integer_of : Word → Result ℤ FileKind
@@ -58,10 +58,10 @@ integer_of word = plain_of word >>= λ bytes. magnitude_of bytes >>= λ n. signe
 abbrev pub key_of : Word → Result (List ℕ) FileKind
 key_of word =
     plain_of word >>= λ bytes. text_of (map to_ascii_lowercase bytes) >>= λ key.
-    must (is_valid_key key) BadLine (Ok key)
+    fault_unless (is_valid_key key) BadLine (Ok key)
 
 -- a quoted text of at most 255 bytes, counted behind its escapes
 abbrev pub name_of : Word → Result (List ℕ) FileKind
 name_of word =
     quoted_of word >>= λ name.
-    must (nat_le (length (encode_utf8_all name)) 255) BadLine (Ok name)
+    fault_unless (nat_le (length (encode_utf8_all name)) 255) BadLine (Ok name)

@@ -1,7 +1,7 @@
 -- The forms of a line: its first word says which, and the others are its fields.
 use Rattle.std.specs.Prelude.{ℕ, ◌==◌, nat_le, nat_lt, cond, ◌&&◌, List, [], ◌∷◌, length, codes, Result, Ok, Err}
 use Rattle.std.specs.Str.{bytes_eq, is_utf8}
-use Rattle.lsl_lines.specs.Checks.{◌>>=◌, must}
+use Rattle.lsl_lines.specs.Checks.{◌>>=◌, fault_unless}
 use Rattle.lsl_lines.specs.Fields.{plain_of, quoted_of, natural_of, integer_of, key_of, name_of}
 use Rattle.lsl_lines.specs.Words.{words_of}
 use Rattle.lsl_lines.specs.declared.faults.FileKind.{FileKind}
@@ -88,7 +88,7 @@ cross_of _ = Err BadLine
 
 -- a gap is at least 1
 abbrev pub gap_of : Word → Result ℕ FileKind
-gap_of word = ticks_of word >>= λ n. must (nat_lt 0 n) BadLine (Ok n)
+gap_of word = ticks_of word >>= λ n. fault_unless (nat_lt 0 n) BadLine (Ok n)
 
 abbrev pub each_gap : List Word → Result (List ℕ) FileKind
 each_gap [] = Ok []
@@ -96,7 +96,7 @@ each_gap (word ∷ words) = gap_of word >>= λ gap. each_gap words >>= λ gaps. 
 
 -- 1 to 16 gaps
 abbrev pub gaps_of : List Word → Result (List ℕ) FileKind
-gaps_of words = must (nat_lt 0 (length words) && nat_le (length words) 16) BadLine (each_gap words)
+gaps_of words = fault_unless (nat_lt 0 (length words) && nat_le (length words) 16) BadLine (each_gap words)
 
 -- pause GAPS, or 0 alone
 abbrev pub pause_of : List Word → Result TheStep FileKind
@@ -130,7 +130,7 @@ row_of word fields =
 
 -- bytes of UTF-8
 abbrev pub utf8_of : List ℕ → Result (List ℕ) FileKind
-utf8_of bytes = must (is_utf8 bytes) BadLine (Ok bytes)
+utf8_of bytes = fault_unless (is_utf8 bytes) BadLine (Ok bytes)
 
 abbrev pub form_of_words : List Word → Result Line FileKind
 form_of_words [] = Err BadLine

@@ -2,7 +2,7 @@
 use Rattle.std.specs.Prelude.{ℕ, ◌+◌, ◌-◌, nat_le, nat_lt, Bool, true, false, not, cond, ◌&&◌, ◌||◌, List, [], ◌∷◌, ◌++◌, length, slice_get, Option, Some, None, Result, Ok, Err}
 use Rattle.std.specs.List.{position_or_len}
 use Rattle.std.specs.Str.{bytes_eq, encode_utf8_all}
-use Rattle.lsl_lines.specs.Checks.{◌>>=◌, must}
+use Rattle.lsl_lines.specs.Checks.{◌>>=◌, fault_unless}
 use Rattle.lsl_lines.specs.Forms.{form_of}
 use Rattle.lsl_lines.specs.Keys.{has_key}
 use Rattle.lsl_lines.specs.Words.{is_skipped}
@@ -47,24 +47,24 @@ new_object key name owner region = record { owner = owner; region = region; prim
 
 -- a key that an earlier object or prim has is refused
 abbrev pub keys_behind : List (List ℕ) → List ℕ → Result (List (List ℕ)) FileKind
-keys_behind keys key = must (not (has_key keys key)) DoubleKey (Ok (keys ++ encode_utf8_all key ∷ []))
+keys_behind keys key = fault_unless (not (has_key keys key)) DoubleKey (Ok (keys ++ encode_utf8_all key ∷ []))
 
 -- an object with its root
 abbrev pub object_added : List ℕ → List ℕ → List ℕ → List ℕ → Reading → Result Reading FileKind
 object_added key name owner region r =
-    must (is_objects r.part) BadLine
-    (must (nat_lt (length r.objects) 64) TooMany
+    fault_unless (is_objects r.part) BadLine
+    (fault_unless (nat_lt (length r.objects) 64) TooMany
     (keys_behind r.keys key >>= λ keys.
     Ok (record r { objects = r.objects ++ new_object key name owner region ∷ []; keys = keys })))
 
 abbrev pub with_prim : PrimLine → ObjectLine → Result ObjectLine FileKind
 with_prim prim object =
-    must (nat_lt (length object.prims) 255) TooMany (Ok (record object { prims = object.prims ++ prim ∷ [] }))
+    fault_unless (nat_lt (length object.prims) 255) TooMany (Ok (record object { prims = object.prims ++ prim ∷ [] }))
 
 -- a prim of the last object
 abbrev pub prim_added : List ℕ → List ℕ → Reading → Result Reading FileKind
 prim_added key name r =
-    must (is_objects r.part) BadLine
+    fault_unless (is_objects r.part) BadLine
     (at_last (with_prim (new_prim key name)) r.objects >>= λ objects.
     keys_behind r.keys key >>= λ keys.
     Ok (record r { objects = objects; keys = keys }))
@@ -89,8 +89,8 @@ with_script_at_last script object =
 -- a script of the last prim
 abbrev pub script_added : List ℕ → List ℕ → Reading → Result Reading FileKind
 script_added name file r =
-    must (is_objects r.part && nat_lt 0 (length r.objects)) BadLine
-    (must (nat_lt r.scripts 256) TooMany
+    fault_unless (is_objects r.part && nat_lt 0 (length r.objects)) BadLine
+    (fault_unless (nat_lt r.scripts 256) TooMany
     (at_last (with_script_at_last (new_script r.files name file)) r.objects >>= λ objects.
     Ok (record r { objects = objects; scripts = r.scripts + 1; files = file_added r.files file })))
 
@@ -127,10 +127,10 @@ clock_behind clock _ = clock
 
 abbrev pub step_added : TheStep → Reading → Result Reading FileKind
 step_added step r =
-    must (is_steps r.part) BadLine
-    (must (nat_lt (length r.steps) 100000) TooMany
-    (must (knows r step) Unknown
-    (must (nat_le r.clock (clock_behind r.clock step)) ClockBack
+    fault_unless (is_steps r.part) BadLine
+    (fault_unless (nat_lt (length r.steps) 100000) TooMany
+    (fault_unless (knows r step) Unknown
+    (fault_unless (nat_le r.clock (clock_behind r.clock step)) ClockBack
     (Ok (record r { steps = r.steps ++ step ∷ []; clock = clock_behind r.clock step })))))
 
 -- what this line does to what was read before it
@@ -138,9 +138,9 @@ abbrev pub line_added : Line → Reading → Result Reading FileKind
 line_added (Object key name owner region) r = object_added key name owner region r
 line_added (Prim key name) r = prim_added key name r
 line_added (Script name file) r = script_added name file r
-line_added Begin r = must (is_objects r.part) BadLine (Ok (record r { part = Steps }))
+line_added Begin r = fault_unless (is_objects r.part) BadLine (Ok (record r { part = Steps }))
 line_added (Step step) r = step_added step r
-line_added End r = must (is_steps r.part) BadLine (Ok (record r { part = Ended }))
+line_added End r = fault_unless (is_steps r.part) BadLine (Ok (record r { part = Ended }))
 
 -- the same of a line of bytes: an empty one and a comment do nothing
 unfoldable pub read_line : List ℕ → Reading → Result Reading FileKind

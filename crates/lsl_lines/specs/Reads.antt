@@ -2,7 +2,7 @@
 use Rattle.std.specs.Prelude.{◌≡◌, ℕ, ◌==◌, Bool, true, false, not, cond, List, [], ◌∷◌, min, Result, Ok, Err}
 use Rattle.lsl_text.specs.declared.Refusal.{Refusal}
 use Rattle.lsl_text.specs.declared.Refusal.TheVariants.{Fault, NoMemory}
-use Rattle.lsl_lines.specs.Checks.{◌>>=◌, must}
+use Rattle.lsl_lines.specs.Checks.{◌>>=◌, fault_unless}
 use Rattle.lsl_lines.specs.Words.{is_blank, words_of}
 use Rattle.lsl_lines.specs.World.{fault_at}
 use Rattle.lsl_lines.specs.declared.faults.FileFault.{FileFault}
@@ -37,7 +37,7 @@ GivesWord view (Err NoMemory) words = Unit {0}
 -- a line that may stand directly behind a quoted word
 abbrev pub behind_of : List ℕ → Result (List ℕ) FileKind
 behind_of [] = Ok []
-behind_of (b ∷ line) = must (is_blank b) BadLine (Ok (b ∷ line))
+behind_of (b ∷ line) = fault_unless (is_blank b) BadLine (Ok (b ∷ line))
 
 -- the number, and 4294967296000 for every greater one
 abbrev pub capped : Result ℕ FileKind → Result ℕ FileKind

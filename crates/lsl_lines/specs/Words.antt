@@ -2,7 +2,7 @@
 use Rattle.std.specs.Prelude.{ℕ, ◌==◌, nat_le, Bool, true, cond, ◌&&◌, ◌||◌, List, [], ◌∷◌, ◌++◌, length, Result, Ok, Err}
 use Rattle.std.specs.Str.{chars, is_utf8}
 use Rattle.lsl_value.specs.Limits.{most_text_bytes}
-use Rattle.lsl_lines.specs.Checks.{◌>>=◌, must}
+use Rattle.lsl_lines.specs.Checks.{◌>>=◌, fault_unless}
 use Rattle.lsl_lines.specs.declared.faults.FileKind.{FileKind}
 use Rattle.lsl_lines.specs.declared.faults.FileKind.TheVariants.{BadLine}
 use Rattle.lsl_lines.specs.declared.words.Word.{Word}
@@ -19,7 +19,7 @@ is_skipped (b ∷ line) = cond (is_blank b) (is_skipped line) (b == 35)
 
 -- the characters of bytes that are UTF-8
 abbrev pub text_of : List ℕ → Result (List ℕ) FileKind
-text_of bytes = must (is_utf8 bytes && nat_le (length bytes) most_text_bytes) BadLine (Ok (chars bytes))
+text_of bytes = fault_unless (is_utf8 bytes && nat_le (length bytes) most_text_bytes) BadLine (Ok (chars bytes))
 
 -- what stands for a quote, a backslash and a line feed behind a backslash
 abbrev pub escape_of : ℕ → Result ℕ FileKind
@@ -56,4 +56,4 @@ abbrev mutual
   pub behind_quote : List ℕ → List ℕ → Result (List Word) FileKind
   behind_quote text [] = Ok (Quoted text ∷ [])
   behind_quote text (b ∷ line) =
-      must (is_blank b) BadLine (words_of line >>= λ words. Ok (Quoted text ∷ words))
+      fault_unless (is_blank b) BadLine (words_of line >>= λ words. Ok (Quoted text ∷ words))

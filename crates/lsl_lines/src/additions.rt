@@ -16,7 +16,7 @@ use lsl_value::Text;
 use std::alloc::{AllocError, Global};
 
 /// This fault where the test fails.
-pub fn must(test: bool, kind: FileKind) -> Field<()>
+pub fn fault_unless(test: bool, kind: FileKind) -> Field<()>
     ensures { Tests result test kind }
 {
     if test {
@@ -41,7 +41,7 @@ pub fn new_prim(alloc: Global, key: Text, name: Text) -> PrimLine
 pub fn add_key(alloc: Global, keys: &mut Keys, key: &Text) -> Field<()>
     ensures { Makes result keys.new (keys_behind keys.old key.now) }
 {
-    must(!keys.has(key), FileKind::DoubleKey)?;
+    fault_unless(!keys.has(key), FileKind::DoubleKey)?;
     keys.push(alloc, key)?;
     Ok(())
 }

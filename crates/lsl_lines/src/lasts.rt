@@ -3,7 +3,7 @@
 ghost use Rattle.lsl_lines.specs.Reading.{at_last, with_prim, with_script_at_last};
 ghost use Rattle.lsl_lines.specs.Reads.{Makes};
 
-use crate::additions::must;
+use crate::additions::fault_unless;
 use crate::faults::FileKind;
 use crate::fields::{BAD_LINE, Field};
 use crate::file::{ObjectLine, PrimLine, ScriptLine};
@@ -42,7 +42,7 @@ impl ObjectLine {
     fn add_prim(&mut self, prim: PrimLine) -> Field<()>
         ensures { Makes result self.new (with_prim prim self.old) }
     {
-        must(self.prims.len() < MAX_PRIMS, FileKind::TooMany)?;
+        fault_unless(self.prims.len() < MAX_PRIMS, FileKind::TooMany)?;
         self.prims.push(prim)?;
         Ok(())
     }

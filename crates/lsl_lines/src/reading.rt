@@ -1,6 +1,6 @@
 //! What was read so far, and what a line adds to it.
 
-use crate::additions::{add_file, add_key, must, new_prim};
+use crate::additions::{add_file, add_key, fault_unless, new_prim};
 use crate::faults::FileKind;
 use crate::fields::Field;
 use crate::file::{ObjectLine, ScriptLine, Step};
@@ -114,7 +114,7 @@ impl Reading {
     fn begin(&mut self) -> Field<()>
         ensures { Makes result self.new (line_added Line.Begin self.old) }
     {
-        must(self.part.is_objects(), FileKind::BadLine)?;
+        fault_unless(self.part.is_objects(), FileKind::BadLine)?;
         self.part = Part::Steps;
         Ok(())
     }
@@ -122,7 +122,7 @@ impl Reading {
     fn end(&mut self) -> Field<()>
         ensures { Makes result self.new (line_added Line.End self.old) }
     {
-        must(self.part.is_steps(), FileKind::BadLine)?;
+        fault_unless(self.part.is_steps(), FileKind::BadLine)?;
         self.part = Part::Ended;
         Ok(())
     }
@@ -137,8 +137,8 @@ impl Reading {
     ) -> Field<()>
         ensures { Makes result self.new (object_added key name owner region self.old) }
     {
-        must(self.part.is_objects(), FileKind::BadLine)?;
-        must(self.objects.len() < MAX_OBJECTS, FileKind::TooMany)?;
+        fault_unless(self.part.is_objects(), FileKind::BadLine)?;
+        fault_unless(self.objects.len() < MAX_OBJECTS, FileKind::TooMany)?;
         add_key(alloc, &mut self.keys, &key)?;
         let mut prims = Sequence::new(alloc);
         prims.push(new_prim(alloc, key, name))?;
@@ -153,7 +153,7 @@ impl Reading {
     fn add_prim(&mut self, alloc: Global, key: Text, name: Text) -> Field<()>
         ensures { Makes result self.new (prim_added key name self.old) }
     {
-        must(self.part.is_objects(), FileKind::BadLine)?;
+        fault_unless(self.part.is_objects(), FileKind::BadLine)?;
         add_last_prim(&mut self.objects, new_prim(alloc, key.copy()?, name))?;
         add_key(alloc, &mut self.keys, &key)?;
         Ok(())
@@ -162,11 +162,11 @@ impl Reading {
     fn add_script(&mut self, name: Text, file: Text) -> Field<()>
         ensures { Makes result self.new (script_added name file self.old) }
     {
-        must(
+        fault_unless(
             self.part.is_objects() && !self.objects.is_empty(),
             FileKind::BadLine,
         )?;
-        must(self.scripts < MAX_SCRIPTS, FileKind::TooMany)?;
+        fault_unless(self.scripts < MAX_SCRIPTS, FileKind::TooMany)?;
         let file = add_file(&mut self.files, file)?;
         add_last_script(&mut self.objects, ScriptLine { name, file })?;
         self.scripts += 1;
@@ -191,10 +191,10 @@ impl Reading {
             })
             (step_added step.now self.now) }
     {
-        must(self.part.is_steps(), FileKind::BadLine)?;
-        must(self.steps.len() < MAX_STEPS, FileKind::TooMany)?;
-        must(self.knows(step), FileKind::Unknown)?;
+        fault_unless(self.part.is_steps(), FileKind::BadLine)?;
+        fault_unless(self.steps.len() < MAX_STEPS, FileKind::TooMany)?;
+        fault_unless(self.knows(step), FileKind::Unknown)?;
         let clock = self.clock_behind(step);
-        must(self.clock <= clock, FileKind::ClockBack)
+        fault_unless(self.clock <= clock, FileKind::ClockBack)
     }
 }

@@ -132,7 +132,7 @@ impl Machine {
         ensures ahead { (call : Call) → result ≡ Halt.Asks call → ticks_passed self.old.standing ≡ 0 →
             asks_ahead (bodies_of unit.now) self.new < asks_ahead (bodies_of unit.now) self.old }
     {
-        let halt = self.running.halt(self.standing, unit);
+        let halt = self.running.run_to_halt(self.standing, unit);
         self.standing = standing_at(&halt);
         halt
     }

@@ -103,7 +103,7 @@ impl Running {
     }
 
     /// Pushes how much the script is charged.
-    pub fn give_used(&mut self) -> Step
+    pub fn push_used(&mut self) -> Step
         requires { Able instrs.Used self.old }
         ensures done { (bodies : List Body) → Performs instrs.Used bodies self.old result self.new }
         ensures memory { Spares instrs.Used self.old result }

@@ -44,7 +44,7 @@ impl Listens {
     }
 }
 
-// The number after a number: 1 behind the greatest.
+/// The number after a number: 1 behind the greatest.
 pub fn number_after(number: i32) -> i32
     requires { is_number number ≡ true }
     ensures { result ≡ number_after number }

@@ -33,8 +33,8 @@ pub fn call(alloc: Global, id: BuiltinId, args: Values) -> Result<Value, PureFau
     answer(alloc, id, args)
 }
 
-/// The same for any call and any arguments: an argument that is missing or of another kind than its row's counts as the
-/// empty value of that kind, and a call that isn't pure gives 0.
+/// The value of any call with any arguments: an argument that is missing or of another kind than its row's counts as
+/// the empty value of that kind, and a call that isn't pure gives 0.
 pub fn answer(alloc: Global, id: BuiltinId, args: Values) -> Result<Value, PureFault>
     ensures ok { IfOk result (λ value. value ≡ pure_of id args) }
     ensures fits { IfOk result (λ value. charge_of value ≤ most_charge) }

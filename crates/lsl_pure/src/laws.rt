@@ -26,7 +26,8 @@ pub fn parts_of_a_text(text: &Text, first: i32, last: i32)
     ensures deleted { left text.now first last ≡ part_before text.now first ++ part_behind text.now last }
 {}
 
-/// The same of a list.
+/// What stands before a range of a list, in it and behind it, in this order, is the whole list; and what is deleted
+/// leaves the first and the last of these.
 pub fn parts_of_a_list(items: &Items, first: i32, last: i32)
     requires { place_of (length items.now) first ≤ℤ place_of (length items.now) last }
     ensures whole { part_before items.now first ++ taken items.now first last ++ part_behind items.now last

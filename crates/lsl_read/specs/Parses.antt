@@ -17,5 +17,5 @@ Parses view (Ok x) read = read ≡ Ok (view x)
 Parses view (Err e) read = Fails e read
 
 -- what would begin here is too deep; where nothing would begin, that is why
-abbrev pub shut_at : Bool → Why → List Token → Why × List Token
-shut_at begins why ts = cond begins (TooDeep, ts) (why, ts)
+abbrev pub too_deep_or_at : Bool → Why → List Token → Why × List Token
+too_deep_or_at begins why ts = cond begins (TooDeep, ts) (why, ts)

@@ -14,7 +14,7 @@ ghost use Rattle.lsl_read.specs.Parses.{Parses};
 
 use crate::close::Close;
 use crate::operand::{Operand, Operands};
-use crate::stop::{Found, shut};
+use crate::stop::{Found, too_deep_or};
 use crate::{names, next, take};
 use lsl_grammar::Why;
 use lsl_lex::{Sort, Token};
@@ -55,7 +55,7 @@ fn assignment(alloc: Global, room: u32, tokens: &[Token]) -> Found<'_, Operand>
 {
     let (name, rest) = take::name(tokens)?;
     if room == 0 {
-        return Err(Refusal::Fault(shut(rest, next::is_assignment(rest), Why::Unexpected)));
+        return Err(Refusal::Fault(too_deep_or(rest, next::is_assignment(rest), Why::Unexpected)));
     }
     let (op, rest) = take::assign_sign(rest)?;
     let (value, rest) = expr(alloc, room - 1, rest)?;
@@ -87,7 +87,7 @@ fn prefix(alloc: Global, room: u32, tokens: &[Token]) -> Found<'_, Operand>
     ensures { Parses (λ x. (expr_of x.0.expr, x.1.now)) result (prefix_r (room_r (Some height_limit) room) tokens.now) }
 {
     if room == 0 {
-        return Err(Refusal::Fault(shut(tokens, next::is_prefix(tokens), Why::Unexpected)));
+        return Err(Refusal::Fault(too_deep_or(tokens, next::is_prefix(tokens), Why::Unexpected)));
     }
     let (op, rest) = take::prefix_sign(tokens)?;
     let (operand, rest) = unary(alloc, room - 1, rest)?;
@@ -100,7 +100,7 @@ fn step_before(room: u32, tokens: &[Token]) -> Found<'_, Operand>
         (step_before_r (room_r (Some height_limit) room) tokens.now) }
 {
     if room == 0 {
-        return Err(Refusal::Fault(shut(tokens, next::is_step(tokens), Why::Unexpected)));
+        return Err(Refusal::Fault(too_deep_or(tokens, next::is_step(tokens), Why::Unexpected)));
     }
     let (op, rest) = take::step_sign(tokens)?;
     let (name, rest) = take::name(rest)?;
@@ -114,7 +114,11 @@ fn group(alloc: Global, room: u32, tokens: &[Token]) -> Found<'_, Operand>
     ensures { Parses (λ x. (expr_of x.0.expr, x.1.now)) result (group_r (room_r (Some height_limit) room) tokens.now) }
 {
     if room == 0 {
-        return Err(Refusal::Fault(shut(tokens, next::is_paren_open(tokens), Why::Unexpected)));
+        return Err(Refusal::Fault(too_deep_or(
+            tokens,
+            next::is_paren_open(tokens),
+            Why::Unexpected,
+        )));
     }
     let (start, rest) = take::paren_open(tokens)?;
     if next::is_type(rest) {
@@ -136,7 +140,11 @@ fn list(alloc: Global, room: u32, tokens: &[Token]) -> Found<'_, Operand>
     ensures { Parses (λ x. (expr_of x.0.expr, x.1.now)) result (list_r (room_r (Some height_limit) room) tokens.now) }
 {
     if room == 0 {
-        return Err(Refusal::Fault(shut(tokens, next::is_bracket_open(tokens), Why::Unexpected)));
+        return Err(Refusal::Fault(too_deep_or(
+            tokens,
+            next::is_bracket_open(tokens),
+            Why::Unexpected,
+        )));
     }
     let (start, rest) = take::bracket_open(tokens)?;
     let (all, rest) = expressions(alloc, room - 1, Close::Bracket, rest)?;
@@ -188,7 +196,11 @@ fn arguments(alloc: Global, room: u32, tokens: &[Token]) -> Found<'_, Operands>
         (arguments_r (room_r (Some height_limit) room) tokens.now) }
 {
     if room == 0 {
-        return Err(Refusal::Fault(shut(tokens, next::is_paren_open(tokens), Why::Unexpected)));
+        return Err(Refusal::Fault(too_deep_or(
+            tokens,
+            next::is_paren_open(tokens),
+            Why::Unexpected,
+        )));
     }
     let (_, rest) = take::paren_open(tokens)?;
     expressions(alloc, room - 1, Close::Parenthesis, rest)
@@ -243,10 +255,10 @@ fn operation(
         tokens.now) }
 {
     let [op, rest @ ..] = tokens else {
-        return Err(Refusal::Fault(shut(tokens, false, Why::Unexpected)));
+        return Err(Refusal::Fault(too_deep_or(tokens, false, Why::Unexpected)));
     };
     if !left.may_be_left() {
-        return Err(Refusal::Fault(shut(tokens, true, Why::Unexpected)));
+        return Err(Refusal::Fault(too_deep_or(tokens, true, Why::Unexpected)));
     }
     let (right, rest) = level(alloc, room, n, rest)?;
     let operand = Operand::binary(alloc, binary_op(&op.sort), op.span, left, right)?;

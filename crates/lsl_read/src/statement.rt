@@ -14,7 +14,7 @@ ghost use Rattle.lsl_read.specs.Parses.{Parses};
 
 use crate::close::Close;
 use crate::expression::{value, values};
-use crate::stop::{Found, shut};
+use crate::stop::{Found, too_deep_or};
 use crate::{names, next, take};
 use lsl_grammar::Why;
 use lsl_lex::{Sort, Token};
@@ -59,7 +59,11 @@ pub fn block(alloc: Global, room: u32, tokens: &[Token]) -> Found<'_, Vec<Item>>
         (block_r (stmt_room_r (Some height_limit) room) tokens.now) }
 {
     if room == 0 {
-        return Err(Refusal::Fault(shut(tokens, next::is_brace_open(tokens), Why::Unexpected)));
+        return Err(Refusal::Fault(too_deep_or(
+            tokens,
+            next::is_brace_open(tokens),
+            Why::Unexpected,
+        )));
     }
     let (_, rest) = take::brace_open(tokens)?;
     let (all, rest) = items(alloc, room - 1, rest)?;
@@ -135,7 +139,11 @@ fn body(alloc: Global, room: u32, tokens: &[Token]) -> Found<'_, Stmt>
     ensures { Parses (λ x. (stmt_of x.0, x.1.now)) result (body_r (stmt_room_r (Some height_limit) room) tokens.now) }
 {
     if room == 0 {
-        return Err(Refusal::Fault(shut(tokens, next::is_statement(tokens), Why::OperandDue)));
+        return Err(Refusal::Fault(too_deep_or(
+            tokens,
+            next::is_statement(tokens),
+            Why::OperandDue,
+        )));
     }
     statement(alloc, room - 1, tokens)
 }

@@ -1,7 +1,7 @@
 //! Where reading stopped, and why.
 
 ghost use Rattle.std.specs.Prelude.{◌≡◌};
-ghost use Rattle.lsl_read.specs.Parses.{shut_at};
+ghost use Rattle.lsl_read.specs.Parses.{too_deep_or_at};
 
 use lsl_grammar::Why;
 use lsl_lex::Token;
@@ -18,8 +18,8 @@ pub struct Stop<'a> {
 pub type Found<'a, T> = Result<(T, &'a [Token]), Refusal<Stop<'a>>>;
 
 /// What would begin here is too deep; where nothing would begin, that is why.
-pub fn shut(tokens: &[Token], begins: bool, why: Why) -> Stop<'_>
-    ensures { (result.why, result.rest.now) ≡ shut_at begins why tokens.now }
+pub fn too_deep_or(tokens: &[Token], begins: bool, why: Why) -> Stop<'_>
+    ensures { (result.why, result.rest.now) ≡ too_deep_or_at begins why tokens.now }
 {
     let why = if begins { Why::TooDeep } else { why };
     Stop { why, rest: tokens }

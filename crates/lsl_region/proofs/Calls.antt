@@ -8,12 +8,12 @@ use Rattle.lsl_running.specs.declared.host.Reply.TheVariants as reply
 use Rattle.lsl_post.specs.Listens.{Standing}
 use Rattle.lsl_post.specs.Told.{quiet}
 use Rattle.lsl_script.specs.Rules.{Rules}
-use Rattle.lsl_region.specs.Answers.{answer_of, does_more, is_mailing, mailed, told_in, with_mailed}
+use Rattle.lsl_region.specs.Answers.{acts, answer_of, is_on_own_mailbox, mailed, told_in, with_mailed}
 use Rattle.lsl_region.specs.Mailing.{stop_for}
 use Rattle.lsl_region.specs.Worlds.{Member, World}
 
 -- no call of this room is left behind these
-pub no-mailing-left : (id : BuiltinId) → is_mailing id ≡ true → id ≢ Listen → id ≢ ListenRemove → id ≢ ListenControl
+pub no-mailing-left : (id : BuiltinId) → is_on_own_mailbox id ≡ true → id ≢ Listen → id ≢ ListenRemove → id ≢ ListenControl
     → id ≢ SetTimerEvent → id ≢ Sleep → ⊥
 no-mailing-left Listen e a b c d f = a refl
 no-mailing-left ListenRemove e a b c d f = b refl
@@ -22,7 +22,7 @@ no-mailing-left SetTimerEvent e a b c d f = d refl
 no-mailing-left Sleep e a b c d f = f refl
 no-mailing-left id e a b c d f = cc
 
-pub no-more-left : (id : BuiltinId) → does_more id ≡ true → is_mailing id ≡ false → id ≢ Say → id ≢ Whisper
+pub no-more-left : (id : BuiltinId) → acts id ≡ true → is_on_own_mailbox id ≡ false → id ≢ Say → id ≢ Whisper
     → id ≢ Shout → id ≢ RegionSay → id ≢ OwnerSay → id ≢ MessageLinked → id ≢ SetObjectName → ⊥
 no-more-left Say e m a b c d f g h = a refl
 no-more-left Whisper e m a b c d f g h = b refl
@@ -34,13 +34,13 @@ no-more-left SetObjectName e m a b c d f g h = h refl
 no-more-left id e m a b c d f g h = cc
 
 -- none of these stops the script that asks
-pub told-goes-on : (id : BuiltinId) (args : List Value) (listens : Standing) → does_more id ≡ false
+pub told-goes-on : (id : BuiltinId) (args : List Value) (listens : Standing) → acts id ≡ false
     → stop_for id args listens ≡ None
 told-goes-on Listen args listens e = absurd cc
 told-goes-on id args listens e = refl
 
 module _ (r : Rules) (place : ℕ) (m : Member) (args : List Value) (w : World) where
-  pub told-is : (id : BuiltinId) → does_more id ≡ false
+  pub told-is : (id : BuiltinId) → acts id ≡ false
       → answer_of r place m id args w ≡ quiet (w, reply.Value (told_in w m id args))
   told-is Say e = absurd cc
   told-is Whisper e = absurd cc
@@ -56,7 +56,7 @@ module _ (r : Rules) (place : ℕ) (m : Member) (args : List Value) (w : World) 
   told-is SetObjectName e = absurd cc
   told-is id e = refl
 
-  pub mailed-is : (id : BuiltinId) → is_mailing id ≡ true
+  pub mailed-is : (id : BuiltinId) → is_on_own_mailbox id ≡ true
       → answer_of r place m id args w ≡ with_mailed place m (mailed id args w.clock m.script) w
   mailed-is Listen e = refl
   mailed-is ListenRemove e = refl

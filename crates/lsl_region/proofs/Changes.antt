@@ -4,7 +4,7 @@ use Rattle.std.specs.Prelude.{◌&&◌, ◌||◌, not}
 use Rattle.std.specs.Ordering.{int_eq}
 use Rattle.std.proofs.lemmas.Bool.Decides.{Decides-int_eq}
 use Rattle.std.proofs.lemmas.List.Folds.{list_any_more}
-use Rattle.lsl_region.specs.declared.heard.Heard.{Heard}
+use Rattle.lsl_region.specs.declared.heard.ChannelEntry.{ChannelEntry}
 use Rattle.lsl_region.specs.Hearing.{has_channel}
 use Rattle.lsl_region.specs.Table.{has_entry, heard, is_heard, same_heard}
 use Rattle.lsl_region.proofs.Ordered.{and-true}
@@ -84,8 +84,8 @@ module _ (row : List ℤ) (i : ℕ) (x : ℤ) (there : i < length row) (at : get
         ∙ ap (λ (b : Bool). a || (b && not (has_channel old c))) (sym one-more)
 
 -- an entry of one place goes or comes
-module _ (old new : List Heard) (x : ℤ) (place : ℕ) where
-  module _ (told : (h : Heard) → has_entry new h ≡ (has_entry old h && not (same_heard h (heard x place)))) where
+module _ (old new : List ChannelEntry) (x : ℤ) (place : ℕ) where
+  module _ (told : (h : ChannelEntry) → has_entry new h ≡ (has_entry old h && not (same_heard h (heard x place)))) where
     pub gone-here : (c : ℤ) → is_heard new c place ≡ (is_heard old c place && not (int_eq c x))
     gone-here c = told (heard c place) ∙ ap (λ (b : Bool). is_heard old c place && not b) (same-place c x place)
 
@@ -93,7 +93,7 @@ module _ (old new : List Heard) (x : ℤ) (place : ℕ) where
     gone-there c p n = told (heard c p) ∙ and-true (is_heard old c p) (not (same_heard (heard c p) (heard x place)))
         (ap not (other-place c x p place n))
 
-  module _ (told : (h : Heard) → has_entry new h ≡ (has_entry old h || same_heard h (heard x place))) where
+  module _ (told : (h : ChannelEntry) → has_entry new h ≡ (has_entry old h || same_heard h (heard x place))) where
     pub came-here : (c : ℤ) → is_heard new c place ≡ (is_heard old c place || int_eq c x)
     came-here c = told (heard c place) ∙ ap (λ (b : Bool). is_heard old c place || b) (same-place c x place)
 

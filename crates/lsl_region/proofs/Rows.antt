@@ -10,13 +10,13 @@ use Rattle.std.proofs.lemmas.List.{get_or-set_other, get_or-set_same, length-map
 use Rattle.std.proofs.lemmas.List.Folds.{list_any-append}
 use Rattle.std.proofs.lemmas.Map.Keys.{IsDistinct-from_sorted}
 use Rattle.std.proofs.lemmas.Map.Made.{length-le_from_is_member}
-use Rattle.lsl_region.specs.declared.heard.Heard.{Heard}
+use Rattle.lsl_region.specs.declared.heard.ChannelEntry.{ChannelEntry}
 use Rattle.lsl_region.specs.Hearing.{IsTable, has_channel, is_in_row, most_channels}
 use Rattle.lsl_region.specs.Table.{IsOrdered, has_entry, heard, heard_order, is_heard, same_heard}
 use Rattle.lsl_region.proofs.Table.{order-total, same-place}
 
 -- all that the rows have, from this place on
-entries : ℕ → List (List ℤ) → List Heard
+entries : ℕ → List (List ℤ) → List ChannelEntry
 entries n [] = []
 entries n (r ∷ rs) = map (λ c. heard c n) r ++ entries (n + 1) rs
 
@@ -54,7 +54,7 @@ entries-have n (r ∷ rs) c (suc k) e =
     (has_entry (entries (n + 1) rs) (heard c ((n + 1) + k))) (entries-have (n + 1) rs c k e)
 
 -- there are no more than so many for each row
-pub table-few : (rows : List (List ℤ)) (table : List Heard) (capacity : ℕ) → IsTable rows table capacity
+pub table-few : (rows : List (List ℤ)) (table : List ChannelEntry) (capacity : ℕ) → IsTable rows table capacity
     → length table ≤ most_channels * length rows
 table-few rows table capacity t =
     let fewer : length table ≤ length (entries 0 rows)
@@ -73,7 +73,7 @@ now-there false true = refl
 now-there false false = refl
 
 -- a row is another
-module _ (rows : List (List ℤ)) (old between new : List Heard) (before after : ℕ) (place : ℕ) (row channels : List ℤ)
+module _ (rows : List (List ℤ)) (old between new : List ChannelEntry) (before after : ℕ) (place : ℕ) (row channels : List ℤ)
     (table : IsTable rows old before) (there : place < length rows) (at : row ≡ get_or rows place [])
     (few : length channels ≤ most_channels) (room : before ≤ after) (ordered : IsOrdered new)
     (out-here : (c : ℤ) → is_heard between c place
@@ -125,10 +125,10 @@ module _ (rows : List (List ℤ)) (old between new : List Heard) (before after :
   }
 
 -- no row at all
-pub table-none : (rows : List (List ℤ)) (table : List Heard) (capacity : ℕ) → rows ≡ [] → table ≡ []
+pub table-none : (rows : List (List ℤ)) (table : List ChannelEntry) (capacity : ℕ) → rows ≡ [] → table ≡ []
     → IsTable rows table capacity
 unfolding IsStrictlySortedBy
 table-none rows table capacity e f =
     subst (λ (r : List (List ℤ)). IsTable r table capacity) (sym e)
-    (subst (λ (t : List Heard). IsTable [] t capacity) (sym f)
+    (subst (λ (t : List ChannelEntry). IsTable [] t capacity) (sym f)
     (record { ordered = tt; exact = λ c p. refl; few = λ p. omega arith; room = λ h. absurd (omega arith) }))

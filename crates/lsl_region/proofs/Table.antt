@@ -14,13 +14,13 @@ use Rattle.std.specs.Int.Signed.{<ℤ_irrefl}
 use Rattle.std.proofs.lemmas.Int.{ints}
 use Rattle.std.proofs.lemmas.Map.Lookups.{exact_signed, exact_unsigned}
 use Rattle.std.proofs.lemmas.Option.{get_or_from_slice_get, slice_get-get_or, slice_get_cases}
-use Rattle.lsl_region.specs.declared.heard.Heard.{Heard}
+use Rattle.lsl_region.specs.declared.heard.ChannelEntry.{ChannelEntry}
 use Rattle.lsl_region.specs.Table.{BelongsAt, IsOrdered, StandsAt, has_entry, heard, heard_order, is_heard, no_place, place_of, same_heard}
 use Rattle.lsl_region.proofs.Ordered.{and-false, and-true, searchable, sorted-at}
 
 pub order-total : IsTotalOrder heard_order
 order-total =
-    then_total (on_total (λ (h : Heard). h.channel) int_cmp_total) (on_total (λ (h : Heard). h.place) nat_cmp_total)
+    then_total (on_total (λ (h : ChannelEntry). h.channel) int_cmp_total) (on_total (λ (h : ChannelEntry). h.place) nat_cmp_total)
 
 equal-is : (r : Ordering) → is_eq r ≡ true → r ≡ Equal
 equal-is Less e = absurd cc
@@ -49,11 +49,11 @@ other-place c d p q n = same-parts c d p q
       go true e = absurd (n (exact_unsigned p q (equal-is (nat_cmp p q) e)))
       go false e = e
 
-abbrev by-place : Heard → Heard → Ordering → Ordering
+abbrev by-place : ChannelEntry → ChannelEntry → Ordering → Ordering
 by-place a b r = ordering_then r (nat_cmp a.place b.place)
 
 -- what is the same is equal
-pub same-is : (a b : Heard) → same_heard a b ≡ true → a ≡ b
+pub same-is : (a b : ChannelEntry) → same_heard a b ≡ true → a ≡ b
 same-is a b e = go (int_cmp a.channel b.channel) refl (equal-is (heard_order a b) e) where
   go : (r : Ordering) → int_cmp a.channel b.channel ≡ r → heard_order a b ≡ Equal → a ≡ b
   go Less k h = let bad : Less ≡ Equal = sym (ap (by-place a b) k) ∙ h in absurd cc
@@ -64,7 +64,7 @@ same-is a b e = go (int_cmp a.channel b.channel) refl (equal-is (heard_order a b
       ap (λ (c : ℤ). heard c a.place) channel ∙ ap (λ (p : ℕ). heard b.channel p) place
 
 -- the lesser of two is on a lesser channel, or on the same at a lesser place
-less-parts : (a b : Heard) → heard_order a b ≡ Less
+less-parts : (a b : ChannelEntry) → heard_order a b ≡ Less
     → (a.channel <ℤ b.channel) ⊎ ((a.channel ≡ b.channel) × (a.place < b.place))
 less-parts a b = go (int_cmp a.channel b.channel) (int_ranks a.channel b.channel) where
   go : (r : Ordering) → MatchOrdering r (a.channel <ℤ b.channel) (a.channel ≡ b.channel) (b.channel <ℤ a.channel)
@@ -75,7 +75,7 @@ less-parts a b = go (int_cmp a.channel b.channel) (int_ranks a.channel b.channel
   go Greater m h = absurd cc
 
 -- what a binary search finds
-pub searched : (table : List Heard) (h : Heard) (r : Result ℕ ℕ) → IsOrdered table
+pub searched : (table : List ChannelEntry) (h : ChannelEntry) (r : Result ℕ ℕ) → IsOrdered table
     → IsSearchInRange r (length table) → IsBinarySearchResult (λ other. heard_order other h) table r
     → MatchResult r (StandsAt table h) (BelongsAt table h)
 searched table h (Ok at) o b p = record { within = b; is = same-is (get_or table at h) h (ap is_eq (p h)) }
@@ -84,29 +84,29 @@ searched table h (Err at) o b p =
     record { within = b; before = q.0; behind = q.1 }
 
 -- an entry that is in the table stands somewhere in it
-pub record Stands (table : List Heard) (h : Heard) : Type 0 where
+pub record Stands (table : List ChannelEntry) (h : ChannelEntry) : Type 0 where
   pub at : ℕ
   pub within : at < length table
   pub is : get_or table at h ≡ h
 
-pub entry-at : (table : List Heard) (h : Heard) → has_entry table h ≡ true → Stands table h
+pub entry-at : (table : List ChannelEntry) (h : ChannelEntry) → has_entry table h ≡ true → Stands table h
 entry-at table h e =
     let a = Any-from_list_any (same_heard h) table e in
     let is : h ≡ a.1 = same-is h a.1 a.4 in
-    record { at = a.0; within = a.2; is = subst (λ (z : Heard). get_or table a.0 z ≡ z) (sym is) a.3 }
+    record { at = a.0; within = a.2; is = subst (λ (z : ChannelEntry). get_or table a.0 z ≡ z) (sym is) a.3 }
 
-own-order : (h : Heard) → heard_order h h ≡ Less → ⊥
+own-order : (h : ChannelEntry) → heard_order h h ≡ Less → ⊥
 own-order h e = let bad : Less ≡ Equal = sym e ∙ tied_itself order-total h in cc
 
-module _ (table : List Heard) (h : Heard) (at : ℕ) (belongs : BelongsAt table h at) where
+module _ (table : List ChannelEntry) (h : ChannelEntry) (at : ℕ) (belongs : BelongsAt table h at) where
   below : (k : ℕ) → get_or table k h ≡ h → k < at → ⊥
   below k is l =
-      own-order h (sym (ap (λ (z : Heard). heard_order z h) is) ∙ belongs.before k h (omega arith) l)
+      own-order h (sym (ap (λ (z : ChannelEntry). heard_order z h) is) ∙ belongs.before k h (omega arith) l)
 
   above : (k : ℕ) → get_or table k h ≡ h → at ≤ k → k < length table → ⊥
   above k is l m =
       let bad : Greater ≡ Equal
-      = sym (belongs.behind k h l m) ∙ ap (λ (z : Heard). heard_order z h) is ∙ tied_itself order-total h in
+      = sym (belongs.behind k h l m) ∙ ap (λ (z : ChannelEntry). heard_order z h) is ∙ tied_itself order-total h in
       cc
 
   absent : (b : Bool) → has_entry table h ≡ b → has_entry table h ≡ false
@@ -115,25 +115,25 @@ module _ (table : List Heard) (h : Heard) (at : ℕ) (belongs : BelongsAt table 
       elim (leb_tells at s.at) [ inl l ↦ absurd (above s.at s.is l.1 s.within) | inr l ↦ absurd (below s.at s.is l.1) ]
   absent false e = e
 
-  absent-of : (q : Heard) (b : Bool) → same_heard q h ≡ b
+  absent-of : (q : ChannelEntry) (b : Bool) → same_heard q h ≡ b
       → has_entry table q ≡ (has_entry table q && not (same_heard q h))
   absent-of q true e =
       let is : q ≡ h = same-is q h e in
       let no : has_entry table q ≡ false
-      = ap (λ (z : Heard). has_entry table z) is ∙ absent (has_entry table h) refl in
+      = ap (λ (z : ChannelEntry). has_entry table z) is ∙ absent (has_entry table h) refl in
       no ∙ sym (ap (λ (b : Bool). b && not (same_heard q h)) no)
   absent-of q false e = sym (and-true (has_entry table q) (not (same_heard q h)) (ap not e))
 
   -- an entry that isn't in the table is gone
-  pub none-forgotten : (q : Heard) → has_entry table q ≡ (has_entry table q && not (same_heard q h))
+  pub none-forgotten : (q : ChannelEntry) → has_entry table q ≡ (has_entry table q && not (same_heard q h))
   none-forgotten q = absent-of q (same_heard q h) refl
 
 pub or-false : (a b : Bool) → b ≡ false → (a || b) ≡ a
 or-false true b e = refl
 or-false false b e = e
 
-module _ (table : List Heard) (h : Heard) (at : ℕ) (stands : StandsAt table h at) where
-  stands-of : (q : Heard) (b : Bool) → same_heard q h ≡ b → has_entry table q ≡ (has_entry table q || same_heard q h)
+module _ (table : List ChannelEntry) (h : ChannelEntry) (at : ℕ) (stands : StandsAt table h at) where
+  stands-of : (q : ChannelEntry) (b : Bool) → same_heard q h ≡ b → has_entry table q ≡ (has_entry table q || same_heard q h)
   stands-of q true e =
       let here : get_or table at h ≡ h = stands.is in
       let yes : has_entry table q ≡ true
@@ -142,23 +142,23 @@ module _ (table : List Heard) (h : Heard) (at : ℕ) (stands : StandsAt table h 
   stands-of q false e = sym (or-false (has_entry table q) (same_heard q h) e)
 
   -- one that is in the table is noted
-  pub noted-before : (q : Heard) → has_entry table q ≡ (has_entry table q || same_heard q h)
+  pub noted-before : (q : ChannelEntry) → has_entry table q ≡ (has_entry table q || same_heard q h)
   noted-before q = stands-of q (same_heard q h) refl
 
 -- what comes next in the table, behind where an entry belongs
-module _ (table : List Heard) (ordered : IsOrdered table) (channel : ℤ) (from at : ℕ)
+module _ (table : List ChannelEntry) (ordered : IsOrdered table) (channel : ℤ) (from at : ℕ)
     (belongs : BelongsAt table (heard channel from) at) where
   abbrev next : ℕ
   next = place_of channel (slice_get table at)
 
-  module _ (x : Heard) (there : at < length table) (is : slice_get table at ≡ Some x)
+  module _ (x : ChannelEntry) (there : at < length table) (is : slice_get table at ≡ Some x)
       (read : get_or table at x ≡ x) where
     next-is : next ≡ (if int_eq x.channel channel then x.place else no_place)
     next-is = ap (place_of channel) is
 
     behind : heard_order (heard channel from) x ≡ Less
     behind = order-total.antisymm (heard channel from) x
-        ∙ ap ordering_reverse (sym (ap (λ (z : Heard). heard_order z (heard channel from)) read)
+        ∙ ap ordering_reverse (sym (ap (λ (z : ChannelEntry). heard_order z (heard channel from)) read)
         ∙ belongs.behind at x (omega arith) there)
 
     next-found : (b : Bool) → int_eq x.channel channel ≡ b
@@ -183,7 +183,7 @@ module _ (table : List Heard) (ordered : IsOrdered table) (channel : ℤ) (from 
         let here : get_or table at (heard channel place) ≡ x
         = get_or_from_slice_get table at x (heard channel place) is in
         let less : heard_order x (heard channel place) ≡ Less
-        = sym (ap (λ (z : Heard). heard_order z (heard channel place)) here)
+        = sym (ap (λ (z : ChannelEntry). heard_order z (heard channel place)) here)
         ∙ sym (ap (heard_order (get_or table at (heard channel place))) e)
         ∙ sorted-at heard_order order-total table ordered at k (heard channel place) l m in
         elim (less-parts x (heard channel place) less) [
@@ -201,14 +201,14 @@ module _ (table : List Heard) (ordered : IsOrdered table) (channel : ℤ) (from 
     here-passed place e n =
         let same : x ≡ heard channel place = sym (get_or_from_slice_get table at x (heard channel place) is) ∙ e in
         let to : next ≡ x.place
-        = next-there ((Decides-int_eq x.channel channel).1 (ap (λ (z : Heard). z.channel) same)) in
-        let at-place : x.place ≡ place = ap (λ (z : Heard). z.place) same in
+        = next-there ((Decides-int_eq x.channel channel).1 (ap (λ (z : ChannelEntry). z.channel) same)) in
+        let at-place : x.place ≡ place = ap (λ (z : ChannelEntry). z.place) same in
         omega (arith, to, at-place, n)
 
   before-passed : (place k : ℕ) → get_or table k (heard channel place) ≡ heard channel place → k < at → from ≤ place → ⊥
   before-passed place k e l f =
       elim (less-parts (heard channel place) (heard channel from)
-      (sym (ap (λ (z : Heard). heard_order z (heard channel from)) e)
+      (sym (ap (λ (z : ChannelEntry). heard_order z (heard channel from)) e)
       ∙ belongs.before k (heard channel place) (omega arith) l)) [
         | inl a ↦ <ℤ_irrefl a
         | inr a ↦ absurd (omega (arith, a.1, f))

@@ -158,59 +158,59 @@ detected_link None = pos 0
 detected_link (Some t) = t.link
 
 -- what a call is only told: the script is in this prim of this object, has this name and this toucher in hand
-abbrev pub told_to : Linkset → (prim : ℕ) → (name : List ℕ) → (clock : ℕ) → Option Toucher → BuiltinId → List Value
+abbrev pub value_of_query : Linkset → (prim : ℕ) → (name : List ℕ) → (clock : ℕ) → Option Toucher → BuiltinId → List Value
     → Option Value
-told_to o prim name clock toucher GetOwner args = Some (value.Key o.owner)
-told_to o prim name clock toucher GetKey args = Some (value.Key (prim_at o.prims prim).key)
-told_to o prim name clock toucher GetLinkKey args =
+value_of_query o prim name clock toucher GetOwner args = Some (value.Key o.owner)
+value_of_query o prim name clock toucher GetKey args = Some (value.Key (prim_at o.prims prim).key)
+value_of_query o prim name clock toucher GetLinkKey args =
     Some (value.Key (key_of_prim o.prims (prim_asked o.prims prim args)))
-told_to o prim name clock toucher GetLinkName args =
+value_of_query o prim name clock toucher GetLinkName args =
     Some (value.Str (name_of_prim o.prims (prim_asked o.prims prim args)))
-told_to o prim name clock toucher GetLinkNumber args = Some (value.Int (pos (link_of (length o.prims) prim)))
-told_to o prim name clock toucher GetNumberOfPrims args = Some (value.Int (pos (length o.prims)))
-told_to o prim name clock toucher GetObjectName args = Some (value.Str (prim_at o.prims prim).name)
-told_to o prim name clock toucher GetScriptName args = Some (value.Str name)
-told_to o prim name clock toucher GetRegionName args = Some (value.Str o.region)
-told_to o prim name clock toucher GetUnixTime args = Some (value.Int (pos (clock / 1000)))
-told_to o prim name clock toucher DetectedKey args = Some (value.Key (detected_key (detected toucher args)))
-told_to o prim name clock toucher DetectedName args = Some (value.Str (detected_name (detected toucher args)))
-told_to o prim name clock toucher DetectedLinkNumber args = Some (value.Int (detected_link (detected toucher args)))
-told_to o prim name clock toucher id args = None
+value_of_query o prim name clock toucher GetLinkNumber args = Some (value.Int (pos (link_of (length o.prims) prim)))
+value_of_query o prim name clock toucher GetNumberOfPrims args = Some (value.Int (pos (length o.prims)))
+value_of_query o prim name clock toucher GetObjectName args = Some (value.Str (prim_at o.prims prim).name)
+value_of_query o prim name clock toucher GetScriptName args = Some (value.Str name)
+value_of_query o prim name clock toucher GetRegionName args = Some (value.Str o.region)
+value_of_query o prim name clock toucher GetUnixTime args = Some (value.Int (pos (clock / 1000)))
+value_of_query o prim name clock toucher DetectedKey args = Some (value.Key (detected_key (detected toucher args)))
+value_of_query o prim name clock toucher DetectedName args = Some (value.Str (detected_name (detected toucher args)))
+value_of_query o prim name clock toucher DetectedLinkNumber args = Some (value.Int (detected_link (detected toucher args)))
+value_of_query o prim name clock toucher id args = None
 
 abbrev pub told_in : World → Member → BuiltinId → List Value → Option Value
-told_in w m id args = told_to (object_of w m) m.prim m.name w.clock (toucher_in_hand m.script.doing) id args
+told_in w m id args = value_of_query (object_of w m) m.prim m.name w.clock (toucher_in_hand m.script.doing) id args
 
 -- what is called does more than to be told something
-abbrev pub does_more_at : Home → Bool
-does_more_at home.Pure = false
-does_more_at home.UsedMemory = false
-does_more_at home.FreeMemory = false
-does_more_at home.SetLimit = false
-does_more_at home.GetLimit = false
-does_more_at home.Query = false
-does_more_at home.Mail = true
-does_more_at home.Act = true
-does_more_at home.Sleep = true
-does_more_at home.Reset = false
+abbrev pub acts_at : Home → Bool
+acts_at home.Pure = false
+acts_at home.UsedMemory = false
+acts_at home.FreeMemory = false
+acts_at home.SetLimit = false
+acts_at home.GetLimit = false
+acts_at home.Query = false
+acts_at home.Mail = true
+acts_at home.Act = true
+acts_at home.Sleep = true
+acts_at home.Reset = false
 
-abbrev pub does_more : BuiltinId → Bool
-does_more id = does_more_at (row_of id).home
+abbrev pub acts : BuiltinId → Bool
+acts id = acts_at (row_of id).home
 
 -- it is on the mailbox or the sleep of the script that asks
-abbrev pub is_mailing_at : Home → Bool
-is_mailing_at home.Pure = false
-is_mailing_at home.UsedMemory = false
-is_mailing_at home.FreeMemory = false
-is_mailing_at home.SetLimit = false
-is_mailing_at home.GetLimit = false
-is_mailing_at home.Query = false
-is_mailing_at home.Mail = true
-is_mailing_at home.Act = false
-is_mailing_at home.Sleep = true
-is_mailing_at home.Reset = false
+abbrev pub is_on_own_mailbox_at : Home → Bool
+is_on_own_mailbox_at home.Pure = false
+is_on_own_mailbox_at home.UsedMemory = false
+is_on_own_mailbox_at home.FreeMemory = false
+is_on_own_mailbox_at home.SetLimit = false
+is_on_own_mailbox_at home.GetLimit = false
+is_on_own_mailbox_at home.Query = false
+is_on_own_mailbox_at home.Mail = true
+is_on_own_mailbox_at home.Act = false
+is_on_own_mailbox_at home.Sleep = true
+is_on_own_mailbox_at home.Reset = false
 
-abbrev pub is_mailing : BuiltinId → Bool
-is_mailing id = is_mailing_at (row_of id).home
+abbrev pub is_on_own_mailbox : BuiltinId → Bool
+is_on_own_mailbox id = is_on_own_mailbox_at (row_of id).home
 
 abbrev pub message_of : World → Member → List Value → Event
 message_of w m args = message_event (pos (own_link w m)) (integer_at 1 args) (text_at 2 args) (text_at 3 args)

@@ -8,7 +8,7 @@ use Rattle.lsl_post.specs.declared.parts.ScriptParts.{ScriptParts}
 use Rattle.lsl_post.specs.Listens.{Standing}
 use Rattle.lsl_region.specs.declared.audience.Audience.{Audience}
 use Rattle.lsl_region.specs.declared.grid.Seat.{Seat}
-use Rattle.lsl_region.specs.declared.heard.Heard.{Heard}
+use Rattle.lsl_region.specs.declared.heard.ChannelEntry.{ChannelEntry}
 use Rattle.lsl_region.specs.Posting.{is_admitted}
 use Rattle.lsl_region.specs.Table.{IsOrdered, is_heard, no_place}
 
@@ -33,7 +33,7 @@ abbrev pub is_in_row : List (List ℤ) → ℤ → ℕ → Bool
 is_in_row rows channel place = has_channel (get_or rows place []) channel
 
 -- the table has exactly what the rows have, a row for each place; there is room for as much as rows can have
-pub record IsTable (rows : List (List ℤ)) (table : List Heard) (capacity : ℕ) : Type 0 where
+pub record IsTable (rows : List (List ℤ)) (table : List ChannelEntry) (capacity : ℕ) : Type 0 where
   pub ordered : IsOrdered table
   pub exact : (channel : ℤ) (place : ℕ) → is_heard table channel place ≡ is_in_row rows channel place
   pub few : (place : ℕ) → length (get_or rows place []) ≤ most_channels

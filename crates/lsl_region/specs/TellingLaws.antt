@@ -10,7 +10,7 @@ use Rattle.lsl_code.specs.Effects.{is_asked}
 use Rattle.lsl_post.specs.declared.events.Toucher.{Toucher}
 use Rattle.lsl_region.specs.declared.objects.Linkset.{Linkset}
 use Rattle.lsl_region.specs.declared.objects.Primitive.{Primitive}
-use Rattle.lsl_region.specs.Answers.{does_more, told_to}
+use Rattle.lsl_region.specs.Answers.{acts, value_of_query}
 use Rattle.lsl_region.specs.LinkLaws.{HasNumber, link_this}
 use Rattle.lsl_region.specs.Links.{link_of}
 
@@ -24,7 +24,7 @@ pub record Asker : Type 0 where
   pub toucher : Option Toucher
 
 abbrev pub told : Asker → BuiltinId → List Value → Option Value
-told a id args = told_to a.object a.place a.name a.clock a.toucher id args
+told a id args = value_of_query a.object a.place a.name a.clock a.toucher id args
 
 -- it is told this key, text or integer
 abbrev pub IsKey : Asker → BuiltinId → List Value → List ℕ → Type 0
@@ -105,5 +105,5 @@ UntouchedIsNobody = (a : Asker) (n : ℤ) → a.toucher ≡ None → IsNobody a 
 -- no call that the host answers is forgotten: it does more, or is told something
 abbrev pub CallsAreAnswered : Type 0
 CallsAreAnswered =
-    (a : Asker) (id : BuiltinId) (args : List Value) → is_asked (call_form id) ≡ true → does_more id ≡ false
+    (a : Asker) (id : BuiltinId) (args : List Value) → is_asked (call_form id) ≡ true → acts id ≡ false
     → is_some (told a id args) ≡ true

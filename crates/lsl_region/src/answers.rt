@@ -12,7 +12,7 @@ ghost use Rattle.lsl_code.specs.declared.woven_units.Woven.{Woven as Code};
 ghost use Rattle.lsl_script.specs.Awake.{IsAskedFor, IsAwake};
 ghost use Rattle.lsl_script.specs.Codes.{HasUnit, Meant};
 ghost use Rattle.lsl_script.specs.Scripts.{Flight};
-ghost use Rattle.lsl_region.specs.Answers.{answer, answer_of, does_more, is_mailing};
+ghost use Rattle.lsl_region.specs.Answers.{acts, answer, answer_of, is_on_own_mailbox};
 ghost use Rattle.lsl_region.specs.Grids.{AreSeated, Lent, outline_of};
 ghost use Rattle.lsl_region.specs.Mailing.{stop_for, stop_of};
 ghost use Rattle.lsl_region.specs.Worlds.{World};
@@ -94,28 +94,46 @@ impl Grid {
         ensures awake { IsAwake unit.now live.new }
         ensures machine { live.new.machine ≡ live.old.machine }
     {
-        if !does_more(id) {
-            return self.tell(place, live, id, args, clock);
+        if !acts(id) {
+            return self.answer_query(place, live, id, args, clock);
         }
-        if is_mailing(id) {
+        if is_on_own_mailbox(id) {
             return mail(live, id, args, clock);
         }
         match id {
-            BuiltinId::Say => self.says(place, live, Voice::Say, args, library, unit, out),
-            BuiltinId::Whisper => self.says(place, live, Voice::Whisper, args, library, unit, out),
-            BuiltinId::Shout => self.says(place, live, Voice::Shout, args, library, unit, out),
-            BuiltinId::RegionSay => self.says_in_region(place, live, args, library, unit, out),
-            BuiltinId::OwnerSay => self.says_to_owner(place, args, out),
-            BuiltinId::MessageLinked => self.sends(place, live, args, library, unit, out),
-            BuiltinId::SetObjectName => self.renames(place, args),
+            BuiltinId::Say => self.answer_say(place, live, Voice::Say, args, library, unit, out),
+            BuiltinId::Whisper => self.answer_say(
+                place,
+                live,
+                Voice::Whisper,
+                args,
+                library,
+                unit,
+                out,
+            ),
+            BuiltinId::Shout => self.answer_say(
+                place,
+                live,
+                Voice::Shout,
+                args,
+                library,
+                unit,
+                out,
+            ),
+            BuiltinId::RegionSay => self.answer_region_say(place, live, args, library, unit, out),
+            BuiltinId::OwnerSay => self.answer_owner_say(place, args, out),
+            BuiltinId::MessageLinked => self.answer_message_linked(
+                place, live, args, library, unit, out,
+            ),
+            BuiltinId::SetObjectName => self.answer_set_object_name(place, args),
             _ => unreachable!(),
         }
     }
 }
 
 // Whether the call does more than to be told something.
-fn does_more(id: BuiltinId) -> bool
-    ensures { result ≡ does_more id }
+fn acts(id: BuiltinId) -> bool
+    ensures { result ≡ acts id }
 {
     match id.row().home {
         Home::Mail | Home::Act | Home::Sleep => true,
@@ -130,8 +148,8 @@ fn does_more(id: BuiltinId) -> bool
 }
 
 // Whether the call is on the mailbox or the sleep of the script that asks.
-fn is_mailing(id: BuiltinId) -> bool
-    ensures { result ≡ is_mailing id }
+fn is_on_own_mailbox(id: BuiltinId) -> bool
+    ensures { result ≡ is_on_own_mailbox id }
 {
     match id.row().home {
         Home::Mail | Home::Sleep => true,

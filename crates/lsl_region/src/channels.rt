@@ -87,7 +87,7 @@ pub(crate) fn channels_of(listens: &Listens) -> Channels
     channels
 }
 
-/// The same of a script's listens, unless it is out. Takes no memory; walks its listens.
+/// The channels on which a listen of a script is active; none where it is out. Takes no memory; walks its listens.
 pub(crate) fn script_channels(script: &Option<Script>) -> Channels
     ensures row { HasRow result script.now }
     ensures few { length result ≤ most_channels }

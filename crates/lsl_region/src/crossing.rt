@@ -82,7 +82,7 @@ impl Grid {
         outcome
     }
 
-    // The same from another region. Where the object stays there may be entries behind the others.
+    // An object crosses from another region. Where it stays there may be entries behind the others.
     fn cross_over<L: Link>(
         &mut self,
         object: u32,

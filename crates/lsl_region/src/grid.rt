@@ -5,7 +5,7 @@ ghost use Rattle.lsl_code.specs.declared.woven_units.Woven.{Woven as Code};
 ghost use Rattle.lsl_region.specs.Grids.{Stands};
 ghost use Rattle.lsl_region.specs.Worlds.{no_object, empty_world};
 
-use crate::hearing::Hearers;
+use crate::hearing::ChannelTable;
 use crate::objects::Linkset;
 use lsl_script::Script;
 use lsl_value::Text;
@@ -30,7 +30,7 @@ pub struct Grid {
     pub(crate) alloc: Global,
     pub(crate) objects: Vec<Linkset>,
     pub(crate) seats: Vec<Seat>,
-    pub(crate) hearers: Hearers,
+    pub(crate) hearers: ChannelTable,
 }
 
 impl Model for Grid {
@@ -54,7 +54,7 @@ impl Grid {
             alloc,
             objects: Vec::new(alloc),
             seats: Vec::new(alloc),
-            hearers: Hearers::new(alloc),
+            hearers: ChannelTable::new(alloc),
         }
     }
 

@@ -5,7 +5,7 @@ ghost use Rattle.lsl_region.specs.Hearing.{IsFound, has_channel, is_in_row, most
 ghost use Rattle.lsl_region.specs.Table.{IsOrdered, is_heard};
 
 use crate::channels::{Channels, MOST_CHANNELS};
-use crate::heard::{Heard, forget, next_heard, note};
+use crate::heard::{ChannelEntry, forget, next_heard, note};
 use lsl_text::NoMemory;
 use std::alloc::Global;
 use std::marker::Model;
@@ -13,12 +13,12 @@ use std::marker::Model;
 /// For each place the channels on which its script listens, and all of them in a table, in order. The next place that
 /// listens on a channel is found by a binary search.
 #[derive(Drop)]
-pub(crate) struct Hearers {
+pub(crate) struct ChannelTable {
     rows: Vec<Channels>,
-    table: Vec<Heard>,
+    table: Vec<ChannelEntry>,
 }
 
-impl Model for Hearers {
+impl Model for ChannelTable {
     ghost use Rattle.std.specs.Prelude.{List, ℤ, vec_capacity};
     ghost use Rattle.lsl_region.specs.Hearing.{IsTable};
 
@@ -29,12 +29,12 @@ impl Model for Hearers {
     ghost invariant = { λ h. IsTable h.rows.items h.table.items (vec_capacity h.table) };
 }
 
-impl Hearers {
+impl ChannelTable {
     /// No place. Takes no memory.
-    pub(crate) fn new(alloc: Global) -> Hearers
+    pub(crate) fn new(alloc: Global) -> ChannelTable
         ensures { result ≡ [] }
     {
-        Hearers {
+        ChannelTable {
             rows: Vec::new(alloc),
             table: Vec::new(alloc),
         }
@@ -76,7 +76,7 @@ impl Hearers {
 }
 
 // What the script at this place listened on, and does no more, goes out of the table.
-fn forget_gone(table: &mut Vec<Heard>, place: usize, old: &Channels, new: &Channels)
+fn forget_gone(table: &mut Vec<ChannelEntry>, place: usize, old: &Channels, new: &Channels)
     requires { IsOrdered table.old.items }
     ensures ordered { IsOrdered table.new.items }
     ensures told { (c : ℤ) → is_heard table.new.items c place ≡
@@ -87,13 +87,13 @@ fn forget_gone(table: &mut Vec<Heard>, place: usize, old: &Channels, new: &Chann
 {
     for &channel in old.as_slice() {
         if !new.has(channel) {
-            forget(table, &Heard { channel, place });
+            forget(table, &ChannelEntry { channel, place });
         }
     }
 }
 
 // What it listens on, and didn't before, comes into the table.
-fn note_new(table: &mut Vec<Heard>, place: usize, old: &Channels, new: &Channels)
+fn note_new(table: &mut Vec<ChannelEntry>, place: usize, old: &Channels, new: &Channels)
     requires ordered { IsOrdered table.old.items }
     requires room { length table.old.items + length new.now ≤ vec_capacity table.old }
     ensures ordered { IsOrdered table.new.items }
@@ -104,7 +104,7 @@ fn note_new(table: &mut Vec<Heard>, place: usize, old: &Channels, new: &Channels
 {
     for &channel in new.as_slice() {
         if !old.has(channel) {
-            note(table, Heard { channel, place });
+            note(table, ChannelEntry { channel, place });
         }
     }
 }

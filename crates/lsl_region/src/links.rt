@@ -34,7 +34,7 @@ pub(crate) fn prim_named(count: usize, number: i32) -> Option<usize>
     prim_numbered(count, number as usize)
 }
 
-/// The same of a number that isn't negative.
+/// The place of the prim that a number names which isn't negative, among so many: 0 and 1 both name the root.
 pub(crate) fn prim_numbered(count: usize, number: usize) -> Option<usize>
     ensures value { result ≡ prim_named count (pos number) }
     ensures within { 0 < count → IfSome result (λ place. place < count) }
@@ -49,7 +49,7 @@ pub(crate) fn prim_numbered(count: usize, number: usize) -> Option<usize>
     None
 }
 
-/// The same, where -4 names the prim that asks.
+/// The place of the prim that a number names, among so many: -4 names the prim that asks.
 pub(crate) fn prim_or_this(count: usize, this: usize, number: i32) -> Option<usize>
     ensures value { result ≡ prim_or_this count this number }
     ensures within { this < count → IfSome result (λ place. place < count) }

@@ -12,7 +12,7 @@ ghost use Rattle.lsl_script.specs.Awake.{IsAwake};
 ghost use Rattle.lsl_script.specs.Lives.{Waits};
 ghost use Rattle.lsl_script.specs.Mailing.{listening, ticking};
 ghost use Rattle.lsl_script.specs.Scripts.{Flight, Script as Source, napped};
-ghost use Rattle.lsl_region.specs.Answers.{integer_at, is_mailing, listen_asked, listened_reply, listened_script, mailed, wake_after};
+ghost use Rattle.lsl_region.specs.Answers.{integer_at, is_on_own_mailbox, listen_asked, listened_reply, listened_script, mailed, wake_after};
 ghost use Rattle.lsl_region.specs.Mailing.{Becomes, Keeps, stop_for, stop_of};
 
 use crate::arguments::{integer_at, text_at};
@@ -33,7 +33,7 @@ pub(crate) fn mail(
     args: &Values,
     clock: u64,
 ) -> Result<Reply, NoMemory>
-    requires id { is_mailing id ≡ true }
+    requires id { is_on_own_mailbox id ≡ true }
     requires clock { clock ≤ latest_clock }
     ensures does { IfOk result (λ reply. (codes : List Code) (unit : Code) (s : Source) (f : Flight) (of : Id) →
         Waits codes unit s f of live.old →

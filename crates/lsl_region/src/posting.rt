@@ -98,7 +98,7 @@ impl Grid {
     }
 
     // Whether the script at this place isn't out, and is one of them.
-    fn is_meant(&self, place: usize, audience: &Audience) -> bool
+    fn is_addressed(&self, place: usize, audience: &Audience) -> bool
         requires { place < length self.now.seats }
         ensures { (seat : Place) (script : _) → slice_get self.now.seats place ≡ Some seat → seat.script ≡ Some script →
             result ≡ is_admitted audience.now seat.object seat.prim (key_in self.now.objects seat) script.listens }
@@ -130,7 +130,7 @@ impl Grid {
         ensures outline { outline_of self.new ≡ outline_of self.old }
         ensures objects { self.new.objects ≡ self.old.objects }
     {
-        if !self.is_meant(place, audience) {
+        if !self.is_addressed(place, audience) {
             return Ok(());
         }
         let seat = &mut self.seats[place];

@@ -133,14 +133,16 @@ impl Grid {
         let mut turn = turn;
         'asks: loop {
             turn = match turn {
-                Turn::Asks(call) => self.serve(place, live, call, clock, library, unit, out)?,
+                Turn::Asks(call) => self.answer_and_go_on(
+                    place, live, call, clock, library, unit, out,
+                )?,
                 last => return Ok(last),
             };
         }
     }
 
     // Answers a host call, and lets the script go on.
-    fn serve(
+    fn answer_and_go_on(
         &mut self,
         place: usize,
         live: &mut Live,

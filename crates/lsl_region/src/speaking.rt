@@ -18,7 +18,7 @@ ghost use Rattle.lsl_script.specs.Codes.{Meant};
 ghost use Rattle.lsl_script.specs.Fitting.{is_exit};
 ghost use Rattle.lsl_script.specs.Scripts.{Flight};
 ghost use Rattle.lsl_script.specs.declared.live.Live.{Live as Awake};
-ghost use Rattle.lsl_region.specs.Answers.{answer_of, does_more, integer_at, message_of, nothing, renamed, said_by, says, text_at, told_in};
+ghost use Rattle.lsl_region.specs.Answers.{acts, answer_of, integer_at, message_of, nothing, renamed, said_by, says, text_at, told_in};
 ghost use Rattle.lsl_region.specs.Grids.{AreSeated, Lent, linked_to, object_in, outline_of, prim_in, renamed_grid};
 ghost use Rattle.lsl_region.specs.Links.{link_of};
 ghost use Rattle.lsl_region.specs.Mailing.{stop_of};
@@ -33,7 +33,7 @@ use crate::grid::Grid;
 use crate::links::link_of;
 use crate::objects::{Linkset, Primitive};
 use crate::posting::number;
-use crate::telling::told_to;
+use crate::telling::value_of_query;
 use crate::texts::{cut_name, cut_speech};
 use lsl_code::{Library, Woven};
 use lsl_post::{Entries, Entry, Event, Filter, Voice};
@@ -82,7 +82,7 @@ impl Grid {
     }
 
     /// The call is told something.
-    pub(crate) fn tell(
+    pub(crate) fn answer_query(
         &self,
         place: usize,
         live: &Live,
@@ -95,12 +95,12 @@ impl Grid {
         ensures does { (codes : List Code) (unit : Code) (of : Id) (f : Flight) (w : World) →
             (lent : Lent codes unit clock place self.now live.now of f w) →
             IfOk result (λ reply. reply ≡ replies.Value (told_in w lent.member id args.now)) }
-        ensures fits { is_asked (call_form id) ≡ true → does_more id ≡ false → IfOk result (Answers id) }
+        ensures fits { is_asked (call_form id) ≡ true → acts id ≡ false → IfOk result (Answers id) }
         ensures stop { IfOk result (λ reply. stop_of reply ≡ None) }
     {
         let seat = &self.seats[place];
         let toucher = &live.event().toucher;
-        let told = told_to(
+        let told = value_of_query(
             self.alloc,
             self.object_of(place),
             seat.prim,
@@ -147,7 +147,7 @@ impl Grid {
     }
 
     /// The script's prim says the text at place 1 on the channel at place 0.
-    pub(crate) fn says(
+    pub(crate) fn answer_say(
         &mut self,
         place: usize,
         live: &mut Live,
@@ -185,8 +185,8 @@ impl Grid {
         Ok(Reply::Value(None))
     }
 
-    /// The same to the whole region, where nothing is said on channel 0.
-    pub(crate) fn says_in_region(
+    /// The script's prim says the text at place 1 to the whole region, on the channel at place 0, unless that is 0.
+    pub(crate) fn answer_region_say(
         &mut self,
         place: usize,
         live: &mut Live,
@@ -212,11 +212,11 @@ impl Grid {
         if is_silent(args) {
             return Ok(Reply::Value(None));
         }
-        self.says(place, live, Voice::Region, args, library, unit, out)
+        self.answer_say(place, live, Voice::Region, args, library, unit, out)
     }
 
     /// The text at place 0 is said to the owner.
-    pub(crate) fn says_to_owner(
+    pub(crate) fn answer_owner_say(
         &self,
         place: usize,
         args: &Values,
@@ -269,7 +269,7 @@ impl Grid {
     }
 
     /// A message goes to the scripts of the prims that the number at place 0 names.
-    pub(crate) fn sends(
+    pub(crate) fn answer_message_linked(
         &mut self,
         place: usize,
         live: &mut Live,
@@ -311,7 +311,11 @@ impl Grid {
     }
 
     /// The script's prim has the name at place 0, cut.
-    pub(crate) fn renames(&mut self, place: usize, args: &Values) -> Result<Reply, NoMemory>
+    pub(crate) fn answer_set_object_name(
+        &mut self,
+        place: usize,
+        args: &Values,
+    ) -> Result<Reply, NoMemory>
         requires { place < length self.old.seats }
         ensures does { (codes : List Code) (unit : Code) (clock : ℕ) (live : Awake) (of : Id) (f : Flight) (w : World) →
             (lent : Lent codes unit clock place self.old live of f w) →

@@ -4,7 +4,7 @@ ghost use Rattle.std.specs.Prelude.{◌≡◌, ◌<◌, ◌≤◌, ℕ, Option, 
 ghost use Rattle.std.specs.Option.{option_map};
 ghost use Rattle.lsl_value.specs.Values.{kind_of};
 ghost use Rattle.lsl_post.specs.Timing.{latest_clock};
-ghost use Rattle.lsl_region.specs.Answers.{detected, detected_key, detected_link, detected_name, told_to};
+ghost use Rattle.lsl_region.specs.Answers.{detected, detected_key, detected_link, detected_name, value_of_query};
 
 use crate::arguments::integer_at;
 use crate::links::{link_of, prim_or_this};
@@ -15,7 +15,7 @@ use lsl_value::{BuiltinId, Text, Value, Values};
 use std::alloc::Global;
 
 /// What the call is told of this object, the script's prim and name, the clock, and who touched.
-pub(crate) fn told_to(
+pub(crate) fn value_of_query(
     alloc: Global,
     object: &Linkset,
     prim: usize,
@@ -28,7 +28,7 @@ pub(crate) fn told_to(
     requires prim { prim < length object.now.prims }
     requires few { length object.now.prims ≤ 255 }
     requires clock { clock ≤ latest_clock }
-    ensures { IfOk result (λ told. told ≡ told_to object.now prim name.now clock toucher.now id args.now) }
+    ensures { IfOk result (λ told. told ≡ value_of_query object.now prim name.now clock toucher.now id args.now) }
 {
     let prims = &object.prims;
     let value = match id {

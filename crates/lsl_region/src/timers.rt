@@ -52,7 +52,7 @@ fn ring_script(
     post_script(alloc, script, number, &timer_event(alloc), unit, out)
 }
 
-// The same, unless it is out.
+// The timer of the script on this seat, which has this unit, is read, unless the script is out.
 fn ring_seat(
     alloc: Global,
     seat: &mut Option<Script>,
@@ -166,7 +166,7 @@ impl Grid {
         self.due_at(script as usize - 1)
     }
 
-    // The same of the script at this place, unless it is out.
+    // When the timer of the script at this place is next due; none where it doesn't run, or the script is out.
     fn due_at(&self, place: usize) -> Option<u64>
         requires { place < length self.now.seats }
         ensures { (seat : Place) (parts : Parts) → slice_get self.now.seats place ≡ Some seat →

@@ -59,7 +59,7 @@ impl Grid {
         )
     }
 
-    // The same at this place, with room for the script while it is awake.
+    // A turn of the script at this place, with room for it while it is awake.
     #[inline(never)]
     fn turn_with(
         &mut self,
@@ -129,7 +129,7 @@ impl Grid {
         }
     }
 
-    // The same without gaps.
+    // The segments of a turn of the script at this place, where no gaps are set.
     fn segments(
         &mut self,
         place: usize,

@@ -54,7 +54,8 @@ pub fn mail_of_awake_scripts()
     ensures awake { StaysAwake }
 {}
 
-/// The same of the timer of a script between turns.
+/// The timer of a script between turns is its source's, and what is done to it in place is done to the source's; the
+/// script stays one of its unit.
 pub fn timers_between_turns()
     ensures timer { RestingTimerIsIts }
     ensures fits { StaysFitting }

@@ -137,7 +137,7 @@ pub fn entry(alloc: Global) -> Event
 }
 
 /// The event of a state's exit.
-pub fn exit(alloc: Global) -> Event
+pub fn state_exit_event(alloc: Global) -> Event
     ensures { result ≡ state_exit }
 {
     Event {

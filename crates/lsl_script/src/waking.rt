@@ -17,7 +17,7 @@ ghost use Rattle.lsl_script.specs.Scripts.{Script as Source, state_exit};
 ghost use Rattle.lsl_script.specs.Waking.{CanWake, IsEmptied, IsRefused, TakesNext, WakesAs, event_in, queue_behind, resting_parts};
 
 use crate::live::Live;
-use crate::scripts::{Script, exit};
+use crate::scripts::{Script, state_exit_event};
 use lsl_code::{Sack, Woven};
 use lsl_machine::{Machine, Parked};
 use lsl_post::{Event, Queue, Rest, ScriptParts};
@@ -170,7 +170,7 @@ fn next_event(alloc: Global, leaving: Option<u16>, queue: &mut Queue) -> Event
     ensures queue { queue.new ≡ queue_behind leaving queue.old }
 {
     match leaving {
-        Some(_) => exit(alloc),
+        Some(_) => state_exit_event(alloc),
         None => match queue.take() {
             Some(event) => event,
             None => unreachable!(),

@@ -14,7 +14,7 @@ pub(crate) fn world(alloc: Global, number: &str) -> Result<String, NoMemory> {
     told(alloc, &made.world)
 }
 
-/// The same of the script of that world.
+/// How long the script of the world of this number is, and its digest.
 pub(crate) fn script(alloc: Global, number: &str) -> Result<String, NoMemory> {
     let made = made(alloc, number.parse::<u32>().unwrap_or(0))?;
     told(alloc, &made.script)

@@ -4,7 +4,7 @@ use Rattle.std.specs.Prelude.{map, nat_le}
 use Rattle.std.specs.Char.{to_ascii_lowercase}
 use Rattle.std.proofs.lemmas.Bool.{leb-true}
 use Rattle.lsl_value.specs.Key.{is_valid_key}
-use Rattle.lsl_lines.specs.Checks.{◌>>=◌, must}
+use Rattle.lsl_lines.specs.Checks.{◌>>=◌, fault_unless}
 use Rattle.lsl_lines.specs.Fields.{is_negative, key_of, magnitude_of, natural_of, plain_of}
 use Rattle.lsl_lines.specs.Words.{text_of}
 use Rattle.lsl_lines.specs.Reading.{at_last}
@@ -33,10 +33,10 @@ pub fit-then : {A B : Type 0} (P : B → Type 0) (m : Result A FileKind) (f : A 
 fit-then P (Ok x) f h = h x refl
 fit-then P (Err k) f h = tt
 
-pub fit-must : {A : Type 0} (P : A → Type 0) (test : Bool) (k : FileKind) (more : Result A FileKind)
-    → (test ≡ true → Fit P more) → Fit P (must test k more)
-fit-must P true k more h = h refl
-fit-must P false k more h = tt
+pub fit-fault_unless : {A : Type 0} (P : A → Type 0) (test : Bool) (k : FileKind) (more : Result A FileKind)
+    → (test ≡ true → Fit P more) → Fit P (fault_unless test k more)
+fit-fault_unless P true k more h = h refl
+fit-fault_unless P false k more h = tt
 
 pub fit-cond : {A : Type 0} (P : A → Type 0) (test : Bool) (one other : Result A FileKind) → Fit P one → Fit P other
     → Fit P (cond test one other)
@@ -80,10 +80,10 @@ below_most false n most h = leb-true n most h
 pub natural-fits : (most : ℕ) (word : Word) → Fit (λ n. n ≤ most) (natural_of most word)
 natural-fits most word =
     fit-then (λ n. n ≤ most) (plain_of word) (λ bytes. magnitude_of bytes >>= λ n.
-    must (nat_le n (cond (is_negative bytes) 0 most)) BadLine (Ok n))
+    fault_unless (nat_le n (cond (is_negative bytes) 0 most)) BadLine (Ok n))
     (λ bytes e. fit-then (λ n. n ≤ most) (magnitude_of bytes)
-    (λ n. must (nat_le n (cond (is_negative bytes) 0 most)) BadLine (Ok n))
-    (λ n f. fit-must (λ n. n ≤ most) (nat_le n (cond (is_negative bytes) 0 most)) BadLine (Ok n)
+    (λ n. fault_unless (nat_le n (cond (is_negative bytes) 0 most)) BadLine (Ok n))
+    (λ n f. fit-fault_unless (λ n. n ≤ most) (nat_le n (cond (is_negative bytes) 0 most)) BadLine (Ok n)
     (below_most (is_negative bytes) n most)))
 
 abbrev pub IsKey : List ℕ → Type 0
@@ -93,7 +93,7 @@ IsKey key = is_valid_key key ≡ true
 pub key-fits : (word : Word) → Fit IsKey (key_of word)
 key-fits word =
     fit-then IsKey (plain_of word) (λ bytes. text_of (map to_ascii_lowercase bytes) >>= λ key.
-    must (is_valid_key key) BadLine (Ok key))
+    fault_unless (is_valid_key key) BadLine (Ok key))
     (λ bytes e. fit-then IsKey (text_of (map to_ascii_lowercase bytes))
-    (λ key. must (is_valid_key key) BadLine (Ok key))
-    (λ key f. fit-must IsKey (is_valid_key key) BadLine (Ok key) (λ valid. valid)))
+    (λ key. fault_unless (is_valid_key key) BadLine (Ok key))
+    (λ key f. fit-fault_unless IsKey (is_valid_key key) BadLine (Ok key) (λ valid. valid)))

@@ -33,7 +33,7 @@ use Rattle.lsl_lines.specs.declared.reading.Part.TheVariants.{Objects, Steps, En
 use Rattle.lsl_lines.specs.declared.reading.Reading.{Reading}
 use Rattle.lsl_world.specs.Ranges.{HasFile, HasKey, IsObjectOf, IsInRange}
 use Rattle.lsl_world.specs.Sizes.{HasLink, HasNumber, IsStepOf, Size, scripts_of, scripts_of_prims}
-use Rattle.lsl_world.proofs.Passing.{Changed, Fit, at_last-fit, fit-cond, fit-must, fit-ok, fit-then}
+use Rattle.lsl_world.proofs.Passing.{Changed, Fit, at_last-fit, fit-cond, fit-fault_unless, fit-ok, fit-then}
 use Rattle.lsl_world.proofs.StepRanges.{LineFits, StepFits, form-fits}
 
 abbrev prims_in : List ObjectLine → List ℕ
@@ -151,10 +151,10 @@ step-sound r step clock s steps f h = record {
 
 step_added-sound : (r : Reading) (step : TheStep) → Sound r → StepFits step → Fit Sound (reading.step_added step r)
 step_added-sound r step s f =
-    fit-must Sound (is_steps r.part) BadLine _ (λ a.
-    fit-must Sound (nat_lt (length r.steps) 100000) TooMany _ (λ b.
-    fit-must Sound (knows r step) Unknown _ (λ c.
-    fit-must Sound (nat_le r.clock (reading.clock_behind r.clock step)) ClockBack _ (λ d.
+    fit-fault_unless Sound (is_steps r.part) BadLine _ (λ a.
+    fit-fault_unless Sound (nat_lt (length r.steps) 100000) TooMany _ (λ b.
+    fit-fault_unless Sound (knows r step) Unknown _ (λ c.
+    fit-fault_unless Sound (nat_le r.clock (reading.clock_behind r.clock step)) ClockBack _ (λ d.
     step-sound r step (reading.clock_behind r.clock step) s a f c))))
 
 -- objects, prims and scripts are read before any step
@@ -180,8 +180,8 @@ scripts-more objects o =
 object-sound : (key name owner region : List ℕ) (r : Reading) → Sound r → is_valid_key key ≡ true
     → Fit Sound (reading.object_added key name owner region r)
 object-sound key name owner region r s valid =
-    fit-must Sound (is_objects r.part) BadLine _ (λ part.
-    fit-must Sound (nat_lt (length r.objects) 64) TooMany _ (λ few.
+    fit-fault_unless Sound (is_objects r.part) BadLine _ (λ part.
+    fit-fault_unless Sound (nat_lt (length r.objects) 64) TooMany _ (λ few.
     fit-then Sound (keys_behind r.keys key) _ (λ keys e.
     let o = new_object key name owner region in
     let lt = ltb-true (length r.objects) 64 few in
@@ -249,7 +249,7 @@ prim-fits : (key name : List ℕ) (files : ℕ) (from to : ObjectLine) → is_va
 prim-fits key name files from to valid e h =
     fit-ok (λ (o : ObjectLine). IsObjectOf files o × (scripts_of_prims o.prims ≡ scripts_of_prims from.prims + 0))
     (with_prim (new_prim key name) from) to e
-    (fit-must (λ (o : ObjectLine). IsObjectOf files o × (scripts_of_prims o.prims ≡ scripts_of_prims from.prims + 0))
+    (fit-fault_unless (λ (o : ObjectLine). IsObjectOf files o × (scripts_of_prims o.prims ≡ scripts_of_prims from.prims + 0))
     (nat_lt (length from.prims) 255) TooMany (Ok (record from { prims = from.prims ++ new_prim key name ∷ [] }))
     (λ few. let lt = ltb-true (length from.prims) 255 few in
     let long = length-append from.prims (new_prim key name ∷ []) in (
@@ -266,7 +266,7 @@ prim-fits key name files from to valid e h =
 prim-sound : (key name : List ℕ) (r : Reading) → Sound r → is_valid_key key ≡ true
     → Fit Sound (reading.prim_added key name r)
 prim-sound key name r s valid =
-    fit-must Sound (is_objects r.part) BadLine _ (λ part.
+    fit-fault_unless Sound (is_objects r.part) BadLine _ (λ part.
     fit-then Sound (at_last (with_prim (new_prim key name)) r.objects) _ (λ objects e.
     fit-then Sound (keys_behind r.keys key) _ (λ keys k.
     subst (λ n. Sound (record r { objects = objects; scripts = n; files = r.files; keys = keys })) (add-zero r.scripts)
@@ -351,8 +351,8 @@ script-fits script files from to there e h =
 
 script-sound : (name file : List ℕ) (r : Reading) → Sound r → Fit Sound (reading.script_added name file r)
 script-sound name file r s =
-    fit-must Sound (is_objects r.part && nat_lt 0 (length r.objects)) BadLine _ (λ part.
-    fit-must Sound (nat_lt r.scripts 256) TooMany _ (λ few.
+    fit-fault_unless Sound (is_objects r.part && nat_lt 0 (length r.objects)) BadLine _ (λ part.
+    fit-fault_unless Sound (nat_lt r.scripts 256) TooMany _ (λ few.
     let script = new_script r.files name file in
     fit-then Sound (at_last (with_script_at_last script) r.objects) _ (λ objects e.
     let lt = ltb-true r.scripts 256 few in
@@ -382,10 +382,10 @@ line-sound (Object key name owner region) r s f = object-sound key name owner re
 line-sound (Prim key name) r s f = prim-sound key name r s f
 line-sound (Script name file) r s f = script-sound name file r s
 line-sound Begin r s f =
-    fit-must Sound (is_objects r.part) BadLine (Ok (record r { part = Steps })) (λ e. part-sound r Steps s refl)
+    fit-fault_unless Sound (is_objects r.part) BadLine (Ok (record r { part = Steps })) (λ e. part-sound r Steps s refl)
 line-sound (Step step) r s f = step_added-sound r step s f
 line-sound End r s f =
-    fit-must Sound (is_steps r.part) BadLine (Ok (record r { part = Ended })) (λ e. part-sound r Ended s refl)
+    fit-fault_unless Sound (is_steps r.part) BadLine (Ok (record r { part = Ended })) (λ e. part-sound r Ended s refl)
 
 read-sound : (line : List ℕ) (r : Reading) → Sound r → Fit Sound (read_line line r)
 unfolding read_line

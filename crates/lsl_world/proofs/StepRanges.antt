@@ -5,7 +5,7 @@ use Rattle.std.proofs.lemmas.Bool.{ltb-true}
 use Rattle.std.proofs.lemmas.List.Elements.{All-cons, All-nil}
 use Rattle.std.specs.Str.{bytes_eq}
 use Rattle.lsl_region.specs.Pausing.{AreGaps}
-use Rattle.lsl_lines.specs.Checks.{◌>>=◌, must}
+use Rattle.lsl_lines.specs.Checks.{◌>>=◌, fault_unless}
 use Rattle.lsl_lines.specs.Fields.{integer_of, key_of, name_of, natural_of, plain_of, quoted_of}
 use Rattle.lsl_lines.specs.Forms as forms
 use Rattle.lsl_lines.specs.Forms.{each_gap, form_of, form_of_words, gap_of, gaps_of, number_of, row_of, step_of, ticks_of, utf8_of}
@@ -17,7 +17,7 @@ use Rattle.lsl_lines.specs.declared.file.Step.TheVariants.{Clock, Say, Touch, Ch
 use Rattle.lsl_lines.specs.declared.forms.Line.{Line}
 use Rattle.lsl_lines.specs.declared.forms.Line.TheVariants.{Object, Prim, Script, Begin, Step, End}
 use Rattle.lsl_lines.specs.declared.words.Word.{Word}
-use Rattle.lsl_world.proofs.Passing.{Fit, IsKey, fit-ok, fit-then, fit-cond, fit-must, key-fits, natural-fits}
+use Rattle.lsl_world.proofs.Passing.{Fit, IsKey, fit-cond, fit-fault_unless, fit-ok, fit-then, key-fits, natural-fits}
 
 -- the time and the counts of a step are in their ranges, and the keys of prims are valid ones
 abbrev pub StepFits : TheStep → Type 0
@@ -109,8 +109,8 @@ cross-fits (a ∷ b ∷ c ∷ more) = tt
 
 gap-fits : (word : Word) → Fit (λ n. 0 < n) (gap_of word)
 gap-fits word =
-    fit-then (λ n. 0 < n) (ticks_of word) (λ n. must (nat_lt 0 n) BadLine (Ok n))
-    (λ n e. fit-must (λ n. 0 < n) (nat_lt 0 n) BadLine (Ok n) (λ h. ltb-true 0 n h))
+    fit-then (λ n. 0 < n) (ticks_of word) (λ n. fault_unless (nat_lt 0 n) BadLine (Ok n))
+    (λ n e. fit-fault_unless (λ n. 0 < n) (nat_lt 0 n) BadLine (Ok n) (λ h. ltb-true 0 n h))
 
 each-gap-fits : (words : List Word) → Fit AreGaps (each_gap words)
 each-gap-fits [] = All-nil (λ n. 0 < n)
@@ -122,7 +122,7 @@ each-gap-fits (word ∷ words) =
 
 some-gaps-fit : (words : List Word) → Fit AreGaps (gaps_of words)
 some-gaps-fit words =
-    fit-must AreGaps (nat_lt 0 (length words) && nat_le (length words) 16) BadLine (each_gap words)
+    fit-fault_unless AreGaps (nat_lt 0 (length words) && nat_le (length words) 16) BadLine (each_gap words)
     (λ h. each-gap-fits words)
 
 gaps-fit : (words : List Word) → Fit StepFits (gaps_of words >>= λ gaps. Ok (Pause gaps))

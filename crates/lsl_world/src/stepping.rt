@@ -28,7 +28,7 @@ use lsl_value::{EventId, Text};
 
 impl World {
     // Does a step.
-    pub(crate) fn follow<L: Link>(
+    pub(crate) fn do_step<L: Link>(
         &mut self,
         step: &Step,
         link: &mut L,

@@ -84,7 +84,7 @@ impl World {
             → OnOk result (Counts self.new.pause (counted_step (rules_of programs) step.now w t)) }
         ensures counted { L.faults link.old ≤ L.faults link.new }
     {
-        self.follow(step, link, out)
+        self.do_step(step, link, out)
     }
 
     /// How many times scripts were saved: at the end of each turn of at least one segment that left its script in flight,

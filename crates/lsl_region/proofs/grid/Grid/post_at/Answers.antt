@@ -18,8 +18,8 @@ use Rattle.lsl_region.proofs.Outlines.{outline-seated}
 use Rattle.lsl_region.proofs.Seats.{no_seat, placed-set, read-at, seated-set, seated-unit}
 use Rattle.lsl_region.proofs.grid.Grid.post_at.Goals as goal
 
-pub returns-then-not-is_meant-clause-does : goal.returns-then-not-is_meant-clause-does
-returns-then-not-is_meant-clause-does c = λ away clock w st home.
+pub returns-then-not-is_addressed-clause-does : goal.returns-then-not-is_addressed-clause-does
+returns-then-not-is_addressed-clause-does c = λ away clock w st home.
     let codes = c.args.library.now in
     let grid = c.args.self.now in
     let place = c.args.place in
@@ -30,7 +30,7 @@ returns-then-not-is_meant-clause-does c = λ away clock w st home.
     let is : seat ≡ seat_of codes false s.member = s.is ∙ ap (λ (b : Bool). seat_of codes b s.member) home in
     let script : seat.script ≡ Some (parts_of codes s.member.script) = ap (λ (z : Seat). z.script) is in
     let e = sym (admits-is codes away clock grid w audience seat s.member st is)
-    ∙ sym (c.is_meant.ensures seat (parts_of codes s.member.script) at script) ∙ c.if-not-is_meant.true in
+    ∙ sym (c.is_addressed.ensures seat (parts_of codes s.member.script) at script) ∙ c.if-not-is_addressed.true in
     subst (λ (a : Told World). Stands codes away clock grid a.value × (c.args.out.now ≡ c.args.out.now ++ a.entries))
     (post-none (rules_of codes) audience c.args.event.now place w s.member s.at e)
     (st, sym (append-nil c.args.out.now))
@@ -89,7 +89,7 @@ returns-clause-does c = λ away clock w old home.
     let has : HasUnit codes m.script.code c.unit-unit.result.now
     = ap (slice_get codes) (ap (λ (z : Seat). z.unit) (sym is)) ∙ sym c.unit-unit.ensures.unit in
     let meant = sym (admits-is codes away clock c.args.self.now w audience seat m old is)
-    ∙ sym (c.is_meant.ensures seat (parts_of codes m.script) now-at script) ∙ c.if-not-is_meant.false in
+    ∙ sym (c.is_addressed.ensures seat (parts_of codes m.script) now-at script) ∙ c.if-not-is_addressed.false in
     subst (λ (t : Told Script). Tells c.post_seat.result
     (λ u _. c.post_seat.new.seat ≡ Some (parts_of codes u)) c.args.out.now c.post_seat.new.out t)
     (thing-meant (rules_of codes) audience e place w m meant)

@@ -8,7 +8,7 @@ use Rattle.lsl_world.specs.Programs.{rules_of}
 use Rattle.lsl_world.specs.Stands.{IsOf}
 use Rattle.lsl_world.proofs.Going.{goes-here, goes-cross}
 use Rattle.lsl_world.proofs.Saving.{counts-as, counts-same, tells-quiet}
-use Rattle.lsl_world.proofs.world.World.follow.Goals as goal
+use Rattle.lsl_world.proofs.world.World.do_step.Goals as goal
 
 pub returns-in-Clock-clause-goes : goal.returns-in-Clock-clause-goes
 returns-in-Clock-clause-goes g c =

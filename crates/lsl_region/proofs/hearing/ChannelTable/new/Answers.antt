@@ -1,6 +1,6 @@
 use Rattle.std.proofs.Common.{vec_capacity}
 use Rattle.lsl_region.proofs.Rows.{table-none}
-use Rattle.lsl_region.proofs.hearing.Hearers.new.Goals as goal
+use Rattle.lsl_region.proofs.hearing.ChannelTable.new.Goals as goal
 
 pub invariant_of-result : goal.invariant_of-result
 invariant_of-result c =

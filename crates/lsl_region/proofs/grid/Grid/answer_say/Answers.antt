@@ -7,7 +7,7 @@ use Rattle.lsl_post.specs.Told.{Told}
 use Rattle.lsl_region.specs.Answers.{said_by}
 use Rattle.lsl_region.specs.Grids.{Lent}
 use Rattle.lsl_region.specs.Worlds.{World, prim_of}
-use Rattle.lsl_region.proofs.grid.Grid.says.Goals as goal
+use Rattle.lsl_region.proofs.grid.Grid.answer_say.Goals as goal
 
 pub returns-in_err-say_by-clause-does : goal.returns-in_err-say_by-clause-does
 returns-in_err-say_by-clause-does c = λ m clock f of w lent.

@@ -8,7 +8,7 @@ use Rattle.lsl_machine.proofs.Doing.{able_held}
 use Rattle.lsl_code.specs.declared.instructions.Instr.TheVariants as instrs
 use Rattle.lsl_value.specs.declared.tagged.Value.TheVariants as value
 use Rattle.std.proofs.Common.{pos}
-use Rattle.lsl_machine.proofs.running.Running.give_used.Goals as goal
+use Rattle.lsl_machine.proofs.running.Running.push_used.Goals as goal
 
 pub give-requires : goal.give-requires
 give-requires c = record { held = able_held instrs.Used _ c.requires; place = c.requires.9.place }

@@ -11,7 +11,7 @@ use Rattle.lsl_region.specs.Answers.{Answered, answer_in}
 use Rattle.lsl_region.specs.Turning.{Paused}
 use Rattle.lsl_region.specs.Worlds.{Member}
 use Rattle.lsl_region.proofs.Flying.{asks-fewer, paused-lent}
-use Rattle.lsl_region.proofs.grid.Grid.serve.Goals as goal
+use Rattle.lsl_region.proofs.grid.Grid.answer_and_go_on.Goals as goal
 
 pub returns-in_err-value-clause-does : goal.returns-in_err-value-clause-does
 returns-in_err-value-clause-does c = λ m f most w p.

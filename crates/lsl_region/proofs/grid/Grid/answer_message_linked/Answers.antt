@@ -8,7 +8,7 @@ use Rattle.lsl_region.specs.Posting.{admits, post_all}
 use Rattle.lsl_region.specs.Worlds.{World}
 use Rattle.lsl_region.proofs.Away.{away-seat}
 use Rattle.lsl_region.proofs.Lending.{lent-object}
-use Rattle.lsl_region.proofs.grid.Grid.sends.Goals as goal
+use Rattle.lsl_region.proofs.grid.Grid.answer_message_linked.Goals as goal
 
 pub returns-in_err-post_all_with-clause-does : goal.returns-in_err-post_all_with-clause-does
 returns-in_err-post_all_with-clause-does c = λ m clock f of w lent.

@@ -2,7 +2,7 @@ use Rattle.std.proofs.Common.{◌<◌, ◌≤◌, ◌+◌, ◌*◌, [], arith, l
 use Rattle.std.proofs.lemmas.List.{get_or_read}
 use Rattle.lsl_region.specs.Hearing.{most_channels}
 use Rattle.lsl_region.proofs.Rows.{table-few, table-told}
-use Rattle.lsl_region.proofs.hearing.Hearers.tell.Goals as goal
+use Rattle.lsl_region.proofs.hearing.ChannelTable.tell.Goals as goal
 
 pub note_new-requires-clause-room : goal.note_new-requires-clause-room
 note_new-requires-clause-room c =

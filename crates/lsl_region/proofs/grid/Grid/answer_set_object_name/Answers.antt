@@ -4,7 +4,7 @@ use Rattle.lsl_region.specs.Grids.{Contents, Lent, seat_of}
 use Rattle.lsl_region.specs.Texts.{cut_name}
 use Rattle.lsl_region.proofs.Away.{away-seat}
 use Rattle.lsl_region.proofs.Lending.{lent-renamed}
-use Rattle.lsl_region.proofs.grid.Grid.renames.Goals as goal
+use Rattle.lsl_region.proofs.grid.Grid.answer_set_object_name.Goals as goal
 
 pub returns-clause-does : goal.returns-clause-does
 returns-clause-does c = λ codes unit clock live of f w lent.
