@@ -1,6 +1,6 @@
 -- How an object is driven from a region to another over a link: which note is carried next, and what becomes of the
 -- cards by what comes back of it.
-use Rattle.std.specs.Prelude.{ℕ, ◌+◌, Bool, true, false, ◌&&◌, nat_eq, nat_lt, if◌then◌else◌, List, Option, Some, None}
+use Rattle.std.specs.Prelude.{◌≡◌, ℕ, ◌+◌, Bool, true, false, ◌&&◌, nat_eq, nat_lt, if◌then◌else◌, List, [], ◌∷◌, Option, Some, None}
 use Rattle.lsl_handoff.specs.declared.card.Card.{Card}
 use Rattle.lsl_handoff.specs.declared.note.Note.{Note}
 use Rattle.lsl_handoff.specs.declared.note.NoteKind.{NoteKind}
@@ -9,6 +9,11 @@ use Rattle.lsl_handoff.specs.declared.drive.Drive.{Drive}
 use Rattle.lsl_handoff.specs.declared.drive.Way.{Way}
 use Rattle.lsl_handoff.specs.Fields.{HasCard, card_at, does}
 use Rattle.lsl_handoff.specs.Rules.{Deliver, GiveUp, awaited}
+
+-- a note that was carried, and the note that came back, if one did
+pub record Carried : Type 0 where
+  pub note : Note
+  pub back : Option Note
 
 -- where a drive is: the cards, how often the note that asks was carried, the answer that is to be carried, and the parcel
 -- as which a note made the object live in the other region
@@ -100,6 +105,15 @@ hears way m back =
       reply = next_reply m.reply done.1;
       landed = landed_by way m back;
     })
+
+-- these were carried, in order
+abbrev pub Obeys : Way → Moment → List Carried → Type 0
+Obeys way m [] = Unit {0}
+Obeys way m (c ∷ more) = (asks way m ≡ Some c.note) × Obeys way (hears way m c.back) more
+
+abbrev pub after_carried : Way → Moment → List Carried → Moment
+after_carried way m [] = m
+after_carried way m (c ∷ more) = after_carried way (hears way m c.back) more
 
 -- a cancel whose answer didn't come is delivered, and its answer, since both regions stand in one process
 abbrev pub answered : List (List Card) × Option Note → List (List Card)

@@ -1,5 +1,6 @@
 pub mod Cards
 pub mod Drives
+pub mod DriveLaws
 pub mod Examples
 pub mod Fields
 pub mod Laws

@@ -1,5 +1,6 @@
 //! Laws of the handoff. Each law is a function whose clause is the law; it does nothing.
 
+ghost use Rattle.lsl_handoff.specs.DriveLaws.{DrivesComeToRest};
 ghost use Rattle.lsl_handoff.specs.Laws.{RunsKeepOnePlace};
 ghost use Rattle.lsl_handoff.specs.NoteLaws.{NotesAreOne, NotesAreSpelled, NotesHaveNoFault, NotesHaveOneSpelling, OthersHaveOne};
 
@@ -8,6 +9,13 @@ ghost use Rattle.lsl_handoff.specs.NoteLaws.{NotesAreOne, NotesAreSpelled, Notes
 /// cancelling, at the greatest trip of its cards.
 pub fn an_object_is_in_one_place()
     ensures { RunsKeepOnePlace }
+{}
+
+/// Each drive comes to rest, where each object was at rest, all earlier notes were past, and nothing came back that wasn't
+/// handed over: the object is live in the other region, as the parcel of its departure, exactly where its offer came and
+/// not behind its cancel, and else where it was; and all notes are past again.
+pub fn each_drive_comes_to_rest()
+    ensures { DrivesComeToRest }
 {}
 
 /// Bytes are those of one note at most, and a note has one spelling.
