@@ -3,9 +3,12 @@ pub mod ArrivalLemmas
 pub mod DeliveryLemmas
 pub mod DriveLemmas
 pub mod Driving
+pub mod EntryLemmas
 pub mod EventLemmas
 pub mod FaultlessLemmas
 pub mod FieldLemmas
+pub mod GoingLemmas
+pub mod HandoverLemmas
 pub mod HoldLemmas
 pub mod Holding
 pub mod KeptLemmas

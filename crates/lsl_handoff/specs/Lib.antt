@@ -1,8 +1,10 @@
 pub mod Cards
 pub mod Drives
 pub mod DriveLaws
+pub mod Entries
 pub mod Examples
 pub mod Fields
+pub mod Handovers
 pub mod Laws
 pub mod NoteBytes
 pub mod NoteFaults

@@ -1,7 +1,7 @@
 //! Fields: the cards of all regions.
 
 ghost use Rattle.std.specs.Prelude.{◌≡◌, ◌↔◌, All, IfOk, IsTrue, OnErr, MatchResult, is_some, length};
-ghost use Rattle.lsl_handoff.specs.Cards.{cause, depart_fault};
+ghost use Rattle.lsl_handoff.specs.Cards.{cause, depart_fault, is_live};
 ghost use Rattle.lsl_handoff.specs.Fields.{HasCard, IsFirstLive, IsOneOf, card_at, cards_at_start, cards_of, does, field_at_start};
 ghost use Rattle.lsl_handoff.specs.Rules.{Depart, Again, GiveUp, Deliver, awaited};
 
@@ -138,6 +138,14 @@ impl Field {
             result ≡ is_some (awaited card.phase card.trip region object)) }
     {
         self.objects[(object - 1) as usize].list[(region - 1) as usize].awaits(region, object)
+    }
+
+    /// Whether the object is live in this region. Takes no memory.
+    pub fn is_live(&self, region: u32, object: u32) -> bool
+        requires { HasCard self.now object region }
+        ensures { result ≡ is_live (card_at self.now object region).phase }
+    {
+        self.objects[(object - 1) as usize].list[(region - 1) as usize].is_live()
     }
 
     /// The last trip of the object that this region heard of. Takes no memory.

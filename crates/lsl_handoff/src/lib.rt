@@ -9,6 +9,7 @@ mod drive;
 mod examples;
 mod faults;
 mod field;
+mod handover;
 mod laws;
 mod note;
 mod parcel;
@@ -21,6 +22,7 @@ pub use crate::drive::{Drive, Way};
 pub use crate::examples::{called_back_for_good, handed_over_in_the_end, notes_in_bytes};
 pub use crate::faults::{DepartFault, NoteFault};
 pub use crate::field::Field;
+pub use crate::handover::{Parcels, hand_over};
 pub use crate::laws::{
     an_object_is_in_one_place, each_drive_comes_to_rest, notes_are_of_one, notes_or_faults,
 };
