@@ -23,7 +23,7 @@ use Rattle.lsl_top.proofs.Pieces.{begun-one, whole-one}
 use Rattle.lsl_top.proofs.Trips.{went-none}
 
 -- what keeps to some answers keeps to answers that these are
-keeps-as : (IsOne IsOther : Grade → Answer → Type 0) (status : Status) (trips : List Trip) (old new : Option (List ℕ))
+pub keeps-as : (IsOne IsOther : Grade → Answer → Type 0) (status : Status) (trips : List Trip) (old new : Option (List ℕ))
     → ((grade : Grade) (answer : Answer) → IsOne grade answer → IsOther grade answer)
     → KeepsTo IsOne status trips old new → KeepsTo IsOther status trips old new
 keeps-as IsOne IsOther Ok trips old new f k = (k.0, f Written k.0 k.1, k.2, k.3)

@@ -21,7 +21,9 @@ pub mod Goings
 pub mod Zips
 pub mod Ascii
 pub mod Faults
+pub mod Numbers
 pub mod OnceRange
 pub mod Outputs
+pub mod Summed
 pub mod Promises
 pub mod Halves

@@ -22,13 +22,14 @@ use Rattle.lsl_image.specs.declared.parts.WorldParts.{WorldParts}
 use Rattle.lsl_image.proofs.ImageLemmas.{first-one, image-no_fault}
 use Rattle.lsl_region.specs.Worlds.{World}
 use Rattle.lsl_world.specs.Frozen.{shapes_of_file}
-use Rattle.lsl_top.specs.Answers.{Answer, Checks, Comes, Grade, Plays, PlaysTexts, Replays, ReplaysFile, image_refused, script_refused, world_refused}
+use Rattle.lsl_top.specs.Answers.{Answer, Checks, Comes, Grade, Plays, PlaysTexts, Replays, ReplaysFile, image_refused, script_refused, summed, world_refused}
 use Rattle.lsl_top.specs.Held.{AreHeld, Holds, HoldsFrozen}
 use Rattle.lsl_top.specs.Laws.{AnswersAreOne}
+use Rattle.lsl_top.specs.Made.{made_files, made_name}
 use Rattle.lsl_top.specs.Plays.{Mode, Whole, Freezing, Thawing, Play, play_of, play_of_once, played}
 use Rattle.lsl_top.specs.Scripts.{AreAccepted, FirstRefused, IsRefusedAt}
 use Rattle.lsl_top.specs.Thaws.{IsThawFault, IsThawOf}
-use Rattle.lsl_top.specs.Words.{Once, Check, Replay, Freeze, Thaw}
+use Rattle.lsl_top.specs.Words.{Once, Check, Replay, Freeze, Thaw, Make}
 use Rattle.lsl_top.proofs.FrozenOne.{frozen-one, has-line}
 use Rattle.lsl_top.proofs.OneCode.{codes-one}
 use Rattle.lsl_top.proofs.OneText.{no_fault}
@@ -272,7 +273,7 @@ replays-one files g h from trips mode name bytes a b (inr (f, w, p)) (inl (d, k,
 replays-one files g h from trips mode name bytes a b (inr (f, w, e)) (inr (d, k, c)) =
     e ∙ ap (λ (fault : FileFault). world_refused name fault) (world-fault-one bytes f d w k) ∙ sym c
 
-files-one : (files : Files) (g h : Grade) (from : World) (trips : List Trip) (mode : Mode) (name : List ℕ)
+pub files-one : (files : Files) (g h : Grade) (from : World) (trips : List Trip) (mode : Mode) (name : List ℕ)
     (a b : Answer) → ReplaysFile g (Some files) from trips mode name a
     → ReplaysFile h (Some files) from trips mode name b → a ≡ b
 files-one files g h from trips mode name a b (bytes, is, p) (other, k, q) =
@@ -288,3 +289,6 @@ answers-one files from trips (Replay name) g h a b p q = files-one files g h fro
 answers-one files from trips (Freeze name) g h a b p q = files-one files g h from trips Freezing name a b p q
 answers-one files from trips (Thaw frozen name) g h a b p q =
     files-one files g h from trips (Thawing frozen) name a b p q
+answers-one files from trips (Make number) g h a b (one, p, e) (other, q, f) =
+    e ∙ ap (λ (z : Answer). summed number z)
+    (files-one (made_files number) g h from trips Whole made_name one other p q) ∙ sym f

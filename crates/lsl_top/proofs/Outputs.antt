@@ -1,5 +1,5 @@
 -- What a command that runs a world is to write is what its answer has, from the world that it says.
-use Rattle.std.proofs.Common.{◌≡◌, ℕ, List, [], ◌∷◌, Some, inl, inr, sym, ap, ◌∙◌, subst}
+use Rattle.std.proofs.Common.{◌≡◌, ℕ, List, [], ◌∷◌, Some, inl, inr, refl, sym, ap, ◌∙◌, subst, append-nil}
 use Rattle.std.specs.List.{AllZip}
 use Rattle.lsl_ports.specs.Shelf.{Files}
 use Rattle.lsl_ports.specs.Trips.{Trip}
@@ -8,25 +8,29 @@ use Rattle.lsl_image.specs.World.{world}
 use Rattle.lsl_image.proofs.ImageLemmas.{image-one}
 use Rattle.lsl_build.specs.Codes.{AreCodesOf}
 use Rattle.lsl_lines.specs.Frozen.{IsFrozen}
+use Rattle.lsl_lines.specs.Journal.{lines_of}
 use Rattle.lsl_lines.specs.World.{IsWorld}
 use Rattle.lsl_lines.specs.declared.file.WorldFile.{WorldFile}
 use Rattle.lsl_tree.specs.Program.{Program}
 use Rattle.lsl_region.specs.Worlds.{World}
 use Rattle.lsl_world.specs.Frozen.{IsImageIn, parts_of_world, shapes_of_file}
 use Rattle.lsl_world.specs.Programs.{rules_of}
+use Rattle.lsl_world.specs.Reports.{journal_of}
 use Rattle.lsl_world.specs.Starts.{start}
-use Rattle.lsl_top.specs.Answers.{Answer, Answers, Comes, Grade, run_answer}
+use Rattle.lsl_top.specs.Answers.{Answer, Answers, Comes, Grade, made_piece, run_answer}
 use Rattle.lsl_top.specs.Froms.{IsFromOf}
 use Rattle.lsl_top.specs.Headline.{IsFrozenIn, IsScriptIn, IsWorldIn, Outputs, output_from, report_from}
 use Rattle.lsl_top.specs.Held.{AreHeld}
+use Rattle.lsl_top.specs.Made.{made_files, made_line, made_name}
 use Rattle.lsl_top.specs.Pieces.{lines_in}
 use Rattle.lsl_top.specs.Plays.{Mode, Whole, Freezing, Thawing, names_in, once_world, play_of, play_of_once}
 use Rattle.lsl_top.specs.Scripts.{AreAccepted}
 use Rattle.lsl_top.specs.Thaws.{IsFrom}
-use Rattle.lsl_top.specs.Words.{Command, Once, Check, Replay, Freeze, Thaw}
+use Rattle.lsl_top.specs.Words.{Command, Once, Check, Replay, Freeze, Thaw, Make}
 use Rattle.lsl_top.specs.declared.status.Status.TheVariants.{Ok}
 use Rattle.lsl_top.proofs.FrozenOne.{frozen-one}
 use Rattle.lsl_top.proofs.Journals.{journal-pieces}
+use Rattle.lsl_top.proofs.Summed.{summed-well}
 use Rattle.lsl_top.proofs.OneAnswer.{plays-programs, plays-texts, programs-one, replays-plays, some-one, text-one, texts-accepted, texts-one, thaw-no_fault, world-one}
 use Rattle.lsl_top.proofs.OneCode.{codes-one}
 
@@ -74,6 +78,15 @@ thaw-output g from trips name codes programs file text image lines answer is sta
 thaw-output g from trips name codes programs file text image lines answer is stands are (inr (fault, first, e)) =
     absurd (thaw-no_fault codes file text (parts_of_world codes from) fault (image, is, stands) first)
 
+replay-output : (g : Grade) (files : Files) (from : World) (name : List ℕ) (trips : List Trip) (lines : List ℕ)
+    (answer : Answer) → Outputs files from (Replay name) trips lines
+    → Answers g (Some files) from trips (Replay name) answer → IsOutput lines answer
+replay-output g files from name trips lines answer (file, programs, ((bytes, is, good), h), e) answers =
+    let (texts, are, all) = texts-of files (names_in file) programs h in
+    let (codes, text, come) = plays-programs files g from trips (play_of Whole file) programs answer texts are all
+    (replays-plays files g from trips Whole name bytes file answer is good answers) in
+    run-output Whole codes programs file trips (start (rules_of programs) file) lines answer come.1 e
+
 pub outputs-answer : (g : Grade) (files : Files) (from : World) (command : Command) (trips : List Trip)
     (lines : List ℕ) (answer : Answer) → Outputs files from command trips lines
     → Answers g (Some files) from trips command answer → IsOutput lines answer
@@ -83,11 +96,8 @@ outputs-answer g files from (Once name) trips lines answer (programs, h, e) answ
     in
     run-output Whole codes programs once_world trips (start (rules_of programs) once_world) lines answer come.1 e
 outputs-answer g files from (Check name) trips lines answer h answers = absurd h
-outputs-answer g files from (Replay name) trips lines answer (file, programs, ((bytes, is, good), h), e) answers =
-    let (texts, are, all) = texts-of files (names_in file) programs h in
-    let (codes, text, come) = plays-programs files g from trips (play_of Whole file) programs answer texts are all
-    (replays-plays files g from trips Whole name bytes file answer is good answers) in
-    run-output Whole codes programs file trips (start (rules_of programs) file) lines answer come.1 e
+outputs-answer g files from (Replay name) trips lines answer h answers =
+    replay-output g files from name trips lines answer h answers
 outputs-answer g files from (Freeze name) trips lines answer
     (file, programs, codes, ((bytes, is, good), h), (texts, are, has), e) answers =
     let come = texts-accepted g from trips (play_of Freezing file) texts [] programs codes answer
@@ -103,6 +113,17 @@ outputs-answer g files from (Thaw frozen name) trips lines answer
     (plays-texts files g from trips (play_of (Thawing frozen) file) texts text answer are held
     (replays-plays files g from trips (Thawing frozen) name bytes file answer is good answers)) in
     thaw-output g from trips frozen codes programs file text image lines answer of stands e come
+outputs-answer g files from (Make number) trips lines answer (file, programs, good, e) (whole, answers, f) =
+    let report = lines_of (journal_of programs file trips) in
+    let out : IsOutput report whole =
+    replay-output g (made_files number) from made_name trips report whole (file, programs, good, refl) answers in
+    let well : answer ≡ record { status = Ok; pieces = made_piece number whole.pieces ∷ [] } =
+    f ∙ summed-well number whole out.well in
+    record {
+      well = ap (λ (a : Answer). a.status) well;
+      is = ap (λ (a : Answer). lines_in a.pieces) well ∙ append-nil (made_line number (lines_in whole.pieces))
+          ∙ ap (λ (z : List ℕ). made_line number z) out.is ∙ sym e;
+    }
 
 -- a frozen world is that of its text
 pub frozen-from : (files : Files) (frozen : List ℕ) (codes : List Code) (programs : List Program) (file : WorldFile)
@@ -143,6 +164,7 @@ outputs-fit files from (Replay name) trips lines h =
     λ bytes file is good texts text are holds programs codes all has. tt
 outputs-fit files from (Freeze name) trips lines h =
     λ bytes file is good texts text are holds programs codes all has. tt
+outputs-fit files from (Make number) trips lines h = tt
 outputs-fit files from (Thaw frozen name) trips lines (file, programs, codes, (world, h), (texts, are, has), given, e) =
     thaw-fits files frozen name file texts programs codes from world are
     (accepted-texts files (names_in file) programs texts h are) has given

@@ -29,7 +29,7 @@ take-begins (suc n) [] = begins-none []
 take-begins (suc n) (x ∷ xs) =
     begins-after x.lines (lines_in (take n xs)) (lines_in xs) (take-begins n xs)
 
-begins-through : {A : Type 0} (xs ys zs : List A) → Begins xs ys → Begins ys zs → Begins xs zs
+pub begins-through : {A : Type 0} (xs ys zs : List A) → Begins xs ys → Begins ys zs → Begins xs zs
 begins-through xs ys zs b c =
     begins-is xs (ys ++ c.others) zs (begins-more xs ys c.others b) c.whole
 

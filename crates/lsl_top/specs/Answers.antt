@@ -1,6 +1,6 @@
 -- What a command answers, by the files, by the world that was frozen before and by what came back of what was sent: a
 -- case for each.
-use Rattle.std.specs.Prelude.{◌≡◌, ℕ, ◌⊎◌, List, [], ◌∷◌, Option}
+use Rattle.std.specs.Prelude.{◌≡◌, ℕ, ◌⊎◌, List, [], ◌∷◌, Option, Some}
 use Rattle.lsl_ports.specs.Shelf.{Files}
 use Rattle.lsl_ports.specs.Trips.{Trip}
 use Rattle.lsl_tree.specs.Program.{Program}
@@ -20,13 +20,14 @@ use Rattle.lsl_world.specs.Starts.{start}
 use Rattle.lsl_world.specs.Travels.{travel}
 use Rattle.lsl_top.specs.Held.{Holds, HoldsFrozen, AreHeld}
 use Rattle.lsl_top.specs.Lines.{accepted_line, image_refusal_of, refusal_of, world_refusal_of}
-use Rattle.lsl_top.specs.Pieces.{Piece, pieces_from}
+use Rattle.lsl_top.specs.Made.{made_files, made_line, made_name}
+use Rattle.lsl_top.specs.Pieces.{Piece, lines_in, pieces_from, sent_in}
 use Rattle.lsl_top.specs.Plays.{Mode, Whole, Freezing, Thawing, Play, play_of, play_of_once}
 use Rattle.lsl_top.specs.Scripts.{AreAccepted, FirstRefused}
 use Rattle.lsl_top.specs.Thaws.{CanThaw, IsThawFault, IsThawOf}
-use Rattle.lsl_top.specs.Words.{Command, Once, Check, Replay, Freeze, Thaw}
+use Rattle.lsl_top.specs.Words.{Command, Once, Check, Replay, Freeze, Thaw, Make}
 use Rattle.lsl_top.specs.declared.status.Status.{Status}
-use Rattle.lsl_top.specs.declared.status.Status.TheVariants.{Ok, BadWorld, BadScript, BadImage}
+use Rattle.lsl_top.specs.declared.status.Status.TheVariants.{Ok, Usage, BadWorld, BadScript, ReadFault, WriteFault, BadImage, NoMemory}
 
 -- how a command ends, with its whole output and all that it hands to the link, piece by piece
 pub record Answer : Type 0 where
@@ -115,6 +116,30 @@ abbrev pub ReplaysFile : Grade → Option Files → World → List Trip → Mode
 ReplaysFile grade held from trips mode name answer =
     (bytes : List ℕ) × Holds held name bytes × Replays grade held from trips mode name bytes answer
 
+-- one line in place of the report of a number's world, behind all that its run sends
+abbrev pub made_piece : ℕ → List Piece → Piece
+made_piece number pieces = record { lines = made_line number (lines_in pieces); sent = sent_in pieces }
+
+-- where the world of a number was run so, what is answered; a refusal stays as it is
+abbrev pub summed_as : Status → ℕ → Answer → Answer
+summed_as Ok number answer = record { status = Ok; pieces = made_piece number answer.pieces ∷ [] }
+summed_as Usage number answer = answer
+summed_as BadWorld number answer = answer
+summed_as BadScript number answer = answer
+summed_as ReadFault number answer = answer
+summed_as WriteFault number answer = answer
+summed_as BadImage number answer = answer
+summed_as NoMemory number answer = answer
+
+abbrev pub summed : ℕ → Answer → Answer
+summed number answer = summed_as answer.status number answer
+
+-- the world of a number is replayed, from texts that no file has
+abbrev pub Makes : Grade → World → List Trip → ℕ → Answer → Type 0
+Makes grade from trips number answer =
+    (whole : Answer) × ReplaysFile grade (Some (made_files number)) from trips Whole made_name whole
+    × (answer ≡ summed number whole)
+
 -- the answer of a command over these files, where this world was frozen before and these trips were made
 abbrev pub Answers : Grade → Option Files → World → List Trip → Command → Answer → Type 0
 Answers grade held from trips (Once name) answer = Plays grade held from trips (play_of_once name) answer
@@ -122,3 +147,4 @@ Answers grade held from trips (Check name) answer = (text : List ℕ) × Holds h
 Answers grade held from trips (Replay name) answer = ReplaysFile grade held from trips Whole name answer
 Answers grade held from trips (Freeze name) answer = ReplaysFile grade held from trips Freezing name answer
 Answers grade held from trips (Thaw frozen name) answer = ReplaysFile grade held from trips (Thawing frozen) name answer
+Answers grade held from trips (Make number) answer = Makes grade from trips number answer

@@ -12,7 +12,7 @@ use Rattle.lsl_top.specs.Held.{Holds, HoldsFrozen, AreHeld}
 use Rattle.lsl_top.specs.Plays.{Mode, Whole, Freezing, Thawing, Play, play_of}
 use Rattle.lsl_top.specs.Scripts.{AreAccepted}
 use Rattle.lsl_top.specs.Thaws.{IsFrom}
-use Rattle.lsl_top.specs.Words.{Command, Once, Check, Replay, Freeze, Thaw}
+use Rattle.lsl_top.specs.Words.{Command, Once, Check, Replay, Freeze, Thaw, Make}
 
 abbrev pub IsFromIn : Mode → List Code → List Program → WorldFile → List ℕ → World → Type 0
 IsFromIn Whole codes programs file text from = Unit {0}
@@ -40,6 +40,7 @@ IsFromOf held (Check name) from = Unit {0}
 IsFromOf held (Replay name) from = IsFromFile held Whole name from
 IsFromOf held (Freeze name) from = IsFromFile held Freezing name from
 IsFromOf held (Thaw frozen name) from = IsFromFile held (Thawing frozen) name from
+IsFromOf held (Make number) from = Unit {0}
 
 abbrev pub IsFromWords : Option Files → Option Command → World → Type 0
 IsFromWords held None from = Unit {0}

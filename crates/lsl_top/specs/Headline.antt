@@ -21,8 +21,9 @@ use Rattle.lsl_world.specs.Reports.{homes, journal_of}
 use Rattle.lsl_world.specs.Starts.{start}
 use Rattle.lsl_world.specs.Steps.{reference}
 use Rattle.lsl_top.specs.Held.{AreHeld}
+use Rattle.lsl_top.specs.Made.{made_files, made_line, made_name}
 use Rattle.lsl_top.specs.Plays.{Mode, Whole, Freezing, Thawing, names_in, once_world}
-use Rattle.lsl_top.specs.Words.{Command, Once, Check, Replay, Freeze, Thaw}
+use Rattle.lsl_top.specs.Words.{Command, Once, Check, Replay, Freeze, Thaw, Make}
 use Rattle.lsl_top.specs.declared.status.Status.{Status}
 use Rattle.lsl_top.specs.declared.status.Status.TheVariants.{Ok, NoMemory}
 
@@ -87,6 +88,9 @@ Outputs files from (Thaw frozen name) trips lines =
     (file : WorldFile) × (programs : List Program) × (codes : List Code) × AreGood files name file programs
     × IsCodeIn files (names_in file) codes × IsFrozenIn files frozen codes programs file from
     × (lines ≡ report_from programs file trips from)
+Outputs files from (Make number) trips lines =
+    (file : WorldFile) × (programs : List Program) × AreGood (made_files number) made_name file programs
+    × (lines ≡ made_line number (lines_of (journal_of programs file trips)))
 
 -- the sink grew by exactly these lines, or memory lacked, and it grew by a prefix of them
 abbrev pub WritesLines : List ℕ → Status → Option (List ℕ) → Option (List ℕ) → Type 0

@@ -6,6 +6,7 @@ pub mod Lines
 pub mod Plays
 pub mod Pieces
 pub mod Thaws
+pub mod Made
 pub mod Answers
 pub mod Froms
 pub mod Named

@@ -9,7 +9,7 @@ use Rattle.lsl_top.specs.declared.words.Command.TheVariants as found
 use Rattle.lsl_top.specs.declared.modes.Mode.{Mode as AMode}
 use Rattle.lsl_top.specs.declared.modes.Mode.TheVariants as modes
 use Rattle.lsl_top.specs.Plays.{Mode, Whole, Freezing, Thawing}
-use Rattle.lsl_top.specs.Words.{Command, Once, Check, Replay, Freeze, Thaw}
+use Rattle.lsl_top.specs.Words.{Command, Once, Check, Replay, Freeze, Thaw, Make}
 
 abbrev pub asked_by : Found → Command
 asked_by (found.Once file) = Once file.now
@@ -17,6 +17,7 @@ asked_by (found.Check file) = Check file.now
 asked_by (found.Replay file) = Replay file.now
 asked_by (found.Freeze file) = Freeze file.now
 asked_by (found.Thaw frozen file) = Thaw frozen.now file.now
+asked_by (found.Make number) = Make number
 
 abbrev pub mode_of : AMode → Mode
 mode_of modes.Whole = Whole

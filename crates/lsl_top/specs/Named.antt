@@ -6,7 +6,7 @@ use Rattle.lsl_lines.specs.World.{IsWorld}
 use Rattle.lsl_lines.specs.declared.file.WorldFile.{WorldFile}
 use Rattle.lsl_top.specs.Held.{Holds}
 use Rattle.lsl_top.specs.Plays.{Mode, Whole, Freezing, Thawing, names_in}
-use Rattle.lsl_top.specs.Words.{Command, Once, Check, Replay, Freeze, Thaw}
+use Rattle.lsl_top.specs.Words.{Command, Once, Check, Replay, Freeze, Thaw, Make}
 
 -- the world's own file, as it is held, is good, and a script of it has its text in the file of that name
 abbrev pub IsNamedInWorld : Option Files → List ℕ → List ℕ → Type 0
@@ -35,6 +35,7 @@ IsNamed held (Check file) name = name ≡ file
 IsNamed held (Replay world) name = IsNamedIn held Whole world name
 IsNamed held (Freeze world) name = IsNamedIn held Freezing world name
 IsNamed held (Thaw frozen world) name = IsNamedIn held (Thawing frozen) world name
+IsNamed held (Make number) name = ⊥
 
 -- the count of one of these files rose
 abbrev pub NamedRose : Option Files → Option Command → (List ℕ → ℕ) → (List ℕ → ℕ) → Type 0

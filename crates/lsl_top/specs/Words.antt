@@ -1,6 +1,7 @@
 -- What a command's words ask for.
-use Rattle.std.specs.Prelude.{ℕ, Bool, false, ◌==◌, ◌&&◌, not, codes, List, [], ◌∷◌, Option, Some, None, if◌then◌else◌, map, string_bytes, String}
+use Rattle.std.specs.Prelude.{ℕ, nat_le, nat_lt, Bool, false, ◌==◌, ◌&&◌, not, codes, decimal, List, [], ◌∷◌, Option, Some, None, option_map, if◌then◌else◌, map, string_bytes, String}
 use Rattle.std.specs.Str.{bytes_eq}
+use Rattle.std.specs.Str.Parse.{digits_value}
 
 -- a command
 pub data Command : Type 0 where
@@ -14,18 +15,29 @@ pub data Command : Type 0 where
   Freeze : (world : List ℕ) → Command
   -- runs a world file from the frozen world of another file
   Thaw : (frozen world : List ℕ) → Command
+  -- runs the world that is made of a number
+  Make : (number : ℕ) → Command
 
 -- a word that may name a file: it isn't empty, and doesn't begin with `-`
 abbrev pub names_file : List ℕ → Bool
 names_file [] = false
 names_file (c ∷ word) = not (c == 45)
 
--- the command of this word, for a file
+-- the number is from 1 to 1,000,000, and the word its decimal digits
+abbrev pub is_number_of : List ℕ → ℕ → Bool
+is_number_of word number = (nat_lt 0 number && nat_le number 1000000) && bytes_eq word (decimal number)
+
+-- the number of a word, if it has one
+abbrev pub number_in : List ℕ → Option ℕ
+number_in word = let number = digits_value 10 word in if is_number_of word number then Some number else None
+
+-- the command of this word, for a file or a number
 abbrev pub command_named : List ℕ → List ℕ → Option Command
 command_named word file = if bytes_eq word (codes "once") then Some (Once file)
     else if bytes_eq word (codes "check") then Some (Check file)
     else if bytes_eq word (codes "replay") then Some (Replay file)
-    else if bytes_eq word (codes "freeze") then Some (Freeze file) else None
+    else if bytes_eq word (codes "freeze") then Some (Freeze file)
+    else if bytes_eq word (codes "make") then option_map Make (number_in file) else None
 
 -- the command of this word, for two files
 abbrev pub command_of_two : List ℕ → List ℕ → List ℕ → Option Command

@@ -11,6 +11,7 @@ ghost use Rattle.lsl_top.specs.Words.{Check, Once};
 
 use crate::building::build_scripts;
 use crate::lines::{acceptance, refusal, world_refusal};
+use crate::making::make;
 use crate::modes::Mode;
 use crate::once::once_world;
 use crate::reading::{file_names, name_at, read_frozen, read_script, read_scripts};
@@ -56,6 +57,7 @@ pub fn serve<S: Shelf, K: Sink, L: Link>(
             sink,
             link,
         ),
+        Command::Make(number) => make(alloc, number, sink, link),
     }
 }
 
@@ -130,7 +132,7 @@ fn once<S: Shelf, K: Sink, L: Link>(
 }
 
 /// Plays a world file, or refuses it.
-fn replay<S: Shelf, K: Sink, L: Link>(
+pub fn replay<S: Shelf, K: Sink, L: Link>(
     alloc: Global,
     mode: Mode<'_>,
     name: &str,

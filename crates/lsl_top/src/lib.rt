@@ -18,6 +18,8 @@ mod building;
 mod commands;
 pub mod laws;
 mod lines;
+mod made_shelf;
+mod making;
 mod modes;
 mod once;
 mod reading;

@@ -2,15 +2,17 @@
 
 ghost use Rattle.std.specs.Prelude.{◌≡◌, ◌++◌, codes, decimal, IfOk, OnOk};
 ghost use Rattle.hex.specs.Hex.{encode_lower};
+ghost use Rattle.lsl_top.specs.Made.{made_line};
 ghost use Rattle.lsl_top.specs.Lines.{accepted_line, detail_of, fault_words, image_refusal_of, number_of_image, place_words, refusal_of, two_words, world_refusal_of};
 
 use hex::encode;
 use itoa::Buffer;
 use lsl_build::BuildFault;
+use lsl_digest::DigestSink;
 use lsl_image::ImageFault;
 use lsl_lines::FileFault;
 use lsl_text::{NoMemory, Span, push_decimal, push_quoted};
-use std::alloc::Global;
+use std::alloc::{AllocError, Global};
 
 /// The line of a script that is accepted. It takes memory for the line.
 pub fn acceptance(alloc: Global, file: &str) -> Result<Vec<u8>, NoMemory>
@@ -57,6 +59,25 @@ pub fn image_refusal(alloc: Global, file: &str, fault: &ImageFault) -> Result<Ve
     out.extend_from_slice(b" fault ")?;
     push_decimal(&mut out, i64::from(image_number(fault)))?;
     push_detail(&mut out, fault)?;
+    out.push(b'\n')?;
+    Ok(out)
+}
+
+/// The line of a number and the report of its world. It takes memory for the line, and answers want of memory also where
+/// the report has more lines than were counted.
+pub fn made_line(alloc: Global, number: u32, report: DigestSink) -> Result<Vec<u8>, NoMemory>
+    ensures { IfOk result (λ line. line.items ≡ made_line number report) }
+{
+    let Some(lines) = report.lines() else {
+        return Err(AllocError);
+    };
+    let mut out = Vec::new(alloc);
+    out.extend_from_slice(b"made")?;
+    push_number(&mut out, u64::from(number))?;
+    out.extend_from_slice(b" lines")?;
+    push_number(&mut out, lines)?;
+    out.extend_from_slice(b" sha256")?;
+    push_hex(&mut out, report.digest().as_slice())?;
     out.push(b'\n')?;
     Ok(out)
 }

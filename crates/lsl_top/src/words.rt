@@ -1,9 +1,11 @@
 //! The words of a command, read by hand.
 ghost use Rattle.std.specs.Prelude.{◌≡◌};
-ghost use Rattle.lsl_top.specs.Words.{command_named, command_of, command_of_two, names_file};
+ghost use Rattle.lsl_top.specs.Words.{command_named, command_of, command_of_two, is_number_of, names_file, number_in};
 ghost use Rattle.lsl_top.specs.Meant.{meant_by};
 
-/// What the words ask for, with the file that they name.
+use itoa::Buffer;
+
+/// What the words ask for, with the file or the number that they name.
 #[derive(Clone, Copy)]
 pub enum Command<'a> {
     /// Runs the script of a file.
@@ -16,6 +18,8 @@ pub enum Command<'a> {
     Freeze(&'a str),
     /// Runs a world file, the second, from the frozen world of the first.
     Thaw(&'a str, &'a str),
+    /// Runs the world that is made of a number.
+    Make(u32),
 }
 
 fn names_file(word: &str) -> bool
@@ -27,6 +31,30 @@ fn names_file(word: &str) -> bool
     }
 }
 
+/// Whether a number is from 1 to 1,000,000, and the word its decimal digits.
+fn is_number_of(word: &str, number: u32) -> bool
+    ensures { result ≡ is_number_of word.now number }
+{
+    let mut digits = Buffer::new();
+    number > 0 && number <= 1_000_000 && word == digits.format(number)
+}
+
+/// The number of a word, if it has one.
+fn number_in(word: &str) -> Option<u32>
+    ensures { number_in word.now ≡ result }
+{
+    match word.parse::<u32>() {
+        Ok(number) => {
+            if is_number_of(word, number) {
+                Some(number)
+            } else {
+                None
+            }
+        }
+        Err(_) => None,
+    }
+}
+
 fn command_named<'a>(word: &str, file: &'a str) -> Option<Command<'a>>
     ensures { command_named word.now file.now ≡ meant_by result }
 {
@@ -35,6 +63,7 @@ fn command_named<'a>(word: &str, file: &'a str) -> Option<Command<'a>>
         "check" => Some(Command::Check(file)),
         "replay" => Some(Command::Replay(file)),
         "freeze" => Some(Command::Freeze(file)),
+        "make" => Some(Command::Make(number_in(file)?)),
         _ => None,
     }
 }

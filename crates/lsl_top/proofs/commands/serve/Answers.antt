@@ -1,10 +1,11 @@
-use Rattle.std.proofs.Common.{sym, ap, subst}
-use Rattle.lsl_top.specs.Answers.{Answers}
+use Rattle.std.proofs.Common.{refl, sym, ap, subst, arith}
+use Rattle.lsl_top.specs.Answers.{Answers, Makes}
 use Rattle.lsl_top.specs.Froms.{IsFromOf}
 use Rattle.lsl_top.specs.Meant.{asked_by}
 use Rattle.lsl_top.specs.Named.{IsNamed}
-use Rattle.lsl_top.specs.Ports.{Serves, ports}
-use Rattle.lsl_top.specs.Words.{Command}
+use Rattle.lsl_top.specs.Ports.{Serves, log, ports, wire}
+use Rattle.lsl_top.specs.Words.{Command, Make}
+use Rattle.lsl_top.proofs.Finishing.{serve-concluded}
 use Rattle.lsl_top.proofs.commands.serve.Goals as goal
 
 pub returns-in-Once : goal.returns-in-Once
@@ -66,3 +67,24 @@ returns-in-Thaw g c =
     (g.K.Sink.faults c.replay-in-Thaw.new.sink) (g.L.Link.trips c.replay-in-Thaw.new.link) (g.L.Link.faults c.replay-in-Thaw.new.link))
     c.replay-in-Thaw.result)
     (sym (ap asked_by c.in-Thaw.is)) c.replay-in-Thaw.ensures
+
+pub returns-in-Make : goal.returns-in-Make
+returns-in-Make g c =
+    let held = g.S.Shelf.held c.args.shelf.now in
+    let faults = g.S.Shelf.faults c.args.shelf.now in
+    let number = c.in-Make.number in
+    subst (λ (command : Command). Serves g.L.Link.gives (IsFromOf held command)
+    (λ grade from trips. Answers grade held from trips command) (IsNamed held command)
+    (ports held faults (g.K.Sink.sunk c.args.sink.now) (g.K.Sink.faults c.args.sink.now)
+    (g.L.Link.trips c.args.link.now) (g.L.Link.faults c.args.link.now))
+    (ports held faults (g.K.Sink.sunk c.make.new.sink) (g.K.Sink.faults c.make.new.sink)
+    (g.L.Link.trips c.make.new.link) (g.L.Link.faults c.make.new.link)) c.make.result)
+    (sym (ap asked_by c.in-Make.is))
+    (serve-concluded g.L.Link.gives (IsFromOf held (Make number))
+    (λ grade from trips. Answers grade held from trips (Make number)) (IsNamed held (Make number)) held held faults faults
+    refl (λ n. omega arith) (λ from. Unit {0}) (λ grade from trips. Makes grade from trips number)
+    (log (g.K.Sink.sunk c.args.sink.now) (g.K.Sink.faults c.args.sink.now))
+    (log (g.K.Sink.sunk c.make.new.sink) (g.K.Sink.faults c.make.new.sink))
+    (wire (g.L.Link.trips c.args.link.now) (g.L.Link.faults c.args.link.now))
+    (wire (g.L.Link.trips c.make.new.link) (g.L.Link.faults c.make.new.link)) c.make.result (λ from fits. tt)
+    (λ grade from trips answer h. h) c.make.ensures)
