@@ -14,6 +14,7 @@ usage: lsl once FILE                runs a script, and prints its journal
                                     both: with --show readably, with --html PAGE as a page with a timeline
        lsl freeze WORLD             plays a world file, and then prints the world as one line
        lsl thaw FROZEN WORLD        goes on from what 'freeze' printed, with the steps of a world file
+       lsl make NUMBER              plays a world made of a number, and prints its report's lines and digest
        lsl check FILE               says that a script is accepted, or tells its first fault
        lsl play FILE ..             plays a script without a world file: 'lsl play --help'
        lsl --try WORDS              the same words, by a program that isn't proved, after a minute at first
@@ -22,9 +23,10 @@ usage: lsl once FILE                runs a script, and prints its journal
 Write ./-x for a file whose name begins with '-'. The first call proves and builds the program, and says for how
 long: about half an hour on four processors. Later calls start at once, until a source of the program changes.
 'tools/explain FILE' tells a script's first fault in words, as 'lsl check FILE' does on a terminal."""
-COMMANDS = ("once", "replay", "freeze", "thaw", "check")
+COMMANDS = ("once", "replay", "freeze", "thaw", "check", "make")
 OF_WORLDS = ("replay", "freeze", "thaw")
 SHOWN = ("once", "replay")
+TAKEN = {"thaw": "two files", "make": "one number"}
 READ_FAULT = 4
 NOT_MADE = 125
 
@@ -33,8 +35,13 @@ class Bad(Exception):
     """Words that are no command."""
 
 
+def is_number(word):
+    """Whether a world is made of the number that the word is."""
+    return len(word) < 8 and word.isascii() and word.isdigit() and word[0] != "0" and int(word) <= 1000000
+
+
 class Options:
-    """A command of the program: its word, its file, the frozen one of a thaw, and how its journal is shown."""
+    """A command of the program: its word, its file or number, the frozen file, and how its journal is shown."""
 
     def __init__(self, words):
         self.command, self.show, self.html, names = words[0], False, None, []
@@ -53,7 +60,9 @@ class Options:
         self.frozen = names.pop(0) if self.command == "thaw" and len(names) == 2 else None
         is_short = self.command == "thaw" and self.frozen is None
         if len(names) != 1 or is_short or (self.html is None and "--html" in words):
-            raise Bad(f"'{self.command}' takes {'two files' if self.command == 'thaw' else 'one file'}")
+            raise Bad(f"'{self.command}' takes {TAKEN.get(self.command, 'one file')}")
+        if self.command == "make" and not is_number(names[0]):
+            raise Bad("'make' takes a number from 1 to 1000000, without leading zeros")
         self.name = names[0]
 
     @property
@@ -63,7 +72,7 @@ class Options:
     @property
     def files(self):
         """The files that its words name, without those that the world names."""
-        return [it for it in (self.frozen, self.name) if it is not None]
+        return [it for it in (self.frozen, self.name) if it is not None and self.command != "make"]
 
     @property
     def scripts(self):
@@ -116,7 +125,7 @@ def carry(binary, command):
     follower, first = standing.Follower(), b""
     with tempfile.TemporaryDirectory(prefix="lsl-") as room, tempfile.TemporaryFile() as notes:
         handed = handed_name(command, room)
-        words = [command.command, *command.files[:-1], handed]
+        words = [command.command, *([command.frozen] if command.frozen is not None else []), handed]
         with subprocess.Popen([binary, *words], stdout=subprocess.PIPE, stderr=notes) as running:
             for piece in iter(lambda: os.read(running.stdout.fileno(), 65536), b""):
                 first = (first + piece)[:4096]

@@ -1,6 +1,7 @@
 -- What is said on standard error where a command doesn't end well: one line, in words.
-use Rattle.std.specs.Prelude.{◌≡◌, ℕ, codes, List, [], ◌∷◌, ◌++◌, map, Option, Some, None}
+use Rattle.std.specs.Prelude.{◌≡◌, ℕ, codes, List, [], ◌∷◌, ◌++◌, map, Option, Some, None, if◌then◌else◌}
 use Rattle.std.specs.Prelude.{String, string_bytes}
+use Rattle.std.specs.Str.{bytes_eq}
 use Rattle.lsl_text.specs.Quoted.{quoted}
 use Rattle.lsl_ports.specs.Growth.{Grew}
 use Rattle.lsl_top.specs.declared.status.Status.{Status}
@@ -10,7 +11,9 @@ use Rattle.lsl_top.specs.declared.status.Status.TheVariants.{ReadFault, WriteFau
 -- what a status means, as a line
 abbrev pub meaning_of : Status → List ℕ
 meaning_of Ok = []
-meaning_of Usage = codes "usage: lsl once FILE | lsl check FILE | lsl replay WORLD | lsl freeze WORLD | lsl thaw FROZEN WORLD\n"
+meaning_of Usage =
+    codes "usage: lsl once FILE | lsl check FILE | lsl replay WORLD | lsl freeze WORLD | lsl thaw FROZEN WORLD"
+    ++ codes " | lsl make NUMBER\n"
 meaning_of BadWorld = codes "not in the form of a world file; standard output has the fault (lsl: status 2)\n"
 meaning_of BadScript = codes "a script isn't accepted; standard output has the fault, tools/explain says it in words (lsl: status 3)\n"
 meaning_of ReadFault = codes "it, or a file that is named in it or beside it, can't be read (lsl: status 4)\n"
@@ -27,9 +30,9 @@ abbrev pub one_of_two : Status → List ℕ → List ℕ → List ℕ
 one_of_two BadImage frozen world = frozen
 one_of_two status frozen world = world
 
--- the file that the words name, and of which a status speaks
+-- the file that the words name, and of which a status speaks; behind `make` stands a number
 abbrev pub named_in : Status → List (List ℕ) → Option (List ℕ)
-named_in status (word ∷ file ∷ []) = Some file
+named_in status (word ∷ file ∷ []) = if bytes_eq word (codes "make") then None else Some file
 named_in status (word ∷ frozen ∷ world ∷ []) = Some (one_of_two status frozen world)
 named_in status _ = None
 

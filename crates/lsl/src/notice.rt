@@ -18,7 +18,8 @@ fn meaning(status: Status) -> &'static str
     match status {
         Status::Ok => "",
         Status::Usage =>
-            "usage: lsl once FILE | lsl check FILE | lsl replay WORLD | lsl freeze WORLD | lsl thaw FROZEN WORLD\n",
+            "usage: lsl once FILE | lsl check FILE | lsl replay WORLD | lsl freeze WORLD | lsl thaw FROZEN WORLD \
+                | lsl make NUMBER\n",
         Status::BadWorld =>
             "not in the form of a world file; standard output has the fault (lsl: status 2)\n",
         Status::BadScript =>
@@ -38,6 +39,7 @@ pub fn named_file(status: Status, words: &[String]) -> Option<&str>
     ensures { file_in status words.now ≡ option_map (λ file. file.now) result }
 {
     match words {
+        [word, _] if word.as_str() == "make" => None,
         [_, file] => Some(file.as_str()),
         [_, frozen, world] => Some(one_of_two(status, frozen.as_str(), world.as_str())),
         _ => None,

@@ -73,13 +73,15 @@ fn each_status_is_said(rt: HostRuntime) -> Result<(), Fail> {
             Case::of(&["replay"], LITERAL),
             1,
             b"".as_slice(),
-            "usage: lsl once FILE | lsl check FILE | lsl replay WORLD | lsl freeze WORLD | lsl thaw FROZEN WORLD\n",
+            "usage: lsl once FILE | lsl check FILE | lsl replay WORLD | lsl freeze WORLD | lsl thaw FROZEN WORLD \
+                | lsl make NUMBER\n",
         ),
         (
             Case::of(&["once", "-x"], LITERAL),
             1,
             b"".as_slice(),
-            "usage: lsl once FILE | lsl check FILE | lsl replay WORLD | lsl freeze WORLD | lsl thaw FROZEN WORLD\n",
+            "usage: lsl once FILE | lsl check FILE | lsl replay WORLD | lsl freeze WORLD | lsl thaw FROZEN WORLD \
+                | lsl make NUMBER\n",
         ),
         (
             Case::of(&["replay", "s.lsl"], b"begin\n"),
@@ -111,6 +113,15 @@ fn each_status_is_said(rt: HostRuntime) -> Result<(), Fail> {
             5,
             b"took 1 ".as_slice(),
             "\"s.lsl\": standard output took no more, and is cut short (lsl: status 5)\n",
+        ),
+        (
+            Case {
+                room: 7,
+                ..Case::of(&["make", "1"], b"")
+            },
+            5,
+            b"made 1 ".as_slice(),
+            "standard output took no more, and is cut short (lsl: status 5)\n",
         ),
     ] {
         let told = case.ended(rt.alloc())?;

@@ -29,7 +29,7 @@ use Rattle.lsl_top.specs.Plays.{Whole, names_in, play_of, play_of_once}
 use Rattle.lsl_top.specs.Promise.{KeepsTo, Wrote, WrotePart}
 use Rattle.lsl_top.specs.Scripts.{AreAccepted}
 use Rattle.lsl_top.specs.Status.{number_of}
-use Rattle.lsl_top.specs.Words.{Command, Once, Check, Replay, Freeze, Thaw}
+use Rattle.lsl_top.specs.Words.{Command, Once, Check, Replay, Freeze, Thaw, Make}
 use Rattle.lsl_top.specs.declared.status.Status.{Status}
 use Rattle.lsl_top.specs.declared.status.Status.TheVariants.{Ok, Usage, BadWorld, BadScript, ReadFault, WriteFault, BadImage, NoMemory}
 use Rattle.lsl_top.proofs.Journals.{journal-pieces, pieces-images}
@@ -95,6 +95,7 @@ none-missing files (Replay name) file programs ((bytes, there, good), h)
 none-missing files (Check name) file programs h missing = absurd h
 none-missing files (Freeze name) file programs h missing = absurd h
 none-missing files (Thaw frozen name) file programs h missing = absurd h
+none-missing files (Make number) file programs h missing = absurd h
 
 module _ (files : Files) (command : Command) (file : WorldFile) (programs : List Program) (trips : List Trip)
     (runs : Runs files command file programs) (copied : AreCopied trips) where
@@ -142,6 +143,7 @@ module _ (files : Files) (command : Command) (file : WorldFile) (programs : List
   answer-run g from (Check name) h answer answers = absurd h
   answer-run g from (Freeze name) h answer answers = absurd h
   answer-run g from (Thaw frozen name) h answer answers = absurd h
+  answer-run g from (Make number) h answer answers = absurd h
 
   module _ (output : List ℕ) where
     abbrev IsThis : Grade → Answer → Type 0
@@ -193,6 +195,7 @@ fits-any files (Replay name) file programs from runs =
 fits-any files (Check name) file programs from runs = absurd runs
 fits-any files (Freeze name) file programs from runs = absurd runs
 fits-any files (Thaw frozen name) file programs from runs = absurd runs
+fits-any files (Make number) file programs from runs = absurd runs
 
 pub headline-of : (files : Files) (command : Command) (file : WorldFile) (programs : List Program) (room : ℕ)
     (status : Status) (output : List ℕ) → Ended files (Some command) room status output
