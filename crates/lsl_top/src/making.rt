@@ -30,7 +30,7 @@ pub fn make<K: Sink, L: Link>(alloc: Global, number: u32, sink: &mut K, link: &m
     }
 }
 
-/// The same of the number's two texts. Where they are refused, the refusal is written as `replay` writes it.
+/// Replays the number's two texts. Where they are refused, the refusal is written as `replay` writes it.
 fn make_of<K: Sink, L: Link>(
     alloc: Global,
     number: u32,
