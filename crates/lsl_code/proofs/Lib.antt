@@ -29,9 +29,11 @@ pub mod Sames
 pub mod Scans
 pub mod Seen
 pub mod Sinking
+pub mod Skipped
 pub mod Stacks
 pub mod Steps
 pub mod Stood
+pub mod Tabled
 pub mod Taking
 pub mod Tested
 pub mod Told

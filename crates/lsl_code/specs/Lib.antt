@@ -10,6 +10,7 @@ pub mod ForwardTests
 pub mod FrameFaults
 pub mod FrameLaws
 pub mod Frames
+pub mod Fusing
 pub mod Kinded
 pub mod Kinds
 pub mod Laws

@@ -9,8 +9,8 @@ ghost use Rattle.lsl_code.specs.Woven.{is_woven};
 ghost use Rattle.lsl_code.specs.WovenBodies.{woven_body};
 
 use crate::functions::{Handler, Point, StateCode};
+use crate::fused_functions::FusedFunctions;
 use crate::sequence::Sequence;
-use crate::woven_functions::WovenCode;
 use lsl_value::{EventId, Values};
 
 /// A script's code as it is run: the digest of its text, the initial globals, its states, the first of which it begins
@@ -23,7 +23,7 @@ pub struct Woven {
     pub digest: [u8; 32],
     pub globals: Values,
     pub states: Sequence<StateCode>,
-    pub functions: Sequence<WovenCode>,
+    pub functions: FusedFunctions,
     pub ghost woven: { IsTrue (is_woven globals states (map woven_body functions)) },
     pub ghost modes: { IsTrue (all_places tells_modes 0 functions) },
 }
