@@ -4,9 +4,9 @@ use Rattle.lsl_code.specs.declared.functions.Point.{Point}
 use Rattle.lsl_code.specs.declared.instructions.Instr.{Instr}
 use Rattle.lsl_code.specs.declared.instructions.Instr.TheVariants.{Jump, JumpIf, JumpIfNot, Tick, Call, Host, Seal, Unpack, Branch}
 use Rattle.lsl_code.specs.Bodies.{Body}
-use Rattle.lsl_code.specs.Laws.{hosts, hosts_of}
+use Rattle.lsl_code.specs.Laws.{hosts}
 use Rattle.lsl_code.specs.ModeStacks.{flat}
-use Rattle.lsl_weave.specs.Layout.{waiting, main, keep_tops, keep_slots, save_block, back_slots, back_tops, back_end, back_block, table, woven_code, all_woven}
+use Rattle.lsl_weave.specs.Layout.{waiting, main, keep_tops, keep_slots, save_block, back_slots, back_tops, back_end, back_block, table, woven_code}
 use Rattle.lsl_weave.specs.UnitLaws.{AsksAlike}
 
 hosts_both : (a b : List Instr) → hosts (a ++ b) ≡ hosts a + hosts b

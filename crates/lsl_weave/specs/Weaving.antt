@@ -1,5 +1,5 @@
 -- The woven unit of a plain one.
-use Rattle.std.specs.Prelude.{◌≡◌, ◌<◌, length, map}
+use Rattle.std.specs.Prelude.{◌≡◌, map}
 use Rattle.lsl_code.specs.declared.functions.FunctionCode.{FunctionCode}
 use Rattle.lsl_code.specs.declared.units.Unit.{Unit as Code}
 use Rattle.lsl_code.specs.declared.woven_functions.WovenCode.{WovenCode}
@@ -23,10 +23,6 @@ woven_function f = record {
   saving = saving_stacks f.slots f.points (woven_code (plain_body f));
   restoring = restoring_stacks f.points (woven_code (plain_body f));
 }
-
--- its places can be numbered
-abbrev pub HasNumbers : WovenCode → Type 0
-HasNumbers w = length w.code < 4294967296
 
 -- the unit is the same but for the code of its functions, which is woven
 pub record IsWovenOf (unit : Code) (woven : Woven) : Type 0 where
