@@ -36,3 +36,6 @@ pub mod Reaching
 pub mod Carried
 pub mod Following
 pub mod Fusing
+pub mod Entries
+pub mod Raced
+pub mod Passed

@@ -7,6 +7,8 @@ pub mod Integers
 pub mod Laid
 pub mod Memory
 pub mod Parking
+pub mod Passing
+pub mod Racing
 pub mod Reservations
 pub mod Rooms
 pub mod State

@@ -19,6 +19,7 @@ ghost use Rattle.lsl_code.specs.Standing.{HasFrames};
 ghost use Rattle.lsl_code.specs.Weaves.{Weaves, most_steps};
 ghost use Rattle.lsl_machine.specs.CallsRestored.{beside};
 ghost use Rattle.lsl_machine.specs.Parking.{HasParked};
+ghost use Rattle.lsl_machine.specs.Passing.{PassesTicks};
 ghost use Rattle.lsl_machine.specs.Memory.{TakesNone};
 ghost use Rattle.lsl_machine.specs.State.{State, IsOf, IsChained, IsCharged, CanRun, Wants, HasEnded, AreArguments, asks_ahead, bodies_of, standing_of, kept_with};
 
@@ -37,6 +38,7 @@ mod limits;
 mod operands;
 mod operating;
 mod performing;
+mod racing;
 mod restoring;
 mod running;
 mod saving;
@@ -165,6 +167,38 @@ impl Machine {
         }
         self.standing = Standing::Ready;
         false
+    }
+
+    /// Passes the tick before which the machine stands, and further ones, at most so many in all, while it meets nothing
+    /// but integers and calls of functions: how many were passed, and whether it stands before a tick again then. Else
+    /// it can run on from where it came to.
+    ///
+    /// Takes memory only to enter a function, and where that is wanting it stops before it.
+    pub fn pass_ticks(&mut self, unit: &Woven, ticks: u32) -> (u32, bool)
+        requires some { 0 < ticks }
+        requires stands { self.old.standing ≡ Standing.AtTick }
+        requires of { IsOf unit.now self.old }
+        ensures runs { (more : ℕ) (answers : List Reply) →
+            halt_from self.old.standing (bodies_of unit.now) self.old.machine (result.0 + more) answers
+            ≡ halt_from self.new.standing (bodies_of unit.now) self.new.machine more answers }
+        ensures passed { PassesTicks unit.now result.0 self.old self.new }
+        ensures some { 0 < result.0 }
+        ensures most { result.0 ≤ ticks }
+        ensures ticks { result.1 ≡ true → self.new.standing ≡ Standing.AtTick }
+        ensures cut { result.1 ≡ true → StandsCut (bodies_of unit.now) self.new }
+        ensures ready { result.1 ≡ false → self.new.standing ≡ Standing.Ready }
+        ensures silent { self.new.machine.answers ≡ [] }
+        ensures of { IsOf unit.now self.new }
+        ensures chained { (handler : ℕ) → IsChained (bodies_of unit.now) handler self.old →
+            IsChained (bodies_of unit.now) handler self.new }
+        ensures charged { IsCharged self.new }
+    {
+        let (passed, at_tick) = self.running.passes_ticks(unit, ticks);
+        if at_tick {
+            return (passed, true);
+        }
+        self.standing = Standing::Ready;
+        (passed, false)
     }
 
     /// Gives the answer to what was asked for: a value of the call's result, or none where it has none. Takes
