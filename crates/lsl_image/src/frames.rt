@@ -95,7 +95,7 @@ fn read_function(
         (field_that U16 (λ f. nat_lt f (length unit.now.functions) && ends_in handler more f)) place result }
 {
     let (function, next) = read_u16(bytes, place)?;
-    if usize::from(function) >= unit.functions.len() {
+    if usize::from(function) >= unit.functions.as_slice().len() {
         return Err(wrong(place));
     }
     if !ends_in(handler, more, function) {

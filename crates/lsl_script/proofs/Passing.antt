@@ -1,15 +1,18 @@
 -- An awake script passes the tick at which it stands.
-use Rattle.std.proofs.Common.{◌≡◌, ℕ, ◌+◌, List, [], ◌++◌, refl, sym, ap, ◌∙◌, subst, arith}
+use Rattle.std.proofs.Common.{◌≡◌, ℕ, false, ◌+◌, ◌-◌, ◌<◌, List, [], ◌++◌, refl, sym, ap, ◌∙◌, subst, arith}
 use Rattle.lsl_running.specs.declared.host.Reply.{Reply}
 use Rattle.lsl_code.specs.declared.woven_units.Woven.{Woven as Code}
 use Rattle.lsl_machine.specs.declared.standing.Halt.TheVariants as halt
 use Rattle.lsl_machine.specs.declared.standing.Standing.TheVariants as standing
 use Rattle.lsl_machine.specs.Futures.{StandsCut, halt_from, ticks_passed}
+use Rattle.lsl_machine.specs.Passing.{NoTick, OneMore, PassesTick, PassesTicks}
 use Rattle.lsl_machine.specs.State.{CanRun, IsOf, State, bodies_of}
 use Rattle.lsl_script.specs.declared.live.Live.{Live}
 use Rattle.lsl_script.specs.declared.live.Turn.TheVariants as turn
 use Rattle.lsl_script.specs.Awake.{GoesOnAs, IsAwake, IsRunning, Run}
 use Rattle.lsl_script.specs.Lives.{IsFresh, Lives, Rests, Turns, flight_run, ticks_due}
+use Rattle.lsl_script.specs.Passing as segments
+use Rattle.lsl_script.specs.Passing.{PassesPart, PassesSegment, PassesSegments, PassesTo}
 use Rattle.lsl_script.specs.Scripts.{Flight, Script}
 use Rattle.lsl_script.proofs.Comes.{more_given}
 use Rattle.lsl_script.proofs.Running.{begun_runs_so, source_on}
@@ -109,3 +112,68 @@ module _ (unit : Code) (live : Live) (new : State) (p : HasPassed unit live.mach
             f.answers l.given;
         run = passed_goes unit live.machine new p (flight_run unit live.handler f) l.ticks f.answers l.run;
       }
+
+-- one of many ticks
+pub of_tick : (unit : Code) (old new : State) → PassesTick unit old new → CanRun new.standing → HasPassed unit old new
+of_tick unit old new one able = record {
+  stands = one.stands;
+  runs = one.runs;
+  able = able;
+  of = one.of;
+  silent = one.silent;
+}
+
+at_tick : (s : State) → s.standing ≡ standing.AtTick → CanRun s.standing
+at_tick s at = subst CanRun (sym at) tt
+
+-- the last of them
+pub record LastTick (unit : Code) (n : ℕ) (old new : State) : Type 0 where
+  pub before : State
+  pub ticks : PassesTicks unit (n - 1) old before
+  pub last : PassesTick unit before new
+
+pub last_tick : (unit : Code) (n : ℕ) (old new : State) → PassesTicks unit n old new → 0 < n → LastTick unit n old new
+last_tick unit n old new (NoTick s) some = absurd (omega (arith, some))
+last_tick unit n old new (OneMore k s t u before one) some =
+    let e : k ≡ k + 1 - 1 = omega arith in
+    record { before = t; ticks = subst (λ (x : ℕ). PassesTicks unit x s t) e before; last = one }
+
+module _ (unit : Code) (live : Live) where
+  abbrev with : State → Live
+  with s = record live { machine = s }
+
+  segment : (s t : State) → PassesTick unit s t → t.standing ≡ standing.AtTick → PassesSegment unit (with s) (with t)
+  segment s t one at = record {
+    beside = record { parts = refl; event = refl; handler = refl; began = refl };
+    source = passed_turns unit (with s) t (of_tick unit s t one (at_tick t at)) at (one.cut at);
+  }
+
+  part : (s t : State) → PassesTick unit s t → t.standing ≡ standing.Ready → PassesPart unit (with s) (with t)
+  part s t one ready = record {
+    beside = record { parts = refl; event = refl; handler = refl; began = refl };
+    source = passed_lives unit (with s) t (of_tick unit s t one (subst CanRun (sym ready) tt)) ready;
+    memory = one.memory ready;
+  }
+
+  pub ticks_segments : (n : ℕ) (s t : State) → PassesTicks unit n s t → t.standing ≡ standing.AtTick
+      → PassesSegments unit n (with s) (with t)
+  ticks_segments n s t (NoTick u) at = segments.NoSegment (with u)
+  ticks_segments n s t (OneMore k u v w before one) at =
+      segments.OneMore k (with u) (with v) (with w) (ticks_segments k u v before one.stands) (segment v w one at)
+
+  pub ticks_awake : (n : ℕ) (s t : State) → PassesTicks unit n s t → CanRun t.standing → IsAwake unit (with s)
+      → IsAwake unit (with t)
+  ticks_awake n s t (NoTick u) able awake = awake
+  ticks_awake n s t (OneMore k u v w before one) able awake =
+      passed_awake unit (with v) w (of_tick unit v w one able)
+      (ticks_awake k u v before (at_tick v one.stands) awake)
+
+  -- to a tick, or on from the last one
+  pub ticks_part : (n : ℕ) (s t : State) → PassesTicks unit n s t → 0 < n → t.standing ≡ standing.Ready
+      → PassesTo false unit (n - 1) (with s) (with t)
+  ticks_part n s t ticks some ready =
+      let l = last_tick unit n s t ticks some in (
+        with l.before,
+        ticks_segments (n - 1) s l.before l.ticks l.last.stands,
+        part l.before t l.last ready,
+      )

@@ -1,9 +1,7 @@
 -- Where a script goes whose handler ended, by how it ended. That it goes on to the state for which it leaves already is
 -- LeavingGoesOn of Laws; with it each case has its rule.
-use Rattle.std.specs.Prelude.{◌≡◌, ◌≢◌, ℕ, Bool, true, false, Option, Some, None}
-use Rattle.lsl_running.specs.declared.ends.Outcome.{Outcome}
+use Rattle.std.specs.Prelude.{◌≡◌, ◌≢◌, ℕ, Bool, true, false, Option, None}
 use Rattle.lsl_running.specs.declared.ends.Outcome.TheVariants as outcome
-use Rattle.lsl_script.specs.declared.going.Going.{Going}
 use Rattle.lsl_script.specs.declared.going.Going.TheVariants.{Stays, Leaves, Enters, Restarts}
 use Rattle.lsl_script.specs.Handlers.{going_of}
 

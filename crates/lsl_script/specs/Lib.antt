@@ -8,6 +8,7 @@ pub mod Resting
 pub mod Fitting
 pub mod Awake
 pub mod Lives
+pub mod Passing
 pub mod FlightLaws
 pub mod RuleLaws
 pub mod Mailing

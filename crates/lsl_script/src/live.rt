@@ -21,6 +21,7 @@ ghost use Rattle.lsl_script.specs.Fitting.{is_exit};
 ghost use Rattle.lsl_script.specs.Handlers.{given};
 ghost use Rattle.lsl_script.specs.Lives.{Lives, Rests, Turns, Waits};
 ghost use Rattle.lsl_script.specs.Mailing.{LendsListens, LendsTimer, listening, ticking, turn_of, with_halt, with_listens, with_timer, with_wake};
+ghost use Rattle.lsl_script.specs.Passing.{PassesTo};
 ghost use Rattle.lsl_script.specs.Scripts.{Flight, Script as Source, entries_of_posting, is_ready, napped, post_to};
 
 use lsl_code::Woven;
@@ -129,6 +130,33 @@ impl Live {
             TakesNone (bodies_of unit.now) self.new.machine }
     {
         self.machine.pass_tick(unit)
+    }
+
+    /// Passes the tick at which the script stands, and further ones, at most so many in all, while its machine meets
+    /// nothing but integers and calls of functions: how many segments were passed whole, and whether it stands at a
+    /// tick again then. Else it can go on to the end of the next segment.
+    ///
+    /// Takes memory only to enter a function, and where that is wanting it stops before it.
+    #[inline(always)]
+    pub fn pass_ticks(&mut self, unit: &Woven, most: u32) -> (u32, bool)
+        requires some { 0 < most }
+        requires stands { self.old.machine.standing ≡ standings.AtTick }
+        requires awake { IsAwake unit.now self.old }
+        ensures passed { PassesTo result.1 unit.now result.0 self.old self.new }
+        ensures some { result.1 ≡ true → 0 < result.0 }
+        ensures most { result.0 ≤ most }
+        ensures left { result.1 ≡ false → result.0 < most }
+        ensures awake { IsAwake unit.now self.new }
+        ensures ticks { result.1 ≡ true → self.new.machine.standing ≡ standings.AtTick }
+        ensures able { CanRun self.new.machine.standing }
+        ensures beside { IsBeside self.old self.new }
+        ensures fresh { self.new.fresh ≡ self.old.fresh }
+    {
+        let (passed, stands) = self.machine.pass_ticks(unit, most);
+        if stands {
+            return (passed, true);
+        }
+        (passed - 1, false)
     }
 
     // From the handler's start: to its first tick, and then on.
