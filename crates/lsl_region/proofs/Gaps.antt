@@ -1,8 +1,8 @@
 -- Sums of gaps, and the cursor that goes along them.
-use Rattle.std.proofs.Common.{◌≡◌, ℕ, zero, suc, ◌+◌, ◌-◌, ◌%◌, ◌<◌, ◌≤◌, ◌⊎◌, inl, inr, Bool, true, false, cond, List, [], ◌∷◌, length, get_or, map, nat_eq, refl, ap, sym, ◌∙◌, subst, arith, eq-eqb, leb}
-use Rattle.std.specs.Prelude.{All, sum, min, ◌↔◌}
-use Rattle.std.specs.List.{Any, list_any, range_with_len}
-use Rattle.std.proofs.Math.Nat.{mod-eq_of_lt, mod-lt, mod_self, suc-mod}
+use Rattle.std.proofs.Common.{◌≡◌, ℕ, zero, suc, ◌+◌, ◌-◌, ◌%◌, ◌<◌, ◌≤◌, ◌⊎◌, inl, inr, Bool, true, false, List, [], ◌∷◌, length, get_or, nat_eq, refl, ap, sym, ◌∙◌, subst, arith, eq-eqb, leb}
+use Rattle.std.specs.Prelude.{min}
+use Rattle.std.specs.List.{range_with_len}
+use Rattle.std.proofs.Math.Nat.{mod-lt, suc-mod}
 use Rattle.std.proofs.lemmas.Bool.Decides.{leb_tells, nat_tests}
 use Rattle.std.proofs.lemmas.List.Folds.{Any-from_list_any, list_any_at}
 use Rattle.std.proofs.lemmas.List.FromFn.{get_or-range_with_len, length-range_with_len, sum_by-map-range_with_len_more}

@@ -24,6 +24,7 @@ pub mod Flying
 pub mod Stops
 pub mod Gaps
 pub mod PausedTurns
+pub mod ManyTicks
 pub mod Saves
 pub mod ChatLaws
 pub mod CutLaws

@@ -1,19 +1,19 @@
 -- What is counted along a turn, segment by segment.
-use Rattle.std.proofs.Common.{◌≡◌, ℕ, zero, suc, ◌+◌, Bool, true, false, cond, List, [], ◌++◌, refl, ap, sym, ◌∙◌, subst, arith}
-use Rattle.std.specs.Prelude.{◌&&◌, if◌then◌else◌, Option, None, is_some, min, nat_lt, not, slice_get}
+use Rattle.std.proofs.Common.{◌≡◌, ℕ, zero, suc, ◌+◌, Bool, true, false, cond, List, [], refl, ap, sym, ◌∙◌, subst, arith}
+use Rattle.std.specs.Prelude.{◌&&◌, if◌then◌else◌, Option, None, is_some, min, nat_lt, not}
 use Rattle.std.specs.declared.result.Result.{Result}
 use Rattle.std.specs.declared.result.Result.TheVariants.{Ok, Err}
 use Rattle.std.proofs.lemmas.Bool.Decides.{nat_tests}
 use Rattle.std.proofs.lemmas.List.FromFn.{sum_by-map-range_with_len_more}
 use Rattle.lsl_code.specs.declared.woven_units.Woven.{Woven as Code}
 use Rattle.lsl_post.specs.declared.entries.Entry.{Entry}
-use Rattle.lsl_post.specs.Journal.{Part, Tells}
+use Rattle.lsl_post.specs.Journal.{Tells}
 use Rattle.lsl_post.specs.Told.{Told, as_value, next_to, quiet, until}
 use Rattle.lsl_script.specs.declared.live.Live.{Live}
 use Rattle.lsl_script.specs.Rules.{Rules}
 use Rattle.lsl_region.specs.Grids.{Contents, Stands}
 use Rattle.lsl_region.specs.PausedTurns.{counted_segment, counted_turn, ends_flying, flies_at, goes_on_at, is_saved, paused_for, pauses_in}
-use Rattle.lsl_region.specs.Pausing.{Counts, Cursor, HasPassed, Tally, is_pausing, most_saves, with_save}
+use Rattle.lsl_region.specs.Pausing.{Counts, Cursor, HasPassed, Tally, most_saves, with_save}
 use Rattle.lsl_region.specs.Segments.{is_ready_at, segment, turn}
 use Rattle.lsl_region.specs.TurnEnds.{CameTo, IsBehind}
 use Rattle.lsl_region.specs.Turning.{InTurn}

@@ -1,6 +1,6 @@
 -- Scripts come into the seats of an object: whose scripts they are then, and what of the seats stays.
 use Rattle.std.proofs.Common.{◌≡◌, ◌≢◌, ◌∙◌, refl, sym, ap, subst, arith, inl, inr, ℕ, suc, zero, Bool, true, false, List, [], ◌∷◌, length}
-use Rattle.std.specs.Prelude.{nat_eq, if◌then◌else◌, Option, Some, None, map, slice_get}
+use Rattle.std.specs.Prelude.{nat_eq, if◌then◌else◌, Option, Some, None, map}
 use Rattle.std.specs.List.{cons_option, filter_map}
 use Rattle.std.specs.Option.{option_map}
 use Rattle.std.proofs.lemmas.Bool.{eqb-true}

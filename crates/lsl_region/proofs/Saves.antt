@@ -1,10 +1,9 @@
 -- A script that is saved and restored in the midst of a turn.
-use Rattle.std.proofs.Common.{◌≡◌, ℕ, ◌+◌, Bool, true, false, List, refl, ap, sym, ◌∙◌, subst}
-use Rattle.std.specs.Prelude.{◌&&◌, if◌then◌else◌, Option, Some, None, nat_le}
+use Rattle.std.proofs.Common.{◌≡◌, ℕ, ◌+◌, Bool, true, false, List, refl, ap, ◌∙◌, subst}
+use Rattle.std.specs.Prelude.{◌&&◌, if◌then◌else◌, Some, None, nat_le}
 use Rattle.lsl_running.specs.declared.kept.Kept.{Kept}
 use Rattle.lsl_code.specs.declared.frames.Frame.{Frame}
 use Rattle.lsl_code.specs.declared.woven_units.Woven.{Woven as Code}
-use Rattle.lsl_post.specs.declared.events.Event.{Event}
 use Rattle.lsl_post.specs.declared.parts.ScriptParts.{ScriptParts}
 use Rattle.lsl_script.specs.declared.live.Live.{Live}
 use Rattle.lsl_script.specs.Awake.{IsAwake, taken_by}
@@ -12,10 +11,10 @@ use Rattle.lsl_script.specs.Fitting.{are_ready}
 use Rattle.lsl_script.specs.Resting.{saved_parts}
 use Rattle.lsl_script.specs.Waking.{TakesNext, WakesAs, taken_at}
 use Rattle.lsl_region.specs.Grids.{Contents}
-use Rattle.lsl_region.specs.PausedTurns.{counted_segment, goes_on_at, is_saved}
+use Rattle.lsl_region.specs.PausedTurns.{counted_segment, goes_on_at}
 use Rattle.lsl_region.specs.Pausing.{Counts, Cursor, Tally, is_pausing, with_save, with_segment}
 use Rattle.lsl_region.specs.TurnEnds.{IsBehind}
-use Rattle.lsl_region.specs.Turning.{Held, IsHeld}
+use Rattle.lsl_region.specs.Turning.{IsHeld}
 use Rattle.lsl_region.specs.Worlds.{World}
 use Rattle.lsl_region.proofs.Gaps.{counts-quiet}
 

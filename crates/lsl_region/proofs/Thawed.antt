@@ -1,6 +1,6 @@
 -- A grid whose objects have the parts of a world's stands for that world.
 use Rattle.std.proofs.Common.{◌≡◌, ◌∙◌, refl, sym, ap, subst, arith, ℕ, ◌<◌, suc, zero, Bool, true, false, List, [], ◌∷◌, length, get_or}
-use Rattle.std.specs.Prelude.{nat_eq, if◌then◌else◌, Option, Some, None, map, slice_get}
+use Rattle.std.specs.Prelude.{if◌then◌else◌, Option, Some, None, map, slice_get}
 use Rattle.std.specs.List.{cons_option, filter_map}
 use Rattle.std.specs.Option.{option_map}
 use Rattle.std.proofs.lemmas.Bool.{eq-eqb}
@@ -8,7 +8,6 @@ use Rattle.std.proofs.lemmas.List.{length-map}
 use Rattle.std.proofs.lemmas.List.FromFn.{get_or-map-range_with_len}
 use Rattle.std.proofs.lemmas.Option.{slice_get-map, slice_get_within}
 use Rattle.lsl_code.specs.declared.woven_units.Woven.{Woven as Code}
-use Rattle.lsl_post.specs.declared.parts.Pair.{Pair}
 use Rattle.lsl_post.specs.declared.parts.ScriptParts.{ScriptParts}
 use Rattle.lsl_image.specs.declared.parts.Placed.{Placed}
 use Rattle.lsl_script.specs.Parts.{parts_of}
@@ -18,7 +17,7 @@ use Rattle.lsl_region.specs.declared.objects.Primitive.{Primitive}
 use Rattle.lsl_region.specs.GridParts.{AreHome, AreScripts, IsHome, fixed_in, fixed_of, lasting, placed_at, placed_in}
 use Rattle.lsl_region.specs.Grids.{ArePlaced, Contents, Stands, nameless, seat_of, vacant}
 use Rattle.lsl_region.specs.Journeys.{contents_of}
-use Rattle.lsl_region.specs.ObjectParts.{name_of, object_in_grid, parts_in_seat, with_unit}
+use Rattle.lsl_region.specs.ObjectParts.{name_of, parts_in_seat, with_unit}
 use Rattle.lsl_region.specs.Worlds.{Member, World, no_object}
 use Rattle.lsl_region.proofs.Outlines.{vacant-read}
 

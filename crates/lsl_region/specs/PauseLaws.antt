@@ -1,5 +1,5 @@
 -- Which segments pause, in words of sums, and what is counted without gaps.
-use Rattle.std.specs.Prelude.{◌≡◌, ℕ, ◌+◌, ◌<◌, true, false, ◌↔◌, List, [], sum}
+use Rattle.std.specs.Prelude.{◌≡◌, ℕ, ◌<◌, true, false, ◌↔◌, List, []}
 use Rattle.lsl_script.specs.Rules.{Rules}
 use Rattle.lsl_region.specs.PausedTurns.{counted_turn, ends_flying}
 use Rattle.lsl_region.specs.Pausing.{AreGaps, Tally, is_pausing, sum_of_gaps, with_save}

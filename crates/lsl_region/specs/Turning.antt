@@ -1,8 +1,8 @@
 -- What the grid and an awake script stand for within a turn.
-use Rattle.std.specs.Prelude.{◌≡◌, ℕ, ◌+◌, List, ◌++◌, Option, Some, None, slice_get, slice_set, true}
+use Rattle.std.specs.Prelude.{◌≡◌, ℕ, ◌+◌, Bool, false, List, ◌++◌, Option, Some, None, slice_get, slice_set, true}
 use Rattle.lsl_code.specs.declared.woven_units.Woven.{Woven as Code}
 use Rattle.lsl_code.specs.Weaves.{Weaves}
-use Rattle.lsl_machine.specs.State.{asks_ahead, bodies_of}
+use Rattle.lsl_machine.specs.State.{CanRun, asks_ahead, bodies_of}
 use Rattle.lsl_machine.specs.declared.standing.Standing.TheVariants as standing
 use Rattle.lsl_post.specs.declared.entries.Entry.{Entry}
 use Rattle.lsl_post.specs.declared.parts.ScriptParts.{ScriptParts}
@@ -15,6 +15,7 @@ use Rattle.lsl_script.specs.Codes.{HasUnit, rules_of}
 use Rattle.lsl_script.specs.Fitting.{are_ready}
 use Rattle.lsl_script.specs.Lawful.{AsksAtMost}
 use Rattle.lsl_script.specs.Lives.{Lives, Rests, Turns}
+use Rattle.lsl_script.specs.Passing.{PassesPart, PassesTo}
 use Rattle.lsl_script.specs.Rules.{Rules}
 use Rattle.lsl_script.specs.Scripts.{Flight, Flying}
 use Rattle.lsl_region.specs.declared.grid.Seat.{Seat}
@@ -138,3 +139,20 @@ pub record Held (codes : List Code) (unit : Code) (clock place : ℕ) (grid : Co
 abbrev pub InTurn : List Code → Code → (clock place : ℕ) → Contents → Option Live → World → Type 0
 InTurn codes unit clock place grid None w = Stands codes None clock grid w
 InTurn codes unit clock place grid (Some live) w = Held codes unit clock place grid live w
+
+-- a script that is awake can go on
+abbrev pub IsAble : Code → Option Live → Type 0
+IsAble unit None = Unit {0}
+IsAble unit (Some live) = IsAwake unit live × CanRun live.machine.standing
+
+-- within a segment: the script went on from its tick, or isn't awake yet
+abbrev pub IsAmid : List Code → Code → (clock place : ℕ) → Contents → Option Live → World → Type 0
+IsAmid codes unit clock place grid None w = Stands codes None clock grid w
+IsAmid codes unit clock place grid (Some live) w =
+    (mid : Live) × Held codes unit clock place grid mid w × PassesPart unit mid live
+
+-- so many segments on integers and calls of functions alone, and whether it stands at a tick then
+abbrev pub PassesAwake : Bool → Code → ℕ → Option Live → Option Live → Type 0
+PassesAwake stands unit n None None = (n ≡ 0) × (stands ≡ false)
+PassesAwake stands unit n (Some old) (Some new) = PassesTo stands unit n old new
+PassesAwake stands unit n old new = ⊥

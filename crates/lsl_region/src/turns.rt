@@ -1,6 +1,6 @@
 //! Turns of scripts: segment by segment, while they can run.
 
-ghost use Rattle.std.specs.Prelude.{◌≡◌, ◌<◌, ◌≤◌, ◌-◌, ℕ, List, IsTrue, None, is_some, length, IfOk, OnOk};
+ghost use Rattle.std.specs.Prelude.{◌≡◌, ◌<◌, ◌≤◌, ◌-◌, ℕ, List, IsTrue, None, false, is_some, length, true, IfOk, OnOk};
 ghost use Rattle.lsl_code.specs.declared.woven_units.Woven.{Woven as Code};
 ghost use Rattle.lsl_post.specs.Journal.{Tells};
 ghost use Rattle.lsl_post.specs.Timing.{latest_clock};
@@ -10,7 +10,7 @@ ghost use Rattle.lsl_region.specs.PausedTurns.{counted_turn, paused_for};
 ghost use Rattle.lsl_region.specs.Pausing.{Counts, Tally, with_save};
 ghost use Rattle.lsl_region.specs.Segments.{is_ready_at, segment, turn};
 ghost use Rattle.lsl_region.specs.TurnEnds.{CameTo, IsBehind};
-ghost use Rattle.lsl_region.specs.Turning.{InTurn, IsHeld, IsReadyInTurn, IsUnitAt};
+ghost use Rattle.lsl_region.specs.Turning.{InTurn, IsAble, IsAmid, IsHeld, IsReadyInTurn, IsUnitAt, PassesAwake};
 ghost use Rattle.lsl_region.specs.Worlds.{World};
 
 use crate::grid::Grid;
@@ -155,13 +155,20 @@ impl Grid {
         ensures len { length self.new.seats ≡ length self.old.seats }
         ensures outline { outline_of self.new ≡ outline_of self.old }
     {
-        for spent in 0..ticks {
+        let mut spent = 0;
+        'segments: while spent < ticks {
             if !self.is_ready_in_turn(place, live, clock) {
                 return Ok(spent);
             }
-            self.segment(place, live, clock, library, unit, out)?;
+            let (passed, stands) = pass_ticks(live, unit, ticks - spent);
+            spent += passed;
+            if stands {
+                continue 'segments;
+            }
+            self.finish_segment(place, live, clock, library, unit, out)?;
+            spent += 1;
         }
-        Ok(ticks)
+        Ok(spent)
     }
 
     // Whether the script at this place, which may be awake at a tick, can run.
@@ -208,6 +215,41 @@ impl Grid {
                 if awake.pass_tick(unit) {
                     return Ok(());
                 }
+                let turn = awake.go(unit);
+                self.go_on(place, live, turn, clock, library, unit, out)
+            }
+            None => self.first_segment(place, live, clock, library, unit, out),
+        }
+    }
+
+    // The rest of a segment of the script at this place, or all of it where the script isn't awake yet.
+    fn finish_segment(
+        &mut self,
+        place: usize,
+        live: &mut Option<Live>,
+        clock: u64,
+        library: &Library,
+        unit: &Woven,
+        out: &mut Entries,
+    ) -> Result<(), NoMemory>
+        requires place { place < length self.old.seats }
+        requires clock { clock ≤ latest_clock }
+        requires seated { AreSeated library.now self.old.seats }
+        requires unit { IsUnitAt library.now unit.now self.old.seats place }
+        requires able { IsAble unit.now live.old }
+        requires ready { IsReadyInTurn clock self.old.seats place live.old }
+        ensures does { (m : Meant library.now) (w : World) →
+            IsAmid library.now unit.now clock place self.old live.old w →
+            Tells result (λ v _. IsBehind library.now unit.now clock place self.new live.new v) out.old out.new
+            (segment m.rules place w) }
+        ensures seated { OnOk result (AreSeated library.now self.new.seats) }
+        ensures unit { OnOk result (IsUnitAt library.now unit.now self.new.seats place) }
+        ensures held { OnOk result (IsHeld unit.now live.new) }
+        ensures len { length self.new.seats ≡ length self.old.seats }
+        ensures outline { outline_of self.new ≡ outline_of self.old }
+    {
+        match live {
+            Some(awake) => {
                 let turn = awake.go(unit);
                 self.go_on(place, live, turn, clock, library, unit, out)
             }
@@ -273,5 +315,24 @@ impl Grid {
             pause.count();
         }
         Ok(())
+    }
+}
+
+// Segments of a script that is awake, at most so many, on integers and calls of functions alone: how many, and whether
+// it stands at a tick then. Else it is within the next one, or not awake.
+#[inline(always)]
+fn pass_ticks(live: &mut Option<Live>, unit: &Woven, most: u32) -> (u32, bool)
+    requires some { 0 < most }
+    requires held { IsHeld unit.now live.old }
+    ensures passed { PassesAwake result.1 unit.now result.0 live.old live.new }
+    ensures some { result.1 ≡ true → 0 < result.0 }
+    ensures most { result.0 ≤ most }
+    ensures left { result.1 ≡ false → result.0 < most }
+    ensures held { result.1 ≡ true → IsHeld unit.now live.new }
+    ensures able { IsAble unit.now live.new }
+{
+    match live {
+        Some(awake) => awake.pass_ticks(unit, most),
+        None => (0, false),
     }
 }

@@ -5,7 +5,6 @@ use Rattle.lsl_value.specs.declared.tagged.Kind.TheVariants as kind
 use Rattle.lsl_value.specs.declared.names.EventId.TheVariants.{TouchStart}
 use Rattle.lsl_code.specs.declared.functions.Handler.{Handler}
 use Rattle.lsl_code.specs.declared.functions.Point.{Point}
-use Rattle.lsl_code.specs.declared.functions.StateCode.{StateCode}
 use Rattle.lsl_code.specs.declared.instructions.Instr.{Instr}
 use Rattle.lsl_code.specs.declared.instructions.Instr.TheVariants.{Int, Set, Tick, Jump, JumpIfNot, Return, TestSave, KeepSlot, Seal, TestBack, Unpack, Branch, BackSlot, Awake}
 use Rattle.lsl_code.specs.declared.woven_functions.WovenCode.{WovenCode}

@@ -1,13 +1,13 @@
 //! A unit whose code keeps two values of one kind in the other order: saving and restoring are done by the code.
 
-ghost use Rattle.std.specs.Prelude.{◌≡◌, IfOk};
+ghost use Rattle.std.specs.Prelude.{◌≡◌, [], ◌∷◌, IfOk};
 ghost use Rattle.lsl_world_tests.specs.Exchanged.{exchanged_code, exchanged_points, exchanged_running};
 ghost use Rattle.lsl_world_tests.specs.Exchanged.{exchanged_restoring, exchanged_saving};
 
 use crate::driving::{behind_ticks, to_tick};
 use crate::hosting::unit_of;
 use crate::saved::moved;
-use lsl_code::{Handler, Instr, Point, Sequence, StateCode, Woven, WovenCode};
+use lsl_code::{FusedFunctions, Handler, Instr, Point, Sequence, StateCode, Woven, WovenCode};
 use lsl_text::NoMemory;
 use lsl_value::{EventId, Kind, Text, Values};
 use std::alloc::Global;
@@ -223,9 +223,23 @@ fn function(alloc: Global) -> Result<WovenCode, NoMemory>
     })
 }
 
+/// A list of it alone.
+fn listed(alloc: Global) -> Result<Sequence<WovenCode>, NoMemory>
+    ensures { IfOk result (λ functions. functions ≡ exchanged_code ∷ []) }
+{
+    let functions = vec![in alloc; function(alloc)?]?;
+    Ok(Sequence::from_vec(functions))
+}
+
+/// It alone, with its table.
+fn functions(alloc: Global) -> Result<FusedFunctions, NoMemory>
+    ensures { IfOk result (λ functions. functions ≡ exchanged_code ∷ []) }
+{
+    Ok(FusedFunctions::new(alloc, listed(alloc)?)?)
+}
+
 /// The unit that has it as its handler of a touch.
 fn exchanged(alloc: Global) -> Result<Woven, NoMemory> {
-    let functions = vec![in alloc; function(alloc)?]?;
     let handler = Handler {
         event: EventId::TouchStart,
         function: 0,
@@ -240,7 +254,7 @@ fn exchanged(alloc: Global) -> Result<Woven, NoMemory> {
         digest: [0; 32],
         globals: Values::new(alloc),
         states: Sequence::from_vec(states),
-        functions: Sequence::from_vec(functions),
+        functions: functions(alloc)?,
     })
 }
 

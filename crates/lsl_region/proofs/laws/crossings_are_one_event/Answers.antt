@@ -1,9 +1,9 @@
-use Rattle.std.proofs.Common.{◌≡◌, Bool, true, false, if◌then◌else◌, refl, ap}
+use Rattle.std.proofs.Common.{Bool, if◌then◌else◌, refl, ap}
 use Rattle.std.proofs.lemmas.List.{get_or-set_other, get_or-set_same}
-use Rattle.lsl_post.specs.Told.{Told, quiet}
+use Rattle.lsl_post.specs.Told.{quiet}
 use Rattle.lsl_region.specs.Crossings.{region_changed}
-use Rattle.lsl_region.specs.Journeys.{arrive, is_in_region}
-use Rattle.lsl_region.specs.Worlds.{World, no_object, object_at, with_object}
+use Rattle.lsl_region.specs.Journeys.{arrive}
+use Rattle.lsl_region.specs.Worlds.{no_object, object_at, with_object}
 use Rattle.lsl_region.proofs.laws.crossings_are_one_event.Goals as goal
 
 pub returns-clause-elsewhere : goal.returns-clause-elsewhere

@@ -1,15 +1,17 @@
-use Rattle.std.proofs.Common.{◌≡◌, ◌∙◌, ◌+◌, ℕ, ap, arith, refl, subst, sym}
-use Rattle.std.specs.Prelude.{not}
+use Rattle.std.proofs.Common.{◌≤◌, ◌∙◌, ◌+◌, ℕ, ap, arith, refl, subst, sym}
+use Rattle.std.specs.Prelude.{Bool, not}
 use Rattle.std.proofs.lemmas.Result.{MatchResult-from_err}
 use Rattle.lsl_post.proofs.Amid.{again-end, again-err, again-ok, again-start, again-stops}
 use Rattle.lsl_region.specs.TurnEnds.{CameTo}
-use Rattle.lsl_region.specs.Turning.{IsHeld}
+use Rattle.lsl_region.specs.Turning.{IsHeld, PassesAwake}
 use Rattle.lsl_region.specs.Worlds.{World}
+use Rattle.lsl_region.proofs.ManyTicks.{passed-amid, passed-came, ready-still}
 use Rattle.lsl_region.proofs.PausedTurns.{came-first, came-more}
 use Rattle.lsl_region.proofs.grid.Grid.segments.Goals as goal
 
-pub loop-spent-init : goal.loop-spent-init
-loop-spent-init c = record {
+pub segments-init : goal.segments-init
+segments-init c = record {
+  within = omega arith;
   len = refl;
   outline = refl;
   seated = c.requires.seated;
@@ -22,42 +24,103 @@ loop-spent-init c = record {
 
 pub returns-then-not-is_ready_in_turn-clause-does : goal.returns-then-not-is_ready_in_turn-clause-does
 returns-then-not-is_ready_in_turn-clause-does c = λ m w st.
-    again-stops _ _ _ _ _ _ _ _ (c.loop-spent.invariant.again m w st)
+    again-stops _ _ _ _ _ _ _ _ (c.segments.invariant.again m w st)
     (λ x r. ap not (sym (c.is_ready_in_turn.ensures.source c.args.library.now c.args.unit.now x.0 r.0)
     ∙ c.if-not-is_ready_in_turn.true))
 
-pub returns-in_err-segment-clause-does : goal.returns-in_err-segment-clause-does
-returns-in_err-segment-clause-does c = λ m w st.
-    MatchResult-from_err c.from_residual.result _ _ c.from_residual.ensures.0
-    (λ y. again-err _ _ _ _ _ _ _ _ (c.loop-spent.invariant.again m w st) _ c.loop-spent-test.true
-    (λ x r. ap not (sym (c.is_ready_in_turn.ensures.source c.args.library.now c.args.unit.now x.0 r.0)
-    ∙ c.if-not-is_ready_in_turn.false))
-    (λ x r. c.in_err-segment.ensures.does m x.0 r.0))
+pub segments-preserved-then-stands : goal.segments-preserved-then-stands
+segments-preserved-then-stands c =
+    let codes = c.args.library.now in
+    let unit = c.args.unit.now in
+    let n = c.pass_ticks-passed.result.0 in
+    let inv = c.segments.invariant in
+    let made = c.pass_ticks-passed.ensures in
+    let test = c.segments-test.true in
+    let most = made.most in
+    let fits : c.segments.spent + n ≤ c.args.ticks = omega arith in
+    let p = subst (λ (b : Bool). PassesAwake b unit n c.segments.live c.pass_ticks-passed.new.live) c.if-stands.true
+    made.passed in
+    record {
+      within = fits;
+      len = inv.len;
+      outline = inv.outline;
+      seated = inv.seated;
+      unit = inv.unit;
+      held = made.held c.if-stands.true;
+      again = λ m w st. passed-came codes unit c.args.clock c.args.place c.segments.self m _ _ _ _ c.segments.spent n fits
+          c.segments.live c.pass_ticks-passed.new.live p
+          (λ v t. sym (c.is_ready_in_turn.ensures.source codes unit v t) ∙ c.if-not-is_ready_in_turn.false)
+          (inv.again m w st);
+    }
 
-pub loop-spent-preserved : goal.loop-spent-preserved
-loop-spent-preserved c =
+pub segments-smaller-then-stands : goal.segments-smaller-then-stands
+segments-smaller-then-stands c =
+    let test = c.segments-test.true in
+    let some = c.pass_ticks-passed.ensures.some c.if-stands.true in
+    omega arith
+
+pub finish_segment-requires-clause-ready : goal.finish_segment-requires-clause-ready
+finish_segment-requires-clause-ready c =
+    ready-still c.pass_ticks-passed.result.1 c.args.unit.now c.pass_ticks-passed.result.0 c.args.clock c.args.place
+    c.segments.self.seats c.segments.live c.pass_ticks-passed.new.live c.pass_ticks-passed.ensures.passed
+    (c.is_ready_in_turn.ensures.ready c.if-not-is_ready_in_turn.false)
+
+pub returns-in_err-finish_segment-clause-does : goal.returns-in_err-finish_segment-clause-does
+returns-in_err-finish_segment-clause-does c = λ m w st.
+    let codes = c.args.library.now in
+    let unit = c.args.unit.now in
+    let n = c.pass_ticks-passed.result.0 in
+    let test = c.segments-test.true in
+    let most = c.pass_ticks-passed.ensures.most in
+    let left = c.pass_ticks-passed.ensures.left c.if-stands.false in
+    let fits : c.segments.spent + n ≤ c.args.ticks = omega arith in
+    let p = subst (λ (b : Bool). PassesAwake b unit n c.segments.live c.pass_ticks-passed.new.live) c.if-stands.false
+    c.pass_ticks-passed.ensures.passed in
+    let far = passed-amid codes unit c.args.clock c.args.place c.segments.self m _ _ _ _ c.segments.spent n fits
+    c.segments.live c.pass_ticks-passed.new.live p
+    (λ v t. sym (c.is_ready_in_turn.ensures.source codes unit v t) ∙ c.if-not-is_ready_in_turn.false)
+    (c.segments.invariant.again m w st) in
+    MatchResult-from_err c.from_residual.result _ _ c.from_residual.ensures.0
+    (λ y. again-err _ _ _ _ _ _ _ _ far _ (omega arith) (λ x r. r.2)
+    (λ x r. c.in_err-finish_segment.ensures.does m x.0 r.0))
+
+pub segments-preserved : goal.segments-preserved
+segments-preserved c =
     let codes = c.args.library.now in
     let unit = c.args.unit.now in
     let place : ℕ = c.args.place in
+    let n = c.pass_ticks-passed.result.0 in
+    let inv = c.segments.invariant in
+    let made = c.pass_ticks-passed.ensures in
+    let done = c.in_ok-finish_segment.ensures in
+    let test = c.segments-test.true in
+    let most = made.most in
+    let left = made.left c.if-stands.false in
+    let fits : c.segments.spent + n ≤ c.args.ticks = omega arith in
+    let p = subst (λ (b : Bool). PassesAwake b unit n c.segments.live c.pass_ticks-passed.new.live) c.if-stands.false
+    made.passed in
     record {
-      len = c.in_ok-segment.ensures.len ∙ c.loop-spent.invariant.len;
-      outline = c.in_ok-segment.ensures.outline ∙ c.loop-spent.invariant.outline;
-      seated = c.in_ok-segment.ensures.seated;
-      unit = c.in_ok-segment.ensures.unit;
-      held = c.in_ok-segment.ensures.held;
-      again = λ m w st. again-ok _ _ _ _ _ _ _ _ (c.loop-spent.invariant.again m w st)
-          (λ (x : World × ℕ). CameTo codes unit c.args.clock place c.segment.new.self c.segment.new.live x
-          (c.loop-spent.spent + 1)) _ c.loop-spent-test.true
-          (λ x r. ap not (sym (c.is_ready_in_turn.ensures.source codes unit x.0 r.0) ∙ c.if-not-is_ready_in_turn.false))
-          (λ x r. let d = c.in_ok-segment.ensures.does m x.0 r.0 in (
-            came-more codes unit c.args.clock place c.segment.new.self c.segment.new.live _ x.1 c.loop-spent.spent r.1 d.0,
+      within = omega arith;
+      len = done.len ∙ inv.len;
+      outline = done.outline ∙ inv.outline;
+      seated = done.seated;
+      unit = done.unit;
+      held = done.held;
+      again = λ m w st.
+          let far = passed-amid codes unit c.args.clock place c.segments.self m _ _ _ _ c.segments.spent n fits
+          c.segments.live c.pass_ticks-passed.new.live p
+          (λ v t. sym (c.is_ready_in_turn.ensures.source codes unit v t) ∙ c.if-not-is_ready_in_turn.false)
+          (inv.again m w st) in
+          again-ok _ _ _ _ _ _ _ _ far
+          (λ (x : World × ℕ). CameTo codes unit c.args.clock place c.finish_segment.new.self c.finish_segment.new.live x
+          (c.segments.spent + n + 1)) _ (omega arith) (λ x r. r.2)
+          (λ x r. let d = done.does m x.0 r.0 in (
+            came-more codes unit c.args.clock place c.finish_segment.new.self c.finish_segment.new.live _ x.1
+                (c.segments.spent + n) r.1 d.0,
             d.1,
           ));
     }
 
 pub returns-clause-does : goal.returns-clause-does
 returns-clause-does c = λ m w st.
-    let a = c.loop-spent.invariant.again m w st in
-    let d = again-end _ _ _ _ _ _ _ _ a c.loop-spent-test.false in
-    let e : c.args.ticks ≡ c.loop-spent.spent = omega (arith, a.span, c.loop-spent-test.false) in
-    ((d.0.0, e ∙ d.0.1, d.0.2), d.1)
+    again-end _ _ _ _ _ _ _ _ (c.segments.invariant.again m w st) (omega (arith, c.segments-test.false))

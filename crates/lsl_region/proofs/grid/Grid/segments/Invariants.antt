@@ -1,4 +1,4 @@
-use Rattle.std.proofs.Common.{◌≡◌, ◌+◌, length}
+use Rattle.std.proofs.Common.{◌≡◌, ◌+◌, ◌-◌, ◌≤◌, length}
 use Rattle.std.specs.Prelude.{ℕ, None, not}
 use Rattle.lsl_post.specs.Told.{as_value}
 use Rattle.lsl_post.proofs.Amid.{Again}
@@ -10,9 +10,10 @@ use Rattle.lsl_region.specs.Turning.{IsHeld, IsUnitAt}
 use Rattle.lsl_region.specs.Worlds.{World}
 use Rattle.lsl_region.proofs.grid.Grid.segments.Given as goal
 
-abbrev pub invariant-loop-spent : goal.invariant-loop-spent
-invariant-loop-spent l =
+abbrev pub invariant-segments : goal.invariant-segments
+invariant-segments l =
     record {
+      within : l.spent ≤ l.ticks;
       len : length l.self.seats ≡ length l.fn.self.seats;
       outline : outline_of l.self ≡ outline_of l.fn.self;
       seated : AreSeated l.library l.self.seats;
@@ -24,3 +25,6 @@ invariant-loop-spent l =
           (λ x. not (is_ready_at x.0 l.place))
           (λ x. as_value (λ v. (v, x.1 + 1)) (segment m.rules l.place x.0)) l.spent l.ticks;
     }
+
+abbrev pub decreases-segments : goal.decreases-segments
+decreases-segments l = l.ticks - l.spent

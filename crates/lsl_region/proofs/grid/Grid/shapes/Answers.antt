@@ -3,7 +3,6 @@ use Rattle.std.specs.Prelude.{map}
 use Rattle.std.specs.List.{range_with_len}
 use Rattle.std.proofs.lemmas.List.{map-append}
 use Rattle.std.proofs.lemmas.List.FromFn.{map-range_with_len_more}
-use Rattle.lsl_image.specs.declared.parts.Placed.{Placed}
 use Rattle.lsl_image.specs.declared.parts.Shape.{Shape}
 use Rattle.lsl_image.specs.Valid.{placed_shape, shape_of}
 use Rattle.lsl_region.specs.GridParts.{placed_at}

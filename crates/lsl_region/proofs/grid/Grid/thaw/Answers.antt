@@ -1,4 +1,4 @@
-use Rattle.std.proofs.Common.{◌≡◌, ◌∙◌, ℕ, List, ◌∷◌, ◌++◌, [], ap, arith, drop, length, subst, sym}
+use Rattle.std.proofs.Common.{◌≡◌, ◌∙◌, ℕ, List, ◌++◌, ap, arith, drop, length, subst, sym}
 use Rattle.std.specs.Prelude.{map, slice_set}
 use Rattle.std.specs.List.{AllByRecursion}
 use Rattle.lsl_image.specs.declared.parts.Placed.{Placed}

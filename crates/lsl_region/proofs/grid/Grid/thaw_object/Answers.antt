@@ -1,8 +1,7 @@
-use Rattle.std.proofs.Common.{◌≡◌, ◌∙◌, List, ap, subst, sym}
+use Rattle.std.proofs.Common.{◌∙◌, List, ap, subst, sym}
 use Rattle.lsl_image.specs.declared.parts.Shape.{Shape}
 use Rattle.lsl_region.specs.declared.grid.Seat.{Seat}
 use Rattle.lsl_region.specs.GridParts.{AreHome, fixed_of, placed_in}
-use Rattle.lsl_region.specs.Grids.{Contents}
 use Rattle.lsl_region.specs.ObjectParts.{reseated}
 use Rattle.lsl_region.proofs.Refilling.{home-reseated}
 use Rattle.lsl_region.proofs.Thawing.{refilled-fixed, refilled-is, refilled-parts}
