@@ -13,6 +13,7 @@ pub mod ForwardTold
 pub mod Following
 pub mod Further
 pub mod Keeping
+pub mod Lined
 pub mod MachineKinds
 pub mod Made
 pub mod ModeRuns

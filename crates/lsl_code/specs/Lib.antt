@@ -19,6 +19,7 @@ pub mod ModeLaws
 pub mod ModeRuns
 pub mod ModeStacks
 pub mod Modes
+pub mod Naming
 pub mod Pieces
 pub mod Restoring
 pub mod Runs

@@ -17,6 +17,7 @@ mod kind_stack;
 pub mod laws;
 mod library;
 pub mod mode_laws;
+mod naming;
 mod sequence;
 mod signatures;
 mod skipping;
