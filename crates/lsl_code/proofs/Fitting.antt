@@ -1,8 +1,7 @@
 -- Frames from the one of a number on, and all frames.
-use Rattle.std.proofs.Common.{◌≡◌, ◌↔◌, ℕ, suc, ◌+◌, ◌-◌, ◌<◌, List, ◌∷◌, length, take, drop, get_or, Option, Some, None, Bool, false, sym, ap, ◌∙◌, subst, arith}
-use Rattle.std.proofs.Math.Seq.{drop-cons, take-length}
-use Rattle.std.proofs.lemmas.List.{length-drop}
-use Rattle.std.specs.Prelude.{IsTrue}
+use Rattle.std.proofs.Common.{◌≡◌, ◌↔◌, ℕ, zero, suc, ◌+◌, ◌<◌, List, [], ◌∷◌, length, drop, get_or, Option, Some, None, Bool, false, sym, ap, ◌∙◌, subst, arith}
+use Rattle.std.proofs.Math.Seq.{drop-cons}
+use Rattle.std.specs.Prelude.{IsTrue, slice_get}
 use Rattle.lsl_code.specs.declared.frames.Frame.{Frame}
 use Rattle.lsl_code.specs.Frames.{Points, FitsFrame, FitFrames, FirstUnfit}
 
@@ -12,8 +11,12 @@ one_off xs i x lt is =
     let z : suc i ≡ i + 1 = omega arith in
     drop-cons xs i x lt ∙ ap (λ y. y ∷ drop (suc i) xs) (sym is) ∙ ap (λ n. x ∷ drop n xs) z
 
-pub range_to_end : {A : Type 0} (xs : List A) (n : ℕ) → take (length xs - n) (drop n xs) ≡ drop n xs
-range_to_end xs n = ap (λ k. take k (drop n xs)) (sym (length-drop n xs)) ∙ take-length (drop n xs)
+pub off_at : {A : Type 0} (xs : List A) (i : ℕ) (x : A) → slice_get xs i ≡ Some x → drop i xs ≡ x ∷ drop (i + 1) xs
+off_at [] i x is = absurd cc
+off_at (y ∷ xs) zero x is = let same : y ≡ x = cc in ap (λ z. z ∷ xs) same
+off_at (y ∷ xs) (suc i) x is =
+    let more : suc (i + 1) ≡ suc i + 1 = omega arith in
+    off_at xs i x is ∙ ap (λ n. x ∷ drop n (y ∷ xs)) more
 
 module _ (points : Points) (handler : ℕ) (callee : Option ℕ) (whole : List Frame) (i : ℕ) (frame : Frame)
     (outer : List Frame) where

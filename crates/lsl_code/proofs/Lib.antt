@@ -14,10 +14,12 @@ pub mod Following
 pub mod Further
 pub mod Keeping
 pub mod Lined
+pub mod Kinding
 pub mod MachineKinds
 pub mod Made
 pub mod ModeRuns
 pub mod Numbering
+pub mod Packing
 pub mod Passes
 pub mod Placed
 pub mod Points
@@ -31,6 +33,7 @@ pub mod Scans
 pub mod Seen
 pub mod Sinking
 pub mod Skipped
+pub mod Spending
 pub mod Stacks
 pub mod Steps
 pub mod Stood

@@ -14,12 +14,14 @@ pub mod Fusing
 pub mod Kinded
 pub mod Kinds
 pub mod Laws
+pub mod Laid
 pub mod Machine
 pub mod ModeLaws
 pub mod ModeRuns
 pub mod ModeStacks
 pub mod Modes
 pub mod Naming
+pub mod Packs
 pub mod Pieces
 pub mod Restoring
 pub mod Runs

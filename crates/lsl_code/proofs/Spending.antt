@@ -1,0 +1,51 @@
+-- What saved calls are charged, one after another.
+use Rattle.std.proofs.Common.{◌≡◌, ◌∙◌, refl, ap, arith, ℕ, ◌+◌, ◌<◌, List, [], ◌∷◌, take, reverse, Option, Some, None, MatchOption, sum_by}
+use Rattle.std.specs.Prelude.{slice_get}
+use Rattle.std.proofs.lemmas.List.{reverse-append}
+use Rattle.std.proofs.lemmas.List.Sums.{sum_by-cons, sum_by-take-le, sum_by_more, sum_by_push}
+use Rattle.std.proofs.lemmas.Option.{get_or_from_slice_get, slice_get_within}
+use Rattle.lsl_value.specs.Values.{charge_of}
+use Rattle.lsl_value.specs.declared.tagged.Value.{Value}
+use Rattle.lsl_running.specs.Charging.{call_charge, charges_of}
+use Rattle.lsl_code.specs.declared.frames.Frame.{Frame}
+use Rattle.lsl_code.specs.Frames.{frame_charge, parked_charge}
+use Rattle.lsl_code.specs.Saving.{frame_of}
+
+-- a charge doesn't depend on the order
+charges_reverse : (vs : List Value) → charges_of (reverse vs) ≡ charges_of vs
+charges_reverse [] = refl
+charges_reverse (v ∷ vs) =
+    let turned = ap charges_of (reverse-append (v ∷ []) vs) in
+    let pushed = sum_by_push charge_of (reverse vs) v in
+    let rest = charges_reverse vs in
+    let first = sum_by-cons charge_of v vs in
+    omega arith
+
+-- a call is charged for its values, from whichever end
+pub without_laid : (left held f p : ℕ) (vs : List Value) (r : Option ℕ) → held + call_charge ≡ left
+    → MatchOption r (held < charges_of vs) (λ rest. rest + charges_of vs ≡ held)
+    → MatchOption r (left < frame_charge (frame_of f p (reverse vs)))
+    (λ rest. rest + frame_charge (frame_of f p (reverse vs)) ≡ left)
+without_laid left held f p vs None is h = let e = charges_reverse vs in omega arith
+without_laid left held f p vs (Some rest) is h = let e = charges_reverse vs in omega arith
+
+module _ (globals : List Value) (frames : List Frame) (i : ℕ) (frame : Frame) (is : slice_get frames i ≡ Some frame)
+  where
+    more : sum_by frame_charge (take (i + 1) frames) ≡ sum_by frame_charge (take i frames) + frame_charge frame
+    more =
+        sum_by_more frame_charge frames i frame (slice_get_within frames i frame is)
+        ∙ ap (λ (f : Frame). sum_by frame_charge (take i frames) + frame_charge f)
+        (get_or_from_slice_get frames i frame frame is)
+
+    -- one more call is paid
+    pub spent_more : (limit left rest : ℕ) → left + parked_charge globals (take i frames) ≡ limit
+        → rest + frame_charge frame ≡ left → rest + parked_charge globals (take (i + 1) frames) ≡ limit
+    spent_more limit left rest before paid = let m = more in omega arith
+
+    -- one call is more than what is left
+    pub spent_over : (limit left : ℕ) → left + parked_charge globals (take i frames) ≡ limit
+        → left < frame_charge frame → limit < parked_charge globals frames
+    spent_over limit left before over =
+        let m = more in
+        let all = sum_by-take-le frame_charge frames (i + 1) in
+        omega arith

@@ -1,0 +1,10 @@
+use Rattle.std.proofs.Common.{ap, arith, List, length}
+use Rattle.lsl_code.specs.declared.frames.Frame.{Frame}
+use Rattle.lsl_code.proofs.Packing.{frames_count}
+use Rattle.lsl_code.proofs.sacks.Sack.len.Goals as goal
+
+pub returns : goal.returns
+returns c =
+    let count = frames_count 0 c.self.inside.marks.items c.self.inside.values.items in
+    let view = ap (λ (fs : List Frame). length fs) c.self.view_is in
+    omega arith
