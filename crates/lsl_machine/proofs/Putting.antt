@@ -1,7 +1,7 @@
 -- Calls that are restored, from instruction to instruction.
 use Rattle.std.proofs.Common.{◌≡◌, ◌∙◌, refl, sym, ap, subst, arith, ℕ, zero, suc, ◌+◌, ◌-◌, ◌<◌, ◌≤◌, false, List, [], ◌∷◌, ◌++◌, length, map, reverse, length-append, Option, Some, None, slice_set, vec_capacity}
 use Rattle.std.specs.Prelude.{slice_get}
-use Rattle.std.proofs.lemmas.List.{append-nil, reverse-reverse, set-append_left, set-append_right, length-set}
+use Rattle.std.proofs.lemmas.List.{append-nil, set-append_left, set-append_right, length-set}
 use Rattle.lsl_value.specs.declared.tagged.Value.{Value}
 use Rattle.lsl_running.specs.Values.{empty_of}
 use Rattle.lsl_code.specs.declared.frames.Frame.{Frame}
@@ -42,12 +42,12 @@ put_place bodies r t c outer point q hand sack h is =
     })
 
 -- the outermost frame is taken
-pub frame_taken : (bodies : List Body) (r t : Restorer) (fr : Frame) → r.frames.items ≡ t.frames.items ++ fr ∷ []
-    → t.point ≡ fr.point → t.hand.items ≡ reverse fr.slots
+pub frame_taken : (bodies : List Body) (r t : Restorer) (fr : Frame) → r.pack.frames ≡ t.pack.frames ++ fr ∷ []
+    → t.point ≡ fr.point → t.pack.hand ≡ fr.slots
     → t.active ≡ record r.active { place = r.active.place + 1 } → t.stack ≡ r.stack → t.callers ≡ r.callers
     → Backs bodies Unpack r false t
 frame_taken bodies r t fr frames point hand' active stack callers c outer p hand sack h =
-    let left = t.frames.items in
+    let left = t.pack.frames in
     let all : sack ≡ left ++ fr ∷ [] = sym h.frames ∙ frames in
     let next = at_place c (c.place + 1) c.operands in
     let now : IsRestoring bodies t next outer fr.point fr.slots left =
@@ -68,19 +68,6 @@ frame_taken bodies r t fr frames point hand' active stack callers c outer p hand
     subst (λ s. CameTo bodies (back_after bodies (unpacked s go) outer p hand s) false t) (sym all)
     (subst (λ a. CameTo bodies (back_after bodies a outer p hand (left ++ fr ∷ [])) false t)
     (sym (unpacked_end left fr go)) (refl, now))
-
--- the hand's next value
-hand_is : (xs hand : List Value) (v : Value) → xs ++ v ∷ [] ≡ reverse hand → hand ≡ v ∷ reverse xs
-hand_is xs hand v e =
-    sym (reverse-reverse hand) ∙ ap reverse (sym e) ∙ flip xs
-  where
-    flip : (xs : List Value) → reverse (xs ++ v ∷ []) ≡ v ∷ reverse xs
-    flip xs =
-        ap (λ l. reverse (l ++ v ∷ [])) (sym (reverse-reverse xs))
-        ∙ ap reverse (sym (reverse-push (reverse xs) v)) ∙ reverse-reverse (v ∷ reverse xs)
-
-pub some_hand : (xs hand : List Value) → xs ≡ reverse hand → xs ≡ [] → hand ≡ []
-some_hand xs hand e none = sym (reverse-reverse hand) ∙ ap reverse (sym e ∙ none)
 
 -- a slot of the call
 slot_count : (bodies : List Body) (r : Restorer) (c : MachineCall) (outer : List MachineCall) (p : ℕ)
@@ -132,9 +119,9 @@ slot_put_place bodies r n k =
 
 -- a value is put to a slot
 pub slot_set : (can : List Body) (r t : Restorer) (n : ℕ) (v : Value) → CanBack can (BackSlot n) r
-    → r.hand.items ≡ t.hand.items ++ v ∷ [] → t.stack.items ≡ slice_set r.stack.items (r.active.base + n) v
+    → r.pack.hand ≡ v ∷ t.pack.hand → t.stack.items ≡ slice_set r.stack.items (r.active.base + n) v
     → vec_capacity t.stack ≡ vec_capacity r.stack → t.active ≡ record r.active { place = r.active.place + 1 }
-    → t.callers ≡ r.callers → t.point ≡ r.point → t.frames ≡ r.frames
+    → t.callers ≡ r.callers → t.point ≡ r.point → t.pack.frames ≡ r.pack.frames
     → (bodies : List Body) → Backs bodies (BackSlot n) r false t
 slot_set can r t n v k in_hand stack room active callers point frames bodies c outer p hand sack h =
     let rest = reverse c.operands in
@@ -152,7 +139,7 @@ slot_set can r t n v k in_hand stack room active callers point frames bodies c o
     length-append low (slice_set c.slots n v) in let b = length-set c.slots n v in omega arith in
     let slots : length (slice_set c.slots n v) ≡ length c.slots = length-set c.slots n v in
     let most = h.reserved.0 in
-    let now : IsRestoring bodies t (with_slot c n v) outer p (reverse t.hand.items) sack =
+    let now : IsRestoring bodies t (with_slot c n v) outer p t.pack.hand sack =
     record {
       values = stack ∙ put;
       waiting = ap (λ x. x.items) callers ∙ h.waiting;
@@ -162,30 +149,30 @@ slot_set can r t n v k in_hand stack room active callers point frames bodies c o
       floor = ap (λ (a : Activation). a.floor) active ∙ h.floor ∙ same;
       charge = ap (λ (a : Activation). a.charge) active ∙ h.charge;
       at_point = point ∙ h.at_point;
-      in_hand = sym (reverse-reverse t.hand.items);
-      frames = ap (λ x. x.items) frames ∙ h.frames;
+      in_hand = refl;
+      frames = frames ∙ h.frames;
       reserved = subst (λ m. IsReserved bodies m (with_slot c n v ∷ outer)) (sym room) (omega arith, h.reserved.1);
     } in
     let u = slot_there c.slots n inside in
-    let held : hand ≡ v ∷ reverse t.hand.items = hand_is t.hand.items hand v (sym in_hand ∙ h.in_hand) in
+    let held : hand ≡ v ∷ t.pack.hand = sym h.in_hand ∙ in_hand in
     subst (λ l. CameTo bodies (back_after bodies (takes l
     (λ x rest. where_slot (slice_get c.slots n) (Moves (with_slot c n x) p rest sack))) outer p l sack) false t)
     (sym held)
     (subst (λ o. CameTo bodies (back_after bodies (where_slot o
-    (Moves (with_slot c n v) p (reverse t.hand.items) sack)) outer p (v ∷ reverse t.hand.items) sack) false t)
+    (Moves (with_slot c n v) p t.pack.hand sack)) outer p (v ∷ t.pack.hand) sack) false t)
     (sym u.1) (refl, now))
   where
     minus : (m n : ℕ) → m + n - m ≡ n
     minus m n = omega arith
 
 -- a value is pushed
-pub top_put : (r t : Restorer) (v : Value) → r.hand.items ≡ t.hand.items ++ v ∷ []
+pub top_put : (r t : Restorer) (v : Value) → r.pack.hand ≡ v ∷ t.pack.hand
     → t.stack.items ≡ r.stack.items ++ v ∷ [] → vec_capacity r.stack ≤ vec_capacity t.stack
     → t.active ≡ record r.active { place = r.active.place + 1 } → t.callers ≡ r.callers → t.point ≡ r.point
-    → t.frames ≡ r.frames → (bodies : List Body) → Backs bodies BackTop r false t
+    → t.pack.frames ≡ r.pack.frames → (bodies : List Body) → Backs bodies BackTop r false t
 top_put r t v in_hand stack room active callers point frames bodies c outer p hand sack h =
     let next = at_place c (c.place + 1) (v ∷ c.operands) in
-    let now : IsRestoring bodies t next outer p (reverse t.hand.items) sack =
+    let now : IsRestoring bodies t next outer p t.pack.hand sack =
     record {
       values = stack ∙ ap (λ l. l ++ v ∷ []) h.values
           ∙ sym (append_last (flat outer ++ c.slots) (reverse c.operands) v)
@@ -197,12 +184,12 @@ top_put r t v in_hand stack room active callers point frames bodies c outer p ha
       floor = ap (λ (a : Activation). a.floor) active ∙ h.floor;
       charge = ap (λ (a : Activation). a.charge) active ∙ h.charge;
       at_point = point ∙ h.at_point;
-      in_hand = sym (reverse-reverse t.hand.items);
-      frames = ap (λ x. x.items) frames ∙ h.frames;
+      in_hand = refl;
+      frames = frames ∙ h.frames;
       reserved = let m = h.reserved.0 in
           (omega arith, reserved_more bodies (vec_capacity r.stack) (vec_capacity t.stack) outer room h.reserved.1);
     } in
-    let held : hand ≡ v ∷ reverse t.hand.items = hand_is t.hand.items hand v (sym in_hand ∙ h.in_hand) in
+    let held : hand ≡ v ∷ t.pack.hand = sym h.in_hand ∙ in_hand in
     subst (λ l. CameTo bodies (back_after bodies (takes l
     (λ x rest. Moves (at_place c (c.place + 1) (x ∷ c.operands)) p rest sack)) outer p l sack) false t) (sym held)
     (refl, now)
@@ -211,7 +198,7 @@ top_put r t v in_hand stack room active callers point frames bodies c outer p ha
 pub begun_restoring : (bodies : List Body) (r : Restorer) (handler : ℕ) (body : Body) (frames : List Frame)
     → slice_get bodies handler ≡ Some body → r.stack.items ≡ map empty_of body.slots → r.callers.items ≡ []
     → r.active ≡ record { function = handler; place = 0; base = 0; floor = length r.stack.items; charge = 1024 }
-    → r.point ≡ 0 → r.hand.items ≡ [] → r.frames.items ≡ frames
+    → r.point ≡ 0 → r.pack.hand ≡ [] → r.pack.frames ≡ frames
     → length r.stack.items + body.most ≤ vec_capacity r.stack
     → IsRestoring bodies r (blank handler body) [] 0 [] frames
 begun_restoring bodies r handler body frames there stack callers active point hand fr room =

@@ -11,6 +11,7 @@ use Rattle.lsl_code.specs.Frames.{frame_charge}
 use Rattle.lsl_code.specs.declared.instructions.Instr.TheVariants.{Tick}
 use Rattle.lsl_code.specs.Machine.{MachineCall, Machine, base, call_at}
 use Rattle.lsl_code.specs.Modes.{repeat, at_place}
+use Rattle.lsl_code.specs.Packs.{Packed}
 use Rattle.lsl_code.specs.Saving.{saving, save_step, begins_saving}
 use Rattle.lsl_code.specs.Weaves.{bodies_of}
 use Rattle.lsl_code.proofs.Repeating.{both_then}
@@ -34,13 +35,13 @@ pub record IsSaving (bodies : List Body) (first : List MachineCall) (s : Saver) 
   pub waits : WaitAtCalls bodies handler outer callee
   pub values : s.stack.items ≡ flat outer
   pub waiting : callers ≡ activations outer
-  pub in_hand : s.hand.items ≡ []
+  pub in_hand : s.pack.hand ≡ []
   pub ran : (n : ℕ) × (repeat (save_step bodies) n (begins_saving first) ≡ Some (saving outer [] frames))
   pub charge : base outer + sum_by frame_charge frames ≡ base first
 
 -- a call of which the saver has the activation
 pub has_call : (s : Saver) (c : MachineCall) (outer : List MachineCall) → s.stack.items ≡ flat (c ∷ outer)
-    → s.active ≡ activation c outer → s.hand.items ≡ [] → HasCall s (flat outer) c []
+    → s.active ≡ activation c outer → s.pack.hand ≡ [] → HasCall s (flat outer) c []
 has_call s c outer values active hand =
     record {
       stack = values;
@@ -60,7 +61,7 @@ call_is s c outer values active =
     ∙ call_view c outer []
 
 pub can_seal : (bodies : List Body) (s : Saver) (c : MachineCall) (outer : List MachineCall)
-    → s.stack.items ≡ flat (c ∷ outer) → s.active ≡ activation c outer → s.hand.items ≡ []
+    → s.stack.items ≡ flat (c ∷ outer) → s.active ≡ activation c outer → s.pack.hand ≡ []
     → IsBehindPoint bodies c → CanSeal bodies s
 can_seal bodies s c outer values active hand behind =
     let h = has_call s c outer values active hand in
@@ -100,7 +101,7 @@ frame_more frames f = let e = sum_by-append frame_charge frames (f ∷ []) in om
 -- the first frame
 pub first_saved : (bodies : List Body) (h : ℕ) (c : MachineCall) (outer : List MachineCall) (s : Saver) (f : Frame)
     (callers : List Activation) → RestAtTick bodies h (c ∷ outer) → IsFrameOf bodies (behind_tick c) f
-    → s.stack.items ≡ flat outer → s.hand.items ≡ [] → callers ≡ activations outer
+    → s.stack.items ≡ flat outer → s.pack.hand ≡ [] → callers ≡ activations outer
     → IsSaving bodies (c ∷ outer) s callers (f ∷ [])
 first_saved bodies h c outer s f callers rests frame values hand waiting =
     let more = base_more c outer in
@@ -129,7 +130,7 @@ pub record IsNext (bodies : List Body) (first : List MachineCall) (s : Saver) (c
   pub values : s.stack.items ≡ flat (c ∷ outer)
   pub caller_is : caller ≡ activation c outer
   pub waiting : callers ≡ activations outer
-  pub in_hand : s.hand.items ≡ []
+  pub in_hand : s.pack.hand ≡ []
   pub ran : (n : ℕ) × (repeat (save_step bodies) n (begins_saving first) ≡ Some (saving (c ∷ outer) [] frames))
   pub charge : base (c ∷ outer) + sum_by frame_charge frames ≡ base first
 
@@ -167,7 +168,7 @@ next_taken bodies first s caller callers rest frames x e =
 pub next_saved : (bodies : List Body) (first : List MachineCall) (s t : Saver) (caller : Activation)
     (callers : List Activation) (frames : List Frame) (f : Frame)
     (x : IsNext bodies first s caller callers frames) → IsFrameOf bodies x.c f → t.stack.items ≡ flat x.outer
-    → t.hand.items ≡ [] → IsSaving bodies first t callers (frames ++ f ∷ [])
+    → t.pack.hand ≡ [] → IsSaving bodies first t callers (frames ++ f ∷ [])
 next_saved bodies first s t caller callers frames f x frame values hand =
     let more = base_more x.c x.outer in
     let one = frame_more frames f in
@@ -206,7 +207,7 @@ all_saved bodies first s callers frames x e = by_calls x.outer (sym x.waiting �
 
 -- what a seal leaves
 pub left_is : (bodies : List Body) (s t : Saver) (c : MachineCall) (outer : List MachineCall) (f : Frame)
-    → s.stack.items ≡ flat (c ∷ outer) → s.active ≡ activation c outer → s.hand.items ≡ []
+    → s.stack.items ≡ flat (c ∷ outer) → s.active ≡ activation c outer → s.pack.hand ≡ []
     → IsFrameOf bodies (call_of s) f → t.stack.items ≡ low_of s
     → IsFrameOf bodies c f × (t.stack.items ≡ flat outer)
 left_is bodies s t c outer f values active hand frame left = (
@@ -252,14 +253,14 @@ module _ (unit : Woven) (r : Running) (x : Rests unit r) where
   active_behind = ap {A = Activation} (λ a. record a { place = a.place + 1 }) x.lays.active
 
   pub seals_first : (s : Saver) → s.active ≡ record r.active { place = r.active.place + 1 }
-      → s.stack ≡ r.stack → s.hand.items ≡ [] → CanSeal (bodies_of unit) s
+      → s.stack ≡ r.stack → s.pack.hand ≡ [] → CanSeal (bodies_of unit) s
   seals_first s active stack hand =
       can_seal (bodies_of unit) s (behind_tick x.c) x.outer (ap (λ y. y.items) stack ∙ x.lays.stack)
       (active ∙ active_behind) hand (ticks_behind (bodies_of unit) x.handler x.c x.outer x.rests)
 
   pub saves_first : (s t : Saver) (f : Frame) (frames : List Frame)
-      → s.active ≡ record r.active { place = r.active.place + 1 } → s.stack ≡ r.stack → s.hand.items ≡ []
-      → IsFrameOf (bodies_of unit) (call_of s) f → t.stack.items ≡ low_of s → t.hand.items ≡ []
+      → s.active ≡ record r.active { place = r.active.place + 1 } → s.stack ≡ r.stack → s.pack.hand ≡ []
+      → IsFrameOf (bodies_of unit) (call_of s) f → t.stack.items ≡ low_of s → t.pack.hand ≡ []
       → frames ≡ f ∷ [] → IsSaving (bodies_of unit) (machine_of r).calls t r.callers.items frames
   saves_first s t f frames active stack hand frame left none is =
       let bodies = bodies_of unit in
@@ -271,16 +272,16 @@ module _ (unit : Woven) (r : Running) (x : Rests unit r) where
 
 module _ (bodies : List Body) (first : List MachineCall) (s : Saver) (caller : Activation)
     (callers : List Activation) (frames : List Frame) (x : IsNext bodies first s caller callers frames) where
-  pub seals_next : (u : Saver) → u.active ≡ caller → u.stack ≡ s.stack → u.hand ≡ s.hand → CanSeal bodies u
+  pub seals_next : (u : Saver) → u.active ≡ caller → u.stack ≡ s.stack → u.pack ≡ s.pack → CanSeal bodies u
   seals_next u active stack hand =
       can_seal bodies u x.c x.outer (ap (λ y. y.items) stack ∙ x.values) (active ∙ x.caller_is)
-      (ap (λ y. y.items) hand ∙ x.in_hand) x.behind
+      (ap (λ (p : Packed). p.hand) hand ∙ x.in_hand) x.behind
 
   pub saves_next : (u t : Saver) (f : Frame) (more : List Frame) → u.active ≡ caller → u.stack ≡ s.stack
-      → u.hand ≡ s.hand → IsFrameOf bodies (call_of u) f → t.stack.items ≡ low_of u → t.hand.items ≡ []
+      → u.pack ≡ s.pack → IsFrameOf bodies (call_of u) f → t.stack.items ≡ low_of u → t.pack.hand ≡ []
       → more ≡ frames ++ f ∷ [] → IsSaving bodies first t callers more
   saves_next u t f more active stack hand frame left none is =
       let l = left_is bodies u t x.c x.outer f (ap (λ y. y.items) stack ∙ x.values) (active ∙ x.caller_is)
-      (ap (λ y. y.items) hand ∙ x.in_hand) frame left in
+      (ap (λ (p : Packed). p.hand) hand ∙ x.in_hand) frame left in
       subst (λ fs. IsSaving bodies first t callers fs) (sym is)
       (next_saved bodies first s t caller callers frames f x l.0 l.1 none)

@@ -3,7 +3,7 @@ use Rattle.std.proofs.Common.{◌≡◌, ◌∙◌, sym, ap, subst, arith, ℕ, 
 use Rattle.std.specs.Prelude.{slice_get, nat_lt}
 use Rattle.std.proofs.lemmas.Option.{slice_get_within}
 use Rattle.std.proofs.lemmas.Bool.Decides.{nat_tests}
-use Rattle.std.proofs.lemmas.List.{append_assoc, reverse-reverse}
+use Rattle.std.proofs.lemmas.List.{append_assoc}
 use Rattle.lsl_value.specs.declared.tagged.Value.{Value}
 use Rattle.lsl_code.specs.declared.frames.Frame.{Frame}
 use Rattle.lsl_code.specs.declared.instructions.Instr.{Instr}
@@ -70,10 +70,10 @@ pub closes : (bodies : List Body) (w : Body) (start : MachineCall) (low : List V
     (x : IsSealing bodies w start low (suc n) s) → slice_get bodies start.function ≡ Some w → (i : Instr)
     → slice_get w.code s.active.place ≡ Some i → (q : ℕ)
     → DidKeep i low (with_slots x.c x.slots) x.hand (save_act (Some i) (with_slots x.c x.slots) x.hand) (Some q) t
-    → (fr : Frame) → fr.function ≡ t.active.function → fr.point ≡ q → fr.slots ≡ reverse t.hand.items
+    → (fr : Frame) → fr.function ≡ t.active.function → fr.point ≡ q → fr.slots ≡ t.pack.hand
     → IsFrameOf bodies start fr
 closes bodies w start low n s t x found i here q d fr f p v =
     let r = is_sealed bodies w start low n s x found i here q t d in
     let same = frame_same x.c.function q x.hand fr (f ∙ r.0.function) p
-    (v ∙ ap reverse r.0.in_hand ∙ reverse-reverse x.hand) in
+    (v ∙ r.0.in_hand) in
     subst (IsFrameOf bodies start) same r.1

@@ -62,7 +62,7 @@ slot_place s n k =
 
 pub slot_moved : (s t : Saver) (n : ℕ) (v d : Value) → CanKeep (KeepSlot n) s
     → t.stack.items ≡ slice_set s.stack.items (s.active.base + n) absent
-    → v ≡ get_or s.stack.items (s.active.base + n) d → t.hand.items ≡ s.hand.items ++ v ∷ []
+    → v ≡ get_or s.stack.items (s.active.base + n) d → t.pack.hand ≡ v ∷ s.pack.hand
     → t.active ≡ record s.active { place = s.active.place + 1 } → (low : List Value) (c : MachineCall)
     (hand : List Value) → HasCall s low c hand
     → DidKeep (KeepSlot n) low c hand (save_act (Some (KeepSlot n)) c hand) None t
@@ -92,8 +92,7 @@ slot_moved s t n v d k stack is in_hand active low c hand h =
       place = ap (λ (a : Activation). a.place) active ∙ ap (λ p. p + 1) h.place;
       base = ap (λ (a : Activation). a.base) active ∙ h.base;
       floor = ap (λ (a : Activation). a.floor) active ∙ h.floor ∙ same;
-      in_hand = in_hand ∙ ap (λ l. l ++ v ∷ []) h.in_hand ∙ ap (λ x. reverse hand ++ x ∷ []) was
-          ∙ sym (reverse-push hand u.0);
+      in_hand = in_hand ∙ ap (λ (l : List Value). v ∷ l) h.in_hand ∙ ap (λ (x : Value). x ∷ hand) was;
     } in
     subst (λ o. DidKeep (KeepSlot n) low c hand (keeps_slot o
     (λ v. Keeps (at_place c (c.place + 1) c.operands) (v ∷ hand))) None t) (sym u.1) now
@@ -129,7 +128,7 @@ top_within s k =
         omega arith
 
 pub top_moved : (s t : Saver) (v : Value) → s.active.floor < length s.stack.items
-    → s.stack.items ≡ t.stack.items ++ v ∷ [] → t.hand.items ≡ s.hand.items ++ v ∷ []
+    → s.stack.items ≡ t.stack.items ++ v ∷ [] → t.pack.hand ≡ v ∷ s.pack.hand
     → t.active ≡ record s.active { place = s.active.place + 1 } → (low : List Value) (c : MachineCall)
     (hand : List Value) → HasCall s low c hand
     → DidKeep KeepTop low c hand (save_act (Some KeepTop) c hand) None t
@@ -152,6 +151,5 @@ top_moved s t v lt was in_hand active low c hand h = by_top c.operands refl
           place = ap (λ (a : Activation). a.place) active ∙ ap (λ p. p + 1) h.place;
           base = ap (λ (a : Activation). a.base) active ∙ h.base;
           floor = ap (λ (a : Activation). a.floor) active ∙ h.floor;
-          in_hand = in_hand ∙ ap (λ l. l ++ v ∷ []) h.in_hand ∙ ap (λ x. reverse hand ++ x ∷ []) both.1
-              ∙ sym (reverse-push hand w);
+          in_hand = in_hand ∙ ap (λ (l : List Value). v ∷ l) h.in_hand ∙ ap (λ (x : Value). x ∷ hand) both.1;
         }

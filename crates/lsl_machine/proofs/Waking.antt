@@ -11,6 +11,7 @@ use Rattle.lsl_code.specs.declared.instructions.Instr.TheVariants.{Again, Awake}
 use Rattle.lsl_code.specs.Bodies.{Body, instruction_in, instruction_at}
 use Rattle.lsl_code.specs.Machine.{MachineCall, base, used_in}
 use Rattle.lsl_code.specs.Modes.{landing}
+use Rattle.lsl_code.specs.Packs.{Packed}
 use Rattle.lsl_code.specs.Restoring.{restoring, blank, lands}
 use Rattle.lsl_machine.specs.declared.restoring.Restorer.{Restorer}
 use Rattle.lsl_machine.specs.declared.running.Activation.{Activation}
@@ -84,9 +85,9 @@ pub entered_again : (bodies : List Body) (old r t : Restorer) (callee charge : �
       base = length r.stack.items;
       floor = length t.stack.items;
       charge = charge;
-    } → t.point ≡ r.point → t.hand ≡ r.hand → t.frames ≡ r.frames → Backs bodies (Again callee) old false t
-entered_again bodies old r t callee charge w land found charged stack room grows callers active point hand'
-    frames c outer p hand sack h =
+    } → t.point ≡ r.point → t.pack ≡ r.pack → Backs bodies (Again callee) old false t
+entered_again bodies old r t callee charge w land found charged stack room grows callers active point pack c
+    outer p hand sack h =
     let c' = lands (slice_get bodies c.function) c in
     let here = landed bodies old r c outer p hand sack h land in
     let total = charged c' outer p hand sack here in
@@ -112,8 +113,8 @@ entered_again bodies old r t callee charge w land found charged stack room grows
       floor = ap (λ (a : Activation). a.floor) active ∙ all;
       charge = ap (λ (a : Activation). a.charge) active ∙ total;
       at_point = point ∙ here.at_point;
-      in_hand = ap (λ x. x.items) hand' ∙ here.in_hand;
-      frames = ap (λ x. x.items) frames ∙ here.frames;
+      in_hand = ap (λ (x : Packed). x.hand) pack ∙ here.in_hand;
+      frames = ap (λ (x : Packed). x.frames) pack ∙ here.frames;
       reserved = (
         omega arith,
         reserved_more bodies (vec_capacity r.stack) (vec_capacity t.stack) (c' ∷ outer) grows here.reserved,

@@ -1,5 +1,5 @@
 -- How the calls that are restored lie on the stack, and what an instruction makes of them.
-use Rattle.std.specs.Prelude.{◌≡◌, ℕ, ◌+◌, ◌≤◌, Bool, List, [], ◌∷◌, ◌++◌, Option, Some, None, length, map, min, reverse, slice_get, vec_capacity}
+use Rattle.std.specs.Prelude.{◌≡◌, ℕ, ◌+◌, ◌≤◌, Bool, List, [], ◌∷◌, ◌++◌, Option, Some, None, length, map, min, slice_get, vec_capacity}
 use Rattle.lsl_value.specs.declared.tagged.Value.{Value}
 use Rattle.lsl_running.specs.declared.kept.Kept.{Kept}
 use Rattle.lsl_code.specs.declared.frames.Frame.{Frame}
@@ -29,8 +29,8 @@ pub record IsRestoring (bodies : List Body) (r : Restorer) (c : MachineCall) (ou
   pub floor : r.active.floor ≡ length (flat outer ++ c.slots)
   pub charge : r.active.charge ≡ min (base outer) 18446744073709551615
   pub at_point : r.point ≡ point
-  pub in_hand : r.hand.items ≡ reverse hand
-  pub frames : r.frames.items ≡ sack
+  pub in_hand : r.pack.hand ≡ hand
+  pub frames : r.pack.frames ≡ sack
   pub reserved : IsReserved bodies (vec_capacity r.stack) (c ∷ outer)
 
 -- what the instruction makes of them

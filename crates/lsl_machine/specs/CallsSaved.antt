@@ -10,6 +10,7 @@ use Rattle.lsl_code.specs.Bodies.{Body}
 use Rattle.lsl_code.specs.Frames.{frame_charge}
 use Rattle.lsl_code.specs.Machine.{MachineCall, base, call_at}
 use Rattle.lsl_code.specs.Modes.{repeat}
+use Rattle.lsl_code.specs.Packs.{packed}
 use Rattle.lsl_code.specs.Saving.{SaveAct, Keeps, Seals, NoSave, saving, save_act, save_step, begins_saving}
 use Rattle.lsl_weave.specs.WovenCalls.{IsAt}
 use Rattle.lsl_machine.specs.declared.saving.Saver.{Saver}
@@ -22,7 +23,7 @@ pub record HasCall (s : Saver) (low : List Value) (c : MachineCall) (hand : List
   pub place : s.active.place ≡ c.place
   pub base : s.active.base ≡ length low
   pub floor : s.active.floor ≡ length (low ++ c.slots)
-  pub in_hand : s.hand.items ≡ reverse hand
+  pub in_hand : s.pack.hand ≡ hand
 
 abbrev pub low_of : Saver → List Value
 low_of s = take s.active.base s.stack.items
@@ -66,6 +67,11 @@ pub record IsFrameOf (bodies : List Body) (c : MachineCall) (frame : Frame) : Ty
       × ((outer : List MachineCall) (sack : List Frame)
       → repeat (save_step bodies) n (saving (c ∷ outer) [] sack) ≡ Some (saving outer [] (sack ++ frame ∷ [])))
   pub charge : charges_of frame.slots ≡ charges_of c.slots + charges_of c.operands
+
+-- it stands behind the calls that were saved before it, and nothing is in hand
+abbrev pub HasSealed : List Body → Saver → Saver → Type 0
+HasSealed bodies old new =
+    (frame : Frame) × (new.pack ≡ packed (old.pack.frames ++ frame ∷ []) []) × IsFrameOf bodies (call_of old) frame
 
 -- saving these calls ends with these frames, and they are charged so
 pub record AreSaved (bodies : List Body) (calls : List MachineCall) (frames : List Frame) : Type 0 where

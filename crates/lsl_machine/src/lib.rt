@@ -244,8 +244,7 @@ impl Machine {
             running,
             standing: _,
         } = self;
-        let (frames, kept) = running.save(unit)?;
-        let sack = Sack::from_vec(frames);
+        let (sack, kept) = running.save(unit)?;
         Ok(Parked { sack, kept })
     }
 
@@ -284,7 +283,7 @@ impl Machine {
             BackRun (bodies_of unit.now) handler parked.sack (beside parked.kept) m n → steps.new - steps.old ≤ n) }
     {
         let Parked { sack, kept } = parked;
-        let running = restore(alloc, unit, handler, sack.into_vec(), kept, steps)?;
+        let running = restore(alloc, unit, handler, sack, kept, steps)?;
         let standing = Standing::AtTick;
         Ok(Machine { running, standing })
     }

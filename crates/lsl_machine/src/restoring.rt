@@ -17,14 +17,14 @@ ghost use Rattle.lsl_machine.specs.Laid.{Lays};
 
 use crate::calls::{above, push_empties};
 use crate::running::{Activation, Running};
-use lsl_code::{Frame, Instr, Woven};
+use lsl_code::{Instr, Pack, Sack, Woven};
 use lsl_running::{CALL_CHARGE, Kept, SCRIPT_CHARGE, charged_with_values};
 use lsl_text::NoMemory;
 use lsl_value::Value;
 use std::alloc::Global;
 
-/// The calls that are restored so far, the point and the values of the frame in hand, of which the next stands last,
-/// and the frames that are left. Of the innermost call the charge is kept that the calls around it have.
+/// The calls that are restored so far, the point of the frame in hand, and the frames that are left, with the values in
+/// hand. Of the innermost call the charge is kept that the calls around it have.
 #[derive(Drop)]
 pub struct Restorer {
     pub alloc: Global,
@@ -32,8 +32,7 @@ pub struct Restorer {
     pub callers: Vec<Activation>,
     pub stack: Vec<Value>,
     pub point: u16,
-    pub hand: Vec<Value>,
-    pub frames: Vec<Frame>,
+    pub pack: Pack,
 }
 
 impl Restorer {
@@ -42,11 +41,11 @@ impl Restorer {
         alloc: Global,
         unit: &Woven,
         handler: u16,
-        frames: Vec<Frame>,
+        sack: Sack,
     ) -> Result<Restorer, NoMemory>
         requires { (body : Body) × (slice_get (bodies_of unit.now) handler ≡ Some body) }
         ensures { IfOk result (λ begun. (body : Body) → slice_get (bodies_of unit.now) handler ≡ Some body →
-            IsRestoring (bodies_of unit.now) begun (blank handler body) [] 0 [] frames.items) }
+            IsRestoring (bodies_of unit.now) begun (blank handler body) [] 0 [] sack) }
     {
         let Some(function) = unit.functions.get(handler as usize) else {
             unreachable!();
@@ -60,18 +59,19 @@ impl Restorer {
             floor: stack.len(),
             charge: SCRIPT_CHARGE,
         };
+        let callers = Vec::with_capacity(alloc, sack.len())?;
         Ok(Restorer {
             alloc,
             active,
-            callers: Vec::new(alloc),
+            callers,
             stack,
             point: 0,
-            hand: Vec::new(alloc),
-            frames,
+            pack: sack.into_pack(),
         })
     }
 
     /// Performs one instruction, and tells whether restoring has ended.
+    #[inline(always)]
     pub fn back(&mut self, unit: &Woven, instr: &Instr) -> Result<bool, NoMemory>
         requires { CanBack (bodies_of unit.now) instr.now self.old }
         ensures { IfOk result (λ awake. Backs (bodies_of unit.now) instr.now self.old awake self.new) }
@@ -114,26 +114,25 @@ impl Restorer {
     }
 
     /// Takes the outermost frame in hand.
+    #[inline(always)]
     fn unpack(&mut self)
         requires { (bodies : List Body) × CanBack bodies instrs.Unpack self.old }
         ensures { (bodies : List Body) → Backs bodies instrs.Unpack self.old false self.new }
     {
-        let Some(frame) = self.frames.pop() else {
+        let Some(point) = self.pack.unpack() else {
             unreachable!();
         };
-        let mut hand = frame.slots.into_vec();
-        hand.reverse();
-        self.point = frame.point;
-        self.hand = hand;
+        self.point = point;
         self.active.place += 1;
     }
 
     /// Moves the frame's next value to a slot.
+    #[inline(always)]
     fn back_slot(&mut self, n: u16)
         requires { (bodies : List Body) × CanBack bodies (instrs.BackSlot n) self.old }
         ensures { (bodies : List Body) → Backs bodies (instrs.BackSlot n) self.old false self.new }
     {
-        let Some(value) = self.hand.pop() else {
+        let Some(value) = self.pack.take() else {
             unreachable!();
         };
         let place = self.active.base + n as usize;
@@ -142,11 +141,12 @@ impl Restorer {
     }
 
     /// Pushes the frame's next value.
+    #[inline(always)]
     fn back_top(&mut self) -> Result<(), NoMemory>
         requires { (bodies : List Body) × CanBack bodies instrs.BackTop self.old }
         ensures { OnOk result ((bodies : List Body) → Backs bodies instrs.BackTop self.old false self.new) }
     {
-        let Some(value) = self.hand.pop() else {
+        let Some(value) = self.pack.take() else {
             unreachable!();
         };
         self.stack.push(value)?;
@@ -186,6 +186,7 @@ impl Restorer {
     }
 
     /// Goes on behind the instruction, or where the jump there leads.
+    #[inline(always)]
     fn land(&mut self, unit: &Woven)
         requires { self.old.active.place + 1 ≤ 4294967296 }
         ensures { self.new ≡ record self.old {
@@ -264,20 +265,20 @@ pub fn restore(
     alloc: Global,
     unit: &Woven,
     handler: u16,
-    frames: Vec<Frame>,
+    sack: Sack,
     kept: Kept,
     steps: &mut u64,
 ) -> Result<Running, NoMemory>
-    requires valid { AreValid (points_of (bodies_of unit.now)) handler kept.globals kept.limit frames.items }
+    requires valid { AreValid (points_of (bodies_of unit.now)) handler kept.globals kept.limit sack }
     requires limit { kept.limit ≤ default_limit }
     requires steps { steps.old ≤ 9223372036854775807 }
     ensures restored { IfOk result (λ running.
-        IsRestored (bodies_of unit.now) handler frames.items kept running (steps.new - steps.old)) }
+        IsRestored (bodies_of unit.now) handler sack kept running (steps.new - steps.old)) }
     ensures counted { steps.old ≤ steps.new }
     ensures lacking { OnErr result ((m : Restored) (n : ℕ) →
-        BackRun (bodies_of unit.now) handler frames.items (beside kept) m n → steps.new - steps.old ≤ n) }
+        BackRun (bodies_of unit.now) handler sack (beside kept) m n → steps.new - steps.old ≤ n) }
 {
-    let mut restorer = Restorer::begin(alloc, unit, handler, frames)?;
+    let mut restorer = Restorer::begin(alloc, unit, handler, sack)?;
     for i in 0..u64::MAX {
         let Some(instr) = instruction(unit, restorer.active.function, restorer.active.place) else {
             unreachable!();

@@ -1,40 +1,39 @@
 //! Saving: the code of each call's function keeps the call as a frame.
 
-ghost use Rattle.std.specs.Prelude.{◌≡◌, ◌≤◌, ℕ, [], List, IfOk, OnOk, length, reverse, Some, None};
+ghost use Rattle.std.specs.Prelude.{◌≡◌, ◌++◌, ◌∷◌, [], ℕ, List, IfOk, OnOk, Some, None};
 ghost use Rattle.lsl_value.specs.declared.tagged.Value.{Value as Tagged};
 ghost use Rattle.lsl_code.specs.Machine.{MachineCall};
-ghost use Rattle.lsl_code.specs.Saving.{save_act};
+ghost use Rattle.lsl_code.specs.Packs.{packed};
+ghost use Rattle.lsl_code.specs.Saving.{frame_of, save_act};
 ghost use Rattle.lsl_code.specs.Weaves.{bodies_of};
 ghost use Rattle.lsl_code.specs.declared.instructions.Instr.TheVariants as instrs;
 ghost use Rattle.lsl_weave.specs.WovenCalls.{RestAtTick};
 ghost use Rattle.lsl_machine.specs.Laid.{Held, kept_of, machine_of};
-ghost use Rattle.lsl_machine.specs.CallsSaved.{AreSaved, CanKeep, CanSeal, DidKeep, HasCall, IsFrameOf, call_of, low_of};
+ghost use Rattle.lsl_machine.specs.CallsSaved.{AreSaved, CanKeep, CanSeal, DidKeep, HasCall, HasSealed, low_of};
 
+use crate::calls::shorten;
 use crate::running::{Activation, Running};
-use lsl_code::{Frame, Instr, Woven};
+use lsl_code::{Instr, Pack, Sack, Woven};
 use lsl_running::Kept;
 use lsl_text::NoMemory;
 use lsl_value::{Value, Values};
-use std::alloc::Global;
 use std::mem::replace;
 
-/// A call on its way to a frame, above the calls that wait for it. The values that are kept so far stand in hand, the
-/// one kept first at the front.
+/// A call on its way to a frame, above the calls that wait for it. The values that are kept so far are in the pack's
+/// hand, behind the frames that are saved.
 #[derive(Drop)]
 pub struct Saver {
-    pub alloc: Global,
     pub active: Activation,
     pub stack: Vec<Value>,
-    pub hand: Vec<Value>,
+    pub pack: Pack,
 }
 
 impl Saver {
     /// Keeps the call in hand as its function's code does, and leaves it.
-    pub fn seal(&mut self, unit: &Woven) -> Result<Frame, NoMemory>
+    pub fn seal(&mut self, unit: &Woven) -> Result<(), NoMemory>
         requires { CanSeal (bodies_of unit.now) self.old }
-        ensures frame { IfOk result (IsFrameOf (bodies_of unit.now) (call_of self.old)) }
+        ensures frame { OnOk result (HasSealed (bodies_of unit.now) self.old self.new) }
         ensures left { OnOk result (self.new.stack.items ≡ low_of self.old) }
-        ensures empty { OnOk result (self.new.hand.items ≡ []) }
     {
         let Some(function) = unit.functions.get(self.active.function as usize) else {
             unreachable!();
@@ -45,18 +44,20 @@ impl Saver {
                 unreachable!();
             };
             if let Some(point) = self.keep(instr)? {
-                return Ok(self.close(point));
+                return self.close(point);
             }
         }
         unreachable!()
     }
 
     /// Performs one instruction. At a seal it answers the point.
+    #[inline(always)]
     fn keep(&mut self, instr: &Instr) -> Result<Option<u16>, NoMemory>
         requires { CanKeep instr.now self.old }
-        ensures { IfOk result (λ point. (low : List Tagged) (c : MachineCall) (hand : List Tagged) →
+        ensures kept { IfOk result (λ point. (low : List Tagged) (c : MachineCall) (hand : List Tagged) →
             HasCall self.old low c hand →
             DidKeep instr.now low c hand (save_act (Some instr.now) c hand) point self.new) }
+        ensures frames { self.new.pack.frames ≡ self.old.pack.frames }
     {
         match instr {
             Instr::TestSave(to) => {
@@ -81,61 +82,56 @@ impl Saver {
     }
 
     /// Moves a slot's value to the hand.
+    #[inline(always)]
     fn keep_slot(&mut self, n: u16) -> Result<(), NoMemory>
         requires { CanKeep (instrs.KeepSlot n) self.old }
-        ensures { OnOk result ((low : List Tagged) (c : MachineCall) (hand : List Tagged) →
+        ensures kept { OnOk result ((low : List Tagged) (c : MachineCall) (hand : List Tagged) →
             HasCall self.old low c hand →
             DidKeep (instrs.KeepSlot n) low c hand (save_act (Some (instrs.KeepSlot n)) c hand) None self.new) }
+        ensures frames { self.new.pack.frames ≡ self.old.pack.frames }
     {
         let place = self.active.base + n as usize;
         let value = replace(&mut self.stack[place], Value::Int(0));
-        self.hand.push(value)?;
+        self.pack.keep(value)?;
         self.active.place += 1;
         Ok(())
     }
 
     /// Moves the topmost operand to the hand.
+    #[inline(always)]
     fn keep_top(&mut self) -> Result<(), NoMemory>
         requires { CanKeep instrs.KeepTop self.old }
-        ensures { OnOk result ((low : List Tagged) (c : MachineCall) (hand : List Tagged) →
+        ensures kept { OnOk result ((low : List Tagged) (c : MachineCall) (hand : List Tagged) →
             HasCall self.old low c hand →
             DidKeep instrs.KeepTop low c hand (save_act (Some instrs.KeepTop) c hand) None self.new) }
+        ensures frames { self.new.pack.frames ≡ self.old.pack.frames }
     {
         let Some(value) = self.stack.pop() else {
             unreachable!();
         };
-        self.hand.push(value)?;
+        self.pack.keep(value)?;
         self.active.place += 1;
         Ok(())
     }
 
-    /// Closes the frame in hand at this point, and leaves the call. Takes no memory.
-    fn close(&mut self, point: u16) -> Frame
-        requires { self.old.active.base ≤ length self.old.stack.items }
-        ensures function { result.function ≡ self.old.active.function }
-        ensures point { result.point ≡ point }
-        ensures values { result.slots ≡ reverse self.old.hand.items }
+    /// Closes the frame in hand at this point, and leaves the call.
+    fn close(&mut self, point: u16) -> Result<(), NoMemory>
+        ensures sealed { OnOk result (self.new.pack ≡ packed
+            (self.old.pack.frames ++ frame_of self.old.active.function point self.old.pack.hand ∷ []) []) }
         ensures left { self.new.stack.items ≡ low_of self.old }
-        ensures empty { self.new.hand.items ≡ [] }
     {
-        self.stack.truncate(self.active.base);
-        let mut values = replace(&mut self.hand, Vec::new(self.alloc));
-        values.reverse();
-        Frame {
-            function: self.active.function,
-            point,
-            slots: Values::from_vec(values),
-        }
+        shorten(&mut self.stack, self.active.base);
+        self.pack.seal(self.active.function, point)
     }
 }
 
 impl Running {
     /// What the unit's own code saves the calls as, the innermost first, and the globals with the limit. The values
     /// move, and each is touched so often as the code names it.
-    pub fn save(self, unit: &Woven) -> Result<(Vec<Frame>, Kept), NoMemory>
+    pub fn save(self, unit: &Woven) -> Result<(Sack, Kept), NoMemory>
         requires laid { Held self }
         requires rests { (handler : ℕ) × RestAtTick (bodies_of unit.now) handler (machine_of self).calls }
-        ensures frames { IfOk result (λ parked. AreSaved (bodies_of unit.now) (machine_of self).calls parked.0.items) }
+        ensures frames { IfOk result (λ parked. AreSaved (bodies_of unit.now) (machine_of self).calls parked.0) }
         ensures kept { IfOk result (λ parked. parked.1 ≡ kept_of self) }
     {
         let Running {
@@ -148,22 +144,21 @@ impl Running {
             ..
         } = self;
         let mut callers = callers;
-        let mut frames = Vec::new(alloc);
+        let pack = Pack::with_room(alloc, callers.len() + 1, stack.len())?;
         let mut saver = Saver {
-            alloc,
             active: Activation {
                 place: active.place + 1,
                 ..active
             },
             stack,
-            hand: Vec::new(alloc),
+            pack,
         };
-        frames.push(saver.seal(unit)?)?;
+        saver.seal(unit)?;
         while let Some(caller) = callers.pop() {
             saver.active = caller;
-            frames.push(saver.seal(unit)?)?;
+            saver.seal(unit)?;
         }
         let globals = Values::from_vec(globals);
-        Ok((frames, Kept { globals, limit }))
+        Ok((Sack::from_pack(saver.pack), Kept { globals, limit }))
     }
 }

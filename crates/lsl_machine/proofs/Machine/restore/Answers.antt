@@ -1,7 +1,4 @@
-use Rattle.std.proofs.Common.{sym, subst, ◌-◌, Result, OnErr, Ok, Err}
-use Rattle.lsl_code.specs.ModeRuns.{BackRun}
-use Rattle.lsl_code.specs.Weaves.{bodies_of}
-use Rattle.lsl_machine.specs.CallsRestored.{IsRestored, beside}
+use Rattle.std.proofs.Common.{sym, ◌-◌, Result, OnErr, Ok, Err}
 use Rattle.lsl_machine.specs.Laid.{machine_of}
 use Rattle.lsl_machine.specs.declared.standing.Standing.TheVariants as standing
 use Rattle.lsl_machine.proofs.Chained.{laid_charge}
@@ -14,23 +11,17 @@ on_err_all (Err e) p = p
 
 pub returns-in_err-running-clause-lacking : goal.returns-in_err-running-clause-lacking
 returns-in_err-running-clause-lacking c =
-    on_err_all c.from_residual.result (λ m n run. c.in_err-running.ensures.lacking m n
-    (subst (λ l. BackRun (bodies_of c.args.unit.now) c.args.handler l (beside c.args.parked.kept) m n)
-    (sym c.into_vec.ensures) run))
+    on_err_all c.from_residual.result (λ m n run. c.in_err-running.ensures.lacking m n run)
 
 pub returns-clause-of : goal.returns-clause-of
 returns-clause-of c =
-    let run = subst (λ l. IsRestored (bodies_of c.args.unit.now) c.args.handler l c.args.parked.kept
-    c.in_ok-running.running
-    (c.restore.new.steps - c.args.steps.now)) c.into_vec.ensures c.in_ok-running.ensures.restored in
+    let run = c.in_ok-running.ensures.restored in
     restored_of c.args.unit.now c.args.handler c.args.parked.sack c.args.parked.kept c.requires.valid.0
     c.requires.globals c.in_ok-running.running (c.restore.new.steps - c.args.steps.now) run
 
 pub returns-clause-chained : goal.returns-clause-chained
 returns-clause-chained c =
-    let run = subst (λ l. IsRestored (bodies_of c.args.unit.now) c.args.handler l c.args.parked.kept
-    c.in_ok-running.running
-    (c.restore.new.steps - c.args.steps.now)) c.into_vec.ensures c.in_ok-running.ensures.restored in
+    let run = c.in_ok-running.ensures.restored in
     restored_chained c.args.unit.now c.args.handler c.args.parked.sack c.args.parked.kept c.requires.valid.0
     c.requires.globals c.in_ok-running.running (c.restore.new.steps - c.args.steps.now) run
 
@@ -39,25 +30,19 @@ returns-clause-charged c = laid_charge c.in_ok-running.running standing.AtTick c
 
 pub returns-clause-kept : goal.returns-clause-kept
 returns-clause-kept c =
-    let run = subst (λ l. IsRestored (bodies_of c.args.unit.now) c.args.handler l c.args.parked.kept
-    c.in_ok-running.running
-    (c.restore.new.steps - c.args.steps.now)) c.into_vec.ensures c.in_ok-running.ensures.restored in
+    let run = c.in_ok-running.ensures.restored in
     restored_kept c.args.unit.now c.args.handler c.args.parked.sack c.args.parked.kept c.requires.valid.0
     c.requires.globals c.in_ok-running.running (c.restore.new.steps - c.args.steps.now) run
 
 pub returns-clause-same : goal.returns-clause-same
 returns-clause-same c weaves calls has =
-    let run = subst (λ l. IsRestored (bodies_of c.args.unit.now) c.args.handler l c.args.parked.kept
-    c.in_ok-running.running
-    (c.restore.new.steps - c.args.steps.now)) c.into_vec.ensures c.in_ok-running.ensures.restored in
+    let run = c.in_ok-running.ensures.restored in
     same_calls c.args.unit.now weaves c.args.handler c.args.parked.sack c.args.parked.kept c.requires.valid.0
     (machine_of c.in_ok-running.running) (c.restore.new.steps - c.args.steps.now) run.ran calls has
 
 pub returns-clause-moved : goal.returns-clause-moved
 returns-clause-moved c weaves saved parked =
-    let run = subst (λ l. IsRestored (bodies_of c.args.unit.now) c.args.handler l c.args.parked.kept
-    c.in_ok-running.running
-    (c.restore.new.steps - c.args.steps.now)) c.into_vec.ensures c.in_ok-running.ensures.restored in (
+    let run = c.in_ok-running.ensures.restored in (
       same_machine c.args.unit.now weaves c.args.handler c.args.parked.sack c.args.parked.kept c.requires.valid.0
           (machine_of c.in_ok-running.running) (c.restore.new.steps - c.args.steps.now) run.ran saved parked,
       sym parked.stands,
@@ -65,8 +50,6 @@ returns-clause-moved c weaves saved parked =
 
 pub returns-clause-bound : goal.returns-clause-bound
 returns-clause-bound c weaves =
-    let run = subst (λ l. IsRestored (bodies_of c.args.unit.now) c.args.handler l c.args.parked.kept
-    c.in_ok-running.running
-    (c.restore.new.steps - c.args.steps.now)) c.into_vec.ensures c.in_ok-running.ensures.restored in
+    let run = c.in_ok-running.ensures.restored in
     few_steps c.args.unit.now weaves c.args.handler c.args.parked.sack c.args.parked.kept c.requires.valid.0
     (machine_of c.in_ok-running.running) (c.restore.new.steps - c.args.steps.now) run.ran

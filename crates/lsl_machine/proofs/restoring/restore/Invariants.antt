@@ -5,6 +5,6 @@ use Rattle.lsl_machine.proofs.restoring.restore.Given as goal
 -- so many instructions were done and counted
 abbrev pub invariant-loop-i : goal.invariant-loop-i
 invariant-loop-i l = record {
-  way : IsReturning l.unit l.fn.handler l.fn.frames.items l.restorer l.i;
+  way : IsReturning l.unit l.fn.handler l.fn.sack l.restorer l.i;
   counted : l.steps ≡ l.fn.steps + l.i;
 }

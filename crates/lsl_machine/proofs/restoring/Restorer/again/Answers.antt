@@ -36,4 +36,4 @@ returns c m outer p hand sack h =
       base = length c.land.new.self.stack.items;
       floor = x;
       charge = c.charge-charge.result;
-    }) floor) refl refl refl m outer p hand sack h
+    }) floor) refl refl m outer p hand sack h

@@ -4,5 +4,5 @@ use Rattle.lsl_machine.proofs.restoring.Restorer.back_slot.Goals as goal
 
 pub returns : goal.returns
 returns c bodies m outer p hand sack h =
-    slot_set c.requires.0 c.args.self.now _ c.args.n c.in-Some.value c.requires.1 c.in-Some.ensures.items refl refl refl
-    refl refl refl bodies m outer p hand sack h
+    slot_set c.requires.0 c.args.self.now _ c.args.n c.in-Some.value c.requires.1 c.in-Some.ensures.hand refl refl refl
+    refl refl c.in-Some.ensures.frames bodies m outer p hand sack h

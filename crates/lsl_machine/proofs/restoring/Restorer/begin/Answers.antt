@@ -2,6 +2,7 @@ use Rattle.std.proofs.Common.{◌≡◌, ◌∙◌, refl, ap, subst, ◌++◌, [
 use Rattle.std.proofs.lemmas.Option.{slice_get-map}
 use Rattle.lsl_running.specs.Values.{empty_of}
 use Rattle.lsl_code.specs.Bodies.{Body}
+use Rattle.lsl_code.specs.Packs.{Packed}
 use Rattle.lsl_code.specs.Restoring.{blank}
 use Rattle.lsl_code.specs.Weaves.{bodies_of}
 use Rattle.lsl_code.specs.WovenBodies.{woven_body}
@@ -24,23 +25,23 @@ returns c body given =
     record {
       alloc = c.args.alloc;
       active = record { function = c.args.handler; place = 0; base = 0; floor = c.len.result; charge = 1024 };
-      callers = c.new.result;
+      callers = c.in_ok-callers.callers;
       stack = c.push_empties.new.stack;
       point = 0;
-      hand = c.new-2.result;
-      frames = c.args.frames;
+      pack = c.into_pack.result;
     } in
     let slots : c.push_empties.new.stack.items ≡ map empty_of w.slots =
     c.in_ok-push_empties.ensures.pushed
     ∙ ap (λ l. l ++ map empty_of c.as_slice.result.now) c.new-stack.ensures.items
     ∙ ap (map empty_of) c.as_slice.ensures in
     subst (λ (b : Body). IsRestoring (bodies_of c.args.unit.now) r (blank c.args.handler b) [] 0 []
-    c.args.frames.items) same
-    (begun_restoring (bodies_of c.args.unit.now) r c.args.handler w c.args.frames.items found slots c.new.ensures.items
-    (ap {B = Activation} (λ x. record {
+    c.args.sack) same
+    (begun_restoring (bodies_of c.args.unit.now) r c.args.handler w c.args.sack found slots
+    c.in_ok-callers.ensures.items (ap {B = Activation} (λ x. record {
       function = c.args.handler;
       place = 0;
       base = 0;
       floor = x;
       charge = 1024;
-    }) floor) refl c.new-2.ensures.items refl c.in_ok-push_empties.ensures.room)
+    }) floor) refl (ap (λ (x : Packed). x.hand) c.into_pack.ensures)
+    (ap (λ (x : Packed). x.frames) c.into_pack.ensures) c.in_ok-push_empties.ensures.room)

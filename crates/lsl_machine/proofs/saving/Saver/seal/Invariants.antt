@@ -11,4 +11,5 @@ invariant-loop-i l = record {
   found : slice_get (bodies_of l.unit) l.fn.self.active.function ≡ Some (woven_body l.function);
   way : IsSealing (bodies_of l.unit) (woven_body l.function) (call_of l.fn.self) (low_of l.fn.self) (l.end - l.i)
       l.self;
+  frames : l.self.pack.frames ≡ l.fn.self.pack.frames;
 }
