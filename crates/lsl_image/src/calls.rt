@@ -31,11 +31,11 @@ pub fn read_calls(
 {
     let (count, middle) = read_count(bytes, place)?;
     let mut charged = charged_with_values(SCRIPT_CHARGE, globals.as_slice());
-    let (frames, next) = read_frames(alloc, bytes, middle, unit, handler, count, &mut charged)?;
+    let (sack, next) = read_frames(alloc, bytes, middle, unit, handler, count, &mut charged)?;
     if !is_within(limit, charged) {
         return Err(wrong(place));
     }
-    Ok((Sack::from_vec(frames.into_vec()), next))
+    Ok((sack, next))
 }
 
 #[tactic(auto, unfolding(crate::specs::Layout::field, crate::specs::Layout::field_that))]

@@ -10,8 +10,9 @@ ghost use Rattle.lsl_image.specs.Rest.{ends_in, frame_behind, frame_in, same_cal
 use crate::faults::wrong;
 use crate::fields::{Read, read_u16};
 use crate::values::read_charged_values;
-use lsl_code::{Frame, Sequence, Woven};
+use lsl_code::{Frame, Pack, Sack, Woven};
 use lsl_running::CALL_CHARGE;
+use lsl_value::Value;
 use std::alloc::Global;
 
 // How many bytes a saved call has at least.
@@ -27,30 +28,33 @@ pub fn read_frames(
     handler: Option<u16>,
     count: u16,
     charged: &mut u64,
-) -> Read<Sequence<Frame>>
+) -> Read<Sack>
     ensures reads { Reads bytes.now (grown count (frame_behind unit.now handler count) []) place result }
     ensures charged { IfOk result (λ read. charged.new ≡ charged_with charged.old (sum_by frame_charge read.0)) }
 {
-    let room = bytes.len().saturating_sub(place) / LEAST_FRAME_BYTES;
-    let mut frames = Vec::with_capacity(alloc, usize::from(count).min(room))?;
+    let most = usize::from(count).min(bytes.len().saturating_sub(place) / LEAST_FRAME_BYTES);
+    let mut pack = Pack::with_room(alloc, most, most)?;
+    let mut room = Vec::new(alloc);
     let mut callee = None;
     let mut sum = 0;
     let mut next = place;
     for i in 0..count {
         let more = i + 1 < count;
         let (frame, behind) = read_frame(
-            alloc, bytes, next, unit, handler, more, callee, &mut sum,
+            alloc, bytes, next, unit, handler, more, callee, room, &mut sum,
         )?;
         callee = Some(frame.function);
-        frames.push(frame)?;
+        let emptied = pack.push(frame)?;
+        room = emptied;
         next = behind;
     }
     *charged = charged.saturating_add(sum);
-    Ok((Sequence::from_vec(frames), next))
+    Ok((Sack::from_pack(pack), next))
 }
 
-// A saved call, which is at a call of this function, or at a tick. With what it is charged beside what is charged so
-// far.
+// A saved call, which is at a call of this function, or at a tick, its values in this room. With what it is charged
+// beside what is charged so far.
+#[inline(always)]
 fn read_frame(
     alloc: Global,
     bytes: &[u8],
@@ -59,8 +63,10 @@ fn read_frame(
     handler: Option<u16>,
     more: bool,
     callee: Option<u16>,
+    room: Vec<Value>,
     charged: &mut u64,
 ) -> Read<Frame>
+    requires { room.items ≡ [] }
     ensures reads { Reads bytes.now (frame_in unit.now handler more callee) place result }
     ensures charged { IfOk result (λ read. charged.new ≡ charged_with charged.old (frame_charge read.0)) }
 {
@@ -73,7 +79,14 @@ fn read_frame(
         return Err(wrong(middle));
     }
     *charged = charged.saturating_add(CALL_CHARGE);
-    let (slots, next) = read_charged_values(alloc, bytes, behind, point.kinds.as_slice(), charged)?;
+    let (slots, next) = read_charged_values(
+        alloc,
+        bytes,
+        behind,
+        point.kinds.as_slice(),
+        room,
+        charged,
+    )?;
     let frame = Frame {
         function,
         point: number,

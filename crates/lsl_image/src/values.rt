@@ -46,24 +46,26 @@ pub fn read_values(alloc: Global, bytes: &[u8], place: usize, kinds: &[Kind]) ->
     ensures { Reads bytes.now (values_of kinds.now) place result }
 {
     let mut charged = 0;
-    read_charged_values(alloc, bytes, place, kinds, &mut charged)
+    read_charged_values(alloc, bytes, place, kinds, Vec::new(alloc), &mut charged)
 }
 
-/// A value of each of these kinds, and what they are charged beside what is charged so far. What is reserved is no
-/// more than can stand in the bytes that are left.
+/// The same in this room, and what they are charged beside what is charged so far.
 #[inline(always)]
 pub fn read_charged_values(
     alloc: Global,
     bytes: &[u8],
     place: usize,
     kinds: &[Kind],
+    room: Vec<Value>,
     charged: &mut u64,
 ) -> Read<Values>
+    requires { room.items ≡ [] }
     ensures reads { Reads bytes.now (values_of kinds.now) place result }
     ensures charged { IfOk result (λ read. charged.new ≡ charged_with charged.old (charges_of read.0)) }
 {
-    let room = bytes.len().saturating_sub(place) / LEAST_VALUE_BYTES;
-    let mut values = Vec::with_capacity(alloc, kinds.len().min(room))?;
+    let most = bytes.len().saturating_sub(place) / LEAST_VALUE_BYTES;
+    let mut values = room;
+    values.reserve(kinds.len().min(most))?;
     let next = read_integers(bytes, place, kinds, &mut values);
     *charged = with_integers(*charged, values.len());
     if values.len() < kinds.len() {

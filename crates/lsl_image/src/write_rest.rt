@@ -1,17 +1,19 @@
 //! What a script rests in, appended to an image.
 
-ghost use Rattle.std.specs.Prelude.{◌≡◌, ◌++◌, ◌<◌, ◌≤◌, length, OnOk};
+ghost use Rattle.std.specs.Prelude.{◌≡◌, ◌++◌, ◌<◌, ◌≤◌, length, reverse, OnOk};
 ghost use Rattle.std.specs.List.{flat_map, AllByRecursion};
-ghost use Rattle.lsl_image.specs.Bytes.{calls_bytes, fault_number, frame_bytes, rest_bytes};
-ghost use Rattle.lsl_image.specs.Fits.{FitsFrame, FitsRest};
+ghost use Rattle.lsl_code.specs.Laid.{frame_laid};
+ghost use Rattle.lsl_image.specs.Bytes.{calls_bytes, fault_number, frame_bytes, rest_bytes, values_bytes};
+ghost use Rattle.lsl_image.specs.Fits.{AreValues, FitsFrame, FitsRest};
 ghost use Rattle.lsl_image.specs.Valid.{HasFewCalls};
 
-use crate::write_events::{write_event, write_values};
-use lsl_bytes::{push_u8, push_u16};
-use lsl_code::{Frame, Sack};
+use crate::write_events::write_event;
+use lsl_bytes::{push_u8, push_u16, push_value};
+use lsl_code::{Laid, Sack};
 use lsl_post::Rest;
 use lsl_running::Fault;
 use lsl_text::NoMemory;
+use lsl_value::Value;
 
 /// Appends what a script rests in behind its number.
 pub fn write_rest(out: &mut Vec<u8>, rest: &Rest) -> Result<(), NoMemory>
@@ -51,27 +53,38 @@ fn write_calls(out: &mut Vec<u8>, sack: &Sack) -> Result<(), NoMemory>
     ensures ok { OnOk result (out.new.items ≡ out.old.items ++ calls_bytes sack.now) }
     ensures fits { OnOk result (AllByRecursion FitsFrame sack.now) }
 {
-    let frames = sack.frames();
-    push_u16(out, frames.len() as u16)?;
-    write_frames(out, frames)
+    push_u16(out, sack.len() as u16)?;
+    write_each_call(out, sack)
 }
 
-fn write_frames(out: &mut Vec<u8>, frames: &[Frame]) -> Result<(), NoMemory>
-    ensures ok { OnOk result (out.new.items ≡ out.old.items ++ flat_map frame_bytes frames.now) }
-    ensures fits { OnOk result (AllByRecursion FitsFrame frames.now) }
+fn write_each_call(out: &mut Vec<u8>, sack: &Sack) -> Result<(), NoMemory>
+    ensures ok { OnOk result (out.new.items ≡ out.old.items ++ flat_map frame_bytes sack.now) }
+    ensures fits { OnOk result (AllByRecursion FitsFrame sack.now) }
 {
-    for frame in frames {
-        write_frame(out, frame)?;
+    for i in 0..sack.len() {
+        write_call(out, &sack.call(i))?;
     }
     Ok(())
 }
 
 #[tactic(auto, unfolding(crate::specs::Bytes::frame_bytes))]
-fn write_frame(out: &mut Vec<u8>, frame: &Frame) -> Result<(), NoMemory>
-    ensures ok { OnOk result (out.new.items ≡ out.old.items ++ frame_bytes frame.now) }
-    ensures fits { OnOk result (FitsFrame frame.now) }
+fn write_call(out: &mut Vec<u8>, call: &Laid<'_>) -> Result<(), NoMemory>
+    ensures ok { OnOk result (out.new.items ≡ out.old.items ++ frame_bytes (frame_laid call.now)) }
+    ensures fits { OnOk result (FitsFrame (frame_laid call.now)) }
 {
-    push_u16(out, frame.function)?;
-    push_u16(out, frame.point)?;
-    write_values(out, frame.slots.as_slice())
+    push_u16(out, call.function)?;
+    push_u16(out, call.point)?;
+    write_from_last(out, call.values)
+}
+
+// Appends values, the last first.
+fn write_from_last(out: &mut Vec<u8>, values: &[Value]) -> Result<(), NoMemory>
+    ensures ok { OnOk result (out.new.items ≡ out.old.items ++ values_bytes (reverse values.now)) }
+    ensures fits { OnOk result (AreValues (reverse values.now)) }
+{
+    for i in 0..values.len() {
+        let value = &values[values.len() - 1 - i];
+        push_value(out, value)?;
+    }
+    Ok(())
 }

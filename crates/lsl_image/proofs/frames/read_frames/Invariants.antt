@@ -9,10 +9,11 @@ use Rattle.lsl_image.proofs.frames.read_frames.Given as goal
 -- so many frames are read and charged
 abbrev pub invariant-loop-i : goal.invariant-loop-i
 invariant-loop-i l = record {
-  many : length l.frames.items ≡ l.i;
-  callee : l.callee ≡ callee_of l.frames.items;
-  leads : Leads l.bytes (grown (l.count - l.i) (frame_behind l.unit l.handler l.count) l.frames.items) l.next
+  many : length l.pack.frames ≡ l.i;
+  callee : l.callee ≡ callee_of l.pack.frames;
+  leads : Leads l.bytes (grown (l.count - l.i) (frame_behind l.unit l.handler l.count) l.pack.frames) l.next
       (λ list. list)
       (grown l.count (frame_behind l.unit l.handler l.count) []) l.place;
-  charged : l.sum ≡ charged_with 0 (sum_by frame_charge l.frames.items);
+  charged : l.sum ≡ charged_with 0 (sum_by frame_charge l.pack.frames);
+  room : l.room.items ≡ [];
 }
