@@ -1,6 +1,6 @@
 //! Frames and their values as words.
 
-use lsl_code::{Frame, Sack};
+use lsl_code::{Frame, Laid, Pack, Sack};
 use lsl_text::NoMemory;
 use lsl_value::{Text, Value, Values};
 use std::alloc::Global;
@@ -35,15 +35,15 @@ fn frame(alloc: Global, words: &str) -> Result<Frame, NoMemory> {
 }
 
 /// Frames, with commas between; none where there is no word.
-pub(crate) fn frames(alloc: Global, words: &str) -> Result<Vec<Frame>, NoMemory> {
-    let mut frames = Vec::new(alloc);
+pub(crate) fn sack(alloc: Global, words: &str) -> Result<Sack, NoMemory> {
+    let mut pack = Pack::with_room(alloc, 0, 0)?;
     if words.is_empty() {
-        return Ok(frames);
+        return Ok(Sack::from_pack(pack));
     }
     for words in words.split(", ") {
-        frames.push(frame(alloc, words)?)?;
+        let _room = pack.push(frame(alloc, words)?)?;
     }
-    Ok(frames)
+    Ok(Sack::from_pack(pack))
 }
 
 fn tell_value(told: &mut String, value: &Value) -> Result<(), NoMemory> {
@@ -53,24 +53,30 @@ fn tell_value(told: &mut String, value: &Value) -> Result<(), NoMemory> {
     }
 }
 
+/// The values of a frame.
+fn tell_values(told: &mut String, call: &Laid<'_>) -> Result<(), NoMemory> {
+    let count = call.values.len();
+    for i in 0..count {
+        tell_value(told, &call.values[count - 1 - i])?;
+    }
+    Ok(())
+}
+
 /// The values of each frame, a stroke before them.
-pub(crate) fn tell_slots(told: &mut String, frames: &[Frame]) -> Result<(), NoMemory> {
-    for frame in frames {
+pub(crate) fn tell_slots(told: &mut String, sack: &Sack) -> Result<(), NoMemory> {
+    for i in 0..sack.len() {
         told.push_str(" |")?;
-        for value in frame.slots.as_slice() {
-            tell_value(told, value)?;
-        }
+        tell_values(told, &sack.call(i))?;
     }
     Ok(())
 }
 
 /// Each frame's function and point, and its values.
-fn tell(told: &mut String, frames: &[Frame]) -> Result<(), NoMemory> {
-    for frame in frames {
-        write!(told, "{} {}:", frame.function, frame.point)?;
-        for value in frame.slots.as_slice() {
-            tell_value(told, value)?;
-        }
+fn tell(told: &mut String, sack: &Sack) -> Result<(), NoMemory> {
+    for i in 0..sack.len() {
+        let call = sack.call(i);
+        write!(told, "{} {}:", call.function, call.point)?;
+        tell_values(told, &call)?;
         told.push_str("; ")?;
     }
     Ok(())
@@ -78,12 +84,12 @@ fn tell(told: &mut String, frames: &[Frame]) -> Result<(), NoMemory> {
 
 /// The frames of a sack, of its copy, and how many the copy holds.
 fn copied(alloc: Global, words: &str) -> Result<String, NoMemory> {
-    let sack = Sack::from_vec(frames(alloc, words)?);
+    let sack = sack(alloc, words)?;
     let copy = sack.copy(alloc)?;
     let mut told = String::new(alloc);
-    tell(&mut told, sack.frames())?;
-    tell(&mut told, copy.frames())?;
-    write!(told, "{}", copy.into_vec().len())?;
+    tell(&mut told, &sack)?;
+    tell(&mut told, &copy)?;
+    write!(told, "{}", copy.len())?;
     Ok(told)
 }
 

@@ -70,16 +70,11 @@ fn calls_told(alloc: Global, parts: &ObjectParts) -> Result<String, NoMemory> {
     let mut told = String::new(alloc);
     if let Some(script) = parts.scripts.get(0)
         && let Rest::Saved(event, sack) = &script.rest
-        && let [inner, ..] = sack.frames()
+        && !sack.is_empty()
     {
+        let inner = sack.call(0);
         write!(told, "{} {} ", script.limit, event.args.len())?;
-        write!(
-            told,
-            "{} {} {}",
-            sack.frames().len(),
-            inner.function,
-            inner.point
-        )?;
+        write!(told, "{} {} {}", sack.len(), inner.function, inner.point)?;
     }
     Ok(told)
 }

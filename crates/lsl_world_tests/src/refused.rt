@@ -1,8 +1,8 @@
 //! Frames from outside, and what is wrong with them.
 
-use crate::frames::frames;
+use crate::frames::sack;
 use crate::hosting::unit_of;
-use lsl_code::{Sack, Woven};
+use lsl_code::Woven;
 use lsl_text::NoMemory;
 use lsl_value::Values;
 use std::alloc::Global;
@@ -46,12 +46,12 @@ const CASES: &str = r"# no frame
 /// What is wrong with these frames beside no globals.
 fn told(alloc: Global, unit: &Woven, case: &str) -> Result<String, NoMemory> {
     let (limit, words) = case.split_once(':').unwrap_or((case, ""));
-    let frames = frames(alloc, words.trim_start())?;
-    if frames.len() > 65_535 {
+    let sack = sack(alloc, words.trim_start())?;
+    if sack.len() > 65_535 {
         return String::from_str(alloc, "too many");
     }
     let limit = limit.parse::<u32>().unwrap_or(0);
-    match Sack::check(frames, &Values::new(alloc), limit, unit, 0) {
+    match sack.check(&Values::new(alloc), limit, unit, 0) {
         Ok(_) => String::from_str(alloc, "-"),
         Err(fault) => format!(in alloc; "{fault:?}"),
     }

@@ -6,7 +6,7 @@ ghost use Rattle.lsl_world_tests.specs.Driven.{IsAtTick};
 use crate::driving::{behind_ticks, parked, unparked};
 use crate::frames::{number, tell_slots};
 use crate::hosting::unit_of;
-use lsl_code::{Frame, Woven};
+use lsl_code::{Sack, Woven};
 use lsl_machine::Machine;
 use lsl_text::NoMemory;
 use std::alloc::Global;
@@ -24,27 +24,26 @@ pub(crate) fn moved(
     ensures { IfOk result (λ back. IsAtTick unit.now handler back.0) }
 {
     let parked = parked(unit, handler, machine)?;
-    tell_frames(parked.sack.frames(), told)?;
+    tell_frames(&parked.sack, told)?;
     unparked(alloc, unit, handler, parked)
 }
 
 /// The values of each frame. Of more than nine frames it tells how many they are, how many values the first and the last have,
 /// and how many frames have two.
-fn tell_frames(frames: &[Frame], told: &mut String) -> Result<(), NoMemory> {
-    match frames {
-        [first, _, _, _, _, _, _, _, _, .., last] => {
-            let (count, ends) = (frames.len(), (first.slots.len(), last.slots.len()));
-            write!(told, " {count} {ends:?} {}", with_two(frames))
-        }
-        few => tell_slots(told, few),
+fn tell_frames(sack: &Sack, told: &mut String) -> Result<(), NoMemory> {
+    let count = sack.len();
+    if count < 10 {
+        return tell_slots(told, sack);
     }
+    let ends = (sack.call(0).values.len(), sack.call(count - 1).values.len());
+    write!(told, " {count} {ends:?} {}", with_two(sack))
 }
 
 /// How many frames have two values.
-fn with_two(frames: &[Frame]) -> u32 {
+fn with_two(sack: &Sack) -> u32 {
     let mut count: u32 = 0;
-    for frame in frames {
-        if frame.slots.len() == 2 {
+    for i in 0..sack.len() {
+        if sack.call(i).values.len() == 2 {
             count = count.wrapping_add(1);
         }
     }

@@ -78,7 +78,7 @@ fn framed(
 
 fn tell_rest(rest: &Rest, told: &mut String) -> Result<(), NoMemory> {
     match rest {
-        Rest::Saved(_, sack) => tell_slots(told, sack.frames()),
+        Rest::Saved(_, sack) => tell_slots(told, sack),
         _ => Ok(()),
     }
 }
