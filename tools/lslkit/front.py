@@ -14,6 +14,7 @@ usage: lsl once FILE                runs a script, and prints its journal
                                     both: with --show readably, with --html PAGE as a page with a timeline
        lsl freeze WORLD             plays a world file, and then prints the world as one line
        lsl thaw FROZEN WORLD        goes on from what 'freeze' printed, with the steps of a world file
+       lsl view FROZEN WORLD        shows where the scripts of what 'freeze' printed stand
        lsl make NUMBER              plays a world made of a number, and prints its report's lines and digest
        lsl check FILE               says that a script is accepted, or tells its first fault
        lsl play FILE ..             plays a script without a world file: 'lsl play --help'
@@ -23,10 +24,11 @@ usage: lsl once FILE                runs a script, and prints its journal
 Write ./-x for a file whose name begins with '-'. The first call proves and builds the program, and says for how
 long: about half an hour on four processors. Later calls start at once, until a source of the program changes.
 'tools/explain FILE' tells a script's first fault in words, as 'lsl check FILE' does on a terminal."""
-COMMANDS = ("once", "replay", "freeze", "thaw", "check", "make")
-OF_WORLDS = ("replay", "freeze", "thaw")
+COMMANDS = ("once", "replay", "freeze", "thaw", "view", "check", "make")
+OF_WORLDS = ("replay", "freeze", "thaw", "view")
+OF_FROZEN = ("thaw", "view")
 SHOWN = ("once", "replay")
-TAKEN = {"thaw": "two files", "make": "one number"}
+TAKEN = {"thaw": "two files", "view": "two files", "make": "one number"}
 READ_FAULT = 4
 NOT_MADE = 125
 
@@ -57,8 +59,9 @@ class Options:
                 raise Bad(f"'{word}' is no option of it")
             else:
                 names.append(word)
-        self.frozen = names.pop(0) if self.command == "thaw" and len(names) == 2 else None
-        is_short = self.command == "thaw" and self.frozen is None
+        takes_frozen = self.command in OF_FROZEN
+        self.frozen = names.pop(0) if takes_frozen and len(names) == 2 else None
+        is_short = takes_frozen and self.frozen is None
         if len(names) != 1 or is_short or (self.html is None and "--html" in words):
             raise Bad(f"'{self.command}' takes {TAKEN.get(self.command, 'one file')}")
         if self.command == "make" and not is_number(names[0]):

@@ -25,11 +25,11 @@ use Rattle.lsl_top.specs.Froms.{IsFromOf}
 use Rattle.lsl_top.specs.Headline.{IsScriptIn}
 use Rattle.lsl_top.specs.Held.{AreHeld}
 use Rattle.lsl_top.specs.Pieces.{lines_in, sent_in}
-use Rattle.lsl_top.specs.Plays.{Whole, names_in, play_of, play_of_once}
+use Rattle.lsl_top.specs.Plays.{Homes, Whole, names_in, play_of, play_of_once}
 use Rattle.lsl_top.specs.Promise.{KeepsTo, Wrote, WrotePart}
 use Rattle.lsl_top.specs.Scripts.{AreAccepted}
 use Rattle.lsl_top.specs.Status.{number_of}
-use Rattle.lsl_top.specs.Words.{Command, Once, Check, Replay, Freeze, Thaw, Make}
+use Rattle.lsl_top.specs.Words.{Command, Once, Check, Replay, Freeze, Thaw, Make, View}
 use Rattle.lsl_top.specs.declared.status.Status.{Status}
 use Rattle.lsl_top.specs.declared.status.Status.TheVariants.{Ok, Usage, BadWorld, BadScript, ReadFault, WriteFault, BadImage, NoMemory}
 use Rattle.lsl_top.proofs.Journals.{journal-pieces, pieces-images}
@@ -95,6 +95,7 @@ none-missing files (Replay name) file programs ((bytes, there, good), h)
 none-missing files (Check name) file programs h missing = absurd h
 none-missing files (Freeze name) file programs h missing = absurd h
 none-missing files (Thaw frozen name) file programs h missing = absurd h
+none-missing files (View frozen name) file programs h missing = absurd h
 none-missing files (Make number) file programs h missing = absurd h
 
 module _ (files : Files) (command : Command) (file : WorldFile) (programs : List Program) (trips : List Trip)
@@ -115,14 +116,14 @@ module _ (files : Files) (command : Command) (file : WorldFile) (programs : List
     wrote : lines_in answer.pieces ≡ lines
     sent : sent_in answer.pieces ≡ images codes (rules_of programs) file.steps trips begun
 
-  run-is : (answer : Answer) (codes : List Code) → answer ≡ run_answer Whole codes programs file trips begun
+  run-is : (answer : Answer) (codes : List Code) → answer ≡ run_answer Homes codes programs file trips begun
       → IsRun answer
   run-is answer codes e = record {
     codes = codes;
     ended = ap (λ (a : Answer). a.status) e;
-    wrote = ap (λ (a : Answer). lines_in a.pieces) e ∙ journal-pieces Whole codes programs file trips begun;
+    wrote = ap (λ (a : Answer). lines_in a.pieces) e ∙ journal-pieces Homes codes programs file trips begun;
     sent = ap (λ (a : Answer). sent_in a.pieces) e
-        ∙ pieces-images Whole codes (rules_of programs) file.steps trips begun;
+        ∙ pieces-images Homes codes (rules_of programs) file.steps trips begun;
   }
 
   -- nothing is thawed, so the world that was frozen before may be any
@@ -133,7 +134,7 @@ module _ (files : Files) (command : Command) (file : WorldFile) (programs : List
       let (codes, text, comes) = plays-programs files g from trips (play_of_once name) programs answer texts are all
       answers in
       run-is answer codes
-      (subst (λ (w : WorldFile). answer ≡ run_answer Whole codes programs w trips (start (rules_of programs) w))
+      (subst (λ (w : WorldFile). answer ≡ run_answer Homes codes programs w trips (start (rules_of programs) w))
       (sym is) comes.1)
   answer-run g from (Replay name) ((bytes, is, good), h) answer answers =
       let (texts, are, all) = texts-of files (names_in file) programs h in
@@ -143,6 +144,7 @@ module _ (files : Files) (command : Command) (file : WorldFile) (programs : List
   answer-run g from (Check name) h answer answers = absurd h
   answer-run g from (Freeze name) h answer answers = absurd h
   answer-run g from (Thaw frozen name) h answer answers = absurd h
+  answer-run g from (View frozen name) h answer answers = absurd h
   answer-run g from (Make number) h answer answers = absurd h
 
   module _ (output : List ℕ) where
@@ -195,6 +197,7 @@ fits-any files (Replay name) file programs from runs =
 fits-any files (Check name) file programs from runs = absurd runs
 fits-any files (Freeze name) file programs from runs = absurd runs
 fits-any files (Thaw frozen name) file programs from runs = absurd runs
+fits-any files (View frozen name) file programs from runs = absurd runs
 fits-any files (Make number) file programs from runs = absurd runs
 
 pub headline-of : (files : Files) (command : Command) (file : WorldFile) (programs : List Program) (room : ℕ)

@@ -16,7 +16,7 @@ use Rattle.lsl_top.specs.Headline.{AreGood, IsScriptIn}
 use Rattle.lsl_top.specs.Laws.{copies}
 use Rattle.lsl_top.specs.Plays.{once_world}
 use Rattle.lsl_top.specs.Status.{number_of}
-use Rattle.lsl_top.specs.Words.{Command, Once, Check, Replay, Freeze, Thaw, Make}
+use Rattle.lsl_top.specs.Words.{Command, Once, Check, Replay, Freeze, Thaw, Make, View}
 use Rattle.lsl_top.specs.declared.status.Status.TheVariants.{Ok, WriteFault, NoMemory}
 
 -- the command plays this world from its start to its end, and the world's scripts are accepted as these programs
@@ -26,6 +26,7 @@ Runs files (Replay name) file programs = AreGood files name file programs
 Runs files (Check name) file programs = ⊥
 Runs files (Freeze name) file programs = ⊥
 Runs files (Thaw frozen name) file programs = ⊥
+Runs files (View frozen name) file programs = ⊥
 Runs files (Make number) file programs = ⊥
 
 -- of each of these trips what was sent came back

@@ -30,7 +30,7 @@ use Rattle.lsl_world.proofs.Meanings.{meant}
 use Rattle.lsl_world.proofs.Thawing.{start-fixed, start-home}
 use Rattle.lsl_top.specs.Answers.{Lasts, Written}
 use Rattle.lsl_top.specs.Goes.{IsFrozenWell, IsLast}
-use Rattle.lsl_top.specs.Plays.{Mode, Whole, Freezing, Thawing}
+use Rattle.lsl_top.specs.Plays.{Last, Homes, Frozen}
 use Rattle.lsl_top.specs.Thaws.{CanThaw}
 use Rattle.lsl_top.proofs.Fixed.{travel-keeps}
 use Rattle.lsl_top.proofs.Shaped.{shapes-fixed}
@@ -77,12 +77,11 @@ module _ (codes : List Code) (programs : List Program) (file : WorldFile) (runs 
   }
 
   -- so is a world that was frozen behind the file's steps
-  pub lasts-started : (mode : Mode) (trips : List Trip)
-      → IsLast mode codes programs (travel (rules_of programs) file.steps trips (start (rules_of programs) file)).value
-      → Lasts Written mode codes programs file
+  pub lasts-started : (last : Last) (trips : List Trip)
+      → IsLast last codes programs (travel (rules_of programs) file.steps trips (start (rules_of programs) file)).value
+      → Lasts Written last codes programs file
       (travel (rules_of programs) file.steps trips (start (rules_of programs) file)).value
-  lasts-started Whole trips last = tt
-  lasts-started Freezing trips last =
+  lasts-started Homes trips is = tt
+  lasts-started Frozen trips is =
       can-thaw (travel (rules_of programs) file.steps trips (start (rules_of programs) file)).value
-      (travel-keeps (rules_of programs) file.steps trips (start (rules_of programs) file)) last
-  lasts-started (Thawing frozen) trips last = tt
+      (travel-keeps (rules_of programs) file.steps trips (start (rules_of programs) file)) is

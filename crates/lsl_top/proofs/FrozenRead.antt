@@ -10,10 +10,10 @@ use Rattle.lsl_lines.specs.Frozen.{HasFrozenLine, IsFrozen}
 use Rattle.lsl_lines.specs.declared.file.WorldFile.{WorldFile}
 use Rattle.lsl_tree.specs.Program.{Program}
 use Rattle.lsl_region.specs.Worlds.{World}
-use Rattle.lsl_top.specs.Answers.{Answer, Comes, Grade, PlaysTexts}
+use Rattle.lsl_top.specs.Answers.{Answer, Comes, Grade, PlaysTexts, Shows}
 use Rattle.lsl_top.specs.Froms.{IsFromIn, IsFromTexts}
 use Rattle.lsl_top.specs.Held.{HoldsFrozen}
-use Rattle.lsl_top.specs.Plays.{Mode, Whole, Freezing, Thawing, Play}
+use Rattle.lsl_top.specs.Plays.{Mode, Whole, Freezing, Thawing, Viewing, Play}
 use Rattle.lsl_top.specs.Ports.{IsFrozenRead}
 use Rattle.lsl_top.specs.Thaws.{IsThawFault}
 
@@ -65,6 +65,13 @@ thaw-comes name bytes text grade from trips codes programs file answer of (inl (
 thaw-comes name bytes text grade from trips codes programs file answer of (inr (fault, first, e)) =
     inr (fault, thaw-fault codes file bytes text fault of first, e)
 
+shown-comes : (name : List ℕ) (bytes text : List ℕ) (codes : List Code) (file : WorldFile) (answer : Answer)
+    → IsFrozenReadOf bytes text → Shows codes file name bytes answer → Shows codes file name text answer
+shown-comes name bytes text codes file answer of (inl (parts, (image, is, stands), e)) =
+    inl (parts, (image, of.given image is, stands), e)
+shown-comes name bytes text codes file answer of (inr (fault, first, e)) =
+    inr (fault, thaw-fault codes file bytes text fault of first, e)
+
 pub frozen-read : (held : Option Files) (mode : Mode) (bytes : List ℕ) → IsFrozenRead held mode bytes
     → HasFrozen held mode bytes
 frozen-read held Whole bytes h = record {
@@ -97,6 +104,24 @@ frozen-read (Some files) (Thawing name) bytes h = go (files name) refl h
           thaw-comes name bytes text grade from trips codes programs file answer (frozen-head text bytes h) c;
       fits = λ codes programs file from f parts thaw.
           f parts (thaw.0, (frozen-head text bytes h).given thaw.0 thaw.1, thaw.2);
+    }
+frozen-read None (Viewing name) bytes h = record {
+  text = bytes;
+  holds = tt;
+  comes = λ grade from trips codes programs file answer c. c;
+  fits = λ codes programs file from f. f;
+}
+frozen-read (Some files) (Viewing name) bytes h = go (files name) refl h
+  where
+    go : (found : Option (List ℕ)) → files name ≡ found → IsHeadOf 2147483647 found bytes
+        → HasFrozen (Some files) (Viewing name) bytes
+    go None e h = absurd h
+    go (Some text) e h = record {
+      text = text;
+      holds = e;
+      comes = λ grade from trips codes programs file answer c.
+          shown-comes name bytes text codes file answer (frozen-head text bytes h) c;
+      fits = λ codes programs file from f. tt;
     }
 
 -- the same of a play whose scripts have these texts

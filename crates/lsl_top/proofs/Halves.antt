@@ -29,7 +29,7 @@ use Rattle.lsl_top.specs.Answers.{Answer, Comes, ComesFromStart, Due, Grade, Pla
 use Rattle.lsl_top.specs.Halves.{AreHalves, IsOnShelf, TwoHalvesAreOneRun}
 use Rattle.lsl_top.specs.Held.{HoldsFrozen}
 use Rattle.lsl_top.specs.Pieces.{lines_in, pieces_from, sent_in}
-use Rattle.lsl_top.specs.Plays.{Mode, Whole, Freezing, Thawing, play_of}
+use Rattle.lsl_top.specs.Plays.{Last, Homes, Frozen, Mode, Whole, Freezing, Thawing, play_of}
 use Rattle.lsl_top.specs.Scripts.{AreAccepted}
 use Rattle.lsl_top.specs.Thaws.{CanThaw}
 use Rattle.lsl_top.specs.declared.status.Status.TheVariants.{Ok, BadScript}
@@ -92,17 +92,17 @@ file-comes g files from trips mode name file texts text answer shelf holds h =
     (replays-plays files g from trips mode name bytes file answer is good h)
 
 -- texts of which a run was answered are accepted
-record IsRunOf (g : Grade) (trips : List Trip) (mode : Mode) (file : WorldFile) (texts : List (List ℕ))
+record IsRunOf (g : Grade) (trips : List Trip) (last : Last) (file : WorldFile) (texts : List (List ℕ))
     (answer : Answer) : Type 0 where
   programs : List Program
   codes : List Code
   accepted : AreAccepted texts programs
   has : AreCodesOf texts codes
-  comes : ComesFromStart g trips mode codes programs file answer
+  comes : ComesFromStart g trips last codes programs file answer
 
 froze-run : (g : Grade) (from : World) (trips : List Trip) (file : WorldFile) (texts : List (List ℕ)) (text : List ℕ)
     (answer : Answer) → answer.status ≡ Ok → PlaysTexts g from trips (play_of Freezing file) texts text answer
-    → IsRunOf g trips Freezing file texts answer
+    → IsRunOf g trips Frozen file texts answer
 froze-run g from trips file texts text answer well (inl (programs, codes, accepted, has, comes)) =
     record { programs = programs; codes = codes; accepted = accepted; has = has; comes = comes }
 froze-run g from trips file texts text answer well (inr (name, fault, first, e)) =
@@ -113,7 +113,7 @@ thawed-run : (from : World) (trips : List Trip) (frozen : List ℕ) (codes : Lis
     (file : WorldFile) (text image : List ℕ) (answer : Answer) → IsFrozen text image
     → IsImageIn codes file (parts_of_world codes from) image
     → Comes Due from trips (Thawing frozen) codes programs file text answer
-    → answer ≡ run_answer (Thawing frozen) codes programs file trips from
+    → answer ≡ run_answer Homes codes programs file trips from
 thawed-run from trips frozen codes programs file text image answer is stands (inl (parts, thaw, e)) = e
 thawed-run from trips frozen codes programs file text image answer is stands (inr (fault, first, e)) =
     absurd (thaw-no_fault codes file text (parts_of_world codes from) fault (image, is, stands) first)
@@ -143,29 +143,27 @@ module _ (codes : List Code) (programs : List Program) (first second whole : Wor
       ∙ ap (λ (steps : List Step). travel r steps (before ++ behind) begin) h.steps
       ∙ travel-then codes r first.steps second.steps before behind begin fits
 
-  pub whole-lines : (frozen : List ℕ)
-      → lines_in (pieces_from Whole codes r whole.steps (before ++ behind) (start r whole))
-      ≡ lines_of middle.entries ++ lines_in (pieces_from (Thawing frozen) codes r second.steps behind middle.value)
-  whole-lines frozen =
-      pieces-lines Whole codes r whole.steps (before ++ behind) (start r whole)
+  pub whole-lines : lines_in (pieces_from Homes codes r whole.steps (before ++ behind) (start r whole))
+      ≡ lines_of middle.entries ++ lines_in (pieces_from Homes codes r second.steps behind middle.value)
+  whole-lines =
+      pieces-lines Homes codes r whole.steps (before ++ behind) (start r whole)
       ∙ ap (λ (a : Told World). lines_of a.entries ++ lines_of (homes a.value)) whole-told
       ∙ ap (λ (z : List ℕ). z ++ lines_of (homes end.value)) (lines-append middle.entries end.entries)
       ∙ append_assoc (lines_of middle.entries) (lines_of end.entries) (lines_of (homes end.value))
       ∙ ap (λ (z : List ℕ). lines_of middle.entries ++ z)
-      (sym (pieces-lines (Thawing frozen) codes r second.steps behind middle.value))
+      (sym (pieces-lines Homes codes r second.steps behind middle.value))
 
-  pub whole-sent : (frozen : List ℕ)
-      → sent_in (pieces_from Whole codes r whole.steps (before ++ behind) (start r whole))
-      ≡ sent_in (pieces_from Freezing codes r first.steps before begin)
-      ++ sent_in (pieces_from (Thawing frozen) codes r second.steps behind middle.value)
-  whole-sent frozen =
-      pieces-images Whole codes r whole.steps (before ++ behind) (start r whole)
+  pub whole-sent : sent_in (pieces_from Homes codes r whole.steps (before ++ behind) (start r whole))
+      ≡ sent_in (pieces_from Frozen codes r first.steps before begin)
+      ++ sent_in (pieces_from Homes codes r second.steps behind middle.value)
+  whole-sent =
+      pieces-images Homes codes r whole.steps (before ++ behind) (start r whole)
       ∙ ap (λ (w : World). images codes r whole.steps (before ++ behind) w)
       (sym (start-same programs first whole h.first_objects))
       ∙ ap (λ (steps : List Step). images codes r steps (before ++ behind) begin) h.steps
       ∙ images-then codes r first.steps second.steps before behind begin fits
-      ∙ sym (ap₂ (λ (xs ys : List (List ℕ)). xs ++ ys) (pieces-images Freezing codes r first.steps before begin)
-      (pieces-images (Thawing frozen) codes r second.steps behind middle.value))
+      ∙ sym (ap₂ (λ (xs ys : List (List ℕ)). xs ++ ys) (pieces-images Frozen codes r first.steps before begin)
+      (pieces-images Homes codes r second.steps behind middle.value))
 
 pub halves-one : TwoHalvesAreOneRun
 halves-one files more all first_name second_name whole_name frozen first second whole texts from before behind froze
@@ -183,9 +181,9 @@ halves-one files more all first_name second_name whole_name frozen first second 
     let objects : first.objects ≡ second.objects = halves.first_objects ∙ sym halves.second_objects in
     let there = can-thaw-same codes programs first second w objects can in
     let written : lines_in froze.pieces ≡ lines_of entries ++ frozen_line image =
-    ap (λ (a : Answer). lines_in a.pieces) e ∙ pieces-lines Freezing codes r first.steps before begin in
+    ap (λ (a : Answer). lines_in a.pieces) e ∙ pieces-lines Frozen codes r first.steps before begin in
     let sends : sent_in froze.pieces ≡ images codes r first.steps before begin =
-    ap (λ (a : Answer). sent_in a.pieces) e ∙ pieces-images Freezing codes r first.steps before begin in
+    ap (λ (a : Answer). sent_in a.pieces) e ∙ pieces-images Frozen codes r first.steps before begin in
     let fits : Fits codes r first.steps before begin =
     sym (length-map before (λ (t : Trip). t.sent)) ∙ ap (λ (z : List (List ℕ)). length z) (given.sent ∙ sends) in
     let text : List ℕ = lines_in froze.pieces in
@@ -208,10 +206,10 @@ halves-one files more all first_name second_name whole_name frozen first second 
           record {
             well = (ap (λ (a : Answer). a.status) second_is, ap (λ (a : Answer). a.status) comes.1);
             lines = ap (λ (a : Answer). lines_in a.pieces) comes.1
-                ∙ whole-lines codes programs first second whole halves before behind fits frozen
+                ∙ whole-lines codes programs first second whole halves before behind fits
                 ∙ ap (λ (a : Answer). lines_of entries ++ lines_in a.pieces) (sym second_is);
             sent = ap (λ (a : Answer). sent_in a.pieces) comes.1
-                ∙ whole-sent codes programs first second whole halves before behind fits frozen
+                ∙ whole-sent codes programs first second whole halves before behind fits
                 ∙ sym (ap₂ (λ (a b : Answer). sent_in a.pieces ++ sent_in b.pieces) e second_is);
           };
     }

@@ -19,7 +19,7 @@ use Rattle.lsl_world.proofs.Taking.{all-taken}
 use Rattle.lsl_top.specs.Headline.{kept_from, output_from, report_from}
 use Rattle.lsl_top.specs.Laws.{RunsAreJournals}
 use Rattle.lsl_top.specs.Pieces.{last_piece, lines_in, pieces_from, sent_in, step_pieces}
-use Rattle.lsl_top.specs.Plays.{Mode, Whole, Freezing, Thawing}
+use Rattle.lsl_top.specs.Plays.{Last, Homes, Frozen}
 use Rattle.lsl_top.proofs.Performing.{last-silent}
 use Rattle.lsl_top.proofs.Pieces.{lines_in-append, sent_in-append}
 use Rattle.lsl_top.proofs.Written.{lines-append}
@@ -41,23 +41,23 @@ step-images codes r (step ∷ steps) trips w =
     ap (λ (z : List (List ℕ)). images_of codes step w ++ z)
     (step-images codes r steps (left step w trips) (go_on r step trips w).value)
 
-pub pieces-lines : (mode : Mode) (codes : List Code) (r : Rules) (steps : List Step) (trips : List Trip) (w : World)
-    → lines_in (pieces_from mode codes r steps trips w)
-    ≡ lines_of (travel r steps trips w).entries ++ (last_piece mode codes (travel r steps trips w).value).lines
-pieces-lines mode codes r steps trips w =
+pub pieces-lines : (last : Last) (codes : List Code) (r : Rules) (steps : List Step) (trips : List Trip) (w : World)
+    → lines_in (pieces_from last codes r steps trips w)
+    ≡ lines_of (travel r steps trips w).entries ++ (last_piece last codes (travel r steps trips w).value).lines
+pieces-lines last codes r steps trips w =
     let told = travel r steps trips w in
-    let end = last_piece mode codes told.value in
+    let end = last_piece last codes told.value in
     lines_in-append (step_pieces codes r steps trips w) (end ∷ [])
     ∙ ap (λ (z : List ℕ). z ++ lines_in (end ∷ [])) (step-lines codes r steps trips w)
     ∙ ap (λ (z : List ℕ). lines_of told.entries ++ z) (append-nil end.lines)
 
-pub pieces-images : (mode : Mode) (codes : List Code) (r : Rules) (steps : List Step) (trips : List Trip) (w : World)
-    → sent_in (pieces_from mode codes r steps trips w) ≡ images codes r steps trips w
-pieces-images mode codes r steps trips w =
-    let end = last_piece mode codes (travel r steps trips w).value in
+pub pieces-images : (last : Last) (codes : List Code) (r : Rules) (steps : List Step) (trips : List Trip) (w : World)
+    → sent_in (pieces_from last codes r steps trips w) ≡ images codes r steps trips w
+pieces-images last codes r steps trips w =
+    let end = last_piece last codes (travel r steps trips w).value in
     sent_in-append (step_pieces codes r steps trips w) (end ∷ [])
     ∙ ap (λ (z : List (List ℕ)). sent_in (step_pieces codes r steps trips w) ++ (z ++ []))
-    (sym (last-silent mode codes (travel r steps trips w).value))
+    (sym (last-silent last codes (travel r steps trips w).value))
     ∙ append-nil (sent_in (step_pieces codes r steps trips w)) ∙ step-images codes r steps trips w
 
 -- the run of the kept steps is that of all steps by their trips
@@ -73,20 +73,18 @@ report-lines programs file trips w =
     sym (lines-append told.entries (homes told.value))
     ∙ ap (λ (a : Told World). lines_of (a.entries ++ homes a.value)) (kept-travels programs file trips w)
 
-pub journal-pieces : (mode : Mode) (codes : List Code) (programs : List Program) (file : WorldFile) (trips : List Trip)
-    (w : World) → lines_in (pieces_from mode codes (rules_of programs) file.steps trips w)
-    ≡ output_from mode codes programs file trips w
-journal-pieces Whole codes programs file trips w =
-    pieces-lines Whole codes (rules_of programs) file.steps trips w ∙ report-lines programs file trips w
-journal-pieces (Thawing frozen) codes programs file trips w =
-    pieces-lines (Thawing frozen) codes (rules_of programs) file.steps trips w ∙ report-lines programs file trips w
-journal-pieces Freezing codes programs file trips w =
-    pieces-lines Freezing codes (rules_of programs) file.steps trips w
+pub journal-pieces : (last : Last) (codes : List Code) (programs : List Program) (file : WorldFile) (trips : List Trip)
+    (w : World) → lines_in (pieces_from last codes (rules_of programs) file.steps trips w)
+    ≡ output_from last codes programs file trips w
+journal-pieces Homes codes programs file trips w =
+    pieces-lines Homes codes (rules_of programs) file.steps trips w ∙ report-lines programs file trips w
+journal-pieces Frozen codes programs file trips w =
+    pieces-lines Frozen codes (rules_of programs) file.steps trips w
     ∙ ap (λ (a : Told World). lines_of a.entries ++ frozen_line (frozen_image codes a.value))
     (kept-travels programs file trips w)
 
 pub runs-journals : RunsAreJournals
-runs-journals mode codes programs file trips w = record {
-  lines = journal-pieces mode codes programs file trips w;
-  sent = pieces-images mode codes (rules_of programs) file.steps trips w;
+runs-journals last codes programs file trips w = record {
+  lines = journal-pieces last codes programs file trips w;
+  sent = pieces-images last codes (rules_of programs) file.steps trips w;
 }

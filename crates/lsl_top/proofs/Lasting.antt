@@ -9,7 +9,7 @@ use Rattle.lsl_region.specs.Worlds.{World}
 use Rattle.lsl_world.specs.Frozen.{frozen_image}
 use Rattle.lsl_top.specs.Goes.{IsFrozenWell, IsLast}
 use Rattle.lsl_top.specs.Pieces.{last_piece}
-use Rattle.lsl_top.specs.Plays.{Mode}
+use Rattle.lsl_top.specs.Plays.{Last}
 use Rattle.lsl_top.specs.Ports.{Log, Writes}
 use Rattle.lsl_top.specs.declared.writing.Trouble.{Trouble}
 use Rattle.lsl_top.specs.declared.writing.Trouble.TheVariants.{NoMemory}
@@ -37,14 +37,14 @@ writes-nothing lines a = record {
 }
 
 -- the units of the world are these
-pub writes-by : {T : Type 0} (mode : Mode) (units codes : List Code) (w : World) → units ≡ codes → (a b : Log)
-    (result : Result T Trouble) → Writes (last_piece mode units w).lines a b result
-    → Writes (last_piece mode codes w).lines a b result
-writes-by mode units codes w e a b result h =
-    subst (λ (z : List Code). Writes (last_piece mode z w).lines a b result) e h
+pub writes-by : {T : Type 0} (last : Last) (units codes : List Code) (w : World) → units ≡ codes → (a b : Log)
+    (result : Result T Trouble) → Writes (last_piece last units w).lines a b result
+    → Writes (last_piece last codes w).lines a b result
+writes-by last units codes w e a b result h =
+    subst (λ (z : List Code). Writes (last_piece last z w).lines a b result) e h
 
-pub holds-by : {T : Type 0} (mode : Mode) (units codes : List Code) (programs : List Program) (w : World)
-    → units ≡ codes → (result : Result T Trouble) → OnOk result (IsLast mode units programs w)
-    → OnOk result (IsLast mode codes programs w)
-holds-by mode units codes programs w e result h =
-    subst (λ (z : List Code). OnOk result (IsLast mode z programs w)) e h
+pub holds-by : {T : Type 0} (last : Last) (units codes : List Code) (programs : List Program) (w : World)
+    → units ≡ codes → (result : Result T Trouble) → OnOk result (IsLast last units programs w)
+    → OnOk result (IsLast last codes programs w)
+holds-by last units codes programs w e result h =
+    subst (λ (z : List Code). OnOk result (IsLast last z programs w)) e h

@@ -7,6 +7,8 @@ pub mod FrozenOne
 pub mod WorldRead
 pub mod OneCode
 pub mod OneAnswer
+pub mod CodesRun
+pub mod Counted
 pub mod Journals
 pub mod Written
 pub mod Pieces

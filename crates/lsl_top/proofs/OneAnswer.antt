@@ -19,17 +19,19 @@ use Rattle.lsl_image.specs.Images.{WorldFirst}
 use Rattle.lsl_image.specs.World.{world}
 use Rattle.lsl_image.specs.declared.faults.ImageFault.{ImageFault}
 use Rattle.lsl_image.specs.declared.parts.WorldParts.{WorldParts}
-use Rattle.lsl_image.proofs.ImageLemmas.{first-one, image-no_fault}
+use Rattle.lsl_image.proofs.ImageLemmas.{first-one, image-no_fault, image-one}
 use Rattle.lsl_region.specs.Worlds.{World}
-use Rattle.lsl_world.specs.Frozen.{shapes_of_file}
-use Rattle.lsl_top.specs.Answers.{Answer, Checks, Comes, Grade, Plays, PlaysTexts, Replays, ReplaysFile, image_refused, script_refused, summed, world_refused}
+use Rattle.lsl_world.specs.Frozen.{shapes_of_file, IsImageIn}
+use Rattle.lsl_top.specs.Answers.{Answer, Checks, Comes, Grade, Plays, PlaysTexts, Replays, ReplaysFile, image_refused, script_refused, summed, world_refused, Shows, done}
 use Rattle.lsl_top.specs.Held.{AreHeld, Holds, HoldsFrozen}
 use Rattle.lsl_top.specs.Laws.{AnswersAreOne}
 use Rattle.lsl_top.specs.Made.{made_files, made_name}
-use Rattle.lsl_top.specs.Plays.{Mode, Whole, Freezing, Thawing, Play, play_of, play_of_once, played}
+use Rattle.lsl_top.specs.Plays.{Mode, Whole, Freezing, Thawing, Play, play_of, play_of_once, played, Viewing}
 use Rattle.lsl_top.specs.Scripts.{AreAccepted, FirstRefused, IsRefusedAt}
 use Rattle.lsl_top.specs.Thaws.{IsThawFault, IsThawOf}
-use Rattle.lsl_top.specs.Words.{Once, Check, Replay, Freeze, Thaw, Make}
+use Rattle.lsl_top.specs.Words.{Once, Check, Replay, Freeze, Thaw, Make, View}
+use Rattle.lsl_view.specs.Names.{script_names}
+use Rattle.lsl_view.specs.Parts.{view_of_parts}
 use Rattle.lsl_top.proofs.FrozenOne.{frozen-one, has-line}
 use Rattle.lsl_top.proofs.OneCode.{codes-one}
 use Rattle.lsl_top.proofs.OneText.{no_fault}
@@ -134,6 +136,25 @@ thaw-fault-one codes file text f g (inr (image, is, first)) (inr (other, k, seco
     first-one (world (shapes_of_file file) codes) other f g
     (subst (λ (z : List ℕ). WorldFirst (shapes_of_file file) codes z f) (frozen-one text image other is k) first) second
 
+-- a text has one world
+pub thawed-one : (codes : List Code) (file : WorldFile) (text : List ℕ) (a b : WorldParts)
+    → IsThawOf codes file text a → IsThawOf codes file text b → a ≡ b
+thawed-one codes file text a b (image, is, stands) (other, k, like) =
+    image-one (world (shapes_of_file file) codes) other a b
+    (subst (λ (z : List ℕ). IsImageIn codes file a z) (frozen-one text image other is k) stands) like
+
+shown-one : (codes : List Code) (file : WorldFile) (name text : List ℕ) (a b : Answer) → Shows codes file name text a
+    → Shows codes file name text b → a ≡ b
+shown-one codes file name text a b (inl (p, t, e)) (inl (q, u, f)) =
+    e ∙ ap (λ (parts : WorldParts). done (view_of_parts codes (script_names file) parts))
+    (thawed-one codes file text p q t u) ∙ sym f
+shown-one codes file name text a b (inl (p, t, e)) (inr (fault, u, f)) =
+    absurd (thaw-no_fault codes file text p fault t u)
+shown-one codes file name text a b (inr (fault, t, e)) (inl (p, u, f)) =
+    absurd (thaw-no_fault codes file text p fault u t)
+shown-one codes file name text a b (inr (one, t, e)) (inr (other, u, f)) =
+    e ∙ ap (λ (fault : ImageFault). image_refused name fault) (thaw-fault-one codes file text one other t u) ∙ sym f
+
 -- of the same scripts and texts comes one answer, due or written
 comes-one : (g h : Grade) (from : World) (trips : List Trip) (mode : Mode) (codes : List Code) (programs : List Program)
     (file : WorldFile) (text : List ℕ) (a b : Answer) → Comes g from trips mode codes programs file text a
@@ -147,6 +168,7 @@ comes-one g h from trips (Thawing name) codes programs file text a b (inr (fault
     absurd (thaw-no_fault codes file text p fault u t)
 comes-one g h from trips (Thawing name) codes programs file text a b (inr (one, t, e)) (inr (other, u, f)) =
     e ∙ ap (λ (fault : ImageFault). image_refused name fault) (thaw-fault-one codes file text one other t u) ∙ sym f
+comes-one g h from trips (Viewing name) codes programs file text a b p q = shown-one codes file name text a b p q
 
 plays-texts-one : (g h : Grade) (from : World) (trips : List Trip) (play : Play) (texts : List (List ℕ)) (text : List ℕ)
     (a b : Answer) → PlaysTexts g from trips play texts text a → PlaysTexts h from trips play texts text b → a ≡ b
@@ -171,6 +193,9 @@ texts-come files Whole g from trips names file texts t u a h k p = p
 texts-come files Freezing g from trips names file texts t u a h k p = p
 texts-come files (Thawing name) g from trips names file texts t u a h k p =
     subst (λ (z : List ℕ). PlaysTexts g from trips (played (Thawing name) names file) texts z a)
+    (text-one files name t u h k) p
+texts-come files (Viewing name) g from trips names file texts t u a h k p =
+    subst (λ (z : List ℕ). PlaysTexts g from trips (played (Viewing name) names file) texts z a)
     (text-one files name t u h k) p
 
 -- what is answered to a play whose scripts have these texts
@@ -289,6 +314,8 @@ answers-one files from trips (Replay name) g h a b p q = files-one files g h fro
 answers-one files from trips (Freeze name) g h a b p q = files-one files g h from trips Freezing name a b p q
 answers-one files from trips (Thaw frozen name) g h a b p q =
     files-one files g h from trips (Thawing frozen) name a b p q
+answers-one files from trips (View frozen name) g h a b p q =
+    files-one files g h from trips (Viewing frozen) name a b p q
 answers-one files from trips (Make number) g h a b (one, p, e) (other, q, f) =
     e ∙ ap (λ (z : Answer). summed number z)
     (files-one (made_files number) g h from trips Whole made_name one other p q) ∙ sym f

@@ -4,6 +4,7 @@ use Rattle.std.specs.List.{AllZip}
 use Rattle.lsl_ports.specs.Shelf.{Files}
 use Rattle.lsl_ports.specs.Trips.{Trip}
 use Rattle.lsl_code.specs.declared.woven_units.Woven.{Woven as Code}
+use Rattle.lsl_image.specs.declared.parts.WorldParts.{WorldParts}
 use Rattle.lsl_image.specs.World.{world}
 use Rattle.lsl_image.proofs.ImageLemmas.{image-one}
 use Rattle.lsl_build.specs.Codes.{AreCodesOf}
@@ -13,25 +14,31 @@ use Rattle.lsl_lines.specs.World.{IsWorld}
 use Rattle.lsl_lines.specs.declared.file.WorldFile.{WorldFile}
 use Rattle.lsl_tree.specs.Program.{Program}
 use Rattle.lsl_region.specs.Worlds.{World}
-use Rattle.lsl_world.specs.Frozen.{IsImageIn, parts_of_world, shapes_of_file}
+use Rattle.lsl_view.specs.Names.{AreNamedBy, script_names}
+use Rattle.lsl_view.specs.Parts.{view_of_parts}
+use Rattle.lsl_view.specs.Source.{view_of_world}
+use Rattle.lsl_view.proofs.Members.{views_are_of_the_source}
+use Rattle.lsl_world.specs.Codes.{AreRunBy}
+use Rattle.lsl_world.specs.Frozen.{AgreesWith, IsImageIn, parts_of_world, shapes_of_file}
 use Rattle.lsl_world.specs.Programs.{rules_of}
 use Rattle.lsl_world.specs.Reports.{journal_of}
 use Rattle.lsl_world.specs.Starts.{start}
-use Rattle.lsl_top.specs.Answers.{Answer, Answers, Comes, Grade, made_piece, run_answer}
+use Rattle.lsl_top.specs.Answers.{Answer, Answers, Comes, Grade, made_piece, run_answer, Shows}
 use Rattle.lsl_top.specs.Froms.{IsFromOf}
 use Rattle.lsl_top.specs.Headline.{IsFrozenIn, IsScriptIn, IsWorldIn, Outputs, output_from, report_from}
 use Rattle.lsl_top.specs.Held.{AreHeld}
 use Rattle.lsl_top.specs.Made.{made_files, made_line, made_name}
 use Rattle.lsl_top.specs.Pieces.{lines_in}
-use Rattle.lsl_top.specs.Plays.{Mode, Whole, Freezing, Thawing, names_in, once_world, play_of, play_of_once}
+use Rattle.lsl_top.specs.Plays.{Last, Homes, Frozen, Whole, Freezing, Thawing, Viewing, names_in, once_world, play_of, play_of_once}
 use Rattle.lsl_top.specs.Scripts.{AreAccepted}
 use Rattle.lsl_top.specs.Thaws.{IsFrom}
-use Rattle.lsl_top.specs.Words.{Command, Once, Check, Replay, Freeze, Thaw, Make}
+use Rattle.lsl_top.specs.Words.{Command, Once, Check, Replay, Freeze, Thaw, Make, View}
 use Rattle.lsl_top.specs.declared.status.Status.TheVariants.{Ok}
 use Rattle.lsl_top.proofs.FrozenOne.{frozen-one}
 use Rattle.lsl_top.proofs.Journals.{journal-pieces}
 use Rattle.lsl_top.proofs.Summed.{summed-well}
-use Rattle.lsl_top.proofs.OneAnswer.{plays-programs, plays-texts, programs-one, replays-plays, some-one, text-one, texts-accepted, texts-one, thaw-no_fault, world-one}
+use Rattle.lsl_top.proofs.OneAnswer.{plays-programs, plays-texts, programs-one, replays-plays, some-one, text-one, texts-accepted, texts-one, thaw-no_fault, world-one, thawed-one}
+use Rattle.lsl_top.proofs.CodesRun.{codes-named, codes-run}
 use Rattle.lsl_top.proofs.OneCode.{codes-one}
 
 -- the texts of scripts that are accepted
@@ -60,12 +67,12 @@ pub record IsOutput (lines : List ℕ) (answer : Answer) : Type 0 where
   pub well : answer.status ≡ Ok
   pub is : lines_in answer.pieces ≡ lines
 
-run-output : (mode : Mode) (codes : List Code) (programs : List Program) (file : WorldFile) (trips : List Trip)
-    (w : World) (lines : List ℕ) (answer : Answer) → answer ≡ run_answer mode codes programs file trips w
-    → lines ≡ output_from mode codes programs file trips w → IsOutput lines answer
-run-output mode codes programs file trips w lines answer e are = record {
+run-output : (last : Last) (codes : List Code) (programs : List Program) (file : WorldFile) (trips : List Trip)
+    (w : World) (lines : List ℕ) (answer : Answer) → answer ≡ run_answer last codes programs file trips w
+    → lines ≡ output_from last codes programs file trips w → IsOutput lines answer
+run-output last codes programs file trips w lines answer e are = record {
   well = ap (λ (a : Answer). a.status) e;
-  is = ap (λ (a : Answer). lines_in a.pieces) e ∙ journal-pieces mode codes programs file trips w ∙ sym are;
+  is = ap (λ (a : Answer). lines_in a.pieces) e ∙ journal-pieces last codes programs file trips w ∙ sym are;
 }
 
 thaw-output : (g : Grade) (from : World) (trips : List Trip) (name : List ℕ) (codes : List Code)
@@ -74,8 +81,25 @@ thaw-output : (g : Grade) (from : World) (trips : List Trip) (name : List ℕ) (
     → lines ≡ report_from programs file trips from → Comes g from trips (Thawing name) codes programs file text answer
     → IsOutput lines answer
 thaw-output g from trips name codes programs file text image lines answer is stands are (inl (parts, thaw, e)) =
-    run-output (Thawing name) codes programs file trips from lines answer e are
+    run-output Homes codes programs file trips from lines answer e are
 thaw-output g from trips name codes programs file text image lines answer is stands are (inr (fault, first, e)) =
+    absurd (thaw-no_fault codes file text (parts_of_world codes from) fault (image, is, stands) first)
+
+-- what is shown of a world that the text has is what its scripts' texts have there
+view-output : (from : World) (name : List ℕ) (codes : List Code) (programs : List Program) (file : WorldFile)
+    (text image lines : List ℕ) (answer : Answer) → AreRunBy programs codes → AreNamedBy programs codes
+    → IsFrozen text image → AgreesWith programs file from → IsImageIn codes file (parts_of_world codes from) image
+    → lines ≡ view_of_world programs from → Shows codes file name text answer → IsOutput lines answer
+view-output from name codes programs file text image lines answer run named is agrees stands are
+    (inl (parts, thaw, e)) =
+    let same = thawed-one codes file text parts (parts_of_world codes from) thaw (image, is, stands) in record {
+      well = ap (λ (a : Answer). a.status) e;
+      is = ap (λ (a : Answer). lines_in a.pieces) e ∙ append-nil (view_of_parts codes (script_names file) parts)
+          ∙ ap (λ (p : WorldParts). view_of_parts codes (script_names file) p) same
+          ∙ views_are_of_the_source programs codes file from run named agrees ∙ sym are;
+    }
+view-output from name codes programs file text image lines answer run named is agrees stands are
+    (inr (fault, first, e)) =
     absurd (thaw-no_fault codes file text (parts_of_world codes from) fault (image, is, stands) first)
 
 replay-output : (g : Grade) (files : Files) (from : World) (name : List ℕ) (trips : List Trip) (lines : List ℕ)
@@ -85,7 +109,7 @@ replay-output g files from name trips lines answer (file, programs, ((bytes, is,
     let (texts, are, all) = texts-of files (names_in file) programs h in
     let (codes, text, come) = plays-programs files g from trips (play_of Whole file) programs answer texts are all
     (replays-plays files g from trips Whole name bytes file answer is good answers) in
-    run-output Whole codes programs file trips (start (rules_of programs) file) lines answer come.1 e
+    run-output Homes codes programs file trips (start (rules_of programs) file) lines answer come.1 e
 
 pub outputs-answer : (g : Grade) (files : Files) (from : World) (command : Command) (trips : List Trip)
     (lines : List ℕ) (answer : Answer) → Outputs files from command trips lines
@@ -94,7 +118,7 @@ outputs-answer g files from (Once name) trips lines answer (programs, h, e) answ
     let (texts, are, all) = texts-of files (name ∷ []) programs h in
     let (codes, text, come) = plays-programs files g from trips (play_of_once name) programs answer texts are all answers
     in
-    run-output Whole codes programs once_world trips (start (rules_of programs) once_world) lines answer come.1 e
+    run-output Homes codes programs once_world trips (start (rules_of programs) once_world) lines answer come.1 e
 outputs-answer g files from (Check name) trips lines answer h answers = absurd h
 outputs-answer g files from (Replay name) trips lines answer h answers =
     replay-output g files from name trips lines answer h answers
@@ -104,7 +128,7 @@ outputs-answer g files from (Freeze name) trips lines answer
     (accepted-texts files (names_in file) programs texts h are) has
     (plays-texts files g from trips (play_of Freezing file) texts [] answer are tt
     (replays-plays files g from trips Freezing name bytes file answer is good answers)) in
-    run-output Freezing codes programs file trips (start (rules_of programs) file) lines answer come.1 e
+    run-output Frozen codes programs file trips (start (rules_of programs) file) lines answer come.1 e
 outputs-answer g files from (Thaw frozen name) trips lines answer
     (file, programs, codes, ((bytes, is, good), h), (texts, are, has), (text, image, held, of, agrees, stands), e)
     answers =
@@ -113,6 +137,15 @@ outputs-answer g files from (Thaw frozen name) trips lines answer
     (plays-texts files g from trips (play_of (Thawing frozen) file) texts text answer are held
     (replays-plays files g from trips (Thawing frozen) name bytes file answer is good answers)) in
     thaw-output g from trips frozen codes programs file text image lines answer of stands e come
+outputs-answer g files from (View frozen name) trips lines answer
+    (file, programs, codes, ((bytes, is, good), h), (texts, are, has), (text, image, held, of, agrees, stands), e)
+    answers =
+    let accepted = accepted-texts files (names_in file) programs texts h are in
+    let come = texts-accepted g from trips (play_of (Viewing frozen) file) texts text programs codes answer accepted has
+    (plays-texts files g from trips (play_of (Viewing frozen) file) texts text answer are held
+    (replays-plays files g from trips (Viewing frozen) name bytes file answer is good answers)) in
+    view-output from frozen codes programs file text image lines answer (codes-run texts programs codes accepted has)
+    (codes-named texts programs codes accepted has) of agrees stands e come
 outputs-answer g files from (Make number) trips lines answer (file, programs, good, e) (whole, answers, f) =
     let report = lines_of (journal_of programs file trips) in
     let out : IsOutput report whole =
@@ -168,3 +201,5 @@ outputs-fit files from (Make number) trips lines h = tt
 outputs-fit files from (Thaw frozen name) trips lines (file, programs, codes, (world, h), (texts, are, has), given, e) =
     thaw-fits files frozen name file texts programs codes from world are
     (accepted-texts files (names_in file) programs texts h are) has given
+outputs-fit files from (View frozen name) trips lines h =
+    λ bytes file is good texts text are holds programs codes all has. tt

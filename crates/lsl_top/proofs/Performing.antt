@@ -12,7 +12,7 @@ use Rattle.lsl_world.specs.Programs.{rules_of}
 use Rattle.lsl_world.specs.Travels.{travel}
 use Rattle.lsl_top.specs.Goes.{Done, Goes, IsLast, Performs}
 use Rattle.lsl_top.specs.Pieces.{Piece, last_piece, pieces_from, step_pieces}
-use Rattle.lsl_top.specs.Plays.{Mode, Whole, Freezing, Thawing}
+use Rattle.lsl_top.specs.Plays.{Last, Homes, Frozen}
 use Rattle.lsl_top.specs.Ports.{Log, Wire, Writes}
 use Rattle.lsl_top.specs.Promise.{IsBegun, IsWhole}
 use Rattle.lsl_top.specs.declared.writing.Trouble.{Trouble}
@@ -21,21 +21,20 @@ use Rattle.lsl_top.proofs.Pieces.{begun-more, begun-one, begun-then, whole-one, 
 use Rattle.lsl_top.proofs.Written.{rose-later}
 
 -- nothing is sent at the end
-pub last-silent : (mode : Mode) (codes : List Code) (w : World) → [] ≡ (last_piece mode codes w).sent
-last-silent Whole codes w = refl
-last-silent Freezing codes w = refl
-last-silent (Thawing frozen) codes w = refl
+pub last-silent : (last : Last) (codes : List Code) (w : World) → [] ≡ (last_piece last codes w).sent
+last-silent Homes codes w = refl
+last-silent Frozen codes w = refl
 
-module _ (gives : List ℕ → Option (List ℕ) → Type 0) (codes : List Code) (mode : Mode) (steps : List Step)
+module _ (gives : List ℕ → Option (List ℕ) → Type 0) (codes : List Code) (last : Last) (steps : List Step)
     (IsThen IsNow : List Program → World → Type 0) where
   abbrev pieces : List Program → World → List Trip → List Piece
-  pieces programs w trips = pieces_from mode codes (rules_of programs) steps trips w
+  pieces programs w trips = pieces_from last codes (rules_of programs) steps trips w
 
   abbrev behind : List Program → World → List Trip → World
   behind programs w trips = (travel (rules_of programs) steps trips w).value
 
   abbrev Then : List Program → World → List Trip → Type 0
-  Then programs w trips = IsLast mode codes programs (behind programs w trips)
+  Then programs w trips = IsLast last codes programs (behind programs w trips)
 
   -- the steps stopped
   pub performs-stopped : {T : Type 0} (a b : Log) (p q : Wire) (e : Trouble)
@@ -49,7 +48,7 @@ module _ (gives : List ℕ → Option (List ℕ) → Type 0) (codes : List Code)
         let (done, stopped) = goes.runs programs w is honest in (
           done,
           begun-more done (step_pieces codes r steps goes.trips w)
-              (last_piece mode codes (behind programs w goes.trips) ∷ []) goes.trips a.sunk b.sunk stopped.begun,
+              (last_piece last codes (behind programs w goes.trips) ∷ []) goes.trips a.sunk b.sunk stopped.begun,
         );
     counted = goes.counted;
     links_counted = goes.links_counted;
@@ -59,8 +58,8 @@ module _ (gives : List ℕ → Option (List ℕ) → Type 0) (codes : List Code)
   -- the steps were done, and then it was to be written what is told at the end
   pub performs-done : {T U : Type 0} (u : U) (a b c : Log) (p q : Wire) (result : Result T Trouble)
       → Goes gives codes IsThen IsNow steps a b p q (OkResult u)
-      → ((programs : List Program) (w : World) → IsNow programs w → Writes (last_piece mode codes w).lines b c result)
-      → ((programs : List Program) (w : World) → IsNow programs w → OnOk result (IsLast mode codes programs w))
+      → ((programs : List Program) (w : World) → IsNow programs w → Writes (last_piece last codes w).lines b c result)
+      → ((programs : List Program) (w : World) → IsNow programs w → OnOk result (IsLast last codes programs w))
       → b.faults ≤ c.faults → (IsErrOf result WriteFault → Rose b.faults c.faults)
       → Performs gives IsThen Then pieces a c p q result
   performs-done {T = T} u a b c p q result goes written holds counted cause = record {
@@ -69,34 +68,34 @@ module _ (gives : List ℕ → Option (List ℕ) → Type 0) (codes : List Code)
     runs = λ programs w is honest.
         let d = goes.runs programs w is honest in
         let v = behind programs w goes.trips in
-        last result programs w d (written programs v d.value) (holds programs v d.value);
+        finished result programs w d (written programs v d.value) (holds programs v d.value);
     counted = let le = goes.counted in omega arith;
     links_counted = goes.links_counted;
     cause = λ f. rose-later a.faults b.faults c.faults goes.counted counted (cause f);
   }
     where
-      last : (result : Result T Trouble) (programs : List Program) (w : World)
+      finished : (result : Result T Trouble) (programs : List Program) (w : World)
           → Done codes (rules_of programs) (IsNow programs) steps w goes.trips a.sunk b.sunk
-          → Writes (last_piece mode codes (behind programs w goes.trips)).lines b c result
+          → Writes (last_piece last codes (behind programs w goes.trips)).lines b c result
           → OnOk result (Then programs w goes.trips)
           → MatchResult result
           (λ _. IsWhole (pieces programs w goes.trips) goes.trips a.sunk c.sunk × Then programs w goes.trips)
           (λ _. IsBegun (pieces programs w goes.trips) goes.trips a.sunk c.sunk)
-      last (OkResult t) programs w d written holds =
-          let end = last_piece mode codes (behind programs w goes.trips) in
+      finished (OkResult t) programs w d written holds =
+          let end = last_piece last codes (behind programs w goes.trips) in
           let first = step_pieces codes (rules_of programs) steps goes.trips w in (
             subst (λ (z : List Trip). IsWhole (first ++ end ∷ []) z a.sunk c.sunk) (append-nil goes.trips)
                 (whole-then first (end ∷ []) goes.trips [] a.sunk b.sunk c.sunk d.whole
                 (whole-one end end.lines [] b.sunk c.sunk refl
-                (last-silent mode codes (behind programs w goes.trips)) written.ok)),
+                (last-silent last codes (behind programs w goes.trips)) written.ok)),
             holds,
           )
-      last (Err e) programs w d written holds =
-          let end = last_piece mode codes (behind programs w goes.trips) in
+      finished (Err e) programs w d written holds =
+          let end = last_piece last codes (behind programs w goes.trips) in
           let first = step_pieces codes (rules_of programs) steps goes.trips w in
           subst (λ (z : List Trip). IsBegun (first ++ end ∷ []) z a.sunk c.sunk) (append-nil goes.trips) (
             length first + 0,
             begun-then first (end ∷ []) goes.trips [] a.sunk b.sunk c.sunk d.whole 0
                 (begun-one end end.lines [] b.sunk c.sunk refl (begins-is [] [] end.sent (begins-none [])
-                (last-silent mode codes (behind programs w goes.trips))) written.part),
+                (last-silent last codes (behind programs w goes.trips))) written.part),
           )

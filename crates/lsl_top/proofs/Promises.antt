@@ -11,15 +11,15 @@ use Rattle.lsl_top.specs.Answers.{Answer, Answers, Grade, Due, Written}
 use Rattle.lsl_top.specs.Froms.{IsFromOf, IsFromWords}
 use Rattle.lsl_top.specs.Headline.{Outputs, WritesLines}
 use Rattle.lsl_top.specs.Named.{IsNamed, NamedRose}
-use Rattle.lsl_top.specs.Ports.{HasAnswer, IsOwn, Ports, Serves}
-use Rattle.lsl_top.specs.Promise.{Keeps, KeepsTo, SendsNothing, WritesNothing, Wrote}
+use Rattle.lsl_top.specs.Ports.{HasAnswer, IsOwn, Ports, Serves, gives_by}
+use Rattle.lsl_top.specs.Promise.{Keeps, KeepsTo, RunsNothing, SendsNothing, WritesNothing, Wrote}
 use Rattle.lsl_top.specs.Words.{Command}
 use Rattle.lsl_top.specs.declared.status.Status.{Status}
 use Rattle.lsl_top.specs.declared.status.Status.TheVariants.{Ok, Usage, BadWorld, BadScript, ReadFault, WriteFault, BadImage, NoMemory}
 use Rattle.lsl_top.proofs.OneAnswer.{answers-one}
 use Rattle.lsl_top.proofs.Outputs.{outputs-answer, outputs-fit}
 use Rattle.lsl_top.proofs.Pieces.{begun-partly}
-use Rattle.lsl_top.proofs.Trips.{went-told}
+use Rattle.lsl_top.proofs.Trips.{none-by, went-by, went-told}
 
 module _ (files : Files) (from : World) (command : Command) (trips : List Trip) (lines : List ℕ)
     (outputs : Outputs files from command trips lines) (old new : Option (List ℕ)) where
@@ -67,8 +67,8 @@ own-status WriteFault u r w = absurd (w refl)
 
 module _ (gives : List ℕ → Option (List ℕ) → Type 0) (held : Option Files) (words : Option Command)
     (command : Command) (is : words ≡ Some command) (old new : Ports) (status : Status)
-    (h : Serves gives (IsFromOf held command) (λ grade from trips. Answers grade held from trips command)
-    (IsNamed held command) old new status) where
+    (h : Serves (gives_by command gives) (IsFromOf held command)
+    (λ grade from trips. Answers grade held from trips command) (IsNamed held command) old new status) where
   pub promise-usage : (status ≡ Usage → words ≡ None) × (words ≡ None → status ≡ Usage)
   promise-usage = (λ e. absurd (h.no_usage e), λ e. let both : Some command ≡ None = sym is ∙ e in absurd (cc))
 
@@ -86,13 +86,16 @@ module _ (gives : List ℕ → Option (List ℕ) → Type 0) (held : Option File
       go NoMemory e n = absurd n
 
   pub promise-kept : (trips : List Trip) × Went gives old.wire.told new.wire.told trips
-      × (SendsNothing status → trips ≡ [])
+      × (SendsNothing status ⊎ RunsNothing words → trips ≡ [])
       × ((from : World) → IsFromWords held words from → Honest IsIntact trips
       → Keeps held from trips words status old.log.sunk new.log.sunk)
   promise-kept = (
     h.trips,
-    h.went,
-    h.silent,
+    went-by gives command old.wire.told new.wire.told h.trips h.went,
+    λ e. elim e [
+      | inl nothing ↦ h.silent nothing
+      | inr runs ↦ none-by gives command old.wire.told new.wire.told h.trips h.went (subst RunsNothing is runs)
+    ],
     λ from fits honest. subst (λ w. Keeps held from h.trips w status old.log.sunk new.log.sunk) (sym is)
         (h.keeps from (subst (λ w. IsFromWords held w from) is fits) honest),
   )
@@ -131,7 +134,7 @@ module _ (gives : List ℕ → Option (List ℕ) → Type 0) (held : Option File
       → WritesLines lines status old.log.sunk new.log.sunk
   promise-headline files from other before trips lines told e tells telling honest outputs quiet whole =
       let mine : h.trips ≡ trips =
-      went-told gives old.wire.told new.wire.told before h.trips trips tells telling h.went in
+      went-told (gives_by command gives) old.wire.told new.wire.told before h.trips trips tells telling h.went in
       let out : Outputs files from command trips lines =
       subst (λ c. Outputs files from c trips lines) (sym (same other e)) outputs in
       let fits : IsFromOf held command from =

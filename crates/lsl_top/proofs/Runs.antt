@@ -20,59 +20,35 @@ use Rattle.lsl_world.specs.Frozen.{AgreesWith, IsImageIn, parts_in, parts_of_wor
 use Rattle.lsl_world.specs.Programs.{rules_of}
 use Rattle.lsl_world.specs.Stands.{IsOf}
 use Rattle.lsl_world.specs.Travels.{travel}
-use Rattle.lsl_top.specs.Answers.{Comes, ComesFromStart}
-use Rattle.lsl_top.specs.Froms.{IsFromIn}
 use Rattle.lsl_top.specs.Goes.{IsLast, Performs}
 use Rattle.lsl_top.specs.Pieces.{pieces_from}
-use Rattle.lsl_top.specs.Plays.{Mode, Whole, Freezing, Thawing}
-use Rattle.lsl_top.specs.Ports.{Concludes, Log, Wire}
+use Rattle.lsl_top.specs.Plays.{Last}
+use Rattle.lsl_top.specs.Ports.{Log, Wire}
 use Rattle.lsl_top.specs.Thaws.{IsFrom, IsThawFault, IsThawOf}
-use Rattle.lsl_top.specs.declared.status.Status.{Status}
 use Rattle.lsl_top.specs.declared.writing.Trouble.{Trouble}
 use Rattle.lsl_top.proofs.Faults.{err-one}
-use Rattle.lsl_top.proofs.Finishing.{concludes-as}
 
--- a run from the file's start is what comes of it, where nothing is thawed
-pub built-started : (gives : List ℕ → Option (List ℕ) → Type 0) (mode : Mode) (codes : List Code)
-    (programs : List Program) (file : WorldFile) (text : List ℕ) (a b : Log) (p q : Wire) (status : Status)
-    → (mode ≡ Whole) ⊎ (mode ≡ Freezing)
-    → Concludes gives (λ from. Unit {0}) (λ grade from trips. ComesFromStart grade trips mode codes programs file) a b p q
-    status
-    → Concludes gives (IsFromIn mode codes programs file text)
-    (λ grade from trips. Comes grade from trips mode codes programs file text) a b p q status
-built-started gives Whole codes programs file text a b p q status e h =
-    concludes-as gives (λ from. Unit {0}) (IsFromIn Whole codes programs file text)
-    (λ grade from trips. ComesFromStart grade trips Whole codes programs file)
-    (λ grade from trips. Comes grade from trips Whole codes programs file text) a b p q status
-    (λ from fits. tt) (λ grade from trips answer come. come) h
-built-started gives Freezing codes programs file text a b p q status e h =
-    concludes-as gives (λ from. Unit {0}) (IsFromIn Freezing codes programs file text)
-    (λ grade from trips. ComesFromStart grade trips Freezing codes programs file)
-    (λ grade from trips. Comes grade from trips Freezing codes programs file text) a b p q status
-    (λ from fits. tt) (λ grade from trips answer come. come) h
-built-started gives (Thawing name) codes programs file text a b p q status (inl e) h = absurd (cc)
-built-started gives (Thawing name) codes programs file text a b p q status (inr e) h = absurd (cc)
-
-abbrev Ended : Mode → List Code → List Step → List Program → World → List Trip → Type 0
-Ended mode codes steps programs w trips =
-    IsLast mode codes programs (travel (rules_of programs) steps trips w).value
+abbrev Ended : Last → List Code → List Step → List Program → World → List Trip → Type 0
+Ended last codes steps programs w trips =
+    IsLast last codes programs (travel (rules_of programs) steps trips w).value
 
 -- a run of these units and steps
 pub performs-by : {T : Type 0} (gives : List ℕ → Option (List ℕ) → Type 0) (IsThen : List Program → World → Type 0)
-    (mode : Mode) (codes units : List Code) (steps others : List Step) (a b : Log) (p q : Wire)
+    (last : Last) (codes units : List Code) (steps others : List Step) (a b : Log) (p q : Wire)
     (result : Result T Trouble) → codes ≡ units → steps ≡ others
-    → Performs gives IsThen (λ programs w trips. IsLast mode codes programs (travel (rules_of programs) steps trips w).value)
-    (λ programs w trips. pieces_from mode codes (rules_of programs) steps trips w) a b p q result
     → Performs gives IsThen
-    (λ programs w trips. IsLast mode units programs (travel (rules_of programs) others trips w).value)
-    (λ programs w trips. pieces_from mode units (rules_of programs) others trips w) a b p q result
-performs-by gives IsThen mode codes units steps others a b p q result e f h =
+    (λ programs w trips. IsLast last codes programs (travel (rules_of programs) steps trips w).value)
+    (λ programs w trips. pieces_from last codes (rules_of programs) steps trips w) a b p q result
+    → Performs gives IsThen
+    (λ programs w trips. IsLast last units programs (travel (rules_of programs) others trips w).value)
+    (λ programs w trips. pieces_from last units (rules_of programs) others trips w) a b p q result
+performs-by gives IsThen last codes units steps others a b p q result e f h =
     subst (λ (z : List Step). Performs gives IsThen
-    (λ programs w trips. IsLast mode units programs (travel (rules_of programs) z trips w).value)
-    (λ programs w trips. pieces_from mode units (rules_of programs) z trips w) a b p q result) f
+    (λ programs w trips. IsLast last units programs (travel (rules_of programs) z trips w).value)
+    (λ programs w trips. pieces_from last units (rules_of programs) z trips w) a b p q result) f
     (subst (λ (z : List Code). Performs gives IsThen
-    (λ programs w trips. IsLast mode z programs (travel (rules_of programs) steps trips w).value)
-    (λ programs w trips. pieces_from mode z (rules_of programs) steps trips w) a b p q result) e h)
+    (λ programs w trips. IsLast last z programs (travel (rules_of programs) steps trips w).value)
+    (λ programs w trips. pieces_from last z (rules_of programs) steps trips w) a b p q result) e h)
 
 -- the refusal of a text without a frozen world, and of one whose world isn't that of the file
 pub untaken : {T : Type 0} (codes : List Code) (file : WorldFile) (text : List ℕ) (refusal : Refusal ImageFault)

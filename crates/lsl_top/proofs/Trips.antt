@@ -2,7 +2,7 @@
 use Rattle.std.proofs.Common.{◌≡◌, ℕ, Bool, true, false, List, [], ◌∷◌, ◌++◌, length, drop, take, Option, Some, None, refl, ap, sym, ◌∙◌, subst, arith, inl}
 use Rattle.std.specs.Prelude.{if◌then◌else◌}
 use Rattle.std.proofs.lemmas.List.{append_cancel_left, length-map}
-use Rattle.std.proofs.lemmas.List.Elements.{All-append, All-drop, All-nil, All-take, All-weaker}
+use Rattle.std.proofs.lemmas.List.Elements.{All-append, All-drop, All-head, All-nil, All-take, All-weaker}
 use Rattle.lsl_ports.specs.Growth.{Grew}
 use Rattle.lsl_ports.specs.Trips.{CameBackSo, Honest, Trip, Went, sent_of}
 use Rattle.lsl_ports.proofs.Growth.{grew-none, grew-then}
@@ -16,10 +16,49 @@ use Rattle.lsl_world.specs.Travels.{go_on, images_of, is_crossing, left}
 use Rattle.lsl_world.proofs.Regions.{go_on-here}
 use Rattle.lsl_world.proofs.Runs.{images-none, images-one}
 use Rattle.lsl_top.specs.Laws.{CopiesAreHonest}
+use Rattle.lsl_top.specs.Ports.{gives_by}
+use Rattle.lsl_top.specs.Promise.{RunsNothing}
+use Rattle.lsl_top.specs.Words.{Command, Once, Check, Replay, Freeze, Thaw, View, Make}
 
 -- a link that isn't called made no trips
 pub went-none : (gives : List ℕ → Option (List ℕ) → Type 0) (told : Option (List Trip)) → Went gives told told []
 went-none gives told = record { grew = grew-none told; given = All-nil (λ (t : Trip). gives t.sent t.back) }
+
+-- what may come back in a command may come back
+gives-by : (gives : List ℕ → Option (List ℕ) → Type 0) (command : Command) (sent : List ℕ) (back : Option (List ℕ))
+    → gives_by command gives sent back → gives sent back
+gives-by gives (Once name) sent back h = h
+gives-by gives (Check name) sent back h = absurd h
+gives-by gives (Replay name) sent back h = h
+gives-by gives (Freeze name) sent back h = h
+gives-by gives (Thaw frozen name) sent back h = h
+gives-by gives (View frozen name) sent back h = absurd h
+gives-by gives (Make number) sent back h = h
+
+pub went-by : (gives : List ℕ → Option (List ℕ) → Type 0) (command : Command) (old new : Option (List Trip))
+    (trips : List Trip) → Went (gives_by command gives) old new trips → Went gives old new trips
+went-by gives command old new trips went = record {
+  grew = went.grew;
+  given = All-weaker (λ (t : Trip). gives_by command gives t.sent t.back) (λ (t : Trip). gives t.sent t.back)
+      (λ t h. gives-by gives command t.sent t.back h) trips went.given;
+}
+
+-- a command that runs nothing makes none
+pub none-by : (gives : List ℕ → Option (List ℕ) → Type 0) (command : Command) (old new : Option (List Trip))
+    (trips : List Trip) → Went (gives_by command gives) old new trips → RunsNothing (Some command) → trips ≡ []
+none-by gives command old new [] went runs = refl
+none-by gives command old new (t ∷ trips) went runs =
+    absurd (never command runs
+    (All-head (λ (x : Trip). gives_by command gives x.sent x.back) t trips went.given))
+  where
+    never : (c : Command) → RunsNothing (Some c) → gives_by c gives t.sent t.back → ⊥
+    never (Once name) runs h = runs
+    never (Check name) runs h = h
+    never (Replay name) runs h = runs
+    never (Freeze name) runs h = runs
+    never (Thaw frozen name) runs h = runs
+    never (View frozen name) runs h = h
+    never (Make number) runs h = runs
 
 pub went-then : (gives : List ℕ → Option (List ℕ) → Type 0) (a b c : Option (List Trip)) (ts us : List Trip)
     → Went gives a b ts → Went gives b c us → Went gives a c (ts ++ us)

@@ -15,6 +15,8 @@ use Rattle.lsl_lines.specs.declared.file.WorldFile.{WorldFile}
 use Rattle.lsl_image.specs.declared.faults.ImageFault.{ImageFault}
 use Rattle.lsl_image.specs.declared.parts.WorldParts.{WorldParts}
 use Rattle.lsl_region.specs.Worlds.{World}
+use Rattle.lsl_view.specs.Names.{script_names}
+use Rattle.lsl_view.specs.Parts.{view_of_parts}
 use Rattle.lsl_world.specs.Programs.{rules_of}
 use Rattle.lsl_world.specs.Starts.{start}
 use Rattle.lsl_world.specs.Travels.{travel}
@@ -22,10 +24,10 @@ use Rattle.lsl_top.specs.Held.{Holds, HoldsFrozen, AreHeld}
 use Rattle.lsl_top.specs.Lines.{accepted_line, image_refusal_of, refusal_of, world_refusal_of}
 use Rattle.lsl_top.specs.Made.{made_files, made_line, made_name}
 use Rattle.lsl_top.specs.Pieces.{Piece, lines_in, pieces_from, sent_in}
-use Rattle.lsl_top.specs.Plays.{Mode, Whole, Freezing, Thawing, Play, play_of, play_of_once}
+use Rattle.lsl_top.specs.Plays.{Mode, Whole, Freezing, Thawing, Play, play_of, play_of_once, Last, Homes, Frozen, Viewing}
 use Rattle.lsl_top.specs.Scripts.{AreAccepted, FirstRefused}
 use Rattle.lsl_top.specs.Thaws.{CanThaw, IsThawFault, IsThawOf}
-use Rattle.lsl_top.specs.Words.{Command, Once, Check, Replay, Freeze, Thaw, Make}
+use Rattle.lsl_top.specs.Words.{Command, Once, Check, Replay, Freeze, Thaw, Make, View}
 use Rattle.lsl_top.specs.declared.status.Status.{Status}
 use Rattle.lsl_top.specs.declared.status.Status.TheVariants.{Ok, Usage, BadWorld, BadScript, ReadFault, WriteFault, BadImage, NoMemory}
 
@@ -51,39 +53,46 @@ abbrev pub image_refused : List ℕ → ImageFault → Answer
 image_refused name fault = plain BadImage (image_refusal_of name fault)
 
 -- what is answered to a run from a world, by the trips that are made
-abbrev pub run_answer : Mode → List Code → List Program → WorldFile → List Trip → World → Answer
-run_answer mode codes programs world trips w =
-    record { status = Ok; pieces = pieces_from mode codes (rules_of programs) world.steps trips w }
+abbrev pub run_answer : Last → List Code → List Program → WorldFile → List Trip → World → Answer
+run_answer last codes programs world trips w =
+    record { status = Ok; pieces = pieces_from last codes (rules_of programs) world.steps trips w }
 
 -- an answer that is due, or one that was written: then also the world that was frozen can be thawed
 pub data Grade : Type 0 where
   Due : Grade
   Written : Grade
 
-abbrev pub Lasts : Grade → Mode → List Code → List Program → WorldFile → World → Type 0
-Lasts Due mode codes programs file w = Unit {0}
-Lasts Written Whole codes programs file w = Unit {0}
-Lasts Written Freezing codes programs file w = CanThaw codes programs file w
-Lasts Written (Thawing name) codes programs file w = Unit {0}
+abbrev pub Lasts : Grade → Last → List Code → List Program → WorldFile → World → Type 0
+Lasts Due last codes programs file w = Unit {0}
+Lasts Written Homes codes programs file w = Unit {0}
+Lasts Written Frozen codes programs file w = CanThaw codes programs file w
 
 -- a run from the file's start
-abbrev pub ComesFromStart : Grade → List Trip → Mode → List Code → List Program → WorldFile → Answer → Type 0
-ComesFromStart grade trips mode codes programs file answer =
+abbrev pub ComesFromStart : Grade → List Trip → Last → List Code → List Program → WorldFile → Answer → Type 0
+ComesFromStart grade trips last codes programs file answer =
     let w = start (rules_of programs) file in
-    Lasts grade mode codes programs file (travel (rules_of programs) file.steps trips w).value
-    × (answer ≡ run_answer mode codes programs file trips w)
+    Lasts grade last codes programs file (travel (rules_of programs) file.steps trips w).value
+    × (answer ≡ run_answer last codes programs file trips w)
+
+-- what is shown of the text of a frozen world of the file: where its scripts stand, by its parts; or its refusal
+abbrev pub Shows : List Code → WorldFile → (name text : List ℕ) → Answer → Type 0
+Shows codes file name text answer =
+    ((parts : WorldParts) × IsThawOf codes file text parts
+    × (answer ≡ done (view_of_parts codes (script_names file) parts)))
+    ⊎ ((fault : ImageFault) × IsThawFault codes file text fault × (answer ≡ image_refused name fault))
 
 -- what comes of scripts that are accepted as these programs: a run from the file's start, or from the world that was
--- frozen, where the text is of a frozen world of the file
+-- frozen, where the text is of a frozen world of the file; or that world is shown
 abbrev pub Comes : Grade → World → List Trip → Mode → List Code → List Program → WorldFile → List ℕ → Answer → Type 0
 Comes grade from trips Whole codes programs file text answer =
-    ComesFromStart grade trips Whole codes programs file answer
+    ComesFromStart grade trips Homes codes programs file answer
 Comes grade from trips Freezing codes programs file text answer =
-    ComesFromStart grade trips Freezing codes programs file answer
+    ComesFromStart grade trips Frozen codes programs file answer
 Comes grade from trips (Thawing name) codes programs file text answer =
     ((parts : WorldParts) × IsThawOf codes file text parts
-    × (answer ≡ run_answer (Thawing name) codes programs file trips from))
+    × (answer ≡ run_answer Homes codes programs file trips from))
     ⊎ ((fault : ImageFault) × IsThawFault codes file text fault × (answer ≡ image_refused name fault))
+Comes grade from trips (Viewing name) codes programs file text answer = Shows codes file name text answer
 
 -- what is answered to a play whose files have these texts, its scripts' and the frozen one: what comes of the programs,
 -- by the code that they have, or the refusal of the first script that isn't accepted
@@ -147,4 +156,5 @@ Answers grade held from trips (Check name) answer = (text : List ℕ) × Holds h
 Answers grade held from trips (Replay name) answer = ReplaysFile grade held from trips Whole name answer
 Answers grade held from trips (Freeze name) answer = ReplaysFile grade held from trips Freezing name answer
 Answers grade held from trips (Thaw frozen name) answer = ReplaysFile grade held from trips (Thawing frozen) name answer
+Answers grade held from trips (View frozen name) answer = ReplaysFile grade held from trips (Viewing frozen) name answer
 Answers grade held from trips (Make number) answer = Makes grade from trips number answer

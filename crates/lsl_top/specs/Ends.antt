@@ -9,7 +9,7 @@ use Rattle.lsl_top.specs.Answers.{Answer, Answers, Due}
 use Rattle.lsl_top.specs.Froms.{IsFromWords}
 use Rattle.lsl_top.specs.Headline.{Outputs, WritesLines}
 use Rattle.lsl_top.specs.Named.{NamedRose}
-use Rattle.lsl_top.specs.Promise.{Keeps, SendsNothing, WritesNothing}
+use Rattle.lsl_top.specs.Promise.{Keeps, RunsNothing, SendsNothing, WritesNothing}
 use Rattle.lsl_top.specs.Status.{number_of}
 use Rattle.lsl_top.specs.Words.{Command}
 use Rattle.lsl_top.specs.declared.status.Status.{Status}
@@ -46,7 +46,7 @@ pub record Ends (gives : List ℕ → Option (List ℕ) → Type 0) (words : Opt
   pub usage : (status ≡ Usage) ↔ (words ≡ None)
   pub nothing : WritesNothing status → new.sunk ≡ old.sunk
   pub kept : (trips : List Trip) × Went gives old.trips new.trips trips
-      × (SendsNothing status → trips ≡ [])
+      × (SendsNothing status ⊎ RunsNothing words → trips ≡ [])
       × ((from : World) → IsFromWords old.held words from → Honest IsIntact trips
       → Keeps old.held from trips words status old.sunk new.sunk)
   pub read_fault : status ≡ ReadFault → NamedRose old.held words old.read_faults new.read_faults

@@ -9,15 +9,16 @@ use Rattle.lsl_lines.specs.declared.file.WorldFile.{WorldFile}
 use Rattle.lsl_tree.specs.Program.{Program}
 use Rattle.lsl_region.specs.Worlds.{World}
 use Rattle.lsl_top.specs.Held.{Holds, HoldsFrozen, AreHeld}
-use Rattle.lsl_top.specs.Plays.{Mode, Whole, Freezing, Thawing, Play, play_of}
+use Rattle.lsl_top.specs.Plays.{Mode, Whole, Freezing, Thawing, Viewing, Play, play_of}
 use Rattle.lsl_top.specs.Scripts.{AreAccepted}
 use Rattle.lsl_top.specs.Thaws.{IsFrom}
-use Rattle.lsl_top.specs.Words.{Command, Once, Check, Replay, Freeze, Thaw, Make}
+use Rattle.lsl_top.specs.Words.{Command, Once, Check, Replay, Freeze, Thaw, Make, View}
 
 abbrev pub IsFromIn : Mode → List Code → List Program → WorldFile → List ℕ → World → Type 0
 IsFromIn Whole codes programs file text from = Unit {0}
 IsFromIn Freezing codes programs file text from = Unit {0}
 IsFromIn (Thawing name) codes programs file text from = IsFrom codes programs file text from
+IsFromIn (Viewing name) codes programs file text from = Unit {0}
 
 abbrev pub IsFromTexts : Play → List (List ℕ) → List ℕ → World → Type 0
 IsFromTexts play texts text from =
@@ -40,6 +41,7 @@ IsFromOf held (Check name) from = Unit {0}
 IsFromOf held (Replay name) from = IsFromFile held Whole name from
 IsFromOf held (Freeze name) from = IsFromFile held Freezing name from
 IsFromOf held (Thaw frozen name) from = IsFromFile held (Thawing frozen) name from
+IsFromOf held (View frozen name) from = IsFromFile held (Viewing frozen) name from
 IsFromOf held (Make number) from = Unit {0}
 
 abbrev pub IsFromWords : Option Files → Option Command → World → Type 0

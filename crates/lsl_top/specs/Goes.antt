@@ -15,7 +15,7 @@ use Rattle.lsl_world.specs.Frozen.{frozen_image, parts_of_world}
 use Rattle.lsl_world.specs.Programs.{rules_of}
 use Rattle.lsl_world.specs.Travels.{travel}
 use Rattle.lsl_top.specs.Pieces.{Piece, step_pieces}
-use Rattle.lsl_top.specs.Plays.{Mode, Whole, Freezing, Thawing}
+use Rattle.lsl_top.specs.Plays.{Last, Homes, Frozen}
 use Rattle.lsl_top.specs.Ports.{Log, Wire}
 use Rattle.lsl_top.specs.Promise.{IsBegun, IsBegunAt, IsWhole}
 use Rattle.lsl_top.specs.declared.writing.Trouble.{Trouble}
@@ -76,7 +76,6 @@ pub record IsFrozenWell (codes : List Code) (programs : List Program) (w : World
   pub bytes : IsBytes (frozen_image codes w)
 
 -- what holds at the end of a run that was written
-abbrev pub IsLast : Mode → List Code → List Program → World → Type 0
-IsLast Whole codes programs w = Unit {0}
-IsLast Freezing codes programs w = IsFrozenWell codes programs w
-IsLast (Thawing frozen) codes programs w = Unit {0}
+abbrev pub IsLast : Last → List Code → List Program → World → Type 0
+IsLast Homes codes programs w = Unit {0}
+IsLast Frozen codes programs w = IsFrozenWell codes programs w

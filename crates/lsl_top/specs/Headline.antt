@@ -20,10 +20,11 @@ use Rattle.lsl_world.specs.Programs.{rules_of}
 use Rattle.lsl_world.specs.Reports.{homes, journal_of}
 use Rattle.lsl_world.specs.Starts.{start}
 use Rattle.lsl_world.specs.Steps.{reference}
+use Rattle.lsl_view.specs.Source.{view_of_world}
 use Rattle.lsl_top.specs.Held.{AreHeld}
 use Rattle.lsl_top.specs.Made.{made_files, made_line, made_name}
-use Rattle.lsl_top.specs.Plays.{Mode, Whole, Freezing, Thawing, names_in, once_world}
-use Rattle.lsl_top.specs.Words.{Command, Once, Check, Replay, Freeze, Thaw, Make}
+use Rattle.lsl_top.specs.Plays.{Mode, Whole, Freezing, Thawing, names_in, once_world, Last, Homes, Frozen}
+use Rattle.lsl_top.specs.Words.{Command, Once, Check, Replay, Freeze, Thaw, Make, View}
 use Rattle.lsl_top.specs.declared.status.Status.{Status}
 use Rattle.lsl_top.specs.declared.status.Status.TheVariants.{Ok, NoMemory}
 
@@ -66,12 +67,11 @@ frozen_from codes programs file trips w =
     lines_of all.entries ++ frozen_line (frozen_image codes all.value)
 
 -- what a run from a world writes
-abbrev pub output_from : Mode → List Code → List Program → WorldFile → List Trip → World → List ℕ
-output_from Whole codes programs file trips w = report_from programs file trips w
-output_from Freezing codes programs file trips w = frozen_from codes programs file trips w
-output_from (Thawing frozen) codes programs file trips w = report_from programs file trips w
+abbrev pub output_from : Last → List Code → List Program → WorldFile → List Trip → World → List ℕ
+output_from Homes codes programs file trips w = report_from programs file trips w
+output_from Frozen codes programs file trips w = frozen_from codes programs file trips w
 
--- what a command that runs a world is to write, where this world was frozen and these trips were made
+-- what a command that runs or shows a world is to write, where this world was frozen and these trips were made
 abbrev pub Outputs : Files → World → Command → List Trip → List ℕ → Type 0
 Outputs files from (Once name) trips lines =
     (programs : List Program) × AllZip (IsScriptIn files) (name ∷ []) programs
@@ -88,6 +88,10 @@ Outputs files from (Thaw frozen name) trips lines =
     (file : WorldFile) × (programs : List Program) × (codes : List Code) × AreGood files name file programs
     × IsCodeIn files (names_in file) codes × IsFrozenIn files frozen codes programs file from
     × (lines ≡ report_from programs file trips from)
+Outputs files from (View frozen name) trips lines =
+    (file : WorldFile) × (programs : List Program) × (codes : List Code) × AreGood files name file programs
+    × IsCodeIn files (names_in file) codes × IsFrozenIn files frozen codes programs file from
+    × (lines ≡ view_of_world programs from)
 Outputs files from (Make number) trips lines =
     (file : WorldFile) × (programs : List Program) × AreGood (made_files number) made_name file programs
     × (lines ≡ made_line number (lines_of (journal_of programs file trips)))

@@ -14,7 +14,7 @@ use Rattle.lsl_top.specs.Ends.{Ends, Outside}
 use Rattle.lsl_top.specs.Froms.{IsFromWords}
 use Rattle.lsl_top.specs.Headline.{output_from}
 use Rattle.lsl_top.specs.Pieces.{lines_in, pieces_from, sent_in}
-use Rattle.lsl_top.specs.Plays.{Mode}
+use Rattle.lsl_top.specs.Plays.{Last}
 use Rattle.lsl_top.specs.Promise.{Keeps}
 use Rattle.lsl_top.specs.Words.{Command}
 use Rattle.lsl_top.specs.declared.status.Status.{Status}
@@ -28,17 +28,17 @@ AnswersAreOne =
 
 -- the pieces of a run are its journal over the steps without refused crossings, with what is told at its end, and they
 -- send its images
-pub record ArePiecesOf (mode : Mode) (codes : List Code) (programs : List Program) (file : WorldFile)
+pub record ArePiecesOf (last : Last) (codes : List Code) (programs : List Program) (file : WorldFile)
     (trips : List Trip) (w : World) : Type 0 where
-  pub lines : lines_in (pieces_from mode codes (rules_of programs) file.steps trips w)
-      ≡ output_from mode codes programs file trips w
-  pub sent : sent_in (pieces_from mode codes (rules_of programs) file.steps trips w)
+  pub lines : lines_in (pieces_from last codes (rules_of programs) file.steps trips w)
+      ≡ output_from last codes programs file trips w
+  pub sent : sent_in (pieces_from last codes (rules_of programs) file.steps trips w)
       ≡ images codes (rules_of programs) file.steps trips w
 
 abbrev pub RunsAreJournals : Type 0
 RunsAreJournals =
-    (mode : Mode) (codes : List Code) (programs : List Program) (file : WorldFile) (trips : List Trip) (w : World)
-    → ArePiecesOf mode codes programs file trips w
+    (last : Last) (codes : List Code) (programs : List Program) (file : WorldFile) (trips : List Trip) (w : World)
+    → ArePiecesOf last codes programs file trips w
 
 -- a link that gives back what it is sent
 abbrev pub copies : List ℕ → Option (List ℕ) → Type 0

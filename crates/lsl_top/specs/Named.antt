@@ -5,8 +5,8 @@ use Rattle.lsl_ports.specs.Shelf.{Files}
 use Rattle.lsl_lines.specs.World.{IsWorld}
 use Rattle.lsl_lines.specs.declared.file.WorldFile.{WorldFile}
 use Rattle.lsl_top.specs.Held.{Holds}
-use Rattle.lsl_top.specs.Plays.{Mode, Whole, Freezing, Thawing, names_in}
-use Rattle.lsl_top.specs.Words.{Command, Once, Check, Replay, Freeze, Thaw, Make}
+use Rattle.lsl_top.specs.Plays.{Mode, Whole, Freezing, Thawing, names_in, Viewing}
+use Rattle.lsl_top.specs.Words.{Command, Once, Check, Replay, Freeze, Thaw, Make, View}
 
 -- the world's own file, as it is held, is good, and a script of it has its text in the file of that name
 abbrev pub IsNamedInWorld : Option Files → List ℕ → List ℕ → Type 0
@@ -19,6 +19,7 @@ abbrev pub IsFrozenName : Mode → List ℕ → Type 0
 IsFrozenName Whole name = ⊥
 IsFrozenName Freezing name = ⊥
 IsFrozenName (Thawing frozen) name = name ≡ frozen
+IsFrozenName (Viewing frozen) name = name ≡ frozen
 
 -- one of the files of a play: of its scripts', or the frozen one
 abbrev pub IsPlayName : Mode → List (List ℕ) → List ℕ → Type 0
@@ -35,6 +36,7 @@ IsNamed held (Check file) name = name ≡ file
 IsNamed held (Replay world) name = IsNamedIn held Whole world name
 IsNamed held (Freeze world) name = IsNamedIn held Freezing world name
 IsNamed held (Thaw frozen world) name = IsNamedIn held (Thawing frozen) world name
+IsNamed held (View frozen world) name = IsNamedIn held (Viewing frozen) world name
 IsNamed held (Make number) name = ⊥
 
 -- the count of one of these files rose

@@ -11,7 +11,7 @@ use Rattle.lsl_lines.specs.declared.file.Step.{Step}
 use Rattle.lsl_world.specs.Frozen.{frozen_image}
 use Rattle.lsl_world.specs.Reports.{homes}
 use Rattle.lsl_world.specs.Travels.{go_on, images_of, left, travel}
-use Rattle.lsl_top.specs.Plays.{Mode, Whole, Freezing, Thawing}
+use Rattle.lsl_top.specs.Plays.{Last, Homes, Frozen}
 
 -- lines, and what is handed to the link before they are written, in order
 pub record Piece : Type 0 where
@@ -46,12 +46,11 @@ abbrev pub frozen_piece : List Code → World → Piece
 frozen_piece codes w = record { lines = frozen_line (frozen_image codes w); sent = [] }
 
 -- what is told at the end
-abbrev pub last_piece : Mode → List Code → World → Piece
-last_piece Whole codes w = home_piece w
-last_piece Freezing codes w = frozen_piece codes w
-last_piece (Thawing frozen) codes w = home_piece w
+abbrev pub last_piece : Last → List Code → World → Piece
+last_piece Homes codes w = home_piece w
+last_piece Frozen codes w = frozen_piece codes w
 
 -- the pieces of these steps from a world, and then the last one
-abbrev pub pieces_from : Mode → List Code → Rules → List Step → List Trip → World → List Piece
-pieces_from mode codes r steps trips w =
-    step_pieces codes r steps trips w ++ last_piece mode codes (travel r steps trips w).value ∷ []
+abbrev pub pieces_from : Last → List Code → Rules → List Step → List Trip → World → List Piece
+pieces_from last codes r steps trips w =
+    step_pieces codes r steps trips w ++ last_piece last codes (travel r steps trips w).value ∷ []

@@ -1,9 +1,17 @@
--- What is played: the world of a file, or the one that `once` makes for a script; from where, and what is told at its end.
+-- What is played: the world of a file, or the one that `once` makes for a script; from where, and what is told at its
+-- end.
 use Rattle.std.specs.Prelude.{ℕ, codes, List, [], ◌∷◌, map}
 use Rattle.std.specs.Str.{encode_utf8_all}
 use Rattle.lsl_lines.specs.declared.file.PrimLine.{PrimLine}
 use Rattle.lsl_lines.specs.declared.file.Step.TheVariants.{Run}
 use Rattle.lsl_lines.specs.declared.file.WorldFile.{WorldFile}
+
+-- what is told at the end of a run
+pub data Last : Type 0 where
+  -- where each object is
+  Homes : Last
+  -- the world, frozen
+  Frozen : Last
 
 -- how a world is played
 pub data Mode : Type 0 where
@@ -13,6 +21,8 @@ pub data Mode : Type 0 where
   Freezing : Mode
   -- from the frozen world of this file, and then it is told where each object is
   Thawing : (frozen : List ℕ) → Mode
+  -- it isn't run: of the frozen world of this file it is shown where its scripts stand
+  Viewing : (frozen : List ℕ) → Mode
 
 -- a world, the names of its scripts' files, each once, in the order of their first naming, and how it is played
 pub record Play : Type 0 where

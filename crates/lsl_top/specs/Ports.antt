@@ -11,8 +11,9 @@ use Rattle.lsl_region.specs.Worlds.{World}
 use Rattle.lsl_top.specs.Answers.{Answer, Grade, Due, PlaysTexts}
 use Rattle.lsl_top.specs.Froms.{IsFromTexts}
 use Rattle.lsl_top.specs.Held.{HoldsFrozen}
-use Rattle.lsl_top.specs.Plays.{Mode, Whole, Freezing, Thawing, Play}
+use Rattle.lsl_top.specs.Plays.{Mode, Whole, Freezing, Thawing, Viewing, Play}
 use Rattle.lsl_top.specs.Promise.{KeepsTo, SendsNothing}
+use Rattle.lsl_top.specs.Words.{Command, Once, Check, Replay, Freeze, Thaw, View, Make}
 use Rattle.lsl_top.specs.declared.status.Status.{Status}
 use Rattle.lsl_top.specs.declared.status.Status.TheVariants as statuses
 use Rattle.lsl_top.specs.declared.writing.Trouble.{Trouble}
@@ -27,6 +28,7 @@ abbrev pub IsFrozenRead : Option Files → Mode → List ℕ → Type 0
 IsFrozenRead held Whole bytes = Unit {0}
 IsFrozenRead held Freezing bytes = Unit {0}
 IsFrozenRead held (Thawing name) bytes = IsHead held name 2147483647 bytes
+IsFrozenRead held (Viewing name) bytes = IsHead held name 2147483647 bytes
 
 -- a play whose scripts were read, and its frozen file wasn't yet
 abbrev pub PlaysRead : Grade → Option Files → World → List Trip → Play → List (List ℕ) → Answer → Type 0
@@ -36,6 +38,23 @@ PlaysRead grade held from trips play texts answer =
 abbrev pub IsFromRead : Option Files → Play → List (List ℕ) → World → Type 0
 IsFromRead held play texts from =
     (text : List ℕ) → HoldsFrozen held play.mode text → IsFromTexts play texts text from
+
+-- what a link may give back in a play: where no world is run it is handed nothing
+abbrev pub gives_in : Mode → (List ℕ → Option (List ℕ) → Type 0) → List ℕ → Option (List ℕ) → Type 0
+gives_in Whole gives = gives
+gives_in Freezing gives = gives
+gives_in (Thawing name) gives = gives
+gives_in (Viewing name) gives = λ sent back. ⊥
+
+-- and by a command
+abbrev pub gives_by : Command → (List ℕ → Option (List ℕ) → Type 0) → List ℕ → Option (List ℕ) → Type 0
+gives_by (Once name) gives = gives
+gives_by (Check name) gives = λ sent back. ⊥
+gives_by (Replay name) gives = gives
+gives_by (Freeze name) gives = gives
+gives_by (Thaw frozen name) gives = gives
+gives_by (View frozen name) gives = λ sent back. ⊥
+gives_by (Make number) gives = gives
 
 -- what the sink tells
 pub record Log : Type 0 where

@@ -6,7 +6,7 @@ use Rattle.lsl_ports.specs.Trips.{Trip, sent_of}
 use Rattle.lsl_region.specs.Worlds.{World}
 use Rattle.lsl_top.specs.Answers.{Answer, Answers, Grade, Due, Written}
 use Rattle.lsl_top.specs.Pieces.{Piece, lines_in, sent_in}
-use Rattle.lsl_top.specs.Words.{Command}
+use Rattle.lsl_top.specs.Words.{Command, Once, Check, Replay, Freeze, Thaw, View, Make}
 use Rattle.lsl_top.specs.declared.status.Status.{Status}
 use Rattle.lsl_top.specs.declared.status.Status.TheVariants.{Ok, Usage, BadWorld, BadScript, ReadFault, WriteFault, BadImage, NoMemory}
 
@@ -66,6 +66,17 @@ SendsNothing BadImage = Unit {0}
 SendsNothing Ok = ⊥
 SendsNothing WriteFault = ⊥
 SendsNothing NoMemory = ⊥
+
+-- the commands that run no world: nothing is sent by them, at any status
+abbrev pub RunsNothing : Option Command → Type 0
+RunsNothing None = Unit {0}
+RunsNothing (Some (Once name)) = ⊥
+RunsNothing (Some (Check name)) = Unit {0}
+RunsNothing (Some (Replay name)) = ⊥
+RunsNothing (Some (Freeze name)) = ⊥
+RunsNothing (Some (Thaw frozen name)) = ⊥
+RunsNothing (Some (View frozen name)) = Unit {0}
+RunsNothing (Some (Make number)) = ⊥
 
 -- the statuses at which nothing was written
 abbrev pub WritesNothing : Status → Type 0

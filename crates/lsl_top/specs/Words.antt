@@ -15,6 +15,8 @@ pub data Command : Type 0 where
   Freeze : (world : List ℕ) → Command
   -- runs a world file from the frozen world of another file
   Thaw : (frozen world : List ℕ) → Command
+  -- shows where the scripts of a frozen world stand, which is that of a world file, the second
+  View : (frozen world : List ℕ) → Command
   -- runs the world that is made of a number
   Make : (number : ℕ) → Command
 
@@ -41,7 +43,8 @@ command_named word file = if bytes_eq word (codes "once") then Some (Once file)
 
 -- the command of this word, for two files
 abbrev pub command_of_two : List ℕ → List ℕ → List ℕ → Option Command
-command_of_two word first second = if bytes_eq word (codes "thaw") then Some (Thaw first second) else None
+command_of_two word first second = if bytes_eq word (codes "thaw") then Some (Thaw first second)
+    else if bytes_eq word (codes "view") then Some (View first second) else None
 
 abbrev pub command_in : List (List ℕ) → Option Command
 command_in (word ∷ file ∷ []) = if names_file file then command_named word file else None

@@ -6,7 +6,7 @@ ghost use Rattle.lsl_top.specs.Froms.{IsFromFile, IsFromOf, IsFromPlay, IsFromTe
 ghost use Rattle.lsl_top.specs.Meant.{asked_by, mode_of};
 ghost use Rattle.lsl_top.specs.Named.{IsFrozenName, IsNamed, IsNamedIn, IsPlayName};
 ghost use Rattle.lsl_top.specs.Plays.{names_in, play_of, played};
-ghost use Rattle.lsl_top.specs.Ports.{Concludes, Finishes, IsFromRead, PlaysRead, Serves, log, ports, unread_status, wire};
+ghost use Rattle.lsl_top.specs.Ports.{Concludes, Finishes, IsFromRead, PlaysRead, Serves, gives_by, gives_in, log, ports, unread_status, wire};
 ghost use Rattle.lsl_top.specs.Words.{Check, Once};
 
 use crate::building::build_scripts;
@@ -36,7 +36,7 @@ pub fn serve<S: Shelf, K: Sink, L: Link>(
     sink: &mut K,
     link: &mut L,
 ) -> Status
-    ensures { Serves L.gives (IsFromOf (S.held shelf.old) (asked_by command.entry))
+    ensures { Serves (gives_by (asked_by command.entry) L.gives) (IsFromOf (S.held shelf.old) (asked_by command.entry))
         (λ grade from trips. Answers grade (S.held shelf.old) from trips (asked_by command.entry))
         (IsNamed (S.held shelf.old) (asked_by command.entry))
         (ports (S.held shelf.old) (S.faults shelf.old) (K.sunk sink.old) (K.faults sink.old) (L.trips link.old)
@@ -52,6 +52,14 @@ pub fn serve<S: Shelf, K: Sink, L: Link>(
         Command::Thaw(frozen, file) => replay(
             alloc,
             Mode::Thawing(frozen),
+            file,
+            shelf,
+            sink,
+            link,
+        ),
+        Command::View(frozen, file) => replay(
+            alloc,
+            Mode::Viewing(frozen),
             file,
             shelf,
             sink,
@@ -79,7 +87,7 @@ fn check<S: Shelf, K: Sink, L: Link>(
     sink: &mut K,
     link: &mut L,
 ) -> Status
-    ensures { Serves L.gives (IsFromOf (S.held shelf.old) (Check name.now))
+    ensures { Serves (gives_by (Check name.now) L.gives) (IsFromOf (S.held shelf.old) (Check name.now))
         (λ grade from trips. Answers grade (S.held shelf.old) from trips (Check name.now))
         (IsNamed (S.held shelf.old) (Check name.now))
         (ports (S.held shelf.old) (S.faults shelf.old) (K.sunk sink.old) (K.faults sink.old) (L.trips link.old)
@@ -140,7 +148,8 @@ pub fn replay<S: Shelf, K: Sink, L: Link>(
     sink: &mut K,
     link: &mut L,
 ) -> Status
-    ensures { Serves L.gives (IsFromFile (S.held shelf.old) (mode_of mode.entry) name.now)
+    ensures { Serves (gives_in (mode_of mode.entry) L.gives)
+        (IsFromFile (S.held shelf.old) (mode_of mode.entry) name.now)
         (λ grade from trips. ReplaysFile grade (S.held shelf.old) from trips (mode_of mode.entry) name.now)
         (IsNamedIn (S.held shelf.old) (mode_of mode.entry) name.now)
         (ports (S.held shelf.old) (S.faults shelf.old) (K.sunk sink.old) (K.faults sink.old) (L.trips link.old)
@@ -174,7 +183,8 @@ fn play_world<S: Shelf, K: Sink, L: Link>(
     link: &mut L,
 ) -> Status
     requires { IsInRange world.now }
-    ensures { Serves L.gives (IsFromPlay (S.held shelf.old) (play_of (mode_of mode.entry) world.now))
+    ensures { Serves (gives_in (mode_of mode.entry) L.gives)
+        (IsFromPlay (S.held shelf.old) (play_of (mode_of mode.entry) world.now))
         (λ grade from trips. Plays grade (S.held shelf.old) from trips (play_of (mode_of mode.entry) world.now))
         (IsPlayName (mode_of mode.entry) (names_in world.now))
         (ports (S.held shelf.old) (S.faults shelf.old) (K.sunk sink.old) (K.faults sink.old) (L.trips link.old)
@@ -200,7 +210,7 @@ fn play<S: Shelf, K: Sink, L: Link>(
 ) -> Status
     requires range { IsInRange world.now }
     requires names { length names.now ≡ length world.now.files }
-    ensures { Serves L.gives
+    ensures { Serves (gives_in (mode_of mode.entry) L.gives)
         (IsFromPlay (S.held shelf.old) (played (mode_of mode.entry) (map (λ n. n.now) names.now) world.now))
         (λ grade from trips. Plays grade (S.held shelf.old) from trips
         (played (mode_of mode.entry) (map (λ n. n.now) names.now) world.now))
@@ -239,7 +249,7 @@ fn play_texts<S: Shelf, K: Sink, L: Link>(
     requires range { IsInRange world.now }
     requires names { length names.now ≡ length world.now.files }
     requires texts { length texts.now ≡ length names.now }
-    ensures { Serves L.gives
+    ensures { Serves (gives_in (mode_of mode.entry) L.gives)
         (IsFromRead (S.held shelf.old) (played (mode_of mode.entry) (map (λ n. n.now) names.now) world.now)
         (map (λ t. t.items) texts.now))
         (λ grade from trips. PlaysRead grade (S.held shelf.old) from trips
@@ -279,7 +289,7 @@ fn write_play<K: Sink, L: Link>(
     requires range { IsInRange world.now }
     requires names { length names.now ≡ length world.now.files }
     requires texts { length texts.now ≡ length names.now }
-    ensures { Concludes L.gives
+    ensures { Concludes (gives_in (mode_of mode.entry) L.gives)
         (IsFromTexts (played (mode_of mode.entry) (map (λ n. n.now) names.now) world.now) (map (λ t. t.items) texts.now)
         text.now)
         (λ grade from trips. PlaysTexts grade from trips

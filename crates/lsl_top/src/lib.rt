@@ -11,7 +11,7 @@ ghost use Rattle.lsl_top.specs.Answers.{Answer, Answers, Due};
 ghost use Rattle.lsl_top.specs.Froms.{IsFromWords};
 ghost use Rattle.lsl_top.specs.Headline.{Outputs, WritesLines};
 ghost use Rattle.lsl_top.specs.Named.{NamedRose};
-ghost use Rattle.lsl_top.specs.Promise.{Keeps, SendsNothing, WritesNothing};
+ghost use Rattle.lsl_top.specs.Promise.{Keeps, RunsNothing, SendsNothing, WritesNothing};
 ghost use Rattle.lsl_top.specs.Words.{Command as TheCommand, command_of};
 
 mod building;
@@ -40,9 +40,10 @@ use std::alloc::Global;
 ///
 /// A world file is read and tested first; then all scripts are read, each file once, in the order of first naming, and
 /// then the file of a frozen world; then the scripts are built in that order, and the frozen world is tested; then the
-/// steps are run, and each step's lines are written before the next step. It takes memory for the files, the code, the
-/// world, a step's lines, and the image of a frozen world with its line. Each crossing to another region calls the link
-/// once, and waits for it.
+/// steps are run, and each step's lines are written before the next step. `view` runs no step: it writes where the
+/// scripts of the frozen world stand. It takes memory for the files, the code, the world, a step's lines or those of a
+/// view, and the image of a frozen world with its line. Each crossing to another region calls the link once, and waits
+/// for it.
 pub fn lsl<S: Shelf, K: Sink, L: Link>(
     alloc: Global,
     words: &[String],
@@ -54,13 +55,14 @@ pub fn lsl<S: Shelf, K: Sink, L: Link>(
     ensures usage { (result ≡ Status.Usage) ↔ (command_of words.now ≡ None) }
     // At Usage and ReadFault nothing was written.
     ensures nothing { WritesNothing result → K.sunk sink.new ≡ K.sunk sink.old }
-    // With the trips that the link made: nothing was sent at Usage, BadWorld, BadScript, ReadFault and BadImage. From
-    // each world that can have been frozen, by the files (any world, where nothing is thawed or the frozen file is
-    // refused), and where each image came back as it was sent, or not at all, or isn't intact: at Ok, BadWorld, BadScript
-    // and BadImage the sink grew by exactly an answer of that status, and what that sends was sent; at WriteFault and
-    // NoMemory an answer was begun, or at NoMemory nothing at all was written and sent.
+    // With the trips that the link made: nothing was sent at Usage, BadWorld, BadScript, ReadFault and BadImage, and by
+    // `check` and `view` never. From each world that can have been frozen, by the files (any world, where nothing is
+    // thawed or the frozen file is refused), and where each image came back as it was sent, or not at all, or isn't
+    // intact: at Ok, BadWorld, BadScript and BadImage the sink grew by exactly an answer of that status, and what that
+    // sends was sent; at WriteFault and NoMemory an answer was begun, or at NoMemory nothing at all was written and
+    // sent.
     ensures kept { (trips : List Trip) × Went L.gives (L.trips link.old) (L.trips link.new) trips
-        × (SendsNothing result → trips ≡ [])
+        × (SendsNothing result ⊎ RunsNothing (command_of words.now) → trips ≡ [])
         × ((from : World) → IsFromWords (S.held shelf.old) (command_of words.now) from → Honest IsIntact trips
         → Keeps (S.held shelf.old) from trips (command_of words.now) result (K.sunk sink.old) (K.sunk sink.new)) }
     // The shelf failed at a file that the words or their world name.

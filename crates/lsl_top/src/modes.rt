@@ -1,5 +1,14 @@
 //! How a world is played.
 
+/// What is told at the end of a run.
+#[derive(Clone, Copy)]
+pub enum Last {
+    /// Where each object is.
+    Homes,
+    /// The world, frozen.
+    Frozen,
+}
+
 /// From where a world is played, and what is told at its end.
 #[derive(Clone, Copy)]
 pub enum Mode<'a> {
@@ -9,4 +18,6 @@ pub enum Mode<'a> {
     Freezing,
     /// From the frozen world of the file of this name, and then it is told where each object is.
     Thawing(&'a str),
+    /// It isn't run: of the frozen world of the file of this name it is shown where its scripts stand.
+    Viewing(&'a str),
 }

@@ -14,11 +14,11 @@ ghost use Rattle.lsl_world.specs.Sound.{IsSound};
 ghost use Rattle.lsl_world.specs.Stands.{IsOf, size_of};
 ghost use Rattle.lsl_world.specs.Travels.{travel};
 ghost use Rattle.lsl_top.specs.Goes.{Goes, IsFrozenWell, IsLast, Performs};
-ghost use Rattle.lsl_top.specs.Meant.{mode_of};
+ghost use Rattle.lsl_top.specs.Meant.{last_of};
 ghost use Rattle.lsl_top.specs.Pieces.{last_piece, pieces_from};
 ghost use Rattle.lsl_top.specs.Ports.{Writes, log, wire};
 
-use crate::modes::Mode;
+use crate::modes::Last;
 use crate::writing::{Trouble, write_bytes, write_entries};
 use lsl_lines::{Step, push_frozen};
 use lsl_ports::{Link, Sink};
@@ -127,30 +127,29 @@ fn write_frozen<K: Sink>(alloc: Global, world: &World, sink: &mut K) -> Result<(
 /// Writes what is told at the end.
 fn write_last<K: Sink>(
     alloc: Global,
-    mode: Mode<'_>,
+    last: Last,
     world: &World,
     sink: &mut K,
 ) -> Result<(), Trouble>
     requires { IsSound world.now }
     ensures of { (programs : List Program) (w : SourceWorld) → IsOf programs world.now w
-        → Writes (last_piece (mode_of mode.entry) world.now.units w).lines
+        → Writes (last_piece (last_of last) world.now.units w).lines
         (log (K.sunk sink.old) (K.faults sink.old)) (log (K.sunk sink.new) (K.faults sink.new)) result }
     ensures last { (programs : List Program) (w : SourceWorld) → IsOf programs world.now w
-        → OnOk result (IsLast (mode_of mode.entry) world.now.units programs w) }
+        → OnOk result (IsLast (last_of last) world.now.units programs w) }
     ensures counted { K.faults sink.old ≤ K.faults sink.new }
     ensures cause { IsErrOf result Trouble.WriteFault → Rose (K.faults sink.old) (K.faults sink.new) }
 {
-    match mode {
-        Mode::Whole => write_homes(alloc, world, sink),
-        Mode::Freezing => write_frozen(alloc, world, sink),
-        Mode::Thawing(_) => write_homes(alloc, world, sink),
+    match last {
+        Last::Homes => write_homes(alloc, world, sink),
+        Last::Frozen => write_frozen(alloc, world, sink),
     }
 }
 
 /// Runs a world, and writes its journal and what is told at its end.
 pub fn write_run<K: Sink, L: Link>(
     alloc: Global,
-    mode: Mode<'_>,
+    last: Last,
     world: World,
     steps: &[Step],
     sink: &mut K,
@@ -159,13 +158,13 @@ pub fn write_run<K: Sink, L: Link>(
     requires sound { IsSound world }
     requires steps { All (IsStepOf (size_of world)) steps.now }
     ensures { Performs L.gives (λ programs w. IsOf programs world w)
-        (λ programs w trips. IsLast (mode_of mode.entry) world.units programs
+        (λ programs w trips. IsLast (last_of last) world.units programs
         (travel (rules_of programs) steps.now trips w).value)
-        (λ programs w trips. pieces_from (mode_of mode.entry) world.units (rules_of programs) steps.now trips w)
+        (λ programs w trips. pieces_from (last_of last) world.units (rules_of programs) steps.now trips w)
         (log (K.sunk sink.old) (K.faults sink.old)) (log (K.sunk sink.new) (K.faults sink.new))
         (wire (L.trips link.old) (L.faults link.old)) (wire (L.trips link.new) (L.faults link.new)) result }
 {
     let mut world = world;
     write_steps(alloc, &mut world, steps, sink, link)?;
-    write_last(alloc, mode, &world, sink)
+    write_last(alloc, last, &world, sink)
 }

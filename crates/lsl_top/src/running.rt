@@ -1,25 +1,28 @@
-//! Worlds whose scripts are built: their runs, from the file's start or from a frozen world.
+//! Worlds whose scripts are built: their runs, from the file's start or from a frozen world, and where the scripts of a
+//! frozen world stand.
 
 ghost use Rattle.std.specs.Prelude.{◌≡◌, List, length, IfOk, IsErrOf};
 ghost use Rattle.lsl_text.specs.declared.Refusal.TheVariants.{Fault};
 ghost use Rattle.lsl_image.specs.declared.faults.ImageFault.{ImageFault as AFault};
 ghost use Rattle.lsl_tree.specs.Program.{Program};
 ghost use Rattle.lsl_region.specs.Worlds.{World as SourceWorld};
+ghost use Rattle.lsl_view.specs.Names.{script_names as names_of_scripts};
+ghost use Rattle.lsl_view.specs.Parts.{scripts_in, view_of_parts};
 ghost use Rattle.lsl_world.specs.Codes.{AreRunBy};
 ghost use Rattle.lsl_world.specs.Frozen.{parts_in};
 ghost use Rattle.lsl_world.specs.Ranges.{IsInRange};
 ghost use Rattle.lsl_world.specs.Sizes.{size_of_file};
 ghost use Rattle.lsl_world.specs.Sound.{IsSound};
 ghost use Rattle.lsl_world.specs.Stands.{IsOf, size_of};
-ghost use Rattle.lsl_top.specs.Answers.{Comes, ComesFromStart};
+ghost use Rattle.lsl_top.specs.Answers.{Comes, ComesFromStart, Shows};
 ghost use Rattle.lsl_top.specs.Froms.{IsFromIn};
-ghost use Rattle.lsl_top.specs.Meant.{mode_of};
+ghost use Rattle.lsl_top.specs.Meant.{last_of, mode_of};
 ghost use Rattle.lsl_top.specs.Plays.{Thawing};
-ghost use Rattle.lsl_top.specs.Ports.{Concludes, log, wire};
+ghost use Rattle.lsl_top.specs.Ports.{Concludes, Finishes, gives_in, log, wire};
 ghost use Rattle.lsl_top.specs.Thaws.{IsFrom, IsThawFault, IsThawOf};
 
 use crate::lines::image_refusal;
-use crate::modes::Mode;
+use crate::modes::{Last, Mode};
 use crate::report::write_run;
 use crate::status::Status;
 use crate::writing::{status_after, write_line};
@@ -27,7 +30,8 @@ use lsl_code::Library;
 use lsl_image::ImageFault;
 use lsl_lines::{WorldFile, take_frozen};
 use lsl_ports::{Link, Sink};
-use lsl_text::Refusal;
+use lsl_text::{NoMemory, Refusal};
+use lsl_view::{script_names, view};
 use lsl_world::World;
 use std::alloc::Global;
 
@@ -43,23 +47,24 @@ pub fn run_built<K: Sink, L: Link>(
 ) -> Status
     requires file { IsInRange file.now }
     requires units { length units ≡ length file.now.files }
-    ensures { (programs : List Program) → AreRunBy programs units → Concludes L.gives
+    ensures { (programs : List Program) → AreRunBy programs units → Concludes (gives_in (mode_of mode.entry) L.gives)
         (IsFromIn (mode_of mode.entry) units programs file.now text.now)
         (λ grade from trips. Comes grade from trips (mode_of mode.entry) units programs file.now text.now)
         (log (K.sunk sink.old) (K.faults sink.old)) (log (K.sunk sink.new) (K.faults sink.new))
         (wire (L.trips link.old) (L.faults link.old)) (wire (L.trips link.new) (L.faults link.new)) result }
 {
     match mode {
-        Mode::Whole => run_started(alloc, mode, file, units, sink, link),
-        Mode::Freezing => run_started(alloc, mode, file, units, sink, link),
+        Mode::Whole => run_started(alloc, Last::Homes, file, units, sink, link),
+        Mode::Freezing => run_started(alloc, Last::Frozen, file, units, sink, link),
         Mode::Thawing(name) => run_thawed(alloc, name, file, units, text, sink, link),
+        Mode::Viewing(name) => show_frozen(alloc, name, file, units, text, sink),
     }
 }
 
 /// Runs a world from its file's start.
 fn run_started<K: Sink, L: Link>(
     alloc: Global,
-    mode: Mode<'_>,
+    last: Last,
     file: &WorldFile,
     units: Library,
     sink: &mut K,
@@ -68,13 +73,13 @@ fn run_started<K: Sink, L: Link>(
     requires file { IsInRange file.now }
     requires units { length units ≡ length file.now.files }
     ensures { (programs : List Program) → AreRunBy programs units → Concludes L.gives (λ from. Unit {0})
-        (λ grade from trips. ComesFromStart grade trips (mode_of mode.entry) units programs file.now)
+        (λ grade from trips. ComesFromStart grade trips (last_of last) units programs file.now)
         (log (K.sunk sink.old) (K.faults sink.old)) (log (K.sunk sink.new) (K.faults sink.new))
         (wire (L.trips link.old) (L.faults link.old)) (wire (L.trips link.new) (L.faults link.new)) result }
 {
     match World::start(alloc, file, units) {
         Ok(world) => status_after(
-            write_run(alloc, mode, world, file.steps.as_slice(), sink, link),
+            write_run(alloc, last, world, file.steps.as_slice(), sink, link),
             Status::Ok,
         ),
         Err(_) => Status::NoMemory,
@@ -101,14 +106,7 @@ fn run_thawed<K: Sink, L: Link>(
 {
     match thawed(alloc, file, units, text) {
         Ok(world) => status_after(
-            write_run(
-                alloc,
-                Mode::Thawing(name),
-                world,
-                file.steps.as_slice(),
-                sink,
-                link,
-            ),
+            write_run(alloc, Last::Homes, world, file.steps.as_slice(), sink, link),
             Status::Ok,
         ),
         Err(Refusal::Fault(fault)) => status_after(
@@ -117,6 +115,43 @@ fn run_thawed<K: Sink, L: Link>(
         ),
         Err(Refusal::NoMemory) => Status::NoMemory,
     }
+}
+
+/// Writes where the scripts of the frozen world of this text stand, or the refusal of the text, whose file has this
+/// name.
+fn show_frozen<K: Sink>(
+    alloc: Global,
+    name: &str,
+    file: &WorldFile,
+    units: Library,
+    text: &[u8],
+    sink: &mut K,
+) -> Status
+    requires file { IsInRange file.now }
+    requires units { length units ≡ length file.now.files }
+    ensures { Finishes (Shows units file.now name.now text.now) (log (K.sunk sink.old) (K.faults sink.old))
+        (log (K.sunk sink.new) (K.faults sink.new)) result }
+{
+    match thawed(alloc, file, units, text) {
+        Ok(world) => status_after(write_line(view_of(alloc, file, &world), sink), Status::Ok),
+        Err(Refusal::Fault(fault)) => status_after(
+            write_line(image_refusal(alloc, name, &fault), sink),
+            Status::BadImage,
+        ),
+        Err(Refusal::NoMemory) => Status::NoMemory,
+    }
+}
+
+/// The lines that show where the scripts of a world stand, which have the names of the file.
+fn view_of(alloc: Global, file: &WorldFile, world: &World) -> Result<Vec<u8>, NoMemory>
+    requires sound { IsSound world.now }
+    requires names { length (names_of_scripts file.now) ≡ length (scripts_in (parts_in world.now)) }
+    ensures { IfOk result (λ lines.
+        lines.items ≡ view_of_parts world.now.units (names_of_scripts file.now) (parts_in world.now)) }
+{
+    let parts = world.parts()?;
+    let names = script_names(alloc, file)?;
+    view(alloc, &parts, names.as_slice(), world.units())
 }
 
 /// The frozen world of this text, with the objects of the file, or why there is none.

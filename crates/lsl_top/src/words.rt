@@ -18,6 +18,8 @@ pub enum Command<'a> {
     Freeze(&'a str),
     /// Runs a world file, the second, from the frozen world of the first.
     Thaw(&'a str, &'a str),
+    /// Shows where the scripts of a frozen world stand, which is that of a world file, the second.
+    View(&'a str, &'a str),
     /// Runs the world that is made of a number.
     Make(u32),
 }
@@ -73,6 +75,7 @@ fn command_of_two<'a>(word: &str, first: &'a str, second: &'a str) -> Option<Com
 {
     match word {
         "thaw" => Some(Command::Thaw(first, second)),
+        "view" => Some(Command::View(first, second)),
         _ => None,
     }
 }

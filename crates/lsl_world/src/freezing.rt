@@ -47,8 +47,8 @@ impl World {
         write_world(self.alloc, &parts, &self.units)
     }
 
-    // The parts of the world, which can be written as an image.
-    fn parts(&self) -> Result<WorldParts, NoMemory>
+    /// The parts of the world as it is, of which an image can be written. It takes memory for them.
+    pub fn parts(&self) -> Result<WorldParts, NoMemory>
         requires sound { IsSound self.now }
         ensures parts { IfOk result (λ parts. parts ≡ parts_in self.now) }
         ensures written { IfOk result (IsWorld self.now.units) }

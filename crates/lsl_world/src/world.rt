@@ -87,6 +87,13 @@ impl World {
         self.do_step(step, link, out)
     }
 
+    /// The units of the scripts' files. It takes no memory.
+    pub fn units(&self) -> &Library
+        ensures { result.now ≡ self.now.units }
+    {
+        &self.units
+    }
+
     /// How many times scripts were saved: at the end of each turn of at least one segment that left its script in flight,
     /// and behind each pausing segment that left it in flight and ready. It stands still at the greatest number.
     pub fn saves(&self) -> u64

@@ -4,7 +4,7 @@ use Rattle.lsl_region.specs.Worlds.{World}
 use Rattle.lsl_top.specs.Answers.{Answer, Answers, Checks, Grade}
 use Rattle.lsl_top.specs.Froms.{IsFromOf}
 use Rattle.lsl_top.specs.Named.{IsNamed}
-use Rattle.lsl_top.specs.Ports.{Serves, log, ports, wire}
+use Rattle.lsl_top.specs.Ports.{Serves, gives_by, log, ports, wire}
 use Rattle.lsl_top.specs.Words.{Check}
 use Rattle.lsl_top.specs.declared.status.Status.{Status}
 use Rattle.lsl_top.proofs.FilesRead.{checks-read, text-read}
@@ -23,7 +23,8 @@ returns-in-Ok g c =
     let link = (wire (g.L.Link.trips c.args.link.now) (g.L.Link.faults c.args.link.now)) in
     let Fits = IsFromOf held (Check name) in
     let IsOne : Grade → World → List Trip → Answer → Type 0 = λ grade from trips. Checks name c.as_slice.result.now in
-    serve-concluded g.L.Link.gives Fits (λ grade from trips. Answers grade held from trips (Check name))
+    serve-concluded (gives_by (Check name) g.L.Link.gives) Fits
+    (λ grade from trips. Answers grade held from trips (Check name))
     (IsNamed held (Check name)) held
     (g.S.Shelf.held c.read_script.new.shelf) (g.S.Shelf.faults c.args.shelf.now)
     (g.S.Shelf.faults c.read_script.new.shelf) read.unchanged read.counted
@@ -34,7 +35,7 @@ returns-in-Ok g c =
       checks-read name bytes text answer of
           (subst (λ (z : List ℕ). Checks name z answer) c.as_slice.ensures.value h),
     ))
-    (concludes-finished g.L.Link.gives (Checks name c.as_slice.result.now) Fits IsOne
+    (concludes-finished (gives_by (Check name) g.L.Link.gives) (Checks name c.as_slice.result.now) Fits IsOne
     old new link c.write_check.result (λ grade from trips answer h. h) c.write_check.ensures)
 
 pub returns-in-Err : goal.returns-in-Err
@@ -44,13 +45,13 @@ returns-in-Err g c =
     let read = c.in-Err.ensures in
     let Fits = IsFromOf held (Check name) in
     let IsThis : Grade → World → List Trip → Answer → Type 0 = λ grade from trips. Answers grade held from trips (Check name) in
-    subst (λ (status : Status). Serves g.L.Link.gives Fits IsThis (IsNamed held (Check name))
+    subst (λ (status : Status). Serves (gives_by (Check name) g.L.Link.gives) Fits IsThis (IsNamed held (Check name))
     (ports held (g.S.Shelf.faults c.args.shelf.now) (g.K.Sink.sunk c.args.sink.now) (g.K.Sink.faults c.args.sink.now)
     (g.L.Link.trips c.args.link.now) (g.L.Link.faults c.args.link.now))
     (ports (g.S.Shelf.held c.read_script.new.shelf) (g.S.Shelf.faults c.read_script.new.shelf) (g.K.Sink.sunk c.args.sink.now)
     (g.K.Sink.faults c.args.sink.now) (g.L.Link.trips c.args.link.now) (g.L.Link.faults c.args.link.now)) status)
     (sym c.unread.ensures)
-    (serve-unread g.L.Link.gives Fits IsThis (IsNamed held (Check name)) held
+    (serve-unread (gives_by (Check name) g.L.Link.gives) Fits IsThis (IsNamed held (Check name)) held
     (g.S.Shelf.held c.read_script.new.shelf) (g.S.Shelf.faults c.args.shelf.now) (g.S.Shelf.faults c.read_script.new.shelf)
     read.unchanged read.counted (log (g.K.Sink.sunk c.args.sink.now) (g.K.Sink.faults c.args.sink.now))
     (wire (g.L.Link.trips c.args.link.now) (g.L.Link.faults c.args.link.now)) c.in-Err.fault

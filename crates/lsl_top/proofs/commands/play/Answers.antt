@@ -9,7 +9,7 @@ use Rattle.lsl_top.specs.Froms.{IsFromPlay}
 use Rattle.lsl_top.specs.Meant.{mode_of}
 use Rattle.lsl_top.specs.Named.{IsFrozenName, IsPlayName}
 use Rattle.lsl_top.specs.Plays.{Play, played}
-use Rattle.lsl_top.specs.Ports.{IsFromRead, IsRead, PlaysRead, Serves, log, ports, wire}
+use Rattle.lsl_top.specs.Ports.{IsFromRead, IsRead, PlaysRead, Serves, gives_in, log, ports, wire}
 use Rattle.lsl_top.specs.declared.status.Status.{Status}
 use Rattle.lsl_top.proofs.FilesRead.{from-read, plays-read, texts-read}
 use Rattle.lsl_top.proofs.Finishing.{serve-later, serve-unread}
@@ -41,7 +41,7 @@ returns-in-Ok g c =
     let given = map (λ (t : Vec ℕ Global). t.items) c.as_slice.result.now in
     let read = c.in-Ok.ensures in
     let (texts, are, of) = texts-read held names bytes read.ok in
-    serve-later g.L.Link.gives (IsFromRead later play given) (IsFromPlay held play)
+    serve-later (gives_in mode g.L.Link.gives) (IsFromRead later play given) (IsFromPlay held play)
     (λ grade from trips. PlaysRead grade later from trips play given) (λ grade from trips. Plays grade held from trips play)
     (IsFrozenName mode) (IsPlayName mode names) held later (g.S.Shelf.faults c.args.shelf.now)
     (g.S.Shelf.faults c.read_scripts.new.shelf)
@@ -71,13 +71,14 @@ returns-in-Err g c =
     let play : Play = played mode names c.args.world.now in
     let read = c.in-Err.ensures in
     let IsThis : Grade → World → List Trip → Answer → Type 0 = λ grade from trips. Plays grade held from trips play in
-    subst (λ (status : Status). Serves g.L.Link.gives (IsFromPlay held play) IsThis (IsPlayName mode names)
+    subst (λ (status : Status). Serves (gives_in mode g.L.Link.gives) (IsFromPlay held play) IsThis
+    (IsPlayName mode names)
     (ports held (g.S.Shelf.faults c.args.shelf.now) (g.K.Sink.sunk c.args.sink.now) (g.K.Sink.faults c.args.sink.now)
     (g.L.Link.trips c.args.link.now) (g.L.Link.faults c.args.link.now))
     (ports (g.S.Shelf.held c.read_scripts.new.shelf) (g.S.Shelf.faults c.read_scripts.new.shelf) (g.K.Sink.sunk c.args.sink.now)
     (g.K.Sink.faults c.args.sink.now) (g.L.Link.trips c.args.link.now) (g.L.Link.faults c.args.link.now)) status)
     (sym c.unread.ensures)
-    (serve-unread g.L.Link.gives (IsFromPlay held play) IsThis (IsPlayName mode names) held
+    (serve-unread (gives_in mode g.L.Link.gives) (IsFromPlay held play) IsThis (IsPlayName mode names) held
     (g.S.Shelf.held c.read_scripts.new.shelf) (g.S.Shelf.faults c.args.shelf.now) (g.S.Shelf.faults c.read_scripts.new.shelf)
     read.unchanged read.counted (log (g.K.Sink.sunk c.args.sink.now) (g.K.Sink.faults c.args.sink.now))
     (wire (g.L.Link.trips c.args.link.now) (g.L.Link.faults c.args.link.now)) c.in-Err.fault

@@ -6,7 +6,7 @@ use Rattle.lsl_top.specs.Froms.{IsFromTexts}
 use Rattle.lsl_top.specs.Meant.{mode_of}
 use Rattle.lsl_top.specs.Named.{IsFrozenName}
 use Rattle.lsl_top.specs.Plays.{Play, played}
-use Rattle.lsl_top.specs.Ports.{IsFromRead, PlaysRead, Serves, log, ports, wire}
+use Rattle.lsl_top.specs.Ports.{IsFromRead, PlaysRead, Serves, gives_in, log, ports, wire}
 use Rattle.lsl_top.specs.declared.status.Status.{Status}
 use Rattle.lsl_top.proofs.Finishing.{serve-concluded, serve-unread}
 use Rattle.lsl_top.proofs.FrozenRead.{from-frozen, frozen-read, plays-frozen}
@@ -30,7 +30,7 @@ returns-in-Ok g c =
     let bytes = c.in-Ok.text.items in
     let read = c.in-Ok.ensures in
     let has = frozen-read held mode bytes read.ok in
-    serve-concluded g.L.Link.gives (IsFromRead held play texts)
+    serve-concluded (gives_in mode g.L.Link.gives) (IsFromRead held play texts)
     (λ grade from trips. PlaysRead grade held from trips play texts) (IsFrozenName mode) held
     (g.S.Shelf.held c.read_frozen.new.shelf) (g.S.Shelf.faults c.args.shelf.now)
     (g.S.Shelf.faults c.read_frozen.new.shelf) read.unchanged read.counted
@@ -58,13 +58,14 @@ returns-in-Err g c =
     let texts = map (λ (t : Vec ℕ Global). t.items) c.args.texts.now in
     let read = c.in-Err.ensures in
     let IsThis : Grade → World → List Trip → Answer → Type 0 = λ grade from trips. PlaysRead grade held from trips play texts in
-    subst (λ (status : Status). Serves g.L.Link.gives (IsFromRead held play texts) IsThis (IsFrozenName mode)
+    subst (λ (status : Status). Serves (gives_in mode g.L.Link.gives) (IsFromRead held play texts) IsThis
+    (IsFrozenName mode)
     (ports held (g.S.Shelf.faults c.args.shelf.now) (g.K.Sink.sunk c.args.sink.now) (g.K.Sink.faults c.args.sink.now)
     (g.L.Link.trips c.args.link.now) (g.L.Link.faults c.args.link.now))
     (ports (g.S.Shelf.held c.read_frozen.new.shelf) (g.S.Shelf.faults c.read_frozen.new.shelf) (g.K.Sink.sunk c.args.sink.now)
     (g.K.Sink.faults c.args.sink.now) (g.L.Link.trips c.args.link.now) (g.L.Link.faults c.args.link.now)) status)
     (sym c.unread.ensures)
-    (serve-unread g.L.Link.gives (IsFromRead held play texts) IsThis (IsFrozenName mode) held
+    (serve-unread (gives_in mode g.L.Link.gives) (IsFromRead held play texts) IsThis (IsFrozenName mode) held
     (g.S.Shelf.held c.read_frozen.new.shelf) (g.S.Shelf.faults c.args.shelf.now) (g.S.Shelf.faults c.read_frozen.new.shelf)
     read.unchanged read.counted (log (g.K.Sink.sunk c.args.sink.now) (g.K.Sink.faults c.args.sink.now))
     (wire (g.L.Link.trips c.args.link.now) (g.L.Link.faults c.args.link.now)) c.in-Err.fault

@@ -6,7 +6,7 @@ use Rattle.lsl_top.specs.Froms.{IsFromPlay}
 use Rattle.lsl_top.specs.Meant.{mode_of}
 use Rattle.lsl_top.specs.Named.{IsPlayName}
 use Rattle.lsl_top.specs.Plays.{names_in, play_of, played}
-use Rattle.lsl_top.specs.Ports.{log, ports, wire}
+use Rattle.lsl_top.specs.Ports.{gives_in, log, ports, wire}
 use Rattle.lsl_top.proofs.Finishing.{serve-later, serve-memory}
 use Rattle.lsl_top.proofs.commands.play_world.Goals as goal
 
@@ -32,7 +32,8 @@ returns-in-Ok g c =
     let names = map name c.as_slice-in-Ok.result.now in
     let same : names ≡ names_in world =
     ap (map name) c.as_slice-in-Ok.ensures.value ∙ c.in-Ok.ensures ∙ ap (map encode_utf8_all) c.as_slice.ensures in
-    serve-later g.L.Link.gives (IsFromPlay held (played mode names world)) (IsFromPlay held (play_of mode world))
+    serve-later (gives_in mode g.L.Link.gives) (IsFromPlay held (played mode names world))
+    (IsFromPlay held (play_of mode world))
     (λ grade from trips. Plays grade held from trips (played mode names world))
     (λ grade from trips. Plays grade held from trips (play_of mode world)) (IsPlayName mode names)
     (IsPlayName mode (names_in world)) held held faults faults
@@ -49,7 +50,7 @@ pub returns-in-Err : goal.returns-in-Err
 returns-in-Err g c =
     let held = g.S.Shelf.held c.args.shelf.now in
     let mode = mode_of c.args.mode in
-    serve-memory g.L.Link.gives (IsFromPlay held (play_of mode c.args.world.now))
+    serve-memory (gives_in mode g.L.Link.gives) (IsFromPlay held (play_of mode c.args.world.now))
     (λ grade from trips. Plays grade held from trips (play_of mode c.args.world.now))
     (IsPlayName mode (names_in c.args.world.now)) held held (g.S.Shelf.faults c.args.shelf.now)
     (g.S.Shelf.faults c.args.shelf.now) refl (λ n. omega arith)

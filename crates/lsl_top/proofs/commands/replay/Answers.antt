@@ -10,7 +10,7 @@ use Rattle.lsl_top.specs.Lines.{world_refusal_of}
 use Rattle.lsl_top.specs.Meant.{mode_of}
 use Rattle.lsl_top.specs.Named.{IsNamedIn, IsPlayName}
 use Rattle.lsl_top.specs.Plays.{names_in, play_of}
-use Rattle.lsl_top.specs.Ports.{Finishes, Serves, log, ports, wire}
+use Rattle.lsl_top.specs.Ports.{Finishes, Serves, gives_in, log, ports, wire}
 use Rattle.lsl_top.specs.declared.status.Status.{Status}
 use Rattle.lsl_top.specs.declared.status.Status.TheVariants.{BadWorld}
 use Rattle.lsl_top.proofs.Finishing.{concludes-finished, finish-written, serve-concluded, serve-later, serve-memory, serve-unread}
@@ -28,13 +28,14 @@ returns-in-Err g c =
     let name = c.args.name.now in
     let read = c.in-Err.ensures in
     let IsThis : Grade → World → List Trip → Answer → Type 0 = λ grade from trips. ReplaysFile grade held from trips mode name in
-    subst (λ (status : Status). Serves g.L.Link.gives (IsFromFile held mode name) IsThis (IsNamedIn held mode name)
+    subst (λ (status : Status). Serves (gives_in mode g.L.Link.gives) (IsFromFile held mode name) IsThis
+    (IsNamedIn held mode name)
     (ports held (g.S.Shelf.faults c.args.shelf.now) (g.K.Sink.sunk c.args.sink.now) (g.K.Sink.faults c.args.sink.now)
     (g.L.Link.trips c.args.link.now) (g.L.Link.faults c.args.link.now))
     (ports (g.S.Shelf.held c.read_all.new.shelf) (g.S.Shelf.faults c.read_all.new.shelf) (g.K.Sink.sunk c.args.sink.now)
     (g.K.Sink.faults c.args.sink.now) (g.L.Link.trips c.args.link.now) (g.L.Link.faults c.args.link.now)) status)
     (sym c.unread.ensures)
-    (serve-unread g.L.Link.gives (IsFromFile held mode name) IsThis (IsNamedIn held mode name) held
+    (serve-unread (gives_in mode g.L.Link.gives) (IsFromFile held mode name) IsThis (IsNamedIn held mode name) held
     (g.S.Shelf.held c.read_all.new.shelf) (g.S.Shelf.faults c.args.shelf.now) (g.S.Shelf.faults c.read_all.new.shelf)
     read.unchanged read.counted (log (g.K.Sink.sunk c.args.sink.now) (g.K.Sink.faults c.args.sink.now))
     (wire (g.L.Link.trips c.args.link.now) (g.L.Link.faults c.args.link.now)) c.in-Err.fault
@@ -51,7 +52,7 @@ returns-in-Ok-read_world g c =
     let (file, is, of) = world-read held name c.in-Ok.text.items read.ok in
     let good : IsWorld file world = of.good world
     (subst (λ (z : List ℕ). IsWorld z world) c.as_slice.ensures.value c.in-Ok-read_world.ensures.found) in
-    serve-later g.L.Link.gives (IsFromPlay later (play_of mode world)) (IsFromFile held mode name)
+    serve-later (gives_in mode g.L.Link.gives) (IsFromPlay later (play_of mode world)) (IsFromFile held mode name)
     (λ grade from trips. Plays grade later from trips (play_of mode world))
     (λ grade from trips. ReplaysFile grade held from trips mode name)
     (IsPlayName mode (names_in world)) (IsNamedIn held mode name) held later (g.S.Shelf.faults c.args.shelf.now)
@@ -91,13 +92,14 @@ returns-in-Err-Fault g c =
     let new = (log (g.K.Sink.sunk c.write_line.new.sink) (g.K.Sink.faults c.write_line.new.sink)) in
     let link = (wire (g.L.Link.trips c.args.link.now) (g.L.Link.faults c.args.link.now)) in
     let IsThis : Answer → Type 0 = λ answer. answer ≡ world_refused name fault in
-    serve-concluded g.L.Link.gives (IsFromFile held mode name)
+    serve-concluded (gives_in mode g.L.Link.gives) (IsFromFile held mode name)
     (λ grade from trips. ReplaysFile grade held from trips mode name) (IsNamedIn held mode name) held
     (g.S.Shelf.held c.read_all.new.shelf) (g.S.Shelf.faults c.args.shelf.now)
     (g.S.Shelf.faults c.read_all.new.shelf) read.unchanged read.counted (IsFromFile held mode name)
     (λ grade from trips. IsThis) old new link link
     c.status_after.result (λ from fits. fits) (λ grade from trips answer e. (file, is, inr (fault, first, e)))
-    (concludes-finished g.L.Link.gives IsThis (IsFromFile held mode name) (λ grade from trips. IsThis) old new link
+    (concludes-finished (gives_in mode g.L.Link.gives) IsThis (IsFromFile held mode name)
+    (λ grade from trips. IsThis) old new link
     c.status_after.result (λ grade from trips answer e. e)
     (subst (λ (status : Status). Finishes IsThis old new status) (sym c.status_after.ensures)
     (finish-written IsThis BadWorld (world_refusal_of name fault) old new c.write_line.result tt refl
@@ -109,7 +111,7 @@ returns g c =
     let mode = mode_of c.args.mode in
     let name = c.args.name.now in
     let read = c.in-Ok.ensures in
-    serve-memory g.L.Link.gives (IsFromFile held mode name)
+    serve-memory (gives_in mode g.L.Link.gives) (IsFromFile held mode name)
     (λ grade from trips. ReplaysFile grade held from trips mode name) (IsNamedIn held mode name) held
     (g.S.Shelf.held c.read_all.new.shelf) (g.S.Shelf.faults c.args.shelf.now)
     (g.S.Shelf.faults c.read_all.new.shelf) read.unchanged read.counted

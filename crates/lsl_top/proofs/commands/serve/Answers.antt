@@ -3,7 +3,7 @@ use Rattle.lsl_top.specs.Answers.{Answers, Makes}
 use Rattle.lsl_top.specs.Froms.{IsFromOf}
 use Rattle.lsl_top.specs.Meant.{asked_by}
 use Rattle.lsl_top.specs.Named.{IsNamed}
-use Rattle.lsl_top.specs.Ports.{Serves, log, ports, wire}
+use Rattle.lsl_top.specs.Ports.{Serves, log, ports, wire, gives_by}
 use Rattle.lsl_top.specs.Words.{Command, Make}
 use Rattle.lsl_top.proofs.Finishing.{serve-concluded}
 use Rattle.lsl_top.proofs.commands.serve.Goals as goal
@@ -11,7 +11,7 @@ use Rattle.lsl_top.proofs.commands.serve.Goals as goal
 pub returns-in-Once : goal.returns-in-Once
 returns-in-Once g c =
     let held = g.S.Shelf.held c.args.shelf.now in
-    subst (λ (command : Command). Serves g.L.Link.gives (IsFromOf held command)
+    subst (λ (command : Command). Serves (gives_by command g.L.Link.gives) (IsFromOf held command)
     (λ grade from trips. Answers grade held from trips command) (IsNamed held command)
     (ports held (g.S.Shelf.faults c.args.shelf.now) (g.K.Sink.sunk c.args.sink.now) (g.K.Sink.faults c.args.sink.now)
     (g.L.Link.trips c.args.link.now) (g.L.Link.faults c.args.link.now))
@@ -23,7 +23,7 @@ returns-in-Once g c =
 pub returns-in-Check : goal.returns-in-Check
 returns-in-Check g c =
     let held = g.S.Shelf.held c.args.shelf.now in
-    subst (λ (command : Command). Serves g.L.Link.gives (IsFromOf held command)
+    subst (λ (command : Command). Serves (gives_by command g.L.Link.gives) (IsFromOf held command)
     (λ grade from trips. Answers grade held from trips command) (IsNamed held command)
     (ports held (g.S.Shelf.faults c.args.shelf.now) (g.K.Sink.sunk c.args.sink.now) (g.K.Sink.faults c.args.sink.now)
     (g.L.Link.trips c.args.link.now) (g.L.Link.faults c.args.link.now))
@@ -35,7 +35,7 @@ returns-in-Check g c =
 pub returns-in-Replay : goal.returns-in-Replay
 returns-in-Replay g c =
     let held = g.S.Shelf.held c.args.shelf.now in
-    subst (λ (command : Command). Serves g.L.Link.gives (IsFromOf held command)
+    subst (λ (command : Command). Serves (gives_by command g.L.Link.gives) (IsFromOf held command)
     (λ grade from trips. Answers grade held from trips command) (IsNamed held command)
     (ports held (g.S.Shelf.faults c.args.shelf.now) (g.K.Sink.sunk c.args.sink.now) (g.K.Sink.faults c.args.sink.now)
     (g.L.Link.trips c.args.link.now) (g.L.Link.faults c.args.link.now))
@@ -47,7 +47,7 @@ returns-in-Replay g c =
 pub returns-in-Freeze : goal.returns-in-Freeze
 returns-in-Freeze g c =
     let held = g.S.Shelf.held c.args.shelf.now in
-    subst (λ (command : Command). Serves g.L.Link.gives (IsFromOf held command)
+    subst (λ (command : Command). Serves (gives_by command g.L.Link.gives) (IsFromOf held command)
     (λ grade from trips. Answers grade held from trips command) (IsNamed held command)
     (ports held (g.S.Shelf.faults c.args.shelf.now) (g.K.Sink.sunk c.args.sink.now) (g.K.Sink.faults c.args.sink.now)
     (g.L.Link.trips c.args.link.now) (g.L.Link.faults c.args.link.now))
@@ -59,7 +59,7 @@ returns-in-Freeze g c =
 pub returns-in-Thaw : goal.returns-in-Thaw
 returns-in-Thaw g c =
     let held = g.S.Shelf.held c.args.shelf.now in
-    subst (λ (command : Command). Serves g.L.Link.gives (IsFromOf held command)
+    subst (λ (command : Command). Serves (gives_by command g.L.Link.gives) (IsFromOf held command)
     (λ grade from trips. Answers grade held from trips command) (IsNamed held command)
     (ports held (g.S.Shelf.faults c.args.shelf.now) (g.K.Sink.sunk c.args.sink.now) (g.K.Sink.faults c.args.sink.now)
     (g.L.Link.trips c.args.link.now) (g.L.Link.faults c.args.link.now))
@@ -68,12 +68,25 @@ returns-in-Thaw g c =
     c.replay-in-Thaw.result)
     (sym (ap asked_by c.in-Thaw.is)) c.replay-in-Thaw.ensures
 
+pub returns-in-View : goal.returns-in-View
+returns-in-View g c =
+    let held = g.S.Shelf.held c.args.shelf.now in
+    subst (λ (command : Command). Serves (gives_by command g.L.Link.gives) (IsFromOf held command)
+    (λ grade from trips. Answers grade held from trips command) (IsNamed held command)
+    (ports held (g.S.Shelf.faults c.args.shelf.now) (g.K.Sink.sunk c.args.sink.now) (g.K.Sink.faults c.args.sink.now)
+    (g.L.Link.trips c.args.link.now) (g.L.Link.faults c.args.link.now))
+    (ports (g.S.Shelf.held c.replay-in-View.new.shelf) (g.S.Shelf.faults c.replay-in-View.new.shelf)
+    (g.K.Sink.sunk c.replay-in-View.new.sink) (g.K.Sink.faults c.replay-in-View.new.sink)
+    (g.L.Link.trips c.replay-in-View.new.link) (g.L.Link.faults c.replay-in-View.new.link))
+    c.replay-in-View.result)
+    (sym (ap asked_by c.in-View.is)) c.replay-in-View.ensures
+
 pub returns-in-Make : goal.returns-in-Make
 returns-in-Make g c =
     let held = g.S.Shelf.held c.args.shelf.now in
     let faults = g.S.Shelf.faults c.args.shelf.now in
     let number = c.in-Make.number in
-    subst (λ (command : Command). Serves g.L.Link.gives (IsFromOf held command)
+    subst (λ (command : Command). Serves (gives_by command g.L.Link.gives) (IsFromOf held command)
     (λ grade from trips. Answers grade held from trips command) (IsNamed held command)
     (ports held faults (g.K.Sink.sunk c.args.sink.now) (g.K.Sink.faults c.args.sink.now)
     (g.L.Link.trips c.args.link.now) (g.L.Link.faults c.args.link.now))

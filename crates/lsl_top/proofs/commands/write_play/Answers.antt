@@ -7,7 +7,7 @@ use Rattle.lsl_top.specs.Froms.{IsFromIn, IsFromTexts}
 use Rattle.lsl_top.specs.Lines.{refusal_of}
 use Rattle.lsl_top.specs.Meant.{mode_of}
 use Rattle.lsl_top.specs.Plays.{Play, played}
-use Rattle.lsl_top.specs.Ports.{Concludes, log, status_after, wire}
+use Rattle.lsl_top.specs.Ports.{Concludes, gives_in, log, status_after, wire}
 use Rattle.lsl_top.specs.Scripts.{FirstRefused}
 use Rattle.lsl_top.specs.declared.status.Status.{Status}
 use Rattle.lsl_top.specs.declared.status.Status.TheVariants.{BadScript}
@@ -31,7 +31,7 @@ returns-in-Ok g c =
     let units = c.in-Ok.units in
     let (programs, accepted, run) = c.in-Ok.ensures.ok in
     let codes = c.in-Ok.ensures.codes in
-    concludes-as g.L.Link.gives (IsFromIn mode units programs world text) (IsFromTexts play texts text)
+    concludes-as (gives_in mode g.L.Link.gives) (IsFromIn mode units programs world text) (IsFromTexts play texts text)
     (λ grade from trips. Comes grade from trips mode units programs world text)
     (λ grade from trips. PlaysTexts grade from trips play texts text)
     (log (g.K.Sink.sunk c.args.sink.now) (g.K.Sink.faults c.args.sink.now))
@@ -47,7 +47,7 @@ returns-in-Err-NoMemory g c =
     let mode = mode_of c.args.mode in
     let play : Play = played mode (map (λ (n : Bor (List ℕ)). n.now) c.args.names.now) c.args.world.now in
     let texts = map (λ (t : Vec ℕ Global). t.items) c.args.texts.now in
-    concludes-memory g.L.Link.gives (IsFromTexts play texts c.args.text.now)
+    concludes-memory (gives_in mode g.L.Link.gives) (IsFromTexts play texts c.args.text.now)
     (λ grade from trips. PlaysTexts grade from trips play texts c.args.text.now)
     (log (g.K.Sink.sunk c.args.sink.now) (g.K.Sink.faults c.args.sink.now))
     (wire (g.L.Link.trips c.args.link.now) (g.L.Link.faults c.args.link.now))
@@ -80,9 +80,10 @@ returns-in-Err-Fault g c =
     in
     let first : FirstRefused play.names texts name refused.fault =
     record { place = refused.place; named = c.name_at.ensures; refused = at } in
-    subst (λ (status : Status). Concludes g.L.Link.gives (IsFromTexts play texts text) IsAll old new link link
+    subst (λ (status : Status). Concludes (gives_in mode g.L.Link.gives) (IsFromTexts play texts text) IsAll old new
+    link link
     status) (sym c.status_after.ensures)
-    (concludes-finished g.L.Link.gives IsThis (IsFromTexts play texts text) IsAll old new link
+    (concludes-finished (gives_in mode g.L.Link.gives) IsThis (IsFromTexts play texts text) IsAll old new link
     (status_after c.write_line.result BadScript) (λ grade from trips answer e. inr (name, refused.fault, first, e))
     (finish-written IsThis BadScript (refusal_of name refused.fault) old new c.write_line.result tt refl
     (c.write_line.ensures (refusal_of name refused.fault) c.refusal.ensures)))

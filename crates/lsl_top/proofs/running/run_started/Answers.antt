@@ -8,7 +8,7 @@ use Rattle.lsl_world.specs.Starts.{start}
 use Rattle.lsl_world.specs.Travels.{travel}
 use Rattle.lsl_top.specs.Answers.{ComesFromStart}
 use Rattle.lsl_top.specs.Goes.{IsLast}
-use Rattle.lsl_top.specs.Meant.{mode_of}
+use Rattle.lsl_top.specs.Meant.{last_of}
 use Rattle.lsl_top.specs.Pieces.{pieces_from}
 use Rattle.lsl_top.specs.Ports.{Concludes, log, wire}
 use Rattle.lsl_top.specs.declared.status.Status.{Status}
@@ -27,7 +27,7 @@ write_run-requires-clause-steps g c =
 
 pub returns-in-Ok : goal.returns-in-Ok
 returns-in-Ok g c = λ programs run.
-    let mode = mode_of c.args.mode in
+    let last = last_of c.args.last in
     let units = c.args.units in
     let file = c.args.file.now in
     let world = c.in-Ok.world in
@@ -36,21 +36,21 @@ returns-in-Ok g c = λ programs run.
     let before = (wire (g.L.Link.trips c.args.link.now) (g.L.Link.faults c.args.link.now)) in
     let after = (wire (g.L.Link.trips c.write_run.new.link) (g.L.Link.faults c.write_run.new.link)) in
     subst (λ (status : Status). Concludes g.L.Link.gives (λ from. Unit {0})
-    (λ grade from trips. ComesFromStart grade trips mode units programs file) old new before after status)
+    (λ grade from trips. ComesFromStart grade trips last units programs file) old new before after status)
     (sym c.status_after.ensures)
     (concludes-performed g.L.Link.gives (λ from. Unit {0})
-    (λ grade from trips. ComesFromStart grade trips mode units programs file) (λ ps w. IsOf ps world w)
-    (λ ps w trips. IsLast mode units ps (travel (rules_of ps) file.steps trips w).value)
-    (λ ps w trips. pieces_from mode units (rules_of ps) file.steps trips w) programs
+    (λ grade from trips. ComesFromStart grade trips last units programs file) (λ ps w. IsOf ps world w)
+    (λ ps w trips. IsLast last units ps (travel (rules_of ps) file.steps trips w).value)
+    (λ ps w trips. pieces_from last units (rules_of ps) file.steps trips w) programs
     (λ from. start (rules_of programs) file) (λ from fits. c.in-Ok.ensures.of programs run) old new before after
     c.write_run.result (λ from trips. (tt, refl))
-    (λ from trips last. (lasts-started units programs file run c.requires.file c.requires.units mode trips last, refl))
-    (performs-by g.L.Link.gives (λ ps w. IsOf ps world w) mode world.units units c.as_slice.result.now file.steps old new
-    before after c.write_run.result c.in-Ok.ensures.units c.as_slice.ensures c.write_run.ensures))
+    (λ from trips is. (lasts-started units programs file run c.requires.file c.requires.units last trips is, refl))
+    (performs-by g.L.Link.gives (λ ps w. IsOf ps world w) last world.units units c.as_slice.result.now file.steps old
+    new before after c.write_run.result c.in-Ok.ensures.units c.as_slice.ensures c.write_run.ensures))
 
 pub returns-in-Err : goal.returns-in-Err
 returns-in-Err g c = λ programs run.
     concludes-memory g.L.Link.gives (λ from. Unit {0})
-    (λ grade from trips. ComesFromStart grade trips (mode_of c.args.mode) c.args.units programs c.args.file.now)
+    (λ grade from trips. ComesFromStart grade trips (last_of c.args.last) c.args.units programs c.args.file.now)
     (log (g.K.Sink.sunk c.args.sink.now) (g.K.Sink.faults c.args.sink.now))
     (wire (g.L.Link.trips c.args.link.now) (g.L.Link.faults c.args.link.now))

@@ -12,7 +12,7 @@ use Rattle.lsl_top.specs.Answers.{Answer, Comes, Grade, image_refused}
 use Rattle.lsl_top.specs.Goes.{IsLast}
 use Rattle.lsl_top.specs.Lines.{image_refusal_of}
 use Rattle.lsl_top.specs.Pieces.{pieces_from}
-use Rattle.lsl_top.specs.Plays.{Thawing}
+use Rattle.lsl_top.specs.Plays.{Homes, Thawing}
 use Rattle.lsl_top.specs.Ports.{Concludes, log, status_after, wire}
 use Rattle.lsl_top.specs.Thaws.{IsFrom}
 use Rattle.lsl_top.specs.declared.status.Status.{Status}
@@ -41,18 +41,17 @@ returns-in-Ok g c = λ programs run.
     let new = (log (g.K.Sink.sunk c.write_run.new.sink) (g.K.Sink.faults c.write_run.new.sink)) in
     let before = (wire (g.L.Link.trips c.args.link.now) (g.L.Link.faults c.args.link.now)) in
     let after = (wire (g.L.Link.trips c.write_run.new.link) (g.L.Link.faults c.write_run.new.link)) in
-    let mode = Thawing name in
     subst (λ (status : Status). Concludes g.L.Link.gives (IsFrom units programs file text)
     (λ grade from trips. Comes grade from trips (Thawing name) units programs file text) old new before after status)
     (sym c.status_after.ensures)
     (concludes-performed g.L.Link.gives (IsFrom units programs file text)
     (λ grade from trips. Comes grade from trips (Thawing name) units programs file text) (λ ps w. IsOf ps world w)
-    (λ ps w trips. IsLast (Thawing name) units ps (travel (rules_of ps) file.steps trips w).value)
-    (λ ps w trips. pieces_from (Thawing name) units (rules_of ps) file.steps trips w) programs
+    (λ ps w trips. IsLast Homes units ps (travel (rules_of ps) file.steps trips w).value)
+    (λ ps w trips. pieces_from Homes units (rules_of ps) file.steps trips w) programs
     (λ from. from) (λ from fits. thaws.of programs from run fits) old new before after
     c.write_run.result (λ from trips. inl (parts_in world, thaws.found, refl))
     (λ from trips last. inl (parts_in world, thaws.found, refl))
-    (performs-by g.L.Link.gives (λ ps w. IsOf ps world w) (Thawing name) world.units units c.as_slice.result.now file.steps old
+    (performs-by g.L.Link.gives (λ ps w. IsOf ps world w) Homes world.units units c.as_slice.result.now file.steps old
     new before after c.write_run.result thaws.units c.as_slice.ensures c.write_run.ensures))
 
 pub returns-in-Err-NoMemory : goal.returns-in-Err-NoMemory

@@ -1,0 +1,15 @@
+//! The call stacks of a world at rest as text: of each script its state, what it rests in and how many events wait, and
+//! of a handler in flight each active call with its name, the line where it stands and its slots. Nothing here runs a
+//! script.
+#![tactic(auto)]
+
+mod calls;
+pub mod laws;
+mod names;
+mod scripts;
+mod values;
+mod viewing;
+mod words;
+
+pub use crate::names::script_names;
+pub use crate::viewing::view;
