@@ -7,6 +7,7 @@ use Rattle.lsl_value.specs.declared.tagged.Value.{Value}
 use Rattle.lsl_code.specs.declared.woven_units.Woven.{Woven as Code}
 use Rattle.lsl_post.specs.Listens.{Standing}
 use Rattle.lsl_script.specs.declared.live.Live.{Live}
+use Rattle.lsl_script.specs.Codes.{HasUnit}
 use Rattle.lsl_script.specs.Lives.{Waits}
 use Rattle.lsl_script.specs.Scripts.{Flight, Script}
 use Rattle.lsl_region.specs.declared.grid.Seat.{Seat}
@@ -28,6 +29,16 @@ mailed-code ListenControl args clock s = refl
 mailed-code SetTimerEvent args clock s = refl
 mailed-code Sleep args clock s = refl
 mailed-code id args clock s = refl
+
+-- a seat has one unit
+pub one-unit : (codes : List Code) (seats : List Seat) (place : ℕ) (seat other : Seat) (unit found : Code)
+    → slice_get seats place ≡ Some seat → HasUnit codes seat.unit unit → slice_get seats place ≡ Some other
+    → Some found ≡ slice_get codes other.unit → found ≡ unit
+one-unit codes seats place seat other unit found at has there e =
+    let same : Some other ≡ Some seat = sym there ∙ at in
+    let is : other ≡ seat = cc in
+    let both : Some found ≡ Some unit = e ∙ ap (λ (z : Seat). slice_get codes z.unit) is ∙ has in
+    cc
 
 module _ (codes : List Code) (unit : Code) (clock place : ℕ) (grid : Contents) (live : Live) (of : BuiltinId)
     (f : Flight) (w : World) (lent : Lent codes unit clock place grid live of f w) where

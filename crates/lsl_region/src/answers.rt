@@ -30,9 +30,9 @@ use lsl_value::{BuiltinId, Values};
 
 impl Grid {
     /// Answers a host call of the script of this number, which is out of the grid and waits for the answer. The script
-    /// stops where it asks for a listen more than 65. After want of memory the entries are the first of the call's, and
-    /// the grid is only to be dropped. Chat asks exactly the scripts with an active listen on its channel, and the
-    /// one that asks; messages walk all of them.
+    /// stays awake: it goes on once it is given the reply's value, or stops where it asked for a listen more than 65.
+    /// After want of memory the entries are the first of the call's, and the grid is only to be dropped. Chat asks
+    /// exactly the scripts with an active listen on its channel, and the one that asks; messages walk all of them.
     pub fn answer(
         &mut self,
         live: &mut Live,
@@ -56,6 +56,8 @@ impl Grid {
         ensures fits { IfOk result (Answers call.id) }
         ensures stop { IfOk result (λ reply. stop_of reply ≡ stop_for call.id call.args live.old.parts.listens) }
         ensures seated { OnOk result (AreSeated library.now self.new.seats) }
+        ensures awake { (seat : Place) (unit : Code) → slice_get self.old.seats (script - 1) ≡ Some seat →
+            HasUnit library.now seat.unit unit → IsAwake unit live.new }
         ensures machine { live.new.machine ≡ live.old.machine }
         ensures outline { outline_of self.new ≡ outline_of self.old }
     {

@@ -3,10 +3,11 @@ use Rattle.std.specs.Prelude.{Option, Some, slice_get}
 use Rattle.std.proofs.lemmas.Option.{slice_get_within}
 use Rattle.lsl_code.specs.declared.woven_units.Woven.{Woven as Code}
 use Rattle.lsl_post.specs.Journal.{Tells}
+use Rattle.lsl_script.specs.Awake.{IsAwake}
 use Rattle.lsl_region.specs.Answers.{Answered, answer_in}
 use Rattle.lsl_region.specs.Grids.{Contents, Lent}
 use Rattle.lsl_region.specs.Worlds.{Member}
-use Rattle.lsl_region.proofs.Lending.{lent-unit}
+use Rattle.lsl_region.proofs.Lending.{lent-unit, one-unit}
 use Rattle.lsl_region.proofs.Seats.{read-at}
 use Rattle.lsl_region.proofs.grid.Grid.answer.Goals as goal
 
@@ -46,3 +47,13 @@ returns-clause-does c = λ m unit f w lent.
     × (reply ≡ x.1)) c.args.out.now c.answer_at.new.out
     (answer_in m.rules place (Some k.member) c.args.call.id c.args.call.args w)) e
     (c.answer_at.ensures.does m f c.args.call.id w) lent)
+
+pub returns-clause-awake : goal.returns-clause-awake
+returns-clause-awake c = λ seat unit at has.
+    let place : ℕ = c.args.script - 1 in
+    let h : place < length c.self.inside.seats.items = search (rules, c.requires.first, c.requires.last) in
+    let there = ap (λ (g : Contents). slice_get g.seats place) (sym c.self.view_is)
+    ∙ read-at c.self.inside.seats.items place _ h c.index.ensures in
+    subst (λ (u : Code). IsAwake u c.answer_at.new.live)
+    (one-unit c.args.library.now c.args.self.now.seats place seat c.index.result.now unit c.unit-unit.result.now at has
+    there c.unit-unit.ensures.unit) c.answer_at.ensures.awake
