@@ -1,2 +1,3 @@
+pub mod AwayGrid
 pub mod Stopping
 pub mod Touching

@@ -1,3 +1,4 @@
+pub mod Away
 pub mod Driven
 pub mod Exchanged
 pub mod Samples

@@ -93,7 +93,7 @@ fn to_stop(
 }
 
 /// The script at rest where it came to a tick, ended or stopped.
-fn stopped(
+pub(crate) fn stopped(
     alloc: Global,
     unit: &Woven,
     live: Live,
@@ -147,7 +147,7 @@ fn answered(
 }
 
 /// What is asked for, with its first argument.
-fn tell_call(call: &Call, told: &mut String) -> Result<(), NoMemory> {
+pub(crate) fn tell_call(call: &Call, told: &mut String) -> Result<(), NoMemory> {
     told.push_str(call.id.row().name)?;
     match call.args.as_slice().first() {
         Some(Value::Int(n)) => write!(told, " {n}, "),
