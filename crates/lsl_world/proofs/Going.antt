@@ -23,7 +23,7 @@ use Rattle.lsl_world.specs.Steps.{next}
 use Rattle.lsl_world.specs.Travels.{Does, go_on, images_of}
 use Rattle.lsl_world.proofs.Counts.{IsHere}
 use Rattle.lsl_world.specs.Timers.{AreNumbered, IsIndexOf, timings_of}
-use Rattle.lsl_world.proofs.Kept.{part-all}
+use Rattle.lsl_world.proofs.Kept.{changed, part-all, with_grid}
 
 -- no other step makes a trip
 pub go_on-here : (r : Rules) (step : Step) → IsHere step → (trips : List Trip) (w : SourceWorld)
@@ -63,6 +63,23 @@ module _ {T E : Type 0} (gives : List ℕ → Option (List ℕ) → Type 0) (lin
               (sym (images-here world.units form here w)) (sends-none result);
         }),
   )
+
+-- the step is this one, and the grid alone does it: no timer changes
+module _ {T E : Type 0} (gives : List ℕ → Option (List ℕ) → Type 0) (link : Option (List Trip)) (step form : Step)
+    (is : step ≡ form) (here : IsHere form) (world : World) (grid : Contents) (before after : List Entry)
+    (result : Result T E) where
+  pub goes-in-grid : OnOk result (AreSeated world.units grid.seats)
+      → ((programs : List Program) (w : SourceWorld)
+      → timings_of (next (rules_of programs) form w).value ≡ timings_of w)
+      → ((programs : List Program) (w : SourceWorld) → IsOf programs world w
+      → Tells result (λ v _. Stands world.units None world.clock grid v) before after (next (rules_of programs) form w))
+      → (trips : List Trip) × Went gives link link trips
+      × ((programs : List Program) (w : SourceWorld) → IsOf programs world w
+      → Does world.units (rules_of programs) (IsOf programs (with_grid world grid)) step w trips before after result)
+  goes-in-grid seated same tells =
+      goes-here gives link step form is here world (with_grid world grid) before after result (λ programs w of.
+      changed programs world w of grid before after result (next (rules_of programs) form w) (same programs w) seated
+      (tells programs w of))
 
 -- and where it crosses
 pub goes-cross : {T E : Type 0} (gives : List ℕ → Option (List ℕ) → Type 0) (old now : Option (List Trip))

@@ -1,14 +1,13 @@
 //! A case for each step.
 
-ghost use Rattle.std.specs.Prelude.{◌≡◌, ◌<◌, ◌≤◌, ◌-◌, ℕ, List, length, max, OnOk};
+ghost use Rattle.std.specs.Prelude.{◌≡◌, ◌≤◌, List, length, OnOk};
 ghost use Rattle.lsl_ports.specs.Trips.{Trip, Went};
 ghost use Rattle.lsl_post.specs.Journal.{Tells};
 ghost use Rattle.lsl_post.specs.Timing.{latest_clock};
 ghost use Rattle.lsl_tree.specs.Program.{Program};
 ghost use Rattle.lsl_lines.specs.declared.file.Step.TheVariants as steps;
-ghost use Rattle.lsl_region.specs.Arrivals.{changed_event, post_object, read_clock, rez_event, say, touch};
+ghost use Rattle.lsl_region.specs.Arrivals.{read_clock};
 ghost use Rattle.lsl_region.specs.Pausing.{AreGaps, Counts, Tally, with_gaps};
-ghost use Rattle.lsl_region.specs.Segments.{turn};
 ghost use Rattle.lsl_region.specs.Worlds.{World as SourceWorld};
 ghost use Rattle.lsl_world.specs.Programs.{rules_of};
 ghost use Rattle.lsl_world.specs.Saves.{counted_step};
@@ -27,8 +26,8 @@ use lsl_text::NoMemory;
 use lsl_value::{EventId, Text};
 
 impl World {
-    // Does a step.
-    pub(crate) fn do_step<L: Link>(
+    /// Does a step, and adds what happened. After want of memory a part of it was added, and the world is given up.
+    pub fn step<L: Link>(
         &mut self,
         step: &Step,
         link: &mut L,
@@ -38,100 +37,37 @@ impl World {
         requires step { IsStepOf (size_of self.old) step.now }
         ensures goes { (trips : List Trip) × Went L.gives (L.trips link.old) (L.trips link.new) trips
             × ((programs : List Program) (w : SourceWorld) → IsOf programs self.old w
-            → Does self.old.units (rules_of programs) (IsOf programs self.new) step.now w trips out.old out.new result) }
+            → Does self.old.units (rules_of programs) (IsOf programs self.new) step.now w trips
+            out.old out.new result) }
+        ensures units { self.new.units ≡ self.old.units }
+        ensures size { OnOk result (size_of self.new ≡ size_of self.old) }
+        ensures sound { OnOk result (IsSound self.new) }
         ensures saves { (programs : List Program) (w : SourceWorld) (t : Tally) → IsOf programs self.old w
             → Counts self.old.pause t
             → OnOk result (Counts self.new.pause (counted_step (rules_of programs) step.now w t)) }
-        ensures units { self.new.units ≡ self.old.units }
-        ensures size { size_of self.new ≡ size_of self.old }
-        ensures sound { OnOk result (IsSound self.new) }
         ensures counted { L.faults link.old ≤ L.faults link.new }
     {
         match step {
             Step::Clock(time) => self.read_clock(*time, out),
-            Step::Say(channel, name, key, text) => self.say(*channel, name, key, text, out),
-            Step::Touch(object, number, key, name) => self.touch(*object, *number, key, name, out),
-            Step::Changed(object, flags) => self.change(*object, *flags, out),
-            Step::Rez(object, n) => self.rez(*object, *n, out),
+            Step::Say(channel, name, key, text) => {
+                self.grid.say(*channel, name, key, text, &self.units, out)
+            }
+            Step::Touch(object, number, key, name) => {
+                self.grid
+                    .touch(*object, *number, key, name, &self.units, out)
+            }
+            Step::Changed(object, flags) => {
+                self.grid
+                    .post(*object, EventId::Changed, *flags, &self.units, out)
+            }
+            Step::Rez(object, n) => self
+                .grid
+                .post(*object, EventId::OnRez, *n, &self.units, out),
             Step::Go(script, most) => self.go(*script, *most, out),
             Step::Run(most) => self.run(*most, out),
             Step::Pause(gaps) => self.set_gaps(gaps),
             Step::Cross(object, region) => self.cross(*object, region, link, out),
         }
-    }
-
-    // Someone says a text.
-    fn say(
-        &mut self,
-        channel: i32,
-        name: &Text,
-        key: &Text,
-        text: &Text,
-        out: &mut Entries,
-    ) -> Result<(), NoMemory>
-        requires sound { IsSound self.old }
-        ensures tells { (programs : List Program) (w : SourceWorld) → IsOf programs self.old w
-            → Tells result (λ v _. IsOf programs self.new v) out.old out.new
-            (say (rules_of programs) channel name.now key.now text.now w) }
-        ensures units { self.new.units ≡ self.old.units }
-        ensures pause { self.new.pause ≡ self.old.pause }
-        ensures size { size_of self.new ≡ size_of self.old }
-        ensures sound { OnOk result (IsSound self.new) }
-    {
-        self.grid.say(channel, name, key, text, &self.units, out)
-    }
-
-    // Someone touches a prim.
-    fn touch(
-        &mut self,
-        object: u32,
-        link: u32,
-        key: &Text,
-        name: &Text,
-        out: &mut Entries,
-    ) -> Result<(), NoMemory>
-        requires sound { IsSound self.old }
-        requires object { HasNumber (length self.old.grid.objects) object }
-        ensures tells { (programs : List Program) (w : SourceWorld) → IsOf programs self.old w
-            → Tells result (λ v _. IsOf programs self.new v) out.old out.new
-            (touch (rules_of programs) (object - 1) link key.now name.now w) }
-        ensures units { self.new.units ≡ self.old.units }
-        ensures pause { self.new.pause ≡ self.old.pause }
-        ensures size { size_of self.new ≡ size_of self.old }
-        ensures sound { OnOk result (IsSound self.new) }
-    {
-        self.grid.touch(object, link, key, name, &self.units, out)
-    }
-
-    // Something of an object changed.
-    fn change(&mut self, object: u32, flags: i32, out: &mut Entries) -> Result<(), NoMemory>
-        requires sound { IsSound self.old }
-        requires object { HasNumber (length self.old.grid.objects) object }
-        ensures tells { (programs : List Program) (w : SourceWorld) → IsOf programs self.old w
-            → Tells result (λ v _. IsOf programs self.new v) out.old out.new
-            (post_object (rules_of programs) (object - 1) (changed_event flags) w) }
-        ensures units { self.new.units ≡ self.old.units }
-        ensures pause { self.new.pause ≡ self.old.pause }
-        ensures size { size_of self.new ≡ size_of self.old }
-        ensures sound { OnOk result (IsSound self.new) }
-    {
-        self.grid
-            .post(object, EventId::Changed, flags, &self.units, out)
-    }
-
-    // An object is rezzed.
-    fn rez(&mut self, object: u32, n: i32, out: &mut Entries) -> Result<(), NoMemory>
-        requires sound { IsSound self.old }
-        requires object { HasNumber (length self.old.grid.objects) object }
-        ensures tells { (programs : List Program) (w : SourceWorld) → IsOf programs self.old w
-            → Tells result (λ v _. IsOf programs self.new v) out.old out.new
-            (post_object (rules_of programs) (object - 1) (rez_event n) w) }
-        ensures units { self.new.units ≡ self.old.units }
-        ensures pause { self.new.pause ≡ self.old.pause }
-        ensures size { size_of self.new ≡ size_of self.old }
-        ensures sound { OnOk result (IsSound self.new) }
-    {
-        self.grid.post(object, EventId::OnRez, n, &self.units, out)
     }
 
     // The clock goes on, if it is to, and the timers that are due are read.
@@ -149,8 +85,8 @@ impl World {
         self.read_timers(out)
     }
 
-    /// Segments of a script, at most so many.
-    pub(crate) fn go(&mut self, script: u32, most: u32, out: &mut Entries) -> Result<(), NoMemory>
+    // Segments of a script, at most so many.
+    fn go(&mut self, script: u32, most: u32, out: &mut Entries) -> Result<(), NoMemory>
         requires sound { IsSound self.old }
         requires script { HasNumber (length self.old.grid.seats) script }
         ensures tells { (programs : List Program) (w : SourceWorld) → IsOf programs self.old w
@@ -171,7 +107,8 @@ impl World {
     fn set_gaps(&mut self, gaps: &Gaps) -> Result<(), NoMemory>
         requires sound { IsSound self.old }
         requires gaps { AreGaps gaps.now }
-        ensures same { (programs : List Program) (w : SourceWorld) → IsOf programs self.old w → IsOf programs self.new w }
+        ensures same { (programs : List Program) (w : SourceWorld) → IsOf programs self.old w
+            → IsOf programs self.new w }
         ensures saves { (t : Tally) → Counts self.old.pause t
             → OnOk result (Counts self.new.pause (with_gaps gaps.now t)) }
         ensures units { self.new.units ≡ self.old.units }

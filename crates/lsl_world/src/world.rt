@@ -1,7 +1,6 @@
 //! A world in memory.
 
-ghost use Rattle.std.specs.Prelude.{◌≡◌, ◌≤◌, List, length, min, IfOk, OnOk};
-ghost use Rattle.lsl_ports.specs.Trips.{Trip, Went};
+ghost use Rattle.std.specs.Prelude.{◌≡◌, List, length, min, IfOk};
 ghost use Rattle.lsl_post.specs.Journal.{Adds};
 ghost use Rattle.lsl_tree.specs.Program.{Program};
 ghost use Rattle.lsl_region.specs.Pausing.{Counts, Tally, most_saves, no_tally};
@@ -10,25 +9,22 @@ ghost use Rattle.lsl_world.specs.Codes.{AreRunBy};
 ghost use Rattle.lsl_world.specs.Programs.{rules_of};
 ghost use Rattle.lsl_world.specs.Ranges.{IsInRange};
 ghost use Rattle.lsl_world.specs.Reports.{homes};
-ghost use Rattle.lsl_world.specs.Saves.{counted_step};
-ghost use Rattle.lsl_world.specs.Sizes.{IsStepOf, size_of_file};
+ghost use Rattle.lsl_world.specs.Sizes.{size_of_file};
 ghost use Rattle.lsl_world.specs.Sound.{IsSound};
 ghost use Rattle.lsl_world.specs.Stands.{IsOf, size_of};
 ghost use Rattle.lsl_world.specs.Starts.{start};
-ghost use Rattle.lsl_world.specs.Travels.{Does};
 
 use crate::starting::grid_of;
 use crate::timers::index_of;
 use lsl_code::Library;
-use lsl_lines::{Step, WorldFile};
-use lsl_ports::Link;
+use lsl_lines::WorldFile;
 use lsl_post::{Due, Entries};
 use lsl_region::{Grid, Pause};
 use lsl_text::NoMemory;
 use std::alloc::Global;
 
-/// The reading of the clock, the objects of a world file, the units of its scripts' files, at which segments scripts are
-/// saved and restored, and when the timers that run are due.
+/// The reading of the clock, the objects of a world file, the units of its scripts' files, at which segments scripts
+/// are saved and restored, and when the timers that run are due.
 #[derive(Drop)]
 pub struct World {
     pub(crate) alloc: Global,
@@ -64,29 +60,6 @@ impl World {
         })
     }
 
-    /// Does a step, and adds what happened. After want of memory a part of it was added, and the world is given up.
-    pub fn step<L: Link>(
-        &mut self,
-        step: &Step,
-        link: &mut L,
-        out: &mut Entries,
-    ) -> Result<(), NoMemory>
-        requires sound { IsSound self.old }
-        requires step { IsStepOf (size_of self.old) step.now }
-        ensures goes { (trips : List Trip) × Went L.gives (L.trips link.old) (L.trips link.new) trips
-            × ((programs : List Program) (w : SourceWorld) → IsOf programs self.old w
-            → Does self.old.units (rules_of programs) (IsOf programs self.new) step.now w trips out.old out.new result) }
-        ensures units { self.new.units ≡ self.old.units }
-        ensures size { OnOk result (size_of self.new ≡ size_of self.old) }
-        ensures sound { OnOk result (IsSound self.new) }
-        ensures saves { (programs : List Program) (w : SourceWorld) (t : Tally) → IsOf programs self.old w
-            → Counts self.old.pause t
-            → OnOk result (Counts self.new.pause (counted_step (rules_of programs) step.now w t)) }
-        ensures counted { L.faults link.old ≤ L.faults link.new }
-    {
-        self.do_step(step, link, out)
-    }
-
     /// The units of the scripts' files. It takes no memory.
     pub fn units(&self) -> &Library
         ensures { result.now ≡ self.now.units }
@@ -94,8 +67,8 @@ impl World {
         &self.units
     }
 
-    /// How many times scripts were saved: at the end of each turn of at least one segment that left its script in flight,
-    /// and behind each pausing segment that left it in flight and ready. It stands still at the greatest number.
+    /// How many times scripts were saved: at the end of each turn of at least one segment that left its script in
+    /// flight, and behind each pausing segment that left it in flight and ready. It stands still at the greatest number.
     pub fn saves(&self) -> u64
         ensures { (t : Tally) → Counts self.now.pause t → result ≡ min t.saves most_saves }
     {
