@@ -95,7 +95,7 @@ module _ (rows : List (List ℤ)) (seats : List Seat) (row : List ℤ) (old : Ha
       each = λ k s h. told-at k s (leb_tells (length seats) k) h;
     }
 
--- the same, with what was done as equations
+-- the rows where a seat was added, with what was done as equations
 pub row-pushed : (rows pushed new : List (List ℤ)) (seats : List Seat) (n : ℕ) (row : List ℤ) (t : Seat)
     → n ≡ length seats → pushed ≡ rows ++ [] ∷ [] → new ≡ slice_set pushed n row → HasRow row t.script
     → HaveRows rows seats → HaveRows new (seats ++ t ∷ [])
@@ -105,7 +105,7 @@ row-pushed rows pushed new seats n row t at more is script old =
     ∙ ap (λ (k : ℕ). slice_set (rows ++ [] ∷ []) k row) at))
     (row-more rows seats row old t script)
 
--- the same, where there was no memory for the seat
+-- the rows where there was no memory for the seat, with what was done as equations
 pub row-room : (rows pushed new : List (List ℤ)) (seats : List Seat) (n : ℕ) (row : List ℤ)
     → n ≡ length seats → pushed ≡ rows ++ [] ∷ [] → new ≡ slice_set pushed n row → HaveRows rows seats
     → HaveRows new seats

@@ -27,7 +27,7 @@ use Rattle.lsl_region.specs.Worlds.{Member, World}
 use Rattle.lsl_region.proofs.Placed.{sits}
 use Rattle.lsl_region.proofs.Seats.{no_seat}
 
--- the same handlers, by the unit and by any rules that mean it
+-- the unit has the handlers of any rules that mean it
 module _ (codes : List Code) (m : Meant codes) (n : Member) (unit : Code) (has : HasUnit codes n.script.code unit) where
   pub handles-is : (id : EventId)
       → is_some (handler_of unit.states n.script.state id) ≡ is_some (m.rules.handler n.script.code n.script.state id)

@@ -28,7 +28,7 @@ lasting object = record { owner = object.owner; region = []; prims = map nameles
 abbrev pub fixed_of : Contents → Contents
 fixed_of grid = record { objects = map lasting grid.objects; seats = map vacant grid.seats }
 
--- the same of a world: owners, keys, and of each script its prim, its name and the number of its code
+-- what stays of a world: owners, keys, and of each script its prim, its name and the number of its code
 abbrev pub fixed_in : World → Contents
 fixed_in w = record { objects = map lasting w.objects; seats = map (seat_of [] true) w.members }
 

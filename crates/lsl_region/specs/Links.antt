@@ -12,7 +12,7 @@ abbrev pub prim_named : ℕ → ℤ → Option ℕ
 prim_named count (pos n) = if nat_le n 1 then Some 0 else (if nat_le n count then Some (n - 1) else None)
 prim_named count (negsuc n) = None
 
--- the same, where -4 names the prim that asks
+-- the place of the prim that a number names, where -4 names the one that asks
 abbrev pub prim_or_this : ℕ → ℕ → ℤ → Option ℕ
 prim_or_this count this (negsuc (suc (suc (suc zero)))) = Some this
 prim_or_this count this n = prim_named count n

@@ -21,7 +21,7 @@ turn_in r place x = as_value (λ y. (y.0, x.1 - y.1)) (turn r (min most_in_turn 
 abbrev pub round : Rules → World × ℕ → Told (World × ℕ)
 round r x = each (turn_in r) (length x.0.members) 0 x
 
--- the same, and whether no script ran
+-- a round, and whether no script ran in it
 abbrev pub round_or_last : Rules → World × (ℕ × Bool) → Told (World × (ℕ × Bool))
 round_or_last r x = as_value (λ y. (y.0, (y.1, y.1 == x.1.0))) (round r (x.0, x.1.0))
 
