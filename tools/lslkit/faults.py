@@ -2,7 +2,7 @@
 import hashlib
 import re
 
-from . import places, script_hints, world_hints
+from . import places, script_hints, world_hints, worlds
 from .quoting import unquoted, window
 
 REFUSAL = re.compile(r'bad (\w+) "((?:[^"\\]|\\.)*)" (?:line (\d+) |(\d+):(\d+) )?fault (\d+)(.*)')
@@ -23,7 +23,9 @@ def explained(line, scripts=()):
     sort, name, number, row, column, fault, more = refusal.groups()
     name, fault = unquoted(name), int(fault)
     if sort == "image":
-        return f"{name}:1:1: error: {'; '.join([meaning(fault), *image_hint(fault, more.split(), scripts)])} (fault {fault})"
+        hints = image_hint(name, fault, more.split(), scripts)
+        means = meaning(fault).split(", or ")[0] if hints else meaning(fault)
+        return f"{name}:1:1: error: {'; '.join([means, *hints])} (fault {fault})"
     if number is None and row is None:
         return f"{name}:1:1: error: {meaning(fault)}{more} (fault {fault})"
     text = places.bytes_of(name)
@@ -35,8 +37,8 @@ def explained(line, scripts=()):
     return with_line(name, text, int(number), column, fault, hints)
 
 
-def image_hint(fault, details, scripts):
-    """What the details of a frozen world's fault tell."""
+def image_hint(name, fault, details, scripts):
+    """What the details of a frozen world's fault tell, and what the file is that is none."""
     if fault == 40:
         found, wanted = details
         short = int(found) < 46
@@ -46,7 +48,28 @@ def image_hint(fault, details, scripts):
     if fault == 43:
         names = [it for it in dict.fromkeys(scripts) if digest_of(it) == details[1]]
         return [f"frozen under another text of {it}" for it in names]
+    if fault == 45:
+        return unfrozen_hint(places.bytes_of(name) or b"")
     return [f"at byte {details[0]}"] if fault == 44 else []
+
+
+def unfrozen_hint(text):
+    """Why the last line of a text isn't that of a frozen world."""
+    lines = (text[:-1] if text.endswith(b"\n") else text).split(b"\n")
+    frozen = [number for number, line in enumerate(lines, 1) if line.startswith(b"frozen ")]
+    if not text:
+        return ["the file is empty"]
+    if not frozen:
+        is_world = worlds.is_world(text.decode(errors="surrogateescape"))
+        return ["it is a world file: the frozen world is named first" if is_world else "no line begins with `frozen `"]
+    if frozen[-1] < len(lines):
+        return [f"line {frozen[-1]} is that of a frozen world, and more lines follow it"]
+    if lines[-1].endswith(b"\r"):
+        return ["its lines end in a carriage return: save the file with Unix line ends"]
+    wrong = re.search(rb"[^0-9a-f]", lines[-1][len(b"frozen ") :])
+    if wrong:
+        return [f"`{wrong[0].decode(errors='replace')}` in its last line is no digit of 0 to 9 and a to f"]
+    return ["its last line has an odd number of digits"]
 
 
 def digest_of(name):

@@ -55,6 +55,8 @@ class Options:
                 self.show = True
             elif word == "--html" and self.command in SHOWN:
                 self.html = next(rest, None)
+                if self.html is None:
+                    raise Bad("'--html' takes the name of the page that is to be written")
             elif word.startswith("-"):
                 raise Bad(f"'{word}' is no option of it")
             else:
@@ -62,7 +64,7 @@ class Options:
         takes_frozen = self.command in OF_FROZEN
         self.frozen = names.pop(0) if takes_frozen and len(names) == 2 else None
         is_short = takes_frozen and self.frozen is None
-        if len(names) != 1 or is_short or (self.html is None and "--html" in words):
+        if len(names) != 1 or is_short:
             raise Bad(f"'{self.command}' takes {TAKEN.get(self.command, 'one file')}")
         if self.command == "make" and not is_number(names[0]):
             raise Bad("'make' takes a number from 1 to 1000000, without leading zeros")
@@ -108,7 +110,7 @@ def main(words):
 
 def with_program(command, is_tried):
     if isinstance(command, Options):
-        for name in (it for it in command.files if not program.is_plain(it)):
+        for name in (it for it in command.files if not program.is_plain(it) or is_missing(command, it)):
             print(f'lsl: "{name}" {program.unread(name)} (status 4)', file=sys.stderr)
             return READ_FAULT
     binary = making.program(is_tried)
@@ -121,6 +123,11 @@ def with_program(command, is_tried):
     if isinstance(command, playing.Play):
         return command.play(binary)
     return show(binary, command) if command.show or command.html else carry(binary, command)
+
+
+def is_missing(command, name):
+    """Whether the file that the program reads first isn't there: nothing need be proved to know how that ends."""
+    return name == command.name and not os.path.exists(name)
 
 
 def carry(binary, command):
