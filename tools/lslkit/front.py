@@ -109,9 +109,11 @@ def main(words):
 
 
 def with_program(command, is_tried):
-    if isinstance(command, Options):
-        for name in (it for it in command.files if not program.is_plain(it) or is_missing(command, it)):
-            print(f'lsl: "{name}" {program.unread(name)} (status 4)', file=sys.stderr)
+    for name in command.files:
+        # The last one is read first: where it can't be, nothing need be proved to know how that ends.
+        said = program.unread(name)
+        if said and (name == command.files[-1] or not program.is_plain(name)):
+            print(f'lsl: "{name}" {said} (status 4)', file=sys.stderr)
             return READ_FAULT
     binary = making.program(is_tried)
     if binary is None:
@@ -123,11 +125,6 @@ def with_program(command, is_tried):
     if isinstance(command, playing.Play):
         return command.play(binary)
     return show(binary, command) if command.show or command.html else carry(binary, command)
-
-
-def is_missing(command, name):
-    """Whether the file that the program reads first isn't there: nothing need be proved to know how that ends."""
-    return name == command.name and not os.path.exists(name)
 
 
 def carry(binary, command):

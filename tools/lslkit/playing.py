@@ -51,6 +51,9 @@ DETAILS = {"link": ("touch",), "channel": ("say",), "by": ("say", "touch")}
 HIDDEN = ("run", "home")
 FLAGS = ("world", "journal", "interactive")
 NUMBERS = ("link", "channel", "changed", "rez", "run")
+# The words that take another one, and the least and the greatest number of those that don't take every one.
+TAKING = (*STEPS, *DETAILS, "run", "owner", "html")
+RANGES = {"link": (0, 255), "run": (0, 1000000)}
 
 
 class Bad(Exception):
@@ -65,8 +68,9 @@ def milliseconds(text):
 
 
 def number(text, name):
-    if not re.fullmatch(r"-?[0-9]{1,10}", text) or not -(2**31) <= int(text) < 2**31:
-        raise Bad(f"'{text}' is no number for {name}")
+    least, greatest = RANGES.get(name, (-(2**31), 2**31 - 1))
+    if not re.fullmatch(r"-?[0-9]{1,10}", text) or not least <= int(text) <= greatest:
+        raise Bad(f"'{text}' is no number for {name}: {least} to {greatest}")
     return int(text)
 
 
@@ -139,10 +143,10 @@ class Play:
                 names.append(word)
             elif word[:2] == "--" and name in FLAGS:
                 self.flags.add(name)
-            elif word[:2] == "--" and name in (*STEPS, *DETAILS, "run", "owner", "html"):
+            elif word[:2] == "--" and name in TAKING:
                 value = next(words, None)
-                if value is None:
-                    raise Bad(f"{word} takes a word")
+                if value is None or value in [f"--{it}" for it in (*TAKING, *FLAGS)]:
+                    raise Bad(f"{word} takes a word" + (f", and not {value}" if value else ""))
                 self.give(name, value)
             else:
                 raise Bad(f"'{word}' is no word of play")
@@ -170,9 +174,12 @@ class Play:
                 stage.details[name] = value
             else:
                 stage.act(name, value, details)
-        if not 1 <= stage.prims <= 255:
-            raise Bad("a link number is 1 to 255")
         return stage
+
+    @property
+    def files(self):
+        """The files that its words name."""
+        return [self.file]
 
     @property
     def needs_no_program(self):
@@ -184,10 +191,6 @@ class Play:
 
     def play(self, binary):
         """Plays, and answers the program's status."""
-        unread = program.unread(self.file)
-        if unread:
-            print(f'lsl: "{self.file}" {unread} (status 4)', file=sys.stderr)
-            return 4
         if "interactive" in self.flags or not self.given:
             return Talk(binary, self.stage).run()
         ran = replayed(binary, self.stage.text())
