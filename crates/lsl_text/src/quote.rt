@@ -1,10 +1,11 @@
 //! Quoted text.
 
-ghost use Rattle.std.specs.Prelude.{◌≡◌, ◌++◌, take, vec_len, OnOk, OnErr};
+ghost use Rattle.std.specs.Prelude.{◌≡◌, ◌++◌, take, vec_len, MatchOption, OnOk, OnErr};
 ghost use Rattle.std.specs.List.{flat_map};
-ghost use Rattle.lsl_text.specs.Quoted.{escaped, quoted};
+ghost use Rattle.lsl_text.specs.Quoted.{EscapesAt, escaped, quoted};
 
 use crate::NoMemory;
+use memchr::memchr3;
 
 /// Appends the text in quotes: `"` and `\` stand behind a `\`, a line feed is `\n`, and every other
 /// byte is itself.
@@ -33,14 +34,25 @@ fn push_parts(out: &mut Vec<u8>, text: &[u8]) -> Result<(), NoMemory>
     Ok(())
 }
 
+// Copies each run of bytes that stand for themselves at once, and behind it the byte that is escaped.
 fn push_body(out: &mut Vec<u8>, text: &[u8]) -> Result<(), NoMemory>
     ensures ok { OnOk result (out.new.items ≡ out.old.items ++ flat_map escaped text.now) }
     ensures front { OnErr result (take (vec_len out.old) out.new.items ≡ out.old.items) }
 {
-    'bytes: for b in text {
-        push_escaped(out, *b)?;
+    let mut done = 0;
+    'runs: while let Some(place) = next_escaped(&text[done..]) {
+        out.extend_from_slice(&text[done..done + place])?;
+        push_escaped(out, text[done + place])?;
+        done += place + 1;
     }
-    Ok(())
+    out.extend_from_slice(&text[done..])
+}
+
+// The place of the first byte that is escaped.
+fn next_escaped(text: &[u8]) -> Option<usize>
+    ensures { MatchOption result (flat_map escaped text.now ≡ text.now) (λ place. EscapesAt text.now place) }
+{
+    memchr3(b'"', b'\\', b'\n', text)
 }
 
 fn push_escaped(out: &mut Vec<u8>, b: u8) -> Result<(), NoMemory>
