@@ -2,7 +2,7 @@
 //! definition comes to, and looks at nothing but the unit.
 #![tactic(auto)]
 
-ghost use Rattle.std.specs.Prelude.{◌≡◌, ◌≢◌, ◌<◌, ◌≤◌, [], ◌∷◌, ◌-◌, ◌+◌, ℕ, true, false, List, length, slice_get, IfOk, OnErr};
+ghost use Rattle.std.specs.Prelude.{◌≡◌, ◌≢◌, ◌<◌, ◌≤◌, [], ◌∷◌, ◌-◌, ◌+◌, ℕ, true, false, List, length, slice_get, IfOk, OnErr, OnOk};
 ghost use Rattle.lsl_value.specs.declared.tagged.Value.{Value as Tagged};
 ghost use Rattle.lsl_running.specs.Charging.{default_limit};
 ghost use Rattle.lsl_running.specs.declared.host.Reply.{Reply};
@@ -28,6 +28,7 @@ use lsl_text::NoMemory;
 use lsl_value::{Value, Values};
 use std::alloc::Global;
 use std::marker::Model;
+use std::mem::replace;
 
 mod calls;
 mod entering;
@@ -47,7 +48,7 @@ mod standing;
 
 use crate::entering::enter;
 use crate::restoring::restore;
-use crate::running::Running;
+use crate::running::{Room, Running};
 pub use crate::standing::Halt;
 use crate::standing::{Standing, standing_at};
 pub use lsl_running::{Call, Fault, Kept, Outcome, Reply};
@@ -244,7 +245,7 @@ impl Machine {
             running,
             standing: _,
         } = self;
-        let (sack, kept) = running.save(unit)?;
+        let (sack, kept, _) = running.save(unit)?;
         Ok(Parked { sack, kept })
     }
 
@@ -283,9 +284,31 @@ impl Machine {
             BackRun (bodies_of unit.now) handler parked.sack (beside parked.kept) m n → steps.new - steps.old ≤ n) }
     {
         let Parked { sack, kept } = parked;
-        let running = restore(alloc, unit, handler, sack, kept, steps)?;
+        let running = restore(alloc, unit, handler, sack, kept, Room::new(alloc), steps)?;
         let standing = Standing::AtTick;
         Ok(Machine { running, standing })
+    }
+
+    /// Saves the calls by the unit's own code, and restores them in the room that they had. After `NoMemory` the machine
+    /// is lost.
+    #[inline(never)]
+    pub fn pause(&mut self, unit: &Woven, handler: u16) -> Result<(), NoMemory>
+        requires stands { self.old.standing ≡ Standing.AtTick }
+        requires of { IsOf unit.now self.old }
+        requires weaves { Weaves unit.now }
+        requires chained { IsChained (bodies_of unit.now) handler self.old }
+        ensures machine { OnOk result (self.new.machine ≡ self.old.machine) }
+        ensures standing { OnOk result (self.new.standing ≡ self.old.standing) }
+        ensures of { OnOk result (IsOf unit.now self.new) }
+    {
+        self.standing = Standing::Lost;
+        let alloc = self.running.alloc;
+        let running = replace(&mut self.running, Running::vacant(alloc));
+        let (sack, kept, room) = running.save(unit)?;
+        let mut steps = 0;
+        self.running = restore(alloc, unit, handler, sack, kept, room, &mut steps)?;
+        self.standing = Standing::AtTick;
+        Ok(())
     }
 
     /// The globals and the limit of a handler that ended. Takes no memory.

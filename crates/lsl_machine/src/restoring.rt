@@ -13,10 +13,10 @@ ghost use Rattle.lsl_code.specs.Weaves.{bodies_of};
 ghost use Rattle.lsl_code.specs.Frames.{AreValid, points_of};
 ghost use Rattle.lsl_code.specs.ModeRuns.{BackRun};
 ghost use Rattle.lsl_machine.specs.CallsRestored.{Backs, CanBack, IsRestored, IsRestoring, beside};
-ghost use Rattle.lsl_machine.specs.Laid.{Lays};
+ghost use Rattle.lsl_machine.specs.Laid.{IsVacant, Lays};
 
 use crate::calls::{above, push_empties};
-use crate::running::{Activation, Running};
+use crate::running::{Activation, Room, Running};
 use lsl_code::{Instr, Pack, Sack, Woven};
 use lsl_running::{CALL_CHARGE, Kept, SCRIPT_CHARGE, charged_with_values};
 use lsl_text::NoMemory;
@@ -36,21 +36,26 @@ pub struct Restorer {
 }
 
 impl Restorer {
-    /// The handler's function, entered to be restored, before these frames.
+    /// The handler's function, entered to be restored, before these frames. The room is used again.
     pub fn begin(
         alloc: Global,
         unit: &Woven,
         handler: u16,
         sack: Sack,
+        room: Room,
     ) -> Result<Restorer, NoMemory>
-        requires { (body : Body) × (slice_get (bodies_of unit.now) handler ≡ Some body) }
+        requires there { (body : Body) × (slice_get (bodies_of unit.now) handler ≡ Some body) }
+        requires vacant { IsVacant room }
         ensures { IfOk result (λ begun. (body : Body) → slice_get (bodies_of unit.now) handler ≡ Some body →
             IsRestoring (bodies_of unit.now) begun (blank handler body) [] 0 [] sack) }
     {
         let Some(function) = unit.functions.get(handler as usize) else {
             unreachable!();
         };
-        let mut stack = Vec::new(alloc);
+        let Room {
+            mut callers,
+            mut stack,
+        } = room;
         push_empties(alloc, &mut stack, function.slots.as_slice(), function.most)?;
         let active = Activation {
             function: handler,
@@ -59,7 +64,7 @@ impl Restorer {
             floor: stack.len(),
             charge: SCRIPT_CHARGE,
         };
-        let callers = Vec::with_capacity(alloc, sack.len())?;
+        callers.reserve(sack.len())?;
         Ok(Restorer {
             alloc,
             active,
@@ -260,17 +265,19 @@ pub fn instruction(unit: &Woven, function: u16, place: usize) -> Option<&Instr>
 }
 
 /// The machine that the unit's own code makes of these frames of the handler's function, beside these globals and this
-/// limit. The count of steps grows by one for each instruction.
+/// limit. The room is used again. The count of steps grows by one for each instruction.
 pub fn restore(
     alloc: Global,
     unit: &Woven,
     handler: u16,
     sack: Sack,
     kept: Kept,
+    room: Room,
     steps: &mut u64,
 ) -> Result<Running, NoMemory>
     requires valid { AreValid (points_of (bodies_of unit.now)) handler kept.globals kept.limit sack }
     requires limit { kept.limit ≤ default_limit }
+    requires vacant { IsVacant room }
     requires steps { steps.old ≤ 9223372036854775807 }
     ensures restored { IfOk result (λ running.
         IsRestored (bodies_of unit.now) handler sack kept running (steps.new - steps.old)) }
@@ -278,7 +285,7 @@ pub fn restore(
     ensures lacking { OnErr result ((m : Restored) (n : ℕ) →
         BackRun (bodies_of unit.now) handler sack (beside kept) m n → steps.new - steps.old ≤ n) }
 {
-    let mut restorer = Restorer::begin(alloc, unit, handler, sack)?;
+    let mut restorer = Restorer::begin(alloc, unit, handler, sack, room)?;
     for i in 0..u64::MAX {
         let Some(instr) = instruction(unit, restorer.active.function, restorer.active.place) else {
             unreachable!();

@@ -1,5 +1,7 @@
 //! The handler that runs: one vector for the slots and the operands of all its calls.
 
+ghost use Rattle.lsl_machine.specs.Laid.{IsVacant};
+
 use lsl_running::{Call, Fault, Outcome};
 use lsl_value::Value;
 use std::alloc::Global;
@@ -25,6 +27,46 @@ pub struct Running {
     pub active: Activation,
     pub callers: Vec<Activation>,
     pub stack: Vec<Value>,
+}
+
+impl Running {
+    /// Without a call and without globals: what stands where a machine is that is being saved. Takes no memory.
+    pub fn vacant(alloc: Global) -> Running {
+        Running {
+            alloc,
+            globals: Vec::new(alloc),
+            global_charge: 0,
+            limit: 0,
+            active: Activation {
+                function: 0,
+                place: 0,
+                base: 0,
+                floor: 0,
+                charge: 0,
+            },
+            callers: Vec::new(alloc),
+            stack: Vec::new(alloc),
+        }
+    }
+}
+
+/// Vectors for calls and for what they hold, without any, whose room is used again.
+#[derive(Drop)]
+pub struct Room {
+    pub callers: Vec<Activation>,
+    pub stack: Vec<Value>,
+}
+
+impl Room {
+    /// No room. Takes no memory.
+    pub fn new(alloc: Global) -> Room
+        ensures { IsVacant result }
+    {
+        Room {
+            callers: Vec::new(alloc),
+            stack: Vec::new(alloc),
+        }
+    }
 }
 
 /// What one instruction comes to.

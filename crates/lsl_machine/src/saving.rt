@@ -8,11 +8,11 @@ ghost use Rattle.lsl_code.specs.Saving.{frame_of, save_act};
 ghost use Rattle.lsl_code.specs.Weaves.{bodies_of};
 ghost use Rattle.lsl_code.specs.declared.instructions.Instr.TheVariants as instrs;
 ghost use Rattle.lsl_weave.specs.WovenCalls.{RestAtTick};
-ghost use Rattle.lsl_machine.specs.Laid.{Held, kept_of, machine_of};
+ghost use Rattle.lsl_machine.specs.Laid.{Held, IsVacant, kept_of, machine_of};
 ghost use Rattle.lsl_machine.specs.CallsSaved.{AreSaved, CanKeep, CanSeal, DidKeep, HasCall, HasSealed, low_of};
 
 use crate::calls::shorten;
-use crate::running::{Activation, Running};
+use crate::running::{Activation, Room, Running};
 use lsl_code::{Instr, Pack, Sack, Woven};
 use lsl_running::Kept;
 use lsl_text::NoMemory;
@@ -126,13 +126,14 @@ impl Saver {
 }
 
 impl Running {
-    /// What the unit's own code saves the calls as, the innermost first, and the globals with the limit. The values
-    /// move, and each is touched so often as the code names it.
-    pub fn save(self, unit: &Woven) -> Result<(Sack, Kept), NoMemory>
+    /// What the unit's own code saves the calls as, the innermost first, the globals with the limit, and the room that
+    /// the calls had. The values move, and each is touched so often as the code names it.
+    pub fn save(self, unit: &Woven) -> Result<(Sack, Kept, Room), NoMemory>
         requires laid { Held self }
         requires rests { (handler : ℕ) × RestAtTick (bodies_of unit.now) handler (machine_of self).calls }
         ensures frames { IfOk result (λ parked. AreSaved (bodies_of unit.now) (machine_of self).calls parked.0) }
         ensures kept { IfOk result (λ parked. parked.1 ≡ kept_of self) }
+        ensures room { IfOk result (λ parked. IsVacant parked.2) }
     {
         let Running {
             alloc,
@@ -158,7 +159,14 @@ impl Running {
             saver.active = caller;
             saver.seal(unit)?;
         }
+        let Saver {
+            mut stack,
+            pack,
+            ..
+        } = saver;
+        stack.clear();
         let globals = Values::from_vec(globals);
-        Ok((Sack::from_pack(saver.pack), Kept { globals, limit }))
+        let kept = Kept { globals, limit };
+        Ok((Sack::from_pack(pack), kept, Room { callers, stack }))
     }
 }

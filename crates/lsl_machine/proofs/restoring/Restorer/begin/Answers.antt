@@ -25,19 +25,19 @@ returns c body given =
     record {
       alloc = c.args.alloc;
       active = record { function = c.args.handler; place = 0; base = 0; floor = c.len.result; charge = 1024 };
-      callers = c.in_ok-callers.callers;
+      callers = c.reserve.new.self;
       stack = c.push_empties.new.stack;
       point = 0;
       pack = c.into_pack.result;
     } in
     let slots : c.push_empties.new.stack.items ≡ map empty_of w.slots =
     c.in_ok-push_empties.ensures.pushed
-    ∙ ap (λ l. l ++ map empty_of c.as_slice.result.now) c.new-stack.ensures.items
+    ∙ ap (λ l. l ++ map empty_of c.as_slice.result.now) c.requires.vacant.1
     ∙ ap (map empty_of) c.as_slice.ensures in
     subst (λ (b : Body). IsRestoring (bodies_of c.args.unit.now) r (blank c.args.handler b) [] 0 []
     c.args.sack) same
     (begun_restoring (bodies_of c.args.unit.now) r c.args.handler w c.args.sack found slots
-    c.in_ok-callers.ensures.items (ap {B = Activation} (λ x. record {
+    (c.reserve.ensures.items ∙ c.requires.vacant.0) (ap {B = Activation} (λ x. record {
       function = c.args.handler;
       place = 0;
       base = 0;
