@@ -1,5 +1,5 @@
 -- A script comes to rest at a tick.
-use Rattle.std.proofs.Common.{◌≡◌, ◌+◌, ◌≤◌, List, [], ◌++◌, Option, sym, ap, ◌∙◌, subst, slice_get, append-nil}
+use Rattle.std.proofs.Common.{◌≡◌, ℕ, ◌+◌, ◌≤◌, List, [], ◌++◌, Option, sym, ap, ◌∙◌, subst, slice_get, append-nil}
 use Rattle.lsl_running.specs.declared.host.Reply.{Reply}
 use Rattle.lsl_running.specs.declared.kept.Kept.{Kept}
 use Rattle.lsl_running.specs.Charging.{default_limit}
@@ -26,7 +26,7 @@ use Rattle.lsl_script.specs.Codes.{bodies_in}
 use Rattle.lsl_script.specs.Fitting.{FitsUnit, least_limit}
 use Rattle.lsl_script.specs.Lives.{Rests, awake_parts}
 use Rattle.lsl_script.specs.Parts.{kept_of, machine_at, parts_of, rest_of}
-use Rattle.lsl_script.specs.Resting.{saved_parts}
+use Rattle.lsl_script.specs.Resting.{saved_parts, with_room}
 use Rattle.lsl_script.specs.Scripts.{Flight, Script}
 use Rattle.lsl_script.proofs.Staying.{on_way_goes}
 use Rattle.lsl_script.proofs.TakesUp.{machine_is}
@@ -107,3 +107,36 @@ rested_is codes unit s f live kept frames r same are =
           frames;
     }) has
     ∙ ap {A = Rest} {B = ScriptParts} (λ x. record (parts_of codes s) { rest = x }) rest
+
+-- what an awake script stands for doesn't depend on its machine's room
+pub rests_in_room : (codes : List Code) (unit : Code) (s : Script) (f : Flight) (live : Live) (room : ℕ)
+    → Rests codes unit s f live → Rests codes unit s f (with_room live room)
+rests_in_room codes unit s f live room r =
+    let l = r.lives in
+    record {
+      lives = record {
+        carries = record {
+          known = l.carries.known;
+          parts = l.carries.parts;
+          timing = l.carries.timing;
+          alive = l.carries.alive;
+        };
+        handles = record {
+          held = l.handles.held;
+          flies = l.handles.flies;
+          same = l.handles.same;
+          event = l.handles.event;
+          handler = l.handles.handler;
+          kept = l.handles.kept;
+        };
+        ticks = l.ticks;
+        due = l.due;
+        fresh = l.fresh;
+        given = l.given;
+        run = record { same = l.run.same };
+      };
+      flies = r.flies;
+      fresh = r.fresh;
+      stands = r.stands;
+      cut = r.cut;
+    }

@@ -1,5 +1,5 @@
 -- The parts of a script that comes to rest: at a tick, or for good.
-use Rattle.std.specs.Prelude.{List, [], None}
+use Rattle.std.specs.Prelude.{ℕ, List, [], None}
 use Rattle.lsl_running.specs.declared.ends.Fault.{Fault}
 use Rattle.lsl_running.specs.declared.kept.Kept.{Kept}
 use Rattle.lsl_running.specs.Charging.{default_limit}
@@ -10,6 +10,7 @@ use Rattle.lsl_post.specs.declared.parts.Rest.TheVariants.{Saved, Dead}
 use Rattle.lsl_post.specs.declared.parts.ScriptParts.{ScriptParts}
 use Rattle.lsl_post.specs.Listens.{no_listens}
 use Rattle.lsl_post.specs.Timing.{stopped}
+use Rattle.lsl_script.specs.declared.live.Live.{Live}
 use Rattle.lsl_script.specs.Parts.{timer_of}
 
 -- the parts of an awake script with what its machine has
@@ -31,3 +32,7 @@ failed_parts unit fault parts = record parts {
   timer = timer_of stopped;
   rest = Dead fault;
 }
+
+-- while it stays awake: all is as it was, but for how many values its machine has room
+abbrev pub with_room : Live → ℕ → Live
+with_room live room = record live { machine = record live.machine { room = room } }

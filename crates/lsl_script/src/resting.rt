@@ -1,6 +1,6 @@
 //! A script comes to rest at a tick: its calls are saved.
 
-ghost use Rattle.std.specs.Prelude.{◌≡◌, List, IfOk};
+ghost use Rattle.std.specs.Prelude.{◌≡◌, List, IfOk, OnOk};
 ghost use Rattle.lsl_code.specs.declared.woven_units.Woven.{Woven as Code};
 ghost use Rattle.lsl_code.specs.Frames.{frames_of};
 ghost use Rattle.lsl_code.specs.Weaves.{Weaves, bodies_of};
@@ -11,7 +11,7 @@ ghost use Rattle.lsl_script.specs.Fitting.{FitsUnit};
 ghost use Rattle.lsl_script.specs.Lawful.{Lawful};
 ghost use Rattle.lsl_script.specs.Lives.{Rests};
 ghost use Rattle.lsl_script.specs.Parts.{parts_of};
-ghost use Rattle.lsl_script.specs.Resting.{keeping, saved_parts};
+ghost use Rattle.lsl_script.specs.Resting.{keeping, saved_parts, with_room};
 ghost use Rattle.lsl_script.specs.Scripts.{Flight, Script as Source};
 
 use crate::live::Live;
@@ -46,6 +46,19 @@ impl Live {
         keep(&mut parts, kept);
         parts.rest = Rest::Saved(event, sack);
         Ok(Script::from_parts(parts, unit))
+    }
+
+    /// Saves the calls by the unit's own code, and restores them; the script is then as it was. After `NoMemory` it is only
+    /// to be dropped.
+    pub fn pause(&mut self, unit: &Woven) -> Result<(), NoMemory>
+        requires awake { IsAwake unit.now self.old }
+        requires stands { self.old.machine.standing ≡ standings.AtTick }
+        requires weaves { Weaves unit.now }
+        ensures awake { OnOk result (IsAwake unit.now self.new) }
+        ensures same { OnOk result (self.new ≡ with_room self.old self.new.machine.room) }
+    {
+        self.machine.pause(unit, self.handler)?;
+        Ok(())
     }
 }
 
