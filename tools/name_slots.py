@@ -16,7 +16,7 @@ NO_ROW = 255
 TABLES = [
     ("calls", 256),
     ("events", 16),
-    ("constants", 32),
+    ("constants", 64),
 ]
 
 

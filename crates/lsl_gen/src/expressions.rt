@@ -100,7 +100,7 @@ fn emit_builtin(draft: &mut Draft, id: BuiltinId, line: u32) -> Result<(), NoMem
             draft.push(Instr::GetLimit)?;
             Ok(())
         }
-        Home::Query | Home::Mail | Home::Act => {
+        Home::Query | Home::Mail | Home::Act | Home::Store | Home::Note => {
             draft.push(Instr::Host(id))?;
             Ok(())
         }

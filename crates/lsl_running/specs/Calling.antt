@@ -37,6 +37,8 @@ form_at_home home.GetLimit = GetLimit
 form_at_home home.Query = Asked
 form_at_home home.Mail = Asked
 form_at_home home.Act = Asked
+form_at_home home.Store = Asked
+form_at_home home.Note = Asked
 form_at_home home.Sleep = AskedAndWaits
 form_at_home home.Reset = Resets
 

@@ -4,7 +4,7 @@ use Rattle.lsl_table.specs.declared.calls.Home.{Home}
 use Rattle.lsl_table.specs.declared.calls.Home.TheVariants as home
 use Rattle.lsl_table.specs.Names.{first_named}
 use Rattle.lsl_value.specs.declared.names.BuiltinId.{BuiltinId}
-use Rattle.lsl_value.specs.declared.names.BuiltinId.TheVariants.{Abs, StringLength, GetListLength, GetSubString, List2List, DeleteSubString, DeleteSubList, InsertString, ListInsertList, ListReplaceList, SubStringIndex, ListFindList, StringTrim, List2Integer, List2String, List2Key, GetListEntryType, DumpList2String, List2Csv, Csv2List, ParseString2List, ParseStringKeepNulls, GetUsedMemory, GetFreeMemory, SetMemoryLimit, GetMemoryLimit, Say, Whisper, Shout, RegionSay, OwnerSay, Listen, ListenRemove, ListenControl, SetTimerEvent, Sleep, ResetScript, MessageLinked, GetOwner, GetKey, GetLinkKey, GetLinkName, GetLinkNumber, GetNumberOfPrims, GetObjectName, SetObjectName, GetScriptName, GetRegionName, GetUnixTime, DetectedKey, DetectedName, DetectedLinkNumber}
+use Rattle.lsl_value.specs.declared.names.BuiltinId.TheVariants.{Abs, StringLength, GetListLength, GetSubString, List2List, DeleteSubString, DeleteSubList, InsertString, ListInsertList, ListReplaceList, SubStringIndex, ListFindList, StringTrim, List2Integer, List2String, List2Key, GetListEntryType, DumpList2String, List2Csv, Csv2List, ParseString2List, ParseStringKeepNulls, GetUsedMemory, GetFreeMemory, SetMemoryLimit, GetMemoryLimit, Say, Whisper, Shout, RegionSay, OwnerSay, Listen, ListenRemove, ListenControl, SetTimerEvent, Sleep, ResetScript, MessageLinked, GetOwner, GetKey, GetLinkKey, GetLinkName, GetLinkNumber, GetNumberOfPrims, GetObjectName, SetObjectName, GetScriptName, GetRegionName, GetUnixTime, DetectedKey, DetectedName, DetectedLinkNumber, LinksetDataWrite, LinksetDataDelete, LinksetDataReset, LinksetDataRead, LinksetDataCountKeys, LinksetDataAvailable, LinksetDataListKeys, GetNotecardLine, GetNumberOfNotecardLines}
 use Rattle.lsl_value.specs.declared.tagged.Kind.{Kind}
 use Rattle.lsl_value.specs.declared.tagged.Kind.TheVariants.{Int, Str, Key, List as Items}
 
@@ -71,6 +71,15 @@ row_of GetUnixTime = row home.Query (codes "llGetUnixTime") [] (Some Int)
 row_of DetectedKey = row home.Query (codes "llDetectedKey") (Int ∷ []) (Some Key)
 row_of DetectedName = row home.Query (codes "llDetectedName") (Int ∷ []) (Some Str)
 row_of DetectedLinkNumber = row home.Query (codes "llDetectedLinkNumber") (Int ∷ []) (Some Int)
+row_of LinksetDataWrite = row home.Store (codes "llLinksetDataWrite") (Str ∷ Str ∷ []) (Some Int)
+row_of LinksetDataDelete = row home.Store (codes "llLinksetDataDelete") (Str ∷ []) (Some Int)
+row_of LinksetDataReset = row home.Store (codes "llLinksetDataReset") [] None
+row_of LinksetDataRead = row home.Query (codes "llLinksetDataRead") (Str ∷ []) (Some Str)
+row_of LinksetDataCountKeys = row home.Query (codes "llLinksetDataCountKeys") [] (Some Int)
+row_of LinksetDataAvailable = row home.Query (codes "llLinksetDataAvailable") [] (Some Int)
+row_of LinksetDataListKeys = row home.Query (codes "llLinksetDataListKeys") (Int ∷ Int ∷ []) (Some Items)
+row_of GetNotecardLine = row home.Note (codes "llGetNotecardLine") (Str ∷ Int ∷ []) (Some Key)
+row_of GetNumberOfNotecardLines = row home.Note (codes "llGetNumberOfNotecardLines") (Str ∷ []) (Some Key)
 
 abbrev pub name_of : BuiltinId → List ℕ
 name_of id = (row_of id).name
@@ -86,7 +95,9 @@ builtins =
     ListenControl ∷ SetTimerEvent ∷ Sleep ∷ ResetScript ∷ MessageLinked ∷ GetOwner ∷ GetKey ∷
     GetLinkKey ∷ GetLinkName ∷ GetLinkNumber ∷ GetNumberOfPrims ∷ GetObjectName ∷ SetObjectName ∷
     GetScriptName ∷ GetRegionName ∷ GetUnixTime ∷
-    DetectedKey ∷ DetectedName ∷ DetectedLinkNumber ∷ []
+    DetectedKey ∷ DetectedName ∷ DetectedLinkNumber ∷
+    LinksetDataWrite ∷ LinksetDataDelete ∷ LinksetDataReset ∷ LinksetDataRead ∷ LinksetDataCountKeys ∷
+    LinksetDataAvailable ∷ LinksetDataListKeys ∷ GetNotecardLine ∷ GetNumberOfNotecardLines ∷ []
 
 -- the call of a name, and none where no call has it
 unfoldable pub builtin_named : List ℕ → Option BuiltinId

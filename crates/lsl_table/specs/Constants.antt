@@ -5,7 +5,7 @@ use Rattle.lsl_table.specs.declared.constants.ConstantValue.TheVariants.{Int as 
 use Rattle.lsl_table.specs.Names.{first_named}
 use Rattle.lsl_value.specs.Key.{null_key}
 use Rattle.lsl_value.specs.declared.names.ConstantId.{ConstantId}
-use Rattle.lsl_value.specs.declared.names.ConstantId.TheVariants.{True, False, NullKey, Eof, PublicChannel, DebugChannel, LinkRoot, LinkSet, LinkAllOthers, LinkAllChildren, LinkThis, TypeInvalid, TypeInteger, TypeString, TypeKey, StringTrimHead, StringTrimTail, StringTrim, ChangedLink, ChangedOwner, ChangedRegion}
+use Rattle.lsl_value.specs.declared.names.ConstantId.TheVariants.{True, False, NullKey, Eof, PublicChannel, DebugChannel, LinkRoot, LinkSet, LinkAllOthers, LinkAllChildren, LinkThis, TypeInvalid, TypeInteger, TypeString, TypeKey, StringTrimHead, StringTrimTail, StringTrim, ChangedLink, ChangedOwner, ChangedRegion, LinksetDataOk, LinksetDataNoMemory, LinksetDataNoKey, LinksetDataProtected, LinksetDataNotFound, LinksetDataNoUpdate, LinksetDataReset, LinksetDataUpdate, LinksetDataDelete}
 use Rattle.lsl_value.specs.declared.tagged.Value.{Value}
 use Rattle.lsl_value.specs.declared.tagged.Value.TheVariants.{Int, Str}
 
@@ -31,6 +31,15 @@ constant_name_of StringTrim = codes "STRING_TRIM"
 constant_name_of ChangedLink = codes "CHANGED_LINK"
 constant_name_of ChangedOwner = codes "CHANGED_OWNER"
 constant_name_of ChangedRegion = codes "CHANGED_REGION"
+constant_name_of LinksetDataOk = codes "LINKSETDATA_OK"
+constant_name_of LinksetDataNoMemory = codes "LINKSETDATA_EMEMORY"
+constant_name_of LinksetDataNoKey = codes "LINKSETDATA_ENOKEY"
+constant_name_of LinksetDataProtected = codes "LINKSETDATA_EPROTECTED"
+constant_name_of LinksetDataNotFound = codes "LINKSETDATA_NOTFOUND"
+constant_name_of LinksetDataNoUpdate = codes "LINKSETDATA_NOUPDATE"
+constant_name_of LinksetDataReset = codes "LINKSETDATA_RESET"
+constant_name_of LinksetDataUpdate = codes "LINKSETDATA_UPDATE"
+constant_name_of LinksetDataDelete = codes "LINKSETDATA_DELETE"
 
 -- a constant's value: the key of zeros and the end of a notecard are strings, the others integers
 abbrev pub constant_value_of : ConstantId → Value
@@ -55,6 +64,15 @@ constant_value_of StringTrim = Int (pos 3)
 constant_value_of ChangedLink = Int (pos 32)
 constant_value_of ChangedOwner = Int (pos 128)
 constant_value_of ChangedRegion = Int (pos 256)
+constant_value_of LinksetDataOk = Int (pos 0)
+constant_value_of LinksetDataNoMemory = Int (pos 1)
+constant_value_of LinksetDataNoKey = Int (pos 2)
+constant_value_of LinksetDataProtected = Int (pos 3)
+constant_value_of LinksetDataNotFound = Int (pos 4)
+constant_value_of LinksetDataNoUpdate = Int (pos 5)
+constant_value_of LinksetDataReset = Int (pos 0)
+constant_value_of LinksetDataUpdate = Int (pos 1)
+constant_value_of LinksetDataDelete = Int (pos 2)
 
 -- the value that a constant stands for
 abbrev pub value_of_constant : ConstantValue → Value
@@ -66,7 +84,9 @@ abbrev pub constants : List ConstantId
 constants =
     True ∷ False ∷ NullKey ∷ Eof ∷ PublicChannel ∷ DebugChannel ∷ LinkRoot ∷ LinkSet ∷ LinkAllOthers ∷
     LinkAllChildren ∷ LinkThis ∷ TypeInvalid ∷ TypeInteger ∷ TypeString ∷ TypeKey ∷ StringTrimHead ∷
-    StringTrimTail ∷ StringTrim ∷ ChangedLink ∷ ChangedOwner ∷ ChangedRegion ∷ []
+    StringTrimTail ∷ StringTrim ∷ ChangedLink ∷ ChangedOwner ∷ ChangedRegion ∷ LinksetDataOk ∷
+    LinksetDataNoMemory ∷ LinksetDataNoKey ∷ LinksetDataProtected ∷ LinksetDataNotFound ∷ LinksetDataNoUpdate ∷
+    LinksetDataReset ∷ LinksetDataUpdate ∷ LinksetDataDelete ∷ []
 
 -- the constant of a name, and none where no constant has it
 unfoldable pub constant_named : List ℕ → Option ConstantId

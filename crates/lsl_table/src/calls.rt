@@ -28,6 +28,10 @@ pub enum Home {
     Mail,
     /// by the host, which says or sends something, or names a prim
     Act,
+    /// by the host, in the store of the object, whose scripts are told of a change
+    Store,
+    /// by the host: the script that asks is told of a notecard
+    Note,
     /// by the host: the script sleeps, and a tick passes behind the answer
     Sleep,
     /// by the machine: the handler ends, and the script is reset
@@ -102,6 +106,15 @@ macro_rules! builtins {
             DetectedKey "llDetectedKey" Query (Int) Key;
             DetectedName "llDetectedName" Query (Int) Str;
             DetectedLinkNumber "llDetectedLinkNumber" Query (Int) Int;
+            LinksetDataWrite "llLinksetDataWrite" Store (Str, Str) Int;
+            LinksetDataDelete "llLinksetDataDelete" Store (Str) Int;
+            LinksetDataReset "llLinksetDataReset" Store ();
+            LinksetDataRead "llLinksetDataRead" Query (Str) Str;
+            LinksetDataCountKeys "llLinksetDataCountKeys" Query () Int;
+            LinksetDataAvailable "llLinksetDataAvailable" Query () Int;
+            LinksetDataListKeys "llLinksetDataListKeys" Query (Int, Int) List;
+            GetNotecardLine "llGetNotecardLine" Note (Str, Int) Key;
+            GetNumberOfNotecardLines "llGetNumberOfNotecardLines" Note (Str) Key;
         }
     };
 }
@@ -160,25 +173,25 @@ impl BuiltinRow for BuiltinId {
 static CALLS: Rows<256> = Rows {
     base: 82,
     slots: [
-        255, 255, 255, 255, 255, 255, 255, 255, 255, 255, 255, 38, 15, 255, 255, 255, 255, 255,
-        255, 11, 49, 255, 26, 255, 255, 255, 255, 27, 21, 255, 34, 255, 255, 255, 255, 255, 31, 14,
-        45, 255, 1, 255, 255, 255, 255, 37, 255, 255, 255, 255, 255, 33, 255, 255, 44, 255, 255,
-        255, 255, 255, 8, 255, 255, 255, 3, 255, 255, 20, 13, 40, 255, 47, 255, 255, 255, 255, 255,
-        255, 255, 255, 255, 255, 255, 255, 255, 6, 255, 255, 255, 50, 255, 255, 255, 255, 255, 16,
-        255, 46, 255, 255, 255, 255, 255, 255, 255, 9, 255, 12, 36, 255, 51, 255, 255, 255, 41,
-        255, 255, 255, 255, 255, 30, 255, 255, 255, 48, 255, 255, 255, 255, 255, 255, 255, 255,
-        255, 255, 255, 255, 255, 255, 0, 255, 255, 255, 32, 255, 255, 255, 255, 255, 255, 24, 29,
-        255, 25, 255, 39, 255, 255, 255, 255, 255, 42, 255, 255, 255, 255, 255, 22, 5, 255, 255,
-        255, 10, 17, 255, 255, 255, 255, 255, 255, 255, 28, 255, 255, 2, 255, 255, 255, 255, 255,
-        255, 255, 255, 255, 255, 255, 43, 255, 255, 255, 255, 255, 255, 255, 255, 255, 255, 255,
-        255, 255, 255, 255, 255, 255, 255, 255, 255, 255, 23, 255, 255, 19, 255, 255, 255, 255,
-        255, 7, 255, 255, 255, 255, 255, 35, 4, 255, 255, 255, 255, 255, 255, 255, 255, 255, 255,
-        255, 18, 255, 255, 255, 255, 255, 255, 255, 255, 255,
+        255, 255, 255, 57, 59, 255, 255, 255, 255, 255, 255, 38, 15, 255, 255, 255, 255, 255, 255,
+        11, 49, 255, 26, 255, 255, 255, 255, 27, 21, 255, 34, 255, 255, 255, 255, 255, 31, 14, 45,
+        255, 1, 255, 255, 255, 255, 37, 255, 255, 255, 255, 255, 33, 255, 255, 44, 255, 255, 255,
+        255, 255, 8, 255, 255, 255, 3, 60, 255, 20, 13, 40, 255, 47, 255, 255, 56, 255, 255, 255,
+        255, 255, 255, 255, 255, 255, 255, 6, 255, 255, 255, 50, 255, 255, 54, 255, 58, 16, 255,
+        46, 255, 255, 255, 52, 255, 255, 255, 9, 255, 12, 36, 255, 51, 255, 255, 255, 41, 255, 255,
+        255, 255, 255, 30, 255, 255, 255, 48, 255, 255, 255, 255, 255, 255, 255, 255, 255, 255,
+        255, 255, 255, 255, 0, 255, 255, 255, 32, 255, 255, 255, 255, 255, 255, 24, 29, 255, 25,
+        255, 39, 255, 255, 255, 255, 255, 42, 255, 255, 255, 255, 255, 22, 5, 255, 255, 255, 10,
+        17, 255, 255, 255, 255, 255, 255, 255, 28, 255, 255, 2, 255, 255, 255, 255, 255, 255, 255,
+        255, 255, 255, 255, 43, 255, 255, 255, 255, 255, 255, 255, 55, 255, 255, 255, 255, 255,
+        255, 255, 255, 255, 255, 255, 255, 255, 23, 53, 255, 19, 255, 255, 255, 255, 255, 7, 255,
+        255, 255, 255, 255, 35, 4, 255, 255, 255, 255, 255, 255, 255, 255, 255, 255, 255, 18, 255,
+        255, 255, 255, 255, 255, 255, 255, 255,
     ],
 };
 
 /// The calls in the order of their rows.
-static BUILTINS: [BuiltinId; 52] = builtins!(ids);
+static BUILTINS: [BuiltinId; 61] = builtins!(ids);
 
 /// The call of this name, or none. Takes no memory, and compares one name.
 pub fn find(name: &str) -> Option<BuiltinId>

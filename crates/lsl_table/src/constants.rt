@@ -42,6 +42,15 @@ macro_rules! constants {
             ChangedLink "CHANGED_LINK" Int(32);
             ChangedOwner "CHANGED_OWNER" Int(128);
             ChangedRegion "CHANGED_REGION" Int(256);
+            LinksetDataOk "LINKSETDATA_OK" Int(0);
+            LinksetDataNoMemory "LINKSETDATA_EMEMORY" Int(1);
+            LinksetDataNoKey "LINKSETDATA_ENOKEY" Int(2);
+            LinksetDataProtected "LINKSETDATA_EPROTECTED" Int(3);
+            LinksetDataNotFound "LINKSETDATA_NOTFOUND" Int(4);
+            LinksetDataNoUpdate "LINKSETDATA_NOUPDATE" Int(5);
+            LinksetDataReset "LINKSETDATA_RESET" Int(0);
+            LinksetDataUpdate "LINKSETDATA_UPDATE" Int(1);
+            LinksetDataDelete "LINKSETDATA_DELETE" Int(2);
         }
     };
 }
@@ -69,16 +78,18 @@ macro_rules! match_value {
 }
 
 /// The constants by their names' hashes, as computed by `tools/name_slots.py`.
-static NAMES: Rows<32> = Rows {
-    base: 3227,
+static NAMES: Rows<64> = Rows {
+    base: 6672,
     slots: [
-        255, 0, 8, 11, 255, 15, 13, 5, 10, 255, 255, 12, 7, 6, 255, 18, 20, 14, 2, 255, 255, 1, 17,
-        16, 255, 4, 9, 255, 255, 19, 3, 255,
+        255, 15, 13, 255, 11, 27, 255, 255, 9, 255, 16, 255, 1, 255, 29, 14, 255, 10, 255, 255, 12,
+        255, 26, 255, 21, 4, 255, 255, 255, 255, 255, 5, 20, 255, 255, 19, 24, 255, 255, 255, 255,
+        7, 23, 255, 255, 28, 255, 2, 0, 255, 25, 255, 6, 255, 22, 18, 17, 255, 8, 255, 255, 255,
+        255, 3,
     ],
 };
 
 /// The constants in the order of their rows.
-static CONSTANTS: [ConstantId; 21] = constants!(ids);
+static CONSTANTS: [ConstantId; 30] = constants!(ids);
 
 /// The constant of this name, or none. Takes no memory, and compares one name.
 pub fn constant(name: &str) -> Option<ConstantId>

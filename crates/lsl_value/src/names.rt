@@ -55,6 +55,15 @@ pub enum BuiltinId {
     DetectedKey,
     DetectedName,
     DetectedLinkNumber,
+    LinksetDataWrite,
+    LinksetDataDelete,
+    LinksetDataReset,
+    LinksetDataRead,
+    LinksetDataCountKeys,
+    LinksetDataAvailable,
+    LinksetDataListKeys,
+    GetNotecardLine,
+    GetNumberOfNotecardLines,
 }
 
 /// An event that a state may handle. They are numbered from 1 in this order.
@@ -98,4 +107,13 @@ pub enum ConstantId {
     ChangedLink,
     ChangedOwner,
     ChangedRegion,
+    LinksetDataOk,
+    LinksetDataNoMemory,
+    LinksetDataNoKey,
+    LinksetDataProtected,
+    LinksetDataNotFound,
+    LinksetDataNoUpdate,
+    LinksetDataReset,
+    LinksetDataUpdate,
+    LinksetDataDelete,
 }

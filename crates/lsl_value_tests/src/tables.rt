@@ -32,7 +32,13 @@ fn home_letter(home: Home) -> char {
     match home {
         Home::Pure => 'P',
         Home::UsedMemory | Home::FreeMemory | Home::SetLimit | Home::GetLimit => 'O',
-        Home::Query | Home::Mail | Home::Act | Home::Sleep | Home::Reset => 'H',
+        Home::Query
+        | Home::Mail
+        | Home::Act
+        | Home::Store
+        | Home::Note
+        | Home::Sleep
+        | Home::Reset => 'H',
     }
 }
 
@@ -166,7 +172,14 @@ builtin llGetRegionName -> llGetRegionName GetRegionName H>s
 builtin llGetUnixTime -> llGetUnixTime GetUnixTime H>i
 builtin llDetectedKey -> llDetectedKey DetectedKey Hi>k
 builtin llDetectedName -> llDetectedName DetectedName Hi>s
-builtin llDetectedLinkNumber -> llDetectedLinkNumber DetectedLinkNumber Hi>i";
+builtin llDetectedLinkNumber -> llDetectedLinkNumber DetectedLinkNumber Hi>i
+builtin llLinksetDataWrite -> llLinksetDataWrite LinksetDataWrite Hss>i
+builtin llLinksetDataDelete -> llLinksetDataDelete LinksetDataDelete Hs>i
+builtin llLinksetDataReset -> llLinksetDataReset LinksetDataReset H
+builtin llLinksetDataRead -> llLinksetDataRead LinksetDataRead Hs>s
+builtin llLinksetDataCountKeys -> llLinksetDataCountKeys LinksetDataCountKeys H>i
+builtin llLinksetDataAvailable -> llLinksetDataAvailable LinksetDataAvailable H>i
+builtin llLinksetDataListKeys -> llLinksetDataListKeys LinksetDataListKeys Hii>l";
 
 #[test]
 fn calls_by_name(rt: HostRuntime) -> Result<(), Fail> {
@@ -215,7 +228,16 @@ constant STRING_TRIM_TAIL -> STRING_TRIM_TAIL StringTrimTail i 2
 constant STRING_TRIM -> STRING_TRIM StringTrim i 3
 constant CHANGED_LINK -> CHANGED_LINK ChangedLink i 32
 constant CHANGED_OWNER -> CHANGED_OWNER ChangedOwner i 128
-constant CHANGED_REGION -> CHANGED_REGION ChangedRegion i 256"##;
+constant CHANGED_REGION -> CHANGED_REGION ChangedRegion i 256
+constant LINKSETDATA_OK -> LINKSETDATA_OK LinksetDataOk i 0
+constant LINKSETDATA_EMEMORY -> LINKSETDATA_EMEMORY LinksetDataNoMemory i 1
+constant LINKSETDATA_ENOKEY -> LINKSETDATA_ENOKEY LinksetDataNoKey i 2
+constant LINKSETDATA_EPROTECTED -> LINKSETDATA_EPROTECTED LinksetDataProtected i 3
+constant LINKSETDATA_NOTFOUND -> LINKSETDATA_NOTFOUND LinksetDataNotFound i 4
+constant LINKSETDATA_NOUPDATE -> LINKSETDATA_NOUPDATE LinksetDataNoUpdate i 5
+constant LINKSETDATA_RESET -> LINKSETDATA_RESET LinksetDataReset i 0
+constant LINKSETDATA_UPDATE -> LINKSETDATA_UPDATE LinksetDataUpdate i 1
+constant LINKSETDATA_DELETE -> LINKSETDATA_DELETE LinksetDataDelete i 2"##;
 
 #[test]
 fn constants_by_name(rt: HostRuntime) -> Result<(), Fail> {
