@@ -118,7 +118,7 @@ kept-after NotFound pairs n v s had = s
 kept-after Same pairs n v s had = s
 kept-after Full pairs n v s had = s
 
-kept-command : (pairs : List Pair) (c : Command) → IsStore pairs → IsStore (after_command pairs c)
+pub kept-command : (pairs : List Pair) (c : Command) → IsStore pairs → IsStore (after_command pairs c)
 kept-command pairs (Write n v) s = kept-after (write_answer pairs n v) pairs n v s (stored pairs n v)
 kept-command pairs (Delete n) s =
     kept-after (delete_answer pairs n) pairs n [] s (λ e. absurd (never-stored pairs n e))

@@ -84,7 +84,8 @@ impl Cards {
     /// Walks the list of notecards, and takes no memory.
     pub fn find(&self, prim: u32, name: &Text) -> Option<u32>
         ensures number { result ≡ number_of self.now prim name.now }
-        ensures listed { IfSome result (λ number. IsListed self.now number) }
+        ensures listed { IfSome result (IsListed self.now) }
+        ensures within { IfSome result (λ number. number ≤ most_cards) }
     {
         match self.list.iter().position(|card| card.lies_at(prim, name)) {
             Some(place) => Some(place as u32 + 1),

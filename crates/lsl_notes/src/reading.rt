@@ -51,7 +51,7 @@ fn card_of(alloc: Global, text: &str) -> Result<Card, NoMemory>
     for line in text.lines() {
         kept.push(text_of(alloc, line)?)?;
     }
-    Ok(Card::from_lines(kept))
+    Card::from_lines(kept)
 }
 
 fn text_of(alloc: Global, line: &str) -> Result<Text, NoMemory>

@@ -35,7 +35,7 @@ fn tell_fault(told: &mut String, fault: CardFault) -> Result<(), NoMemory> {
 fn tell_lines(told: &mut String, card: Card) -> Result<(), NoMemory> {
     let alloc = *told.allocator();
     let mut cards = Cards::new(alloc);
-    cards.add(1, text(alloc, "n")?, card)?;
+    cards.add(1, text(alloc, "n")?, card.copy()?)?;
     write!(told, "{}: ", cards.count(1))?;
     for line in 0..=cards.count(1) {
         let said = cards.line(1, line)?;

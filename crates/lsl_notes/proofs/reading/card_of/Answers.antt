@@ -1,4 +1,7 @@
 use Rattle.std.proofs.Common.{◌≡◌, ◌∙◌, ap, ap₂, sym, ℕ, ◌+◌, ◌<◌, ◌≤◌, List, [], ◌∷◌, ◌++◌, length, map, take, get_or, arith}
+use Rattle.std.specs.Prelude.{IfOk}
+use Rattle.std.specs.declared.result.Result.{Result}
+use Rattle.std.specs.declared.result.Result.TheVariants.{Ok, Err}
 use Rattle.std.specs.Str.{chars}
 use Rattle.std.specs.Str.Lines.{lines}
 use Rattle.std.proofs.lemmas.Grind.{take_at_read}
@@ -22,6 +25,10 @@ few : (all kept : List (List ℕ)) (n : ℕ) → kept ≡ map chars (take n all)
 few all kept n is short =
     omega (arith, ap length is, length-map (take n all) chars, length-take n all, short)
 
+IfOk-map : {T E : Type 0} (r : Result T E) (P Q : T → Type 0) → ((t : T) → P t → Q t) → IfOk r P → IfOk r Q
+IfOk-map (Ok x) P Q f p = f x p
+IfOk-map (Err e) P Q f p = p
+
 pub loop-line-preserved : goal.loop-line-preserved
 loop-line-preserved c =
     let t = YieldsList-turn
@@ -42,5 +49,6 @@ returns c =
     let t = YieldsList-end
     (YieldsList-from_lines c.args.text.now cc) c.loop-line.yielded _ c.loop-line.yielded_by _ _
     c.in-None.is c.next.ensures.steps in
-    c.from_lines.ensures ∙ c.loop-line.invariant
-    ∙ ap (map chars) (take_all (length c.loop-line.yielded) (lines c.args.text.now) (omega (arith, t.1)))
+    IfOk-map c.from_lines.result _ _ (λ card is. is ∙ c.loop-line.invariant
+    ∙ ap (map chars) (take_all (length c.loop-line.yielded) (lines c.args.text.now) (omega (arith, t.1))))
+    c.from_lines.ensures
