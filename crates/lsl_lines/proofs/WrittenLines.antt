@@ -8,7 +8,7 @@ use Rattle.std.specs.Str.{is_utf8}
 use Rattle.lsl_value.specs.Text.{IsText}
 use Rattle.lsl_lines.specs.Checks.{◌>>=◌, fault_unless}
 use Rattle.lsl_lines.specs.Fields.{integer_of, key_of, name_of, natural_of, quoted_of}
-use Rattle.lsl_lines.specs.Forms.{clock_of, say_of, touch_of, changed_of, rez_of, go_of, run_of, pause_of, cross_of, object_of, prim_of, script_of, each_gap, form_of, form_of_words, gap_of, gaps_of, number_of, row_of, step_of, ticks_of}
+use Rattle.lsl_lines.specs.Forms.{clock_of, say_of, touch_of, changed_of, rez_of, go_of, run_of, pause_of, cross_of, object_of, prim_of, note_of, script_of, each_gap, form_of, form_of_words, gap_of, gaps_of, number_of, row_of, step_of, ticks_of}
 use Rattle.lsl_lines.specs.Lines.{lines_of}
 use Rattle.lsl_lines.specs.Reading.{line_added, read_line}
 use Rattle.lsl_lines.specs.Words.{is_skipped, words_of}
@@ -19,7 +19,7 @@ use Rattle.lsl_lines.specs.declared.faults.FileKind.TheVariants.{BadLine}
 use Rattle.lsl_lines.specs.declared.file.Step.{Step as TheStep}
 use Rattle.lsl_lines.specs.declared.file.Step.TheVariants.{Clock, Say, Touch, Changed, Rez, Go, Run, Pause, Cross}
 use Rattle.lsl_lines.specs.declared.forms.Line.{Line}
-use Rattle.lsl_lines.specs.declared.forms.Line.TheVariants.{Object, Prim, Script, Begin, Step, End}
+use Rattle.lsl_lines.specs.declared.forms.Line.TheVariants.{Object, Prim, Script, Note, Begin, Step, End}
 use Rattle.lsl_lines.specs.declared.reading.Reading.{Reading}
 use Rattle.lsl_lines.specs.declared.words.Word.{Word}
 use Rattle.lsl_lines.specs.declared.words.Word.TheVariants.{Plain, Quoted}
@@ -43,6 +43,7 @@ abbrev pub LineFits : Line → Type 0
 LineFits (Object key name owner region) = IsLowerKey key × IsName name × IsLowerKey owner × IsName region
 LineFits (Prim key name) = IsLowerKey key × IsName name
 LineFits (Script name file) = IsName name × IsName file
+LineFits (Note name file) = IsName name × IsName file
 LineFits Begin = Unit {0}
 LineFits (Step step) = StepFits step
 LineFits End = Unit {0}
@@ -94,6 +95,7 @@ line_words_fit (Object key name owner region) (k, n, o, r) =
     (plain (codes "object") refl refl, (key_plain key k, (n.text, (key_plain owner o, (r.text, tt)))))
 line_words_fit (Prim key name) (k, n) = (plain (codes "prim") refl refl, (key_plain key k, (n.text, tt)))
 line_words_fit (Script name file) (n, f) = (plain (codes "script") refl refl, (n.text, (f.text, tt)))
+line_words_fit (Note name file) (n, f) = (plain (codes "note") refl refl, (n.text, (f.text, tt)))
 line_words_fit Begin h = (plain (codes "begin") refl refl, tt)
 line_words_fit (Step step) h = step_words_fit step h
 line_words_fit End h = (plain (codes "end") refl refl, tt)
@@ -113,6 +115,7 @@ line_begins : (line : Line) → BeginsPlain (line_words line)
 line_begins (Object key name owner region) = tt
 line_begins (Prim key name) = tt
 line_begins (Script name file) = tt
+line_begins (Note name file) = tt
 line_begins Begin = tt
 line_begins (Step step) = step_begins step
 line_begins End = tt
@@ -256,6 +259,13 @@ script_form name file n f =
     (name_back name n)
     (given (name_of (Quoted file)) file (λ f. Ok (Script name f)) (Ok (Script name file)) (name_back file f) refl)
 
+note_form : (name file : List ℕ) → IsName name → IsName file
+    → note_of (Quoted name ∷ Quoted file ∷ []) ≡ Ok (Note name file)
+note_form name file n f =
+    given (name_of (Quoted name)) name (λ n. name_of (Quoted file) >>= λ f. Ok (Note n f)) (Ok (Note name file))
+    (name_back name n)
+    (given (name_of (Quoted file)) file (λ f. Ok (Note name f)) (Ok (Note name file)) (name_back file f) refl)
+
 -- ---- the first word
 
 headed : (first : List ℕ) (fields : List Word) (line : Result Line FileKind) → list_all is_word_byte first ≡ true
@@ -309,6 +319,8 @@ line_form (Prim key name) (k, n) =
     headed (codes "prim") (Plain key ∷ Quoted name ∷ []) (Ok (Prim key name)) refl (prim_form key name k n)
 line_form (Script name file) (n, f) =
     headed (codes "script") (Quoted name ∷ Quoted file ∷ []) (Ok (Script name file)) refl (script_form name file n f)
+line_form (Note name file) (n, f) =
+    headed (codes "note") (Quoted name ∷ Quoted file ∷ []) (Ok (Note name file)) refl (note_form name file n f)
 line_form Begin h = headed (codes "begin") [] (Ok Begin) refl refl
 line_form (Step step) h = step_form step h
 line_form End h = headed (codes "end") [] (Ok End) refl refl

@@ -1,5 +1,5 @@
 -- Each world that a text can tell is the world of its text.
-use Rattle.std.proofs.Common.{◌≡◌, ℕ, zero, suc, ◌+◌, ◌-◌, ◌<◌, ◌≤◌, nat_le, nat_lt, true, ◌||◌, List, [], ◌∷◌, ◌++◌, length, get_or, take, map, flat_map, slice_get, Result, Ok, Err, refl, sym, ap, ◌∙◌, arith, ⊎_elim, lit≤, append_assoc, append-nil, length-append}
+use Rattle.std.proofs.Common.{◌≡◌, ℕ, zero, suc, ◌+◌, ◌-◌, ◌<◌, ◌≤◌, nat_le, nat_lt, Bool, true, false, cond, ◌==◌, ◌||◌, List, [], ◌∷◌, ◌++◌, length, get_or, take, map, flat_map, slice_get, Result, Ok, Err, refl, sym, ap, ◌∙◌, arith, ⊎_elim, lit≤, append_assoc, append-nil, length-append}
 use Rattle.std.proofs.lemmas.Bool.{and_parts, cond-true, le-leb, leb-true, lt-ltb, or_cases}
 use Rattle.std.proofs.lemmas.List.{take_all}
 use Rattle.std.specs.List.{AllByRecursion}
@@ -7,10 +7,11 @@ use Rattle.lsl_lines.specs.Checks.{◌>>=◌}
 use Rattle.lsl_lines.specs.Lines.{lines_of}
 use Rattle.lsl_lines.specs.Reading.{begun, clock_behind, has_link, has_number, knows, line_added, prims_of}
 use Rattle.lsl_lines.specs.World.{fault_at, file_of, world_from, world_of}
-use Rattle.lsl_lines.specs.Writable.{ClocksRise, EachIsRead, HasName, IsName, IsWritable, IsWritableObject, IsWritablePrim, IsWritableStep, named_behind, scripts_in}
-use Rattle.lsl_lines.specs.Written.{line_text, lines_of_world, object_lines, prim_lines, rooted_lines, script_line, script_lines, text_of_world}
+use Rattle.lsl_lines.specs.Writable.{ClocksRise, EachIsRead, HasName, HasNoteName, IsName, IsWritable, IsWritableObject, IsWritablePrim, IsWritableStep, as_script, named_behind, scripts_in}
+use Rattle.lsl_lines.specs.Written.{left_by, left_by_prims, line_text, lines_of_world, lying_in, note_line, note_lines, object_lines, prim_lines, rooted_lines, script_line, script_lines, text_of_world}
 use Rattle.lsl_lines.specs.declared.faults.FileFault.{FileFault}
 use Rattle.lsl_lines.specs.declared.faults.FileKind.{FileKind}
+use Rattle.lsl_lines.specs.declared.file.NoteLine.{NoteLine}
 use Rattle.lsl_lines.specs.declared.file.ObjectLine.{ObjectLine}
 use Rattle.lsl_lines.specs.declared.file.PrimLine.{PrimLine}
 use Rattle.lsl_lines.specs.declared.file.ScriptLine.{ScriptLine}
@@ -23,7 +24,7 @@ use Rattle.lsl_lines.specs.declared.reading.Part.{Part}
 use Rattle.lsl_lines.specs.declared.reading.Part.TheVariants.{Steps, Ended}
 use Rattle.lsl_lines.specs.declared.reading.Reading.{Reading}
 use Rattle.lsl_lines.proofs.WrittenLines.{LineFits, StepFits, line_cut_off, line_read}
-use Rattle.lsl_lines.proofs.WrittenObjects.{add_all, add_all-append, objects_told, ok_same, then_all, told}
+use Rattle.lsl_lines.proofs.WrittenObjects.{add_all, add_all-append, all-lying, cards_told, objects_told, ok_same, then_all, told}
 
 -- ---- steps
 
@@ -78,15 +79,16 @@ steps_told r steps (step ∷ more) clock (one, h) (up, rises) few =
 -- behind the last line
 abbrev ended : WorldFile → Reading
 ended file =
-    record (behind_steps (told file.files file.objects) file.steps (last_clock 0 file.steps)) { part = Ended }
+    record (behind_steps (told file file.notes file.objects) file.steps (last_clock 0 file.steps)) { part = Ended }
 
 -- the lines of a world tell it
 world_told : (file : WorldFile) → IsWritable file → add_all (lines_of_world file) begun ≡ Ok (ended file)
 world_told file w =
-    let all = told file.files file.objects in
+    let all = told file file.notes file.objects in
     let rest = map step_line file.steps ++ End ∷ [] in
-    add_all-append (flat_map (object_lines file.files) file.objects) (Begin ∷ rest) begun all
-    (objects_told file [] file.objects w (omega (arith, w.few_objects)) w.objects refl refl)
+    add_all-append (object_lines file 1 file.notes file.objects) (Begin ∷ rest) begun all
+    (objects_told file [] file.notes 1 [] file.objects w (omega (arith, w.few_objects)) w.objects refl refl refl refl
+    ∙ ap (λ (notes : List NoteLine). Ok (told file notes file.objects)) (all-lying file w))
     ∙ then_all Begin rest all (behind_steps all [] 0) (Ok (ended file)) refl
     (add_all-append (map step_line file.steps) (End ∷ []) (behind_steps all [] 0)
     (behind_steps all file.steps (last_clock 0 file.steps))
@@ -112,31 +114,78 @@ scripts_fit : (files : List (List ℕ)) (scripts : List ScriptLine) → AllByRec
 scripts_fit files [] f h = tt
 scripts_fit files (s ∷ scripts) f (one, h) = ((one, name_at files s.file f), scripts_fit files scripts f h)
 
-prims_fit : (files : List (List ℕ)) (prims : List PrimLine) → AllByRecursion IsName files
-    → AllByRecursion IsWritablePrim prims → AllByRecursion LineFits (flat_map (prim_lines files) prims)
-prims_fit files [] f h = tt
-prims_fit files (p ∷ prims) f (one, h) = (
+notes_fit : (cards : List (List ℕ)) (notes : List NoteLine) → AllByRecursion IsName cards
+    → AllByRecursion HasNoteName notes → AllByRecursion LineFits (map (note_line cards) notes)
+notes_fit cards [] f h = tt
+notes_fit cards (n ∷ notes) f (one, h) = ((one, name_at cards n.file f), notes_fit cards notes f h)
+
+-- those that lie in a prim have names, and those that are left
+lying_named : (prim : ℕ) (notes : List NoteLine) → AllByRecursion HasNoteName notes
+    → AllByRecursion HasNoteName (lying_in prim notes)
+lying_named prim [] h = tt
+lying_named prim (n ∷ notes) (one, h) = go (n.prim == prim) (lying_named prim notes h) where
+  go : (b : Bool) → AllByRecursion HasNoteName (lying_in prim notes)
+      → AllByRecursion HasNoteName (cond b (n ∷ lying_in prim notes) [])
+  go true named = (one, named)
+  go false named = tt
+
+left_named : (prim : ℕ) (notes : List NoteLine) → AllByRecursion HasNoteName notes
+    → AllByRecursion HasNoteName (left_by prim notes)
+left_named prim [] h = tt
+left_named prim (n ∷ notes) (one, h) = go (n.prim == prim) (left_named prim notes h) where
+  go : (b : Bool) → AllByRecursion HasNoteName (left_by prim notes)
+      → AllByRecursion HasNoteName (cond b (left_by prim notes) (n ∷ notes))
+  go true named = named
+  go false named = (one, h)
+
+left_behind_named : (prim count : ℕ) (notes : List NoteLine) → AllByRecursion HasNoteName notes
+    → AllByRecursion HasNoteName (left_by_prims prim count notes)
+left_behind_named prim zero notes h = h
+left_behind_named prim (suc count) notes h =
+    left_behind_named (prim + 1) count (left_by prim notes) (left_named prim notes h)
+
+-- the scripts and notecards of a prim, and what comes behind them
+in_prim_fit : (file : WorldFile) (number : ℕ) (notes : List NoteLine) (p : PrimLine) (rest : List Line)
+    → IsWritable file → IsWritablePrim p → AllByRecursion HasNoteName notes → AllByRecursion LineFits rest
+    → AllByRecursion LineFits (script_lines file.files p ++ (note_lines file number notes ++ rest))
+in_prim_fit file number notes p rest w one named h =
+    each-append LineFits (script_lines file.files p) (note_lines file number notes ++ rest)
+    (scripts_fit file.files p.scripts w.files one.scripts)
+    (each-append LineFits (note_lines file number notes) rest
+    (notes_fit file.cards (lying_in number notes) w.cards (lying_named number notes named)) h)
+
+prims_fit : (file : WorldFile) (number : ℕ) (notes : List NoteLine) (prims : List PrimLine) → IsWritable file
+    → AllByRecursion HasNoteName notes → AllByRecursion IsWritablePrim prims
+    → AllByRecursion LineFits (prim_lines file number notes prims)
+prims_fit file number notes [] w named h = tt
+prims_fit file number notes (p ∷ prims) w named (one, h) = (
   (one.key, one.name),
-  each-append LineFits (script_lines files p) (flat_map (prim_lines files) prims)
-      (scripts_fit files p.scripts f one.scripts) (prims_fit files prims f h),
+  in_prim_fit file number notes p (prim_lines file (number + 1) (left_by number notes) prims) w one named
+      (prims_fit file (number + 1) (left_by number notes) prims w (left_named number notes named) h),
 )
 
-rooted_fit : (files : List (List ℕ)) (object : ObjectLine) (prims : List PrimLine) → AllByRecursion IsName files
-    → IsWritableObject object → AllByRecursion IsWritablePrim prims
-    → AllByRecursion LineFits (rooted_lines files object.owner object.region prims)
-rooted_fit files object [] f o h = tt
-rooted_fit files object (p ∷ prims) f o (one, h) = (
+rooted_fit : (file : WorldFile) (number : ℕ) (notes : List NoteLine) (object : ObjectLine) (prims : List PrimLine)
+    → IsWritable file → AllByRecursion HasNoteName notes → IsWritableObject object
+    → AllByRecursion IsWritablePrim prims
+    → AllByRecursion LineFits (rooted_lines file number notes object.owner object.region prims)
+rooted_fit file number notes object [] w named o h = tt
+rooted_fit file number notes object (p ∷ prims) w named o (one, h) = (
   (one.key, one.name, o.owner, o.region),
-  each-append LineFits (script_lines files p) (flat_map (prim_lines files) prims)
-      (scripts_fit files p.scripts f one.scripts) (prims_fit files prims f h),
+  in_prim_fit file number notes p (prim_lines file (number + 1) (left_by number notes) prims) w one named
+      (prims_fit file (number + 1) (left_by number notes) prims w (left_named number notes named) h),
 )
 
-objects_fit : (files : List (List ℕ)) (objects : List ObjectLine) → AllByRecursion IsName files
-    → AllByRecursion IsWritableObject objects → AllByRecursion LineFits (flat_map (object_lines files) objects)
-objects_fit files [] f h = tt
-objects_fit files (o ∷ objects) f (one, h) =
-    each-append LineFits (object_lines files o) (flat_map (object_lines files) objects)
-    (rooted_fit files o o.prims f one one.prims) (objects_fit files objects f h)
+objects_fit : (file : WorldFile) (number : ℕ) (notes : List NoteLine) (objects : List ObjectLine) → IsWritable file
+    → AllByRecursion HasNoteName notes → AllByRecursion IsWritableObject objects
+    → AllByRecursion LineFits (object_lines file number notes objects)
+objects_fit file number notes [] w named h = tt
+objects_fit file number notes (o ∷ objects) w named (one, h) =
+    let left = left_by_prims number (length o.prims) notes in
+    each-append LineFits (rooted_lines file number notes o.owner o.region o.prims)
+    (object_lines file (number + length o.prims) left objects)
+    (rooted_fit file number notes o o.prims w named one one.prims)
+    (objects_fit file (number + length o.prims) left objects w
+    (left_behind_named number (length o.prims) notes named) h)
 
 numbered : (count n : ℕ) → has_number count n ≡ true → n ≤ count
 numbered count n h = let (some, le) = and_parts (nat_lt 0 n) (nat_le n count) h in leb-true n count le
@@ -190,9 +239,9 @@ steps_fit file (step ∷ steps) w (one, h) = (step_fits file step w one, steps_f
 
 lines_fit : (file : WorldFile) → IsWritable file → AllByRecursion LineFits (lines_of_world file)
 lines_fit file w =
-    each-append LineFits (flat_map (object_lines file.files) file.objects)
+    each-append LineFits (object_lines file 1 file.notes file.objects)
     (Begin ∷ (map step_line file.steps ++ End ∷ []))
-    (objects_fit file.files file.objects w.files w.objects)
+    (objects_fit file 1 file.notes file.objects w w.notes w.objects)
     (tt, each-append LineFits (map step_line file.steps) (End ∷ []) (steps_fit file file.steps w w.steps) (tt, tt))
 
 -- ---- the text
@@ -208,10 +257,10 @@ lines_cut (line ∷ lines) (one, h) =
 
 -- the world of what was read
 abbrev world_in : Reading → WorldFile
-world_in r = record { objects = r.objects; files = r.files; steps = r.steps }
+world_in r = record { objects = r.objects; files = r.files; cards = r.cards; notes = r.notes; steps = r.steps }
 
-abbrev with_files : WorldFile → List (List ℕ) → WorldFile
-with_files file files = record { objects = file.objects; files = files; steps = file.steps }
+abbrev with_files : WorldFile → List (List ℕ) → List (List ℕ) → WorldFile
+with_files file files cards = record file { files = files; cards = cards }
 
 read_through : (lines : List Line) (n : ℕ) (r q : Reading) → AllByRecursion LineFits lines → add_all lines r ≡ Ok q
     → q.part ≡ Ended → world_from n r (map line_text lines) ≡ Ok (world_in q)
@@ -238,7 +287,9 @@ each_is_read file w =
     let text = text_of_world file in
     let all : take (named_behind 0 (scripts_in file.objects)) file.files ≡ file.files =
     take_all (named_behind 0 (scripts_in file.objects)) file.files (omega (arith, w.all_named)) in
+    let noted : cards_told file file.notes ≡ file.cards =
+    take_all (named_behind 0 (map as_script file.notes)) file.cards (omega (arith, w.all_cards_named)) in
     cond-true (nat_le (length text) 1048576) _ _ (le-leb (length text) 1048576 w.short)
     ∙ ap (world_from 1 begun) (lines_cut (lines_of_world file) (lines_fit file w))
     ∙ read_through (lines_of_world file) 1 begun (ended file) (lines_fit file w) (world_told file w) refl
-    ∙ ap (λ (files : List (List ℕ)). Ok (with_files file files)) all
+    ∙ (λ i. Ok (with_files file (all i) (noted i)))

@@ -9,7 +9,7 @@ use Rattle.lsl_lines.specs.declared.faults.FileKind.TheVariants.{BadLine}
 use Rattle.lsl_lines.specs.declared.file.Step.{Step as TheStep}
 use Rattle.lsl_lines.specs.declared.file.Step.TheVariants.{Clock, Say, Touch, Changed, Rez, Go, Run, Pause, Cross}
 use Rattle.lsl_lines.specs.declared.forms.Line.{Line}
-use Rattle.lsl_lines.specs.declared.forms.Line.TheVariants.{Object, Prim, Script, Begin, Step, End}
+use Rattle.lsl_lines.specs.declared.forms.Line.TheVariants.{Object, Prim, Script, Note, Begin, Step, End}
 use Rattle.lsl_lines.specs.declared.words.Word.{Word}
 
 -- the number of an object, a script or a prim
@@ -36,6 +36,11 @@ prim_of _ = Err BadLine
 abbrev pub script_of : List Word → Result Line FileKind
 script_of (label ∷ file ∷ []) = name_of label >>= λ n. name_of file >>= λ f. Ok (Script n f)
 script_of _ = Err BadLine
+
+-- note NAME FILE
+abbrev pub note_of : List Word → Result Line FileKind
+note_of (label ∷ file ∷ []) = name_of label >>= λ n. name_of file >>= λ f. Ok (Note n f)
+note_of _ = Err BadLine
 
 -- begin, and end
 abbrev pub alone_of : List Word → Line → Result Line FileKind
@@ -124,9 +129,10 @@ row_of word fields =
     cond (bytes_eq word (codes "object")) (object_of fields)
     (cond (bytes_eq word (codes "prim")) (prim_of fields)
     (cond (bytes_eq word (codes "script")) (script_of fields)
+    (cond (bytes_eq word (codes "note")) (note_of fields)
     (cond (bytes_eq word (codes "begin")) (alone_of fields Begin)
     (cond (bytes_eq word (codes "end")) (alone_of fields End)
-    (step_of word fields >>= λ step. Ok (Step step))))))
+    (step_of word fields >>= λ step. Ok (Step step)))))))
 
 -- bytes of UTF-8
 abbrev pub utf8_of : List ℕ → Result (List ℕ) FileKind

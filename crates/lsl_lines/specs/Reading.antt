@@ -8,20 +8,31 @@ use Rattle.lsl_lines.specs.Keys.{has_key}
 use Rattle.lsl_lines.specs.Words.{is_skipped}
 use Rattle.lsl_lines.specs.declared.faults.FileKind.{FileKind}
 use Rattle.lsl_lines.specs.declared.faults.FileKind.TheVariants.{BadLine, Unknown, TooMany, ClockBack, DoubleKey}
+use Rattle.lsl_lines.specs.declared.file.NoteLine.{NoteLine}
 use Rattle.lsl_lines.specs.declared.file.ObjectLine.{ObjectLine}
 use Rattle.lsl_lines.specs.declared.file.PrimLine.{PrimLine}
 use Rattle.lsl_lines.specs.declared.file.ScriptLine.{ScriptLine}
 use Rattle.lsl_lines.specs.declared.file.Step.{Step as TheStep}
 use Rattle.lsl_lines.specs.declared.file.Step.TheVariants.{Clock, Say, Touch, Changed, Rez, Go, Run, Pause, Cross}
 use Rattle.lsl_lines.specs.declared.forms.Line.{Line}
-use Rattle.lsl_lines.specs.declared.forms.Line.TheVariants.{Object, Prim, Script, Begin, Step, End}
+use Rattle.lsl_lines.specs.declared.forms.Line.TheVariants.{Object, Prim, Script, Note, Begin, Step, End}
 use Rattle.lsl_lines.specs.declared.reading.Part.{Part}
 use Rattle.lsl_lines.specs.declared.reading.Part.TheVariants.{Objects, Steps, Ended}
 use Rattle.lsl_lines.specs.declared.reading.Reading.{Reading}
 
 -- before the first line
 abbrev pub begun : Reading
-begun = record { part = Objects; objects = []; scripts = 0; files = []; keys = []; steps = []; clock = 0 }
+begun = record {
+  part = Objects;
+  objects = [];
+  scripts = 0;
+  files = [];
+  cards = [];
+  notes = [];
+  keys = [];
+  steps = [];
+  clock = 0;
+}
 
 abbrev pub is_objects : Part → Bool
 is_objects Objects = true
@@ -94,6 +105,16 @@ script_added name file r =
     (at_last (with_script_at_last (new_script r.files name file)) r.objects >>= λ objects.
     Ok (record r { objects = objects; scripts = r.scripts + 1; files = file_added r.files file })))
 
+abbrev pub new_note : Reading → List ℕ → List ℕ → NoteLine
+new_note r name file = record { prim = length r.keys; name = name; file = place_of r.cards file }
+
+-- a notecard of the last prim; there is a key for each prim
+abbrev pub note_added : List ℕ → List ℕ → Reading → Result Reading FileKind
+note_added name file r =
+    fault_unless (is_objects r.part && nat_lt 0 (length r.objects)) BadLine
+    (fault_unless (nat_lt (length r.notes) 256) TooMany
+    (Ok (record r { notes = r.notes ++ new_note r name file ∷ []; cards = file_added r.cards file })))
+
 -- there are so many, numbered from 1
 abbrev pub has_number : ℕ → ℕ → Bool
 has_number count n = nat_lt 0 n && nat_le n count
@@ -138,6 +159,7 @@ abbrev pub line_added : Line → Reading → Result Reading FileKind
 line_added (Object key name owner region) r = object_added key name owner region r
 line_added (Prim key name) r = prim_added key name r
 line_added (Script name file) r = script_added name file r
+line_added (Note name file) r = note_added name file r
 line_added Begin r = fault_unless (is_objects r.part) BadLine (Ok (record r { part = Steps }))
 line_added (Step step) r = step_added step r
 line_added End r = fault_unless (is_steps r.part) BadLine (Ok (record r { part = Ended }))

@@ -19,7 +19,13 @@ fault_at line kind = record { kind = kind; line = line }
 abbrev pub file_of : ℕ → Part → Reading → Result WorldFile FileFault
 file_of line Objects r = Err (fault_at line NoBegin)
 file_of line Steps r = Err (fault_at line NoEnd)
-file_of line Ended r = Ok (record { objects = r.objects; files = r.files; steps = r.steps })
+file_of line Ended r = Ok (record {
+  objects = r.objects;
+  files = r.files;
+  cards = r.cards;
+  notes = r.notes;
+  steps = r.steps;
+})
 
 -- what comes of these lines, the first of which has this number, behind what was read
 abbrev pub world_from : ℕ → Reading → List (List ℕ) → Result WorldFile FileFault

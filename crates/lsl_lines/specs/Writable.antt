@@ -8,6 +8,7 @@ use Rattle.lsl_value.specs.Text.{IsText}
 use Rattle.lsl_lines.specs.Reading.{clock_behind, has_link, has_number}
 use Rattle.lsl_lines.specs.World.{IsWorld}
 use Rattle.lsl_lines.specs.Written.{text_of_world}
+use Rattle.lsl_lines.specs.declared.file.NoteLine.{NoteLine}
 use Rattle.lsl_lines.specs.declared.file.ObjectLine.{ObjectLine}
 use Rattle.lsl_lines.specs.declared.file.PrimLine.{PrimLine}
 use Rattle.lsl_lines.specs.declared.file.ScriptLine.{ScriptLine}
@@ -42,6 +43,9 @@ keys_in objects = flat_map (λ (o : ObjectLine). map (λ (p : PrimLine). p.key) 
 
 abbrev pub HasName : ScriptLine → Type 0
 HasName script = IsName script.name
+
+abbrev pub HasNoteName : NoteLine → Type 0
+HasNoteName note = IsName note.name
 
 pub record IsWritablePrim (prim : PrimLine) : Type 0 where
   pub key : IsLowerKey prim.key
@@ -82,6 +86,15 @@ abbrev pub NameInTurn : ℕ → List ScriptLine → Type 0
 NameInTurn count [] = Unit {0}
 NameInTurn count (script ∷ scripts) = (script.file ≤ count) × NameInTurn (max count (script.file + 1)) scripts
 
+-- a notecard names its file as a script does
+abbrev pub as_script : NoteLine → ScriptLine
+as_script note = record { name = note.name; file = note.file }
+
+-- each notecard lies in a prim of these numbers, and in none before that of the last one
+abbrev pub LieInTurn : (least most : ℕ) → List NoteLine → Type 0
+LieInTurn least most [] = Unit {0}
+LieInTurn least most (note ∷ notes) = (least ≤ note.prim) × (note.prim ≤ most) × LieInTurn note.prim most notes
+
 -- no clock is below the last one
 abbrev pub ClocksRise : ℕ → List Step → Type 0
 ClocksRise clock [] = Unit {0}
@@ -98,6 +111,13 @@ pub record IsWritable (file : WorldFile) : Type 0 where
   pub files_differ : IsDistinct bytes_eq file.files
   pub in_turn : NameInTurn 0 (scripts_in file.objects)
   pub all_named : named_behind 0 (scripts_in file.objects) ≡ length file.files
+  pub few_notes : length file.notes ≤ 256
+  pub notes : AllByRecursion HasNoteName file.notes
+  pub in_prims : LieInTurn 1 (length (keys_in file.objects)) file.notes
+  pub cards : AllByRecursion IsName file.cards
+  pub cards_differ : IsDistinct bytes_eq file.cards
+  pub cards_in_turn : NameInTurn 0 (map as_script file.notes)
+  pub all_cards_named : named_behind 0 (map as_script file.notes) ≡ length file.cards
   pub steps : AllByRecursion (IsWritableStep file.objects (length (scripts_in file.objects))) file.steps
   pub clocks_rise : ClocksRise 0 file.steps
   pub short : length (text_of_world file) ≤ 1048576

@@ -1,8 +1,9 @@
--- The text of a world: a line for each object, prim, script and step, with one space between words.
-use Rattle.std.specs.Prelude.{ℕ, ℤ, List, [], ◌∷◌, ◌++◌, map, get_or, codes, decimal}
+-- The text of a world: a line for each object, prim, script, notecard and step, with one space between words.
+use Rattle.std.specs.Prelude.{ℕ, zero, suc, ◌+◌, ◌==◌, ℤ, cond, List, [], ◌∷◌, ◌++◌, length, map, get_or, codes, decimal}
 use Rattle.std.specs.List.{flat_map}
 use Rattle.lsl_text.specs.Number.{decimal_of}
 use Rattle.lsl_lines.specs.Journal.{joined, text_word}
+use Rattle.lsl_lines.specs.declared.file.NoteLine.{NoteLine}
 use Rattle.lsl_lines.specs.declared.file.ObjectLine.{ObjectLine}
 use Rattle.lsl_lines.specs.declared.file.PrimLine.{PrimLine}
 use Rattle.lsl_lines.specs.declared.file.ScriptLine.{ScriptLine}
@@ -10,7 +11,7 @@ use Rattle.lsl_lines.specs.declared.file.Step.{Step as TheStep}
 use Rattle.lsl_lines.specs.declared.file.Step.TheVariants.{Clock, Say, Touch, Changed, Rez, Go, Run, Pause, Cross}
 use Rattle.lsl_lines.specs.declared.file.WorldFile.{WorldFile}
 use Rattle.lsl_lines.specs.declared.forms.Line.{Line}
-use Rattle.lsl_lines.specs.declared.forms.Line.TheVariants.{Object, Prim, Script, Begin, Step, End}
+use Rattle.lsl_lines.specs.declared.forms.Line.TheVariants.{Object, Prim, Script, Note, Begin, Step, End}
 use Rattle.lsl_lines.specs.declared.words.Word.{Word}
 use Rattle.lsl_lines.specs.declared.words.Word.TheVariants.{Plain, Quoted}
 
@@ -50,6 +51,7 @@ line_words (Object key name owner region) =
     Plain (codes "object") ∷ Plain key ∷ Quoted name ∷ Plain owner ∷ Quoted region ∷ []
 line_words (Prim key name) = Plain (codes "prim") ∷ Plain key ∷ Quoted name ∷ []
 line_words (Script name file) = Plain (codes "script") ∷ Quoted name ∷ Quoted file ∷ []
+line_words (Note name file) = Plain (codes "note") ∷ Quoted name ∷ Quoted file ∷ []
 line_words Begin = Plain (codes "begin") ∷ []
 line_words (Step step) = step_words step
 line_words End = Plain (codes "end") ∷ []
@@ -65,23 +67,51 @@ script_line files script = Script script.name (get_or files script.file [])
 abbrev pub script_lines : List (List ℕ) → PrimLine → List Line
 script_lines files prim = map (script_line files) prim.scripts
 
--- a child prim and its scripts
-abbrev pub prim_lines : List (List ℕ) → PrimLine → List Line
-prim_lines files prim = Prim prim.key prim.name ∷ script_lines files prim
+-- a notecard, whose file is one of these
+abbrev pub note_line : List (List ℕ) → NoteLine → Line
+note_line cards note = Note note.name (get_or cards note.file [])
+
+-- the notecards at the head of these that lie in the prim of this number, and those behind them
+abbrev pub lying_in : ℕ → List NoteLine → List NoteLine
+lying_in prim [] = []
+lying_in prim (note ∷ notes) = cond (note.prim == prim) (note ∷ lying_in prim notes) []
+
+abbrev pub left_by : ℕ → List NoteLine → List NoteLine
+left_by prim [] = []
+left_by prim (note ∷ notes) = cond (note.prim == prim) (left_by prim notes) (note ∷ notes)
+
+-- those that are left by so many prims, from this number on
+abbrev pub left_by_prims : (prim count : ℕ) → List NoteLine → List NoteLine
+left_by_prims prim zero notes = notes
+left_by_prims prim (suc count) notes = left_by_prims (prim + 1) count (left_by prim notes)
+
+abbrev pub note_lines : WorldFile → ℕ → List NoteLine → List Line
+note_lines file prim notes = map (note_line file.cards) (lying_in prim notes)
+
+-- child prims from this number on, each with its scripts and those of these notecards that lie in it
+abbrev pub prim_lines : WorldFile → ℕ → List NoteLine → List PrimLine → List Line
+prim_lines file prim notes [] = []
+prim_lines file prim notes (p ∷ prims) =
+    Prim p.key p.name ∷ (script_lines file.files p
+    ++ (note_lines file prim notes ++ prim_lines file (prim + 1) (left_by prim notes) prims))
 
 -- the prims of an object of this owner in this region, the root first
-abbrev pub rooted_lines : List (List ℕ) → List ℕ → List ℕ → List PrimLine → List Line
-rooted_lines files owner region [] = []
-rooted_lines files owner region (root ∷ prims) =
-    Object root.key root.name owner region ∷ (script_lines files root ++ flat_map (prim_lines files) prims)
+abbrev pub rooted_lines : WorldFile → ℕ → List NoteLine → List ℕ → List ℕ → List PrimLine → List Line
+rooted_lines file prim notes owner region [] = []
+rooted_lines file prim notes owner region (root ∷ prims) =
+    Object root.key root.name owner region ∷ (script_lines file.files root
+    ++ (note_lines file prim notes ++ prim_lines file (prim + 1) (left_by prim notes) prims))
 
-abbrev pub object_lines : List (List ℕ) → ObjectLine → List Line
-object_lines files object = rooted_lines files object.owner object.region object.prims
+abbrev pub object_lines : WorldFile → ℕ → List NoteLine → List ObjectLine → List Line
+object_lines file prim notes [] = []
+object_lines file prim notes (o ∷ objects) =
+    rooted_lines file prim notes o.owner o.region o.prims
+    ++ object_lines file (prim + length o.prims) (left_by_prims prim (length o.prims) notes) objects
 
 -- the lines of a world, in their order
 abbrev pub lines_of_world : WorldFile → List Line
 lines_of_world file =
-    flat_map (object_lines file.files) file.objects ++ Begin ∷ (map (λ step. Step step) file.steps ++ End ∷ [])
+    object_lines file 1 file.notes file.objects ++ Begin ∷ (map (λ step. Step step) file.steps ++ End ∷ [])
 
 -- each line ends with a line feed
 abbrev pub text_of_world : WorldFile → List ℕ

@@ -3,12 +3,15 @@
 use lsl_code::Sequence;
 use lsl_value::Text;
 
-/// A world file. Objects and scripts are numbered from 1 in the file's order.
+/// A world file. Objects, scripts and notecards are numbered from 1 in the file's order.
 #[derive(Drop)]
 pub struct WorldFile {
     pub objects: Sequence<ObjectLine>,
     /// The files of scripts, each once, in the order of their first naming.
     pub files: Sequence<Text>,
+    /// The files of notecards, each once, in the order of their first naming.
+    pub cards: Sequence<Text>,
+    pub notes: Sequence<NoteLine>,
     pub steps: Sequence<Step>,
 }
 
@@ -31,6 +34,15 @@ pub struct PrimLine {
 /// A script: its name, and the place of its file among the world's files.
 #[derive(Drop)]
 pub struct ScriptLine {
+    pub name: Text,
+    pub file: u32,
+}
+
+/// A notecard: the number of its prim, counted from 1 through all objects, its name, and the place of its file among
+/// the files of notecards.
+#[derive(Drop)]
+pub struct NoteLine {
+    pub prim: u32,
     pub name: Text,
     pub file: u32,
 }

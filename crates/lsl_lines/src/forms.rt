@@ -1,6 +1,6 @@
 //! The forms of a line.
 
-ghost use Rattle.lsl_lines.specs.Forms.{utf8_of, form_of, form_of_words, row_of, object_of, prim_of, script_of, alone_of};
+ghost use Rattle.lsl_lines.specs.Forms.{utf8_of, form_of, form_of_words, row_of, object_of, prim_of, script_of, note_of, alone_of};
 ghost use Rattle.lsl_lines.specs.Reads.{Gives, GivesBy};
 
 use crate::fields::{BAD_LINE, Field, key, name, plain};
@@ -19,6 +19,8 @@ pub enum Line {
     Prim(Text, Text),
     /// The name and the file.
     Script(Text, Text),
+    /// The name and the file.
+    Note(Text, Text),
     Begin,
     Step(Step),
     End,
@@ -59,6 +61,7 @@ fn parse_row(alloc: Global, first: &str, rest: &[Word]) -> Field<Line>
         "object" => parse_object(alloc, rest),
         "prim" => parse_prim(alloc, rest),
         "script" => parse_script(rest),
+        "note" => parse_note(rest),
         "begin" => parse_alone(rest, Line::Begin),
         "end" => parse_alone(rest, Line::End),
         _ => Ok(Line::Step(parse_step(alloc, first, rest)?)),
@@ -93,6 +96,15 @@ fn parse_script(words: &[Word]) -> Field<Line>
 {
     match words {
         [label, file] => Ok(Line::Script(name(label)?, name(file)?)),
+        _ => Err(BAD_LINE),
+    }
+}
+
+fn parse_note(words: &[Word]) -> Field<Line>
+    ensures { Gives result (note_of words.now) }
+{
+    match words {
+        [label, file] => Ok(Line::Note(name(label)?, name(file)?)),
         _ => Err(BAD_LINE),
     }
 }

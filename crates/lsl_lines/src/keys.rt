@@ -1,6 +1,6 @@
 //! The keys that objects and prims have so far, in a table.
 
-ghost use Rattle.std.specs.Prelude.{◌≡◌, ◌++◌, ◌∷◌, [], false, OnOk};
+ghost use Rattle.std.specs.Prelude.{◌≡◌, ◌++◌, ◌∷◌, [], false, length, OnOk};
 ghost use Rattle.std.specs.Str.{encode_utf8_all};
 ghost use Rattle.lsl_lines.specs.Keys.{has_key};
 
@@ -33,6 +33,13 @@ impl Keys {
         Keys {
             table: IndexSet::new(alloc),
         }
+    }
+
+    /// How many there are. Takes no memory.
+    pub fn len(&self) -> usize
+        ensures { result ≡ length self.now }
+    {
+        self.table.len()
     }
 
     /// Whether the key stands. Takes no memory, and walks no list.

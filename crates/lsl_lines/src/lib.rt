@@ -34,7 +34,7 @@ mod words;
 mod world;
 
 pub use crate::faults::{FileFault, FileKind};
-pub use crate::file::{Gaps, ObjectLine, PrimLine, ScriptLine, Step, WorldFile};
+pub use crate::file::{Gaps, NoteLine, ObjectLine, PrimLine, ScriptLine, Step, WorldFile};
 pub use crate::frozen::{push_frozen, take_frozen};
 pub use crate::journal::{push_line, push_lines};
 

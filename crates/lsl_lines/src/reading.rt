@@ -3,19 +3,21 @@
 use crate::additions::{add_file, add_key, fault_unless, new_prim};
 use crate::faults::FileKind;
 use crate::fields::Field;
-use crate::file::{ObjectLine, ScriptLine, Step};
+use crate::file::{NoteLine, ObjectLine, ScriptLine, Step};
 use crate::forms::{Line, parse_line};
 use crate::keys::Keys;
 use crate::lasts::{add_last_prim, add_last_script};
 use crate::words::is_skipped;
 use lsl_code::Sequence;
 use lsl_value::Text;
-use std::alloc::Global;
+use std::alloc::{AllocError, Global};
 
-/// How many objects, scripts and steps there are at most.
+/// How many objects, scripts, notecards and steps there are at most.
 const MAX_OBJECTS: usize = 64;
 
 const MAX_SCRIPTS: u32 = 256;
+
+const MAX_NOTES: usize = 256;
 
 const MAX_STEPS: usize = 100_000;
 
@@ -58,6 +60,9 @@ pub struct Reading {
     /// How many scripts there are.
     pub scripts: u32,
     pub files: Sequence<Text>,
+    pub cards: Sequence<Text>,
+    pub notes: Sequence<NoteLine>,
+    /// Of objects and prims: one for each prim.
     pub keys: Keys,
     pub steps: Sequence<Step>,
     /// The last clock.
@@ -66,7 +71,7 @@ pub struct Reading {
 
 impl Reading {
     ghost use Rattle.std.specs.Prelude.{◌≡◌, ◌++◌, ◌∷◌, []};
-    ghost use Rattle.lsl_lines.specs.Reading.{begun, clock_behind, object_added, prim_added, script_added, step_added, line_added, read_line};
+    ghost use Rattle.lsl_lines.specs.Reading.{begun, clock_behind, object_added, prim_added, script_added, note_added, step_added, line_added, read_line};
     ghost use Rattle.lsl_lines.specs.Reads.{Makes};
 
     /// Nothing yet. Takes no memory.
@@ -78,6 +83,8 @@ impl Reading {
             objects: Sequence::new(alloc),
             scripts: 0,
             files: Sequence::new(alloc),
+            cards: Sequence::new(alloc),
+            notes: Sequence::new(alloc),
             keys: Keys::new(alloc),
             steps: Sequence::new(alloc),
             clock: 0,
@@ -105,6 +112,7 @@ impl Reading {
             ),
             Line::Prim(key, name) => self.add_prim(alloc, key, name),
             Line::Script(name, file) => self.add_script(name, file),
+            Line::Note(name, file) => self.add_note(name, file),
             Line::Begin => self.begin(),
             Line::Step(step) => self.add_step(step),
             Line::End => self.end(),
@@ -170,6 +178,20 @@ impl Reading {
         let file = add_file(&mut self.files, file)?;
         add_last_script(&mut self.objects, ScriptLine { name, file })?;
         self.scripts += 1;
+        Ok(())
+    }
+
+    fn add_note(&mut self, name: Text, file: Text) -> Field<()>
+        ensures { Makes result self.new (note_added name file self.old) }
+    {
+        fault_unless(
+            self.part.is_objects() && !self.objects.is_empty(),
+            FileKind::BadLine,
+        )?;
+        fault_unless(self.notes.len() < MAX_NOTES, FileKind::TooMany)?;
+        let prim = u32::try_from(self.keys.len()).map_err(|_| AllocError)?;
+        let file = add_file(&mut self.cards, file)?;
+        self.notes.push(NoteLine { prim, name, file })?;
         Ok(())
     }
 

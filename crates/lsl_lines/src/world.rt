@@ -47,6 +47,8 @@ fn ended(line: u32, reading: Reading) -> Result<WorldFile, Refusal<FileFault>>
         Part::Ended => Ok(WorldFile {
             objects: reading.objects,
             files: reading.files,
+            cards: reading.cards,
+            notes: reading.notes,
             steps: reading.steps,
         }),
     }
