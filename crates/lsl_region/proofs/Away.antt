@@ -61,7 +61,7 @@ stands-away codes clock place grid w m t st at k =
     = ap (λ (b : Bool). seat_of codes b (record m { script = t })) (self-out place)
     ∙ ap (λ (c : ℕ). record (seat_of codes true m) { unit = c }) k.code in
     stands-with codes (Some place) clock grid w st (Some place) grid place m (record m { script = t }) at
-    (subst (λ (b : Bool). IsScript codes b t) (sym (self-out place)) k.script) refl
+    (subst (λ (b : Bool). IsScript codes b t) (sym (self-out place)) k.script) refl refl
     (sym (ap (slice_set grid.seats place) seat
     ∙ set-same grid.seats place (seat_of codes true m) (away-seat codes clock place grid w m st at))) (λ j n. refl)
 

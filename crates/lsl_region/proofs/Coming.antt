@@ -35,7 +35,7 @@ module _ (codes : List Code) (clock place : ℕ) (grid : Contents) (w : World) (
       (record {
         known = subst (λ (n : ℕ). n < length codes) (sym code) (st.scripts place m at).known;
         lawful = lawful;
-      }) refl (ap (slice_set grid.seats place) same)
+      }) refl refl (ap (slice_set grid.seats place) same)
       (λ k other. sym (other-home place k (λ e. other (sym e))))
 
   -- as another script of its code
@@ -55,7 +55,7 @@ module _ (codes : List Code) (clock place : ℕ) (grid : Contents) (w : World) (
       (record {
         known = subst (λ (n : ℕ). n < length codes) (sym code) (st.scripts place m at).known;
         lawful = subst (λ (b : Bool). IsLawful codes b t) (sym (self-out place)) tt;
-      }) refl (ap (slice_set grid.seats place) same)
+      }) refl refl (ap (slice_set grid.seats place) same)
       (λ k other. other-home place k (λ e. other (sym e)))
 
 -- the seat that is read at a place

@@ -8,6 +8,8 @@ use Rattle.lsl_code.specs.declared.woven_units.Woven.{Woven as Code}
 use Rattle.lsl_image.specs.declared.parts.Shape.{Shape}
 use Rattle.lsl_region.specs.Crossings.{CanArrive, arrived, post_in_seats, region_changed}
 use Rattle.lsl_value.specs.Key.{is_valid_key}
+use Rattle.lsl_notes.specs.declared.cards.Notecard.{Notecard}
+use Rattle.lsl_post.specs.declared.parts.Pair.{Pair}
 use Rattle.lsl_post.specs.declared.parts.ScriptParts.{ScriptParts}
 use Rattle.lsl_image.specs.declared.parts.ObjectParts.{ObjectParts}
 use Rattle.lsl_image.specs.Valid.{IsStore}
@@ -50,6 +52,20 @@ furnished-is grid place parts region h =
     (get_or-set_same grid.objects place t no_object h)
     ∙ set-set grid.objects place t (record t { region = region })
 
+-- its store is that of these pairs
+pub furnished-with : (grid : Contents) (place : ℕ) (parts : ObjectParts) (region : List ℕ) (store : List Pair)
+    (objects : List Linkset) → store ≡ parts.store
+    → objects ≡ slice_set grid.objects place (record (object_in_grid grid place) {
+      region = region;
+      prims = named (object_in_grid grid place).prims parts.names;
+      store = store;
+    })
+    → objects ≡ slice_set grid.objects place (furnished (object_in_grid grid place) parts region)
+furnished-with grid place parts region store objects same e =
+    let o = object_in_grid grid place in
+    e ∙ ap {A = List Pair} {B = List Linkset} (λ pairs. slice_set grid.objects place
+    (record o { region = region; prims = named o.prims parts.names; store = pairs })) same
+
 -- scripts in seats are as many as they were
 abbrev in_seat : Bool → ℕ → Option ScriptParts → Option ScriptParts
 in_seat own unit o = if own then option_map (with_unit unit) o else None
@@ -88,14 +104,20 @@ pub arrived-is : (codes : List Code) (grid new : Contents) (place : ℕ) (region
     → place < length grid.objects
     → new.objects ≡ slice_set grid.objects place (furnished (object_in_grid grid place) parts region)
     → new.seats ≡ (post_in_seats codes place region_changed 1 (reseated place parts.scripts grid.seats)).value
-    → new ≡ (arrived codes grid place region parts).value
-arrived-is codes grid new place region parts h objects seats =
-    ap {A = List Linkset} {B = Contents} (λ os. record { objects = os; seats = new.seats })
+    → new.cards ≡ grid.cards → new ≡ (arrived codes grid place region parts).value
+arrived-is codes grid new place region parts h objects seats cards =
+    ap {A = List Linkset} {B = Contents} (λ os. record { objects = os; seats = new.seats; cards = new.cards })
     (objects ∙ sym (furnished-is grid place parts region h))
     ∙ ap {A = List Seat} {B = Contents} (λ ss. record {
       objects = (in_region (with_parts grid place parts) place region).objects;
       seats = ss;
+      cards = new.cards;
     }) seats
+    ∙ ap {A = List Notecard} {B = Contents} (λ cs. record {
+      objects = (in_region (with_parts grid place parts) place region).objects;
+      seats = (arrived codes grid place region parts).value.seats;
+      cards = cs;
+    }) cards
 
 pub names-fit : (codes : List Code) (grid : Contents) (place : ℕ) (parts : ObjectParts)
     → CanArrive codes grid place parts → length parts.names ≡ length (object_in_grid grid place).prims

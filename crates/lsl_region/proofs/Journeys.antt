@@ -9,6 +9,7 @@ use Rattle.std.proofs.Math.ListN.{length-set}
 use Rattle.std.proofs.lemmas.List.{set-get_or}
 use Rattle.std.proofs.lemmas.Option.{slice_get-map}
 use Rattle.lsl_code.specs.declared.woven_units.Woven.{Woven as Code}
+use Rattle.lsl_notes.specs.declared.cards.Notecard.{Notecard}
 use Rattle.lsl_post.specs.declared.entries.Entry.{Entry}
 use Rattle.lsl_post.specs.declared.events.Event.{Event}
 use Rattle.lsl_post.specs.declared.parts.ScriptParts.{ScriptParts}
@@ -45,8 +46,10 @@ list-ext {X} (x ∷ xs) (y ∷ ys) h =
 pub contents-is : (codes : List Code) (clock : ℕ) (grid : Contents) (w : World) → Stands codes None clock grid w
     → grid ≡ contents_of codes w
 contents-is codes clock grid w st =
-    ap {A = List Linkset} {B = Contents} (λ objects. record { objects = objects; seats = grid.seats }) st.objects
-    ∙ ap {A = List Seat} {B = Contents} (λ seats. record { objects = w.objects; seats = seats })
+    ap {A = List Linkset} {B = Contents} (λ objects. record grid { objects = objects }) st.objects
+    ∙ ap {A = List Notecard} {B = Contents} (λ cards. record { objects = w.objects; seats = grid.seats; cards = cards })
+    st.cards
+    ∙ ap {A = List Seat} {B = Contents} (λ seats. record { objects = w.objects; seats = seats; cards = w.cards })
     (list-ext grid.seats (map (seat_of codes false) w.members)
     (λ n. st.seats n ∙ sym (slice_get-map (seat_of codes false) w.members n)))
 
@@ -88,24 +91,26 @@ module _ (codes : List Code) (place : ℕ) where
       ap {A = List Primitive} {B = Contents} (λ prims. record {
         objects = slice_set grid.objects place (record o { prims = prims; store = o.store });
         seats = reseated place (filter_map (parts_in_seat place) grid.seats) grid.seats;
+        cards = grid.cards;
       }) (named-own o.prims)
       ∙ ap {A = List Linkset} {B = Contents} (λ objects. record {
         objects = objects;
         seats = reseated place (filter_map (parts_in_seat place) grid.seats) grid.seats;
+        cards = grid.cards;
       }) (set-get_or grid.objects place no_object)
-      ∙ ap {A = List Seat} {B = Contents} (λ seats. record { objects = grid.objects; seats = seats })
+      ∙ ap {A = List Seat} {B = Contents} (λ seats. record { objects = grid.objects; seats = seats; cards = grid.cards })
       (own-scripts w.members)
 
   pub own-arrived : (clock : ℕ) (grid : Contents) (w : World) (region : List ℕ) → Stands codes None clock grid w
       → arrived codes grid place region (parts_of_object grid place)
-      ≡ as_value (λ (seats : List Seat). record { objects = (in_region grid place region).objects; seats = seats })
+      ≡ as_value (λ (seats : List Seat). record (in_region grid place region) { seats = seats })
       (post_in_seats codes place region_changed 1 grid.seats)
   own-arrived clock grid w region st =
       let is = contents-is codes clock grid w st in
       let same : with_parts grid place (parts_of_object grid place) ≡ grid =
       subst (λ (g : Contents). with_parts g place (parts_of_object g place) ≡ g) (sym is) (with-own w) in
       ap {A = Contents} {B = Told Contents} (λ g.
-      as_value (λ (seats : List Seat). record { objects = (in_region g place region).objects; seats = seats })
+      as_value (λ (seats : List Seat). record (in_region g place region) { seats = seats })
       (post_in_seats codes place region_changed 1 g.seats)) same
 
 there-is : {X : Type 0} (xs : List X) (n : ℕ) → n < length xs → (x : X) × (slice_get xs n ≡ Some x)
@@ -147,16 +152,16 @@ module _ (codes : List Code) (m : Meant codes) (place : ℕ) (e : Event) (number
   told-in-seat = told-own (nat_eq one.object place)
 
 -- what is told of the seats from one on stands for what is told of the world
-record PostsStand (codes : List Code) (clock : ℕ) (objects : List Linkset) (told : Told (List Seat)) (w : Told World)
+record PostsStand (codes : List Code) (clock : ℕ) (grid : Contents) (told : Told (List Seat)) (w : Told World)
     : Type 0 where
-  stands : Stands codes None clock (record { objects = objects; seats = told.value }) w.value
+  stands : Stands codes None clock (record grid { seats = told.value }) w.value
   entries : told.entries ≡ w.entries
 
 module _ (codes : List Code) (m : Meant codes) (clock place : ℕ) (e : Event) where
   -- one seat is told
   one-told : (grid : Contents) (w : World) (at : ℕ) (seat : Seat) → Stands codes None clock grid w
       → slice_get grid.seats at ≡ Some seat
-      → PostsStand codes clock grid.objects (record {
+      → PostsStand codes clock grid (record {
         value = slice_set grid.seats at (post_in_seat codes place e (at + 1) seat).value;
         entries = (post_in_seat codes place e (at + 1) seat).entries;
       }) (post_where m.rules (is_in_object place) e at w)
@@ -165,11 +170,12 @@ module _ (codes : List Code) (m : Meant codes) (clock place : ℕ) (e : Event) w
       let new : Contents = record {
         objects = grid.objects;
         seats = slice_set grid.seats at told.value;
+        cards = grid.cards;
       } in
       let r : Result (Unit {0}) (Unit {0}) = Ok tt in
       let d = changed codes None clock grid new w at seat told.value.script
       (λ (k : Member). if is_in_object place w k then post_to m.rules (at + 1) e k.script else quiet k.script)
-      st refl here refl
+      st refl here refl refl
       (ap (λ (z : Seat). slice_set grid.seats at z) (post-script-alone codes place e (at + 1) seat))
       (λ k l. if-script codes false k.script (is_in_object place w k) _ _
       (post-script codes m.rules (at + 1) e k.script l) (same-script codes false k.script l))
@@ -188,14 +194,14 @@ module _ (codes : List Code) (m : Meant codes) (clock place : ℕ) (e : Event) w
   -- all seats from one on are told
   seats-told : (left at : ℕ) (grid : Contents) (w : World) → Stands codes None clock grid w
       → at + left ≡ length grid.seats
-      → PostsStand codes clock grid.objects (posts_from codes place e at grid.seats)
+      → PostsStand codes clock grid (posts_from codes place e at grid.seats)
       (each (post_where m.rules (is_in_object place) e) left at w)
   unfolding each
   seats-told zero at grid w st end =
       let is = posts-end codes place e at grid.seats (omega (arith, end)) in
       record {
         stands = subst (λ (t : Told (List Seat)).
-            Stands codes None clock (record { objects = grid.objects; seats = t.value }) w) (sym is) st;
+            Stands codes None clock (record grid { seats = t.value }) w) (sym is) st;
         entries = ap (λ (t : Told (List Seat)). t.entries) is;
       }
   seats-told (suc left) at grid w st end =
@@ -203,7 +209,7 @@ module _ (codes : List Code) (m : Meant codes) (clock place : ℕ) (e : Event) w
       let one = post_in_seat codes place e (at + 1) seat.0 in
       let first = one-told grid w at seat.0 st seat.1 in
       let seats = slice_set grid.seats at one.value in
-      let others = seats-told left (at + 1) (record { objects = grid.objects; seats = seats })
+      let others = seats-told left (at + 1) (record grid { seats = seats })
       (post_where m.rules (is_in_object place) e at w).value first.stands
       (omega (arith, end, length-set grid.seats at one.value)) in
       let is = posts-next codes place e at grid.seats seats seat.0 seat.1 refl in
@@ -211,7 +217,7 @@ module _ (codes : List Code) (m : Meant codes) (clock place : ℕ) (e : Event) w
       (post_where m.rules (is_in_object place) e at w).value in
       record {
         stands = subst (λ (t : Told (List Seat)).
-            Stands codes None clock (record { objects = grid.objects; seats = t.value }) told.value) (sym is)
+            Stands codes None clock (record grid { seats = t.value }) told.value) (sym is)
             others.stands;
         entries = ap (λ (t : Told (List Seat)). t.entries) is
             ∙ ap (λ (z : List Entry). z ++ (posts_from codes place e (at + 1) seats).entries) first.entries
@@ -233,6 +239,7 @@ arrives codes m clock place region grid w st =
       time = st.time;
       objects = ap (λ (os : List Linkset).
           slice_set os place (record (get_or os place no_object) { region = region })) st.objects;
+      cards = st.cards;
       seats = st.seats;
       scripts = st.scripts;
     } in

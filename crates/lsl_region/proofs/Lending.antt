@@ -6,14 +6,15 @@ use Rattle.lsl_value.specs.declared.names.BuiltinId.TheVariants.{Listen, ListenR
 use Rattle.lsl_value.specs.declared.tagged.Value.{Value}
 use Rattle.lsl_code.specs.declared.woven_units.Woven.{Woven as Code}
 use Rattle.lsl_post.specs.Listens.{Standing}
+use Rattle.lsl_post.specs.declared.parts.Pair.{Pair}
 use Rattle.lsl_script.specs.declared.live.Live.{Live}
 use Rattle.lsl_script.specs.Codes.{HasUnit}
 use Rattle.lsl_script.specs.Lives.{Waits}
 use Rattle.lsl_script.specs.Scripts.{Flight, Script}
 use Rattle.lsl_region.specs.declared.grid.Seat.{Seat}
 use Rattle.lsl_region.specs.declared.objects.Linkset.{Linkset}
-use Rattle.lsl_region.specs.Answers.{listen_asked, listened_script, mailed, renamed, with_name}
-use Rattle.lsl_region.specs.Grids.{Contents, Lent, object_in, prim_in, renamed_grid, seat_of}
+use Rattle.lsl_region.specs.Answers.{listen_asked, listened_script, mailed, renamed, with_name, with_store}
+use Rattle.lsl_region.specs.Grids.{Contents, Lent, object_in, prim_in, renamed_grid, seat_of, stored_grid}
 use Rattle.lsl_region.specs.Worlds.{World, object_of, prim_of, with_member}
 use Rattle.lsl_region.proofs.Away.{away-seat, keeps-out, member-there, stands-away}
 
@@ -76,6 +77,27 @@ module _ (codes : List Code) (unit : Code) (clock place : ℕ) (grid : Contents)
           let o = object_in os (seat_of codes true lent.member) in
           slice_set os lent.member.object (record o { prims = with_name o.prims lent.member.prim name }))
           lent.stands.objects;
+      cards = lent.stands.cards;
+      seats = lent.stands.seats;
+      scripts = lent.stands.scripts;
+    };
+    member = lent.member;
+    at = lent.at;
+    waits = lent.waits;
+  }
+
+  -- its object has another store
+  pub lent-stored : (pairs : List Pair)
+      → Lent codes unit clock place (stored_grid grid (seat_of codes true lent.member) pairs) live of f
+      (with_store w lent.member pairs)
+  lent-stored pairs = record {
+    stands = record {
+      time = lent.stands.time;
+      objects = ap (λ (os : List Linkset).
+          let o = object_in os (seat_of codes true lent.member) in
+          slice_set os lent.member.object (record o { store = pairs }))
+          lent.stands.objects;
+      cards = lent.stands.cards;
       seats = lent.stands.seats;
       scripts = lent.stands.scripts;
     };

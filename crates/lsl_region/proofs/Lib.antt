@@ -35,6 +35,7 @@ pub mod Shapes
 pub mod Reseating
 pub mod Gathering
 pub mod Notices
+pub mod CardTold
 pub mod Furnishing
 pub mod Journeys
 pub mod Passages

@@ -1,7 +1,8 @@
--- What of a grid stays where a script or a prim's name is another one.
+-- What of a grid stays where a script, a prim's name or a store is another one.
 use Rattle.std.proofs.Common.{◌≡◌, ℕ, zero, suc, List, [], ◌∷◌, length, map, refl, ap, sym, ◌∙◌}
 use Rattle.std.specs.Prelude.{Some, slice_get, slice_set}
 use Rattle.std.proofs.lemmas.List.{length-map}
+use Rattle.lsl_post.specs.declared.parts.Pair.{Pair}
 use Rattle.lsl_region.specs.declared.grid.Seat.{Seat}
 use Rattle.lsl_region.specs.declared.objects.Linkset.{Linkset}
 use Rattle.lsl_region.specs.declared.objects.Primitive.{Primitive}
@@ -26,10 +27,15 @@ named-nameless (p ∷ prims) (suc place) name = ap (λ l. nameless p ∷ l) (nam
 -- a seat has another script
 pub outline-seated : (grid : Contents) (n : ℕ) (seat t : Seat) → slice_get grid.seats n ≡ Some seat
     → vacant t ≡ vacant seat
-    → outline_of (record { objects = grid.objects; seats = slice_set grid.seats n t }) ≡ outline_of grid
+    → outline_of (record { objects = grid.objects; seats = slice_set grid.seats n t; cards = grid.cards })
+    ≡ outline_of grid
 unfolding outline_of
 outline-seated grid n seat t at same =
-    ap {A = List Seat} {B = Contents} (λ seats. record { objects = map without_names grid.objects; seats = seats })
+    ap {A = List Seat} {B = Contents} (λ seats. record {
+      objects = map without_names grid.objects;
+      seats = seats;
+      cards = grid.cards;
+    })
     (map-set_same vacant grid.seats n seat t at same)
 
 -- a prim has another name
@@ -38,13 +44,39 @@ pub outline-named : (grid : Contents) (n : ℕ) (o : Linkset) (prim : ℕ) (name
     → outline_of (record {
       objects = slice_set grid.objects n (record o { prims = with_name o.prims prim name });
       seats = grid.seats;
+      cards = grid.cards;
     }) ≡ outline_of grid
 unfolding outline_of
 outline-named grid n o prim name at =
-    ap {A = List Linkset} {B = Contents} (λ objects. record { objects = objects; seats = map vacant grid.seats })
+    ap {A = List Linkset} {B = Contents} (λ objects. record {
+      objects = objects;
+      seats = map vacant grid.seats;
+      cards = grid.cards;
+    })
     (map-set_same without_names grid.objects n o (record o { prims = with_name o.prims prim name }) at
-    (ap {A = List Primitive} {B = Linkset} (λ prims. record { owner = o.owner; region = o.region; prims = prims; store = o.store })
+    (ap {A = List Primitive} {B = Linkset} (λ prims. record {
+      owner = o.owner;
+      region = o.region;
+      prims = prims;
+      store = [];
+    })
     (named-nameless o.prims prim name)))
+
+-- an object has another store
+pub outline-stored : (grid : Contents) (n : ℕ) (o : Linkset) (pairs : List Pair) → slice_get grid.objects n ≡ Some o
+    → outline_of (record {
+      objects = slice_set grid.objects n (record o { store = pairs });
+      seats = grid.seats;
+      cards = grid.cards;
+    }) ≡ outline_of grid
+unfolding outline_of
+outline-stored grid n o pairs at =
+    ap {A = List Linkset} {B = Contents} (λ objects. record {
+      objects = objects;
+      seats = map vacant grid.seats;
+      cards = grid.cards;
+    })
+    (map-set_same without_names grid.objects n o (record o { store = pairs }) at refl)
 
 pub outline-seats : (old new : Contents) → outline_of new ≡ outline_of old → map vacant new.seats ≡ map vacant old.seats
 unfolding outline_of
@@ -89,3 +121,7 @@ vacant-read (x ∷ xs) (y ∷ ys) zero seat e at =
     (y, refl, heads ∙ ap vacant is)
 vacant-read (x ∷ xs) (y ∷ ys) (suc n) seat e at =
     let tails : map vacant ys ≡ map vacant xs = cc in vacant-read xs ys n seat tails at
+
+pub outline-cards : (old new : Contents) → outline_of new ≡ outline_of old → new.cards ≡ old.cards
+unfolding outline_of
+outline-cards old new e = ap (λ (g : Contents). g.cards) e

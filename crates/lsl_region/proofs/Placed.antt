@@ -70,6 +70,7 @@ module _ (codes : List Code) (away : Option ℕ) (clock : ℕ) (grid : Contents)
   -- one member becomes another
   module _ (after : Option ℕ) (new : Contents) (n : ℕ) (m t : Member) (at : slice_get w.members n ≡ Some m)
       (script : IsScript codes (is_out after n) t.script) (objects : new.objects ≡ grid.objects)
+      (cards : new.cards ≡ grid.cards)
       (seats : new.seats ≡ slice_set grid.seats n (seat_of codes (is_out after n) t))
       (others : (k : ℕ) → k ≢ n → is_out after k ≡ is_out away k) where
     abbrev members : List Member
@@ -110,6 +111,7 @@ module _ (codes : List Code) (away : Option ℕ) (clock : ℕ) (grid : Contents)
     stands-with = record {
       time = st.time;
       objects = objects ∙ st.objects;
+      cards = cards ∙ st.cards;
       seats = λ k. seats-with k (eqb_tells k n);
       scripts = λ k u h. scripts-with k u (eqb_tells k n) h;
     }
@@ -127,7 +129,7 @@ pub record KeepsScript (codes : List Code) (away : Bool) (s t : Script) : Type 0
 module _ {T E : Type 0} (codes : List Code) (away : Option ℕ) (clock : ℕ) (grid new : Contents) (w : World) (n : ℕ)
     (seat : Seat) (script : Option ScriptParts) (thing : Member → Told Script)
     (st : Stands codes away clock grid w) (home : is_out away n ≡ false) (at : slice_get grid.seats n ≡ Some seat)
-    (objects : new.objects ≡ grid.objects)
+    (objects : new.objects ≡ grid.objects) (cards : new.cards ≡ grid.cards)
     (seats : new.seats ≡ slice_set grid.seats n (record seat { script = script }))
     (keeps : (m : Member) → IsScript codes false m.script → KeepsScript codes false m.script (thing m).value) where
   pub changed : (r : Result T E) (old now : List Entry)
@@ -150,7 +152,7 @@ module _ {T E : Type 0} (codes : List Code) (away : Option ℕ) (clock : ℕ) (g
       subst (λ (a : Told World). Stands codes away clock new a.value × (now ≡ old ++ a.entries))
       (sym (at-member n thing w s.member s.at)) (
         stands-with codes away clock grid w st away new n s.member (record s.member { script = t }) s.at
-            (subst (λ (b : Bool). IsScript codes b t) (sym home) k.script) objects
+            (subst (λ (b : Bool). IsScript codes b t) (sym home) k.script) objects cards
             (seats ∙ ap (slice_set grid.seats n) same) (λ k e. refl),
         d.1,
       )

@@ -1,57 +1,31 @@
 -- A script that is saved and restored in the midst of a turn.
-use Rattle.std.proofs.Common.{◌≡◌, ℕ, ◌+◌, Bool, true, false, List, refl, ap, ◌∙◌, subst}
-use Rattle.std.specs.Prelude.{◌&&◌, if◌then◌else◌, Some, None, nat_le}
-use Rattle.lsl_running.specs.declared.kept.Kept.{Kept}
-use Rattle.lsl_code.specs.declared.frames.Frame.{Frame}
+use Rattle.std.proofs.Common.{◌≡◌, ℕ, ◌+◌, Bool, true, false, List, subst}
+use Rattle.std.specs.Prelude.{◌&&◌, Some}
 use Rattle.lsl_code.specs.declared.woven_units.Woven.{Woven as Code}
-use Rattle.lsl_post.specs.declared.parts.ScriptParts.{ScriptParts}
 use Rattle.lsl_script.specs.declared.live.Live.{Live}
-use Rattle.lsl_script.specs.Awake.{IsAwake, taken_by}
-use Rattle.lsl_script.specs.Fitting.{are_ready}
-use Rattle.lsl_script.specs.Resting.{saved_parts}
-use Rattle.lsl_script.specs.Waking.{TakesNext, WakesAs, taken_at}
+use Rattle.lsl_script.specs.Resting.{with_room}
+use Rattle.lsl_script.proofs.Rested.{rests_in_room}
 use Rattle.lsl_region.specs.Grids.{Contents}
 use Rattle.lsl_region.specs.PausedTurns.{counted_segment, goes_on_at}
 use Rattle.lsl_region.specs.Pausing.{Counts, Cursor, Tally, is_pausing, with_save, with_segment}
 use Rattle.lsl_region.specs.TurnEnds.{IsBehind}
-use Rattle.lsl_region.specs.Turning.{IsHeld}
 use Rattle.lsl_region.specs.Worlds.{World}
 use Rattle.lsl_region.proofs.Gaps.{counts-quiet}
 
--- one that takes no event began no handler
-not-began : (live : Live) → taken_by live ≡ None → live.began ≡ false
-not-began live none = go live.began none where
-  go : (b : Bool) → (if b then Some live.event else None) ≡ None → b ≡ false
-  go true e = absurd cc
-  go false e = refl
-
--- these are the parts of a script that was saved
-module _ (live : Live) (kept : Kept) (frames : List Frame) (script : ScriptParts)
-    (is : script ≡ saved_parts live.parts kept live.event frames) where
-  pub saved-ready : (clock : ℕ) → nat_le live.parts.wake clock ≡ true → are_ready clock script ≡ true
-  saved-ready clock h = ap (are_ready clock) is ∙ h
-
-  -- and this is the script restored
-  module _ (unit : Code) (new : Live) (takes : TakesNext unit script new) where
-    saved-began : new.began ≡ false
-    saved-began = not-began new (takes.took ∙ ap (λ (p : ScriptParts). taken_at p p.rest) is)
-
-    pub saved-held : IsAwake unit new → IsHeld unit (Some new)
-    saved-held awake = (awake, takes.stands saved-began)
-
-    pub saved-behind : (codes : List Code) (clock place : ℕ) (grid : Contents) (w : World)
-        → (d : IsBehind codes unit clock place grid (Some live) w) → WakesAs codes unit d.0.member.script new
-        → IsBehind codes unit clock place grid (Some new) w
-    saved-behind codes clock place grid w d k = (
-      record {
-        flight = k.flight;
-        stands = d.0.stands;
-        member = d.0.member;
-        at = d.0.at;
-        rests = k.rests saved-began;
-      },
-      d.1,
-    )
+-- A script that was paused is behind its segment as before.
+pub paused-behind : (codes : List Code) (unit : Code) (clock place : ℕ) (grid : Contents) (w : World) (live : Live)
+    (room : ℕ) → IsBehind codes unit clock place grid (Some live) w
+    → IsBehind codes unit clock place grid (Some (with_room live room)) w
+paused-behind codes unit clock place grid w live room d = (
+  record {
+    flight = d.0.flight;
+    stands = d.0.stands;
+    member = d.0.member;
+    at = d.0.at;
+    rests = rests_in_room codes unit d.0.member.script d.0.flight live room d.0.rests;
+  },
+  d.1,
+)
 
 -- What is counted of a segment.
 module _ (c : Cursor) (t : Tally) (place : ℕ) (w : World) where

@@ -1,5 +1,5 @@
 -- The seats of a grid: read, and one of them changed.
-use Rattle.std.proofs.Common.{◌≡◌, ◌≢◌, ℕ, ◌<◌, ◌⊎◌, inl, inr, true, false, eqb, List, [], ◌∷◌, zero, suc, length, get_or, refl, ap, sym, ◌∙◌, subst, arith}
+use Rattle.std.proofs.Common.{◌≡◌, ◌≢◌, ℕ, ◌<◌, ◌≤◌, ◌⊎◌, inl, inr, true, false, eqb, List, [], ◌∷◌, zero, suc, length, get_or, refl, ap, sym, ◌∙◌, subst, arith}
 use Rattle.std.specs.Prelude.{Some, None, slice_get, slice_set, All}
 use Rattle.std.proofs.Math.ListN.{length-set}
 use Rattle.std.proofs.lemmas.Bool.Decides.{eqb_tells}
@@ -8,12 +8,13 @@ use Rattle.std.proofs.lemmas.Option.{get_or_from_slice_get, slice_get_read, slic
 use Rattle.lsl_value.specs.Key.{is_valid_key}
 use Rattle.lsl_code.specs.declared.woven_units.Woven.{Woven as Code}
 use Rattle.lsl_image.specs.Valid.{IsStore}
+use Rattle.lsl_post.specs.declared.parts.Pair.{Pair}
 use Rattle.lsl_post.specs.Listens.{Standing}
 use Rattle.lsl_region.specs.declared.audience.Audience.{Audience}
 use Rattle.lsl_region.specs.declared.grid.Seat.{Seat}
 use Rattle.lsl_region.specs.declared.objects.Linkset.{Linkset}
 use Rattle.lsl_region.specs.declared.objects.Primitive.{Primitive}
-use Rattle.lsl_region.specs.Grids.{Contents, IsPlaced, ArePlaced, AreSeated, FitsSeat, HasKey, IsFormed, IsSeated, key_in, object_in, renamed_grid}
+use Rattle.lsl_region.specs.Grids.{Contents, IsPlaced, ArePlaced, AreSeated, FitsSeat, HasKey, IsFormed, IsSeated, key_in, object_in, renamed_grid, stored_grid}
 use Rattle.lsl_region.specs.Answers.{with_name}
 use Rattle.lsl_region.specs.Posting.{is_admitted}
 use Rattle.lsl_region.specs.Worlds.{no_object, prim_at}
@@ -143,6 +144,14 @@ formed-named o t place name e same f =
       stored = subst IsStore (sym same) f.stored;
     }
 
+pub formed-stored : (o t : Linkset) → t.prims ≡ o.prims → IsStore t.store → IsFormed o → IsFormed t
+formed-stored o t same store f = record {
+  rooted = subst (λ (ps : List Primitive). 0 < length ps) (sym same) f.rooted;
+  few = subst (λ (ps : List Primitive). length ps ≤ 255) (sym same) f.few;
+  keyed = subst (λ (ps : List Primitive). All HasKey ps) (sym same) f.keyed;
+  stored = store;
+}
+
 -- an object may be another one with as many prims
 module _ (objects : List Linkset) (seats : List Seat) (n : ℕ) (o t : Linkset) (at : slice_get objects n ≡ Some o)
     (count : length t.prims ≡ length o.prims) (forms : IsFormed o → IsFormed t) (p : ArePlaced objects seats) where
@@ -187,16 +196,37 @@ module _ (objects : List Linkset) (seats : List Seat) (n : ℕ) (o t : Linkset) 
 pub named-is : (g h : Contents) (n : ℕ) (x seat : Seat) (o : Linkset) (prims : List Primitive) (name : List ℕ) → g ≡ h
     → slice_get g.seats n ≡ Some x → slice_get h.seats n ≡ Some seat → slice_get g.objects x.object ≡ Some o
     → prims ≡ with_name o.prims x.prim name
-    → record { objects = slice_set g.objects x.object (record o { prims = prims }); seats = g.seats }
+    → record { objects = slice_set g.objects x.object (record o { prims = prims }); seats = g.seats; cards = g.cards }
     ≡ renamed_grid h seat name
 named-is g h n x seat o prims name is at e there p =
     let k = object-is g h n x seat o is at e there in
     ap {A = List Primitive} {B = Contents} (λ ps. record {
       objects = slice_set g.objects x.object (record o { prims = ps });
       seats = g.seats;
+      cards = g.cards;
     }) p
     ∙ (λ i. record {
       objects = slice_set (is i).objects (k.0 i).object
           (record (k.1 i) { prims = with_name (k.1 i).prims (k.0 i).prim name });
       seats = (is i).seats;
+      cards = (is i).cards;
+    })
+
+-- an object with another store
+pub stored-is : (g h : Contents) (n : ℕ) (x seat : Seat) (o : Linkset) (change : List Pair → List Pair)
+    (pairs : List Pair) → g ≡ h → slice_get g.seats n ≡ Some x → slice_get h.seats n ≡ Some seat
+    → slice_get g.objects x.object ≡ Some o → pairs ≡ change o.store
+    → record { objects = slice_set g.objects x.object (record o { store = pairs }); seats = g.seats; cards = g.cards }
+    ≡ stored_grid h seat (change (object_in h.objects seat).store)
+stored-is g h n x seat o change pairs is at e there p =
+    let k = object-is g h n x seat o is at e there in
+    ap {A = List Pair} {B = Contents} (λ ps. record {
+      objects = slice_set g.objects x.object (record o { store = ps });
+      seats = g.seats;
+      cards = g.cards;
+    }) p
+    ∙ (λ i. record {
+      objects = slice_set (is i).objects (k.0 i).object (record (k.1 i) { store = change (k.1 i).store });
+      seats = (is i).seats;
+      cards = (is i).cards;
     })

@@ -1,17 +1,21 @@
 -- What calls are told.
-use Rattle.std.proofs.Common.{◌≡◌, ℕ, zero, suc, ◌<◌, Bool, true, false, List, length, refl, ap, ◌∙◌, arith}
-use Rattle.std.specs.Prelude.{ℤ, pos, negsuc, ◌-◌, nat_le, if◌then◌else◌, Option, Some, None, slice_get}
+use Rattle.std.proofs.Common.{◌≡◌, ℕ, zero, suc, ◌<◌, Bool, true, false, List, length, refl, ap, ◌∙◌, subst, arith}
+use Rattle.std.specs.Prelude.{ℤ, pos, negsuc, ◌-◌, nat_le, if◌then◌else◌, Option, Some, None, is_some, slice_get}
 use Rattle.std.specs.Ordering.{int_eq}
 use Rattle.std.proofs.lemmas.Bool.{eqb-true}
 use Rattle.std.proofs.lemmas.Bool.Decides.{Decides-int_eq, nat_tests}
 use Rattle.std.proofs.lemmas.Option.{get_or_from_slice_get, slice_get_within}
+use Rattle.lsl_value.specs.declared.names.BuiltinId.{BuiltinId}
 use Rattle.lsl_value.specs.declared.names.BuiltinId.TheVariants as builtin
+use Rattle.lsl_value.specs.declared.tagged.Value.{Value}
 use Rattle.lsl_value.specs.declared.tagged.Value.TheVariants as value
+use Rattle.lsl_table.specs.declared.calls.Home.{Home}
+use Rattle.lsl_table.specs.declared.calls.Home.TheVariants as home
 use Rattle.lsl_post.specs.declared.events.Toucher.{Toucher}
 use Rattle.lsl_region.specs.declared.objects.Primitive.{Primitive}
-use Rattle.lsl_region.specs.Answers.{detected_key, detected_link, detected_name, key_of_prim, name_of_prim}
+use Rattle.lsl_region.specs.Answers.{detected_key, detected_link, detected_name, home_of, key_of_prim, name_of_prim}
 use Rattle.lsl_region.specs.Links.{is_this, prim_named, prim_or_this}
-use Rattle.lsl_region.specs.TellingLaws.{Asker, CallsAreAnswered, NegativeNumbersAreNone, NoPrimIsTold, NumbersBeyondAreNone, ObjectIsTold, OtherPlacesAreNobody, OwnPrimIsTold, OwnPrimIsToldByThis, PrimsAreToldByNumber, TouchersAreTold, UntouchedIsNobody}
+use Rattle.lsl_region.specs.TellingLaws.{Asker, CallsAreAnswered, NegativeNumbersAreNone, NoPrimIsTold, NumbersBeyondAreNone, ObjectIsTold, OtherPlacesAreNobody, OwnPrimIsTold, OwnPrimIsToldByThis, PrimsAreToldByNumber, TouchersAreTold, UntouchedIsNobody, told}
 use Rattle.lsl_region.specs.Worlds.{no_prim, prim_at}
 use Rattle.lsl_region.proofs.LinkLaws.{numbers-mean}
 
@@ -110,18 +114,16 @@ untouched a n e = tells-of a n None (go (int_eq n (pos 0))) where
   go true = e
   go false = refl
 
+-- of a call that is only to be told something
+abbrev if_query : Home → Bool → Bool
+if_query home.Query is = is
+if_query _ is = true
+
+each-answered : (a : Asker) (id : BuiltinId) (args : List Value)
+    → if_query (home_of id) (is_some (told a id args)) ≡ true
+each-answered a builtin.GetOwner args = refl
+each-answered a _ args = refl
+
 pub calls-answered : CallsAreAnswered
-calls-answered a builtin.GetOwner args asked more = refl
-calls-answered a builtin.GetKey args asked more = refl
-calls-answered a builtin.GetLinkKey args asked more = refl
-calls-answered a builtin.GetLinkName args asked more = refl
-calls-answered a builtin.GetLinkNumber args asked more = refl
-calls-answered a builtin.GetNumberOfPrims args asked more = refl
-calls-answered a builtin.GetObjectName args asked more = refl
-calls-answered a builtin.GetScriptName args asked more = refl
-calls-answered a builtin.GetRegionName args asked more = refl
-calls-answered a builtin.GetUnixTime args asked more = refl
-calls-answered a builtin.DetectedKey args asked more = refl
-calls-answered a builtin.DetectedName args asked more = refl
-calls-answered a builtin.DetectedLinkNumber args asked more = refl
-calls-answered a id args asked more = absurd cc
+calls-answered a id args query =
+    subst (λ (h : Home). if_query h (is_some (told a id args)) ≡ true) query (each-answered a id args)

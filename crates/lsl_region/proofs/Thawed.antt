@@ -145,7 +145,8 @@ module _ (g h : Contents) (fixed : fixed_of g ≡ fixed_of h) (parts : placed_in
       let seats : g.seats ≡ h.seats =
       same-seats (length g.objects) g.seats h.seats (ap (λ (z : Contents). z.seats) fixed)
       (λ k lt. ap (λ (z : Placed). z.object.scripts) (at-place k lt)) hg hh within in
-      λ i. record { objects = objects i; seats = seats i }
+      let cards : g.cards ≡ h.cards = ap (λ (z : Contents). z.cards) fixed in
+      λ i. record { objects = objects i; seats = seats i; cards = cards i }
 
 -- the scripts of a world are in the seats of the grid that stands for it
 module _ (codes : List Code) where
@@ -163,7 +164,11 @@ module _ (codes : List Code) where
 
   pub fixed-is : (w : World) → fixed_of (contents_of codes w) ≡ fixed_in w
   fixed-is w =
-      ap {A = List Seat} {B = Contents} (λ seats. record { objects = map lasting w.objects; seats = seats })
+      ap {A = List Seat} {B = Contents} (λ seats. record {
+        objects = map lasting w.objects;
+        seats = seats;
+        cards = w.cards;
+      })
       (members-fixed w.members)
 
   pub thawed-stands : (grid : Contents) (w : World) → AreScripts codes w → fixed_in w ≡ fixed_of grid
@@ -176,6 +181,7 @@ module _ (codes : List Code) where
       record {
         time = refl;
         objects = ap (λ (z : Contents). z.objects) is;
+        cards = ap (λ (z : Contents). z.cards) is;
         seats = λ n. ap (λ (z : Contents). slice_get z.seats n) is ∙ slice_get-map (seat_of codes false) w.members n;
         scripts = λ n m at. scripts n m at;
       }

@@ -44,6 +44,7 @@ module _ (grid : Contents) (place : ℕ) (region : List ℕ) (parts : ObjectPart
   refilled = record {
     objects = slice_set grid.objects place now;
     seats = reseated place parts.scripts grid.seats;
+    cards = grid.cards;
   }
 
   abbrev pub placed : Placed
@@ -112,10 +113,15 @@ module _ (grid : Contents) (place : ℕ) (region : List ℕ) (parts : ObjectPart
       ap {A = List Linkset} {B = Contents} (λ objects. record {
         objects = objects;
         seats = map vacant refilled.seats;
+        cards = grid.cards;
       }) (map-set_same lasting grid.objects place thing now (slice_get-get_or grid.objects place no_object h) same)
-      ∙ ap {A = List Seat} {B = Contents} (λ seats. record { objects = map lasting grid.objects; seats = seats })
+      ∙ ap {A = List Seat} {B = Contents} (λ seats. record {
+        objects = map lasting grid.objects;
+        seats = seats;
+        cards = grid.cards;
+      })
       (vacant-reseated place parts.scripts grid.seats)
 
   pub refilled-is : (new : Contents) → new.objects ≡ slice_set grid.objects place now
-      → new.seats ≡ reseated place parts.scripts grid.seats → new ≡ refilled
-  refilled-is new objects seats = λ i. record { objects = objects i; seats = seats i }
+      → new.seats ≡ reseated place parts.scripts grid.seats → new.cards ≡ grid.cards → new ≡ refilled
+  refilled-is new objects seats cards = λ i. record { objects = objects i; seats = seats i; cards = cards i }

@@ -1,8 +1,8 @@
--- What a host call answers and does: a case for each call.
+-- What a host call answers and does: a case for each call, in the function of its home.
 use Rattle.std.specs.Prelude.{ℕ, ◌+◌, ◌*◌, ◌/◌, ℤ, pos, negsuc, Bool, true, false, not, ◌&&◌, nat_eq, if◌then◌else◌, List, [], ◌∷◌, length, Option, Some, None, get_or, slice_get, slice_set}
 use Rattle.std.specs.Ordering.{int_eq}
 use Rattle.lsl_value.specs.declared.names.BuiltinId.{BuiltinId}
-use Rattle.lsl_value.specs.declared.names.BuiltinId.TheVariants.{Say, Whisper, Shout, RegionSay, OwnerSay, Listen, ListenRemove, ListenControl, SetTimerEvent, Sleep, MessageLinked, GetOwner, GetKey, GetLinkKey, GetLinkName, GetLinkNumber, GetNumberOfPrims, GetObjectName, SetObjectName, GetScriptName, GetRegionName, GetUnixTime, DetectedKey, DetectedName, DetectedLinkNumber}
+use Rattle.lsl_value.specs.declared.names.BuiltinId.TheVariants.{Say, Whisper, Shout, RegionSay, OwnerSay, Listen, ListenRemove, ListenControl, SetTimerEvent, Sleep, MessageLinked, GetOwner, GetKey, GetLinkKey, GetLinkName, GetLinkNumber, GetNumberOfPrims, GetObjectName, SetObjectName, GetScriptName, GetRegionName, GetUnixTime, DetectedKey, DetectedName, DetectedLinkNumber, LinksetDataWrite, LinksetDataDelete, LinksetDataReset, LinksetDataRead, LinksetDataCountKeys, LinksetDataAvailable, LinksetDataListKeys, GetNotecardLine}
 use Rattle.lsl_value.specs.declared.tagged.Value.{Value}
 use Rattle.lsl_value.specs.declared.tagged.Value.TheVariants as value
 use Rattle.lsl_value.specs.Key.{null_key}
@@ -22,15 +22,24 @@ use Rattle.lsl_post.specs.Filters.{filter}
 use Rattle.lsl_post.specs.Listens.{Standing, closed, controlled, listened}
 use Rattle.lsl_post.specs.Timing.{timing_set}
 use Rattle.lsl_post.specs.Told.{Told, as_value, lead, quiet}
+use Rattle.lsl_post.specs.declared.parts.Pair.{Pair}
+use Rattle.lsl_data.specs.Answers.{delete_answer, deleted, write_answer, written}
+use Rattle.lsl_data.specs.Listing.{names_listed}
+use Rattle.lsl_notes.specs.Notecards.{card_at}
+use Rattle.lsl_notes.specs.Queries.{query_of}
 use Rattle.lsl_script.specs.Rules.{Rules}
 use Rattle.lsl_script.specs.Mailing.{listening, ticking}
-use Rattle.lsl_script.specs.Scripts.{Doing, Resting, Flying, Script, Stopped, napped}
+use Rattle.lsl_script.specs.Scripts.{Doing, Resting, Flying, Script, Stopped, napped, post_to}
+use Rattle.lsl_region.specs.Arrivals.{post_object}
 use Rattle.lsl_region.specs.Links.{is_for, link_of, prim_or_this}
 use Rattle.lsl_region.specs.Posting.{message_event, post_all, said_to_all}
+use Rattle.lsl_region.specs.Notes.{card_of, data_event, data_told}
+use Rattle.lsl_region.specs.Stores.{change_of, no_change, read_in, reset_change, room_in}
 use Rattle.lsl_region.specs.Texts.{cut_name, cut_speech}
+use Rattle.lsl_region.specs.declared.storing.Change.{Change}
 use Rattle.lsl_region.specs.declared.objects.Linkset.{Linkset}
 use Rattle.lsl_region.specs.declared.objects.Primitive.{Primitive}
-use Rattle.lsl_region.specs.Worlds.{Member, World, object_of, prim_at, prim_of, with_member, with_object}
+use Rattle.lsl_region.specs.Worlds.{Member, World, at_member, object_of, prim_at, prim_of, with_member, with_object}
 
 -- a world, and what the call is answered
 abbrev pub Answered : Type 0
@@ -175,66 +184,127 @@ value_of_query o prim name clock toucher GetUnixTime args = Some (value.Int (pos
 value_of_query o prim name clock toucher DetectedKey args = Some (value.Key (detected_key (detected toucher args)))
 value_of_query o prim name clock toucher DetectedName args = Some (value.Str (detected_name (detected toucher args)))
 value_of_query o prim name clock toucher DetectedLinkNumber args = Some (value.Int (detected_link (detected toucher args)))
+value_of_query o prim name clock toucher LinksetDataRead args = Some (value.Str (read_in o.store (text_at 0 args)))
+value_of_query o prim name clock toucher LinksetDataCountKeys args = Some (value.Int (pos (length o.store)))
+value_of_query o prim name clock toucher LinksetDataAvailable args = Some (value.Int (pos (room_in o.store)))
+value_of_query o prim name clock toucher LinksetDataListKeys args =
+    Some (value.List (names_listed o.store (integer_at 0 args) (integer_at 1 args)))
 value_of_query o prim name clock toucher id args = None
 
 abbrev pub told_in : World → Member → BuiltinId → List Value → Option Value
 told_in w m id args = value_of_query (object_of w m) m.prim m.name w.clock (toucher_in_hand m.script.doing) id args
 
--- what is called does more than to be told something
-abbrev pub acts_at : Home → Bool
-acts_at home.Pure = false
-acts_at home.UsedMemory = false
-acts_at home.FreeMemory = false
-acts_at home.SetLimit = false
-acts_at home.GetLimit = false
-acts_at home.Query = false
-acts_at home.Mail = true
-acts_at home.Act = true
-acts_at home.Sleep = true
-acts_at home.Reset = false
-
-abbrev pub acts : BuiltinId → Bool
-acts id = acts_at (row_of id).home
+abbrev pub home_of : BuiltinId → Home
+home_of id = (row_of id).home
 
 -- it is on the mailbox or the sleep of the script that asks
 abbrev pub is_on_own_mailbox_at : Home → Bool
+is_on_own_mailbox_at home.Mail = true
+is_on_own_mailbox_at home.Sleep = true
 is_on_own_mailbox_at home.Pure = false
 is_on_own_mailbox_at home.UsedMemory = false
 is_on_own_mailbox_at home.FreeMemory = false
 is_on_own_mailbox_at home.SetLimit = false
 is_on_own_mailbox_at home.GetLimit = false
 is_on_own_mailbox_at home.Query = false
-is_on_own_mailbox_at home.Mail = true
 is_on_own_mailbox_at home.Act = false
-is_on_own_mailbox_at home.Sleep = true
+is_on_own_mailbox_at home.Store = false
+is_on_own_mailbox_at home.Note = false
 is_on_own_mailbox_at home.Reset = false
 
 abbrev pub is_on_own_mailbox : BuiltinId → Bool
-is_on_own_mailbox id = is_on_own_mailbox_at (row_of id).home
+is_on_own_mailbox id = is_on_own_mailbox_at (home_of id)
 
 abbrev pub message_of : World → Member → List Value → Event
 message_of w m args = message_event (pos (own_link w m)) (integer_at 1 args) (text_at 2 args) (text_at 3 args)
 
--- the call of the member at this place, with these arguments
-abbrev pub answer_of : Rules → ℕ → Member → BuiltinId → List Value → World → Answered
-answer_of r place m Say args w = says r place voice.Say m args w
-answer_of r place m Whisper args w = says r place voice.Whisper m args w
-answer_of r place m Shout args w = says r place voice.Shout m args w
-answer_of r place m RegionSay args w =
+-- which pairs a store has after a call, and what comes of it
+abbrev pub pairs_by : BuiltinId → List Value → List Pair → List Pair
+pairs_by LinksetDataWrite args pairs = written pairs (text_at 0 args) (text_at 1 args)
+pairs_by LinksetDataDelete args pairs = deleted pairs (text_at 0 args)
+pairs_by LinksetDataReset args pairs = []
+pairs_by id args pairs = pairs
+
+abbrev pub change_by : BuiltinId → List Value → List Pair → Change
+change_by LinksetDataWrite args pairs =
+    change_of (write_answer pairs (text_at 0 args) (text_at 1 args)) (text_at 0 args) (text_at 1 args)
+change_by LinksetDataDelete args pairs = change_of (delete_answer pairs (text_at 0 args)) (text_at 0 args) []
+change_by LinksetDataReset args pairs = reset_change
+change_by id args pairs = no_change
+
+-- the member's object has these pairs
+abbrev pub with_store : World → Member → List Pair → World
+with_store w m pairs = with_object w m.object (record (object_of w m) { store = pairs })
+
+-- all scripts of an object are told, if of anything
+abbrev pub told_by : Rules → ℕ → Option Event → World → Told World
+told_by r object None w = quiet w
+told_by r object (Some e) w = post_object r object e w
+
+-- the store of the member's object is changed, and then its scripts are told, the one that asks too
+abbrev pub stored : Rules → Member → BuiltinId → List Value → World → Answered
+stored r m id args w =
+    let pairs = (object_of w m).store in
+    let change = change_by id args pairs in
+    replied (reply.Value change.answer) (told_by r m.object change.told (with_store w m (pairs_by id args pairs)))
+
+-- a line from place 0 on, or how many there are
+abbrev pub line_from : ℤ → Option (Option ℕ)
+line_from (pos n) = Some (Some n)
+line_from (negsuc n) = None
+
+abbrev pub line_asked : BuiltinId → List Value → Option (Option ℕ)
+line_asked GetNotecardLine args = line_from (integer_at 1 args)
+line_asked id args = Some None
+
+abbrev pub card_asked : World → Member → List Value → Option ℕ
+card_asked w m args = card_of w.cards w.objects m.object m.prim (text_at 0 args)
+
+-- the script that asks is told, and the call is answered with the query's key
+abbrev pub queried : Rules → ℕ → Option ℕ → Option (Option ℕ) → World → Answered
+queried r place None asked w = quiet (w, gives (value.Key null_key))
+queried r place (Some card) None w = quiet (w, gives (value.Key null_key))
+queried r place (Some card) (Some line) w =
+    let query = query_of (place + 1) card line in
+    let told = data_event query (data_told (card_at w.cards card) line) in
+    replied (gives (value.Key query)) (at_member place (λ m. post_to r (place + 1) told m.script) w)
+
+abbrev pub noted : Rules → ℕ → Member → BuiltinId → List Value → World → Answered
+noted r place m id args w = queried r place (card_asked w m args) (line_asked id args) w
+
+-- what the host says or sends, and a name that it gives a prim
+abbrev pub acted : Rules → ℕ → Member → BuiltinId → List Value → World → Answered
+acted r place m Say args w = says r place voice.Say m args w
+acted r place m Whisper args w = says r place voice.Whisper m args w
+acted r place m Shout args w = says r place voice.Shout m args w
+acted r place m RegionSay args w =
     if int_eq (integer_at 0 args) (pos 0) then quiet (w, nothing) else says r place voice.Region m args w
-answer_of r place m OwnerSay args w =
+acted r place m OwnerSay args w =
     record { value = (w, nothing); entries = entry.Owner (place + 1) (cut_speech (text_at 0 args)) ∷ [] }
-answer_of r place m Listen args w = with_mailed place m (mailed Listen args w.clock m.script) w
-answer_of r place m ListenRemove args w = with_mailed place m (mailed ListenRemove args w.clock m.script) w
-answer_of r place m ListenControl args w = with_mailed place m (mailed ListenControl args w.clock m.script) w
-answer_of r place m SetTimerEvent args w = with_mailed place m (mailed SetTimerEvent args w.clock m.script) w
-answer_of r place m Sleep args w = with_mailed place m (mailed Sleep args w.clock m.script) w
-answer_of r place m MessageLinked args w =
+acted r place m MessageLinked args w =
     replied nothing
     (post_all r (is_message_to (prims_count w m) m (integer_at 0 args))
     (message_of w m args) w)
-answer_of r place m SetObjectName args w = quiet (renamed w m (cut_name (text_at 0 args)), nothing)
-answer_of r place m id args w = quiet (w, reply.Value (told_in w m id args))
+acted r place m SetObjectName args w = quiet (renamed w m (cut_name (text_at 0 args)), nothing)
+acted r place m id args w = quiet (w, nothing)
+
+-- the call of the member at this place, with these arguments, by where it is done
+abbrev pub answer_at_home : Home → Rules → ℕ → Member → BuiltinId → List Value → World → Answered
+answer_at_home home.Query r place m id args w = quiet (w, reply.Value (told_in w m id args))
+answer_at_home home.Mail r place m id args w = with_mailed place m (mailed id args w.clock m.script) w
+answer_at_home home.Sleep r place m id args w = with_mailed place m (mailed id args w.clock m.script) w
+answer_at_home home.Act r place m id args w = acted r place m id args w
+answer_at_home home.Store r place m id args w = stored r m id args w
+answer_at_home home.Note r place m id args w = noted r place m id args w
+answer_at_home home.Pure r place m id args w = quiet (w, nothing)
+answer_at_home home.UsedMemory r place m id args w = quiet (w, nothing)
+answer_at_home home.FreeMemory r place m id args w = quiet (w, nothing)
+answer_at_home home.SetLimit r place m id args w = quiet (w, nothing)
+answer_at_home home.GetLimit r place m id args w = quiet (w, nothing)
+answer_at_home home.Reset r place m id args w = quiet (w, nothing)
+
+abbrev pub answer_of : Rules → ℕ → Member → BuiltinId → List Value → World → Answered
+answer_of r place m id args w = answer_at_home (home_of id) r place m id args w
 
 abbrev pub answer_in : Rules → ℕ → Option Member → BuiltinId → List Value → World → Answered
 answer_in r place None id args w = quiet (w, nothing)

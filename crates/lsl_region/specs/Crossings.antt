@@ -78,7 +78,7 @@ images_to codes grid place region =
 abbrev pub arrived : List Code → Contents → ℕ → List ℕ → ObjectParts → Told Contents
 arrived codes grid place region parts =
     let there = in_region (with_parts grid place parts) place region in
-    as_value (λ seats. record { objects = there.objects; seats = seats })
+    as_value (λ seats. record there { seats = seats })
     (post_in_seats codes place region_changed 1 there.seats)
 
 -- parts that can take the place of the object's

@@ -26,11 +26,11 @@ lasting object = record { owner = object.owner; region = []; prims = map nameles
 -- what stays: the objects but for their regions, their stores and their prims' names, and the seats but for their
 -- scripts
 abbrev pub fixed_of : Contents → Contents
-fixed_of grid = record { objects = map lasting grid.objects; seats = map vacant grid.seats }
+fixed_of grid = record { objects = map lasting grid.objects; seats = map vacant grid.seats; cards = grid.cards }
 
 -- what stays of a world: owners, keys, and of each script its prim, its name and the number of its code
 abbrev pub fixed_in : World → Contents
-fixed_in w = record { objects = map lasting w.objects; seats = map (seat_of [] true) w.members }
+fixed_in w = record { objects = map lasting w.objects; seats = map (seat_of [] true) w.members; cards = w.cards }
 
 -- the script of a seat is there, with the number of the seat's unit
 abbrev pub IsHome : Seat → Type 0

@@ -5,6 +5,8 @@ use Rattle.lsl_value.specs.declared.names.BuiltinId.{BuiltinId}
 use Rattle.lsl_value.specs.Key.{is_valid_key}
 use Rattle.lsl_code.specs.declared.woven_units.Woven.{Woven as Code}
 use Rattle.lsl_image.specs.Valid.{IsStore}
+use Rattle.lsl_notes.specs.declared.cards.Notecard.{Notecard}
+use Rattle.lsl_post.specs.declared.parts.Pair.{Pair}
 use Rattle.lsl_post.specs.declared.parts.ScriptParts.{ScriptParts}
 use Rattle.lsl_script.specs.Codes.{HasUnit, rules_of}
 use Rattle.lsl_script.specs.Fitting.{FitsUnit}
@@ -22,12 +24,13 @@ use Rattle.lsl_region.specs.declared.objects.Linkset.{Linkset}
 use Rattle.lsl_region.specs.declared.objects.Primitive.{Primitive}
 use Rattle.lsl_region.specs.Worlds.{Member, World, no_object, prim_at}
 
--- the objects, and the seats of the scripts
+-- the objects, the seats of the scripts, and the notecards
 pub record Contents : Type 0 where
   pub objects : List Linkset
   pub seats : List Seat
+  pub cards : List Notecard
 
--- a prim without its name, an object whose prims have none, and a seat whose script is out
+-- a prim without its name, an object without its store whose prims have no names, and a seat whose script is out
 abbrev pub nameless : Primitive → Primitive
 nameless prim = record { key = prim.key; name = [] }
 
@@ -37,16 +40,17 @@ without_names object =
       owner = object.owner;
       region = object.region;
       prims = map nameless object.prims;
-      store = object.store;
+      store = [];
     }
 
 abbrev pub vacant : Seat → Seat
 vacant seat =
     record { object = seat.object; prim = seat.prim; name = seat.name; unit = seat.unit; script = None }
 
--- what stays whatever scripts do: the objects but for their prims' names, and the seats but for their scripts
+-- what stays whatever scripts do: the objects but for their stores and their prims' names, and the seats but for their
+-- scripts
 unfoldable pub outline_of : Contents → Contents
-outline_of grid = record { objects = map without_names grid.objects; seats = map vacant grid.seats }
+outline_of grid = record { objects = map without_names grid.objects; seats = map vacant grid.seats; cards = grid.cards }
 
 -- the seat's object and prim are there
 pub record IsPlaced (objects : List Linkset) (seat : Seat) : Type 0 where
@@ -72,6 +76,12 @@ abbrev pub renamed_grid : Contents → Seat → List ℕ → Contents
 renamed_grid grid seat name =
     let o = object_in grid.objects seat in
     record grid { objects = slice_set grid.objects seat.object (record o { prims = with_name o.prims seat.prim name }) }
+
+-- the seat's object has these pairs in its store
+abbrev pub stored_grid : Contents → Seat → List Pair → Contents
+stored_grid grid seat pairs =
+    let o = object_in grid.objects seat in
+    record grid { objects = slice_set grid.objects seat.object (record o { store = pairs }) }
 
 -- the prim's key is a valid one
 abbrev pub HasKey : Primitive → Type 0
@@ -138,6 +148,7 @@ pub record IsScript (codes : List Code) (away : Bool) (s : Script) : Type 0 wher
 pub record Stands (codes : List Code) (out : Option ℕ) (clock : ℕ) (grid : Contents) (w : World) : Type 0 where
   pub time : w.clock ≡ clock
   pub objects : grid.objects ≡ w.objects
+  pub cards : grid.cards ≡ w.cards
   pub seats : (n : ℕ) → slice_get grid.seats n ≡ option_map (seat_of codes (is_out out n)) (slice_get w.members n)
   pub scripts : (n : ℕ) (m : Member) → slice_get w.members n ≡ Some m → IsScript codes (is_out out n) m.script
 

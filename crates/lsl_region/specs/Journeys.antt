@@ -43,7 +43,7 @@ cross_by r place region trips w =
 
 -- the grid that stands for a world between turns
 abbrev pub contents_of : List Code → World → Contents
-contents_of codes w = record { objects = w.objects; seats = map (seat_of codes false) w.members }
+contents_of codes w = record { objects = w.objects; seats = map (seat_of codes false) w.members; cards = w.cards }
 
 -- these images were sent, or first ones of them
 abbrev pub Sends : {T E : Type 0} → Result T E → List Trip → List (List ℕ) → Type 0

@@ -2,6 +2,8 @@ pub mod Worlds
 pub mod Links
 pub mod Texts
 pub mod Posting
+pub mod Stores
+pub mod Notes
 pub mod Mailing
 pub mod Answers
 pub mod Grids

@@ -67,6 +67,7 @@ with_parts grid place parts = record {
         store = parts.store;
       });
   seats = reseated place parts.scripts grid.seats;
+  cards = grid.cards;
 }
 
 -- the object at this place is in this region

@@ -1,16 +1,15 @@
 -- What calls are told, in the language's words.
-use Rattle.std.specs.Prelude.{◌≡◌, ◌≢◌, ℕ, ◌<◌, ◌/◌, ℤ, pos, negsuc, true, false, List, [], ◌∷◌, length, Option, Some, None, is_some, slice_get}
+use Rattle.std.specs.Prelude.{◌≡◌, ◌≢◌, ℕ, ◌<◌, ◌/◌, ℤ, pos, negsuc, true, List, [], ◌∷◌, length, Option, Some, None, is_some, slice_get}
 use Rattle.lsl_value.specs.declared.names.BuiltinId.{BuiltinId}
 use Rattle.lsl_value.specs.declared.names.BuiltinId.TheVariants as builtin
 use Rattle.lsl_value.specs.declared.tagged.Value.{Value}
 use Rattle.lsl_value.specs.declared.tagged.Value.TheVariants as value
 use Rattle.lsl_value.specs.Key.{null_key}
-use Rattle.lsl_running.specs.Calling.{call_form}
-use Rattle.lsl_code.specs.Effects.{is_asked}
+use Rattle.lsl_table.specs.declared.calls.Home.TheVariants as home
 use Rattle.lsl_post.specs.declared.events.Toucher.{Toucher}
 use Rattle.lsl_region.specs.declared.objects.Linkset.{Linkset}
 use Rattle.lsl_region.specs.declared.objects.Primitive.{Primitive}
-use Rattle.lsl_region.specs.Answers.{acts, value_of_query}
+use Rattle.lsl_region.specs.Answers.{home_of, value_of_query}
 use Rattle.lsl_region.specs.LinkLaws.{HasNumber, link_this}
 use Rattle.lsl_region.specs.Links.{link_of}
 
@@ -102,8 +101,7 @@ OtherPlacesAreNobody = (a : Asker) (n : ℤ) → n ≢ pos 0 → IsNobody a n
 abbrev pub UntouchedIsNobody : Type 0
 UntouchedIsNobody = (a : Asker) (n : ℤ) → a.toucher ≡ None → IsNobody a n
 
--- no call that the host answers is forgotten: it does more, or is told something
+-- no call that is only to be told something is forgotten
 abbrev pub CallsAreAnswered : Type 0
 CallsAreAnswered =
-    (a : Asker) (id : BuiltinId) (args : List Value) → is_asked (call_form id) ≡ true → acts id ≡ false
-    → is_some (told a id args) ≡ true
+    (a : Asker) (id : BuiltinId) (args : List Value) → home_of id ≡ home.Query → is_some (told a id args) ≡ true

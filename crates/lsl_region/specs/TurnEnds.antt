@@ -1,10 +1,10 @@
 -- Where a segment ends, and the segments of a turn: the script is out exactly where its handler is in flight.
-use Rattle.std.specs.Prelude.{◌≡◌, ℕ, true, is_some, nat_le, List, Option}
+use Rattle.std.specs.Prelude.{◌≡◌, ℕ, is_some, List, Option}
 use Rattle.lsl_code.specs.declared.woven_units.Woven.{Woven as Code}
 use Rattle.lsl_script.specs.declared.live.Live.{Live}
 use Rattle.lsl_region.specs.Grids.{Contents}
 use Rattle.lsl_region.specs.PausedTurns.{ends_flying, flies_at}
-use Rattle.lsl_region.specs.Turning.{InTurn, IsOut}
+use Rattle.lsl_region.specs.Turning.{InTurn}
 use Rattle.lsl_region.specs.Worlds.{World}
 
 -- behind a segment
@@ -16,7 +16,3 @@ IsBehind codes unit clock place grid live w =
 abbrev pub CameTo : List Code → Code → (clock place : ℕ) → Contents → Option Live → World × ℕ → ℕ → Type 0
 CameTo codes unit clock place grid live x count =
     InTurn codes unit clock place grid live x.0 × (count ≡ x.1) × (is_some live ≡ ends_flying x place)
-
--- the script is out, and can go on
-abbrev pub CanGoOn : ℕ → Option Live → Type 0
-CanGoOn clock live = IsOut live (λ l. nat_le l.parts.wake clock ≡ true)

@@ -1,5 +1,6 @@
 -- A world of objects and scripts as their texts mean it: no instruction, frame or image is in it.
 use Rattle.std.specs.Prelude.{ℕ, List, [], Option, Some, None, get_or, slice_get, slice_set}
+use Rattle.lsl_notes.specs.declared.cards.Notecard.{Notecard}
 use Rattle.lsl_post.specs.Told.{Told, as_value, quiet}
 use Rattle.lsl_script.specs.Scripts.{Script}
 use Rattle.lsl_region.specs.declared.objects.Linkset.{Linkset}
@@ -12,16 +13,17 @@ pub record Member : Type 0 where
   pub name : List ℕ
   pub script : Script
 
--- the reading of the clock in milliseconds, the objects, and the scripts. Both are told by numbers that are one
--- more than their places here
+-- the reading of the clock in milliseconds, the objects, the scripts, and the notecards. Objects and scripts are told
+-- by numbers that are one more than their places here
 pub record World : Type 0 where
   pub clock : ℕ
   pub objects : List Linkset
   pub members : List Member
+  pub cards : List Notecard
 
 -- without objects, at this reading of the clock
 abbrev pub empty_world : ℕ → World
-empty_world clock = record { clock = clock; objects = []; members = [] }
+empty_world clock = record { clock = clock; objects = []; members = []; cards = [] }
 
 abbrev pub no_prim : Primitive
 no_prim = record { key = []; name = [] }

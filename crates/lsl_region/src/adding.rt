@@ -15,6 +15,7 @@ impl Grid {
         requires formed { IsFormed object }
         ensures added { OnOk result (self.new.objects ≡ self.old.objects ++ object ∷ []) }
         ensures seats { self.new.seats ≡ self.old.seats }
+        ensures cards { self.new.cards ≡ self.old.cards }
         ensures unchanged { OnErr result (self.new ≡ self.old) }
     {
         self.objects.push(object)?;
@@ -28,6 +29,7 @@ impl Grid {
         requires placed { IsPlaced self.old.objects seat }
         ensures added { OnOk result (self.new.seats ≡ self.old.seats ++ seat ∷ []) }
         ensures objects { self.new.objects ≡ self.old.objects }
+        ensures cards { self.new.cards ≡ self.old.cards }
         ensures unchanged { OnErr result (self.new ≡ self.old) }
     {
         let place = self.seats.len();

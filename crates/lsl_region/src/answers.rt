@@ -1,8 +1,8 @@
-//! Host calls: a case for each.
+//! Host calls, by where they are done.
 
-ghost use Rattle.std.specs.Prelude.{◌≡◌, ◌<◌, ◌≤◌, ◌-◌, ℕ, List, true, false, length, slice_get, Some, IfOk, OnOk};
+ghost use Rattle.std.specs.Prelude.{◌≡◌, ◌<◌, ◌≤◌, ◌-◌, ℕ, true, length, slice_get, Some, None, IfOk, OnOk};
 ghost use Rattle.lsl_value.specs.declared.names.BuiltinId.{BuiltinId as Id};
-ghost use Rattle.lsl_value.specs.declared.names.BuiltinId.TheVariants as ids;
+ghost use Rattle.lsl_table.specs.declared.calls.Home.TheVariants as homes;
 ghost use Rattle.lsl_running.specs.Calling.{call_form};
 ghost use Rattle.lsl_code.specs.Effects.{is_asked};
 ghost use Rattle.lsl_code.specs.Kinded.{Answers};
@@ -12,7 +12,7 @@ ghost use Rattle.lsl_code.specs.declared.woven_units.Woven.{Woven as Code};
 ghost use Rattle.lsl_script.specs.Awake.{IsAskedFor, IsAwake};
 ghost use Rattle.lsl_script.specs.Codes.{HasUnit, Meant};
 ghost use Rattle.lsl_script.specs.Scripts.{Flight};
-ghost use Rattle.lsl_region.specs.Answers.{acts, answer, answer_of, is_on_own_mailbox};
+ghost use Rattle.lsl_region.specs.Answers.{acted, answer, answer_of, home_of};
 ghost use Rattle.lsl_region.specs.Grids.{AreSeated, Lent, outline_of};
 ghost use Rattle.lsl_region.specs.Mailing.{stop_for, stop_of};
 ghost use Rattle.lsl_region.specs.Worlds.{World};
@@ -96,12 +96,44 @@ impl Grid {
         ensures awake { IsAwake unit.now live.new }
         ensures machine { live.new.machine ≡ live.old.machine }
     {
-        if !acts(id) {
-            return self.answer_query(place, live, id, args, clock);
+        match id.row().home {
+            Home::Query => self.answer_query(place, live, id, args, clock),
+            Home::Mail => mail(live, id, args, clock),
+            Home::Sleep => mail(live, id, args, clock),
+            Home::Act => self.act(place, live, id, args, library, unit, out),
+            Home::Store => self.answer_store(place, live, id, args, library, unit, out),
+            Home::Note => self.answer_notecard(place, live, id, args, unit, out),
+            _ => unreachable!(),
         }
-        if is_on_own_mailbox(id) {
-            return mail(live, id, args, clock);
-        }
+    }
+
+    // The script at this place, which is out of the grid and waits, says or sends something, or names its prim.
+    fn act(
+        &mut self,
+        place: usize,
+        live: &mut Live,
+        id: BuiltinId,
+        args: &Values,
+        library: &Library,
+        unit: &Woven,
+        out: &mut Entries,
+    ) -> Result<Reply, NoMemory>
+        requires place { place < length self.old.seats }
+        requires home { home_of id ≡ homes.Act }
+        requires seated { AreSeated library.now self.old.seats }
+        requires awake { IsAwake unit.now live.old }
+        ensures does { (m : Meant library.now) (clock : ℕ) (f : Flight) (of : Id) (w : World) →
+            (lent : Lent library.now unit.now clock place self.old live.old of f w) →
+            Tells result (λ x reply. Lent library.now unit.now clock place self.new live.new of f x.0 × (reply ≡ x.1))
+            out.old out.new (acted m.rules place lent.member id args.now w) }
+        ensures fits { IfOk result (Answers id) }
+        ensures stop { IfOk result (λ reply. stop_of reply ≡ None) }
+        ensures seated { OnOk result (AreSeated library.now self.new.seats) }
+        ensures len { length self.new.seats ≡ length self.old.seats }
+        ensures outline { outline_of self.new ≡ outline_of self.old }
+        ensures awake { IsAwake unit.now live.new }
+        ensures machine { live.new.machine ≡ live.old.machine }
+    {
         match id {
             BuiltinId::Say => self.answer_say(place, live, Voice::Say, args, library, unit, out),
             BuiltinId::Whisper => self.answer_say(
@@ -130,38 +162,5 @@ impl Grid {
             BuiltinId::SetObjectName => self.answer_set_object_name(place, args),
             _ => unreachable!(),
         }
-    }
-}
-
-// Whether the call does more than to be told something.
-fn acts(id: BuiltinId) -> bool
-    ensures { result ≡ acts id }
-{
-    match id.row().home {
-        Home::Mail | Home::Act | Home::Sleep => true,
-        Home::Pure
-        | Home::UsedMemory
-        | Home::FreeMemory
-        | Home::SetLimit
-        | Home::GetLimit
-        | Home::Query
-        | Home::Reset => false,
-    }
-}
-
-// Whether the call is on the mailbox or the sleep of the script that asks.
-fn is_on_own_mailbox(id: BuiltinId) -> bool
-    ensures { result ≡ is_on_own_mailbox id }
-{
-    match id.row().home {
-        Home::Mail | Home::Sleep => true,
-        Home::Pure
-        | Home::UsedMemory
-        | Home::FreeMemory
-        | Home::SetLimit
-        | Home::GetLimit
-        | Home::Query
-        | Home::Act
-        | Home::Reset => false,
     }
 }

@@ -1,7 +1,7 @@
 //! An object arrives with the parts of an image: they go into its prims and its seats, and then its scripts are told.
 //! What takes memory is prepared before.
 
-ghost use Rattle.std.specs.Prelude.{◌≡◌, ◌<◌, ◌≤◌, ◌+◌, ◌∷◌, ◌++◌, [], ℤ, List, Some, false, true, is_some, length, map, option_map, option_to_list, reverse, slice_get, slice_set, take, All, IfOk, OnOk};
+ghost use Rattle.std.specs.Prelude.{◌≡◌, ◌<◌, ◌≤◌, ◌+◌, ◌∷◌, ◌++◌, [], ℤ, List, Some, false, true, is_some, length, map, option_map, option_to_list, reverse, slice_get, slice_set, take, All, IfOk, OnErr, OnOk};
 ghost use Rattle.std.specs.List.{AllByRecursion, filter_map};
 ghost use Rattle.lsl_image.specs.Valid.{HasUnit as IsOfUnit, IsStore, unit_number};
 ghost use Rattle.lsl_post.specs.Mailbox.{with_posted};
@@ -19,7 +19,8 @@ use crate::grid::Grid;
 use crate::objects::Prims;
 use crate::posting::number;
 use lsl_code::{Library, Sequence, Woven};
-use lsl_image::{ObjectParts, Pairs};
+use lsl_data::Store;
+use lsl_image::ObjectParts;
 use lsl_post::{Entries, Entry, Event, Posted, ScriptParts};
 use lsl_script::Script;
 use lsl_text::NoMemory;
@@ -117,8 +118,8 @@ fn keep_drop(number: u32, posted: Posted, out: &mut Entries, at: usize) -> usize
 }
 
 impl Grid {
-    /// The object at this place is in the region of this arrival, with these parts, and its scripts are told. Takes no
-    /// memory. Walks the scripts.
+    /// The object at this place is in the region of this arrival, with these parts, and its scripts are told. Takes
+    /// memory for the store alone; after want of memory all is as it was. Walks the scripts.
     pub(crate) fn arrive(
         &mut self,
         place: usize,
@@ -126,17 +127,18 @@ impl Grid {
         arrival: Arrival,
         library: &Library,
         out: &mut Entries,
-    )
+    ) -> Result<(), NoMemory>
         requires place { place < length self.old.objects }
         requires seated { AreSeated library.now self.old.seats }
         requires parts { CanArrive library.now self.old place parts }
         requires events { All (λ e. e ≡ region_changed) arrival.events.items }
         requires count { length arrival.events.items ≡ length (filter_map (parts_in_seat place) self.old.seats) }
         requires room { arrival.before + length arrival.events.items ≤ length out.old }
-        ensures grid { self.new ≡ (arrived library.now self.old place arrival.region parts).value }
-        ensures entries { out.new ≡
-            take arrival.before out.old ++ (arrived library.now self.old place arrival.region parts).entries }
-        ensures seated { AreSeated library.now self.new.seats }
+        ensures grid { OnOk result (self.new ≡ (arrived library.now self.old place arrival.region parts).value) }
+        ensures entries { OnOk result (out.new ≡
+            take arrival.before out.old ++ (arrived library.now self.old place arrival.region parts).entries) }
+        ensures unchanged { OnErr result ((self.new ≡ self.old) × (out.new ≡ out.old)) }
+        ensures seated { OnOk result (AreSeated library.now self.new.seats) }
         ensures objects { map (λ o. length o.prims) self.new.objects ≡ map (λ o. length o.prims) self.old.objects }
         ensures scripts { length self.new.seats ≡ length self.old.seats }
     {
@@ -151,9 +153,11 @@ impl Grid {
             events,
             before,
         } = arrival;
+        let store = Store::from_pairs(self.alloc, store)?;
         self.furnish(place, names, store, region);
         self.reseat(place, scripts, library);
         self.tell_all(place, events, library, out, before);
+        Ok(())
     }
 
     // The object at this place has prims of these names, this store and this region.
@@ -161,7 +165,7 @@ impl Grid {
         &mut self,
         place: usize,
         names: Sequence<Text>,
-        store: Pairs,
+        store: Store,
         region: Text,
     )
         requires place { place < length self.old.objects }
@@ -173,6 +177,7 @@ impl Grid {
           store = store;
         }) }
         ensures seats { self.new.seats ≡ self.old.seats }
+        ensures cards { self.new.cards ≡ self.old.cards }
         ensures prims { map (λ o. length o.prims) self.new.objects ≡ map (λ o. length o.prims) self.old.objects }
     {
         let object = &mut self.objects[place];
@@ -188,6 +193,7 @@ impl Grid {
         requires units { map unit_number scripts ≡ map unit_number (filter_map (parts_in_seat place) self.old.seats) }
         ensures seats { self.new.seats ≡ reseated place scripts self.old.seats }
         ensures objects { self.new.objects ≡ self.old.objects }
+        ensures cards { self.new.cards ≡ self.old.cards }
         ensures seated { AreSeated library.now self.new.seats }
         ensures len { length self.new.seats ≡ length self.old.seats }
         ensures count { length (filter_map (parts_in_seat place) self.new.seats) ≡
@@ -218,6 +224,7 @@ impl Grid {
         ensures scripts { (at : Place) → slice_get self.old.seats seat ≡ Some at →
             reverse scripts.new.items ≡ behind_first (parts_in_seat place at) (reverse scripts.old.items) }
         ensures objects { self.new.objects ≡ self.old.objects }
+        ensures cards { self.new.cards ≡ self.old.cards }
         ensures seated { AreSeated library.now self.new.seats }
     {
         if !is_of(&self.seats[seat], place) {
@@ -237,6 +244,7 @@ impl Grid {
         ensures seats { (at : Place) → slice_get self.old.seats seat ≡ Some at →
             self.new.seats ≡ slice_set self.old.seats seat (record at { script = Some parts }) }
         ensures objects { self.new.objects ≡ self.old.objects }
+        ensures cards { self.new.cards ≡ self.old.cards }
         ensures seated { AreSeated library.now self.new.seats }
     {
         let unit = library.unit(self.seats[seat].unit);
@@ -262,6 +270,7 @@ impl Grid {
         ensures entries { out.new ≡
             take before out.old ++ (post_in_seats library.now place region_changed 1 self.old.seats).entries }
         ensures objects { self.new.objects ≡ self.old.objects }
+        ensures cards { self.new.cards ≡ self.old.cards }
         ensures seated { AreSeated library.now self.new.seats }
         ensures len { length self.new.seats ≡ length self.old.seats }
     {
@@ -299,6 +308,7 @@ impl Grid {
         ensures left { (s : Place) → slice_get self.old.seats seat ≡ Some s →
             length events.old.items ≤ length events.new.items + length (option_to_list (parts_in_seat place s)) }
         ensures objects { self.new.objects ≡ self.old.objects }
+        ensures cards { self.new.cards ≡ self.old.cards }
         ensures seated { AreSeated library.now self.new.seats }
     {
         if !is_of(&self.seats[seat], place) {
@@ -331,6 +341,7 @@ impl Grid {
             result ≡ at + length (post_in (states_in library.now s.unit) event (seat + 1) s s.script).entries }
         ensures len { length out.new ≡ length out.old }
         ensures objects { self.new.objects ≡ self.old.objects }
+        ensures cards { self.new.cards ≡ self.old.cards }
         ensures seated { AreSeated library.now self.new.seats }
     {
         let to = &mut self.seats[seat];

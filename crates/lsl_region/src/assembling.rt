@@ -10,8 +10,8 @@ ghost use Rattle.lsl_region.specs.ObjectParts.{name_of, parts_among, parts_in_se
 use crate::grid::{Grid, Seat};
 use crate::objects::{Linkset, Prims};
 use lsl_code::Sequence;
-use lsl_image::{ObjectParts, Pairs, Shape};
-use lsl_post::{Pair, ScriptParts};
+use lsl_image::{ObjectParts, Shape};
+use lsl_post::ScriptParts;
 use lsl_script::Script;
 use lsl_text::NoMemory;
 use lsl_value::Text;
@@ -67,7 +67,7 @@ fn parts_among(
 {
     let key = object.prims.prim(0).key.copy()?;
     let names = names_of(alloc, &object.prims)?;
-    let store = copy_pairs(alloc, &object.store)?;
+    let store = object.store.pairs()?;
     let scripts = scripts_of(alloc, seats, place)?;
     Ok(ObjectParts {
         key,
@@ -86,24 +86,6 @@ fn names_of(alloc: Global, prims: &Prims) -> Result<Sequence<Text>, NoMemory>
         names.push(prim.name.copy()?)?;
     }
     Ok(names)
-}
-
-fn copy_pair(pair: &Pair) -> Result<Pair, NoMemory>
-    ensures { IfOk result (λ copy. copy ≡ pair.now) }
-{
-    let name = pair.name.copy()?;
-    let value = pair.value.copy()?;
-    Ok(Pair { name, value })
-}
-
-fn copy_pairs(alloc: Global, pairs: &Pairs) -> Result<Pairs, NoMemory>
-    ensures { IfOk result (λ copy. copy ≡ pairs.now) }
-{
-    let mut copy = Sequence::new(alloc);
-    for pair in pairs.as_slice() {
-        copy.push(copy_pair(pair)?)?;
-    }
-    Ok(copy)
 }
 
 // The parts of a script of the unit of this number.

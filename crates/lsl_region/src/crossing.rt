@@ -178,7 +178,7 @@ impl Grid {
     {
         match read_back(self.alloc, back, self.region(object), shape, library)? {
             Ok(parts) => {
-                self.arrive(object as usize - 1, parts, arrival, library, out);
+                self.arrive(object as usize - 1, parts, arrival, library, out)?;
                 Ok(Crossed::Moved)
             }
             Err(fault) => Ok(Crossed::Stayed(StayedWhy::Image(fault))),

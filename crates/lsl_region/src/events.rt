@@ -4,7 +4,9 @@ ghost use Rattle.std.specs.Prelude.{◌≡◌, ◌∷◌, [], IfOk};
 ghost use Rattle.lsl_value.specs.declared.tagged.Value.TheVariants as value;
 ghost use Rattle.lsl_script.specs.Scripts.{timer_event};
 ghost use Rattle.lsl_region.specs.Arrivals.{changed_event, rez_event, touch_end, touch_held, touch_start};
+ghost use Rattle.lsl_region.specs.Notes.{data_event};
 ghost use Rattle.lsl_region.specs.Posting.{listen_event, message_event};
+ghost use Rattle.lsl_region.specs.Stores.{store_event};
 
 use lsl_post::{Event, Filter, Toucher};
 use lsl_text::NoMemory;
@@ -47,6 +49,35 @@ pub(crate) fn message_event(
     ]?;
     Ok(Event {
         id: EventId::LinkMessage,
+        args: Values::from_vec(args),
+        toucher: None,
+    })
+}
+
+/// The event that tells a script of its query.
+pub(crate) fn data_event(alloc: Global, query: Text, text: Text) -> Result<Event, NoMemory>
+    ensures { IfOk result (λ event. event ≡ data_event query text) }
+{
+    let args = vec![in alloc; Value::Key(query), Value::Str(text)]?;
+    Ok(Event {
+        id: EventId::Dataserver,
+        args: Values::from_vec(args),
+        toucher: None,
+    })
+}
+
+/// The event of a change of the object's store.
+pub(crate) fn store_event(
+    alloc: Global,
+    how: i32,
+    name: Text,
+    text: Text,
+) -> Result<Event, NoMemory>
+    ensures { IfOk result (λ event. event ≡ store_event how name text) }
+{
+    let args = vec![in alloc; Value::Int(how), Value::Str(name), Value::Str(text)]?;
+    Ok(Event {
+        id: EventId::LinksetData,
         args: Values::from_vec(args),
         toucher: None,
     })

@@ -1,6 +1,6 @@
 //! The parts of all objects, of which a world's image is written, and a grid whose objects get such parts.
 
-ghost use Rattle.std.specs.Prelude.{◌≡◌, ◌<◌, ◌≤◌, ◌-◌, List, None, length, map, slice_set, IfOk};
+ghost use Rattle.std.specs.Prelude.{◌≡◌, ◌<◌, ◌≤◌, ◌-◌, List, None, length, map, slice_set, IfOk, OnOk};
 ghost use Rattle.std.specs.List.{AllByRecursion};
 ghost use Rattle.lsl_code.specs.declared.woven_units.Woven.{Woven as Code};
 ghost use Rattle.lsl_image.specs.Valid.{IsPlaced, placed_shape};
@@ -12,6 +12,7 @@ ghost use Rattle.lsl_region.specs.Worlds.{World};
 
 use crate::grid::Grid;
 use lsl_code::{Library, Sequence};
+use lsl_data::Store;
 use lsl_image::{ObjectParts, Placed, Shapes};
 use lsl_text::NoMemory;
 use lsl_value::Text;
@@ -54,39 +55,46 @@ impl Grid {
         Ok(shapes)
     }
 
-    /// The objects get these parts and regions, in order, which have their shapes. Each script is in its seat. Takes no
-    /// memory. Walks the scripts once for each object.
-    pub fn thaw(&mut self, objects: Sequence<Placed>, library: &Library)
+    /// The objects get these parts and regions, in order, which have their shapes. Each script is in its seat. Takes
+    /// memory for the stores. Walks the scripts once for each object.
+    pub fn thaw(&mut self, objects: Sequence<Placed>, library: &Library) -> Result<(), NoMemory>
         requires seated { AreSeated library.now self.old.seats }
         requires home { AreHome self.old.seats }
         requires valid { AllByRecursion (IsPlaced library.now) objects }
         requires shapes { map placed_shape objects ≡ map placed_shape (placed_in self.old) }
-        ensures parts { placed_in self.new ≡ objects }
-        ensures fixed { fixed_of self.new ≡ fixed_of self.old }
-        ensures seated { AreSeated library.now self.new.seats }
+        ensures parts { OnOk result (placed_in self.new ≡ objects) }
+        ensures fixed { OnOk result (fixed_of self.new ≡ fixed_of self.old) }
+        ensures seated { OnOk result (AreSeated library.now self.new.seats) }
         ensures stands { (w : World) → AreScripts library.now w → fixed_in w ≡ fixed_of self.old →
-            placed_in (contents_of library.now w) ≡ objects → Stands library.now None w.clock self.new w }
+            placed_in (contents_of library.now w) ≡ objects → OnOk result (Stands library.now None w.clock self.new w) }
     {
         let count = self.objects.len();
         prove_eq!(objects.len(), count);
         let mut objects = objects.into_vec();
         while let Some(placed) = objects.pop() {
             let Placed { region, object } = placed;
-            self.thaw_object(objects.len(), region, object, library);
+            self.thaw_object(objects.len(), region, object, library)?;
         }
+        Ok(())
     }
 
     // The object at this place gets these parts and this region.
-    fn thaw_object(&mut self, place: usize, region: Text, parts: ObjectParts, library: &Library)
+    fn thaw_object(
+        &mut self,
+        place: usize,
+        region: Text,
+        parts: ObjectParts,
+        library: &Library,
+    ) -> Result<(), NoMemory>
         requires place { place < length self.old.objects }
         requires seated { AreSeated library.now self.old.seats }
         requires home { AreHome self.old.seats }
         requires parts { CanArrive library.now self.old place parts }
-        ensures parts { placed_in self.new
-            ≡ slice_set (placed_in self.old) place (record { region = region; object = parts }) }
-        ensures fixed { fixed_of self.new ≡ fixed_of self.old }
-        ensures seated { AreSeated library.now self.new.seats }
-        ensures home { AreHome self.new.seats }
+        ensures parts { OnOk result (placed_in self.new
+            ≡ slice_set (placed_in self.old) place (record { region = region; object = parts })) }
+        ensures fixed { OnOk result (fixed_of self.new ≡ fixed_of self.old) }
+        ensures seated { OnOk result (AreSeated library.now self.new.seats) }
+        ensures home { OnOk result (AreHome self.new.seats) }
     {
         let ObjectParts {
             key: _,
@@ -94,7 +102,9 @@ impl Grid {
             scripts,
             store,
         } = parts;
+        let store = Store::from_pairs(self.alloc, store)?;
         self.furnish(place, names, store, region);
         self.reseat(place, scripts, library);
+        Ok(())
     }
 }

@@ -7,6 +7,7 @@ ghost use Rattle.lsl_region.specs.Worlds.{no_object, empty_world};
 
 use crate::hearing::ChannelTable;
 use crate::objects::Linkset;
+use lsl_notes::Cards;
 use lsl_script::Script;
 use lsl_value::Text;
 use std::alloc::Global;
@@ -23,14 +24,15 @@ pub struct Seat {
     pub script: Option<Script>,
 }
 
-/// Objects and scripts, both numbered from 1 in the order in which they were added, and on which channels scripts
-/// listen.
+/// Objects and scripts, both numbered from 1 in the order in which they were added, on which channels scripts listen,
+/// and notecards.
 #[derive(Drop)]
 pub struct Grid {
     pub(crate) alloc: Global,
     pub(crate) objects: Vec<Linkset>,
     pub(crate) seats: Vec<Seat>,
     pub(crate) hearers: ChannelTable,
+    pub(crate) cards: Cards,
 }
 
 impl Model for Grid {
@@ -39,23 +41,34 @@ impl Model for Grid {
 
     ghost Value = { Contents };
 
-    ghost view = { λ g. record { objects = g.objects.items; seats = g.seats.items } };
+    ghost view = { λ g. record { objects = g.objects.items; seats = g.seats.items; cards = g.cards } };
 
     ghost invariant = { λ g. ArePlaced g.objects.items g.seats.items × HaveRows g.hearers g.seats.items };
 }
 
 impl Grid {
-    /// No object and no script. Takes no memory.
+    /// No object, no script and no notecard. Takes no memory.
     pub fn new(alloc: Global) -> Grid
         ensures stands { (codes : _) (clock : _) → Stands codes None clock result (empty_world clock) }
-        ensures none { (result.objects ≡ []) × (result.seats ≡ []) }
+        ensures none { (result.objects ≡ []) × (result.seats ≡ []) × (result.cards ≡ []) }
     {
         Grid {
             alloc,
             objects: Vec::new(alloc),
             seats: Vec::new(alloc),
             hearers: ChannelTable::new(alloc),
+            cards: Cards::new(alloc),
         }
+    }
+
+    /// Holds these notecards, in place of others. Their prims are numbered from 1 on through all objects. Takes no
+    /// memory.
+    pub fn hold(&mut self, cards: Cards)
+        ensures cards { self.new.cards ≡ cards }
+        ensures objects { self.new.objects ≡ self.old.objects }
+        ensures seats { self.new.seats ≡ self.old.seats }
+    {
+        self.cards = cards;
     }
 
     /// The region of the object of this number. Takes no memory.

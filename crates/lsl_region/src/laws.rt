@@ -74,7 +74,7 @@ pub fn touchers_are_told()
     ensures nobody { UntouchedIsNobody }
 {}
 
-/// No call that the host answers is forgotten.
+/// No call of the host that is only to be told something is forgotten.
 pub fn calls_are_answered()
     ensures { CallsAreAnswered }
 {}

@@ -23,8 +23,8 @@ use lsl_script::Live;
 use lsl_text::NoMemory;
 use std::alloc::Global;
 
-// Posts an event to the script of this number, which is awake.
-fn post_live(
+/// Posts an event to the script of this number, which is awake.
+pub(crate) fn post_live(
     alloc: Global,
     live: &mut Live,
     number: u32,

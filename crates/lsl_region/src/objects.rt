@@ -5,7 +5,7 @@ ghost use Rattle.lsl_value.specs.Key.{null_key};
 ghost use Rattle.lsl_region.specs.Answers.{key_of_prim, name_of_prim, with_name};
 ghost use Rattle.lsl_region.specs.Worlds.{prim_at};
 
-use lsl_image::Pairs;
+use lsl_data::Store;
 use lsl_text::NoMemory;
 use lsl_value::Text;
 use std::alloc::Global;
@@ -36,14 +36,13 @@ impl Model for Prims {
     ghost view = { λ p. p.list.items };
 }
 
-/// An object: its owner's key, the region in which it is, its prims, and its store, whose names are in the order of
-/// their bytes.
+/// An object: its owner's key, the region in which it is, its prims, and its store.
 #[derive(Drop)]
 pub struct Linkset {
     pub owner: Text,
     pub region: Text,
     pub prims: Prims,
-    pub store: Pairs,
+    pub store: Store,
 }
 
 impl Prims {

@@ -1,6 +1,6 @@
 //! Turns under gaps: behind a pausing segment a script that can go on is saved and restored.
 
-ghost use Rattle.std.specs.Prelude.{◌≡◌, ◌<◌, ◌≤◌, ℕ, List, IsTrue, None, length, IfOk, OnOk};
+ghost use Rattle.std.specs.Prelude.{◌≡◌, ◌<◌, ◌≤◌, ℕ, List, IsTrue, true, is_some, None, length, IfOk, OnOk};
 ghost use Rattle.lsl_code.specs.declared.woven_units.Woven.{Woven as Code};
 ghost use Rattle.lsl_code.specs.Weaves.{Weaves};
 ghost use Rattle.lsl_post.specs.Journal.{Tells};
@@ -10,18 +10,16 @@ ghost use Rattle.lsl_region.specs.Grids.{AreSeated, Contents, Stands, outline_of
 ghost use Rattle.lsl_region.specs.PausedTurns.{counted_segment, goes_on_at, paused_for};
 ghost use Rattle.lsl_region.specs.Pausing.{Counts, Tally};
 ghost use Rattle.lsl_region.specs.Segments.{segment, turn};
-ghost use Rattle.lsl_region.specs.TurnEnds.{CameTo, CanGoOn, IsBehind};
+ghost use Rattle.lsl_region.specs.TurnEnds.{CameTo, IsBehind};
 ghost use Rattle.lsl_region.specs.Turning.{InTurn, IsHeld, IsReadyInTurn, IsUnitAt};
 ghost use Rattle.lsl_region.specs.Worlds.{World};
 
 use crate::grid::Grid;
 use crate::pausing::Pause;
-use crate::segments::wake;
 use lsl_code::{Library, Woven};
 use lsl_post::Entries;
 use lsl_script::Live;
 use lsl_text::NoMemory;
-use std::alloc::Global;
 
 impl Grid {
     /// Segments of the script at this place while it is ready, at most so many, and how many they were. It is saved and
@@ -104,7 +102,7 @@ impl Grid {
         if !can_go_on(live, clock) {
             return Ok(());
         }
-        save_and_wake(self.alloc, live, unit, clock)?;
+        save_and_restore(live, unit)?;
         pause.count();
         Ok(())
     }
@@ -114,7 +112,7 @@ impl Grid {
 fn can_go_on(live: &Option<Live>, clock: u64) -> bool
     ensures source { (codes : List Code) (unit : Code) (place : ℕ) (grid : Contents) (w : World) →
         IsBehind codes unit clock place grid live.now w → result ≡ goes_on_at w place }
-    ensures ready { IsTrue result → CanGoOn clock live.now }
+    ensures out { IsTrue result → is_some live.now ≡ true }
 {
     match live {
         Some(live) => live.ready(clock),
@@ -122,26 +120,18 @@ fn can_go_on(live: &Option<Live>, clock: u64) -> bool
     }
 }
 
-// Saves the script, which is awake at a tick and can go on, by its unit's own code, and restores it.
-#[inline(never)]
-fn save_and_wake(
-    alloc: Global,
-    live: &mut Option<Live>,
-    unit: &Woven,
-    clock: u64,
-) -> Result<(), NoMemory>
+// Saves the script, which is awake at a tick, by its unit's own code, and restores it.
+fn save_and_restore(live: &mut Option<Live>, unit: &Woven) -> Result<(), NoMemory>
     requires held { IsHeld unit.now live.old }
-    requires ready { CanGoOn clock live.old }
+    requires out { is_some live.old ≡ true }
     requires weaves { Weaves unit.now }
     ensures held { OnOk result (IsHeld unit.now live.new) }
-    ensures same { (codes : List Code) (place : ℕ) (grid : Contents) (w : World) →
+    ensures same { (codes : List Code) (clock place : ℕ) (grid : Contents) (w : World) →
         IsBehind codes unit.now clock place grid live.old w →
         OnOk result (IsBehind codes unit.now clock place grid live.new w) }
 {
-    let Some(awake) = live.take() else {
-        unreachable!();
-    };
-    let script = awake.rest(unit)?;
-    *live = Some(wake(script, alloc, unit, clock)?);
-    Ok(())
+    match live {
+        Some(awake) => awake.pause(unit),
+        None => unreachable!(),
+    }
 }

@@ -234,12 +234,7 @@ impl Grid {
 }
 
 /// Wakes a script that can run.
-pub(crate) fn wake(
-    script: Script,
-    alloc: Global,
-    unit: &Woven,
-    clock: u64,
-) -> Result<Live, NoMemory>
+fn wake(script: Script, alloc: Global, unit: &Woven, clock: u64) -> Result<Live, NoMemory>
     requires fits { FitsUnit unit.now script }
     requires weaves { Weaves unit.now }
     requires ready { are_ready clock script ≡ true }

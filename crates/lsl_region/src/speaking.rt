@@ -1,13 +1,12 @@
 //! Host calls that say or send something, or name a prim.
 
-ghost use Rattle.std.specs.Prelude.{◌≡◌, ◌<◌, ◌≤◌, ◌+◌, ℕ, List, [], ◌∷◌, ◌++◌, pos, true, false, length, slice_get, Some, None, IfOk, OnOk};
+ghost use Rattle.std.specs.Prelude.{◌≡◌, ◌<◌, ◌≤◌, ◌+◌, ℕ, List, [], ◌∷◌, ◌++◌, false, pos, length, slice_get, Some, None, IfOk, OnOk};
 ghost use Rattle.std.specs.Ordering.{int_eq};
 ghost use Rattle.lsl_value.specs.declared.names.BuiltinId.{BuiltinId as Id};
 ghost use Rattle.lsl_value.specs.declared.names.BuiltinId.TheVariants as ids;
+ghost use Rattle.lsl_table.specs.declared.calls.Home.TheVariants as homes;
 ghost use Rattle.lsl_running.specs.declared.host.Reply.TheVariants as replies;
-ghost use Rattle.lsl_running.specs.Calling.{call_form};
 ghost use Rattle.lsl_code.specs.declared.woven_units.Woven.{Woven as Code};
-ghost use Rattle.lsl_code.specs.Effects.{is_asked};
 ghost use Rattle.lsl_code.specs.Kinded.{Answers};
 ghost use Rattle.lsl_post.specs.Filters.{filter};
 ghost use Rattle.lsl_post.specs.Journal.{Adds, Tells};
@@ -18,7 +17,7 @@ ghost use Rattle.lsl_script.specs.Codes.{Meant};
 ghost use Rattle.lsl_script.specs.Fitting.{is_exit};
 ghost use Rattle.lsl_script.specs.Scripts.{Flight};
 ghost use Rattle.lsl_script.specs.declared.live.Live.{Live as Awake};
-ghost use Rattle.lsl_region.specs.Answers.{acts, answer_of, integer_at, message_of, nothing, renamed, said_by, says, text_at, told_in};
+ghost use Rattle.lsl_region.specs.Answers.{answer_of, home_of, integer_at, message_of, nothing, renamed, said_by, says, text_at, told_in};
 ghost use Rattle.lsl_region.specs.Grids.{AreSeated, Lent, linked_to, object_in, outline_of, prim_in, renamed_grid};
 ghost use Rattle.lsl_region.specs.Links.{link_of};
 ghost use Rattle.lsl_region.specs.Mailing.{stop_of};
@@ -95,7 +94,7 @@ impl Grid {
         ensures does { (codes : List Code) (unit : Code) (of : Id) (f : Flight) (w : World) →
             (lent : Lent codes unit clock place self.now live.now of f w) →
             IfOk result (λ reply. reply ≡ replies.Value (told_in w lent.member id args.now)) }
-        ensures fits { is_asked (call_form id) ≡ true → acts id ≡ false → IfOk result (Answers id) }
+        ensures fits { home_of id ≡ homes.Query → IfOk result (Answers id) }
         ensures stop { IfOk result (λ reply. stop_of reply ≡ None) }
     {
         let seat = &self.seats[place];

@@ -6,9 +6,10 @@ ghost use Rattle.lsl_value.specs.Values.{kind_of};
 ghost use Rattle.lsl_post.specs.Timing.{latest_clock};
 ghost use Rattle.lsl_region.specs.Answers.{detected, detected_key, detected_link, detected_name, value_of_query};
 
-use crate::arguments::integer_at;
+use crate::arguments::{integer_at, text_at};
 use crate::links::{link_of, prim_or_this};
 use crate::objects::{Linkset, null_key};
+use crate::storing::{read_in, room_in};
 use lsl_post::Toucher;
 use lsl_text::NoMemory;
 use lsl_value::{BuiltinId, Text, Value, Values};
@@ -49,6 +50,12 @@ pub(crate) fn value_of_query(
         BuiltinId::DetectedKey => Value::Key(detected_key(alloc, toucher, args)?),
         BuiltinId::DetectedName => Value::Str(detected_name(toucher, args)?),
         BuiltinId::DetectedLinkNumber => Value::Int(detected_link(toucher, args)),
+        BuiltinId::LinksetDataRead => Value::Str(read_in(&object.store, &text_at(args, 0)?)?),
+        BuiltinId::LinksetDataCountKeys => Value::Int(object.store.count() as i32),
+        BuiltinId::LinksetDataAvailable => Value::Int(room_in(&object.store)),
+        BuiltinId::LinksetDataListKeys => {
+            Value::List(object.store.keys(integer_at(args, 0), integer_at(args, 1))?)
+        }
         _ => return Ok(None),
     };
     Ok(Some(value))

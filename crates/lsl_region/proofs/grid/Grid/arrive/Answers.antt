@@ -2,15 +2,18 @@ use Rattle.std.proofs.Common.{◌∙◌, List, ap}
 use Rattle.lsl_region.specs.declared.grid.Seat.{Seat}
 use Rattle.lsl_region.specs.Crossings.{post_in_seats, region_changed}
 use Rattle.lsl_region.specs.ObjectParts.{reseated}
-use Rattle.lsl_region.proofs.Furnishing.{arrived-is}
+use Rattle.lsl_region.proofs.Furnishing.{arrived-is, furnished-with}
 use Rattle.lsl_region.proofs.grid.Grid.arrive.Goals as goal
 
 pub returns-clause-grid : goal.returns-clause-grid
 returns-clause-grid c =
     arrived-is c.args.library.now c.args.self.now c.tell_all.new.self c.args.place c.args.arrival.region c.args.parts
     c.requires.place
-    (c.tell_all.ensures.objects ∙ c.reseat.ensures.objects ∙ c.furnish.ensures.objects)
+    (c.tell_all.ensures.objects ∙ c.reseat.ensures.objects
+    ∙ furnished-with c.args.self.now c.args.place c.args.parts c.args.arrival.region c.in_ok-store.store
+    c.furnish.new.self.objects c.in_ok-store.ensures c.furnish.ensures.objects)
     (c.tell_all.ensures.seats
     ∙ ap (λ (z : List Seat). (post_in_seats c.args.library.now c.args.place region_changed 1 z).value)
     (c.reseat.ensures.seats
     ∙ ap (λ (z : List Seat). reseated c.args.place c.args.parts.scripts z) c.furnish.ensures.seats))
+    (c.tell_all.ensures.cards ∙ c.reseat.ensures.cards ∙ c.furnish.ensures.cards)

@@ -70,7 +70,11 @@ returns-clause-does c = λ away clock w old home.
     let place = c.args.place in
     let audience = c.args.audience.now in
     let e = c.args.event.now in
-    let inside : Contents = record { objects = c.self.inside.objects.items; seats = c.self.inside.seats.items } in
+    let inside : Contents = record {
+      objects = c.self.inside.objects.items;
+      seats = c.self.inside.seats.items;
+      cards = c.self.inside.cards;
+    } in
     let st : Stands codes away clock inside w
     = subst (λ (g : Contents). Stands codes away clock g w) (sym c.self.view_is) old in
     let seat = c.index_mut-seat.result.now in
@@ -80,7 +84,7 @@ returns-clause-does c = λ away clock w old home.
     = ap (λ (g : Contents). slice_get g.seats place) (sym c.self.view_is) ∙ at in
     changed codes away clock inside _ w place seat c.post_seat.new.seat
     (λ (m : Member). if admits audience w m then post_to (rules_of codes) (place + 1) e m.script else quiet m.script)
-    st home at refl refl
+    st home at refl refl refl
     (λ m l. if-script codes false m.script (admits audience w m) _ _
     (post-script codes (rules_of codes) (place + 1) e m.script l) (same-script codes false m.script l))
     c.post_seat.result _ _
@@ -111,7 +115,11 @@ returns-clause-seated c =
 pub returns-clause-outline : goal.returns-clause-outline
 returns-clause-outline c =
     let h : c.args.place < length c.self.inside.seats.items = search (rules, c.requires.place) in
-    let inside : Contents = record { objects = c.self.inside.objects.items; seats = c.self.inside.seats.items } in
+    let inside : Contents = record {
+      objects = c.self.inside.objects.items;
+      seats = c.self.inside.seats.items;
+      cards = c.self.inside.cards;
+    } in
     outline-seated inside c.args.place c.index_mut-seat.result.now _
     (read-at c.self.inside.seats.items c.args.place _ h c.index_mut-seat.ensures.value) refl
     ∙ ap outline_of c.self.view_is

@@ -28,7 +28,11 @@ pub returns : goal.returns
 returns c =
     let h : c.args.place < length c.self.inside.seats.items = search (rules, c.requires) in
     let at = read-at c.self.inside.seats.items c.args.place c.index_mut.result.now h c.index_mut.ensures.value in
-    let inside : Contents = record { objects = c.self.inside.objects.items; seats = c.self.inside.seats.items } in
+    let inside : Contents = record {
+      objects = c.self.inside.objects.items;
+      seats = c.self.inside.seats.items;
+      cards = c.self.inside.cards;
+    } in
     record {
       seats = λ seat sits.
           ap (λ (x : Seat). with_seated inside c.args.place x (Some c.args.script)) (seat-is inside c.args.self.now

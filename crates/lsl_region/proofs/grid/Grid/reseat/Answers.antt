@@ -37,6 +37,7 @@ loop-seat-preserved c =
     record {
       len = ap (λ (z : List Seat). length z) now ∙ length-set seats n t ∙ before.len;
       objects = c.reseat_next.ensures.objects ∙ before.objects;
+      cards = c.reseat_next.ensures.cards ∙ before.cards;
       seated = c.reseat_next.ensures.seated;
       valid = subst (λ (z : List ScriptParts). AllByRecursion (HasUnit codes) z) (sym left)
           (valid-next (HasUnit codes) p scripts before.valid);

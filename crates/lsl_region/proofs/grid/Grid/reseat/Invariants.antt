@@ -12,6 +12,7 @@ invariant-loop-seat l =
     record {
       len : length l.self.seats ≡ length l.fn.self.seats;
       objects : l.self.objects ≡ l.fn.self.objects;
+      cards : l.self.cards ≡ l.fn.self.cards;
       seated : AreSeated l.library l.self.seats;
       valid : AllByRecursion (HasUnit l.library) (reverse l.scripts.items);
       units : map unit_number (reverse l.scripts.items)

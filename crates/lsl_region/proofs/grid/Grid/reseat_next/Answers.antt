@@ -13,7 +13,11 @@ pub returns-then-not-is_of-clause-seats : goal.returns-then-not-is_of-clause-sea
 returns-then-not-is_of-clause-seats c = λ seat sits.
     let h : c.args.seat < length c.self.inside.seats.items = search (rules, c.requires.seat) in
     let at = read-at c.self.inside.seats.items c.args.seat c.index.result.now h c.index.ensures in
-    let inside : Contents = record { objects = c.self.inside.objects.items; seats = c.self.inside.seats.items } in
+    let inside : Contents = record {
+      objects = c.self.inside.objects.items;
+      seats = c.self.inside.seats.items;
+      cards = c.self.inside.cards;
+    } in
     let is = seat-is inside c.args.self.now c.args.seat c.index.result.now seat c.self.view_is at sits in
     seat-other c.args.place c.args.self.now.seats c.args.seat seat (reverse c.args.scripts.now.items) sits
     (ap (λ (z : Seat). is_some (parts_in_seat c.args.place z)) (sym is) ∙ sym c.is_of.ensures ∙ c.if-not-is_of.true)
@@ -22,7 +26,11 @@ pub returns-then-not-is_of-clause-scripts : goal.returns-then-not-is_of-clause-s
 returns-then-not-is_of-clause-scripts c = λ seat sits.
     let h : c.args.seat < length c.self.inside.seats.items = search (rules, c.requires.seat) in
     let at = read-at c.self.inside.seats.items c.args.seat c.index.result.now h c.index.ensures in
-    let inside : Contents = record { objects = c.self.inside.objects.items; seats = c.self.inside.seats.items } in
+    let inside : Contents = record {
+      objects = c.self.inside.objects.items;
+      seats = c.self.inside.seats.items;
+      cards = c.self.inside.cards;
+    } in
     let is = seat-is inside c.args.self.now c.args.seat c.index.result.now seat c.self.view_is at sits in
     behind-other (parts_in_seat c.args.place seat) (reverse c.args.scripts.now.items)
     (ap (λ (z : Seat). is_some (parts_in_seat c.args.place z)) (sym is) ∙ sym c.is_of.ensures ∙ c.if-not-is_of.true)
@@ -31,7 +39,11 @@ pub seat_script-requires-clause-fits : goal.seat_script-requires-clause-fits
 seat_script-requires-clause-fits c = λ seat sits.
     let h : c.args.seat < length c.self.inside.seats.items = search (rules, c.requires.seat) in
     let at = read-at c.self.inside.seats.items c.args.seat c.index.result.now h c.index.ensures in
-    let inside : Contents = record { objects = c.self.inside.objects.items; seats = c.self.inside.seats.items } in
+    let inside : Contents = record {
+      objects = c.self.inside.objects.items;
+      seats = c.self.inside.seats.items;
+      cards = c.self.inside.cards;
+    } in
     let is = seat-is inside c.args.self.now c.args.seat c.index.result.now seat c.self.view_is at sits in
     c.requires.fits seat c.pop.new.self.items c.in-Some.parts sits
     (ap (λ (z : Seat). is_some (parts_in_seat c.args.place z)) (sym is) ∙ sym c.is_of.ensures ∙ c.if-not-is_of.false)
@@ -41,7 +53,11 @@ pub returns-in-Some-clause-seats : goal.returns-in-Some-clause-seats
 returns-in-Some-clause-seats c = λ seat sits.
     let h : c.args.seat < length c.self.inside.seats.items = search (rules, c.requires.seat) in
     let at = read-at c.self.inside.seats.items c.args.seat c.index.result.now h c.index.ensures in
-    let inside : Contents = record { objects = c.self.inside.objects.items; seats = c.self.inside.seats.items } in
+    let inside : Contents = record {
+      objects = c.self.inside.objects.items;
+      seats = c.self.inside.seats.items;
+      cards = c.self.inside.cards;
+    } in
     let is = seat-is inside c.args.self.now c.args.seat c.index.result.now seat c.self.view_is at sits in
     c.seat_script.ensures.seats seat sits
     ∙ ap (λ (t : Seat). slice_set c.args.self.now.seats c.args.seat t)
@@ -54,7 +70,11 @@ pub returns-in-Some-clause-scripts : goal.returns-in-Some-clause-scripts
 returns-in-Some-clause-scripts c = λ seat sits.
     let h : c.args.seat < length c.self.inside.seats.items = search (rules, c.requires.seat) in
     let at = read-at c.self.inside.seats.items c.args.seat c.index.result.now h c.index.ensures in
-    let inside : Contents = record { objects = c.self.inside.objects.items; seats = c.self.inside.seats.items } in
+    let inside : Contents = record {
+      objects = c.self.inside.objects.items;
+      seats = c.self.inside.seats.items;
+      cards = c.self.inside.cards;
+    } in
     let is = seat-is inside c.args.self.now c.args.seat c.index.result.now seat c.self.view_is at sits in
     behind-own (parts_in_seat c.args.place seat) c.in-Some.parts (reverse c.pop.new.self.items)
     (reverse c.args.scripts.now.items)

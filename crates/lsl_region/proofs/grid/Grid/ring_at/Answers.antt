@@ -51,7 +51,11 @@ returns-clause-does c = λ m w old.
     let codes = c.args.library.now in
     let place = c.args.place in
     let clock = c.args.clock in
-    let inside : Contents = record { objects = c.self.inside.objects.items; seats = c.self.inside.seats.items } in
+    let inside : Contents = record {
+      objects = c.self.inside.objects.items;
+      seats = c.self.inside.seats.items;
+      cards = c.self.inside.cards;
+    } in
     let st : Stands codes None clock inside w
     = subst (λ (g : Contents). Stands codes None clock g w) (sym c.self.view_is) old in
     let seat = c.index_mut-seat.result.now in
@@ -60,12 +64,13 @@ returns-clause-does c = λ m w old.
     let new : Contents = record {
       objects = c.self.inside.objects.items;
       seats = slice_set c.self.inside.seats.items place (record seat { script = c.ring_seat.new.seat });
+      cards = c.self.inside.cards;
     } in
     subst (λ (a : Told World). Tells c.ring_seat.result (λ v _. Stands codes None clock new v) c.args.out.now
     c.ring_seat.new.out a) (rings-same codes m None clock inside w st place)
     (changed codes None clock inside new w place seat c.ring_seat.new.seat
     (λ (k : Member). ring_to (rules_of codes) (place + 1) w.clock k.script)
-    st refl at refl refl
+    st refl at refl refl refl
     (λ k l. ring-script codes (rules_of codes) (place + 1) w.clock k.script l)
     c.ring_seat.result _ _
     (λ k j is.
@@ -92,7 +97,11 @@ returns-clause-seated c =
 pub returns-clause-outline : goal.returns-clause-outline
 returns-clause-outline c =
     let h : c.args.place < length c.self.inside.seats.items = search (rules, c.requires.place) in
-    let inside : Contents = record { objects = c.self.inside.objects.items; seats = c.self.inside.seats.items } in
+    let inside : Contents = record {
+      objects = c.self.inside.objects.items;
+      seats = c.self.inside.seats.items;
+      cards = c.self.inside.cards;
+    } in
     outline-seated inside c.args.place c.index_mut-seat.result.now _
     (read-at c.self.inside.seats.items c.args.place _ h c.index_mut-seat.ensures.value) refl
     ∙ ap outline_of c.self.view_is

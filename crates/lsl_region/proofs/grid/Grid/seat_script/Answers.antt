@@ -31,6 +31,14 @@ returns-clause-objects c =
     ap (λ (g : Contents). g.objects) (c.put_back.ensures.seats seat
     (ap (λ (g : Contents). slice_get g.seats c.args.seat) (sym c.self.view_is) ∙ at))
 
+pub returns-clause-cards : goal.returns-clause-cards
+returns-clause-cards c =
+    let h : c.args.seat < length c.self.inside.seats.items = search (rules, c.requires.seat) in
+    let seat = c.index.result.now in
+    let at = read-at c.self.inside.seats.items c.args.seat seat h c.index.ensures in
+    ap (λ (g : Contents). g.cards) (c.put_back.ensures.seats seat
+    (ap (λ (g : Contents). slice_get g.seats c.args.seat) (sym c.self.view_is) ∙ at))
+
 pub returns-clause-seated : goal.returns-clause-seated
 returns-clause-seated c =
     let h : c.args.seat < length c.self.inside.seats.items = search (rules, c.requires.seat) in

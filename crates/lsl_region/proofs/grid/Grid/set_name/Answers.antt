@@ -50,7 +50,11 @@ returns-clause-grid c = λ seat e.
 pub returns-clause-outline : goal.returns-clause-outline
 returns-clause-outline c =
     let h : c.args.place < length c.self.inside.seats.items = search (rules, c.requires) in
-    let inside : Contents = record { objects = c.self.inside.objects.items; seats = c.self.inside.seats.items } in
+    let inside : Contents = record {
+      objects = c.self.inside.objects.items;
+      seats = c.self.inside.seats.items;
+      cards = c.self.inside.cards;
+    } in
     let seat = c.index-seat.result.now in
     let object = c.index_mut.result.now in
     let o = object-read inside.objects inside.seats c.args.place _ object c.self.invariant.0
@@ -58,6 +62,7 @@ returns-clause-outline c =
     ap {A = List Primitive} {B = Contents} (λ prims. outline_of (record {
       objects = slice_set inside.objects seat.object (record object { prims = prims });
       seats = inside.seats;
+      cards = inside.cards;
     })) c.rename.ensures
     ∙ outline-named inside seat.object object seat.prim c.args.name o.0
     ∙ ap outline_of c.self.view_is

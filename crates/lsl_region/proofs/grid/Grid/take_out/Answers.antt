@@ -25,7 +25,11 @@ pub returns-clause-taken : goal.returns-clause-taken
 returns-clause-taken c = λ seat sits.
     let h : c.args.place < length c.self.inside.seats.items = search (rules, c.requires) in
     let at = read-at c.self.inside.seats.items c.args.place c.index_mut.result.now h c.index_mut.ensures.value in
-    let inside : Contents = record { objects = c.self.inside.objects.items; seats = c.self.inside.seats.items } in
+    let inside : Contents = record {
+      objects = c.self.inside.objects.items;
+      seats = c.self.inside.seats.items;
+      cards = c.self.inside.cards;
+    } in
     c.take.ensures.value
     ∙ ap (λ (z : Seat). z.script) (seat-is inside c.args.self.now c.args.place c.index_mut.result.now seat
     c.self.view_is at sits)
@@ -34,7 +38,11 @@ pub returns-clause-seats : goal.returns-clause-seats
 returns-clause-seats c = λ seat sits.
     let h : c.args.place < length c.self.inside.seats.items = search (rules, c.requires) in
     let at = read-at c.self.inside.seats.items c.args.place c.index_mut.result.now h c.index_mut.ensures.value in
-    let inside : Contents = record { objects = c.self.inside.objects.items; seats = c.self.inside.seats.items } in
+    let inside : Contents = record {
+      objects = c.self.inside.objects.items;
+      seats = c.self.inside.seats.items;
+      cards = c.self.inside.cards;
+    } in
     ap (λ (script : Option ScriptParts). with_seated inside c.args.place c.index_mut.result.now script)
     c.take.ensures.after
     ∙ ap (λ (x : Seat). with_seated inside c.args.place x None) (seat-is inside c.args.self.now c.args.place
@@ -44,7 +52,11 @@ returns-clause-seats c = λ seat sits.
 pub returns-clause-outline : goal.returns-clause-outline
 returns-clause-outline c =
     let h : c.args.place < length c.self.inside.seats.items = search (rules, c.requires) in
-    let inside : Contents = record { objects = c.self.inside.objects.items; seats = c.self.inside.seats.items } in
+    let inside : Contents = record {
+      objects = c.self.inside.objects.items;
+      seats = c.self.inside.seats.items;
+      cards = c.self.inside.cards;
+    } in
     outline-seated inside c.args.place c.index_mut.result.now _
     (read-at c.self.inside.seats.items c.args.place _ h c.index_mut.ensures.value) refl
     ∙ ap outline_of c.self.view_is

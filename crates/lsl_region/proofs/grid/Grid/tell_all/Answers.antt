@@ -45,6 +45,7 @@ loop-seat-preserved c =
     record {
       len = ap (λ (z : List Seat). length z) now ∙ length-set seats n told.value ∙ before.len;
       objects = c.tell_next-at.ensures.objects ∙ before.objects;
+      cards = c.tell_next-at.ensures.cards ∙ before.cards;
       seated = c.tell_next-at.ensures.seated;
       events = c.tell_next-at.ensures.events;
       enough = omega (arith, fewer, before.enough, left);

@@ -11,6 +11,7 @@ invariant-loop-seat l =
     record {
       len : length l.self.seats ≡ length l.fn.self.seats;
       objects : l.self.objects ≡ l.fn.self.objects;
+      cards : l.self.cards ≡ l.fn.self.cards;
       seated : AreSeated l.library l.self.seats;
       events : All (λ (e : Event). e ≡ region_changed) l.events.items;
       enough : count_from l.place l.seat l.self.seats ≤ length l.events.items;

@@ -19,7 +19,11 @@ pub returns-then-not-is_of-clause-seats : goal.returns-then-not-is_of-clause-sea
 returns-then-not-is_of-clause-seats c = λ seat sits.
     let h : c.args.seat < length c.self.inside.seats.items = search (rules, c.requires.seat) in
     let at = read-at c.self.inside.seats.items c.args.seat c.index.result.now h c.index.ensures in
-    let inside : Contents = record { objects = c.self.inside.objects.items; seats = c.self.inside.seats.items } in
+    let inside : Contents = record {
+      objects = c.self.inside.objects.items;
+      seats = c.self.inside.seats.items;
+      cards = c.self.inside.cards;
+    } in
     let is = seat-is inside c.args.self.now c.args.seat c.index.result.now seat c.self.view_is at sits in
     sym (ap (λ (t : Told Seat). slice_set c.args.self.now.seats c.args.seat t.value)
     (post-other c.args.library.now c.args.place region_changed (c.args.seat + 1) seat
@@ -30,7 +34,11 @@ pub returns-then-not-is_of-clause-entries : goal.returns-then-not-is_of-clause-e
 returns-then-not-is_of-clause-entries c = λ seat sits.
     let h : c.args.seat < length c.self.inside.seats.items = search (rules, c.requires.seat) in
     let at = read-at c.self.inside.seats.items c.args.seat c.index.result.now h c.index.ensures in
-    let inside : Contents = record { objects = c.self.inside.objects.items; seats = c.self.inside.seats.items } in
+    let inside : Contents = record {
+      objects = c.self.inside.objects.items;
+      seats = c.self.inside.seats.items;
+      cards = c.self.inside.cards;
+    } in
     let is = seat-is inside c.args.self.now c.args.seat c.index.result.now seat c.self.view_is at sits in
     sym (ap (λ (t : Told Seat). take c.args.at c.args.out.now ++ t.entries)
     (post-other c.args.library.now c.args.place region_changed (c.args.seat + 1) seat
@@ -41,7 +49,11 @@ pub returns-then-not-is_of-clause-at : goal.returns-then-not-is_of-clause-at
 returns-then-not-is_of-clause-at c = λ seat sits.
     let h : c.args.seat < length c.self.inside.seats.items = search (rules, c.requires.seat) in
     let at = read-at c.self.inside.seats.items c.args.seat c.index.result.now h c.index.ensures in
-    let inside : Contents = record { objects = c.self.inside.objects.items; seats = c.self.inside.seats.items } in
+    let inside : Contents = record {
+      objects = c.self.inside.objects.items;
+      seats = c.self.inside.seats.items;
+      cards = c.self.inside.cards;
+    } in
     let is = seat-is inside c.args.self.now c.args.seat c.index.result.now seat c.self.view_is at sits in
     let none = ap (λ (t : Told Seat). length t.entries)
     (post-other c.args.library.now c.args.place region_changed (c.args.seat + 1) seat
@@ -69,7 +81,11 @@ pub returns-clause-seats : goal.returns-clause-seats
 returns-clause-seats c = λ seat sits.
     let h : c.args.seat < length c.self.inside.seats.items = search (rules, c.requires.seat) in
     let at = read-at c.self.inside.seats.items c.args.seat c.index.result.now h c.index.ensures in
-    let inside : Contents = record { objects = c.self.inside.objects.items; seats = c.self.inside.seats.items } in
+    let inside : Contents = record {
+      objects = c.self.inside.objects.items;
+      seats = c.self.inside.seats.items;
+      cards = c.self.inside.cards;
+    } in
     let is = seat-is inside c.args.self.now c.args.seat c.index.result.now seat c.self.view_is at sits in
     let e = (All-pop (λ (e : Event). e ≡ region_changed) c.args.events.now.items c.pop.new.self.items
     (Some c.in-Some.event) c.in-Some.ensures.items c.requires.events).1 in
@@ -84,7 +100,11 @@ pub returns-clause-entries : goal.returns-clause-entries
 returns-clause-entries c = λ seat sits.
     let h : c.args.seat < length c.self.inside.seats.items = search (rules, c.requires.seat) in
     let at = read-at c.self.inside.seats.items c.args.seat c.index.result.now h c.index.ensures in
-    let inside : Contents = record { objects = c.self.inside.objects.items; seats = c.self.inside.seats.items } in
+    let inside : Contents = record {
+      objects = c.self.inside.objects.items;
+      seats = c.self.inside.seats.items;
+      cards = c.self.inside.cards;
+    } in
     let is = seat-is inside c.args.self.now c.args.seat c.index.result.now seat c.self.view_is at sits in
     let e = (All-pop (λ (e : Event). e ≡ region_changed) c.args.events.now.items c.pop.new.self.items
     (Some c.in-Some.event) c.in-Some.ensures.items c.requires.events).1 in
@@ -99,7 +119,11 @@ pub returns-clause-at : goal.returns-clause-at
 returns-clause-at c = λ seat sits.
     let h : c.args.seat < length c.self.inside.seats.items = search (rules, c.requires.seat) in
     let at = read-at c.self.inside.seats.items c.args.seat c.index.result.now h c.index.ensures in
-    let inside : Contents = record { objects = c.self.inside.objects.items; seats = c.self.inside.seats.items } in
+    let inside : Contents = record {
+      objects = c.self.inside.objects.items;
+      seats = c.self.inside.seats.items;
+      cards = c.self.inside.cards;
+    } in
     let is = seat-is inside c.args.self.now c.args.seat c.index.result.now seat c.self.view_is at sits in
     let e = (All-pop (λ (e : Event). e ≡ region_changed) c.args.events.now.items c.pop.new.self.items
     (Some c.in-Some.event) c.in-Some.ensures.items c.requires.events).1 in
@@ -114,7 +138,11 @@ pub returns-clause-left : goal.returns-clause-left
 returns-clause-left c = λ seat sits.
     let h : c.args.seat < length c.self.inside.seats.items = search (rules, c.requires.seat) in
     let at = read-at c.self.inside.seats.items c.args.seat c.index.result.now h c.index.ensures in
-    let inside : Contents = record { objects = c.self.inside.objects.items; seats = c.self.inside.seats.items } in
+    let inside : Contents = record {
+      objects = c.self.inside.objects.items;
+      seats = c.self.inside.seats.items;
+      cards = c.self.inside.cards;
+    } in
     let is = seat-is inside c.args.self.now c.args.seat c.index.result.now seat c.self.view_is at sits in
     let one = one-there (parts_in_seat c.args.place seat)
     (ap (λ (z : Seat). is_some (parts_in_seat c.args.place z)) (sym is) ∙ sym c.is_of.ensures ∙ c.if-not-is_of.false) in

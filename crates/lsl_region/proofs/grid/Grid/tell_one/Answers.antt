@@ -45,7 +45,11 @@ returns-clause-seats c = λ seat sits.
     let h : c.args.seat < length c.self.inside.seats.items = search (rules, c.requires.seat) in
     let to = c.index_mut-to.result.now in
     let at = read-at c.self.inside.seats.items c.args.seat to h c.index_mut-to.ensures.value in
-    let inside : Contents = record { objects = c.self.inside.objects.items; seats = c.self.inside.seats.items } in
+    let inside : Contents = record {
+      objects = c.self.inside.objects.items;
+      seats = c.self.inside.seats.items;
+      cards = c.self.inside.cards;
+    } in
     let is = seat-is inside c.args.self.now c.args.seat to seat c.self.view_is at sits in
     ap (λ (t : Seat). slice_set inside.seats c.args.seat t)
     (told-value c.args.library.now c.args.event c.number.result (c.args.seat + 1) c.post_in_seat-posted.result to seat
@@ -60,7 +64,11 @@ returns-clause-entries c = λ seat sits.
     let h : c.args.seat < length c.self.inside.seats.items = search (rules, c.requires.seat) in
     let to = c.index_mut-to.result.now in
     let at = read-at c.self.inside.seats.items c.args.seat to h c.index_mut-to.ensures.value in
-    let inside : Contents = record { objects = c.self.inside.objects.items; seats = c.self.inside.seats.items } in
+    let inside : Contents = record {
+      objects = c.self.inside.objects.items;
+      seats = c.self.inside.seats.items;
+      cards = c.self.inside.cards;
+    } in
     let is = seat-is inside c.args.self.now c.args.seat to seat c.self.view_is at sits in
     c.keep_drop.ensures.entries
     ∙ ap (λ (es : List Entry). take c.args.at c.args.out.now ++ es)
@@ -73,7 +81,11 @@ returns-clause-at c = λ seat sits.
     let h : c.args.seat < length c.self.inside.seats.items = search (rules, c.requires.seat) in
     let to = c.index_mut-to.result.now in
     let at = read-at c.self.inside.seats.items c.args.seat to h c.index_mut-to.ensures.value in
-    let inside : Contents = record { objects = c.self.inside.objects.items; seats = c.self.inside.seats.items } in
+    let inside : Contents = record {
+      objects = c.self.inside.objects.items;
+      seats = c.self.inside.seats.items;
+      cards = c.self.inside.cards;
+    } in
     let is = seat-is inside c.args.self.now c.args.seat to seat c.self.view_is at sits in
     c.keep_drop.ensures.at
     ∙ ap (λ (es : List Entry). c.args.at + length es)

@@ -50,15 +50,15 @@ loop-placed-preserved c =
     let popped = c.in-Some.ensures.items in
     let behind : c.len-in-Some.result ≡ length others = omega (arith, c.len-in-Some.ensures, c.pop.new.self.ok.0) in
     let now : placed_in c.thaw_object.new.self ≡ slice_set (placed_in grid) (length others) x =
-    c.thaw_object.ensures.parts ∙ ap (λ (k : ℕ). slice_set (placed_in grid) k x) behind in
+    c.in_ok-thaw_object.ensures.parts ∙ ap (λ (k : ℕ). slice_set (placed_in grid) k x) behind in
     record {
-      seated = c.thaw_object.ensures.seated;
-      home = c.thaw_object.ensures.home;
+      seated = c.in_ok-thaw_object.ensures.seated;
+      home = c.in_ok-thaw_object.ensures.home;
       valid = (all-last (IsPlaced codes) others x
           (subst (λ (z : List Placed). AllByRecursion (IsPlaced codes) z) popped before.valid)).0;
       shapes = ap (map placed_shape) now
           ∙ shapes-next c.loop-placed.objects.items others c.args.objects x grid popped before.whole before.shapes;
-      fixed = c.thaw_object.ensures.fixed ∙ before.fixed;
+      fixed = c.in_ok-thaw_object.ensures.fixed ∙ before.fixed;
       whole = ap (λ (z : List Placed). others ++ drop (length others) z) now
           ∙ whole-next c.loop-placed.objects.items others c.args.objects x grid popped before.whole before.shapes;
     }
