@@ -8,6 +8,7 @@ ghost use Rattle.lsl_world.specs.Stands.{size_of};
 use lsl_build::build;
 use lsl_code::Library;
 use lsl_lines::{Step, WorldFile, read_world};
+use lsl_notes::Cards;
 use lsl_ports::MemoryLink;
 use lsl_post::Entries;
 use lsl_text::{NoMemory, Refusal};
@@ -66,10 +67,10 @@ fn frozen_in(
     requires units { length units ≡ length file.now.files }
     requires others { length others ≡ length file.now.files }
 {
-    let mut world = World::start(alloc, file, units)?;
+    let mut world = World::start(alloc, file, units, Cards::new(alloc))?;
     steps_done(alloc, &mut world, file.steps.as_slice())?;
     let frozen = world.freeze()?;
-    match World::thaw(alloc, file, others, frozen.as_slice()) {
+    match World::thaw(alloc, file, others, Cards::new(alloc), frozen.as_slice()) {
         Ok(thawed) => {
             let again = thawed.freeze()?;
             Ok(Some((frozen, again)))
@@ -83,7 +84,7 @@ fn saves_in(alloc: Global, file: &WorldFile, units: Library) -> Result<u64, NoMe
     requires file { IsInRange file.now }
     requires units { length units ≡ length file.now.files }
 {
-    let mut world = World::start(alloc, file, units)?;
+    let mut world = World::start(alloc, file, units, Cards::new(alloc))?;
     steps_done(alloc, &mut world, file.steps.as_slice())?;
     Ok(world.saves())
 }

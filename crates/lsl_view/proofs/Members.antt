@@ -48,8 +48,8 @@ module _ (programs : List Program) (codes : List Code) (all : AreRunBy programs 
       ∙ ap (λ (zs : List ShownScript). shown_member programs m ∷ zs) rest
 
 pub views_are_of_the_source : ViewsAreOfTheSource
-views_are_of_the_source programs units file w runs named agrees =
-    let among = agreeing-among (rules_of programs) file w agrees.fixed in
-    let names = agreeing-names (rules_of programs) file w agrees.fixed in
+views_are_of_the_source programs units file cards w runs named agrees =
+    let among = agreeing-among (rules_of programs) file cards w agrees.fixed in
+    let names = agreeing-names (rules_of programs) file cards w agrees.fixed in
     ap (λ (ps : List ScriptParts). lines_of (shown_behind units (script_names file) 0 ps)) (scripts-are units w among)
     ∙ ap lines_of (members-shown programs units runs named (script_names file) [] w.members names agrees.lawful)

@@ -9,6 +9,7 @@ use Rattle.lsl_lines.specs.declared.file.ObjectLine.{ObjectLine}
 use Rattle.lsl_lines.specs.declared.file.PrimLine.{PrimLine}
 use Rattle.lsl_lines.specs.declared.file.ScriptLine.{ScriptLine}
 use Rattle.lsl_lines.specs.declared.file.WorldFile.{WorldFile}
+use Rattle.lsl_notes.specs.declared.cards.Notecard.{Notecard}
 use Rattle.lsl_script.specs.Rules.{Rules}
 use Rattle.lsl_region.specs.declared.grid.Seat.{Seat}
 use Rattle.lsl_region.specs.GridParts.{fixed_in, lasting}
@@ -97,10 +98,11 @@ names-told : (ms : List Member) → map (λ (s : Seat). s.name) (map (seat_of []
 names-told [] = refl
 names-told (m ∷ ms) = ap (λ (ns : List (List ℕ)). m.name ∷ ns) (names-told ms)
 
-module _ (r : Rules) (file : WorldFile) (w : World) (fixed : fixed_in w ≡ fixed_in (start r file)) where
+module _ (r : Rules) (file : WorldFile) (cards : List Notecard) (w : World)
+    (fixed : fixed_in w ≡ fixed_in (start r file cards)) where
   pub agreeing-among : Among 0 (length w.objects) (map object_of w.members)
   agreeing-among =
-      let first = start r file in
+      let first = start r file cards in
       let objects : map object_of w.members ≡ map object_of first.members =
       sym (objects-told w.members)
       ∙ ap (λ (g : Contents). map (λ (s : Seat). s.object) g.seats) fixed ∙ objects-told first.members in
@@ -112,6 +114,6 @@ module _ (r : Rules) (file : WorldFile) (w : World) (fixed : fixed_in w ≡ fixe
 
   pub agreeing-names : script_names file ≡ map name_of w.members
   agreeing-names =
-      let first = start r file in
+      let first = start r file cards in
       sym (start-names r 0 file.objects) ∙ sym (names-told first.members)
       ∙ ap (λ (g : Contents). map (λ (s : Seat). s.name) g.seats) (sym fixed) ∙ names-told w.members

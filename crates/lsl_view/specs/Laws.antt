@@ -5,6 +5,7 @@ use Rattle.lsl_code.specs.declared.woven_units.Woven.{Woven as Code}
 use Rattle.lsl_gen.specs.Programs.{generated_functions}
 use Rattle.lsl_weave.specs.Weaving.{woven_function}
 use Rattle.lsl_lines.specs.declared.file.WorldFile.{WorldFile}
+use Rattle.lsl_notes.specs.declared.cards.Notecard.{Notecard}
 use Rattle.lsl_region.specs.Worlds.{World}
 use Rattle.lsl_world.specs.Codes.{AreRunBy}
 use Rattle.lsl_world.specs.Frozen.{AgreesWith, parts_of_world}
@@ -21,6 +22,6 @@ CompiledCodeIsNamed =
 -- the file's names of scripts, are the lines of the world as its texts mean it
 abbrev pub ViewsAreOfTheSource : Type 0
 ViewsAreOfTheSource =
-    (programs : List Program) (units : List Code) (file : WorldFile) (w : World)
-    → AreRunBy programs units → AreNamedBy programs units → AgreesWith programs file w
+    (programs : List Program) (units : List Code) (file : WorldFile) (cards : List Notecard) (w : World)
+    → AreRunBy programs units → AreNamedBy programs units → AgreesWith programs file cards w
     → view_of_parts units (script_names file) (parts_of_world units w) ≡ view_of_world programs w

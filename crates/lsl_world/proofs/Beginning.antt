@@ -12,6 +12,7 @@ use Rattle.lsl_lines.specs.declared.file.PrimLine.{PrimLine}
 use Rattle.lsl_lines.specs.declared.file.ScriptLine.{ScriptLine}
 use Rattle.lsl_lines.specs.declared.file.WorldFile.{WorldFile}
 use Rattle.lsl_post.specs.Mailbox.{new_mailbox, posted}
+use Rattle.lsl_notes.specs.declared.cards.Notecard.{Notecard}
 use Rattle.lsl_script.specs.Codes.{Meant, rules_of}
 use Rattle.lsl_script.specs.Scripts.{Resting, Script, new_script, state_entry}
 use Rattle.lsl_region.specs.declared.objects.Linkset.{Linkset}
@@ -130,12 +131,14 @@ module _ (codes : List Code) (m : Meant codes) where
       (prims-fit object 0 x.prims it.files_there)
       (objects-fit (suc object) xs (all-rest (IsObjectOf (length codes)) x xs all))
 
-  pub starts : (file : WorldFile) (grid : Contents) → All (IsObjectOf (length codes)) file.objects
-      → grid.objects ≡ map object_of_line file.objects → grid.seats ≡ seats_of_objects codes 0 file.objects
-      → Stands codes None 0 grid (start m.rules file)
-  starts file grid all objects seats = record {
+  pub starts : (file : WorldFile) (cards : List Notecard) (grid : Contents)
+      → All (IsObjectOf (length codes)) file.objects → grid.objects ≡ map object_of_line file.objects
+      → grid.seats ≡ seats_of_objects codes 0 file.objects → grid.cards ≡ cards
+      → Stands codes None 0 grid (start m.rules file cards)
+  starts file cards grid all objects seats held = record {
     time = refl;
     objects = objects;
+    cards = held;
     seats = λ n.
         ap (λ xs. slice_get xs n) (seats ∙ ap (seats_of codes) (objects-same 0 file.objects all))
         ∙ slice_get-map (seat_of codes false) (members_of_objects m.rules 0 file.objects) n;

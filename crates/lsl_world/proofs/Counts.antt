@@ -1,15 +1,17 @@
--- No step but a crossing changes anything of a world's objects but their prims' names, or how many scripts it has.
+-- No step but a crossing changes anything of a world's objects but their stores and their prims' names, or how many
+-- scripts it has.
 use Rattle.std.proofs.Common.{◌≡◌, ℕ, zero, suc, ◌-◌, Bool, false, List, [], ◌∷◌, length, get_or, refl, ap}
 use Rattle.std.specs.Prelude.{Option, Some, None, map, max, min, slice_get, slice_set}
 use Rattle.std.proofs.Math.ListN.{length-set}
 use Rattle.lsl_running.specs.declared.host.Reply.{Reply}
 use Rattle.lsl_post.specs.declared.events.Event.{Event}
+use Rattle.lsl_post.specs.declared.parts.Pair.{Pair}
 use Rattle.lsl_post.specs.Told.{Told}
 use Rattle.lsl_script.specs.Rules.{Rules}
 use Rattle.lsl_script.specs.Scripts.{Script}
 use Rattle.lsl_region.specs.declared.objects.Linkset.{Linkset}
 use Rattle.lsl_region.specs.declared.objects.Primitive.{Primitive}
-use Rattle.lsl_region.specs.Answers.{with_mailed, with_name}
+use Rattle.lsl_region.specs.Answers.{with_mailed, with_name, with_store}
 use Rattle.lsl_region.specs.Grids.{without_names}
 use Rattle.lsl_region.specs.Posting.{post_all, post_where, ring_at}
 use Rattle.lsl_region.specs.Segments.{turn}
@@ -20,7 +22,7 @@ use Rattle.lsl_lines.specs.declared.file.Step.TheVariants.{Clock, Say, Touch, Ch
 use Rattle.lsl_world.proofs.Keeping.{IsKept, each-keeps, touch-keeps, turn-kept, until-keeps}
 use Rattle.lsl_world.specs.Steps.{next, round_or_last, rounds, turn_in}
 
--- the objects but for their prims' names, and how many scripts there are
+-- the objects but for their stores and their prims' names, and how many scripts there are
 abbrev pub outline : World → List Linkset × ℕ
 outline w = (map without_names w.objects, length w.members)
 
@@ -60,8 +62,15 @@ named-keeps objects k prim name =
     let o : Linkset = get_or objects k no_object in
     set-keeps without_names objects k (record o { prims = with_name o.prims prim name }) no_object
     (ap (λ (prims : List Primitive).
-    let named : Linkset = record { owner = o.owner; region = o.region; prims = prims; store = o.store } in named)
+    let named : Linkset = record { owner = o.owner; region = o.region; prims = prims; store = [] } in named)
     (named-nameless o.prims prim name))
+
+-- an object has another store
+store-keeps : (m : Member) (pairs : List Pair) (w : World) → outline (with_store w m pairs) ≡ outline w
+store-keeps m pairs w =
+    let o : Linkset = get_or w.objects m.object no_object in
+    ap (λ (os : List Linkset). let kept : List Linkset × ℕ = (os, length w.members) in kept)
+    (set-keeps without_names w.objects m.object (record o { store = pairs }) no_object refl)
 
 -- so a turn keeps it
 outline-kept : (place : ℕ) → IsKept outline place
@@ -71,6 +80,7 @@ outline-kept place = record {
   left = post-keeps;
   named = λ m name w. ap (λ (os : List Linkset). let kept : List Linkset × ℕ = (os, length w.members) in kept)
       (named-keeps w.objects m.object m.prim name);
+  store = store-keeps;
 }
 
 pub turn-keeps : (r : Rules) (most place : ℕ) (w : World) → outline (turn r most place w).value.0 ≡ outline w

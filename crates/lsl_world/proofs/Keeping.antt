@@ -5,20 +5,23 @@ use Rattle.std.specs.Ordering.{int_eq}
 use Rattle.lsl_value.specs.declared.names.BuiltinId.{BuiltinId}
 use Rattle.lsl_value.specs.declared.names.BuiltinId.TheVariants as builtin
 use Rattle.lsl_value.specs.declared.tagged.Value.{Value}
+use Rattle.lsl_table.specs.declared.calls.Home.{Home}
+use Rattle.lsl_table.specs.declared.calls.Home.TheVariants as home
 use Rattle.lsl_running.specs.declared.host.Reply.{Reply}
 use Rattle.lsl_running.specs.Results.{Whole, Ends, Asks, Cut, Fails, Lost}
 use Rattle.lsl_post.specs.declared.entries.Voice.TheVariants as voice
 use Rattle.lsl_post.specs.declared.events.Event.{Event}
+use Rattle.lsl_post.specs.declared.parts.Pair.{Pair}
 use Rattle.lsl_post.specs.Told.{Told, as_value, each, next_to, quiet, until}
 use Rattle.lsl_script.specs.Handlers.{given}
 use Rattle.lsl_script.specs.Rules.{Rules}
 use Rattle.lsl_script.specs.Scripts.{Doing, Resting, Flying, Stopped, Flight, Script}
-use Rattle.lsl_region.specs.Answers.{answer, answer_in, answer_of, integer_at, nothing, says, mailed, renamed, text_at, with_mailed}
+use Rattle.lsl_region.specs.Answers.{acted, answer, answer_at_home, answer_in, card_asked, change_by, home_of, integer_at, line_asked, nothing, pairs_by, queried, says, mailed, renamed, stored, text_at, told_by, with_mailed, with_store}
 use Rattle.lsl_region.specs.Arrivals.{touch_prim}
 use Rattle.lsl_region.specs.Posting.{post_all}
 use Rattle.lsl_region.specs.Segments.{asked, came, flown, flown_in, is_ready_at, segment, turn, whole_in_flight}
 use Rattle.lsl_region.specs.Texts.{cut_name}
-use Rattle.lsl_region.specs.Worlds.{Member, World, at_member}
+use Rattle.lsl_region.specs.Worlds.{Member, World, at_member, object_of}
 
 module _ {X Y : Type 0} (P : X → Y) where
   pub each-keeps : (thing : ℕ → X → Told X) → ((n : ℕ) (x : X) → P (thing n x).value ≡ P x)
@@ -48,39 +51,61 @@ module _ {Y : Type 0} (P : World → Y) (left : IsLeft P) where
   touch-keeps r object None key name w = refl
   touch-keeps r object (Some prim) key name w = left r _ _ _ ∙ left r _ _ _ ∙ left r _ _ w
 
--- what becomes of the script at this place leaves it as well, and a prim's name does
+-- what becomes of the script at this place leaves it as well, and so do a prim's name and an object's store
 pub record IsKept {Y : Type 0} (P : World → Y) (place : ℕ) : Type 0 where
   pub own : (thing : Member → Told Script) (w : World) → P (at_member place thing w).value ≡ P w
   pub mail : (m : Member) (done : Script × Reply) (w : World) → P (with_mailed place m done w).value.0 ≡ P w
   pub left : IsLeft P
   pub named : (m : Member) (name : List ℕ) (w : World) → P (renamed w m name) ≡ P w
+  pub store : (m : Member) (pairs : List Pair) (w : World) → P (with_store w m pairs) ≡ P w
 
 module _ {Y : Type 0} (P : World → Y) (r : Rules) (place : ℕ) (keeps : IsKept P place) where
-  answer_of-keeps : (m : Member) (id : BuiltinId) (args : List Value) (w : World)
-      → P (answer_of r place m id args w).value.0 ≡ P w
-  answer_of-keeps m builtin.Say args w = keeps.left r _ _ w
-  answer_of-keeps m builtin.Whisper args w = keeps.left r _ _ w
-  answer_of-keeps m builtin.Shout args w = keeps.left r _ _ w
-  answer_of-keeps m builtin.RegionSay args w = go (int_eq (integer_at 0 args) (pos 0)) where
+  -- the scripts of an object are told, if of anything
+  told-keeps : (object : ℕ) (e : Option Event) (w : World) → P (told_by r object e w).value ≡ P w
+  told-keeps object None w = refl
+  told-keeps object (Some e) w = keeps.left r _ e w
+
+  stored-keeps : (m : Member) (id : BuiltinId) (args : List Value) (w : World)
+      → P (stored r m id args w).value.0 ≡ P w
+  stored-keeps m id args w =
+      let pairs = (object_of w m).store in
+      told-keeps m.object (change_by id args pairs).told (with_store w m (pairs_by id args pairs))
+      ∙ keeps.store m (pairs_by id args pairs) w
+
+  -- a script is told of a notecard
+  queried-keeps : (card : Option ℕ) (asked : Option (Option ℕ)) (w : World)
+      → P (queried r place card asked w).value.0 ≡ P w
+  queried-keeps None asked w = refl
+  queried-keeps (Some card) None w = refl
+  queried-keeps (Some card) (Some line) w = keeps.own _ w
+
+  acted-keeps : (m : Member) (id : BuiltinId) (args : List Value) (w : World)
+      → P (acted r place m id args w).value.0 ≡ P w
+  acted-keeps m builtin.Say args w = keeps.left r _ _ w
+  acted-keeps m builtin.Whisper args w = keeps.left r _ _ w
+  acted-keeps m builtin.Shout args w = keeps.left r _ _ w
+  acted-keeps m builtin.RegionSay args w = go (int_eq (integer_at 0 args) (pos 0)) where
     go : (b : Bool) → P (if b then quiet (w, nothing) else says r place voice.Region m args w).value.0 ≡ P w
     go true = refl
     go false = keeps.left r _ _ w
-  answer_of-keeps m builtin.Listen args w = keeps.mail m (mailed builtin.Listen args w.clock m.script) w
-  answer_of-keeps m builtin.ListenRemove args w = keeps.mail m (mailed builtin.ListenRemove args w.clock m.script) w
-  answer_of-keeps m builtin.ListenControl args w =
-      keeps.mail m (mailed builtin.ListenControl args w.clock m.script) w
-  answer_of-keeps m builtin.SetTimerEvent args w =
-      keeps.mail m (mailed builtin.SetTimerEvent args w.clock m.script) w
-  answer_of-keeps m builtin.Sleep args w = keeps.mail m (mailed builtin.Sleep args w.clock m.script) w
-  answer_of-keeps m builtin.MessageLinked args w = keeps.left r _ _ w
-  answer_of-keeps m builtin.SetObjectName args w = keeps.named m (cut_name (text_at 0 args)) w
-  answer_of-keeps m id args w = refl
+  acted-keeps m builtin.MessageLinked args w = keeps.left r _ _ w
+  acted-keeps m builtin.SetObjectName args w = keeps.named m (cut_name (text_at 0 args)) w
+  acted-keeps m id args w = refl
+
+  home-keeps : (h : Home) (m : Member) (id : BuiltinId) (args : List Value) (w : World)
+      → P (answer_at_home h r place m id args w).value.0 ≡ P w
+  home-keeps home.Mail m id args w = keeps.mail m (mailed id args w.clock m.script) w
+  home-keeps home.Sleep m id args w = keeps.mail m (mailed id args w.clock m.script) w
+  home-keeps home.Act m id args w = acted-keeps m id args w
+  home-keeps home.Store m id args w = stored-keeps m id args w
+  home-keeps home.Note m id args w = queried-keeps (card_asked w m args) (line_asked id args) w
+  home-keeps h m id args w = refl
 
   answer-keeps : (id : BuiltinId) (args : List Value) (w : World) → P (answer r place id args w).value.0 ≡ P w
   answer-keeps id args w = go (slice_get w.members place) where
     go : (o : Option Member) → P (answer_in r place o id args w).value.0 ≡ P w
     go None = refl
-    go (Some m) = answer_of-keeps m id args w
+    go (Some m) = home-keeps (home_of id) m id args w
 
   asked-keeps : (most : ℕ) (f : Flight) (w : World) → P (asked r most place f w).value ≡ P w
   unfolding asked

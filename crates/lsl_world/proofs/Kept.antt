@@ -70,6 +70,7 @@ later programs world w clock is timely = record {
   stands = record {
     time = refl;
     objects = is.stands.objects;
+    cards = is.stands.cards;
     seats = is.stands.seats;
     scripts = is.stands.scripts;
   };

@@ -14,12 +14,13 @@ use Rattle.lsl_lines.specs.Checks.{◌>>=◌}
 use Rattle.lsl_lines.specs.Forms.{form_of}
 use Rattle.lsl_lines.specs.Lines.{lines_of}
 use Rattle.lsl_lines.specs.Reading as reading
-use Rattle.lsl_lines.specs.Reading.{at_last, begun, file_added, has_link, has_number, is_objects, is_steps, keys_behind, knows, line_added, new_object, new_prim, new_script, place_of, prims_of, read_line, with_prim, with_script, with_script_at_last}
+use Rattle.lsl_lines.specs.Reading.{at_last, begun, file_added, has_link, has_number, is_objects, is_steps, keys_behind, knows, line_added, new_note, new_object, new_prim, new_script, place_of, prims_of, read_line, with_prim, with_script, with_script_at_last}
 use Rattle.lsl_lines.specs.Words.{is_skipped}
 use Rattle.lsl_lines.specs.World.{IsWorld, fault_at, file_of, world_from, world_of}
 use Rattle.lsl_lines.specs.declared.faults.FileFault.{FileFault}
 use Rattle.lsl_lines.specs.declared.faults.FileKind.{FileKind}
 use Rattle.lsl_lines.specs.declared.faults.FileKind.TheVariants.{BadLine, Unknown, TooMany, ClockBack, TooLong}
+use Rattle.lsl_lines.specs.declared.file.NoteLine.{NoteLine}
 use Rattle.lsl_lines.specs.declared.file.ObjectLine.{ObjectLine}
 use Rattle.lsl_lines.specs.declared.file.PrimLine.{PrimLine}
 use Rattle.lsl_lines.specs.declared.file.ScriptLine.{ScriptLine}
@@ -27,11 +28,11 @@ use Rattle.lsl_lines.specs.declared.file.Step.{Step as TheStep}
 use Rattle.lsl_lines.specs.declared.file.Step.TheVariants.{Clock, Say, Touch, Changed as ChangedStep, Rez, Go, Run, Pause, Cross}
 use Rattle.lsl_lines.specs.declared.file.WorldFile.{WorldFile}
 use Rattle.lsl_lines.specs.declared.forms.Line.{Line}
-use Rattle.lsl_lines.specs.declared.forms.Line.TheVariants.{Object, Prim, Script, Begin, Step, End}
+use Rattle.lsl_lines.specs.declared.forms.Line.TheVariants.{Object, Prim, Script, Note, Begin, Step, End}
 use Rattle.lsl_lines.specs.declared.reading.Part.{Part}
 use Rattle.lsl_lines.specs.declared.reading.Part.TheVariants.{Objects, Steps, Ended}
 use Rattle.lsl_lines.specs.declared.reading.Reading.{Reading}
-use Rattle.lsl_world.specs.Ranges.{HasFile, HasKey, IsObjectOf, IsInRange}
+use Rattle.lsl_world.specs.Ranges.{HasCard, HasFile, HasKey, IsObjectOf, IsInRange}
 use Rattle.lsl_world.specs.Sizes.{HasLink, HasNumber, IsStepOf, Size, scripts_of, scripts_of_prims}
 use Rattle.lsl_world.proofs.Passing.{Changed, Fit, at_last-fit, fit-cond, fit-fault_unless, fit-ok, fit-then}
 use Rattle.lsl_world.proofs.StepRanges.{LineFits, StepFits, form-fits}
@@ -48,6 +49,8 @@ record Sound (r : Reading) : Type 0 where
   counted : r.scripts ≡ scripts_of r.objects
   few_scripts : r.scripts ≤ 256
   objects_fit : All (IsObjectOf (length r.files)) r.objects
+  few_notes : length r.notes ≤ 256
+  notes_fit : All (HasCard (length r.cards)) r.notes
   steps_fit : All (IsStepOf (size_in r.objects r.scripts)) r.steps
   no_steps : is_objects r.part ≡ true → r.steps ≡ []
 
@@ -70,6 +73,10 @@ object-later files more o le h = record {
 objects-later : (files more : ℕ) (objects : List ObjectLine) → files ≤ more → All (IsObjectOf files) objects
     → All (IsObjectOf more) objects
 objects-later files more objects le h = λ k d lt. object-later files more _ le (h k d lt)
+
+notes-later : (cards more : ℕ) (notes : List NoteLine) → cards ≤ more → All (HasCard cards) notes
+    → All (HasCard more) notes
+notes-later cards more notes le h = λ k d lt. let it = h k d lt in omega arith
 
 -- an object with its root alone
 new-fits : (files : ℕ) (key name owner region : List ℕ) → is_valid_key key ≡ true
@@ -140,6 +147,8 @@ step-sound r step clock s steps f h = record {
   counted = s.counted;
   few_scripts = s.few_scripts;
   objects_fit = s.objects_fit;
+  few_notes = s.few_notes;
+  notes_fit = s.notes_fit;
   steps_fit = All-push (IsStepIn r.objects r.scripts) r.steps step s.steps_fit (known-fits r step f h);
   no_steps = λ e. absurd (not_both r.part e steps);
 }
@@ -167,6 +176,8 @@ objects-sound r objects scripts files keys s part few counted few_scripts fit = 
   counted = counted;
   few_scripts = few_scripts;
   objects_fit = fit;
+  few_notes = s.few_notes;
+  notes_fit = s.notes_fit;
   steps_fit = fits-none (size_in objects scripts) r.steps (s.no_steps part);
   no_steps = s.no_steps;
 }
@@ -363,6 +374,26 @@ script-sound name file r s =
     (omega (arith, lt)) (files-grown r.files file)
     (λ from to m h. script-fits script (length (file_added r.files file)) from to (file-there r.files file) m h))))
 
+-- one notecard more
+note-sound : (name file : List ℕ) (r : Reading) → Sound r → Fit Sound (reading.note_added name file r)
+note-sound name file r s =
+    fit-fault_unless Sound (is_objects r.part && nat_lt 0 (length r.objects)) BadLine _ (λ part.
+    fit-fault_unless Sound (nat_lt (length r.notes) 256) TooMany _ (λ few.
+    let note = new_note r name file in
+    let lt = ltb-true (length r.notes) 256 few in
+    record {
+      few_objects = s.few_objects;
+      counted = s.counted;
+      few_scripts = s.few_scripts;
+      objects_fit = s.objects_fit;
+      few_notes = omega (arith, lt, length-append r.notes (note ∷ []));
+      notes_fit = All-push (HasCard (length (file_added r.cards file))) r.notes note
+          (notes-later (length r.cards) (length (file_added r.cards file)) r.notes (files-grown r.cards file) s.notes_fit)
+          (file-there r.cards file);
+      steps_fit = s.steps_fit;
+      no_steps = s.no_steps;
+    }))
+
 -- another part of the file
 part-sound : (r : Reading) (part : Part) → Sound r → is_objects part ≡ false → Sound (record r { part = part })
 part-sound r part s e = record {
@@ -370,6 +401,8 @@ part-sound r part s e = record {
   counted = s.counted;
   few_scripts = s.few_scripts;
   objects_fit = s.objects_fit;
+  few_notes = s.few_notes;
+  notes_fit = s.notes_fit;
   steps_fit = s.steps_fit;
   no_steps = λ f. absurd (apart (sym e ∙ f));
 }
@@ -381,6 +414,7 @@ line-sound : (line : Line) (r : Reading) → Sound r → LineFits line → Fit S
 line-sound (Object key name owner region) r s f = object-sound key name owner region r s f
 line-sound (Prim key name) r s f = prim-sound key name r s f
 line-sound (Script name file) r s f = script-sound name file r s
+line-sound (Note name file) r s f = note-sound name file r s
 line-sound Begin r s f =
     fit-fault_unless Sound (is_objects r.part) BadLine (Ok (record r { part = Steps })) (λ e. part-sound r Steps s refl)
 line-sound (Step step) r s f = step_added-sound r step s f
@@ -402,6 +436,8 @@ file-sound line Ended r file s e = subst IsInRange (ap value e) (record {
   few_objects = s.few_objects;
   few_scripts = subst (λ n. n ≤ 256) s.counted s.few_scripts;
   objects_fit = s.objects_fit;
+  few_notes = s.few_notes;
+  notes_fit = s.notes_fit;
   steps_fit = subst (λ n. All (IsStepOf (size_in r.objects n)) r.steps) s.counted s.steps_fit;
 })
   where
@@ -431,6 +467,8 @@ begun-sound = record {
   counted = refl;
   few_scripts = lit≤ tt;
   objects_fit = All-nil (IsObjectOf 0);
+  few_notes = lit≤ tt;
+  notes_fit = All-nil (HasCard 0);
   steps_fit = All-nil (IsStepOf (size_in [] 0));
   no_steps = λ e. refl;
 }

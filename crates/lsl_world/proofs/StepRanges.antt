@@ -15,7 +15,7 @@ use Rattle.lsl_lines.specs.declared.faults.FileKind.TheVariants.{BadLine}
 use Rattle.lsl_lines.specs.declared.file.Step.{Step as TheStep}
 use Rattle.lsl_lines.specs.declared.file.Step.TheVariants.{Clock, Say, Touch, Changed, Rez, Go, Run, Pause, Cross}
 use Rattle.lsl_lines.specs.declared.forms.Line.{Line}
-use Rattle.lsl_lines.specs.declared.forms.Line.TheVariants.{Object, Prim, Script, Begin, Step, End}
+use Rattle.lsl_lines.specs.declared.forms.Line.TheVariants.{Object, Prim, Script, Note, Begin, Step, End}
 use Rattle.lsl_lines.specs.declared.words.Word.{Word}
 use Rattle.lsl_world.proofs.Passing.{Fit, IsKey, fit-cond, fit-fault_unless, fit-ok, fit-then, key-fits, natural-fits}
 
@@ -36,6 +36,7 @@ LineFits (Step step) = StepFits step
 LineFits (Object k n o r) = IsKey k
 LineFits (Prim k n) = IsKey k
 LineFits (Script n f) = Unit {0}
+LineFits (Note n f) = Unit {0}
 LineFits Begin = Unit {0}
 LineFits End = Unit {0}
 
@@ -175,6 +176,12 @@ script-fits (a ∷ []) = tt
 script-fits (label ∷ file ∷ []) = then-line (name_of label) _ (λ n. then-line (name_of file) _ (λ f. tt))
 script-fits (a ∷ b ∷ c ∷ more) = tt
 
+note-fits : (fields : List Word) → Fit LineFits (forms.note_of fields)
+note-fits [] = tt
+note-fits (a ∷ []) = tt
+note-fits (label ∷ file ∷ []) = then-line (name_of label) _ (λ n. then-line (name_of file) _ (λ f. tt))
+note-fits (a ∷ b ∷ c ∷ more) = tt
+
 alone-fits : (fields : List Word) (form : Line) → LineFits form → Fit LineFits (forms.alone_of fields form)
 alone-fits [] form h = h
 alone-fits (a ∷ more) form h = tt
@@ -185,10 +192,11 @@ row-fits word fields =
     fit-cond LineFits (bytes_eq word (codes "object")) _ _ (object-fits fields)
     (fit-cond LineFits (bytes_eq word (codes "prim")) _ _ (prim-fits fields)
     (fit-cond LineFits (bytes_eq word (codes "script")) _ _ (script-fits fields)
+    (fit-cond LineFits (bytes_eq word (codes "note")) _ _ (note-fits fields)
     (fit-cond LineFits (bytes_eq word (codes "begin")) _ _ (alone-fits fields Begin tt)
     (fit-cond LineFits (bytes_eq word (codes "end")) _ _ (alone-fits fields End tt)
     (fit-then LineFits (step_of word fields) (λ step. Ok (Step step))
-    (λ step e. fit-ok StepFits (step_of word fields) step e (step-fits word fields)))))))
+    (λ step e. fit-ok StepFits (step_of word fields) step e (step-fits word fields))))))))
 
 words-fit : (words : List Word) → Fit LineFits (form_of_words words)
 words-fit [] = tt

@@ -5,6 +5,7 @@ use Rattle.lsl_ports.specs.Trips.{Trip}
 use Rattle.lsl_post.specs.Told.{Told, each_of, lead, next_to}
 use Rattle.lsl_lines.specs.declared.file.Step.{Step}
 use Rattle.lsl_lines.specs.declared.file.WorldFile.{WorldFile}
+use Rattle.lsl_notes.specs.declared.cards.Notecard.{Notecard}
 use Rattle.lsl_script.specs.Rules.{Rules}
 use Rattle.lsl_region.specs.Journeys.{came_back}
 use Rattle.lsl_region.specs.Worlds.{World}
@@ -67,8 +68,9 @@ all-taken r [] trips w = refl
 all-taken r (step ∷ steps) trips w = step-taken r step steps trips w (λ left v. all-taken r steps left v)
 
 -- so the entries of a file's run are those of its steps by the trips
-pub journal-travels : (r : Rules) (file : WorldFile) (trips : List Trip)
-    → run_entries r file trips
-    ≡ (travel r file.steps trips (start r file)).entries ++ homes (travel r file.steps trips (start r file)).value
-journal-travels r file trips =
-    ap (λ (a : Told World). a.entries ++ homes a.value) (sym (all-taken r file.steps trips (start r file)))
+pub journal-travels : (r : Rules) (file : WorldFile) (cards : List Notecard) (trips : List Trip)
+    → run_entries r file cards trips
+    ≡ (travel r file.steps trips (start r file cards)).entries
+    ++ homes (travel r file.steps trips (start r file cards)).value
+journal-travels r file cards trips =
+    ap (λ (a : Told World). a.entries ++ homes a.value) (sym (all-taken r file.steps trips (start r file cards)))

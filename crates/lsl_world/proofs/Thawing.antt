@@ -10,6 +10,7 @@ use Rattle.lsl_image.specs.World.{world}
 use Rattle.lsl_image.proofs.ImageLemmas.{image-one}
 use Rattle.lsl_lines.specs.declared.file.WorldFile.{WorldFile}
 use Rattle.lsl_post.specs.Timing.{latest_clock}
+use Rattle.lsl_notes.specs.declared.cards.Notecard.{Notecard}
 use Rattle.lsl_tree.specs.Program.{Program}
 use Rattle.lsl_script.specs.Codes.{rules_of as rules_of_codes}
 use Rattle.lsl_region.specs.declared.grid.Seat.{Seat}
@@ -42,30 +43,30 @@ parts-are programs memory w is =
     λ i. record { clock = time i; objects = placed_in (grid i) }
 
 -- the grid of a file at its start
-module _ (codes : List Code) (file : WorldFile) (grid : Contents)
+module _ (codes : List Code) (file : WorldFile) (cards : List Notecard) (grid : Contents)
     (objects : grid.objects ≡ map object_of_line file.objects)
-    (seats : grid.seats ≡ seats_of_objects codes 0 file.objects)
+    (seats : grid.seats ≡ seats_of_objects codes 0 file.objects) (held : grid.cards ≡ cards)
     (all : All (IsObjectOf (length codes)) file.objects) where
   pub start-home : AreHome grid.seats
   start-home = subst (λ (ss : List Seat). AreHome ss) (sym seats)
       (members-home codes (members_of_objects (rules_of_codes codes) 0 file.objects))
 
   module _ (programs : List Program) (runs : AreRunBy programs codes) where
-    begins : Stands codes None 0 grid (start (rules_of programs) file)
-    begins = starts codes (meant programs codes runs) file grid all objects seats
+    begins : Stands codes None 0 grid (start (rules_of programs) file cards)
+    begins = starts codes (meant programs codes runs) file cards grid all objects seats held
 
-    pub start-fixed : fixed_of grid ≡ fixed_in (start (rules_of programs) file)
+    pub start-fixed : fixed_of grid ≡ fixed_in (start (rules_of programs) file cards)
     start-fixed =
-        ap fixed_of (contents-is codes 0 grid (start (rules_of programs) file) begins)
-        ∙ fixed-is codes (start (rules_of programs) file)
+        ap fixed_of (contents-is codes 0 grid (start (rules_of programs) file cards) begins)
+        ∙ fixed-is codes (start (rules_of programs) file cards)
 
     -- a script of a world that agrees with the file is of one of the units
-    known-at : (w : SourceWorld) (n : ℕ) (m : Member) → fixed_in w ≡ fixed_in (start (rules_of programs) file)
+    known-at : (w : SourceWorld) (n : ℕ) (m : Member) → fixed_in w ≡ fixed_in (start (rules_of programs) file cards)
         → slice_get w.members n ≡ Some m → m.script.code < length codes
     known-at w n m fixed at = go (slice_get first.members n) refl
       where
         first : SourceWorld
-        first = start (rules_of programs) file
+        first = start (rules_of programs) file cards
 
         same : Some (seat_of [] true m) ≡ option_map (seat_of [] true) (slice_get first.members n)
         same =
@@ -83,7 +84,7 @@ module _ (codes : List Code) (file : WorldFile) (grid : Contents)
             let code : m.script.code ≡ one.script.code = ap (λ (s : Seat). s.unit) seat in
             subst (λ (k : ℕ). k < length codes) (sym code) (begins.scripts n one e).known
 
-    pub agreeing-scripts : (w : SourceWorld) → AgreesWith programs file w → AreScripts codes w
+    pub agreeing-scripts : (w : SourceWorld) → AgreesWith programs file cards w → AreScripts codes w
     agreeing-scripts w agrees n m at =
         let known = known-at w n m agrees.fixed at in
         record {
@@ -93,7 +94,7 @@ module _ (codes : List Code) (file : WorldFile) (grid : Contents)
 
     -- the grid that has the parts which the bytes stand for is that of the world
     pub thawed-is : (w : SourceWorld) (thawed : Contents) (parts : WorldParts) (bytes : List ℕ) (memory : World)
-        → AgreesWith programs file w → IsImageIn codes file parts bytes
+        → AgreesWith programs file cards w → IsImageIn codes file parts bytes
         → IsImageIn codes file (parts_of_world codes w) bytes
         → ((v : SourceWorld) → AreScripts codes v → fixed_in v ≡ fixed_of grid
         → placed_in (contents_of codes v) ≡ parts.objects → Stands codes None v.clock thawed v)

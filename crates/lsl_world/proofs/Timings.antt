@@ -65,6 +65,7 @@ others-kept place = record {
   mail = λ m done w. set-others place w.members (record m { script = done.0 });
   left = λ r test e w. ap (λ (ts : List Timing). slice_set ts place stopped) (post-timings r test e w);
   named = λ m name w. refl;
+  store = λ m pairs w. refl;
 }
 
 pub turn-others : (r : Rules) (most place : ℕ) (w : World)

@@ -10,6 +10,7 @@ use Rattle.lsl_lines.specs.declared.file.ObjectLine.{ObjectLine}
 use Rattle.lsl_lines.specs.declared.file.PrimLine.{PrimLine}
 use Rattle.lsl_lines.specs.declared.file.ScriptLine.{ScriptLine}
 use Rattle.lsl_lines.specs.declared.file.WorldFile.{WorldFile}
+use Rattle.lsl_notes.specs.declared.cards.Notecard.{Notecard}
 use Rattle.lsl_tree.specs.Program.{Program}
 use Rattle.lsl_script.specs.Lawful.{Lawful}
 use Rattle.lsl_region.specs.GridParts.{fixed_in, placed_in}
@@ -48,8 +49,10 @@ shapes_of_file file = map shape_of_line file.objects
 abbrev pub IsImageIn : List Code → WorldFile → WorldParts → List ℕ → Type 0
 IsImageIn codes file parts bytes = WorldImage (shapes_of_file file) codes parts bytes
 
--- A world that agrees with a file, whose scripts are these programs: its owners, its prims' keys, and of each script its
--- prim, its name and its program are the file's. A handler in flight is one that its script can have.
-pub record AgreesWith (programs : List Program) (file : WorldFile) (w : SourceWorld) : Type 0 where
-  pub fixed : fixed_in w ≡ fixed_in (start (rules_of programs) file)
-  pub lawful : (n : ℕ) (m : Member) → slice_get w.members n ≡ Some m → Lawful (rules_of programs) m.script
+-- A world that agrees with a file, whose scripts are these programs, and with these notecards: its owners, its prims'
+-- keys, and of each script its prim, its name and its program are the file's. A handler in flight is one that its
+-- script can have.
+pub record AgreesWith (programs : List Program) (file : WorldFile) (cards : List Notecard) (w : SourceWorld) : Type 0
+  where
+    pub fixed : fixed_in w ≡ fixed_in (start (rules_of programs) file cards)
+    pub lawful : (n : ℕ) (m : Member) → slice_get w.members n ≡ Some m → Lawful (rules_of programs) m.script

@@ -3,6 +3,7 @@
 use Rattle.std.specs.Prelude.{◌≡◌, true, ℕ, ◌<◌, ◌≤◌, List, length, All}
 use Rattle.lsl_value.specs.Key.{is_valid_key}
 use Rattle.lsl_lines.specs.World.{IsWorld}
+use Rattle.lsl_lines.specs.declared.file.NoteLine.{NoteLine}
 use Rattle.lsl_lines.specs.declared.file.ObjectLine.{ObjectLine}
 use Rattle.lsl_lines.specs.declared.file.PrimLine.{PrimLine}
 use Rattle.lsl_lines.specs.declared.file.ScriptLine.{ScriptLine}
@@ -12,6 +13,10 @@ use Rattle.lsl_world.specs.Sizes.{IsStepOf, scripts_of, size_of_file}
 -- a script's file is one of so many
 abbrev pub HasFile : ℕ → ScriptLine → Type 0
 HasFile files script = script.file < files
+
+-- a notecard's file is one of so many
+abbrev pub HasCard : ℕ → NoteLine → Type 0
+HasCard cards note = note.file < cards
 
 -- a prim's key is a valid one
 abbrev pub HasKey : PrimLine → Type 0
@@ -28,6 +33,8 @@ pub record IsInRange (file : WorldFile) : Type 0 where
   pub few_objects : length file.objects ≤ 64
   pub few_scripts : scripts_of file.objects ≤ 256
   pub objects_fit : All (IsObjectOf (length file.files)) file.objects
+  pub few_notes : length file.notes ≤ 256
+  pub notes_fit : All (HasCard (length file.cards)) file.notes
   pub steps_fit : All (IsStepOf (size_of_file file)) file.steps
 
 -- a good file is of this kind

@@ -3,6 +3,7 @@ use Rattle.std.specs.Prelude.{ℕ, suc, List, [], ◌∷◌, ◌++◌}
 use Rattle.lsl_code.specs.declared.woven_units.Woven.{Woven as Code}
 use Rattle.lsl_lines.specs.declared.file.Step.{Step}
 use Rattle.lsl_lines.specs.declared.file.WorldFile.{WorldFile}
+use Rattle.lsl_notes.specs.declared.cards.Notecard.{Notecard}
 use Rattle.lsl_ports.specs.Trips.{Trip}
 use Rattle.lsl_post.specs.declared.entries.Entry.{Entry}
 use Rattle.lsl_post.specs.declared.entries.Entry.TheVariants as entry
@@ -25,21 +26,22 @@ abbrev pub homes : World → List Entry
 homes w = homes_from 1 w.objects
 
 -- the steps of a file that are kept, by the trips that were made
-abbrev pub kept_of : Rules → WorldFile → List Trip → List Step
-kept_of r file trips = kept_steps (regions_of (start r file)) file.steps trips
+abbrev pub kept_of : Rules → WorldFile → List Notecard → List Trip → List Step
+kept_of r file cards trips = kept_steps (regions_of (start r file cards)) file.steps trips
 
--- the entries of a file's run, where its scripts mean this: of the steps that are kept, and then where each object is
-abbrev pub run_entries : Rules → WorldFile → List Trip → List Entry
-run_entries r file trips =
-    let all = reference r (kept_of r file trips) (start r file) in
+-- the entries of a file's run with these notecards, where its scripts mean this: of the steps that are kept, and then
+-- where each object is
+abbrev pub run_entries : Rules → WorldFile → List Notecard → List Trip → List Entry
+run_entries r file cards trips =
+    let all = reference r (kept_of r file cards trips) (start r file cards) in
     all.entries ++ homes all.value
 
 -- the journal of a file whose scripts are these programs
-abbrev pub journal_of : List Program → WorldFile → List Trip → List Entry
-journal_of programs file trips = run_entries (rules_of programs) file trips
+abbrev pub journal_of : List Program → WorldFile → List Notecard → List Trip → List Entry
+journal_of programs file cards trips = run_entries (rules_of programs) file cards trips
 
 -- the images that its run sends, in order, where these are its scripts' units
-abbrev pub images_sent : List Code → List Program → WorldFile → List Trip → List (List ℕ)
-images_sent codes programs file trips =
+abbrev pub images_sent : List Code → List Program → WorldFile → List Notecard → List Trip → List (List ℕ)
+images_sent codes programs file cards trips =
     let r = rules_of programs in
-    images codes r file.steps trips (start r file)
+    images codes r file.steps trips (start r file cards)

@@ -4,6 +4,7 @@ use Rattle.lsl_lines.specs.declared.file.ObjectLine.{ObjectLine}
 use Rattle.lsl_lines.specs.declared.file.PrimLine.{PrimLine}
 use Rattle.lsl_lines.specs.declared.file.ScriptLine.{ScriptLine}
 use Rattle.lsl_lines.specs.declared.file.WorldFile.{WorldFile}
+use Rattle.lsl_notes.specs.declared.cards.Notecard.{Notecard}
 use Rattle.lsl_script.specs.Rules.{Rules}
 use Rattle.lsl_script.specs.Scripts.{new_script}
 use Rattle.lsl_region.specs.declared.objects.Linkset.{Linkset}
@@ -42,9 +43,11 @@ members_of_objects r object [] = []
 members_of_objects r object (line ∷ lines) =
     members_of_prims r object 0 line.prims ++ members_of_objects r (suc object) lines
 
-abbrev pub start : Rules → WorldFile → World
-start r file = record {
+-- with these notecards, whose prims are numbered from 1 on through all objects
+abbrev pub start : Rules → WorldFile → List Notecard → World
+start r file cards = record {
   clock = 0;
   objects = map object_of_line file.objects;
   members = members_of_objects r 0 file.objects;
+  cards = cards;
 }

@@ -28,6 +28,7 @@ use crate::world::World;
 use lsl_code::Library;
 use lsl_image::{ImageFault, WorldParts, read_world, write_world};
 use lsl_lines::WorldFile;
+use lsl_notes::Cards;
 use lsl_region::{Grid, Pause};
 use lsl_text::{NoMemory, Refusal};
 use std::alloc::Global;
@@ -60,13 +61,14 @@ impl World {
         })
     }
 
-    /// The world of which these bytes are an image in version 1 or 2, with the objects and scripts of a file, or the first
-    /// fault of the bytes. The units are those of the file's scripts, in the order of its `files`. Pausing is off. It takes
-    /// memory for the objects and scripts.
+    /// The world of which these bytes are an image in version 1 or 2, with the objects and scripts of a file, or the
+    /// first fault of the bytes. The units are those of the file's scripts, in the order of its `files`, and the
+    /// notecards are those of its prims. Pausing is off. It takes memory for the objects and scripts.
     pub fn thaw(
         alloc: Global,
         file: &WorldFile,
         units: Library,
+        cards: Cards,
         bytes: &[u8],
     ) -> Result<World, Refusal<ImageFault>>
         requires file { IsInRange file.now }
@@ -78,18 +80,18 @@ impl World {
         ensures only { (fault : AFault) → WorldFirst (shapes_of_file file.now) units bytes.now fault
             → RefusesWith result fault }
         ensures of { (programs : List Program) (w : SourceWorld) → AreRunBy programs units
-            → AgreesWith programs file.now w → IsImageIn units file.now (parts_of_world units w) bytes.now
+            → AgreesWith programs file.now cards w → IsImageIn units file.now (parts_of_world units w) bytes.now
             → IfOk result (λ world. IsOf programs world w) }
         ensures fixed { (programs : List Program) → AreRunBy programs units
-            → IfOk result (λ world. fixed_of world.grid ≡ fixed_in (start (rules_of programs) file.now)) }
+            → IfOk result (λ world. fixed_of world.grid ≡ fixed_in (start (rules_of programs) file.now cards)) }
         ensures size { IfOk result (λ world. size_of world ≡ size_of_file file.now) }
         ensures sound { IfOk result IsSound }
         ensures saves { IfOk result (λ world. Counts world.pause no_tally) }
         ensures units { IfOk result (λ world. world.units ≡ units) }
     {
-        let mut grid = grid_of(alloc, file.objects.as_slice(), &units)?;
+        let mut grid = grid_of(alloc, file.objects.as_slice(), &units, cards)?;
         let WorldParts { clock, objects } = read_parts(alloc, &grid, &units, bytes)?;
-        grid.thaw(objects, &units);
+        grid.thaw(objects, &units)?;
         let due = index_of(alloc, &grid)?;
         Ok(World {
             alloc,
@@ -102,8 +104,8 @@ impl World {
     }
 }
 
-// The parts of which these bytes are an image, where the objects have the shapes of the grid's, or the first fault of the
-// bytes.
+// The parts of which these bytes are an image, where the objects have the shapes of the grid's, or the first fault of
+// the bytes.
 fn read_parts(
     alloc: Global,
     grid: &Grid,

@@ -7,30 +7,35 @@ ghost use Rattle.lsl_world.specs.Seats.{HasPrim, seat_of_line, seats_of_objects,
 ghost use Rattle.lsl_world.specs.Sizes.{scripts_of};
 ghost use Rattle.lsl_world.specs.Starts.{object_of_line, prim_of_line};
 
-use lsl_code::{Library, Sequence};
+use lsl_code::Library;
+use lsl_data::Store;
 use lsl_lines::{ObjectLine, PrimLine, ScriptLine};
+use lsl_notes::Cards;
 use lsl_region::{Grid, Linkset, Prims, Seat};
 use lsl_script::Script;
 use lsl_text::NoMemory;
 use std::alloc::Global;
 
-/// The grid of these objects, each script at its start.
+/// The grid of these objects and notecards, each script at its start.
 pub(crate) fn grid_of(
     alloc: Global,
     lines: &[ObjectLine],
     units: &Library,
+    cards: Cards,
 ) -> Result<Grid, NoMemory>
     requires few_objects { length lines.now ≤ 64 }
     requires few_scripts { scripts_of lines.now ≤ 256 }
     requires fit { All (IsObjectOf (length units.now)) lines.now }
     ensures objects { IfOk result (λ grid. grid.objects ≡ map object_of_line lines.now) }
     ensures seats { IfOk result (λ grid. grid.seats ≡ seats_of_objects units.now 0 lines.now) }
+    ensures cards { IfOk result (λ grid. grid.cards ≡ cards) }
     ensures seated { IfOk result (λ grid. AreSeated units.now grid.seats) }
 {
     let mut grid = Grid::new(alloc);
     for line in lines {
         add_object(alloc, &mut grid, line, units)?;
     }
+    grid.hold(cards);
     Ok(grid)
 }
 
@@ -137,7 +142,7 @@ fn linkset(alloc: Global, line: &ObjectLine) -> Result<Linkset, NoMemory>
         owner: line.owner.copy()?,
         region: line.region.copy()?,
         prims: prims(alloc, line.prims.as_slice())?,
-        store: Sequence::new(alloc),
+        store: Store::new(alloc),
     })
 }
 

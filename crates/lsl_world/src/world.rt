@@ -18,6 +18,7 @@ use crate::starting::grid_of;
 use crate::timers::index_of;
 use lsl_code::Library;
 use lsl_lines::WorldFile;
+use lsl_notes::Cards;
 use lsl_post::{Due, Entries};
 use lsl_region::{Grid, Pause};
 use lsl_text::NoMemory;
@@ -37,18 +38,23 @@ pub struct World {
 
 impl World {
     /// The world of a file before its first step. The units are those of its scripts' files, in the order of the
-    /// file's `files`. It takes memory for the objects and scripts.
-    pub fn start(alloc: Global, file: &WorldFile, units: Library) -> Result<World, NoMemory>
+    /// file's `files`, and the notecards those of its prims. It takes memory for the objects and scripts.
+    pub fn start(
+        alloc: Global,
+        file: &WorldFile,
+        units: Library,
+        cards: Cards,
+    ) -> Result<World, NoMemory>
         requires file { IsInRange file.now }
         requires units { length units ≡ length file.now.files }
         ensures of { (programs : List Program) → AreRunBy programs units
-            → IfOk result (λ world. IsOf programs world (start (rules_of programs) file.now)) }
+            → IfOk result (λ world. IsOf programs world (start (rules_of programs) file.now cards)) }
         ensures size { IfOk result (λ world. size_of world ≡ size_of_file file.now) }
         ensures sound { IfOk result IsSound }
         ensures saves { IfOk result (λ world. Counts world.pause no_tally) }
         ensures units { IfOk result (λ world. world.units ≡ units) }
     {
-        let grid = grid_of(alloc, file.objects.as_slice(), &units)?;
+        let grid = grid_of(alloc, file.objects.as_slice(), &units, cards)?;
         let due = index_of(alloc, &grid)?;
         Ok(World {
             alloc,

@@ -14,7 +14,8 @@ ghost use Rattle.lsl_world_tests.specs.Stops.{IsAfter};
 use crate::events::text;
 use crate::hosting::{first_of, stopped, tell_call, unit_of};
 use crate::images::KEY;
-use lsl_code::{Library, Sequence, Woven};
+use lsl_code::{Library, Woven};
+use lsl_data::Store;
 use lsl_post::Entries;
 use lsl_region::{Grid, Linkset, Prims, Seat};
 use lsl_running::{Call, Reply};
@@ -49,7 +50,7 @@ fn door(alloc: Global) -> Result<Linkset, NoMemory>
         owner: Text::new(),
         region: Text::new(),
         prims,
-        store: Sequence::new(alloc),
+        store: Store::new(alloc),
     })
 }
 

@@ -11,10 +11,10 @@ pub returns-clause-of : goal.returns-clause-of
 returns-clause-of c = λ programs runs.
     let codes = c.args.units in
     let file = c.args.file.now in
-    let begins = starts codes (meant programs codes runs) file c.in_ok-grid.grid
+    let begins = starts codes (meant programs codes runs) file c.args.cards c.in_ok-grid.grid
     (subst (λ (n : ℕ). All (IsObjectOf n) file.objects) (sym c.requires.units) c.requires.file.objects_fit)
     (c.in_ok-grid.ensures.objects ∙ ap (map object_of_line) c.as_slice.ensures)
-    (c.in_ok-grid.ensures.seats ∙ ap (seats_of_objects codes 0) c.as_slice.ensures) in
+    (c.in_ok-grid.ensures.seats ∙ ap (seats_of_objects codes 0) c.as_slice.ensures) c.in_ok-grid.ensures.cards in
     record {
       runs = runs;
       seated = c.in_ok-grid.ensures.seated;

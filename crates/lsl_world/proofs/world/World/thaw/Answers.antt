@@ -50,9 +50,9 @@ returns-in_err-clock-clause-only c = λ fault first.
 pub thaw-requires-clause-home : goal.thaw-requires-clause-home
 thaw-requires-clause-home c =
     let file = c.args.file.now in
-    start-home c.args.units file c.in_ok-grid.grid
+    start-home c.args.units file c.args.cards c.in_ok-grid.grid
     (c.in_ok-grid.ensures.objects ∙ ap (map object_of_line) c.as_slice.ensures)
-    (c.in_ok-grid.ensures.seats ∙ ap (seats_of_objects c.args.units 0) c.as_slice.ensures)
+    (c.in_ok-grid.ensures.seats ∙ ap (seats_of_objects c.args.units 0) c.as_slice.ensures) c.in_ok-grid.ensures.cards
     (subst (λ (n : ℕ). All (IsObjectOf n) file.objects) (sym c.requires.units) c.requires.file.objects_fit)
 
 pub thaw-requires-clause-valid : goal.thaw-requires-clause-valid
@@ -81,7 +81,7 @@ returns-clause-found c =
     let image : IsImageIn c.args.units file parts c.args.bytes.now =
     subst (λ (s : List Shape). WorldImage s c.args.units parts c.args.bytes.now) known c.in_ok-clock.ensures.found in
     subst (λ (objects : List Placed). IsImageIn c.args.units file (record { clock = parts.clock; objects = objects })
-    c.args.bytes.now) (sym c.thaw.ensures.parts) image
+    c.args.bytes.now) (sym c.in_ok-thaw.ensures.parts) image
 
 pub returns-clause-every : goal.returns-clause-every
 returns-clause-every c = λ parts image.
@@ -91,7 +91,7 @@ returns-clause-every c = λ parts image.
     ap {A = List Placed} {B = WorldParts} (λ objects. record {
       clock = c.in_ok-clock.field-0.clock;
       objects = objects;
-    }) c.thaw.ensures.parts
+    }) c.in_ok-thaw.ensures.parts
     ∙ c.in_ok-clock.ensures.every parts
     (subst (λ (s : List Shape). WorldImage s c.args.units parts c.args.bytes.now) (sym known) image)
 
@@ -117,22 +117,23 @@ returns-clause-of c = λ programs w runs agrees wanted.
     let valid = image-valid (shapes_of_file file) codes parts c.args.bytes.now
     (keys-known (length file.files) file.objects c.requires.file.objects_fit) image in
     let timely : parts.clock ≤ latest_clock = omega (arith, valid.clock) in
-    thawed-is codes file c.in_ok-grid.grid objects seats all programs runs w c.thaw.new.self parts c.args.bytes.now _
-    agrees image wanted c.thaw.ensures.stands c.thaw.ensures.seated timely (λ clock v stands. c.in_ok-due.ensures.exact codes clock v stands) refl refl refl
+    thawed-is codes file c.args.cards c.in_ok-grid.grid objects seats c.in_ok-grid.ensures.cards all programs runs w
+    c.thaw.new.self parts c.args.bytes.now _ agrees image wanted c.in_ok-thaw.ensures.stands
+    c.in_ok-thaw.ensures.seated timely (λ clock v stands. c.in_ok-due.ensures.exact codes clock v stands) refl refl refl
 
 pub returns-clause-fixed : goal.returns-clause-fixed
 returns-clause-fixed c = λ programs runs.
     let file = c.args.file.now in
-    c.thaw.ensures.fixed
-    ∙ start-fixed c.args.units file c.in_ok-grid.grid
+    c.in_ok-thaw.ensures.fixed
+    ∙ start-fixed c.args.units file c.args.cards c.in_ok-grid.grid
     (c.in_ok-grid.ensures.objects ∙ ap (map object_of_line) c.as_slice.ensures)
-    (c.in_ok-grid.ensures.seats ∙ ap (seats_of_objects c.args.units 0) c.as_slice.ensures)
+    (c.in_ok-grid.ensures.seats ∙ ap (seats_of_objects c.args.units 0) c.as_slice.ensures) c.in_ok-grid.ensures.cards
     (subst (λ (n : ℕ). All (IsObjectOf n) file.objects) (sym c.requires.units) c.requires.file.objects_fit) programs
     runs
 
 pub returns-clause-size : goal.returns-clause-size
 returns-clause-size c =
-    fixed-size c.thaw.new.self c.in_ok-grid.grid c.thaw.ensures.fixed
+    fixed-size c.thaw.new.self c.in_ok-grid.grid c.in_ok-thaw.ensures.fixed
     ∙ sized c.args.units c.args.file.now c.in_ok-grid.grid
     (c.in_ok-grid.ensures.objects ∙ ap (map object_of_line) c.as_slice.ensures)
     (c.in_ok-grid.ensures.seats ∙ ap (seats_of_objects c.args.units 0) c.as_slice.ensures)
@@ -149,7 +150,7 @@ returns-clause-sound c =
     let valid = image-valid (shapes_of_file file) c.args.units parts c.args.bytes.now
     (keys-known (length file.files) file.objects c.requires.file.objects_fit) image in
     record {
-      seated = c.thaw.ensures.seated;
+      seated = c.in_ok-thaw.ensures.seated;
       timely = omega (arith, valid.clock);
       numbered = c.in_ok-due.ensures.numbered;
     }
