@@ -6,7 +6,7 @@ use Rattle.lsl_text.specs.Quoted.{quoted}
 use Rattle.lsl_ports.specs.Growth.{Grew}
 use Rattle.lsl_top.specs.declared.status.Status.{Status}
 use Rattle.lsl_top.specs.declared.status.Status.TheVariants.{Ok, Usage, BadWorld, BadScript}
-use Rattle.lsl_top.specs.declared.status.Status.TheVariants.{ReadFault, WriteFault, BadImage, NoMemory}
+use Rattle.lsl_top.specs.declared.status.Status.TheVariants.{ReadFault, WriteFault, BadImage, NoMemory, BadNote}
 
 -- what a status means, as a line
 abbrev pub meaning_of : Status → List ℕ
@@ -20,6 +20,7 @@ meaning_of ReadFault = codes "it, or a file that is named in it or beside it, ca
 meaning_of WriteFault = codes "standard output took no more, and is cut short (lsl: status 5)\n"
 meaning_of BadImage = codes "not a frozen form of that world; standard output has the fault (lsl: status 6)\n"
 meaning_of NoMemory = codes "there isn't memory enough (lsl: status 7)\n"
+meaning_of BadNote = codes "a notecard isn't one; standard output has the fault (lsl: status 8)\n"
 
 -- the words of the command weren't given
 abbrev pub no_words : List ℕ

@@ -31,6 +31,7 @@ fn meaning(status: Status) -> &'static str
         Status::BadImage =>
             "not a frozen form of that world; standard output has the fault (lsl: status 6)\n",
         Status::NoMemory => "there isn't memory enough (lsl: status 7)\n",
+        Status::BadNote => "a notecard isn't one; standard output has the fault (lsl: status 8)\n",
     }
 }
 

@@ -123,10 +123,10 @@ codes-read : (read texts : List (List ℕ)) (programs : List Program) (codes : L
 codes-read read texts programs codes h a has =
     subst (λ (z : List (List ℕ)). AreCodesOf z codes) (accepted-same read texts programs h a) has
 
-pub plays-read : (grade : Grade) (from : World) (trips : List Trip) (play : Play) (read texts : List (List ℕ))
-    (text : List ℕ) (answer : Answer) → AllZip IsReadOf read texts → PlaysTexts grade from trips play read text answer
-    → PlaysTexts grade from trips play texts text answer
-plays-read grade from trips play read texts text answer h (inl (programs, codes, accepted, has, e)) =
+pub plays-read : (grade : Grade) (from : World) (trips : List Trip) (play : Play) (read texts notes : List (List ℕ))
+    (text : List ℕ) (answer : Answer) → AllZip IsReadOf read texts
+    → PlaysTexts grade from trips play read notes text answer → PlaysTexts grade from trips play texts notes text answer
+plays-read grade from trips play read texts notes text answer h (inl (programs, codes, accepted, has, e)) =
     inl (
       programs,
       codes,
@@ -134,7 +134,7 @@ plays-read grade from trips play read texts text answer h (inl (programs, codes,
       codes-read read texts programs codes h accepted has,
       e,
     )
-plays-read grade from trips play read texts text answer h (inr (name, fault, first, e)) =
+plays-read grade from trips play read texts notes text answer h (inr (name, fault, first, e)) =
     inr (
       name,
       fault,
@@ -147,8 +147,8 @@ plays-read grade from trips play read texts text answer h (inr (name, fault, fir
     )
 
 -- a world that fits the texts fits what was read of them
-pub from-read : (play : Play) (read texts : List (List ℕ)) (text : List ℕ) (from : World) → AllZip IsReadOf read texts
-    → IsFromTexts play texts text from → IsFromTexts play read text from
-from-read play read texts text from h fits programs codes accepted has =
+pub from-read : (play : Play) (read texts notes : List (List ℕ)) (text : List ℕ) (from : World)
+    → AllZip IsReadOf read texts → IsFromTexts play texts notes text from → IsFromTexts play read notes text from
+from-read play read texts notes text from h fits programs codes accepted has =
     fits programs codes (accepted-read read texts programs h accepted)
     (codes-read read texts programs codes h accepted has)

@@ -15,7 +15,7 @@ use Rattle.lsl_top.specs.Pieces.{Piece}
 use Rattle.lsl_top.specs.Ports.{Concludes, Finishes, IsOwn, Log, Ports, Serves, Wire, Writes, status_after, unread_status}
 use Rattle.lsl_top.specs.Promise.{IsBegun, IsWhole, KeepsTo}
 use Rattle.lsl_top.specs.declared.status.Status.{Status}
-use Rattle.lsl_top.specs.declared.status.Status.TheVariants.{Ok, Usage, BadWorld, BadScript, ReadFault, WriteFault, BadImage, NoMemory}
+use Rattle.lsl_top.specs.declared.status.Status.TheVariants.{Ok, Usage, BadWorld, BadScript, ReadFault, WriteFault, BadImage, NoMemory, BadNote}
 use Rattle.lsl_top.specs.declared.writing.Trouble.{Trouble}
 use Rattle.lsl_top.specs.declared.writing.Trouble.TheVariants.{WriteFault as WriteTrouble, NoMemory as MemoryTrouble}
 use Rattle.lsl_top.proofs.Written.{rose-later}
@@ -30,6 +30,7 @@ keeps-as IsOne IsOther Ok trips old new f k = (k.0, f Written k.0 k.1, k.2, k.3)
 keeps-as IsOne IsOther BadWorld trips old new f k = (k.0, f Written k.0 k.1, k.2, k.3)
 keeps-as IsOne IsOther BadScript trips old new f k = (k.0, f Written k.0 k.1, k.2, k.3)
 keeps-as IsOne IsOther BadImage trips old new f k = (k.0, f Written k.0 k.1, k.2, k.3)
+keeps-as IsOne IsOther BadNote trips old new f k = (k.0, f Written k.0 k.1, k.2, k.3)
 keeps-as IsOne IsOther WriteFault trips old new f k = (k.0, f Due k.0 k.1, k.2)
 keeps-as IsOne IsOther NoMemory trips old new f (inl e) = inl e
 keeps-as IsOne IsOther NoMemory trips old new f (inr k) = inr (k.0, f Due k.0 k.1, k.2)
@@ -54,6 +55,7 @@ own-keeps IsAnswer answer trips old new Ok own e is whole = (answer, is, e, whol
 own-keeps IsAnswer answer trips old new BadWorld own e is whole = (answer, is, e, whole)
 own-keeps IsAnswer answer trips old new BadScript own e is whole = (answer, is, e, whole)
 own-keeps IsAnswer answer trips old new BadImage own e is whole = (answer, is, e, whole)
+own-keeps IsAnswer answer trips old new BadNote own e is whole = (answer, is, e, whole)
 own-keeps IsAnswer answer trips old new Usage own e is whole = absurd own
 own-keeps IsAnswer answer trips old new ReadFault own e is whole = absurd own
 own-keeps IsAnswer answer trips old new WriteFault own e is whole = absurd own

@@ -7,7 +7,10 @@ use Rattle.lsl_ports.specs.Trips.{Trip}
 use Rattle.lsl_value.specs.declared.names.BuiltinId.{BuiltinId}
 use Rattle.lsl_value.specs.declared.names.BuiltinId.TheVariants as builtin
 use Rattle.lsl_value.specs.declared.tagged.Value.{Value}
+use Rattle.lsl_table.specs.declared.calls.Home.{Home}
+use Rattle.lsl_table.specs.declared.calls.Home.TheVariants as home
 use Rattle.lsl_running.specs.Results.{Whole, Ends, Asks, Cut, Fails, Lost}
+use Rattle.lsl_post.specs.declared.parts.Pair.{Pair}
 use Rattle.lsl_post.specs.declared.entries.Voice.TheVariants as voice
 use Rattle.lsl_post.specs.declared.events.Event.{Event}
 use Rattle.lsl_post.specs.Listens.{Standing}
@@ -21,7 +24,7 @@ use Rattle.lsl_script.specs.Scripts.{Doing, Resting, Flying, Stopped, Flight, Sc
 use Rattle.lsl_region.specs.declared.grid.Seat.{Seat}
 use Rattle.lsl_region.specs.declared.objects.Linkset.{Linkset}
 use Rattle.lsl_region.specs.declared.objects.Primitive.{Primitive}
-use Rattle.lsl_region.specs.Answers.{answer, answer_in, answer_of, integer_at, listen_asked, listened_script, nothing, says, mailed, text_at, with_mailed, with_name}
+use Rattle.lsl_region.specs.Answers.{acted, answer, answer_at_home, answer_in, card_asked, change_by, home_of, integer_at, line_asked, listen_asked, listened_script, nothing, pairs_by, queried, says, mailed, stored, text_at, told_by, with_mailed, with_name, with_store}
 use Rattle.lsl_region.specs.Arrivals.{touch_prim}
 use Rattle.lsl_region.specs.GridParts.{fixed_in, lasting}
 use Rattle.lsl_region.specs.Grids.{Contents, seat_of}
@@ -40,7 +43,7 @@ abbrev seated : Member → Seat
 seated m = seat_of [] true m
 
 abbrev with_seats : World → List Seat → Contents
-with_seats w seats = record { objects = map lasting w.objects; seats = seats }
+with_seats w seats = record { objects = map lasting w.objects; seats = seats; cards = w.cards }
 
 -- a member with another script of the same code
 same-seat : (m : Member) (s : Script) → s.code ≡ m.script.code → seated (record m { script = s }) ≡ seated m
@@ -146,7 +149,7 @@ named-keeps objects k prim name =
     (named-nameless o.prims prim name))
 
 abbrev with_objects : World → List Linkset → Contents
-with_objects w objects = record { objects = objects; seats = map seated w.members }
+with_objects w objects = record { objects = objects; seats = map seated w.members; cards = w.cards }
 
 module _ (r : Rules) (place : ℕ) (m : Member) (w : World) (at : slice_get w.members place ≡ Some m) where
   mailed-keeps : (id : BuiltinId) (args : List Value)
@@ -157,24 +160,51 @@ module _ (r : Rules) (place : ℕ) (m : Member) (w : World) (at : slice_get w.me
       (map-set_same seated w.members place m (record m { script = done.0 }) at
       (same-seat m done.0 (mailed-code id args w.clock m.script)))
 
-  answer_of-keeps : (id : BuiltinId) (args : List Value) → fixed_in (answer_of r place m id args w).value.0 ≡ fixed_in w
-  answer_of-keeps builtin.Say args = post-keeps r _ _ w
-  answer_of-keeps builtin.Whisper args = post-keeps r _ _ w
-  answer_of-keeps builtin.Shout args = post-keeps r _ _ w
-  answer_of-keeps builtin.RegionSay args = go (int_eq (integer_at 0 args) (pos 0)) where
+  -- the object has another store, and its scripts are told, if of anything
+  told-keeps : (object : ℕ) (e : Option Event) (v : World) → fixed_in (told_by r object e v).value ≡ fixed_in v
+  told-keeps object None v = refl
+  told-keeps object (Some e) v = post-keeps r _ e v
+
+  store-keeps : (pairs : List Pair) → fixed_in (with_store w m pairs) ≡ fixed_in w
+  store-keeps pairs =
+      let o : Linkset = get_or w.objects m.object no_object in
+      ap (with_objects w) (set-keeps lasting w.objects m.object (record o { store = pairs }) no_object refl)
+
+  stored-keeps : (id : BuiltinId) (args : List Value) → fixed_in (stored r m id args w).value.0 ≡ fixed_in w
+  stored-keeps id args =
+      let pairs = (get_or w.objects m.object no_object).store in
+      told-keeps m.object (change_by id args pairs).told (with_store w m (pairs_by id args pairs))
+      ∙ store-keeps (pairs_by id args pairs)
+
+  -- the script is told of a notecard
+  queried-keeps : (card : Option ℕ) (asked : Option (Option ℕ))
+      → fixed_in (queried r place card asked w).value.0 ≡ fixed_in w
+  queried-keeps None asked = refl
+  queried-keeps (Some card) None = refl
+  queried-keeps (Some card) (Some line) = member-keeps place _ w (λ m. refl)
+
+  acted-keeps : (id : BuiltinId) (args : List Value) → fixed_in (acted r place m id args w).value.0 ≡ fixed_in w
+  acted-keeps builtin.Say args = post-keeps r _ _ w
+  acted-keeps builtin.Whisper args = post-keeps r _ _ w
+  acted-keeps builtin.Shout args = post-keeps r _ _ w
+  acted-keeps builtin.RegionSay args = go (int_eq (integer_at 0 args) (pos 0)) where
     go : (b : Bool)
         → fixed_in (if b then quiet (w, nothing) else says r place voice.Region m args w).value.0 ≡ fixed_in w
     go true = refl
     go false = post-keeps r _ _ w
-  answer_of-keeps builtin.Listen args = mailed-keeps builtin.Listen args
-  answer_of-keeps builtin.ListenRemove args = mailed-keeps builtin.ListenRemove args
-  answer_of-keeps builtin.ListenControl args = mailed-keeps builtin.ListenControl args
-  answer_of-keeps builtin.SetTimerEvent args = mailed-keeps builtin.SetTimerEvent args
-  answer_of-keeps builtin.Sleep args = mailed-keeps builtin.Sleep args
-  answer_of-keeps builtin.MessageLinked args = post-keeps r _ _ w
-  answer_of-keeps builtin.SetObjectName args =
+  acted-keeps builtin.MessageLinked args = post-keeps r _ _ w
+  acted-keeps builtin.SetObjectName args =
       ap (with_objects w) (named-keeps w.objects m.object m.prim (cut_name (text_at 0 args)))
-  answer_of-keeps id args = refl
+  acted-keeps id args = refl
+
+  home-keeps : (h : Home) (id : BuiltinId) (args : List Value)
+      → fixed_in (answer_at_home h r place m id args w).value.0 ≡ fixed_in w
+  home-keeps home.Mail id args = mailed-keeps id args
+  home-keeps home.Sleep id args = mailed-keeps id args
+  home-keeps home.Act id args = acted-keeps id args
+  home-keeps home.Store id args = stored-keeps id args
+  home-keeps home.Note id args = queried-keeps (card_asked w m args) (line_asked id args)
+  home-keeps h id args = refl
 
 answer-keeps : (r : Rules) (place : ℕ) (id : BuiltinId) (args : List Value) (w : World)
     → fixed_in (answer r place id args w).value.0 ≡ fixed_in w
@@ -182,7 +212,7 @@ answer-keeps r place id args w = go (slice_get w.members place) refl where
   go : (o : Option Member) → slice_get w.members place ≡ o
       → fixed_in (answer_in r place o id args w).value.0 ≡ fixed_in w
   go None e = refl
-  go (Some m) e = answer_of-keeps r place m w e id args
+  go (Some m) e = home-keeps r place m w e (home_of id) id args
 
 asked-keeps : (r : Rules) (most place : ℕ) (f : Flight) (w : World) → fixed_in (asked r most place f w).value ≡ fixed_in w
 unfolding asked

@@ -9,6 +9,7 @@ use Rattle.lsl_image.specs.declared.parts.WorldParts.{WorldParts}
 use Rattle.lsl_image.specs.Images.{WorldImage}
 use Rattle.lsl_image.specs.Valid.{shapes_of}
 use Rattle.lsl_lines.specs.declared.file.WorldFile.{WorldFile}
+use Rattle.lsl_notes.specs.declared.cards.Notecard.{Notecard}
 use Rattle.lsl_tree.specs.Program.{Program}
 use Rattle.lsl_region.specs.GridParts.{fixed_in}
 use Rattle.lsl_region.specs.Grids.{Contents}
@@ -49,26 +50,31 @@ frozen-well codes programs memory w image units is same parts stands fits = reco
   bytes = subst IsBytes same fits;
 }
 
-module _ (codes : List Code) (programs : List Program) (file : WorldFile) (runs : AreRunBy programs codes)
+module _ (codes : List Code) (programs : List Program) (file : WorldFile) (cards : List Notecard)
+    (runs : AreRunBy programs codes)
     (range : IsInRange file) (many : length codes ≡ length file.files) where
   all-there : All (IsObjectOf (length codes)) file.objects
   all-there = subst (λ (n : ℕ). All (IsObjectOf n) file.objects) (sym many) range.objects_fit
 
   -- the grid of the file at its start
   abbrev first : Contents
-  first = record { objects = map object_of_line file.objects; seats = seats_of_objects codes 0 file.objects }
+  first = record {
+    objects = map object_of_line file.objects;
+    seats = seats_of_objects codes 0 file.objects;
+    cards = cards;
+  }
 
   -- a world of which the same stays has the shapes that the file tells
-  shapes-told : (w : World) → fixed_in w ≡ fixed_in (start (rules_of programs) file)
+  shapes-told : (w : World) → fixed_in w ≡ fixed_in (start (rules_of programs) file cards)
       → shapes_of (parts_of_world codes w) ≡ shapes_of_file file
   shapes-told w fixed =
       shapes-fixed (contents_of codes w) first
-      (fixed-is codes w ∙ fixed ∙ sym (start-fixed codes file first refl refl all-there programs runs))
-      (members-home codes w.members) (start-home codes file first refl refl all-there)
+      (fixed-is codes w ∙ fixed ∙ sym (start-fixed codes file cards first refl refl refl all-there programs runs))
+      (members-home codes w.members) (start-home codes file cards first refl refl refl all-there)
       ∙ file-shapes codes file first refl refl
 
-  can-thaw : (w : World) → fixed_in w ≡ fixed_in (start (rules_of programs) file) → IsFrozenWell codes programs w
-      → CanThaw codes programs file w
+  can-thaw : (w : World) → fixed_in w ≡ fixed_in (start (rules_of programs) file cards) → IsFrozenWell codes programs w
+      → CanThaw codes programs file cards w
   can-thaw w fixed well = record {
     agrees = record { fixed = fixed; lawful = well.lawful };
     image = subst (λ (z : List Shape). WorldImage z codes (parts_of_world codes w) (frozen_image codes w))
@@ -78,10 +84,11 @@ module _ (codes : List Code) (programs : List Program) (file : WorldFile) (runs 
 
   -- so is a world that was frozen behind the file's steps
   pub lasts-started : (last : Last) (trips : List Trip)
-      → IsLast last codes programs (travel (rules_of programs) file.steps trips (start (rules_of programs) file)).value
-      → Lasts Written last codes programs file
-      (travel (rules_of programs) file.steps trips (start (rules_of programs) file)).value
+      → IsLast last codes programs (travel (rules_of programs) file.steps trips
+      (start (rules_of programs) file cards)).value
+      → Lasts Written last codes programs file cards
+      (travel (rules_of programs) file.steps trips (start (rules_of programs) file cards)).value
   lasts-started Homes trips is = tt
   lasts-started Frozen trips is =
-      can-thaw (travel (rules_of programs) file.steps trips (start (rules_of programs) file)).value
-      (travel-keeps (rules_of programs) file.steps trips (start (rules_of programs) file)) is
+      can-thaw (travel (rules_of programs) file.steps trips (start (rules_of programs) file cards)).value
+      (travel-keeps (rules_of programs) file.steps trips (start (rules_of programs) file cards)) is

@@ -8,12 +8,14 @@ use Rattle.lsl_code.specs.declared.woven_units.Woven.{Woven as Code}
 use Rattle.lsl_image.specs.declared.faults.ImageFault.{ImageFault}
 use Rattle.lsl_lines.specs.Frozen.{HasFrozenLine, IsFrozen}
 use Rattle.lsl_lines.specs.declared.file.WorldFile.{WorldFile}
+use Rattle.lsl_notes.specs.declared.cards.Notecard.{Notecard}
 use Rattle.lsl_tree.specs.Program.{Program}
 use Rattle.lsl_region.specs.Worlds.{World}
 use Rattle.lsl_top.specs.Answers.{Answer, Comes, Grade, PlaysTexts, Shows}
 use Rattle.lsl_top.specs.Froms.{IsFromIn, IsFromTexts}
 use Rattle.lsl_top.specs.Held.{HoldsFrozen}
 use Rattle.lsl_top.specs.Plays.{Mode, Whole, Freezing, Thawing, Viewing, Play}
+use Rattle.lsl_top.specs.Notes.{notecards_of}
 use Rattle.lsl_top.specs.Ports.{IsFrozenRead}
 use Rattle.lsl_top.specs.Thaws.{IsThawFault}
 
@@ -46,10 +48,11 @@ pub record HasFrozen (held : Option Files) (mode : Mode) (bytes : List ℕ) : Ty
   pub text : List ℕ
   pub holds : HoldsFrozen held mode text
   pub comes : (grade : Grade) (from : World) (trips : List Trip) (codes : List Code) (programs : List Program)
-      (file : WorldFile) (answer : Answer) → Comes grade from trips mode codes programs file bytes answer
-      → Comes grade from trips mode codes programs file text answer
-  pub fits : (codes : List Code) (programs : List Program) (file : WorldFile) (from : World)
-      → IsFromIn mode codes programs file text from → IsFromIn mode codes programs file bytes from
+      (file : WorldFile) (cards : List Notecard) (answer : Answer)
+      → Comes grade from trips mode codes programs file cards bytes answer
+      → Comes grade from trips mode codes programs file cards text answer
+  pub fits : (codes : List Code) (programs : List Program) (file : WorldFile) (cards : List Notecard) (from : World)
+      → IsFromIn mode codes programs file cards text from → IsFromIn mode codes programs file cards bytes from
 
 thaw-fault : (codes : List Code) (file : WorldFile) (bytes text : List ℕ) (fault : ImageFault) → IsFrozenReadOf bytes text
     → IsThawFault codes file bytes fault → IsThawFault codes file text fault
@@ -57,12 +60,12 @@ thaw-fault codes file bytes text fault of (inl (lacks, e)) = inl (of.none lacks,
 thaw-fault codes file bytes text fault of (inr (image, is, first)) = inr (image, of.given image is, first)
 
 thaw-comes : (name : List ℕ) (bytes text : List ℕ) (grade : Grade) (from : World) (trips : List Trip)
-    (codes : List Code) (programs : List Program) (file : WorldFile) (answer : Answer) → IsFrozenReadOf bytes text
-    → Comes grade from trips (Thawing name) codes programs file bytes answer
-    → Comes grade from trips (Thawing name) codes programs file text answer
-thaw-comes name bytes text grade from trips codes programs file answer of (inl (parts, (image, is, stands), e)) =
+    (codes : List Code) (programs : List Program) (file : WorldFile) (cards : List Notecard) (answer : Answer)
+    → IsFrozenReadOf bytes text → Comes grade from trips (Thawing name) codes programs file cards bytes answer
+    → Comes grade from trips (Thawing name) codes programs file cards text answer
+thaw-comes name bytes text grade from trips codes programs file cards answer of (inl (parts, (image, is, stands), e)) =
     inl (parts, (image, of.given image is, stands), e)
-thaw-comes name bytes text grade from trips codes programs file answer of (inr (fault, first, e)) =
+thaw-comes name bytes text grade from trips codes programs file cards answer of (inr (fault, first, e)) =
     inr (fault, thaw-fault codes file bytes text fault of first, e)
 
 shown-comes : (name : List ℕ) (bytes text : List ℕ) (codes : List Code) (file : WorldFile) (answer : Answer)
@@ -77,20 +80,20 @@ pub frozen-read : (held : Option Files) (mode : Mode) (bytes : List ℕ) → IsF
 frozen-read held Whole bytes h = record {
   text = bytes;
   holds = tt;
-  comes = λ grade from trips codes programs file answer c. c;
-  fits = λ codes programs file from f. f;
+  comes = λ grade from trips codes programs file cards answer c. c;
+  fits = λ codes programs file cards from f. f;
 }
 frozen-read held Freezing bytes h = record {
   text = bytes;
   holds = tt;
-  comes = λ grade from trips codes programs file answer c. c;
-  fits = λ codes programs file from f. f;
+  comes = λ grade from trips codes programs file cards answer c. c;
+  fits = λ codes programs file cards from f. f;
 }
 frozen-read None (Thawing name) bytes h = record {
   text = bytes;
   holds = tt;
-  comes = λ grade from trips codes programs file answer c. c;
-  fits = λ codes programs file from f. f;
+  comes = λ grade from trips codes programs file cards answer c. c;
+  fits = λ codes programs file cards from f. f;
 }
 frozen-read (Some files) (Thawing name) bytes h = go (files name) refl h
   where
@@ -100,16 +103,16 @@ frozen-read (Some files) (Thawing name) bytes h = go (files name) refl h
     go (Some text) e h = record {
       text = text;
       holds = e;
-      comes = λ grade from trips codes programs file answer c.
-          thaw-comes name bytes text grade from trips codes programs file answer (frozen-head text bytes h) c;
-      fits = λ codes programs file from f parts thaw.
+      comes = λ grade from trips codes programs file cards answer c.
+          thaw-comes name bytes text grade from trips codes programs file cards answer (frozen-head text bytes h) c;
+      fits = λ codes programs file cards from f parts thaw.
           f parts (thaw.0, (frozen-head text bytes h).given thaw.0 thaw.1, thaw.2);
     }
 frozen-read None (Viewing name) bytes h = record {
   text = bytes;
   holds = tt;
-  comes = λ grade from trips codes programs file answer c. c;
-  fits = λ codes programs file from f. f;
+  comes = λ grade from trips codes programs file cards answer c. c;
+  fits = λ codes programs file cards from f. f;
 }
 frozen-read (Some files) (Viewing name) bytes h = go (files name) refl h
   where
@@ -119,20 +122,36 @@ frozen-read (Some files) (Viewing name) bytes h = go (files name) refl h
     go (Some text) e h = record {
       text = text;
       holds = e;
-      comes = λ grade from trips codes programs file answer c.
+      comes = λ grade from trips codes programs file cards answer c.
           shown-comes name bytes text codes file answer (frozen-head text bytes h) c;
-      fits = λ codes programs file from f. tt;
+      fits = λ codes programs file cards from f. tt;
     }
 
--- the same of a play whose scripts have these texts
+-- the same of a play whose scripts and notecards have these texts
 pub plays-frozen : (held : Option Files) (bytes : List ℕ) (grade : Grade) (from : World) (trips : List Trip)
-    (play : Play) (texts : List (List ℕ)) (answer : Answer) (has : HasFrozen held play.mode bytes)
-    → PlaysTexts grade from trips play texts bytes answer → PlaysTexts grade from trips play texts has.text answer
-plays-frozen held bytes grade from trips play texts answer has (inl (programs, codes, accepted, of, c)) =
-    inl (programs, codes, accepted, of, has.comes grade from trips codes programs play.world answer c)
-plays-frozen held bytes grade from trips play texts answer has (inr r) = inr r
+    (play : Play) (texts notes : List (List ℕ)) (answer : Answer) (has : HasFrozen held play.mode bytes)
+    → PlaysTexts grade from trips play texts notes bytes answer
+    → PlaysTexts grade from trips play texts notes has.text answer
+plays-frozen held bytes grade from trips play texts notes answer has
+    (inl (programs, codes, accepted, of, inl (cards, read, c))) =
+    inl (
+      programs,
+      codes,
+      accepted,
+      of,
+      inl (
+        cards,
+        read,
+        has.comes grade from trips codes programs play.world (notecards_of play.world.notes cards) answer c,
+      ),
+    )
+plays-frozen held bytes grade from trips play texts notes answer has (inl (programs, codes, accepted, of, inr bad)) =
+    inl (programs, codes, accepted, of, inr bad)
+plays-frozen held bytes grade from trips play texts notes answer has (inr r) = inr r
 
-pub from-frozen : (held : Option Files) (bytes : List ℕ) (play : Play) (texts : List (List ℕ)) (from : World)
-    (has : HasFrozen held play.mode bytes) → IsFromTexts play texts has.text from → IsFromTexts play texts bytes from
-from-frozen held bytes play texts from has fits programs codes accepted of =
-    has.fits codes programs play.world from (fits programs codes accepted of)
+pub from-frozen : (held : Option Files) (bytes : List ℕ) (play : Play) (texts notes : List (List ℕ)) (from : World)
+    (has : HasFrozen held play.mode bytes) → IsFromTexts play texts notes has.text from
+    → IsFromTexts play texts notes bytes from
+from-frozen held bytes play texts notes from has fits programs codes accepted of cards read =
+    has.fits codes programs play.world (notecards_of play.world.notes cards) from
+    (fits programs codes accepted of cards read)

@@ -9,9 +9,11 @@ use Rattle.lsl_build.specs.Codes.{AreCodesOf}
 use Rattle.lsl_image.specs.Images.{WorldImage}
 use Rattle.lsl_lines.specs.Frozen.{IsFrozen, frozen_line}
 use Rattle.lsl_lines.specs.Journal.{joined, lines_of, words_of}
+use Rattle.lsl_lines.specs.declared.file.NoteLine.{NoteLine}
 use Rattle.lsl_lines.specs.declared.file.ObjectLine.{ObjectLine}
 use Rattle.lsl_lines.specs.declared.file.Step.{Step}
 use Rattle.lsl_lines.specs.declared.file.WorldFile.{WorldFile}
+use Rattle.lsl_notes.specs.declared.cards.Notecard.{Notecard}
 use Rattle.lsl_post.specs.declared.entries.Entry.{Entry}
 use Rattle.lsl_post.specs.Told.{Told, next_to}
 use Rattle.lsl_tree.specs.Program.{Program}
@@ -28,11 +30,12 @@ use Rattle.lsl_world.proofs.Runs.{images-then, travel-then}
 use Rattle.lsl_top.specs.Answers.{Answer, Comes, ComesFromStart, Due, Grade, PlaysTexts, ReplaysFile, Written, run_answer}
 use Rattle.lsl_top.specs.Halves.{AreHalves, IsOnShelf, TwoHalvesAreOneRun}
 use Rattle.lsl_top.specs.Held.{HoldsFrozen}
+use Rattle.lsl_top.specs.Notes.{AreCards, notecards_of}
 use Rattle.lsl_top.specs.Pieces.{lines_in, pieces_from, sent_in}
 use Rattle.lsl_top.specs.Plays.{Last, Homes, Frozen, Mode, Whole, Freezing, Thawing, play_of}
 use Rattle.lsl_top.specs.Scripts.{AreAccepted}
 use Rattle.lsl_top.specs.Thaws.{CanThaw}
-use Rattle.lsl_top.specs.declared.status.Status.TheVariants.{Ok, BadScript}
+use Rattle.lsl_top.specs.declared.status.Status.TheVariants.{Ok, BadNote, BadScript}
 use Rattle.lsl_top.proofs.FrozenOne.{AreLines, line-frozen}
 use Rattle.lsl_top.proofs.Journals.{pieces-images, pieces-lines}
 use Rattle.lsl_top.proofs.OneAnswer.{plays-texts, replays-plays, texts-accepted, thaw-no_fault}
@@ -55,23 +58,25 @@ entries-lines (e ∷ entries) =
 
 -- ---- worlds of files with the same objects
 
-start-same : (programs : List Program) (first second : WorldFile) → first.objects ≡ second.objects
-    → start (rules_of programs) first ≡ start (rules_of programs) second
-start-same programs first second e = λ i. record {
+start-same : (programs : List Program) (first second : WorldFile) (cards : List Notecard)
+    → first.objects ≡ second.objects → start (rules_of programs) first cards ≡ start (rules_of programs) second cards
+start-same programs first second cards e = λ i. record {
   clock = 0;
   objects = map object_of_line (e i);
   members = members_of_objects (rules_of programs) 0 (e i);
+  cards = cards;
 }
 
 shapes-same : (first second : WorldFile) → first.objects ≡ second.objects
     → shapes_of_file first ≡ shapes_of_file second
 shapes-same first second e = ap (λ (os : List ObjectLine). map shape_of_line os) e
 
-can-thaw-same : (codes : List Code) (programs : List Program) (first second : WorldFile) (w : World)
-    → first.objects ≡ second.objects → CanThaw codes programs first w → CanThaw codes programs second w
-can-thaw-same codes programs first second w e h = record {
+can-thaw-same : (codes : List Code) (programs : List Program) (first second : WorldFile) (cards : List Notecard)
+    (w : World) → first.objects ≡ second.objects → CanThaw codes programs first cards w
+    → CanThaw codes programs second cards w
+can-thaw-same codes programs first second cards w e h = record {
   agrees = record {
-    fixed = h.agrees.fixed ∙ ap fixed_in (start-same programs first second e);
+    fixed = h.agrees.fixed ∙ ap fixed_in (start-same programs first second cards e);
     lawful = h.agrees.lawful;
   };
   image = subst (λ shapes. WorldImage shapes codes (parts_of_world codes w) (frozen_image codes w))
@@ -79,55 +84,71 @@ can-thaw-same codes programs first second w e h = record {
   bytes = h.bytes;
 }
 
--- ---- what comes of files whose scripts have these texts
+-- ---- what comes of files whose scripts and notecards have these texts
 
 -- the answer of a play of these texts, whose file is there
 file-comes : (g : Grade) (files : Files) (from : World) (trips : List Trip) (mode : Mode) (name : List ℕ)
-    (file : WorldFile) (texts : List (List ℕ)) (text : List ℕ) (answer : Answer) → IsOnShelf files name file texts
-    → HoldsFrozen (Some files) mode text → ReplaysFile g (Some files) from trips mode name answer
-    → PlaysTexts g from trips (play_of mode file) texts text answer
-file-comes g files from trips mode name file texts text answer shelf holds h =
+    (file : WorldFile) (texts notes : List (List ℕ)) (text : List ℕ) (answer : Answer)
+    → IsOnShelf files name file texts notes → HoldsFrozen (Some files) mode text
+    → ReplaysFile g (Some files) from trips mode name answer
+    → PlaysTexts g from trips (play_of mode file) texts notes text answer
+file-comes g files from trips mode name file texts notes text answer shelf holds h =
     let (bytes, is, good) = shelf.world in
-    plays-texts files g from trips (play_of mode file) texts text answer shelf.scripts holds
+    plays-texts files g from trips (play_of mode file) texts notes text answer shelf.scripts shelf.cards holds
     (replays-plays files g from trips mode name bytes file answer is good h)
 
--- texts of which a run was answered are accepted
-record IsRunOf (g : Grade) (trips : List Trip) (last : Last) (file : WorldFile) (texts : List (List ℕ))
+-- texts of which a run was answered are accepted, and are notecards
+record IsRunOf (g : Grade) (trips : List Trip) (last : Last) (file : WorldFile) (texts notes : List (List ℕ))
     (answer : Answer) : Type 0 where
   programs : List Program
   codes : List Code
+  cards : List (List (List ℕ))
   accepted : AreAccepted texts programs
   has : AreCodesOf texts codes
-  comes : ComesFromStart g trips last codes programs file answer
+  read : AreCards notes cards
+  comes : ComesFromStart g trips last codes programs file (notecards_of file.notes cards) answer
 
-froze-run : (g : Grade) (from : World) (trips : List Trip) (file : WorldFile) (texts : List (List ℕ)) (text : List ℕ)
-    (answer : Answer) → answer.status ≡ Ok → PlaysTexts g from trips (play_of Freezing file) texts text answer
-    → IsRunOf g trips Frozen file texts answer
-froze-run g from trips file texts text answer well (inl (programs, codes, accepted, has, comes)) =
-    record { programs = programs; codes = codes; accepted = accepted; has = has; comes = comes }
-froze-run g from trips file texts text answer well (inr (name, fault, first, e)) =
+froze-run : (g : Grade) (from : World) (trips : List Trip) (file : WorldFile) (texts notes : List (List ℕ))
+    (text : List ℕ) (answer : Answer) → answer.status ≡ Ok
+    → PlaysTexts g from trips (play_of Freezing file) texts notes text answer
+    → IsRunOf g trips Frozen file texts notes answer
+froze-run g from trips file texts notes text answer well
+    (inl (programs, codes, accepted, has, inl (cards, read, comes))) =
+    record {
+      programs = programs;
+      codes = codes;
+      cards = cards;
+      accepted = accepted;
+      has = has;
+      read = read;
+      comes = comes;
+    }
+froze-run g from trips file texts notes text answer well
+    (inl (programs, codes, accepted, has, inr (name, fault, first, e))) =
+    let both : BadNote ≡ Ok = sym (ap (λ (a : Answer). a.status) e) ∙ well in absurd (cc)
+froze-run g from trips file texts notes text answer well (inr (name, fault, first, e)) =
     let both : BadScript ≡ Ok = sym (ap (λ (a : Answer). a.status) e) ∙ well in absurd (cc)
 
 -- what is thawed from a world that the text has is a run from it
 thawed-run : (from : World) (trips : List Trip) (frozen : List ℕ) (codes : List Code) (programs : List Program)
-    (file : WorldFile) (text image : List ℕ) (answer : Answer) → IsFrozen text image
+    (file : WorldFile) (cards : List Notecard) (text image : List ℕ) (answer : Answer) → IsFrozen text image
     → IsImageIn codes file (parts_of_world codes from) image
-    → Comes Due from trips (Thawing frozen) codes programs file text answer
+    → Comes Due from trips (Thawing frozen) codes programs file cards text answer
     → answer ≡ run_answer Homes codes programs file trips from
-thawed-run from trips frozen codes programs file text image answer is stands (inl (parts, thaw, e)) = e
-thawed-run from trips frozen codes programs file text image answer is stands (inr (fault, first, e)) =
+thawed-run from trips frozen codes programs file cards text image answer is stands (inl (parts, thaw, e)) = e
+thawed-run from trips frozen codes programs file cards text image answer is stands (inr (fault, first, e)) =
     absurd (thaw-no_fault codes file text (parts_of_world codes from) fault (image, is, stands) first)
 
 -- ---- the two runs
 
 module _ (codes : List Code) (programs : List Program) (first second whole : WorldFile) (h : AreHalves first second whole)
-    (before behind : List Trip)
-    (fits : Fits codes (rules_of programs) first.steps before (start (rules_of programs) first)) where
+    (cards : List Notecard) (before behind : List Trip)
+    (fits : Fits codes (rules_of programs) first.steps before (start (rules_of programs) first cards)) where
   abbrev r : Rules
   r = rules_of programs
 
   abbrev begin : World
-  begin = start r first
+  begin = start r first cards
 
   abbrev middle : Told World
   middle = travel r first.steps before begin
@@ -135,51 +156,57 @@ module _ (codes : List Code) (programs : List Program) (first second whole : Wor
   abbrev end : Told World
   end = travel r second.steps behind middle.value
 
-  whole-told : travel r whole.steps (before ++ behind) (start r whole)
+  whole-told : travel r whole.steps (before ++ behind) (start r whole cards)
       ≡ next_to middle (λ v. travel r second.steps behind v)
   whole-told =
       ap (λ (w : World). travel r whole.steps (before ++ behind) w)
-      (sym (start-same programs first whole h.first_objects))
+      (sym (start-same programs first whole cards h.first_objects))
       ∙ ap (λ (steps : List Step). travel r steps (before ++ behind) begin) h.steps
       ∙ travel-then codes r first.steps second.steps before behind begin fits
 
-  pub whole-lines : lines_in (pieces_from Homes codes r whole.steps (before ++ behind) (start r whole))
+  pub whole-lines : lines_in (pieces_from Homes codes r whole.steps (before ++ behind) (start r whole cards))
       ≡ lines_of middle.entries ++ lines_in (pieces_from Homes codes r second.steps behind middle.value)
   whole-lines =
-      pieces-lines Homes codes r whole.steps (before ++ behind) (start r whole)
+      pieces-lines Homes codes r whole.steps (before ++ behind) (start r whole cards)
       ∙ ap (λ (a : Told World). lines_of a.entries ++ lines_of (homes a.value)) whole-told
       ∙ ap (λ (z : List ℕ). z ++ lines_of (homes end.value)) (lines-append middle.entries end.entries)
       ∙ append_assoc (lines_of middle.entries) (lines_of end.entries) (lines_of (homes end.value))
       ∙ ap (λ (z : List ℕ). lines_of middle.entries ++ z)
       (sym (pieces-lines Homes codes r second.steps behind middle.value))
 
-  pub whole-sent : sent_in (pieces_from Homes codes r whole.steps (before ++ behind) (start r whole))
+  pub whole-sent : sent_in (pieces_from Homes codes r whole.steps (before ++ behind) (start r whole cards))
       ≡ sent_in (pieces_from Frozen codes r first.steps before begin)
       ++ sent_in (pieces_from Homes codes r second.steps behind middle.value)
   whole-sent =
-      pieces-images Homes codes r whole.steps (before ++ behind) (start r whole)
+      pieces-images Homes codes r whole.steps (before ++ behind) (start r whole cards)
       ∙ ap (λ (w : World). images codes r whole.steps (before ++ behind) w)
-      (sym (start-same programs first whole h.first_objects))
+      (sym (start-same programs first whole cards h.first_objects))
       ∙ ap (λ (steps : List Step). images codes r steps (before ++ behind) begin) h.steps
       ∙ images-then codes r first.steps second.steps before behind begin fits
       ∙ sym (ap₂ (λ (xs ys : List (List ℕ)). xs ++ ys) (pieces-images Frozen codes r first.steps before begin)
       (pieces-images Homes codes r second.steps behind middle.value))
 
 pub halves-one : TwoHalvesAreOneRun
-halves-one files more all first_name second_name whole_name frozen first second whole texts from before behind froze
-    halves one two three given held short =
-    let run = froze-run Written from before first texts [] froze given.well
-    (file-comes Written files from before Freezing first_name first texts [] froze one tt given.answers) in
+halves-one files more all first_name second_name whole_name frozen first second whole texts notes from before behind
+    froze halves one two three given held short =
+    let run = froze-run Written from before first texts notes [] froze given.well
+    (file-comes Written files from before Freezing first_name first texts notes [] froze one tt given.answers) in
     let codes = run.codes in
     let programs = run.programs in
     let r = rules_of programs in
-    let begin = start r first in
+    let cards = notecards_of first.notes run.cards in
+    let begin = start r first cards in
     let w = (travel r first.steps before begin).value in
     let entries = (travel r first.steps before begin).entries in
     let image = frozen_image codes w in
     let (can, e) = run.comes in
     let objects : first.objects ≡ second.objects = halves.first_objects ∙ sym halves.second_objects in
-    let there = can-thaw-same codes programs first second w objects can in
+    let second_cards : cards ≡ notecards_of second.notes run.cards =
+    ap (λ (lines : List NoteLine). notecards_of lines run.cards) (halves.first_notes ∙ sym halves.second_notes) in
+    let whole_cards : cards ≡ notecards_of whole.notes run.cards =
+    ap (λ (lines : List NoteLine). notecards_of lines run.cards) halves.first_notes in
+    let there = subst (λ (z : List Notecard). CanThaw codes programs second z w) second_cards
+    (can-thaw-same codes programs first second cards w objects can) in
     let written : lines_in froze.pieces ≡ lines_of entries ++ frozen_line image =
     ap (λ (a : Answer). lines_in a.pieces) e ∙ pieces-lines Frozen codes r first.steps before begin in
     let sends : sent_in froze.pieces ≡ images codes r first.steps before begin =
@@ -192,24 +219,32 @@ halves-one files more all first_name second_name whole_name frozen first second 
     (subst (λ (z : List ℕ). length z ≤ 2147483647) written short)) in
     record {
       world = w;
-      from = thaw-fits more frozen second_name second texts programs codes w two.world two.scripts run.accepted run.has
-          (text, image, held, of, there.agrees, there.image);
+      from = thaw-fits more frozen second_name second texts notes programs codes run.cards w two.world two.scripts
+          run.accepted run.has two.cards run.read (text, image, held, of, there.agrees, there.image);
       journal = lines_of entries;
       image = image;
       written = written;
       one = λ thawed answer thaws replays.
-          let second_is = thawed-run w behind frozen codes programs second text image thawed of there.image
-          (texts-accepted Due w behind (play_of (Thawing frozen) second) texts text programs codes thawed run.accepted
-          run.has (file-comes Due more w behind (Thawing frozen) second_name second texts text thawed two held thaws)) in
-          let comes = texts-accepted Due w (before ++ behind) (play_of Whole whole) texts [] programs codes answer run.accepted
-          run.has (file-comes Due all w (before ++ behind) Whole whole_name whole texts [] answer three tt replays) in
+          let second_is = thawed-run w behind frozen codes programs second
+          (notecards_of second.notes run.cards) text image
+          thawed of there.image
+          (texts-accepted Due w behind
+          (play_of (Thawing frozen) second) texts notes text programs codes run.cards thawed
+          run.accepted run.has run.read
+          (file-comes Due more w behind (Thawing frozen) second_name second texts notes text thawed two held thaws)) in
+          let comes = texts-accepted Due w (before ++ behind)
+          (play_of Whole whole) texts notes [] programs codes run.cards
+          answer run.accepted run.has run.read
+          (file-comes Due all w (before ++ behind) Whole whole_name whole texts notes [] answer three tt replays) in
+          let whole_is = subst (λ (z : List Notecard). answer
+          ≡ run_answer Homes codes programs whole (before ++ behind) (start r whole z)) (sym whole_cards) comes.1 in
           record {
-            well = (ap (λ (a : Answer). a.status) second_is, ap (λ (a : Answer). a.status) comes.1);
-            lines = ap (λ (a : Answer). lines_in a.pieces) comes.1
-                ∙ whole-lines codes programs first second whole halves before behind fits
+            well = (ap (λ (a : Answer). a.status) second_is, ap (λ (a : Answer). a.status) whole_is);
+            lines = ap (λ (a : Answer). lines_in a.pieces) whole_is
+                ∙ whole-lines codes programs first second whole halves cards before behind fits
                 ∙ ap (λ (a : Answer). lines_of entries ++ lines_in a.pieces) (sym second_is);
-            sent = ap (λ (a : Answer). sent_in a.pieces) comes.1
-                ∙ whole-sent codes programs first second whole halves before behind fits
+            sent = ap (λ (a : Answer). sent_in a.pieces) whole_is
+                ∙ whole-sent codes programs first second whole halves cards before behind fits
                 ∙ sym (ap₂ (λ (a b : Answer). sent_in a.pieces ++ sent_in b.pieces) e second_is);
           };
     }

@@ -1,7 +1,9 @@
 pub mod Finishing
 pub mod Heads
 pub mod OneText
+pub mod OneCard
 pub mod FilesRead
+pub mod NotesRead
 pub mod FrozenRead
 pub mod FrozenOne
 pub mod WorldRead

@@ -7,7 +7,7 @@ use Rattle.lsl_lines.specs.declared.file.ObjectLine.{ObjectLine}
 use Rattle.lsl_lines.specs.declared.file.PrimLine.{PrimLine}
 use Rattle.lsl_lines.specs.declared.file.ScriptLine.{ScriptLine}
 use Rattle.lsl_lines.specs.declared.file.Step.TheVariants.{Run}
-use Rattle.lsl_world.specs.Ranges.{HasFile, HasKey, IsInRange, IsObjectOf}
+use Rattle.lsl_world.specs.Ranges.{HasCard, HasFile, HasKey, IsInRange, IsObjectOf}
 use Rattle.lsl_world.specs.Sizes.{IsStepOf, size_of_file}
 use Rattle.lsl_top.specs.Plays.{once_prim, once_world}
 
@@ -40,9 +40,14 @@ once-in_range = record {
   few_objects = lit≤ tt;
   few_scripts = lit≤ tt;
   objects_fit = All-cons (IsObjectOf 1) object [] object-fits (All-nil (IsObjectOf 1));
+  few_notes = lit≤ tt;
+  notes_fit = All-nil (HasCard 0);
   steps_fit = All-cons (IsStepOf (size_of_file once_world)) (Run 1000000) [] (lit≤ tt)
       (All-nil (IsStepOf (size_of_file once_world)));
 }
+
+pub no-name : (n : List ℕ) → Contains [] n → ⊥
+no-name n (k, lt, e) = omega (arith, lt)
 
 pub only-name : (name n : List ℕ) → Contains (name ∷ []) n → n ≡ name
 only-name name n (k, lt, e) = go k lt e

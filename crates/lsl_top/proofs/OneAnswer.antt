@@ -1,5 +1,5 @@
 -- Over files that are told, a command has one answer.
-use Rattle.std.proofs.Common.{◌≡◌, ℕ, zero, suc, ◌<◌, List, [], ◌∷◌, take, Option, Some, None, Result, Ok as OkResult, Err, inl, inr, refl, sym, ap, ap₂, ◌∙◌, subst, arith}
+use Rattle.std.proofs.Common.{◌≡◌, ℕ, zero, suc, ◌<◌, List, [], ◌∷◌, take, Some, Result, Ok as OkResult, Err, inl, inr, refl, sym, ap, ap₂, ◌∙◌, subst, arith}
 use Rattle.std.specs.Prelude.{slice_get}
 use Rattle.std.proofs.lemmas.Bool.{cases_lt}
 use Rattle.lsl_ports.specs.Shelf.{Files}
@@ -20,13 +20,15 @@ use Rattle.lsl_image.specs.World.{world}
 use Rattle.lsl_image.specs.declared.faults.ImageFault.{ImageFault}
 use Rattle.lsl_image.specs.declared.parts.WorldParts.{WorldParts}
 use Rattle.lsl_image.proofs.ImageLemmas.{first-one, image-no_fault, image-one}
+use Rattle.lsl_notes.specs.declared.cards.Notecard.{Notecard}
 use Rattle.lsl_region.specs.Worlds.{World}
 use Rattle.lsl_world.specs.Frozen.{shapes_of_file, IsImageIn}
-use Rattle.lsl_top.specs.Answers.{Answer, Checks, Comes, Grade, Plays, PlaysTexts, Replays, ReplaysFile, image_refused, script_refused, summed, world_refused, Shows, done}
+use Rattle.lsl_top.specs.Answers.{Answer, Checks, Comes, Grade, Plays, PlaysTexts, Replays, ReplaysFile, image_refused, script_refused, summed, world_refused, Shows, done, PlaysAccepted}
 use Rattle.lsl_top.specs.Held.{AreHeld, Holds, HoldsFrozen}
 use Rattle.lsl_top.specs.Laws.{AnswersAreOne}
 use Rattle.lsl_top.specs.Made.{made_files, made_name}
 use Rattle.lsl_top.specs.Plays.{Mode, Whole, Freezing, Thawing, Play, play_of, play_of_once, played, Viewing}
+use Rattle.lsl_top.specs.Notes.{AreCards, notecards_of}
 use Rattle.lsl_top.specs.Scripts.{AreAccepted, FirstRefused, IsRefusedAt}
 use Rattle.lsl_top.specs.Thaws.{IsThawFault, IsThawOf}
 use Rattle.lsl_top.specs.Words.{Once, Check, Replay, Freeze, Thaw, Make, View}
@@ -34,14 +36,8 @@ use Rattle.lsl_view.specs.Names.{script_names}
 use Rattle.lsl_view.specs.Parts.{view_of_parts}
 use Rattle.lsl_top.proofs.FrozenOne.{frozen-one, has-line}
 use Rattle.lsl_top.proofs.OneCode.{codes-one}
-use Rattle.lsl_top.proofs.OneText.{no_fault}
-
-pub some-one : (a b : List ℕ) → Some a ≡ Some b → a ≡ b
-some-one a b e = ap value e
-  where
-    value : Option (List ℕ) → List ℕ
-    value (Some x) = x
-    value None = a
+use Rattle.lsl_top.proofs.OneCard.{bad-one, cards-bad, cards-one}
+use Rattle.lsl_top.proofs.OneText.{get-take, no_fault, some-one}
 
 pub text-one : (files : Files) (name a b : List ℕ) → Holds (Some files) name a → Holds (Some files) name b → a ≡ b
 text-one files name a b h k = some-one a b (sym h ∙ k)
@@ -73,14 +69,6 @@ accepted-at (t ∷ texts) [] place text h e = absurd h
 accepted-at (t ∷ texts) (p ∷ programs) zero text h e =
     (p, subst (λ (z : List ℕ). Accepted z p) (some-one t text e) h.0)
 accepted-at (t ∷ texts) (p ∷ programs) (suc place) text h e = accepted-at texts programs place text h.1 e
-
--- the element at a place before another is among those before that
-get-take : (texts : List (List ℕ)) (place end : ℕ) → place < end
-    → slice_get (take end texts) place ≡ slice_get texts place
-get-take texts place zero lt = absurd (omega arith)
-get-take [] place (suc end) lt = refl
-get-take (t ∷ texts) zero (suc end) lt = refl
-get-take (t ∷ texts) (suc place) (suc end) lt = get-take texts place end (omega arith)
 
 -- texts that are all accepted have none that isn't
 accepted-refused : (texts : List (List ℕ)) (programs : List Program) (place : ℕ) (fault : BuildFault)
@@ -155,95 +143,131 @@ shown-one codes file name text a b (inr (fault, t, e)) (inl (p, u, f)) =
 shown-one codes file name text a b (inr (one, t, e)) (inr (other, u, f)) =
     e ∙ ap (λ (fault : ImageFault). image_refused name fault) (thaw-fault-one codes file text one other t u) ∙ sym f
 
--- of the same scripts and texts comes one answer, due or written
+-- of the same scripts, notecards and texts comes one answer, due or written
 comes-one : (g h : Grade) (from : World) (trips : List Trip) (mode : Mode) (codes : List Code) (programs : List Program)
-    (file : WorldFile) (text : List ℕ) (a b : Answer) → Comes g from trips mode codes programs file text a
-    → Comes h from trips mode codes programs file text b → a ≡ b
-comes-one g h from trips Whole codes programs file text a b (l, e) (m, f) = e ∙ sym f
-comes-one g h from trips Freezing codes programs file text a b (l, e) (m, f) = e ∙ sym f
-comes-one g h from trips (Thawing name) codes programs file text a b (inl (p, t, e)) (inl (q, u, f)) = e ∙ sym f
-comes-one g h from trips (Thawing name) codes programs file text a b (inl (p, t, e)) (inr (fault, u, f)) =
+    (file : WorldFile) (cards : List Notecard) (text : List ℕ) (a b : Answer)
+    → Comes g from trips mode codes programs file cards text a
+    → Comes h from trips mode codes programs file cards text b → a ≡ b
+comes-one g h from trips Whole codes programs file cards text a b (l, e) (m, f) = e ∙ sym f
+comes-one g h from trips Freezing codes programs file cards text a b (l, e) (m, f) = e ∙ sym f
+comes-one g h from trips (Thawing name) codes programs file cards text a b (inl (p, t, e)) (inl (q, u, f)) = e ∙ sym f
+comes-one g h from trips (Thawing name) codes programs file cards text a b (inl (p, t, e)) (inr (fault, u, f)) =
     absurd (thaw-no_fault codes file text p fault t u)
-comes-one g h from trips (Thawing name) codes programs file text a b (inr (fault, t, e)) (inl (p, u, f)) =
+comes-one g h from trips (Thawing name) codes programs file cards text a b (inr (fault, t, e)) (inl (p, u, f)) =
     absurd (thaw-no_fault codes file text p fault u t)
-comes-one g h from trips (Thawing name) codes programs file text a b (inr (one, t, e)) (inr (other, u, f)) =
+comes-one g h from trips (Thawing name) codes programs file cards text a b (inr (one, t, e)) (inr (other, u, f)) =
     e ∙ ap (λ (fault : ImageFault). image_refused name fault) (thaw-fault-one codes file text one other t u) ∙ sym f
-comes-one g h from trips (Viewing name) codes programs file text a b p q = shown-one codes file name text a b p q
+comes-one g h from trips (Viewing name) codes programs file cards text a b p q = shown-one codes file name text a b p q
 
-plays-texts-one : (g h : Grade) (from : World) (trips : List Trip) (play : Play) (texts : List (List ℕ)) (text : List ℕ)
-    (a b : Answer) → PlaysTexts g from trips play texts text a → PlaysTexts h from trips play texts text b → a ≡ b
-plays-texts-one g h from trips play texts text a b (inl (ps, cs, all, has, e)) (inl (qs, ds, other, have, f)) =
-    comes-one g h from trips play.mode ds qs play.world text a b
-    (subst (λ (codes : List Code). Comes g from trips play.mode codes qs play.world text a) (codes-one texts cs ds has have)
-    (subst (λ (programs : List Program). Comes g from trips play.mode cs programs play.world text a)
+accepted-one : (g h : Grade) (from : World) (trips : List Trip) (play : Play) (codes : List Code)
+    (programs : List Program) (notes : List (List ℕ)) (text : List ℕ) (a b : Answer)
+    → PlaysAccepted g from trips play codes programs notes text a
+    → PlaysAccepted h from trips play codes programs notes text b → a ≡ b
+accepted-one g h from trips play codes programs notes text a b (inl (cs, all, e)) (inl (ds, other, f)) =
+    let file = play.world in
+    comes-one g h from trips play.mode codes programs file (notecards_of file.notes ds) text a b
+    (subst (λ (cards : List (List (List ℕ))). Comes g from trips play.mode codes programs file
+    (notecards_of file.notes cards) text a) (cards-one notes cs ds all other) e) f
+accepted-one g h from trips play codes programs notes text a b (inl (cs, all, e)) (inr (name, fault, r, f)) =
+    absurd (cards-bad notes cs r.place fault all r.bad)
+accepted-one g h from trips play codes programs notes text a b (inr (name, fault, r, e)) (inl (ds, all, f)) =
+    absurd (cards-bad notes ds r.place fault all r.bad)
+accepted-one g h from trips play codes programs notes text a b (inr (n, f, r, e)) (inr (m, k, s, d)) =
+    e ∙ bad-one play.cards notes n m f k r s ∙ sym d
+
+plays-texts-one : (g h : Grade) (from : World) (trips : List Trip) (play : Play) (texts notes : List (List ℕ))
+    (text : List ℕ) (a b : Answer) → PlaysTexts g from trips play texts notes text a
+    → PlaysTexts h from trips play texts notes text b → a ≡ b
+plays-texts-one g h from trips play texts notes text a b (inl (ps, cs, all, has, e)) (inl (qs, ds, other, have, f)) =
+    accepted-one g h from trips play ds qs notes text a b
+    (subst (λ (codes : List Code). PlaysAccepted g from trips play codes qs notes text a)
+    (codes-one texts cs ds has have)
+    (subst (λ (programs : List Program). PlaysAccepted g from trips play cs programs notes text a)
     (programs-one texts ps qs all other) e)) f
-plays-texts-one g h from trips play texts text a b (inl (ps, cs, all, has, e)) (inr (name, fault, r, f)) =
+plays-texts-one g h from trips play texts notes text a b (inl (ps, cs, all, has, e)) (inr (name, fault, r, f)) =
     absurd (accepted-refused texts ps r.place fault all r.refused)
-plays-texts-one g h from trips play texts text a b (inr (name, fault, r, e)) (inl (qs, ds, all, have, f)) =
+plays-texts-one g h from trips play texts notes text a b (inr (name, fault, r, e)) (inl (qs, ds, all, have, f)) =
     absurd (accepted-refused texts qs r.place fault all r.refused)
-plays-texts-one g h from trips play texts text a b (inr (n, f, r, e)) (inr (m, k, s, d)) =
+plays-texts-one g h from trips play texts notes text a b (inr (n, f, r, e)) (inr (m, k, s, d)) =
     e ∙ refused-one play.names texts n m f k r s ∙ sym d
 
 -- the frozen text of a play is one, where it has any
-texts-come : (files : Files) (mode : Mode) (g : Grade) (from : World) (trips : List Trip) (names : List (List ℕ))
-    (file : WorldFile) (texts : List (List ℕ)) (t u : List ℕ) (a : Answer) → HoldsFrozen (Some files) mode t
-    → HoldsFrozen (Some files) mode u → PlaysTexts g from trips (played mode names file) texts t a
-    → PlaysTexts g from trips (played mode names file) texts u a
-texts-come files Whole g from trips names file texts t u a h k p = p
-texts-come files Freezing g from trips names file texts t u a h k p = p
-texts-come files (Thawing name) g from trips names file texts t u a h k p =
-    subst (λ (z : List ℕ). PlaysTexts g from trips (played (Thawing name) names file) texts z a)
+texts-come : (files : Files) (mode : Mode) (g : Grade) (from : World) (trips : List Trip) (names cards : List (List ℕ))
+    (file : WorldFile) (texts notes : List (List ℕ)) (t u : List ℕ) (a : Answer) → HoldsFrozen (Some files) mode t
+    → HoldsFrozen (Some files) mode u → PlaysTexts g from trips (played mode names cards file) texts notes t a
+    → PlaysTexts g from trips (played mode names cards file) texts notes u a
+texts-come files Whole g from trips names cards file texts notes t u a h k p = p
+texts-come files Freezing g from trips names cards file texts notes t u a h k p = p
+texts-come files (Thawing name) g from trips names cards file texts notes t u a h k p =
+    subst (λ (z : List ℕ). PlaysTexts g from trips (played (Thawing name) names cards file) texts notes z a)
     (text-one files name t u h k) p
-texts-come files (Viewing name) g from trips names file texts t u a h k p =
-    subst (λ (z : List ℕ). PlaysTexts g from trips (played (Viewing name) names file) texts z a)
+texts-come files (Viewing name) g from trips names cards file texts notes t u a h k p =
+    subst (λ (z : List ℕ). PlaysTexts g from trips (played (Viewing name) names cards file) texts notes z a)
     (text-one files name t u h k) p
 
--- what is answered to a play whose scripts have these texts
-pub plays-texts : (files : Files) (g : Grade) (from : World) (trips : List Trip) (play : Play) (texts : List (List ℕ))
-    (text : List ℕ) (a : Answer) → AreHeld (Some files) play.names texts → HoldsFrozen (Some files) play.mode text
-    → Plays g (Some files) from trips play a → PlaysTexts g from trips play texts text a
-plays-texts files g from trips play texts text a are holds (others, other, k, held, q) =
-    texts-come files play.mode g from trips play.names play.world texts other text a held holds
-    (subst (λ (z : List (List ℕ)). PlaysTexts g from trips play z other a)
-    (texts-one files play.names others texts k are) q)
+-- what is answered to a play whose scripts and notecards have these texts
+pub plays-texts : (files : Files) (g : Grade) (from : World) (trips : List Trip) (play : Play)
+    (texts notes : List (List ℕ)) (text : List ℕ) (a : Answer) → AreHeld (Some files) play.names texts
+    → AreHeld (Some files) play.cards notes → HoldsFrozen (Some files) play.mode text
+    → Plays g (Some files) from trips play a → PlaysTexts g from trips play texts notes text a
+plays-texts files g from trips play texts notes text a are noted holds (others, more, other, k, l, held, q) =
+    texts-come files play.mode g from trips play.names play.cards play.world texts notes other text a held holds
+    (subst (λ (z : List (List ℕ)). PlaysTexts g from trips play texts z other a)
+    (texts-one files play.cards more notes l noted)
+    (subst (λ (z : List (List ℕ)). PlaysTexts g from trips play z more other a)
+    (texts-one files play.names others texts k are) q))
 
--- where they are accepted as these programs and have this code, it comes of these
-pub texts-accepted : (g : Grade) (from : World) (trips : List Trip) (play : Play) (texts : List (List ℕ))
-    (text : List ℕ) (programs : List Program) (codes : List Code) (a : Answer) → AreAccepted texts programs
-    → AreCodesOf texts codes → PlaysTexts g from trips play texts text a
-    → Comes g from trips play.mode codes programs play.world text a
-texts-accepted g from trips play texts text programs codes a all has (inl (ps, cs, accepted, have, e)) =
-    subst (λ (z : List Code). Comes g from trips play.mode z programs play.world text a)
+-- where they are accepted as these programs and have this code, and the others are these notecards, it comes of these
+pub texts-accepted : (g : Grade) (from : World) (trips : List Trip) (play : Play) (texts notes : List (List ℕ))
+    (text : List ℕ) (programs : List Program) (codes : List Code) (cards : List (List (List ℕ))) (a : Answer)
+    → AreAccepted texts programs → AreCodesOf texts codes → AreCards notes cards
+    → PlaysTexts g from trips play texts notes text a
+    → Comes g from trips play.mode codes programs play.world (notecards_of play.world.notes cards) text a
+texts-accepted g from trips play texts notes text programs codes cards a all has read
+    (inl (ps, cs, accepted, have, e)) =
+    go (subst (λ (z : List Code). PlaysAccepted g from trips play z programs notes text a)
     (codes-one texts cs codes have has)
-    (subst (λ (z : List Program). Comes g from trips play.mode cs z play.world text a)
-    (programs-one texts ps programs accepted all) e)
-texts-accepted g from trips play texts text programs codes a all has (inr (name, fault, r, e)) =
+    (subst (λ (z : List Program). PlaysAccepted g from trips play cs z notes text a)
+    (programs-one texts ps programs accepted all) e))
+  where
+    go : PlaysAccepted g from trips play codes programs notes text a
+        → Comes g from trips play.mode codes programs play.world (notecards_of play.world.notes cards) text a
+    go (inl (ds, other, f)) =
+        subst (λ (z : List (List (List ℕ))). Comes g from trips play.mode codes programs play.world
+        (notecards_of play.world.notes z) text a) (cards-one notes ds cards other read) f
+    go (inr (name, fault, r, f)) = absurd (cards-bad notes cards r.place fault read r.bad)
+texts-accepted g from trips play texts notes text programs codes cards a all has read (inr (name, fault, r, e)) =
     absurd (accepted-refused texts programs r.place fault all r.refused)
 
--- and where only the programs are known, by some code
+-- and where only the programs and notecards are known, by some code
 pub plays-programs : (files : Files) (g : Grade) (from : World) (trips : List Trip) (play : Play)
-    (programs : List Program) (a : Answer) (texts : List (List ℕ)) → AreHeld (Some files) play.names texts
-    → AreAccepted texts programs → Plays g (Some files) from trips play a
-    → (codes : List Code) × (text : List ℕ) × Comes g from trips play.mode codes programs play.world text a
-plays-programs files g from trips play programs a texts are all (others, text, k, held, q) =
-    go (subst (λ (z : List (List ℕ)). PlaysTexts g from trips play z text a)
-    (texts-one files play.names others texts k are) q)
+    (programs : List Program) (cards : List (List (List ℕ))) (a : Answer) (texts notes : List (List ℕ))
+    → AreHeld (Some files) play.names texts → AreAccepted texts programs → AreHeld (Some files) play.cards notes
+    → AreCards notes cards → Plays g (Some files) from trips play a
+    → (codes : List Code) × (text : List ℕ)
+    × Comes g from trips play.mode codes programs play.world (notecards_of play.world.notes cards) text a
+plays-programs files g from trips play programs cards a texts notes are all noted read
+    (others, more, text, k, l, held, q) =
+    go (subst (λ (z : List (List ℕ)). PlaysTexts g from trips play texts z text a)
+    (texts-one files play.cards more notes l noted)
+    (subst (λ (z : List (List ℕ)). PlaysTexts g from trips play z more text a)
+    (texts-one files play.names others texts k are) q))
   where
-    go : PlaysTexts g from trips play texts text a
-        → (codes : List Code) × (text : List ℕ) × Comes g from trips play.mode codes programs play.world text a
+    go : PlaysTexts g from trips play texts notes text a
+        → (codes : List Code) × (text : List ℕ)
+        × Comes g from trips play.mode codes programs play.world (notecards_of play.world.notes cards) text a
     go (inl (ps, cs, h, has, e)) = (
       cs,
       text,
-      subst (λ (z : List Program). Comes g from trips play.mode cs z play.world text a)
-          (programs-one texts ps programs h all) e,
+      texts-accepted g from trips play texts notes text programs cs cards a all has read (inl (ps, cs, h, has, e)),
     )
     go (inr (name, fault, r, e)) = absurd (accepted-refused texts programs r.place fault all r.refused)
 
 plays-one : (files : Files) (g h : Grade) (from : World) (trips : List Trip) (play : Play) (a b : Answer)
     → Plays g (Some files) from trips play a → Plays h (Some files) from trips play b → a ≡ b
-plays-one files g h from trips play a b p (texts, text, are, holds, q) =
-    plays-texts-one g h from trips play texts text a b
-    (plays-texts files g from trips play texts text a are holds p) q
+plays-one files g h from trips play a b p (texts, notes, text, are, noted, holds, q) =
+    plays-texts-one g h from trips play texts notes text a b
+    (plays-texts files g from trips play texts notes text a are noted holds p) q
 
 checks-one : (name text : List ℕ) (a b : Answer) → Checks name text a → Checks name text b → a ≡ b
 checks-one name text a b (inl (p, h, e)) (inl (q, k, f)) = e ∙ sym f

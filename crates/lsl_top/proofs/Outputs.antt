@@ -12,6 +12,7 @@ use Rattle.lsl_lines.specs.Frozen.{IsFrozen}
 use Rattle.lsl_lines.specs.Journal.{lines_of}
 use Rattle.lsl_lines.specs.World.{IsWorld}
 use Rattle.lsl_lines.specs.declared.file.WorldFile.{WorldFile}
+use Rattle.lsl_notes.specs.declared.cards.Notecard.{Notecard}
 use Rattle.lsl_tree.specs.Program.{Program}
 use Rattle.lsl_region.specs.Worlds.{World}
 use Rattle.lsl_view.specs.Names.{AreNamedBy, script_names}
@@ -25,11 +26,12 @@ use Rattle.lsl_world.specs.Reports.{journal_of}
 use Rattle.lsl_world.specs.Starts.{start}
 use Rattle.lsl_top.specs.Answers.{Answer, Answers, Comes, Grade, made_piece, run_answer, Shows}
 use Rattle.lsl_top.specs.Froms.{IsFromOf}
-use Rattle.lsl_top.specs.Headline.{IsFrozenIn, IsScriptIn, IsWorldIn, Outputs, output_from, report_from}
+use Rattle.lsl_top.specs.Headline.{IsCardIn, IsFrozenIn, IsScriptIn, IsWorldIn, Outputs, frozen_from, output_from, report_from}
 use Rattle.lsl_top.specs.Held.{AreHeld}
 use Rattle.lsl_top.specs.Made.{made_files, made_line, made_name}
+use Rattle.lsl_top.specs.Notes.{AreCards, notecards_of}
 use Rattle.lsl_top.specs.Pieces.{lines_in}
-use Rattle.lsl_top.specs.Plays.{Last, Homes, Frozen, Whole, Freezing, Thawing, Viewing, names_in, once_world, play_of, play_of_once}
+use Rattle.lsl_top.specs.Plays.{Last, Homes, Frozen, Whole, Freezing, Thawing, Viewing, names_in, once_world, play_of, play_of_once, cards_in}
 use Rattle.lsl_top.specs.Scripts.{AreAccepted}
 use Rattle.lsl_top.specs.Thaws.{IsFrom}
 use Rattle.lsl_top.specs.Words.{Command, Once, Check, Replay, Freeze, Thaw, Make, View}
@@ -37,8 +39,10 @@ use Rattle.lsl_top.specs.declared.status.Status.TheVariants.{Ok}
 use Rattle.lsl_top.proofs.FrozenOne.{frozen-one}
 use Rattle.lsl_top.proofs.Journals.{journal-pieces}
 use Rattle.lsl_top.proofs.Summed.{summed-well}
-use Rattle.lsl_top.proofs.OneAnswer.{plays-programs, plays-texts, programs-one, replays-plays, some-one, text-one, texts-accepted, texts-one, thaw-no_fault, world-one, thawed-one}
+use Rattle.lsl_top.proofs.OneAnswer.{plays-programs, plays-texts, programs-one, replays-plays, text-one, texts-accepted, texts-one, thaw-no_fault, world-one, thawed-one}
 use Rattle.lsl_top.proofs.CodesRun.{codes-named, codes-run}
+use Rattle.lsl_top.proofs.OneText.{some-one}
+use Rattle.lsl_top.proofs.OneCard.{cards-one}
 use Rattle.lsl_top.proofs.OneCode.{codes-one}
 
 -- the texts of scripts that are accepted
@@ -76,80 +80,111 @@ run-output last codes programs file trips w lines answer e are = record {
 }
 
 thaw-output : (g : Grade) (from : World) (trips : List Trip) (name : List ℕ) (codes : List Code)
-    (programs : List Program) (file : WorldFile) (text image : List ℕ) (lines : List ℕ) (answer : Answer)
-    → IsFrozen text image → IsImageIn codes file (parts_of_world codes from) image
-    → lines ≡ report_from programs file trips from → Comes g from trips (Thawing name) codes programs file text answer
-    → IsOutput lines answer
-thaw-output g from trips name codes programs file text image lines answer is stands are (inl (parts, thaw, e)) =
+    (programs : List Program) (file : WorldFile) (cards : List Notecard) (text image : List ℕ) (lines : List ℕ)
+    (answer : Answer) → IsFrozen text image → IsImageIn codes file (parts_of_world codes from) image
+    → lines ≡ report_from programs file trips from
+    → Comes g from trips (Thawing name) codes programs file cards text answer → IsOutput lines answer
+thaw-output g from trips name codes programs file cards text image lines answer is stands are (inl (parts, thaw, e)) =
     run-output Homes codes programs file trips from lines answer e are
-thaw-output g from trips name codes programs file text image lines answer is stands are (inr (fault, first, e)) =
+thaw-output g from trips name codes programs file cards text image lines answer is stands are (inr (fault, first, e)) =
     absurd (thaw-no_fault codes file text (parts_of_world codes from) fault (image, is, stands) first)
+
+-- the texts of notecards
+abbrev NotesOf : Files → List (List ℕ) → List (List (List ℕ)) → Type 0
+NotesOf files names cards = (notes : List (List ℕ)) × AreHeld (Some files) names notes × AreCards notes cards
+
+notes-of : (files : Files) (names : List (List ℕ)) (cards : List (List (List ℕ)))
+    → AllZip (IsCardIn files) names cards → NotesOf files names cards
+notes-of files [] [] h = ([], tt, tt)
+notes-of files (name ∷ names) (c ∷ cards) h =
+    let (note, is, read) = h.0 in
+    let (notes, are, all) = notes-of files names cards h.1 in
+    (note ∷ notes, (is, are), (read, all))
+notes-of files [] (c ∷ cards) h = absurd h
+notes-of files (name ∷ names) [] h = absurd h
 
 -- what is shown of a world that the text has is what its scripts' texts have there
 view-output : (from : World) (name : List ℕ) (codes : List Code) (programs : List Program) (file : WorldFile)
-    (text image lines : List ℕ) (answer : Answer) → AreRunBy programs codes → AreNamedBy programs codes
-    → IsFrozen text image → AgreesWith programs file from → IsImageIn codes file (parts_of_world codes from) image
+    (cards : List Notecard) (text image lines : List ℕ) (answer : Answer) → AreRunBy programs codes
+    → AreNamedBy programs codes → IsFrozen text image → AgreesWith programs file cards from
+    → IsImageIn codes file (parts_of_world codes from) image
     → lines ≡ view_of_world programs from → Shows codes file name text answer → IsOutput lines answer
-view-output from name codes programs file text image lines answer run named is agrees stands are
+view-output from name codes programs file cards text image lines answer run named is agrees stands are
     (inl (parts, thaw, e)) =
     let same = thawed-one codes file text parts (parts_of_world codes from) thaw (image, is, stands) in record {
       well = ap (λ (a : Answer). a.status) e;
       is = ap (λ (a : Answer). lines_in a.pieces) e ∙ append-nil (view_of_parts codes (script_names file) parts)
           ∙ ap (λ (p : WorldParts). view_of_parts codes (script_names file) p) same
-          ∙ views_are_of_the_source programs codes file from run named agrees ∙ sym are;
+          ∙ views_are_of_the_source programs codes file cards from run named agrees ∙ sym are;
     }
-view-output from name codes programs file text image lines answer run named is agrees stands are
+view-output from name codes programs file cards text image lines answer run named is agrees stands are
     (inr (fault, first, e)) =
     absurd (thaw-no_fault codes file text (parts_of_world codes from) fault (image, is, stands) first)
 
 replay-output : (g : Grade) (files : Files) (from : World) (name : List ℕ) (trips : List Trip) (lines : List ℕ)
     (answer : Answer) → Outputs files from (Replay name) trips lines
     → Answers g (Some files) from trips (Replay name) answer → IsOutput lines answer
-replay-output g files from name trips lines answer (file, programs, ((bytes, is, good), h), e) answers =
-    let (texts, are, all) = texts-of files (names_in file) programs h in
-    let (codes, text, come) = plays-programs files g from trips (play_of Whole file) programs answer texts are all
-    (replays-plays files g from trips Whole name bytes file answer is good answers) in
-    run-output Homes codes programs file trips (start (rules_of programs) file) lines answer come.1 e
+replay-output g files from name trips lines answer (file, programs, cards, ok, e) answers =
+    let (bytes, is, good) = ok.world in
+    let (texts, are, all) = texts-of files (names_in file) programs ok.scripts in
+    let (notes, noted, read) = notes-of files (cards_in file) ok.read ok.notes in
+    let (codes, text, come) = plays-programs files g from trips (play_of Whole file) programs ok.read answer texts notes
+    are all noted read (replays-plays files g from trips Whole name bytes file answer is good answers) in
+    let held = notecards_of file.notes ok.read in
+    run-output Homes codes programs file trips (start (rules_of programs) file held) lines answer come.1
+    (subst (λ (z : List Notecard). lines ≡ lines_of (journal_of programs file z trips)) ok.cards_are e)
 
 pub outputs-answer : (g : Grade) (files : Files) (from : World) (command : Command) (trips : List Trip)
     (lines : List ℕ) (answer : Answer) → Outputs files from command trips lines
     → Answers g (Some files) from trips command answer → IsOutput lines answer
 outputs-answer g files from (Once name) trips lines answer (programs, h, e) answers =
     let (texts, are, all) = texts-of files (name ∷ []) programs h in
-    let (codes, text, come) = plays-programs files g from trips (play_of_once name) programs answer texts are all answers
-    in
-    run-output Homes codes programs once_world trips (start (rules_of programs) once_world) lines answer come.1 e
+    let (codes, text, come) = plays-programs files g from trips (play_of_once name) programs [] answer texts [] are all
+    tt tt answers in
+    run-output Homes codes programs once_world trips (start (rules_of programs) once_world []) lines answer come.1 e
 outputs-answer g files from (Check name) trips lines answer h answers = absurd h
 outputs-answer g files from (Replay name) trips lines answer h answers =
     replay-output g files from name trips lines answer h answers
 outputs-answer g files from (Freeze name) trips lines answer
-    (file, programs, codes, ((bytes, is, good), h), (texts, are, has), e) answers =
-    let come = texts-accepted g from trips (play_of Freezing file) texts [] programs codes answer
-    (accepted-texts files (names_in file) programs texts h are) has
-    (plays-texts files g from trips (play_of Freezing file) texts [] answer are tt
+    (file, programs, codes, cards, ok, (texts, are, has), e) answers =
+    let (bytes, is, good) = ok.world in
+    let (notes, noted, read) = notes-of files (cards_in file) ok.read ok.notes in
+    let held = notecards_of file.notes ok.read in
+    let come = texts-accepted g from trips (play_of Freezing file) texts notes [] programs codes ok.read answer
+    (accepted-texts files (names_in file) programs texts ok.scripts are) has read
+    (plays-texts files g from trips (play_of Freezing file) texts notes [] answer are noted tt
     (replays-plays files g from trips Freezing name bytes file answer is good answers)) in
-    run-output Frozen codes programs file trips (start (rules_of programs) file) lines answer come.1 e
+    run-output Frozen codes programs file trips (start (rules_of programs) file held) lines answer come.1
+    (subst (λ (z : List Notecard). lines ≡ frozen_from codes programs file trips (start (rules_of programs) file z))
+    ok.cards_are e)
 outputs-answer g files from (Thaw frozen name) trips lines answer
-    (file, programs, codes, ((bytes, is, good), h), (texts, are, has), (text, image, held, of, agrees, stands), e)
+    (file, programs, codes, cards, ok, (texts, are, has), (text, image, held, of, agrees, stands), e)
     answers =
-    let come = texts-accepted g from trips (play_of (Thawing frozen) file) texts text programs codes answer
-    (accepted-texts files (names_in file) programs texts h are) has
-    (plays-texts files g from trips (play_of (Thawing frozen) file) texts text answer are held
+    let (bytes, is, good) = ok.world in
+    let (notes, noted, read) = notes-of files (cards_in file) ok.read ok.notes in
+    let come = texts-accepted g from trips
+    (play_of (Thawing frozen) file) texts notes text programs codes ok.read answer
+    (accepted-texts files (names_in file) programs texts ok.scripts are) has read
+    (plays-texts files g from trips (play_of (Thawing frozen) file) texts notes text answer are noted held
     (replays-plays files g from trips (Thawing frozen) name bytes file answer is good answers)) in
-    thaw-output g from trips frozen codes programs file text image lines answer of stands e come
+    thaw-output g from trips frozen codes programs file (notecards_of file.notes ok.read) text image lines answer of
+    stands e come
 outputs-answer g files from (View frozen name) trips lines answer
-    (file, programs, codes, ((bytes, is, good), h), (texts, are, has), (text, image, held, of, agrees, stands), e)
-    answers =
-    let accepted = accepted-texts files (names_in file) programs texts h are in
-    let come = texts-accepted g from trips (play_of (Viewing frozen) file) texts text programs codes answer accepted has
-    (plays-texts files g from trips (play_of (Viewing frozen) file) texts text answer are held
-    (replays-plays files g from trips (Viewing frozen) name bytes file answer is good answers)) in
-    view-output from frozen codes programs file text image lines answer (codes-run texts programs codes accepted has)
-    (codes-named texts programs codes accepted has) of agrees stands e come
-outputs-answer g files from (Make number) trips lines answer (file, programs, good, e) (whole, answers, f) =
-    let report = lines_of (journal_of programs file trips) in
+    (file, programs, codes, cards, ok, (texts, are, has), (text, image, held, of, agrees, stands), e) answers =
+    let (bytes, is, good) = ok.world in
+    let (notes, noted, read) = notes-of files (cards_in file) ok.read ok.notes in
+    let accepted = accepted-texts files (names_in file) programs texts ok.scripts are in
+    let come = texts-accepted g from trips
+    (play_of (Viewing frozen) file) texts notes text programs codes ok.read answer
+    accepted has read (plays-texts files g from trips (play_of (Viewing frozen) file) texts notes text answer are noted
+    held (replays-plays files g from trips (Viewing frozen) name bytes file answer is good answers)) in
+    view-output from frozen codes programs file cards text image lines answer
+    (codes-run texts programs codes accepted has) (codes-named texts programs codes accepted has) of agrees stands e
+    come
+outputs-answer g files from (Make number) trips lines answer (file, programs, cards, good, e) (whole, answers, f) =
+    let report = lines_of (journal_of programs file cards trips) in
     let out : IsOutput report whole =
-    replay-output g (made_files number) from made_name trips report whole (file, programs, good, refl) answers in
+    replay-output g (made_files number) from made_name trips report whole (file, programs, cards, good, refl) answers in
     let well : answer ≡ record { status = Ok; pieces = made_piece number whole.pieces ∷ [] } =
     f ∙ summed-well number whole out.well in
     record {
@@ -160,9 +195,9 @@ outputs-answer g files from (Make number) trips lines answer (file, programs, go
 
 -- a frozen world is that of its text
 pub frozen-from : (files : Files) (frozen : List ℕ) (codes : List Code) (programs : List Program) (file : WorldFile)
-    (from : World) (text : List ℕ) → files frozen ≡ Some text → IsFrozenIn files frozen codes programs file from
-    → IsFrom codes programs file text from
-frozen-from files frozen codes programs file from text held (other, bytes, is, of, agrees, stands) parts
+    (cards : List Notecard) (from : World) (text : List ℕ) → files frozen ≡ Some text
+    → IsFrozenIn files frozen codes programs file cards from → IsFrom codes programs file cards text from
+frozen-from files frozen codes programs file cards from text held (other, bytes, is, of, agrees, stands) parts
     (image, given, like) =
     let same : bytes ≡ image = frozen-one text bytes image
     (subst (λ (z : List ℕ). IsFrozen z bytes) (some-one other text (sym is ∙ held)) of) given in (
@@ -172,34 +207,47 @@ frozen-from files frozen codes programs file from text held (other, bytes, is, o
     )
 
 -- so whatever good files the command has, the world fits them
-pub thaw-fits : (files : Files) (frozen name : List ℕ) (file : WorldFile) (texts : List (List ℕ))
-    (programs : List Program) (codes : List Code) (from : World) → IsWorldIn files name file
-    → AreHeld (Some files) (names_in file) texts → AreAccepted texts programs → AreCodesOf texts codes
-    → IsFrozenIn files frozen codes programs file from → IsFromOf (Some files) (Thaw frozen name) from
-thaw-fits files frozen name file texts programs codes from (bytes, is, good) are accepted has given other_bytes other
-    other_is other_good others text held holds ps cs all have =
+pub thaw-fits : (files : Files) (frozen name : List ℕ) (file : WorldFile) (texts notes : List (List ℕ))
+    (programs : List Program) (codes : List Code) (cards : List (List (List ℕ))) (from : World)
+    → IsWorldIn files name file → AreHeld (Some files) (names_in file) texts → AreAccepted texts programs
+    → AreCodesOf texts codes → AreHeld (Some files) (cards_in file) notes → AreCards notes cards
+    → IsFrozenIn files frozen codes programs file (notecards_of file.notes cards) from
+    → IsFromOf (Some files) (Thaw frozen name) from
+thaw-fits files frozen name file texts notes programs codes cards from
+    (bytes, is, good) are accepted has noted read given
+    other_bytes other other_is other_good others more text held listed holds ps cs all have ds known_cards =
     let same : file ≡ other = world-one other_bytes file other
     (subst (λ (z : List ℕ). IsWorld z file) (text-one files name bytes other_bytes is other_is) good) other_good in
     let alike : texts ≡ others = texts-one files (names_in other) texts others
     (subst (λ (z : WorldFile). AreHeld (Some files) (names_in z) texts) same are) held in
+    let like : notes ≡ more = texts-one files (cards_in other) notes more
+    (subst (λ (z : WorldFile). AreHeld (Some files) (cards_in z) notes) same noted) listed in
     let known : AreAccepted others programs = subst (λ (z : List (List ℕ)). AreAccepted z programs) alike accepted in
     let coded : AreCodesOf others codes = subst (λ (z : List (List ℕ)). AreCodesOf z codes) alike has in
-    frozen-from files frozen cs ps other from text holds
-    (subst (λ (z : List Code). IsFrozenIn files frozen z ps other from) (codes-one others codes cs coded have)
-    (subst (λ (z : List Program). IsFrozenIn files frozen codes z other from) (programs-one others programs ps known all)
-    (subst (λ (z : WorldFile). IsFrozenIn files frozen codes programs z from) same given)))
+    let taken : AreCards more cards = subst (λ (z : List (List ℕ)). AreCards z cards) like read in
+    frozen-from files frozen cs ps other (notecards_of other.notes ds) from text holds
+    (subst (λ (z : List (List (List ℕ))). IsFrozenIn files frozen cs ps other (notecards_of other.notes z) from)
+    (cards-one more cards ds taken known_cards)
+    (subst (λ (z : List Code). IsFrozenIn files frozen z ps other (notecards_of other.notes cards) from)
+    (codes-one others codes cs coded have)
+    (subst (λ (z : List Program). IsFrozenIn files frozen codes z other (notecards_of other.notes cards) from)
+    (programs-one others programs ps known all)
+    (subst (λ (z : WorldFile). IsFrozenIn files frozen codes programs z
+    (notecards_of z.notes cards) from) same given))))
 
 pub outputs-fit : (files : Files) (from : World) (command : Command) (trips : List Trip) (lines : List ℕ)
     → Outputs files from command trips lines → IsFromOf (Some files) command from
 outputs-fit files from (Once name) trips lines h = tt
 outputs-fit files from (Check name) trips lines h = tt
 outputs-fit files from (Replay name) trips lines h =
-    λ bytes file is good texts text are holds programs codes all has. tt
+    λ bytes file is good texts notes text are noted holds programs codes all has cards read. tt
 outputs-fit files from (Freeze name) trips lines h =
-    λ bytes file is good texts text are holds programs codes all has. tt
+    λ bytes file is good texts notes text are noted holds programs codes all has cards read. tt
 outputs-fit files from (Make number) trips lines h = tt
-outputs-fit files from (Thaw frozen name) trips lines (file, programs, codes, (world, h), (texts, are, has), given, e) =
-    thaw-fits files frozen name file texts programs codes from world are
-    (accepted-texts files (names_in file) programs texts h are) has given
+outputs-fit files from (Thaw frozen name) trips lines (file, programs, codes, cards, ok, (texts, are, has), given, e) =
+    let (notes, noted, read) = notes-of files (cards_in file) ok.read ok.notes in
+    thaw-fits files frozen name file texts notes programs codes ok.read from ok.world are
+    (accepted-texts files (names_in file) programs texts ok.scripts are) has noted read
+    (subst (λ (z : List Notecard). IsFrozenIn files frozen codes programs file z from) ok.cards_are given)
 outputs-fit files from (View frozen name) trips lines h =
-    λ bytes file is good texts text are holds programs codes all has. tt
+    λ bytes file is good texts notes text are noted holds programs codes all has cards read. tt

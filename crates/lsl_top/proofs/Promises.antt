@@ -15,7 +15,7 @@ use Rattle.lsl_top.specs.Ports.{HasAnswer, IsOwn, Ports, Serves, gives_by}
 use Rattle.lsl_top.specs.Promise.{Keeps, KeepsTo, RunsNothing, SendsNothing, WritesNothing, Wrote}
 use Rattle.lsl_top.specs.Words.{Command}
 use Rattle.lsl_top.specs.declared.status.Status.{Status}
-use Rattle.lsl_top.specs.declared.status.Status.TheVariants.{Ok, Usage, BadWorld, BadScript, ReadFault, WriteFault, BadImage, NoMemory}
+use Rattle.lsl_top.specs.declared.status.Status.TheVariants.{Ok, Usage, BadWorld, BadScript, ReadFault, WriteFault, BadImage, NoMemory, BadNote}
 use Rattle.lsl_top.proofs.OneAnswer.{answers-one}
 use Rattle.lsl_top.proofs.Outputs.{outputs-answer, outputs-fit}
 use Rattle.lsl_top.proofs.Pieces.{begun-partly}
@@ -48,6 +48,7 @@ module _ (files : Files) (from : World) (command : Command) (trips : List Trip) 
   kept-lines BadWorld k u r w = inl (wrote-lines BadWorld k)
   kept-lines BadScript k u r w = inl (wrote-lines BadScript k)
   kept-lines BadImage k u r w = inl (wrote-lines BadImage k)
+  kept-lines BadNote k u r w = inl (wrote-lines BadNote k)
   kept-lines NoMemory k u r w = inr (refl, wrote-part k)
   kept-lines Usage k u r w = absurd (u refl)
   kept-lines ReadFault k u r w = absurd (r refl)
@@ -60,6 +61,7 @@ own-status Ok u r w = inl tt
 own-status BadWorld u r w = inl tt
 own-status BadScript u r w = inl tt
 own-status BadImage u r w = inl tt
+own-status BadNote u r w = inl tt
 own-status NoMemory u r w = inr refl
 own-status Usage u r w = absurd (u refl)
 own-status ReadFault u r w = absurd (r refl)
@@ -83,6 +85,7 @@ module _ (gives : List ℕ → Option (List ℕ) → Type 0) (held : Option File
       go BadScript e n = absurd n
       go WriteFault e n = absurd n
       go BadImage e n = absurd n
+      go BadNote e n = absurd n
       go NoMemory e n = absurd n
 
   pub promise-kept : (trips : List Trip) × Went gives old.wire.told new.wire.told trips

@@ -13,6 +13,7 @@ use Rattle.lsl_image.specs.Reading.{IsRefusedBy}
 use Rattle.lsl_lines.specs.Frozen.{HasFrozenLine, IsFrozen}
 use Rattle.lsl_lines.specs.declared.file.WorldFile.{WorldFile}
 use Rattle.lsl_lines.specs.declared.file.Step.{Step}
+use Rattle.lsl_notes.specs.declared.cards.Notecard.{Notecard}
 use Rattle.lsl_tree.specs.Program.{Program}
 use Rattle.lsl_region.specs.Worlds.{World}
 use Rattle.lsl_world.specs.declared.world.World.{World as Memory}
@@ -85,13 +86,13 @@ thaw-found codes file text image slice (Ok m) of same is =
 thaw-found codes file text image slice (Err e) of same is = tt
 
 -- and it is the world that the text has, where there is one
-pub thaw-of : {E : Type 0} (codes : List Code) (programs : List Program) (file : WorldFile) (text image slice : List ℕ)
-    (w : World) (result : Result Memory E) → IsFrozen text image → slice ≡ image
-    → IfOk result (λ m. IsImageIn codes file (parts_in m) slice) → IsFrom codes programs file text w
-    → (AgreesWith programs file w → IsImageIn codes file (parts_of_world codes w) slice
+pub thaw-of : {E : Type 0} (codes : List Code) (programs : List Program) (file : WorldFile) (cards : List Notecard)
+    (text image slice : List ℕ) (w : World) (result : Result Memory E) → IsFrozen text image → slice ≡ image
+    → IfOk result (λ m. IsImageIn codes file (parts_in m) slice) → IsFrom codes programs file cards text w
+    → (AgreesWith programs file cards w → IsImageIn codes file (parts_of_world codes w) slice
     → IfOk result (λ m. IsOf programs m w)) → IfOk result (λ m. IsOf programs m w)
-thaw-of codes programs file text image slice w (Ok m) of same is from then_is =
+thaw-of codes programs file cards text image slice w (Ok m) of same is from then_is =
     let (agrees, parts) = from (parts_in m)
     (image, of, subst (λ (z : List ℕ). IsImageIn codes file (parts_in m) z) same is) in
     then_is agrees (subst (λ (p : WorldParts). IsImageIn codes file p slice) (sym parts) is)
-thaw-of codes programs file text image slice w (Err e) of same is from then_is = tt
+thaw-of codes programs file cards text image slice w (Err e) of same is from then_is = tt

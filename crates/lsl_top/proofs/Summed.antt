@@ -13,7 +13,7 @@ use Rattle.lsl_ports.proofs.Growth.{begins-after, begins-all, begins-is, begins-
 use Rattle.lsl_region.specs.Worlds.{World}
 use Rattle.lsl_top.specs.Answers.{Answer, Grade, Due, Written, Makes, ReplaysFile, made_piece, plain, summed, summed_as}
 use Rattle.lsl_top.specs.Froms.{IsFromFile}
-use Rattle.lsl_top.specs.Lines.{refusal_of, world_refusal_of}
+use Rattle.lsl_top.specs.Lines.{note_refusal_of, refusal_of, world_refusal_of}
 use Rattle.lsl_top.specs.Made.{made_files, made_line, made_name, two_files}
 use Rattle.lsl_top.specs.Named.{IsNamedIn}
 use Rattle.lsl_top.specs.Pieces.{Piece, sent_in}
@@ -21,7 +21,7 @@ use Rattle.lsl_top.specs.Plays.{Whole}
 use Rattle.lsl_top.specs.Ports.{Concludes, HasAnswer, IsOwn, Log, Serves, Wire, Writes, status_after}
 use Rattle.lsl_top.specs.Promise.{IsBegun, IsWhole, KeepsTo, SendsNothing, Wrote, WrotePart}
 use Rattle.lsl_top.specs.declared.status.Status.{Status}
-use Rattle.lsl_top.specs.declared.status.Status.TheVariants.{Ok, Usage, BadWorld, BadScript, ReadFault, WriteFault, BadImage, NoMemory}
+use Rattle.lsl_top.specs.declared.status.Status.TheVariants.{Ok, Usage, BadWorld, BadScript, ReadFault, WriteFault, BadImage, NoMemory, BadNote}
 use Rattle.lsl_top.specs.declared.writing.Trouble.{Trouble}
 use Rattle.lsl_top.specs.declared.writing.Trouble.TheVariants.{WriteFault as WriteTrouble, NoMemory as MemoryTrouble}
 use Rattle.lsl_top.proofs.Finishing.{keeps-as}
@@ -44,6 +44,7 @@ same-as ReadFault number answer other = refl
 same-as WriteFault number answer other = refl
 same-as BadImage number answer other = refl
 same-as NoMemory number answer other = refl
+same-as BadNote number answer other = refl
 
 pub summed-other : (number : ℕ) (answer : Answer) → answer.status ≢ Ok → summed number answer ≡ answer
 summed-other number answer other = same-as answer.status number answer other
@@ -102,15 +103,61 @@ module _ (number : ℕ) (held : Option Files) (is : held ≡ Some (made_files nu
 
   -- a world that was made wasn't frozen, so any fits
   pub made-fits : (from : World) → IsFromFile held Whole made_name from
-  made-fits from = λ bytes file holds good texts text are frozen programs codes all has. tt
+  made-fits from =
+      λ bytes file holds good texts notes text are noted frozen programs codes all has cards read. tt
 
   run-or-refusal : (grade : Grade) (from : World) (trips : List Trip) (answer : Answer)
       → Replayed grade from trips answer → (answer.status ≡ Ok) ⊎ IsRefusal answer
-  run-or-refusal grade from trips answer
-      (bytes, holds, inl (file, good, (texts, text, are, frozen, inl (programs, codes, all, has, come)))) =
+  run-or-refusal grade from trips answer (
+    bytes,
+    holds,
+    inl (
+      file,
+      good,
+      (
+        texts,
+        notes,
+        text,
+        are,
+        noted,
+        frozen,
+        inl (
+          programs,
+          codes,
+          all,
+          has,
+          inl (cards, read, come),
+        ),
+      ),
+    ),
+  ) =
       inl (ap (λ (a : Answer). a.status) come.1)
+  run-or-refusal grade from trips answer (
+    bytes,
+    holds,
+    inl (
+      file,
+      good,
+      (
+        texts,
+        notes,
+        text,
+        are,
+        noted,
+        frozen,
+        inl (
+          programs,
+          codes,
+          all,
+          has,
+          inr (name, fault, first, e),
+        ),
+      ),
+    ),
+  ) =
+      inr (refused answer BadNote (note_refusal_of name fault) (λ f. cc) e)
   run-or-refusal grade from trips answer
-      (bytes, holds, inl (file, good, (texts, text, are, frozen, inr (name, fault, first, e)))) =
+      (bytes, holds, inl (file, good, (texts, notes, text, are, noted, frozen, inr (name, fault, first, e)))) =
       inr (refused answer BadScript (refusal_of name fault) (λ f. cc) e)
   run-or-refusal grade from trips answer (bytes, holds, inr (fault, first, e)) =
       inr (refused answer BadWorld (world_refusal_of made_name fault) (λ f. cc) e)
@@ -282,6 +329,7 @@ module _ (number : ℕ) (held : Option Files) (is : held ≡ Some (made_files nu
     is-refused bytes BadWorld well lost h = (tt, tt)
     is-refused bytes BadScript well lost h = (tt, tt)
     is-refused bytes BadImage well lost h = (tt, tt)
+    is-refused bytes BadNote well lost h = (tt, tt)
     is-refused bytes Usage well lost h = absurd (h.no_usage refl)
     is-refused bytes ReadFault well lost h = absurd (none-rose ((h.read_fault refl).2))
     is-refused bytes WriteFault well lost h = absurd (none-rose (h.write_fault refl))

@@ -14,6 +14,8 @@ use Rattle.lsl_lines.specs.declared.faults.FileFault.{FileFault}
 use Rattle.lsl_lines.specs.declared.file.WorldFile.{WorldFile}
 use Rattle.lsl_image.specs.declared.faults.ImageFault.{ImageFault}
 use Rattle.lsl_image.specs.declared.parts.WorldParts.{WorldParts}
+use Rattle.lsl_notes.specs.declared.cards.Notecard.{Notecard}
+use Rattle.lsl_notes.specs.declared.faults.CardFault.{CardFault}
 use Rattle.lsl_region.specs.Worlds.{World}
 use Rattle.lsl_view.specs.Names.{script_names}
 use Rattle.lsl_view.specs.Parts.{view_of_parts}
@@ -21,15 +23,16 @@ use Rattle.lsl_world.specs.Programs.{rules_of}
 use Rattle.lsl_world.specs.Starts.{start}
 use Rattle.lsl_world.specs.Travels.{travel}
 use Rattle.lsl_top.specs.Held.{Holds, HoldsFrozen, AreHeld}
-use Rattle.lsl_top.specs.Lines.{accepted_line, image_refusal_of, refusal_of, world_refusal_of}
+use Rattle.lsl_top.specs.Lines.{accepted_line, image_refusal_of, note_refusal_of, refusal_of, world_refusal_of}
 use Rattle.lsl_top.specs.Made.{made_files, made_line, made_name}
 use Rattle.lsl_top.specs.Pieces.{Piece, lines_in, pieces_from, sent_in}
 use Rattle.lsl_top.specs.Plays.{Mode, Whole, Freezing, Thawing, Play, play_of, play_of_once, Last, Homes, Frozen, Viewing}
+use Rattle.lsl_top.specs.Notes.{AreCards, FirstBad, notecards_of}
 use Rattle.lsl_top.specs.Scripts.{AreAccepted, FirstRefused}
 use Rattle.lsl_top.specs.Thaws.{CanThaw, IsThawFault, IsThawOf}
 use Rattle.lsl_top.specs.Words.{Command, Once, Check, Replay, Freeze, Thaw, Make, View}
 use Rattle.lsl_top.specs.declared.status.Status.{Status}
-use Rattle.lsl_top.specs.declared.status.Status.TheVariants.{Ok, Usage, BadWorld, BadScript, ReadFault, WriteFault, BadImage, NoMemory}
+use Rattle.lsl_top.specs.declared.status.Status.TheVariants.{Ok, Usage, BadWorld, BadScript, ReadFault, WriteFault, BadImage, NoMemory, BadNote}
 
 -- how a command ends, with its whole output and all that it hands to the link, piece by piece
 pub record Answer : Type 0 where
@@ -49,6 +52,9 @@ script_refused name fault = plain BadScript (refusal_of name fault)
 abbrev pub world_refused : List ℕ → FileFault → Answer
 world_refused name fault = plain BadWorld (world_refusal_of name fault)
 
+abbrev pub note_refused : List ℕ → CardFault → Answer
+note_refused name fault = plain BadNote (note_refusal_of name fault)
+
 abbrev pub image_refused : List ℕ → ImageFault → Answer
 image_refused name fault = plain BadImage (image_refusal_of name fault)
 
@@ -62,16 +68,17 @@ pub data Grade : Type 0 where
   Due : Grade
   Written : Grade
 
-abbrev pub Lasts : Grade → Last → List Code → List Program → WorldFile → World → Type 0
-Lasts Due last codes programs file w = Unit {0}
-Lasts Written Homes codes programs file w = Unit {0}
-Lasts Written Frozen codes programs file w = CanThaw codes programs file w
+abbrev pub Lasts : Grade → Last → List Code → List Program → WorldFile → List Notecard → World → Type 0
+Lasts Due last codes programs file cards w = Unit {0}
+Lasts Written Homes codes programs file cards w = Unit {0}
+Lasts Written Frozen codes programs file cards w = CanThaw codes programs file cards w
 
 -- a run from the file's start
-abbrev pub ComesFromStart : Grade → List Trip → Last → List Code → List Program → WorldFile → Answer → Type 0
-ComesFromStart grade trips last codes programs file answer =
-    let w = start (rules_of programs) file in
-    Lasts grade last codes programs file (travel (rules_of programs) file.steps trips w).value
+abbrev pub ComesFromStart : Grade → List Trip → Last → List Code → List Program → WorldFile → List Notecard → Answer
+    → Type 0
+ComesFromStart grade trips last codes programs file cards answer =
+    let w = start (rules_of programs) file cards in
+    Lasts grade last codes programs file cards (travel (rules_of programs) file.steps trips w).value
     × (answer ≡ run_answer last codes programs file trips w)
 
 -- what is shown of the text of a frozen world of the file: where its scripts stand, by its parts; or its refusal
@@ -81,32 +88,45 @@ Shows codes file name text answer =
     × (answer ≡ done (view_of_parts codes (script_names file) parts)))
     ⊎ ((fault : ImageFault) × IsThawFault codes file text fault × (answer ≡ image_refused name fault))
 
--- what comes of scripts that are accepted as these programs: a run from the file's start, or from the world that was
--- frozen, where the text is of a frozen world of the file; or that world is shown
-abbrev pub Comes : Grade → World → List Trip → Mode → List Code → List Program → WorldFile → List ℕ → Answer → Type 0
-Comes grade from trips Whole codes programs file text answer =
-    ComesFromStart grade trips Homes codes programs file answer
-Comes grade from trips Freezing codes programs file text answer =
-    ComesFromStart grade trips Frozen codes programs file answer
-Comes grade from trips (Thawing name) codes programs file text answer =
+-- what comes of scripts that are accepted as these programs, with these notecards: a run from the file's start, or from
+-- the world that was frozen, where the text is of a frozen world of the file; or that world is shown
+abbrev pub Comes : Grade → World → List Trip → Mode → List Code → List Program → WorldFile → List Notecard → List ℕ
+    → Answer → Type 0
+Comes grade from trips Whole codes programs file cards text answer =
+    ComesFromStart grade trips Homes codes programs file cards answer
+Comes grade from trips Freezing codes programs file cards text answer =
+    ComesFromStart grade trips Frozen codes programs file cards answer
+Comes grade from trips (Thawing name) codes programs file cards text answer =
     ((parts : WorldParts) × IsThawOf codes file text parts
     × (answer ≡ run_answer Homes codes programs file trips from))
     ⊎ ((fault : ImageFault) × IsThawFault codes file text fault × (answer ≡ image_refused name fault))
-Comes grade from trips (Viewing name) codes programs file text answer = Shows codes file name text answer
+Comes grade from trips (Viewing name) codes programs file cards text answer = Shows codes file name text answer
 
--- what is answered to a play whose files have these texts, its scripts' and the frozen one: what comes of the programs,
--- by the code that they have, or the refusal of the first script that isn't accepted
-abbrev pub PlaysTexts : Grade → World → List Trip → Play → List (List ℕ) → List ℕ → Answer → Type 0
-PlaysTexts grade from trips play texts text answer =
+-- what is answered to a play whose scripts are accepted, where its other files have these texts, its notecards' and the
+-- frozen one: what comes of the programs, by the code that they have, or the refusal of the first text that is no
+-- notecard
+abbrev pub PlaysAccepted : Grade → World → List Trip → Play → List Code → List Program → List (List ℕ) → List ℕ
+    → Answer → Type 0
+PlaysAccepted grade from trips play codes programs notes text answer =
+    ((cards : List (List (List ℕ))) × AreCards notes cards
+    × Comes grade from trips play.mode codes programs play.world (notecards_of play.world.notes cards) text answer)
+    ⊎ ((name : List ℕ) × (fault : CardFault) × FirstBad play.cards notes name fault
+    × (answer ≡ note_refused name fault))
+
+-- what is answered to a play whose files have these texts, its scripts' first: what comes of the programs, or the
+-- refusal of the first script that isn't accepted
+abbrev pub PlaysTexts : Grade → World → List Trip → Play → (texts notes : List (List ℕ)) → List ℕ → Answer → Type 0
+PlaysTexts grade from trips play texts notes text answer =
     ((programs : List Program) × (codes : List Code) × AreAccepted texts programs × AreCodesOf texts codes
-    × Comes grade from trips play.mode codes programs play.world text answer)
+    × PlaysAccepted grade from trips play codes programs notes text answer)
     ⊎ ((name : List ℕ) × (fault : BuildFault) × FirstRefused play.names texts name fault
     × (answer ≡ script_refused name fault))
 
 abbrev pub Plays : Grade → Option Files → World → List Trip → Play → Answer → Type 0
 Plays grade held from trips play answer =
-    (texts : List (List ℕ)) × (text : List ℕ) × AreHeld held play.names texts × HoldsFrozen held play.mode text
-    × PlaysTexts grade from trips play texts text answer
+    (texts : List (List ℕ)) × (notes : List (List ℕ)) × (text : List ℕ) × AreHeld held play.names texts
+    × AreHeld held play.cards notes × HoldsFrozen held play.mode text
+    × PlaysTexts grade from trips play texts notes text answer
 
 -- a text is accepted, or refused for its first fault
 abbrev pub Checks : List ℕ → List ℕ → Answer → Type 0
@@ -139,6 +159,7 @@ summed_as ReadFault number answer = answer
 summed_as WriteFault number answer = answer
 summed_as BadImage number answer = answer
 summed_as NoMemory number answer = answer
+summed_as BadNote number answer = answer
 
 abbrev pub summed : ℕ → Answer → Answer
 summed number answer = summed_as answer.status number answer

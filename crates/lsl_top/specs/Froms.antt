@@ -6,29 +6,36 @@ use Rattle.lsl_build.specs.Codes.{AreCodesOf}
 use Rattle.lsl_code.specs.declared.woven_units.Woven.{Woven as Code}
 use Rattle.lsl_lines.specs.World.{IsWorld}
 use Rattle.lsl_lines.specs.declared.file.WorldFile.{WorldFile}
+use Rattle.lsl_notes.specs.declared.cards.Notecard.{Notecard}
 use Rattle.lsl_tree.specs.Program.{Program}
 use Rattle.lsl_region.specs.Worlds.{World}
 use Rattle.lsl_top.specs.Held.{Holds, HoldsFrozen, AreHeld}
 use Rattle.lsl_top.specs.Plays.{Mode, Whole, Freezing, Thawing, Viewing, Play, play_of}
+use Rattle.lsl_top.specs.Notes.{AreCards, notecards_of}
 use Rattle.lsl_top.specs.Scripts.{AreAccepted}
 use Rattle.lsl_top.specs.Thaws.{IsFrom}
 use Rattle.lsl_top.specs.Words.{Command, Once, Check, Replay, Freeze, Thaw, Make, View}
 
-abbrev pub IsFromIn : Mode → List Code → List Program → WorldFile → List ℕ → World → Type 0
-IsFromIn Whole codes programs file text from = Unit {0}
-IsFromIn Freezing codes programs file text from = Unit {0}
-IsFromIn (Thawing name) codes programs file text from = IsFrom codes programs file text from
-IsFromIn (Viewing name) codes programs file text from = Unit {0}
+abbrev pub IsFromIn : Mode → List Code → List Program → WorldFile → List Notecard → List ℕ → World → Type 0
+IsFromIn Whole codes programs file cards text from = Unit {0}
+IsFromIn Freezing codes programs file cards text from = Unit {0}
+IsFromIn (Thawing name) codes programs file cards text from = IsFrom codes programs file cards text from
+IsFromIn (Viewing name) codes programs file cards text from = Unit {0}
 
-abbrev pub IsFromTexts : Play → List (List ℕ) → List ℕ → World → Type 0
-IsFromTexts play texts text from =
+abbrev pub IsFromAccepted : Play → List Code → List Program → List (List ℕ) → List ℕ → World → Type 0
+IsFromAccepted play codes programs notes text from =
+    (cards : List (List (List ℕ))) → AreCards notes cards
+    → IsFromIn play.mode codes programs play.world (notecards_of play.world.notes cards) text from
+
+abbrev pub IsFromTexts : Play → (texts notes : List (List ℕ)) → List ℕ → World → Type 0
+IsFromTexts play texts notes text from =
     (programs : List Program) (codes : List Code) → AreAccepted texts programs → AreCodesOf texts codes
-    → IsFromIn play.mode codes programs play.world text from
+    → IsFromAccepted play codes programs notes text from
 
 abbrev pub IsFromPlay : Option Files → Play → World → Type 0
 IsFromPlay held play from =
-    (texts : List (List ℕ)) (text : List ℕ) → AreHeld held play.names texts → HoldsFrozen held play.mode text
-    → IsFromTexts play texts text from
+    (texts notes : List (List ℕ)) (text : List ℕ) → AreHeld held play.names texts → AreHeld held play.cards notes
+    → HoldsFrozen held play.mode text → IsFromTexts play texts notes text from
 
 abbrev pub IsFromFile : Option Files → Mode → List ℕ → World → Type 0
 IsFromFile held mode name from =

@@ -10,22 +10,28 @@ use Rattle.lsl_top.specs.Froms.{IsFromWords}
 use Rattle.lsl_top.specs.Headline.{IsWorldIn}
 use Rattle.lsl_top.specs.Held.{AreHeld}
 use Rattle.lsl_top.specs.Pieces.{lines_in, sent_in}
-use Rattle.lsl_top.specs.Plays.{names_in}
+use Rattle.lsl_top.specs.Plays.{cards_in, names_in}
 use Rattle.lsl_top.specs.Words.{Replay, Freeze, Thaw}
 use Rattle.lsl_top.specs.declared.status.Status.TheVariants.{Ok}
 
--- two files have the objects, prims and scripts of a third, and their steps, one after the other, are its steps
+-- two files have the objects, prims, scripts and notecards of a third, and their steps, one after the other, are its
+-- steps
 pub record AreHalves (first second whole : WorldFile) : Type 0 where
   pub first_objects : first.objects ≡ whole.objects
   pub second_objects : second.objects ≡ whole.objects
   pub first_files : first.files ≡ whole.files
   pub second_files : second.files ≡ whole.files
+  pub first_cards : first.cards ≡ whole.cards
+  pub second_cards : second.cards ≡ whole.cards
+  pub first_notes : first.notes ≡ whole.notes
+  pub second_notes : second.notes ≡ whole.notes
   pub steps : whole.steps ≡ first.steps ++ second.steps
 
--- a shelf has the file of a world, and its scripts with these texts
-pub record IsOnShelf (files : Files) (name : List ℕ) (file : WorldFile) (texts : List (List ℕ)) : Type 0 where
+-- a shelf has the file of a world, and its scripts and notecards with these texts
+pub record IsOnShelf (files : Files) (name : List ℕ) (file : WorldFile) (texts notes : List (List ℕ)) : Type 0 where
   pub world : IsWorldIn files name file
   pub scripts : AreHeld (Some files) (names_in file) texts
+  pub cards : AreHeld (Some files) (cards_in file) notes
 
 -- what `freeze` wrote where it ended well and made these trips; nothing was frozen before, so any world stands for that
 pub record IsFrozenBy (files : Files) (name : List ℕ) (from : World) (trips : List Trip) (froze : Answer) : Type 0
@@ -57,8 +63,9 @@ pub record IsGoneOn (more all : Files) (frozen second whole : List ℕ) (before 
 abbrev pub TwoHalvesAreOneRun : Type 0
 TwoHalvesAreOneRun =
     (files more all : Files) (first_name second_name whole_name frozen : List ℕ) (first second whole : WorldFile)
-    (texts : List (List ℕ)) (from : World) (before behind : List Trip) (froze : Answer)
-    → AreHalves first second whole → IsOnShelf files first_name first texts → IsOnShelf more second_name second texts
-    → IsOnShelf all whole_name whole texts → IsFrozenBy files first_name from before froze
+    (texts notes : List (List ℕ)) (from : World) (before behind : List Trip) (froze : Answer)
+    → AreHalves first second whole → IsOnShelf files first_name first texts notes
+    → IsOnShelf more second_name second texts notes → IsOnShelf all whole_name whole texts notes
+    → IsFrozenBy files first_name from before froze
     → more frozen ≡ Some (lines_in froze.pieces) → length (lines_in froze.pieces) ≤ most_frozen_text
     → IsGoneOn more all frozen second_name whole_name before behind froze

@@ -13,6 +13,8 @@ use Rattle.lsl_lines.specs.Journal.{lines_of}
 use Rattle.lsl_lines.specs.World.{IsWorld}
 use Rattle.lsl_lines.specs.declared.file.Step.{Step}
 use Rattle.lsl_lines.specs.declared.file.WorldFile.{WorldFile}
+use Rattle.lsl_notes.specs.declared.cards.Notecard.{Notecard}
+use Rattle.lsl_notes.specs.Card.{IsCard}
 use Rattle.lsl_region.specs.Worlds.{World}
 use Rattle.lsl_world.specs.Frozen.{AgreesWith, IsImageIn, frozen_image, parts_of_world}
 use Rattle.lsl_world.specs.Kept.{kept_steps, regions_of}
@@ -23,8 +25,9 @@ use Rattle.lsl_world.specs.Steps.{reference}
 use Rattle.lsl_view.specs.Source.{view_of_world}
 use Rattle.lsl_top.specs.Held.{AreHeld}
 use Rattle.lsl_top.specs.Made.{made_files, made_line, made_name}
-use Rattle.lsl_top.specs.Plays.{Mode, Whole, Freezing, Thawing, names_in, once_world, Last, Homes, Frozen}
+use Rattle.lsl_top.specs.Plays.{Last, Homes, Frozen, cards_in, names_in, once_world}
 use Rattle.lsl_top.specs.Words.{Command, Once, Check, Replay, Freeze, Thaw, Make, View}
+use Rattle.lsl_top.specs.Notes.{notecards_of}
 use Rattle.lsl_top.specs.declared.status.Status.{Status}
 use Rattle.lsl_top.specs.declared.status.Status.TheVariants.{Ok, NoMemory}
 
@@ -40,15 +43,24 @@ IsCodeIn files names codes = (texts : List (List ℕ)) × AreHeld (Some files) n
 abbrev pub IsWorldIn : Files → List ℕ → WorldFile → Type 0
 IsWorldIn files name file = (bytes : List ℕ) × (files name ≡ Some bytes) × IsWorld bytes file
 
--- good files: that of the world, and those of its scripts, which are accepted as these programs
-abbrev pub AreGood : Files → List ℕ → WorldFile → List Program → Type 0
-AreGood files name file programs = IsWorldIn files name file × AllZip (IsScriptIn files) (names_in file) programs
+-- the file of that name is there, and is a notecard of these lines
+abbrev pub IsCardIn : Files → List ℕ → List (List ℕ) → Type 0
+IsCardIn files name card = (bytes : List ℕ) × (files name ≡ Some bytes) × IsCard bytes card
+
+-- good files: that of the world, those of its scripts, which are accepted as these programs, and those of its notecards
+pub record AreGood (files : Files) (name : List ℕ) (file : WorldFile) (programs : List Program) (cards : List Notecard)
+    : Type 0 where
+  pub world : IsWorldIn files name file
+  pub scripts : AllZip (IsScriptIn files) (names_in file) programs
+  pub read : List (List (List ℕ))
+  pub notes : AllZip (IsCardIn files) (cards_in file) read
+  pub cards_are : cards ≡ notecards_of file.notes read
 
 -- the file of that name is there, and its last line is the image of this world, which agrees with the world's file
-abbrev pub IsFrozenIn : Files → List ℕ → List Code → List Program → WorldFile → World → Type 0
-IsFrozenIn files name codes programs file from =
+abbrev pub IsFrozenIn : Files → List ℕ → List Code → List Program → WorldFile → List Notecard → World → Type 0
+IsFrozenIn files name codes programs file cards from =
     (text : List ℕ) × (bytes : List ℕ) × (files name ≡ Some text) × IsFrozen text bytes
-    × AgreesWith programs file from × IsImageIn codes file (parts_of_world codes from) bytes
+    × AgreesWith programs file cards from × IsImageIn codes file (parts_of_world codes from) bytes
 
 -- the steps that are kept in a run from a world
 abbrev pub kept_from : WorldFile → List Trip → World → List Step
@@ -75,26 +87,30 @@ output_from Frozen codes programs file trips w = frozen_from codes programs file
 abbrev pub Outputs : Files → World → Command → List Trip → List ℕ → Type 0
 Outputs files from (Once name) trips lines =
     (programs : List Program) × AllZip (IsScriptIn files) (name ∷ []) programs
-    × (lines ≡ lines_of (journal_of programs once_world trips))
+    × (lines ≡ lines_of (journal_of programs once_world [] trips))
 Outputs files from (Check name) trips lines = ⊥
 Outputs files from (Replay name) trips lines =
-    (file : WorldFile) × (programs : List Program) × AreGood files name file programs
-    × (lines ≡ lines_of (journal_of programs file trips))
+    (file : WorldFile) × (programs : List Program) × (cards : List Notecard) × AreGood files name file programs cards
+    × (lines ≡ lines_of (journal_of programs file cards trips))
 Outputs files from (Freeze name) trips lines =
-    (file : WorldFile) × (programs : List Program) × (codes : List Code) × AreGood files name file programs
+    (file : WorldFile) × (programs : List Program) × (codes : List Code) × (cards : List Notecard)
+    × AreGood files name file programs cards
     × IsCodeIn files (names_in file) codes
-    × (lines ≡ frozen_from codes programs file trips (start (rules_of programs) file))
+    × (lines ≡ frozen_from codes programs file trips (start (rules_of programs) file cards))
 Outputs files from (Thaw frozen name) trips lines =
-    (file : WorldFile) × (programs : List Program) × (codes : List Code) × AreGood files name file programs
-    × IsCodeIn files (names_in file) codes × IsFrozenIn files frozen codes programs file from
+    (file : WorldFile) × (programs : List Program) × (codes : List Code) × (cards : List Notecard)
+    × AreGood files name file programs cards
+    × IsCodeIn files (names_in file) codes × IsFrozenIn files frozen codes programs file cards from
     × (lines ≡ report_from programs file trips from)
 Outputs files from (View frozen name) trips lines =
-    (file : WorldFile) × (programs : List Program) × (codes : List Code) × AreGood files name file programs
-    × IsCodeIn files (names_in file) codes × IsFrozenIn files frozen codes programs file from
+    (file : WorldFile) × (programs : List Program) × (codes : List Code) × (cards : List Notecard)
+    × AreGood files name file programs cards
+    × IsCodeIn files (names_in file) codes × IsFrozenIn files frozen codes programs file cards from
     × (lines ≡ view_of_world programs from)
 Outputs files from (Make number) trips lines =
-    (file : WorldFile) × (programs : List Program) × AreGood (made_files number) made_name file programs
-    × (lines ≡ made_line number (lines_of (journal_of programs file trips)))
+    (file : WorldFile) × (programs : List Program) × (cards : List Notecard)
+    × AreGood (made_files number) made_name file programs cards
+    × (lines ≡ made_line number (lines_of (journal_of programs file cards trips)))
 
 -- the sink grew by exactly these lines, or memory lacked, and it grew by a prefix of them
 abbrev pub WritesLines : List ℕ → Status → Option (List ℕ) → Option (List ℕ) → Type 0

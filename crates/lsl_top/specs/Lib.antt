@@ -3,6 +3,7 @@ pub mod Status
 pub mod Held
 pub mod Scripts
 pub mod Lines
+pub mod Notes
 pub mod Plays
 pub mod Pieces
 pub mod Thaws

@@ -4,6 +4,8 @@ use Rattle.lsl_text.specs.Quoted.{quoted}
 use Rattle.lsl_build.specs.declared.faults.BuildFault.{BuildFault}
 use Rattle.lsl_lines.specs.Faults.{number_of_kind}
 use Rattle.lsl_lines.specs.declared.faults.FileFault.{FileFault}
+use Rattle.lsl_notes.specs.declared.faults.CardFault.{CardFault}
+use Rattle.lsl_notes.specs.Faults.{line_of_fault, number_of_fault}
 use Rattle.hex.specs.Hex.{encode_lower}
 use Rattle.lsl_image.specs.declared.faults.ImageFault.{ImageFault}
 use Rattle.lsl_image.specs.declared.faults.ImageFault.TheVariants.{Size, Digest, Version, WrongCode, Body, NotFrozen}
@@ -30,6 +32,12 @@ abbrev pub world_refusal_of : List ℕ → FileFault → List ℕ
 world_refusal_of file fault =
     codes "bad world " ++ (quoted file ++ (codes " line "
     ++ (decimal fault.line ++ fault_words (number_of_kind fault.kind))))
+
+-- the refusal of a notecard for a fault
+abbrev pub note_refusal_of : List ℕ → CardFault → List ℕ
+note_refusal_of file fault =
+    codes "bad note " ++ (quoted file ++ (codes " line "
+    ++ (decimal (line_of_fault fault) ++ fault_words (number_of_fault fault))))
 
 -- the number of an image's fault, and what is told of it: sizes and digests as found and wanted, the version, the place
 abbrev pub number_of_image : ImageFault → ℕ

@@ -3,7 +3,9 @@ use Rattle.std.specs.Prelude.{ℕ, Option, Some, None}
 use Rattle.lsl_text.specs.declared.Refusal.{Refusal}
 use Rattle.lsl_text.specs.declared.Refusal.TheVariants as refusals
 use Rattle.lsl_build.specs.declared.faults.BuildFault.{BuildFault}
+use Rattle.lsl_notes.specs.declared.faults.CardFault.{CardFault}
 use Rattle.lsl_top.specs.declared.building.Refused.{Refused}
+use Rattle.lsl_top.specs.declared.noting.BadCard.{BadCard}
 use Rattle.lsl_top.specs.declared.words.Command.{Command as Found}
 use Rattle.lsl_top.specs.declared.words.Command.TheVariants as found
 use Rattle.lsl_top.specs.declared.modes.Mode.{Mode as AMode}
@@ -36,7 +38,11 @@ abbrev pub meant_by : Option Found → Option Command
 meant_by None = None
 meant_by (Some command) = Some (asked_by command)
 
--- the refusal of the text at a place
+-- the refusal of the text at a place, of a script and of a notecard
 abbrev pub refused_at : ℕ → Refusal BuildFault → Refusal Refused
 refused_at place (refusals.Fault fault) = refusals.Fault (record { place = place; fault = fault })
 refused_at place refusals.NoMemory = refusals.NoMemory
+
+abbrev pub bad_at : ℕ → Refusal CardFault → Refusal BadCard
+bad_at place (refusals.Fault fault) = refusals.Fault (record { place = place; fault = fault })
+bad_at place refusals.NoMemory = refusals.NoMemory

@@ -5,14 +5,14 @@ use Rattle.lsl_ports.specs.Shelf.{Files}
 use Rattle.lsl_lines.specs.World.{IsWorld}
 use Rattle.lsl_lines.specs.declared.file.WorldFile.{WorldFile}
 use Rattle.lsl_top.specs.Held.{Holds}
-use Rattle.lsl_top.specs.Plays.{Mode, Whole, Freezing, Thawing, names_in, Viewing}
+use Rattle.lsl_top.specs.Plays.{Mode, Whole, Freezing, Thawing, names_in, Viewing, cards_in}
 use Rattle.lsl_top.specs.Words.{Command, Once, Check, Replay, Freeze, Thaw, Make, View}
 
--- the world's own file, as it is held, is good, and a script of it has its text in the file of that name
+-- the world's own file, as it is held, is good, and a script or a notecard of it has its text in the file of that name
 abbrev pub IsNamedInWorld : Option Files → List ℕ → List ℕ → Type 0
 IsNamedInWorld held world name =
     (bytes : List ℕ) × (file : WorldFile) × Holds held world bytes × IsWorld bytes file
-    × Contains (names_in file) name
+    × (Contains (names_in file) name ⊎ Contains (cards_in file) name)
 
 -- the frozen file of a play
 abbrev pub IsFrozenName : Mode → List ℕ → Type 0
@@ -21,9 +21,12 @@ IsFrozenName Freezing name = ⊥
 IsFrozenName (Thawing frozen) name = name ≡ frozen
 IsFrozenName (Viewing frozen) name = name ≡ frozen
 
--- one of the files of a play: of its scripts', or the frozen one
-abbrev pub IsPlayName : Mode → List (List ℕ) → List ℕ → Type 0
-IsPlayName mode names name = IsFrozenName mode name ⊎ Contains names name
+-- one of the files of a play: of its scripts', its notecards', or the frozen one
+abbrev pub IsNotedName : Mode → List (List ℕ) → List ℕ → Type 0
+IsNotedName mode cards name = IsFrozenName mode name ⊎ Contains cards name
+
+abbrev pub IsPlayName : Mode → (names cards : List (List ℕ)) → List ℕ → Type 0
+IsPlayName mode names cards name = IsFrozenName mode name ⊎ (Contains names name ⊎ Contains cards name)
 
 -- the file of the world that is played so, or one that it names, or the frozen one
 abbrev pub IsNamedIn : Option Files → Mode → List ℕ → List ℕ → Type 0

@@ -24,9 +24,11 @@ pub data Mode : Type 0 where
   -- it isn't run: of the frozen world of this file it is shown where its scripts stand
   Viewing : (frozen : List ℕ) → Mode
 
--- a world, the names of its scripts' files, each once, in the order of their first naming, and how it is played
+-- a world, the names of the files of its scripts and of its notecards, each once, in the order of their first naming,
+-- and how it is played
 pub record Play : Type 0 where
   pub names : List (List ℕ)
+  pub cards : List (List ℕ)
   pub world : WorldFile
   pub mode : Mode
 
@@ -34,11 +36,15 @@ pub record Play : Type 0 where
 abbrev pub names_in : WorldFile → List (List ℕ)
 names_in file = map encode_utf8_all file.files
 
-abbrev pub played : Mode → List (List ℕ) → WorldFile → Play
-played mode names file = record { names = names; world = file; mode = mode }
+-- and of its notecards
+abbrev pub cards_in : WorldFile → List (List ℕ)
+cards_in file = map encode_utf8_all file.cards
+
+abbrev pub played : Mode → (names cards : List (List ℕ)) → WorldFile → Play
+played mode names cards file = record { names = names; cards = cards; world = file; mode = mode }
 
 abbrev pub play_of : Mode → WorldFile → Play
-play_of mode file = played mode (names_in file) file
+play_of mode file = played mode (names_in file) (cards_in file) file
 
 -- one script in an object of its own, run for 1,000,000 segments; the name of its file doesn't stand here
 abbrev pub once_prim : PrimLine
@@ -56,8 +62,10 @@ once_world = record {
     prims = once_prim ∷ [];
   } ∷ [];
   files = [] ∷ [];
+  cards = [];
+  notes = [];
   steps = Run 1000000 ∷ [];
 }
 
 abbrev pub play_of_once : List ℕ → Play
-play_of_once name = record { names = name ∷ []; world = once_world; mode = Whole }
+play_of_once name = record { names = name ∷ []; cards = []; world = once_world; mode = Whole }

@@ -10,7 +10,7 @@ use Rattle.lsl_image.specs.Images.{IsIntact}
 use Rattle.lsl_region.specs.Worlds.{World}
 use Rattle.lsl_top.specs.Answers.{Answer, Grade, Due, PlaysTexts}
 use Rattle.lsl_top.specs.Froms.{IsFromTexts}
-use Rattle.lsl_top.specs.Held.{HoldsFrozen}
+use Rattle.lsl_top.specs.Held.{HoldsFrozen, AreHeld}
 use Rattle.lsl_top.specs.Plays.{Mode, Whole, Freezing, Thawing, Viewing, Play}
 use Rattle.lsl_top.specs.Promise.{KeepsTo, SendsNothing}
 use Rattle.lsl_top.specs.Words.{Command, Once, Check, Replay, Freeze, Thaw, View, Make}
@@ -19,7 +19,7 @@ use Rattle.lsl_top.specs.declared.status.Status.TheVariants as statuses
 use Rattle.lsl_top.specs.declared.writing.Trouble.{Trouble}
 use Rattle.lsl_top.specs.declared.writing.Trouble.TheVariants.{WriteFault, NoMemory}
 
--- what was read of a script's file: all of it, or one byte more than a script may have
+-- what was read of the file of a script or a notecard: all of it, or one byte more than one may have
 abbrev pub IsRead : Option Files → List ℕ → List ℕ → Type 0
 IsRead held name bytes = IsHead held name 65536 bytes
 
@@ -30,14 +30,24 @@ IsFrozenRead held Freezing bytes = Unit {0}
 IsFrozenRead held (Thawing name) bytes = IsHead held name 2147483647 bytes
 IsFrozenRead held (Viewing name) bytes = IsHead held name 2147483647 bytes
 
--- a play whose scripts were read, and its frozen file wasn't yet
+-- a play whose scripts were read, and its notecards and its frozen file weren't yet; and where the notecards were too
+abbrev pub PlaysNoted : Grade → Option Files → World → List Trip → Play → List (List ℕ) → List (List ℕ) → Answer
+    → Type 0
+PlaysNoted grade held from trips play texts notes answer =
+    (text : List ℕ) × HoldsFrozen held play.mode text × PlaysTexts grade from trips play texts notes text answer
+
 abbrev pub PlaysRead : Grade → Option Files → World → List Trip → Play → List (List ℕ) → Answer → Type 0
 PlaysRead grade held from trips play texts answer =
-    (text : List ℕ) × HoldsFrozen held play.mode text × PlaysTexts grade from trips play texts text answer
+    (notes : List (List ℕ)) × AreHeld held play.cards notes
+    × PlaysNoted grade held from trips play texts notes answer
+
+abbrev pub IsFromNoted : Option Files → Play → List (List ℕ) → List (List ℕ) → World → Type 0
+IsFromNoted held play texts notes from =
+    (text : List ℕ) → HoldsFrozen held play.mode text → IsFromTexts play texts notes text from
 
 abbrev pub IsFromRead : Option Files → Play → List (List ℕ) → World → Type 0
 IsFromRead held play texts from =
-    (text : List ℕ) → HoldsFrozen held play.mode text → IsFromTexts play texts text from
+    (notes : List (List ℕ)) → AreHeld held play.cards notes → IsFromNoted held play texts notes from
 
 -- what a link may give back in a play: where no world is run it is handed nothing
 abbrev pub gives_in : Mode → (List ℕ → Option (List ℕ) → Type 0) → List ℕ → Option (List ℕ) → Type 0
@@ -91,6 +101,7 @@ IsOwn statuses.Ok = Unit {0}
 IsOwn statuses.BadWorld = Unit {0}
 IsOwn statuses.BadScript = Unit {0}
 IsOwn statuses.BadImage = Unit {0}
+IsOwn statuses.BadNote = Unit {0}
 IsOwn statuses.Usage = ⊥
 IsOwn statuses.ReadFault = ⊥
 IsOwn statuses.WriteFault = ⊥

@@ -8,7 +8,7 @@ use Rattle.lsl_top.specs.Answers.{Answer, Answers, Grade, Due, Written}
 use Rattle.lsl_top.specs.Pieces.{Piece, lines_in, sent_in}
 use Rattle.lsl_top.specs.Words.{Command, Once, Check, Replay, Freeze, Thaw, View, Make}
 use Rattle.lsl_top.specs.declared.status.Status.{Status}
-use Rattle.lsl_top.specs.declared.status.Status.TheVariants.{Ok, Usage, BadWorld, BadScript, ReadFault, WriteFault, BadImage, NoMemory}
+use Rattle.lsl_top.specs.declared.status.Status.TheVariants.{Ok, Usage, BadWorld, BadScript, ReadFault, WriteFault, BadImage, NoMemory, BadNote}
 
 -- all of these pieces were written, and all that they send was sent
 pub record IsWhole (pieces : List Piece) (trips : List Trip) (old new : Option (List ℕ)) : Type 0 where
@@ -44,6 +44,7 @@ KeepsTo IsAnswer Ok trips old new = Wrote (IsAnswer Written) Ok trips old new
 KeepsTo IsAnswer BadWorld trips old new = Wrote (IsAnswer Written) BadWorld trips old new
 KeepsTo IsAnswer BadScript trips old new = Wrote (IsAnswer Written) BadScript trips old new
 KeepsTo IsAnswer BadImage trips old new = Wrote (IsAnswer Written) BadImage trips old new
+KeepsTo IsAnswer BadNote trips old new = Wrote (IsAnswer Written) BadNote trips old new
 KeepsTo IsAnswer WriteFault trips old new = WrotePart (IsAnswer Due) trips old new
 KeepsTo IsAnswer NoMemory trips old new = ((new ≡ old) × (trips ≡ [])) ⊎ WrotePart (IsAnswer Due) trips old new
 KeepsTo IsAnswer Usage trips old new = Unit {0}
@@ -63,6 +64,7 @@ SendsNothing BadWorld = Unit {0}
 SendsNothing BadScript = Unit {0}
 SendsNothing ReadFault = Unit {0}
 SendsNothing BadImage = Unit {0}
+SendsNothing BadNote = Unit {0}
 SendsNothing Ok = ⊥
 SendsNothing WriteFault = ⊥
 SendsNothing NoMemory = ⊥
@@ -87,4 +89,5 @@ WritesNothing BadWorld = ⊥
 WritesNothing BadScript = ⊥
 WritesNothing WriteFault = ⊥
 WritesNothing BadImage = ⊥
+WritesNothing BadNote = ⊥
 WritesNothing NoMemory = ⊥

@@ -1,7 +1,7 @@
 -- The numbers of the statuses.
 use Rattle.std.specs.Prelude.{ℕ}
 use Rattle.lsl_top.specs.declared.status.Status.{Status}
-use Rattle.lsl_top.specs.declared.status.Status.TheVariants.{Ok, Usage, BadWorld, BadScript, ReadFault, WriteFault, BadImage, NoMemory}
+use Rattle.lsl_top.specs.declared.status.Status.TheVariants.{Ok, Usage, BadWorld, BadScript, ReadFault, WriteFault, BadImage, NoMemory, BadNote}
 
 abbrev pub number_of : Status → ℕ
 number_of Ok = 0
@@ -12,3 +12,4 @@ number_of ReadFault = 4
 number_of WriteFault = 5
 number_of BadImage = 6
 number_of NoMemory = 7
+number_of BadNote = 8

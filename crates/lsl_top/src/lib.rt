@@ -21,6 +21,7 @@ mod lines;
 mod made_shelf;
 mod making;
 mod modes;
+mod noting;
 mod once;
 mod reading;
 mod report;
@@ -38,12 +39,12 @@ use std::alloc::Global;
 /// Does what the command's words ask for, and answers how that ended. `words` are without the
 /// program's name.
 ///
-/// A world file is read and tested first; then all scripts are read, each file once, in the order of first naming, and
-/// then the file of a frozen world; then the scripts are built in that order, and the frozen world is tested; then the
-/// steps are run, and each step's lines are written before the next step. `view` runs no step: it writes where the
-/// scripts of the frozen world stand. It takes memory for the files, the code, the world, a step's lines or those of a
-/// view, and the image of a frozen world with its line. Each crossing to another region calls the link once, and waits
-/// for it.
+/// A world file is read and tested first; then all scripts are read and then all notecards, each file once, in the
+/// order of first naming, and then the file of a frozen world; then the scripts are built in that order, the notecards
+/// are tested, and then the frozen world; then the steps are run, and each step's lines are written before the next
+/// step. `view` runs no step: it writes where the scripts of the frozen world stand. It takes memory for the files, the
+/// code, the world, a step's lines or those of a view, and the image of a frozen world with its line. Each crossing to
+/// another region calls the link once, and waits for it.
 pub fn lsl<S: Shelf, K: Sink, L: Link>(
     alloc: Global,
     words: &[String],
@@ -55,12 +56,12 @@ pub fn lsl<S: Shelf, K: Sink, L: Link>(
     ensures usage { (result ≡ Status.Usage) ↔ (command_of words.now ≡ None) }
     // At Usage and ReadFault nothing was written.
     ensures nothing { WritesNothing result → K.sunk sink.new ≡ K.sunk sink.old }
-    // With the trips that the link made: nothing was sent at Usage, BadWorld, BadScript, ReadFault and BadImage, and by
-    // `check` and `view` never. From each world that can have been frozen, by the files (any world, where nothing is
-    // thawed or the frozen file is refused), and where each image came back as it was sent, or not at all, or isn't
-    // intact: at Ok, BadWorld, BadScript and BadImage the sink grew by exactly an answer of that status, and what that
-    // sends was sent; at WriteFault and NoMemory an answer was begun, or at NoMemory nothing at all was written and
-    // sent.
+    // With the trips that the link made: nothing was sent at Usage, BadWorld, BadScript, ReadFault, BadImage and
+    // BadNote, and by `check` and `view` never. From each world that can have been frozen, by the files (any world,
+    // where nothing is thawed or the frozen file is refused), and where each image came back as it was sent, or not at
+    // all, or isn't intact: at Ok, BadWorld, BadScript, BadNote and BadImage the sink grew by exactly an answer of that
+    // status, and what that sends was sent; at WriteFault and NoMemory an answer was begun, or at NoMemory nothing at
+    // all was written and sent.
     ensures kept { (trips : List Trip) × Went L.gives (L.trips link.old) (L.trips link.new) trips
         × (SendsNothing result ⊎ RunsNothing (command_of words.now) → trips ≡ [])
         × ((from : World) → IsFromWords (S.held shelf.old) (command_of words.now) from → Honest IsIntact trips
@@ -79,8 +80,9 @@ pub fn lsl<S: Shelf, K: Sink, L: Link>(
         → ¬ Rose (K.faults sink.old) (K.faults sink.new)
         → (result ≡ answer.status) ⊎ (result ≡ Status.NoMemory) }
     // Given good files and accepted scripts, and no fault of shelf or sink, the sink grew by exactly the journal of the
-    // scripts' meaning over the steps without refused crossings, and what the command writes behind it, or memory lacked,
-    // and it grew by a prefix of that; provided that each image came back as it was sent, or not at all, or isn't intact.
+    // scripts' meaning over the steps without refused crossings, and what the command writes behind it, or memory
+    // lacked, and it grew by a prefix of that; provided that each image came back as it was sent, or not at all, or
+    // isn't intact.
     ensures headline { (files : Files) (from : World) (command : TheCommand) (before trips : List Trip) (lines : List ℕ)
         → S.held shelf.old ≡ Some files → command_of words.now ≡ Some command
         → L.trips link.old ≡ Some before → L.trips link.new ≡ Some (before ++ trips) → Honest IsIntact trips

@@ -3,7 +3,7 @@
 ghost use Rattle.std.specs.Prelude.{◌≡◌, ◌++◌, codes, decimal, IfOk, OnOk};
 ghost use Rattle.hex.specs.Hex.{encode_lower};
 ghost use Rattle.lsl_top.specs.Made.{made_line};
-ghost use Rattle.lsl_top.specs.Lines.{accepted_line, detail_of, fault_words, image_refusal_of, number_of_image, place_words, refusal_of, two_words, world_refusal_of};
+ghost use Rattle.lsl_top.specs.Lines.{accepted_line, detail_of, fault_words, image_refusal_of, note_refusal_of, number_of_image, place_words, refusal_of, two_words, world_refusal_of};
 
 use hex::encode;
 use itoa::Buffer;
@@ -11,6 +11,7 @@ use lsl_build::BuildFault;
 use lsl_digest::DigestSink;
 use lsl_image::ImageFault;
 use lsl_lines::FileFault;
+use lsl_notes::CardFault;
 use lsl_text::{NoMemory, Span, push_decimal, push_quoted};
 use std::alloc::{AllocError, Global};
 
@@ -46,6 +47,19 @@ pub fn world_refusal(alloc: Global, file: &str, fault: &FileFault) -> Result<Vec
     out.extend_from_slice(b" line ")?;
     push_decimal(&mut out, i64::from(fault.line))?;
     push_fault(&mut out, fault.kind.number())?;
+    Ok(out)
+}
+
+/// The line of a notecard that isn't one. It takes memory for the line.
+pub fn note_refusal(alloc: Global, file: &str, fault: &CardFault) -> Result<Vec<u8>, NoMemory>
+    ensures { IfOk result (λ line. line.items ≡ note_refusal_of file.now fault.now) }
+{
+    let mut out = Vec::new(alloc);
+    out.extend_from_slice(b"bad note ")?;
+    push_quoted(&mut out, file.as_bytes())?;
+    out.extend_from_slice(b" line ")?;
+    push_decimal(&mut out, i64::from(fault.line()))?;
+    push_fault(&mut out, fault.number())?;
     Ok(out)
 }
 

@@ -54,6 +54,8 @@ pub fn once_world(alloc: Global) -> Result<WorldFile, NoMemory>
     Ok(WorldFile {
         objects: one(alloc, object)?,
         files: one(alloc, Text::new())?,
+        cards: Sequence::new(alloc),
+        notes: Sequence::new(alloc),
         steps: one(alloc, Step::Run(1_000_000))?,
     })
 }

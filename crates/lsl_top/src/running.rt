@@ -29,6 +29,7 @@ use crate::writing::{status_after, write_line};
 use lsl_code::Library;
 use lsl_image::ImageFault;
 use lsl_lines::{WorldFile, take_frozen};
+use lsl_notes::Cards;
 use lsl_ports::{Link, Sink};
 use lsl_text::{NoMemory, Refusal};
 use lsl_view::{script_names, view};
@@ -41,6 +42,7 @@ pub fn run_built<K: Sink, L: Link>(
     mode: Mode<'_>,
     file: &WorldFile,
     units: Library,
+    cards: Cards,
     text: &[u8],
     sink: &mut K,
     link: &mut L,
@@ -48,16 +50,16 @@ pub fn run_built<K: Sink, L: Link>(
     requires file { IsInRange file.now }
     requires units { length units ≡ length file.now.files }
     ensures { (programs : List Program) → AreRunBy programs units → Concludes (gives_in (mode_of mode.entry) L.gives)
-        (IsFromIn (mode_of mode.entry) units programs file.now text.now)
-        (λ grade from trips. Comes grade from trips (mode_of mode.entry) units programs file.now text.now)
+        (IsFromIn (mode_of mode.entry) units programs file.now cards text.now)
+        (λ grade from trips. Comes grade from trips (mode_of mode.entry) units programs file.now cards text.now)
         (log (K.sunk sink.old) (K.faults sink.old)) (log (K.sunk sink.new) (K.faults sink.new))
         (wire (L.trips link.old) (L.faults link.old)) (wire (L.trips link.new) (L.faults link.new)) result }
 {
     match mode {
-        Mode::Whole => run_started(alloc, Last::Homes, file, units, sink, link),
-        Mode::Freezing => run_started(alloc, Last::Frozen, file, units, sink, link),
-        Mode::Thawing(name) => run_thawed(alloc, name, file, units, text, sink, link),
-        Mode::Viewing(name) => show_frozen(alloc, name, file, units, text, sink),
+        Mode::Whole => run_started(alloc, Last::Homes, file, units, cards, sink, link),
+        Mode::Freezing => run_started(alloc, Last::Frozen, file, units, cards, sink, link),
+        Mode::Thawing(name) => run_thawed(alloc, name, file, units, cards, text, sink, link),
+        Mode::Viewing(name) => show_frozen(alloc, name, file, units, cards, text, sink),
     }
 }
 
@@ -67,17 +69,18 @@ fn run_started<K: Sink, L: Link>(
     last: Last,
     file: &WorldFile,
     units: Library,
+    cards: Cards,
     sink: &mut K,
     link: &mut L,
 ) -> Status
     requires file { IsInRange file.now }
     requires units { length units ≡ length file.now.files }
     ensures { (programs : List Program) → AreRunBy programs units → Concludes L.gives (λ from. Unit {0})
-        (λ grade from trips. ComesFromStart grade trips (last_of last) units programs file.now)
+        (λ grade from trips. ComesFromStart grade trips (last_of last) units programs file.now cards)
         (log (K.sunk sink.old) (K.faults sink.old)) (log (K.sunk sink.new) (K.faults sink.new))
         (wire (L.trips link.old) (L.faults link.old)) (wire (L.trips link.new) (L.faults link.new)) result }
 {
-    match World::start(alloc, file, units) {
+    match World::start(alloc, file, units, cards) {
         Ok(world) => status_after(
             write_run(alloc, last, world, file.steps.as_slice(), sink, link),
             Status::Ok,
@@ -92,6 +95,7 @@ fn run_thawed<K: Sink, L: Link>(
     name: &str,
     file: &WorldFile,
     units: Library,
+    cards: Cards,
     text: &[u8],
     sink: &mut K,
     link: &mut L,
@@ -99,12 +103,12 @@ fn run_thawed<K: Sink, L: Link>(
     requires file { IsInRange file.now }
     requires units { length units ≡ length file.now.files }
     ensures { (programs : List Program) → AreRunBy programs units → Concludes L.gives
-        (IsFrom units programs file.now text.now)
-        (λ grade from trips. Comes grade from trips (Thawing name.now) units programs file.now text.now)
+        (IsFrom units programs file.now cards text.now)
+        (λ grade from trips. Comes grade from trips (Thawing name.now) units programs file.now cards text.now)
         (log (K.sunk sink.old) (K.faults sink.old)) (log (K.sunk sink.new) (K.faults sink.new))
         (wire (L.trips link.old) (L.faults link.old)) (wire (L.trips link.new) (L.faults link.new)) result }
 {
-    match thawed(alloc, file, units, text) {
+    match thawed(alloc, file, units, cards, text) {
         Ok(world) => status_after(
             write_run(alloc, Last::Homes, world, file.steps.as_slice(), sink, link),
             Status::Ok,
@@ -124,6 +128,7 @@ fn show_frozen<K: Sink>(
     name: &str,
     file: &WorldFile,
     units: Library,
+    cards: Cards,
     text: &[u8],
     sink: &mut K,
 ) -> Status
@@ -132,7 +137,7 @@ fn show_frozen<K: Sink>(
     ensures { Finishes (Shows units file.now name.now text.now) (log (K.sunk sink.old) (K.faults sink.old))
         (log (K.sunk sink.new) (K.faults sink.new)) result }
 {
-    match thawed(alloc, file, units, text) {
+    match thawed(alloc, file, units, cards, text) {
         Ok(world) => status_after(write_line(view_of(alloc, file, &world), sink), Status::Ok),
         Err(Refusal::Fault(fault)) => status_after(
             write_line(image_refusal(alloc, name, &fault), sink),
@@ -159,6 +164,7 @@ fn thawed(
     alloc: Global,
     file: &WorldFile,
     units: Library,
+    cards: Cards,
     text: &[u8],
 ) -> Result<World, Refusal<ImageFault>>
     requires file { IsInRange file.now }
@@ -166,11 +172,11 @@ fn thawed(
     ensures found { IfOk result (λ world. IsThawOf units file.now text.now (parts_in world)) }
     ensures refused { (fault : AFault) → IsErrOf result (Fault fault) → IsThawFault units file.now text.now fault }
     ensures of { (programs : List Program) (w : SourceWorld) → AreRunBy programs units
-        → IsFrom units programs file.now text.now w → IfOk result (λ world. IsOf programs world w) }
+        → IsFrom units programs file.now cards text.now w → IfOk result (λ world. IsOf programs world w) }
     ensures size { IfOk result (λ world. size_of world ≡ size_of_file file.now) }
     ensures sound { IfOk result IsSound }
     ensures units { IfOk result (λ world. world.units ≡ units) }
 {
     let bytes = take_frozen(alloc, text)?;
-    World::thaw(alloc, file, units, bytes.as_slice())
+    World::thaw(alloc, file, units, cards, bytes.as_slice())
 }

@@ -21,10 +21,12 @@ pub enum Status {
     BadImage,
     /// There was no memory.
     NoMemory,
+    /// A notecard isn't one.
+    BadNote,
 }
 
 impl Status {
-    /// The status as a process ends with it: 0 to 7.
+    /// The status as a process ends with it: 0 to 8.
     pub fn number(&self) -> u8
         ensures { result ≡ number_of self.now }
     {

@@ -8,7 +8,7 @@ use Rattle.lsl_top.specs.Plays.{Whole, played}
 use Rattle.lsl_top.specs.Ports.{log, ports, wire}
 use Rattle.lsl_top.specs.Words.{Once}
 use Rattle.lsl_top.proofs.Finishing.{serve-later, serve-memory}
-use Rattle.lsl_top.proofs.OnceRange.{once-in_range, only-name}
+use Rattle.lsl_top.proofs.OnceRange.{no-name, once-in_range, only-name}
 use Rattle.lsl_top.proofs.commands.once.Goals as goal
 
 pub play-requires-clause-range : goal.play-requires-clause-range
@@ -17,25 +17,31 @@ play-requires-clause-range g c = subst IsInRange (sym c.in-Ok.ensures) once-in_r
 pub play-requires-clause-names : goal.play-requires-clause-names
 play-requires-clause-names g c = sym (ap (λ (w : WorldFile). length w.files) c.in-Ok.ensures)
 
+pub play-requires-clause-cards : goal.play-requires-clause-cards
+play-requires-clause-cards g c = sym (ap (λ (w : WorldFile). length w.cards) c.in-Ok.ensures)
+
 pub returns-in-Ok : goal.returns-in-Ok
 returns-in-Ok g c =
     let held = g.S.Shelf.held c.args.shelf.now in
     let name = c.args.name.now in
     let faults = g.S.Shelf.faults c.args.shelf.now in
-    serve-later g.L.Link.gives (IsFromPlay held (played Whole (name ∷ []) c.in-Ok.world)) (IsFromOf held (Once name))
-    (λ grade from trips. Plays grade held from trips (played Whole (name ∷ []) c.in-Ok.world))
-    (λ grade from trips. Answers grade held from trips (Once name)) (IsPlayName Whole (name ∷ []))
+    serve-later g.L.Link.gives (IsFromPlay held (played Whole (name ∷ []) [] c.in-Ok.world)) (IsFromOf held (Once name))
+    (λ grade from trips. Plays grade held from trips (played Whole (name ∷ []) [] c.in-Ok.world))
+    (λ grade from trips. Answers grade held from trips (Once name)) (IsPlayName Whole (name ∷ []) [])
     (IsNamed held (Once name)) held held faults faults
     (log (g.K.Sink.sunk c.args.sink.now) (g.K.Sink.faults c.args.sink.now))
     (wire (g.L.Link.trips c.args.link.now) (g.L.Link.faults c.args.link.now))
     (ports (g.S.Shelf.held c.play.new.shelf) (g.S.Shelf.faults c.play.new.shelf) (g.K.Sink.sunk c.play.new.sink)
     (g.K.Sink.faults c.play.new.sink) (g.L.Link.trips c.play.new.link) (g.L.Link.faults c.play.new.link)) c.play.result refl (λ n. omega arith)
-    (λ from fits texts text are holds programs codes all has. tt)
+    (λ from fits texts notes text are noted holds programs codes all has cards read. tt)
     (λ grade from trips answer h.
-    subst (λ (w : WorldFile). Plays grade held from trips (played Whole (name ∷ []) w) answer) c.in-Ok.ensures h)
+    subst (λ (w : WorldFile). Plays grade held from trips (played Whole (name ∷ []) [] w) answer) c.in-Ok.ensures h)
     (λ n h. elim h [
       | inl never ↦ absurd never
-      | inr has ↦ only-name name n has
+      | inr has ↦ elim has [
+        | inl one ↦ only-name name n one
+        | inr none ↦ absurd (no-name n none)
+      ]
     ]) c.play.ensures
 
 pub returns-in-Err : goal.returns-in-Err

@@ -7,7 +7,7 @@ use Rattle.lsl_region.specs.Worlds.{World}
 use Rattle.lsl_top.specs.Answers.{Answer, Grade, Plays}
 use Rattle.lsl_top.specs.Froms.{IsFromPlay}
 use Rattle.lsl_top.specs.Meant.{mode_of}
-use Rattle.lsl_top.specs.Named.{IsFrozenName, IsPlayName}
+use Rattle.lsl_top.specs.Named.{IsNotedName, IsPlayName}
 use Rattle.lsl_top.specs.Plays.{Play, played}
 use Rattle.lsl_top.specs.Ports.{IsFromRead, IsRead, PlaysRead, Serves, gives_in, log, ports, wire}
 use Rattle.lsl_top.specs.declared.status.Status.{Status}
@@ -20,6 +20,9 @@ play_texts-requires-clause-range g c = c.requires.range
 
 pub play_texts-requires-clause-names : goal.play_texts-requires-clause-names
 play_texts-requires-clause-names g c = c.requires.names
+
+pub play_texts-requires-clause-cards : goal.play_texts-requires-clause-cards
+play_texts-requires-clause-cards g c = c.requires.cards
 
 pub play_texts-requires-clause-texts : goal.play_texts-requires-clause-texts
 play_texts-requires-clause-texts g c =
@@ -36,14 +39,15 @@ returns-in-Ok g c =
     let later = g.S.Shelf.held c.read_scripts.new.shelf in
     let mode = mode_of c.args.mode in
     let names = map (λ (n : Bor (List ℕ)). n.now) c.args.names.now in
-    let play : Play = played mode names c.args.world.now in
+    let cards = map (λ (n : Bor (List ℕ)). n.now) c.args.cards.now in
+    let play : Play = played mode names cards c.args.world.now in
     let bytes = map (λ t. t.items) c.in-Ok.texts.items in
     let given = map (λ (t : Vec ℕ Global). t.items) c.as_slice.result.now in
     let read = c.in-Ok.ensures in
     let (texts, are, of) = texts-read held names bytes read.ok in
     serve-later (gives_in mode g.L.Link.gives) (IsFromRead later play given) (IsFromPlay held play)
     (λ grade from trips. PlaysRead grade later from trips play given) (λ grade from trips. Plays grade held from trips play)
-    (IsFrozenName mode) (IsPlayName mode names) held later (g.S.Shelf.faults c.args.shelf.now)
+    (IsNotedName mode cards) (IsPlayName mode names cards) held later (g.S.Shelf.faults c.args.shelf.now)
     (g.S.Shelf.faults c.read_scripts.new.shelf)
     (log (g.K.Sink.sunk c.args.sink.now) (g.K.Sink.faults c.args.sink.now))
     (wire (g.L.Link.trips c.args.link.now) (g.L.Link.faults c.args.link.now))
@@ -53,14 +57,17 @@ returns-in-Ok g c =
     (λ from fits.
     subst (λ (z : Option Files). IsFromRead z play given from) (sym read.unchanged)
     (subst (λ (z : List (Vec ℕ Global)). IsFromRead held play (map (λ t. t.items) z) from) (sym c.as_slice.ensures.value)
-    (λ text holds. from-read play bytes texts text from of (fits texts text are holds))))
+    (λ notes noted text holds. from-read play bytes texts notes text from of (fits texts notes text are noted holds))))
     (λ grade from trips answer h.
-    let (text, holds, p) =
+    let (notes, noted, (text, holds, p)) =
     subst (λ (z : Option Files). PlaysRead grade z from trips play bytes answer) read.unchanged
     (subst (λ (z : List (Vec ℕ Global)). PlaysRead grade later from trips play (map (λ t. t.items) z) answer)
     c.as_slice.ensures.value h) in
-    (texts, text, are, holds, plays-read grade from trips play bytes texts text answer of p))
-    (λ n h. inl h)
+    (texts, notes, text, are, noted, holds, plays-read grade from trips play bytes texts notes text answer of p))
+    (λ n h. elim h [
+      | inl frozen ↦ inl frozen
+      | inr has ↦ inr (inr has)
+    ])
     c.play_texts.ensures
 
 pub returns-in-Err : goal.returns-in-Err
@@ -68,18 +75,19 @@ returns-in-Err g c =
     let held = g.S.Shelf.held c.args.shelf.now in
     let mode = mode_of c.args.mode in
     let names = map (λ (n : Bor (List ℕ)). n.now) c.args.names.now in
-    let play : Play = played mode names c.args.world.now in
+    let cards = map (λ (n : Bor (List ℕ)). n.now) c.args.cards.now in
+    let play : Play = played mode names cards c.args.world.now in
     let read = c.in-Err.ensures in
     let IsThis : Grade → World → List Trip → Answer → Type 0 = λ grade from trips. Plays grade held from trips play in
     subst (λ (status : Status). Serves (gives_in mode g.L.Link.gives) (IsFromPlay held play) IsThis
-    (IsPlayName mode names)
+    (IsPlayName mode names cards)
     (ports held (g.S.Shelf.faults c.args.shelf.now) (g.K.Sink.sunk c.args.sink.now) (g.K.Sink.faults c.args.sink.now)
     (g.L.Link.trips c.args.link.now) (g.L.Link.faults c.args.link.now))
     (ports (g.S.Shelf.held c.read_scripts.new.shelf) (g.S.Shelf.faults c.read_scripts.new.shelf) (g.K.Sink.sunk c.args.sink.now)
     (g.K.Sink.faults c.args.sink.now) (g.L.Link.trips c.args.link.now) (g.L.Link.faults c.args.link.now)) status)
     (sym c.unread.ensures)
-    (serve-unread (gives_in mode g.L.Link.gives) (IsFromPlay held play) IsThis (IsPlayName mode names) held
+    (serve-unread (gives_in mode g.L.Link.gives) (IsFromPlay held play) IsThis (IsPlayName mode names cards) held
     (g.S.Shelf.held c.read_scripts.new.shelf) (g.S.Shelf.faults c.args.shelf.now) (g.S.Shelf.faults c.read_scripts.new.shelf)
     read.unchanged read.counted (log (g.K.Sink.sunk c.args.sink.now) (g.K.Sink.faults c.args.sink.now))
     (wire (g.L.Link.trips c.args.link.now) (g.L.Link.faults c.args.link.now)) c.in-Err.fault
-    (λ e. let (n, has, rose) = read.err (ap (λ r. Err r) e) in (n, inr has, rose)))
+    (λ e. let (n, has, rose) = read.err (ap (λ r. Err r) e) in (n, inr (inl has), rose)))

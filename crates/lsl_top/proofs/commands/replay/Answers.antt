@@ -9,7 +9,7 @@ use Rattle.lsl_top.specs.Froms.{IsFromFile, IsFromPlay}
 use Rattle.lsl_top.specs.Lines.{world_refusal_of}
 use Rattle.lsl_top.specs.Meant.{mode_of}
 use Rattle.lsl_top.specs.Named.{IsNamedIn, IsPlayName}
-use Rattle.lsl_top.specs.Plays.{names_in, play_of}
+use Rattle.lsl_top.specs.Plays.{cards_in, names_in, play_of}
 use Rattle.lsl_top.specs.Ports.{Finishes, Serves, gives_in, log, ports, wire}
 use Rattle.lsl_top.specs.declared.status.Status.{Status}
 use Rattle.lsl_top.specs.declared.status.Status.TheVariants.{BadWorld}
@@ -55,7 +55,8 @@ returns-in-Ok-read_world g c =
     serve-later (gives_in mode g.L.Link.gives) (IsFromPlay later (play_of mode world)) (IsFromFile held mode name)
     (λ grade from trips. Plays grade later from trips (play_of mode world))
     (λ grade from trips. ReplaysFile grade held from trips mode name)
-    (IsPlayName mode (names_in world)) (IsNamedIn held mode name) held later (g.S.Shelf.faults c.args.shelf.now)
+    (IsPlayName mode (names_in world) (cards_in world)) (IsNamedIn held mode name) held later
+    (g.S.Shelf.faults c.args.shelf.now)
     (g.S.Shelf.faults c.read_all.new.shelf)
     (log (g.K.Sink.sunk c.args.sink.now) (g.K.Sink.faults c.args.sink.now))
     (wire (g.L.Link.trips c.args.link.now) (g.L.Link.faults c.args.link.now))

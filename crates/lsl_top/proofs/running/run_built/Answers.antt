@@ -14,8 +14,9 @@ returns-in-Whole g c = λ programs run.
     let units = c.args.units in
     let file = c.args.file.now in
     let text = c.args.text.now in
-    subst (λ (mode : Mode). Concludes (gives_in mode g.L.Link.gives) (IsFromIn mode units programs file text)
-    (λ grade from trips. Comes grade from trips mode units programs file text)
+    let cards = c.args.cards in
+    subst (λ (mode : Mode). Concludes (gives_in mode g.L.Link.gives) (IsFromIn mode units programs file cards text)
+    (λ grade from trips. Comes grade from trips mode units programs file cards text)
     (log (g.K.Sink.sunk c.args.sink.now) (g.K.Sink.faults c.args.sink.now))
     (log (g.K.Sink.sunk c.run_started.new.sink) (g.K.Sink.faults c.run_started.new.sink))
     (wire (g.L.Link.trips c.args.link.now) (g.L.Link.faults c.args.link.now))
@@ -27,8 +28,9 @@ returns-in-Freezing g c = λ programs run.
     let units = c.args.units in
     let file = c.args.file.now in
     let text = c.args.text.now in
-    subst (λ (mode : Mode). Concludes (gives_in mode g.L.Link.gives) (IsFromIn mode units programs file text)
-    (λ grade from trips. Comes grade from trips mode units programs file text)
+    let cards = c.args.cards in
+    subst (λ (mode : Mode). Concludes (gives_in mode g.L.Link.gives) (IsFromIn mode units programs file cards text)
+    (λ grade from trips. Comes grade from trips mode units programs file cards text)
     (log (g.K.Sink.sunk c.args.sink.now) (g.K.Sink.faults c.args.sink.now))
     (log (g.K.Sink.sunk c.run_started-in-Freezing.new.sink) (g.K.Sink.faults c.run_started-in-Freezing.new.sink))
     (wire (g.L.Link.trips c.args.link.now) (g.L.Link.faults c.args.link.now))
@@ -41,8 +43,9 @@ returns-in-Thawing g c = λ programs run.
     let units = c.args.units in
     let file = c.args.file.now in
     let text = c.args.text.now in
-    subst (λ (mode : Mode). Concludes (gives_in mode g.L.Link.gives) (IsFromIn mode units programs file text)
-    (λ grade from trips. Comes grade from trips mode units programs file text)
+    let cards = c.args.cards in
+    subst (λ (mode : Mode). Concludes (gives_in mode g.L.Link.gives) (IsFromIn mode units programs file cards text)
+    (λ grade from trips. Comes grade from trips mode units programs file cards text)
     (log (g.K.Sink.sunk c.args.sink.now) (g.K.Sink.faults c.args.sink.now))
     (log (g.K.Sink.sunk c.run_thawed.new.sink) (g.K.Sink.faults c.run_thawed.new.sink))
     (wire (g.L.Link.trips c.args.link.now) (g.L.Link.faults c.args.link.now))
@@ -55,15 +58,17 @@ returns-in-Viewing g c = λ programs run.
     let units = c.args.units in
     let file = c.args.file.now in
     let text = c.args.text.now in
+    let cards = c.args.cards in
     let old = log (g.K.Sink.sunk c.args.sink.now) (g.K.Sink.faults c.args.sink.now) in
     let new = log (g.K.Sink.sunk c.show_frozen.new.sink) (g.K.Sink.faults c.show_frozen.new.sink) in
     let link = wire (g.L.Link.trips c.args.link.now) (g.L.Link.faults c.args.link.now) in
     let IsThis : Answer → Type 0 = λ answer. Shows units file name text answer in
     let IsAll : Grade → World → List Trip → Answer → Type 0 =
-    λ grade from trips. Comes grade from trips (Viewing name) units programs file text in
-    subst (λ (mode : Mode). Concludes (gives_in mode g.L.Link.gives) (IsFromIn mode units programs file text)
-    (λ grade from trips. Comes grade from trips mode units programs file text) old new link link c.show_frozen.result)
+    λ grade from trips. Comes grade from trips (Viewing name) units programs file cards text in
+    subst (λ (mode : Mode). Concludes (gives_in mode g.L.Link.gives) (IsFromIn mode units programs file cards text)
+    (λ grade from trips. Comes grade from trips mode units programs file cards text) old new link link
+    c.show_frozen.result)
     (sym (ap mode_of c.in-Viewing.is))
     (concludes-finished (gives_in (Viewing name) g.L.Link.gives) IsThis
-    (IsFromIn (Viewing name) units programs file text) IsAll old new link
+    (IsFromIn (Viewing name) units programs file cards text) IsAll old new link
     c.show_frozen.result (λ grade from trips answer is. is) c.show_frozen.ensures)

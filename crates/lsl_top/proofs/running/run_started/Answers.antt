@@ -30,27 +30,30 @@ returns-in-Ok g c = λ programs run.
     let last = last_of c.args.last in
     let units = c.args.units in
     let file = c.args.file.now in
+    let cards = c.args.cards in
     let world = c.in-Ok.world in
     let old = (log (g.K.Sink.sunk c.args.sink.now) (g.K.Sink.faults c.args.sink.now)) in
     let new = (log (g.K.Sink.sunk c.write_run.new.sink) (g.K.Sink.faults c.write_run.new.sink)) in
     let before = (wire (g.L.Link.trips c.args.link.now) (g.L.Link.faults c.args.link.now)) in
     let after = (wire (g.L.Link.trips c.write_run.new.link) (g.L.Link.faults c.write_run.new.link)) in
     subst (λ (status : Status). Concludes g.L.Link.gives (λ from. Unit {0})
-    (λ grade from trips. ComesFromStart grade trips last units programs file) old new before after status)
+    (λ grade from trips. ComesFromStart grade trips last units programs file cards) old new before after status)
     (sym c.status_after.ensures)
     (concludes-performed g.L.Link.gives (λ from. Unit {0})
-    (λ grade from trips. ComesFromStart grade trips last units programs file) (λ ps w. IsOf ps world w)
+    (λ grade from trips. ComesFromStart grade trips last units programs file cards) (λ ps w. IsOf ps world w)
     (λ ps w trips. IsLast last units ps (travel (rules_of ps) file.steps trips w).value)
     (λ ps w trips. pieces_from last units (rules_of ps) file.steps trips w) programs
-    (λ from. start (rules_of programs) file) (λ from fits. c.in-Ok.ensures.of programs run) old new before after
+    (λ from. start (rules_of programs) file cards) (λ from fits. c.in-Ok.ensures.of programs run) old new before after
     c.write_run.result (λ from trips. (tt, refl))
-    (λ from trips is. (lasts-started units programs file run c.requires.file c.requires.units last trips is, refl))
+    (λ from trips is.
+    (lasts-started units programs file cards run c.requires.file c.requires.units last trips is, refl))
     (performs-by g.L.Link.gives (λ ps w. IsOf ps world w) last world.units units c.as_slice.result.now file.steps old
     new before after c.write_run.result c.in-Ok.ensures.units c.as_slice.ensures c.write_run.ensures))
 
 pub returns-in-Err : goal.returns-in-Err
 returns-in-Err g c = λ programs run.
     concludes-memory g.L.Link.gives (λ from. Unit {0})
-    (λ grade from trips. ComesFromStart grade trips (last_of c.args.last) c.args.units programs c.args.file.now)
+    (λ grade from trips. ComesFromStart grade trips (last_of c.args.last) c.args.units programs c.args.file.now
+    c.args.cards)
     (log (g.K.Sink.sunk c.args.sink.now) (g.K.Sink.faults c.args.sink.now))
     (wire (g.L.Link.trips c.args.link.now) (g.L.Link.faults c.args.link.now))

@@ -35,17 +35,19 @@ returns-in-Ok g c = λ programs run.
     let units = c.args.units in
     let file = c.args.file.now in
     let text = c.args.text.now in
+    let cards = c.args.cards in
     let world = c.in-Ok.world in
     let thaws = c.in-Ok.ensures in
     let old = (log (g.K.Sink.sunk c.args.sink.now) (g.K.Sink.faults c.args.sink.now)) in
     let new = (log (g.K.Sink.sunk c.write_run.new.sink) (g.K.Sink.faults c.write_run.new.sink)) in
     let before = (wire (g.L.Link.trips c.args.link.now) (g.L.Link.faults c.args.link.now)) in
     let after = (wire (g.L.Link.trips c.write_run.new.link) (g.L.Link.faults c.write_run.new.link)) in
-    subst (λ (status : Status). Concludes g.L.Link.gives (IsFrom units programs file text)
-    (λ grade from trips. Comes grade from trips (Thawing name) units programs file text) old new before after status)
+    subst (λ (status : Status). Concludes g.L.Link.gives (IsFrom units programs file cards text)
+    (λ grade from trips. Comes grade from trips (Thawing name) units programs file cards text) old new before after
+    status)
     (sym c.status_after.ensures)
-    (concludes-performed g.L.Link.gives (IsFrom units programs file text)
-    (λ grade from trips. Comes grade from trips (Thawing name) units programs file text) (λ ps w. IsOf ps world w)
+    (concludes-performed g.L.Link.gives (IsFrom units programs file cards text)
+    (λ grade from trips. Comes grade from trips (Thawing name) units programs file cards text) (λ ps w. IsOf ps world w)
     (λ ps w trips. IsLast Homes units ps (travel (rules_of ps) file.steps trips w).value)
     (λ ps w trips. pieces_from Homes units (rules_of ps) file.steps trips w) programs
     (λ from. from) (λ from fits. thaws.of programs from run fits) old new before after
@@ -56,9 +58,9 @@ returns-in-Ok g c = λ programs run.
 
 pub returns-in-Err-NoMemory : goal.returns-in-Err-NoMemory
 returns-in-Err-NoMemory g c = λ programs run.
-    concludes-memory g.L.Link.gives (IsFrom c.args.units programs c.args.file.now c.args.text.now)
+    concludes-memory g.L.Link.gives (IsFrom c.args.units programs c.args.file.now c.args.cards c.args.text.now)
     (λ grade from trips. Comes grade from trips (Thawing c.args.name.now) c.args.units programs c.args.file.now
-    c.args.text.now)
+    c.args.cards c.args.text.now)
     (log (g.K.Sink.sunk c.args.sink.now) (g.K.Sink.faults c.args.sink.now))
     (wire (g.L.Link.trips c.args.link.now) (g.L.Link.faults c.args.link.now))
 
@@ -68,6 +70,7 @@ returns-in-Err-Fault g c = λ programs run.
     let units = c.args.units in
     let file = c.args.file.now in
     let text = c.args.text.now in
+    let cards = c.args.cards in
     let fault = c.in-Err-Fault.fault in
     let refused = c.in-Err-Fault.ensures.refused fault (ap (λ r. Err r) c.in-Err-Fault.field-0-is) in
     let old = (log (g.K.Sink.sunk c.args.sink.now) (g.K.Sink.faults c.args.sink.now)) in
@@ -75,10 +78,11 @@ returns-in-Err-Fault g c = λ programs run.
     let link = (wire (g.L.Link.trips c.args.link.now) (g.L.Link.faults c.args.link.now)) in
     let IsThis : Answer → Type 0 = λ answer. answer ≡ image_refused name fault in
     let IsAll : Grade → World → List Trip → Answer → Type 0 =
-    λ grade from trips. Comes grade from trips (Thawing name) units programs file text in
-    subst (λ (status : Status). Concludes g.L.Link.gives (IsFrom units programs file text) IsAll old new link link status)
+    λ grade from trips. Comes grade from trips (Thawing name) units programs file cards text in
+    subst (λ (status : Status). Concludes g.L.Link.gives
+    (IsFrom units programs file cards text) IsAll old new link link status)
     (sym c.status_after-in-Err-Fault.ensures)
-    (concludes-finished g.L.Link.gives IsThis (IsFrom units programs file text) IsAll old new link
+    (concludes-finished g.L.Link.gives IsThis (IsFrom units programs file cards text) IsAll old new link
     (status_after c.write_line.result BadImage) (λ grade from trips answer e. inr (fault, refused, e))
     (finish-written IsThis BadImage (image_refusal_of name fault) old new c.write_line.result tt refl
     (c.write_line.ensures (image_refusal_of name fault) c.image_refusal.ensures)))

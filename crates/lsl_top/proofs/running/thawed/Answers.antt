@@ -15,7 +15,8 @@ returns-clause-refused c =
 
 pub returns-clause-of : goal.returns-clause-of
 returns-clause-of c = λ programs w run from.
-    thaw-of c.args.units programs c.args.file.now c.args.text.now c.in_ok-bytes.bytes.items c.as_slice.result.now w
+    thaw-of c.args.units programs c.args.file.now c.args.cards c.args.text.now c.in_ok-bytes.bytes.items
+    c.as_slice.result.now w
     c.thaw.result c.in_ok-bytes.ensures.found c.as_slice.ensures.value c.thaw.ensures.found from
     (λ agrees is. c.thaw.ensures.of programs w run agrees is)
 
