@@ -25,6 +25,7 @@ export const MEANINGS = [
   "the output is longer than this page takes, and is cut",
   "the frozen form isn't of this world",
   "there isn't memory enough",
+  "a notecard isn't one",
   "the request isn't in its form: a fault of this page",
   "there isn't memory enough for the request",
 ];

@@ -14,7 +14,7 @@ const made = async name => (await fetch(name)).json();
 const STAGED = "steps.world";
 const MOST_DRAWN = 20000000;
 const MOST_SHOWN = 1000000;
-const REFUSED = [2, 3];
+const REFUSED = [2, 3, 8];
 
 const files = new Files(() => offer());
 let runner, examples, words, template;

@@ -31,8 +31,8 @@ def example(group, path, files, how, steps=""):
 
 
 def world(group, path):
-    scripts = dict.fromkeys(it.file for it in worlds.read(text_of(path)).scripts)
-    return example(group, path, [path, *scripts], "replay")
+    files = dict.fromkeys(it.file for it in worlds.named(text_of(path)))
+    return example(group, path, [path, *files], "replay")
 
 
 def script(path):

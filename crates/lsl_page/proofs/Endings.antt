@@ -11,7 +11,7 @@ use Rattle.lsl_top.specs.Named.{NamedRose}
 use Rattle.lsl_top.specs.Status.{number_of}
 use Rattle.lsl_top.specs.Words.{Command}
 use Rattle.lsl_top.specs.declared.status.Status.{Status}
-use Rattle.lsl_top.specs.declared.status.Status.TheVariants.{Ok, Usage, BadWorld, BadScript, ReadFault, WriteFault, BadImage, NoMemory}
+use Rattle.lsl_top.specs.declared.status.Status.TheVariants.{Ok, Usage, BadWorld, BadScript, ReadFault, WriteFault, BadImage, NoMemory, BadNote}
 use Rattle.lsl_top.proofs.Trips.{copies-honest}
 use Rattle.lsl_page.specs.Ended.{Ended, outside_of}
 use Rattle.lsl_page.specs.Faults.{IsMissing, faults_at, faults_in}
@@ -108,6 +108,7 @@ missing-of files words room BadScript output ended e = absurd (omega (arith, e))
 missing-of files words room WriteFault output ended e = absurd (omega (arith, e))
 missing-of files words room BadImage output ended e = absurd (omega (arith, e))
 missing-of files words room NoMemory output ended e = absurd (omega (arith, e))
+missing-of files words room BadNote output ended e = absurd (omega (arith, e))
 
 -- at a failed write the room is full
 pub full-of : (files : Files) (words : Option Command) (room : ℕ) (status : Status) (output : List ℕ)
@@ -120,3 +121,4 @@ full-of files words room BadScript output ended e = absurd (omega (arith, e))
 full-of files words room ReadFault output ended e = absurd (omega (arith, e))
 full-of files words room BadImage output ended e = absurd (omega (arith, e))
 full-of files words room NoMemory output ended e = absurd (omega (arith, e))
+full-of files words room BadNote output ended e = absurd (omega (arith, e))

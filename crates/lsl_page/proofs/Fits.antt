@@ -18,8 +18,10 @@ module _ (files : Files) (from : World) where
       else if make then option_map Make (number_in file) else None) from
   named file true check replay freeze make = tt
   named file false true replay freeze make = tt
-  named file false false true freeze make = λ bytes world is good texts text are holds programs units all has. tt
-  named file false false false true make = λ bytes world is good texts text are holds programs units all has. tt
+  named file false false true freeze make =
+      λ bytes world is good texts notes text are noted holds programs units all has cards read. tt
+  named file false false false true make =
+      λ bytes world is good texts notes text are noted holds programs units all has cards read. tt
   named file false false false false true = made (number_in file)
   named file false false false false false = tt
 

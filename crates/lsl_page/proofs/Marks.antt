@@ -8,7 +8,7 @@ use Rattle.lsl_top.specs.Pieces.{Piece}
 use Rattle.lsl_top.specs.Promise.{IsBegun, IsWhole, Keeps, KeepsTo, WritesNothing}
 use Rattle.lsl_top.specs.Words.{Command}
 use Rattle.lsl_top.specs.declared.status.Status.{Status}
-use Rattle.lsl_top.specs.declared.status.Status.TheVariants.{Ok, Usage, BadWorld, BadScript, ReadFault, WriteFault, BadImage, NoMemory}
+use Rattle.lsl_top.specs.declared.status.Status.TheVariants.{Ok, Usage, BadWorld, BadScript, ReadFault, WriteFault, BadImage, NoMemory, BadNote}
 
 abbrev mark : Option (List ℕ) → ℕ
 mark (Some (m ∷ bytes)) = m
@@ -53,6 +53,7 @@ module _ (m n : ℕ) (a b : List ℕ) where
   keeps_to-behind IsAnswer BadWorld trips (answer, is, e, w) = (answer, is, e, whole-behind answer.pieces trips w)
   keeps_to-behind IsAnswer BadScript trips (answer, is, e, w) = (answer, is, e, whole-behind answer.pieces trips w)
   keeps_to-behind IsAnswer BadImage trips (answer, is, e, w) = (answer, is, e, whole-behind answer.pieces trips w)
+  keeps_to-behind IsAnswer BadNote trips (answer, is, e, w) = (answer, is, e, whole-behind answer.pieces trips w)
   keeps_to-behind IsAnswer WriteFault trips (answer, is, w) = (answer, is, begun-behind answer.pieces trips w)
   keeps_to-behind IsAnswer NoMemory trips (inl (e, none)) = inl (same-behind e, none)
   keeps_to-behind IsAnswer NoMemory trips (inr (answer, is, w)) = inr (answer, is, begun-behind answer.pieces trips w)
@@ -73,6 +74,7 @@ module _ (m n : ℕ) (a b : List ℕ) where
   keeps_to-mark IsAnswer BadWorld trips nothing (answer, is, e, w) = ap mark w.written
   keeps_to-mark IsAnswer BadScript trips nothing (answer, is, e, w) = ap mark w.written
   keeps_to-mark IsAnswer BadImage trips nothing (answer, is, e, w) = ap mark w.written
+  keeps_to-mark IsAnswer BadNote trips nothing (answer, is, e, w) = ap mark w.written
   keeps_to-mark IsAnswer WriteFault trips nothing (answer, is, (done, w)) = ap mark w.grew
   keeps_to-mark IsAnswer NoMemory trips nothing (inl (e, none)) = ap mark e
   keeps_to-mark IsAnswer NoMemory trips nothing (inr (answer, is, (done, w))) = ap mark w.grew

@@ -1,4 +1,4 @@
--- What is written where a world is good and its scripts are accepted.
+-- What is written where a world and its notecards are good and its scripts are accepted.
 use Rattle.std.specs.Prelude.{◌≡◌, ◌⊎◌, ℕ, All, List, [], ◌∷◌, ◌++◌}
 use Rattle.std.specs.List.{AllZip}
 use Rattle.lsl_ports.specs.Growth.{Begins}
@@ -6,6 +6,7 @@ use Rattle.lsl_ports.specs.Shelf.{Files}
 use Rattle.lsl_ports.specs.Trips.{Trip}
 use Rattle.lsl_lines.specs.Journal.{lines_of}
 use Rattle.lsl_lines.specs.declared.file.WorldFile.{WorldFile}
+use Rattle.lsl_notes.specs.declared.cards.Notecard.{Notecard}
 use Rattle.lsl_post.specs.declared.entries.Entry.{Entry}
 use Rattle.lsl_tree.specs.Program.{Program}
 use Rattle.lsl_world.specs.Programs.{rules_of}
@@ -19,33 +20,35 @@ use Rattle.lsl_top.specs.Status.{number_of}
 use Rattle.lsl_top.specs.Words.{Command, Once, Check, Replay, Freeze, Thaw, Make, View}
 use Rattle.lsl_top.specs.declared.status.Status.TheVariants.{Ok, WriteFault, NoMemory}
 
--- the command plays this world from its start to its end, and the world's scripts are accepted as these programs
-abbrev pub Runs : Files → Command → WorldFile → List Program → Type 0
-Runs files (Once name) file programs = (file ≡ once_world) × AllZip (IsScriptIn files) (name ∷ []) programs
-Runs files (Replay name) file programs = AreGood files name file programs
-Runs files (Check name) file programs = ⊥
-Runs files (Freeze name) file programs = ⊥
-Runs files (Thaw frozen name) file programs = ⊥
-Runs files (View frozen name) file programs = ⊥
-Runs files (Make number) file programs = ⊥
+-- the command plays this world with these notecards from its start to its end, and the world's scripts are accepted as
+-- these programs
+abbrev pub Runs : Files → Command → WorldFile → List Program → List Notecard → Type 0
+Runs files (Once name) file programs cards =
+    (file ≡ once_world) × (cards ≡ []) × AllZip (IsScriptIn files) (name ∷ []) programs
+Runs files (Replay name) file programs cards = AreGood files name file programs cards
+Runs files (Check name) file programs cards = ⊥
+Runs files (Freeze name) file programs cards = ⊥
+Runs files (Thaw frozen name) file programs cards = ⊥
+Runs files (View frozen name) file programs cards = ⊥
+Runs files (Make number) file programs cards = ⊥
 
 -- of each of these trips what was sent came back
 abbrev pub AreCopied : List Trip → Type 0
 AreCopied trips = All (λ (t : Trip). copies t.sent t.back) trips
 
 -- the journal of a file whose scripts are these programs, where all steps are done: no crossing is refused
-abbrev pub whole_journal : List Program → WorldFile → List Entry
-whole_journal programs file =
-    let all = reference (rules_of programs) file.steps (start (rules_of programs) file) in
+abbrev pub whole_journal : List Program → WorldFile → List Notecard → List Entry
+whole_journal programs file cards =
+    let all = reference (rules_of programs) file.steps (start (rules_of programs) file cards) in
     all.entries ++ homes all.value
 
 -- the first lines of its journal, by trips of which each brought back what was sent
-abbrev pub IsFirst : WorldFile → List Program → List ℕ → Type 0
-IsFirst file programs output =
-    (trips : List Trip) × AreCopied trips × Begins output (lines_of (journal_of programs file trips))
+abbrev pub IsFirst : WorldFile → List Program → List Notecard → List ℕ → Type 0
+IsFirst file programs cards output =
+    (trips : List Trip) × AreCopied trips × Begins output (lines_of (journal_of programs file cards trips))
 
 -- the whole journal was written, or its first lines, where the room was full or memory lacked
-abbrev pub WritesJournal : WorldFile → List Program → ℕ → List ℕ → Type 0
-WritesJournal file programs number output =
-    ((number ≡ number_of Ok) × (output ≡ lines_of (whole_journal programs file)))
-    ⊎ (((number ≡ number_of WriteFault) ⊎ (number ≡ number_of NoMemory)) × IsFirst file programs output)
+abbrev pub WritesJournal : WorldFile → List Program → List Notecard → ℕ → List ℕ → Type 0
+WritesJournal file programs cards number output =
+    ((number ≡ number_of Ok) × (output ≡ lines_of (whole_journal programs file cards)))
+    ⊎ (((number ≡ number_of WriteFault) ⊎ (number ≡ number_of NoMemory)) × IsFirst file programs cards output)

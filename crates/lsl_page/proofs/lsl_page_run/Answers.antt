@@ -16,13 +16,13 @@ returns-in-Ok-clause-ended c = λ below. (
 )
 
 pub returns-in-Ok-clause-headline : goal.returns-in-Ok-clause-headline
-returns-in-Ok-clause-headline c = λ command world programs below words runs.
+returns-in-Ok-clause-headline c = λ command world programs cards below words runs.
     let files = files_in c.args.bytes.now c.args.places.now in
     let room = length c.answer.new.room in
     let output = take c.answer.new.written c.answer.new.room in
     let ended = subst (λ (w : Option Command). Ended files w room c.in-Ok.status output) words c.in-Ok.ensures.ended in
-    subst (λ (number : ℕ). WritesJournal world programs number output) (sym c.number.ensures)
-    (headline-of files command world programs room c.in-Ok.status output ended runs)
+    subst (λ (number : ℕ). WritesJournal world programs cards number output) (sym c.number.ensures)
+    (headline-of files command world programs cards room c.in-Ok.status output ended runs)
 
 pub returns-in-Ok-clause-missing : goal.returns-in-Ok-clause-missing
 returns-in-Ok-clause-missing c = λ e.

@@ -13,7 +13,7 @@ use Rattle.lsl_page.proofs.run.run_over.Goals as goal
 
 -- no command of two words tells any world from another
 anywhere : World
-anywhere = start (rules_of []) once_world
+anywhere = start (rules_of []) once_world []
 
 pub returns-clause-same_room : goal.returns-clause-same_room
 returns-clause-same_room c =
