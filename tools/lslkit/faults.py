@@ -1,4 +1,5 @@
-"""The lines that refuse a script, a world file or a frozen world, said in words; the first two with the line and a caret."""
+"""The lines that refuse a script, a world file, a notecard or a frozen world, said in words; the first two with the line and a
+caret, a notecard's with the line."""
 import hashlib
 import re
 
@@ -32,6 +33,8 @@ def explained(line, scripts=()):
     if sort == "script":
         row, column = int(row), int(column)
         return with_line(name, text, row, column, fault, script_hint(fault, text, row, column))
+    if sort == "note":
+        return with_line(name, text, int(number), 1, fault, [])
     world = (text or b"").decode(errors="surrogateescape")
     column, hints = world_hints.hint(fault, world, int(number))
     return with_line(name, text, int(number), column, fault, hints)

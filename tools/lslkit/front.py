@@ -166,13 +166,13 @@ def hand_on(piece):
 
 
 def handed_name(command, room):
-    """The file that the program is to read: where a script is no regular file, a world in which it isn't there."""
+    """The file that the program is to read: where one that it names is no regular file, a world in which it isn't there."""
     if not command.is_world or program.are_plain(command.name, True):
         return command.name
     path = os.path.join(room, "world")
 
-    def renamed(script):
-        return script.file if program.is_plain(script.file) else f"{path}/none"
+    def renamed(it):
+        return it.file if program.is_plain(it.file) else f"{path}/none"
 
     write_text(path, worlds.with_files(program.world_of(command.name), renamed))
     return path
@@ -181,7 +181,7 @@ def handed_name(command, room):
 def tell(command, status, first, notes):
     """Says on standard error how the run ended; on a terminal a refusal in words."""
     line = first.decode(errors="surrogateescape").split("\n")[0]
-    said = faults.explained(line, command.scripts) if status in (2, 3, 6) else None
+    said = faults.explained(line, command.scripts) if status in (2, 3, 6, 8) else None
     if said and sys.stderr.isatty():
         print(said, file=sys.stderr)
         return

@@ -53,11 +53,19 @@ class Second:
 
     def __init__(self, text, room, with_probes, with_marks=True):
         self.world, self.room = worlds.read(text), room
-        self.scripts = [bytes_of(it.file) or b"" if program.is_plain(it.file) else b"" for it in self.world.scripts]
-        self.mark, self.probes = probe.mark_of(self.scripts), []
+        self.scripts, notes = ([self.text_of(it) for it in sort] for sort in (self.world.scripts, self.world.notes))
+        self.mark, self.probes = probe.mark_of([*self.scripts, *notes]), []
         files = self.probed_files() if with_probes else {}
         self.stride = self.stride_of(text) if with_marks else None
-        self.text = self.marked(worlds.with_files(text, lambda it: files.get(it.file, it.file)))
+
+        def renamed(it):
+            return files.get(it.file, it.file) if isinstance(it, worlds.Script) else it.file
+
+        self.text = self.marked(worlds.with_files(text, renamed))
+
+    @staticmethod
+    def text_of(named):
+        return bytes_of(named.file) or b"" if program.is_plain(named.file) else b""
 
     def probed_files(self):
         files = {}
@@ -120,7 +128,7 @@ class Second:
 
 def observe(binary, text, entries):
     """What a second run of the world tells of the journal's entries; nothing where no second run does the same."""
-    is_plain = all(program.is_plain(it.file) for it in worlds.read(text).scripts)
+    is_plain = all(program.is_plain(it.file) for it in worlds.named(text))
     for with_probes in (True, False) if is_plain else ():
         with tempfile.TemporaryDirectory(prefix="lsl-observe-") as room:
             second = Second(text, room, with_probes)

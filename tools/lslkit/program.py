@@ -38,7 +38,7 @@ def is_plain(name):
 
 def are_plain(name, is_world):
     """The same of a command's file and of those that it names."""
-    return is_plain(name) and all(is_plain(it.file) for it in worlds.read(world_of(name) if is_world else "").scripts)
+    return is_plain(name) and all(is_plain(it.file) for it in worlds.named(world_of(name) if is_world else ""))
 
 
 def unread(name):
@@ -65,16 +65,17 @@ def unread_files(name, is_world, frozen=None):
     said = unread(name)
     if said:
         return [f'"{name}" {said}']
-    scripts = worlds.read(world_of(name)).scripts if is_world else []
+    named = worlds.named(world_of(name)) if is_world else []
     unfrozen = [f'"{frozen}" {unread(frozen)}'] if frozen is not None and unread(frozen) else []
-    return [unread_script(name, it) for it in scripts if unread(it.file)] + unfrozen
+    return [unread_named(name, it) for it in named if unread(it.file)] + unfrozen
 
 
-def unread_script(world, script):
-    """The words for a script that can't be read; where it is, if it stands there from another folder."""
-    said = f'"{script.file}", which line {script.line} of "{world}" names as script "{script.name}", {unread(script.file)}'
+def unread_named(world, it):
+    """The words for a script or notecard that can't be read; where it is, if it stands there from another folder."""
+    sort = "script" if isinstance(it, worlds.Script) else "notecard"
+    said = f'"{it.file}", which line {it.line} of "{world}" names as {sort} "{it.name}", {unread(it.file)}'
     folder = os.path.dirname(os.path.abspath(world))
-    while not os.path.isfile(os.path.join(folder, script.file)):
+    while not os.path.isfile(os.path.join(folder, it.file)):
         if folder == os.path.dirname(folder):
             return said
         folder = os.path.dirname(folder)

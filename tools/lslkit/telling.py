@@ -45,7 +45,7 @@ class Names:
     """The names of a world's scripts and objects, and of those whose keys come up in it."""
 
     def __init__(self, world=None):
-        self.world = world or worlds.World([], [], [], [], None)
+        self.world = world or worlds.World([], [], [], [], [], None)
         names = [it.name for it in self.world.scripts]
         is_alone = [it and names.count(it) == 1 for it in names]
         self.scripts = [it if is_alone[at] else f"{it} ({at + 1})" for at, it in enumerate(names)]

@@ -4,7 +4,7 @@ import re
 from . import worlds
 from .tables import nearest
 
-LIMITS = {"object": "64 objects", "prim": "255 prims an object", "script": "256 scripts"}
+LIMITS = {"object": "64 objects", "prim": "255 prims an object", "script": "256 scripts", "note": "256 notecards"}
 
 
 def hint(fault, text, number):
@@ -31,7 +31,7 @@ def bad_form(text, number, line):
         return 1, [f"line {begin} is `begin` already"]
     if first in worlds.DECLARED and is_behind:
         return 1, [f"`{first}` stands before `begin`, which is line {begin}"]
-    if first in ("prim", "script"):
+    if first in ("prim", "script", "note"):
         return 1, [f"`{first}` stands behind an `object`"]
     if first not in worlds.DECLARED and not is_behind:
         return 1, ["a step stands behind `begin`"]

@@ -10,6 +10,7 @@ FORMS = {
     "object": ("KEY", "NAME", "OWNER", "REGION"),
     "prim": ("KEY", "NAME"),
     "script": ("NAME", "FILE"),
+    "note": ("NAME", "FILE"),
     "begin": (),
     "end": (),
     "clock": ("MS",),
@@ -22,7 +23,7 @@ FORMS = {
     "pause": ("GAPS",),
     "cross": ("OBJECT", "REGION"),
 }
-DECLARED = ("object", "prim", "script", "begin")
+DECLARED = ("object", "prim", "script", "note", "begin")
 SIGNED = (-(2**31), 2**31 - 1)
 RANGES = {
     "MS": (0, 2147483647999),
@@ -38,12 +39,13 @@ RANGES = {
 # A word of a line: its text, whether it was quoted, and the column of its first character.
 Word = namedtuple("Word", "text is_quoted column")
 Prim = namedtuple("Prim", "key name object link")
-# A script: its name, its file, its prim, and the line of the world file that names it.
+# A script or a notecard: its name, its file, its prim, and the line of the world file that names it.
 Script = namedtuple("Script", "name file prim line")
+Note = namedtuple("Note", "name file prim line")
 Object = namedtuple("Object", "key name owner region prims")
 # A step: its line, its first word, and the other words' texts.
 Step = namedtuple("Step", "line word fields")
-World = namedtuple("World", "objects scripts steps lines begin")
+World = namedtuple("World", "objects scripts notes steps lines begin")
 
 
 def form_of(first):
@@ -127,7 +129,7 @@ def lines_of(text):
 def read(text):
     """The world of a file's text. Lines that aren't in their form are passed over: the program refuses them."""
     lines = lines_of(text)
-    objects, scripts, steps, begin = [], [], [], None
+    objects, scripts, notes, steps, begin = [], [], [], [], None
     for number, line in enumerate(lines, 1):
         if is_skipped(line) or wrong_word(line):
             continue
@@ -144,16 +146,24 @@ def read(text):
             prims.append(Prim(rest[0].lower(), rest[1], len(objects), len(prims) + 1))
         elif first == "script" and objects:
             scripts.append(Script(rest[0], rest[1], objects[-1].prims[-1], number))
+        elif first == "note" and objects:
+            notes.append(Note(rest[0], rest[1], objects[-1].prims[-1], number))
         elif first not in DECLARED and first != "end":
             steps.append(Step(number, first, rest))
-    return World(objects, scripts, steps, lines, begin)
+    return World(objects, scripts, notes, steps, lines, begin)
+
+
+def named(text):
+    """The scripts and then the notecards of a world file, whose files are read."""
+    world = read(text)
+    return [*world.scripts, *world.notes]
 
 
 def with_files(text, renamed):
-    """The world file with each script's file as `renamed` has it: a function of the line and of the name."""
+    """The world file with the file of each script and notecard as `renamed` has it."""
     lines = text.split("\n")
-    for script in read(text).scripts:
-        line = lines[script.line - 1]
+    for it in named(text):
+        line = lines[it.line - 1]
         file = words_of(line)[2]
-        lines[script.line - 1] = f"{line[: file.column - 1]}{quoted(renamed(script))}"
+        lines[it.line - 1] = f"{line[: file.column - 1]}{quoted(renamed(it))}"
     return "\n".join(lines)
