@@ -36,6 +36,7 @@ pub mod Reaching
 pub mod Carried
 pub mod Following
 pub mod Fusing
+pub mod Joining
 pub mod Entries
 pub mod Raced
 pub mod Passed

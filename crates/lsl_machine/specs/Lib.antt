@@ -1,3 +1,4 @@
+pub mod Appending
 pub mod CallsRestored
 pub mod CallsSaved
 pub mod Entry

@@ -30,6 +30,7 @@ use std::alloc::Global;
 use std::marker::Model;
 use std::mem::replace;
 
+mod appending;
 mod calls;
 mod entering;
 mod fused;
