@@ -19,7 +19,7 @@ use Rattle.lsl_handoff.specs.declared.note.Note.{Note}
 use Rattle.lsl_handoff.specs.declared.note.NoteKind.{NoteKind}
 use Rattle.lsl_handoff.specs.declared.note.NoteKind.TheVariants.{Offer, Taken, Cancel, Refused}
 use Rattle.lsl_handoff.specs.Cards.{is_live, last_trip}
-use Rattle.lsl_handoff.specs.DriveLaws.{First, Neither, OfferFirst, CancelFirst, AreAtRest, ComesToRest, IsAtRest, IsPast, departure, first_kind, first_with, is_of_trip, landed_as, next_trip, or_first, rests_in}
+use Rattle.lsl_handoff.specs.DriveLaws.{First, Neither, OfferFirst, CancelFirst, AreAtRest, ComesToRest, IsAtRest, IsPast, departure, first_kind, first_with, is_of_trip, landed_as, next_offer, next_trip, or_first, rests_in}
 use Rattle.lsl_handoff.specs.Drives.{HasWay, Moment, asks, asks_unless, awaited_in, hears, most_rounds, next_reply, received, rested, settled_unless}
 use Rattle.lsl_handoff.specs.Entries.{AreCarried, CameBackOf, IsAmong, MayRest, Rests, comes, entries_by, is_same}
 use Rattle.lsl_handoff.specs.Fields.{HasCard, IsOneOf, card_at, cards_of}
@@ -30,7 +30,7 @@ use Rattle.lsl_handoff.specs.Notes.{answer_of, cancel_of, offer_of}
 use Rattle.lsl_handoff.specs.Rules.{Effect, awaited, delivered, known_answer, was_refused, was_taken}
 use Rattle.lsl_handoff.proofs.Driving.{FromIs, IsKnown, IsNow, IsntLeaving}
 use Rattle.lsl_handoff.proofs.Moving.{IsHeld, IsHeldIf, Moves}
-use Rattle.lsl_handoff.proofs.OuterLemmas.{length-fields}
+use Rattle.lsl_handoff.proofs.NoteLengths.{length-fields}
 use Rattle.lsl_handoff.proofs.ReceivingLemmas.{first-now, first-old, first-other, heard}
 use Rattle.lsl_handoff.proofs.RestLemmas.{CameOf, OrNote, ends, question-held, start-moves, start-quiet, trip-moves, apart as ways-apart}
 use Rattle.lsl_handoff.proofs.WrittenLemmas.{written-is}
@@ -197,13 +197,22 @@ module _ (objects regions : ℕ) (Takes : Note → Type 0) (ranges : AreCounts o
     parcel = refl;
   }
 
-  -- bytes that were written are read as their note alone
+  -- bytes that were written are those of their note
+  note-read : (x : Note) → IsNote objects regions x → length x.parcel < 2 ^ 63 → (bytes : List ℕ)
+      → bytes ≡ note_bytes x → IsNoteOf objects regions bytes x
+  note-read x is few bytes e = record {
+    is = is;
+    bytes_are = e;
+    fits = subst (λ (b : List ℕ). length b < 2 ^ 64) (sym e) (long-bytes x few);
+  }
+
+  -- and are read as it alone
   read-as : (x y : Note) → IsNote objects regions x → length x.parcel < 2 ^ 63 → (bytes : List ℕ)
       → bytes ≡ note_bytes x → IsNoteOf objects regions bytes y → y ≡ x
   read-as x y is few bytes e it =
-      let long : length bytes < 2 ^ 64 = subst (λ (b : List ℕ). length b < 2 ^ 64) (sym e) (long-bytes x few) in
-      sym (written-is objects regions ranges.0 ranges.1 bytes long y it)
-      ∙ written-is objects regions ranges.0 ranges.1 bytes long x (record { is = is; bytes_are = e })
+      let own = note-read x is few bytes e in
+      sym (written-is objects regions ranges.0 ranges.1 bytes it.fits y it)
+      ∙ written-is objects regions ranges.0 ranges.1 bytes own.fits x own
 
   not-bytes : (x : Note) (bytes : List ℕ) → (note_bytes x ≡ bytes → ⊥) → bytes_eq (note_bytes x) bytes ≡ false
   not-bytes x bytes other = go (bytes_eq (note_bytes x) bytes) refl where
@@ -316,8 +325,8 @@ module _ (objects regions : ℕ) (Takes : Note → Type 0) (ranges : AreCounts o
     back-tells None None is held = (refl, refl)
     back-tells None (Some note) is held = absurd is
     back-tells (Some bytes) None is held = (
-      not-bytes offer bytes (λ e. is offer (record { is = offer-note; bytes_are = sym e }, takes)),
-      not-bytes cancel bytes (λ e. is cancel (record { is = cancel-note; bytes_are = sym e }, tt)),
+      not-bytes offer bytes (λ e. is offer (note-read offer offer-note short bytes (sym e), takes)),
+      not-bytes cancel bytes (λ e. is cancel (note-read cancel cancel-note (omega arith) bytes (sym e), tt)),
     )
     back-tells (Some bytes) (Some note) is held = read-tells now first note held bytes is.0
 
@@ -377,7 +386,7 @@ module _ (objects regions : ℕ) (Takes : Note → Type 0) (ranges : AreCounts o
   pub record Comes (first : First) (last : Moment) (entries : List (List ℕ)) (trips : List Trip) : Type 0 where
     pub then_first : First
     pub told : is_first first (comes (note_bytes offer) (note_bytes cancel) trips) ≡ is_first then_first false
-    pub come : ComesToRest start (rested last.field way) way parcel then_first
+    pub come : ComesToRest start (rested last.field way) way offer then_first
         (IsAmong objects regions (entries_by entries trips)) last.landed
 
   pub bytes-rest : Takes offer → (trips : List Trip) (entries : List (List ℕ)) (first : First) (m last : Moment)
@@ -465,19 +474,19 @@ rests-as way OfferFirst = refl
 rests-as way CancelFirst = refl
 
 -- what came to the other region is given, unless the object is live again where it was
-landed-so : (way : Way) (parcel : List ℕ) (new : List (List Card)) → way.from ≢ way.to → (f : First)
-    → IsAtRest new way.object (rests_in way f) → (landed : Option (List ℕ)) → landed ≡ landed_as f parcel
+landed-so : (way : Way) (came : Note) (new : List (List Card)) → way.from ≢ way.to → (f : First)
+    → IsAtRest new way.object (rests_in way f) → (landed : Option Note) → landed ≡ landed_as f came
     → landed_unless (is_live (card_at new way.object way.from).phase) landed
-    ≡ (if is_first f false then Some parcel else None)
-landed-so way parcel new apart Neither rest landed e =
+    ≡ (if is_first f false then Some came else None)
+landed-so way came new apart Neither rest landed e =
     if-same (is_live (card_at new way.object way.from).phase) None landed (sym e) ∙ e
-landed-so way parcel new apart OfferFirst rest landed e =
+landed-so way came new apart OfferFirst rest landed e =
     ap (λ (p : Phase). landed_unless (is_live p) landed) (rest.away way.from apart) ∙ e
-landed-so way parcel new apart CancelFirst rest landed e =
+landed-so way came new apart CancelFirst rest landed e =
     if-same (is_live (card_at new way.object way.from).phase) None landed (sym e) ∙ e
 
 pub handed-rests : (objects regions : ℕ) (Takes : Note → Type 0) (field new : List (List Card)) (way : Way)
-    (parcel : List ℕ) (trips : List Trip) (landed : Option (List ℕ)) → AreCounts objects regions
+    (parcel : List ℕ) (trips : List Trip) (landed : Option Note) → AreCounts objects regions
     → length parcel < 2 ^ 63 → HasCounts objects regions field → HasWay field way
     → IsHandedOver objects regions Takes way parcel trips field new landed → (place : ℕ → ℕ)
     (entries : List (List ℕ)) → MayRest objects regions Takes place field way parcel entries trips
@@ -499,13 +508,18 @@ handed-rests objects regions Takes field new way parcel trips landed ranges shor
     record {
       rests = subst (λ (b : Bool). IsAtRest new way.object (if b then way.to else way.from)) (sym end.told)
           (subst (λ (r : ℕ). IsAtRest new way.object r) (rests-as way end.then_first) rest-new);
+      after = subst (λ (b : Bool). (card_at new way.object (if b then way.to else way.from)).trip ≡ next_trip field way)
+          (sym end.told)
+          (subst (λ (r : ℕ). (card_at new way.object r).trip ≡ next_trip field way) (rests-as way end.then_first)
+          (subst (λ (f : List (List Card)). (card_at f way.object (rests_in way end.then_first)).trip
+          ≡ next_trip field way) (sym it.rests) come.after));
       others = subst (λ (f : List (List Card)). (object : ℕ) → object ≢ way.object
           → cards_of f object ≡ cards_of field object) (sym it.rests) come.others;
       past = subst (λ (f : List (List Card)). (n : Note) → IsAmong objects regions (entries_by entries trips) n
           → IsPast f n) (sym it.rests) come.past;
       landed_is = it.landed_is
-          ∙ landed-so way parcel new far end.then_first rest-new it.last.landed come.landed_is
-          ∙ ap (λ (b : Bool). if b then Some parcel else None) (sym end.told);
+          ∙ landed-so way (next_offer field way parcel) new far end.then_first rest-new it.last.landed come.landed_is
+          ∙ ap (λ (b : Bool). if b then Some (next_offer field way parcel) else None) (sym end.told);
     }
   where
     next-fits : (n : ℕ) → n < 2 ^ 64 → nat_eq n last_trip ≡ false → n + 1 < 2 ^ 64

@@ -183,4 +183,5 @@ module _ (objects regions : ℕ) (bytes : List ℕ) (small : (i : ℕ) → get_o
           parcel = has-its (covered bytes) small-fields (kind_of (get_or (covered bytes) 14 0));
         };
         bytes_are = split ∙ ap (λ (t : List ℕ). covered bytes ++ t) (sym digest) ∙ ap digested_bytes whole;
+        fits = omega (arith, u64-small bytes small 6, eqb-true (u64_at bytes 6) (length bytes) p2.holds);
       }

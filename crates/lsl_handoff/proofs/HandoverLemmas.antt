@@ -134,7 +134,7 @@ goes-called b (Cancelling to held) card region object e h = subst (GoesTo b) (sy
 abbrev leaving : Phase → ℕ
 leaving Away = 0
 leaving (Live held) = 0
-leaving (Leaving to held) = 18
+leaving (Leaving to held) = 16
 leaving (Cancelling to held) = 0
 
 abbrev reply_left : Option Note → ℕ
@@ -286,7 +286,7 @@ module _ (way : Way) (start : List (List Card)) (has : HasWay start way) where
       go (Live held) e = let k : left way (settled_unless None way m) ≡ left way m = step-is ∙ ap (called_left m) e in omega (arith, k)
       go (Leaving to held) e =
           let k : left way (settled_unless None way m) ≡ 16 + reply_left m.reply = step-is ∙ ap (called_left m) e in
-          let much : leaving (card_at m.field way.object way.from).phase ≡ 18 = ap leaving e in
+          let much : leaving (card_at m.field way.object way.from).phase ≡ 16 = ap leaving e in
           omega (arith, k, much)
       go (Cancelling to held) e = let k : left way (settled_unless None way m) ≡ left way m = step-is ∙ ap (called_left m) e in omega (arith, k)
 

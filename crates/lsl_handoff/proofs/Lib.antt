@@ -1,5 +1,6 @@
 pub mod AnswerLemmas
 pub mod ArrivalLemmas
+pub mod BeginningLemmas
 pub mod DeliveryLemmas
 pub mod DriveLemmas
 pub mod Driving
@@ -7,17 +8,20 @@ pub mod EntryLemmas
 pub mod EventLemmas
 pub mod FaultlessLemmas
 pub mod FieldLemmas
+pub mod GivenLemmas
 pub mod GoingLemmas
 pub mod HandoverLemmas
 pub mod HoldLemmas
 pub mod Holding
 pub mod KeptLemmas
 pub mod Moving
+pub mod NoteLengths
 pub mod OuterLemmas
 pub mod PartLemmas
 pub mod ReceivingLemmas
 pub mod RestLemmas
 pub mod RunLemmas
+pub mod SealedLemmas
 pub mod SentLemmas
 pub mod StartLemmas
 pub mod WrittenLemmas

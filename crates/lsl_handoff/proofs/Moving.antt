@@ -6,6 +6,7 @@ use Rattle.lsl_handoff.specs.declared.note.Note.{Note}
 use Rattle.lsl_handoff.specs.DriveLaws.{First, IsPast, landed_as}
 use Rattle.lsl_handoff.specs.Drives.{Moment}
 use Rattle.lsl_handoff.specs.Fields.{HasCard, card_at, cards_of}
+use Rattle.lsl_handoff.specs.Notes.{offer_of}
 use Rattle.lsl_handoff.proofs.Driving.{IsBetween, IsKnown}
 
 -- as many objects, and of each as many cards
@@ -32,4 +33,4 @@ module _ (way : Way) (trip : ℕ) (parcel : List ℕ) (start : List (List Card))
     pub between : IsBetween way.from way.to trip parcel (card_at m.field way.object) first
     pub known : (note : Note) → handed note → IsHeld m.field first note
     pub reply : IsHeldIf m.field first m.reply
-    pub landed : m.landed ≡ landed_as first parcel
+    pub landed : m.landed ≡ landed_as first (offer_of way.object trip way.from way.to parcel)

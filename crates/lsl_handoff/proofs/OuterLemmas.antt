@@ -9,14 +9,14 @@ use Rattle.std.proofs.lemmas.Result.{err_from_is_err_and}
 use Rattle.sha2.specs.Sha256.{sha256}
 use Rattle.lsl_text.specs.declared.Refusal.{Refusal}
 use Rattle.lsl_text.specs.declared.Refusal.TheVariants.{Fault, NoMemory}
-use Rattle.lsl_bytes.specs.Fields.{u8_bytes, u32_bytes, u64_bytes}
-use Rattle.lsl_bytes.proofs.NumberLemmas.{length-u8, length-u32, length-u64}
+use Rattle.lsl_bytes.specs.Fields.{u64_bytes}
+use Rattle.lsl_bytes.proofs.NumberLemmas.{length-u64}
 use Rattle.lsl_handoff.specs.declared.faults.NoteFault.{NoteFault}
 use Rattle.lsl_handoff.specs.declared.faults.NoteFault.TheVariants.{Size, Digest, Body}
 use Rattle.lsl_handoff.specs.declared.note.Note.{Note}
 use Rattle.lsl_handoff.specs.declared.note.NoteKind.{NoteKind}
 use Rattle.lsl_handoff.specs.declared.note.NoteKind.TheVariants.{Offer}
-use Rattle.lsl_handoff.specs.NoteBytes.{digested_bytes, fields_bytes, head_bytes, kind_number, note_bytes, parcel_bytes}
+use Rattle.lsl_handoff.specs.NoteBytes.{digested_bytes, fields_bytes, head_bytes, note_bytes, parcel_bytes}
 use Rattle.lsl_handoff.specs.NoteFaults.{IsRefusedBy, covered, digest_in, end_fault, first_fault, head_fault, kind_of, outer_fault, part_at, u64_at, unless}
 use Rattle.lsl_handoff.specs.Reading.{note_in}
 use Rattle.lsl_handoff.proofs.WrittenLemmas.{unless-good}
@@ -75,29 +75,6 @@ pub head-refused : (bytes : List ℕ) (objects regions : ℕ) (fields : List ℕ
 head-refused bytes objects regions fields e r are passes refused exit =
     let same = err_from_is_err_and r exit in
     rw (same.1, same.2) (head-first bytes objects regions fields e are passes refused)
-
-pub length-fields : (note : Note) → length (fields_bytes note) ≡ 21 + length (parcel_bytes note.kind note.parcel)
-unfolding fields_bytes
-length-fields note =
-    let a = u8_bytes (kind_number note.kind) in
-    let b = u32_bytes note.object in
-    let c = u64_bytes note.trip in
-    let d = u32_bytes note.from in
-    let e = u32_bytes note.to in
-    let p = parcel_bytes note.kind note.parcel in
-    omega (
-      arith,
-      length-append (a ++ b ++ c ++ d ++ e) p,
-      length-append (a ++ b ++ c ++ d) e,
-      length-append (a ++ b ++ c) d,
-      length-append (a ++ b) c,
-      length-append a b,
-      length-u8 (kind_number note.kind),
-      length-u32 note.object,
-      length-u64 note.trip,
-      length-u32 note.from,
-      length-u32 note.to,
-    )
 
 pub offer-size : (kind : NoteKind) (parcel : List ℕ) (n : ℕ) → kind ≡ Offer → n ≡ length parcel
     → 8 + n ≡ length (parcel_bytes kind parcel)

@@ -14,7 +14,7 @@ use Rattle.lsl_handoff.specs.Cards.{blank}
 use Rattle.lsl_handoff.specs.DriveLaws.{First, Neither, OfferFirst, CancelFirst, AreAtRest, IsAtRest, IsPast, first_kind, first_with, is_of_trip, landed_as, or_first}
 use Rattle.lsl_handoff.specs.Drives.{Moment, is_offer, landed_by, landing, lands, next_reply, next_rounds, received}
 use Rattle.lsl_handoff.specs.Fields.{HasCard, IsOneOf, card_at, card_of, cards_of, does, with_card}
-use Rattle.lsl_handoff.specs.Notes.{answer_of}
+use Rattle.lsl_handoff.specs.Notes.{answer_of, offer_of}
 use Rattle.lsl_handoff.specs.Rules.{Event, Deliver, Effect, acts, delivered, known_answer, object_of, region_of, was_refused, was_taken}
 use Rattle.lsl_handoff.proofs.ArrivalLemmas.{arrived-old, cancel-arrives, if-false, if-true, offer-arrives, refused-arrives, taken-arrives}
 use Rattle.lsl_handoff.proofs.Driving.{Arrived, IsBetween, IsKnown, IsKnownReply, IsNow, ToIs}
@@ -228,10 +228,10 @@ or-neither Neither = refl
 or-neither OfferFirst = refl
 or-neither CancelFirst = refl
 
-landed-cancel : (first : First) (parcel : List ℕ) → landed_as (or_first first CancelFirst) parcel ≡ landed_as first parcel
-landed-cancel Neither parcel = refl
-landed-cancel OfferFirst parcel = refl
-landed-cancel CancelFirst parcel = refl
+landed-cancel : (first : First) (offer : Note) → landed_as (or_first first CancelFirst) offer ≡ landed_as first offer
+landed-cancel Neither offer = refl
+landed-cancel OfferFirst offer = refl
+landed-cancel CancelFirst offer = refl
 
 -- which came first, with one more note
 module _ (way : Way) (trip : ℕ) (first : First) (note : Note) where
@@ -302,10 +302,24 @@ module _ (way : Way) (trip : ℕ) (parcel : List ℕ) (apart : way.from ≢ way.
       (delivered note.kind (at note.to) note).1) (sym (first-now way trip first note own now.0))
       (arrives-now note.kind now.1 now.0 here)
 
--- the parcel as which the object came to the other region
-module _ (way : Way) (trip : ℕ) (parcel : List ℕ) (field : List (List Card)) (note : Note) (before : Option (List ℕ)) where
+-- the offer as which the object came to the other region
+module _ (way : Way) (trip : ℕ) (parcel : List ℕ) (field : List (List Card)) (note : Note) (before : Option Note) where
+  abbrev offer : Note
+  offer = offer_of way.object trip way.from way.to parcel
+
+  is-offer : note.kind ≡ Offer → note.object ≡ way.object → note.trip ≡ trip → note.from ≡ way.from
+      → note.to ≡ way.to → note.parcel ≡ parcel → note ≡ offer
+  is-offer kind own now from there same = λ i. record {
+    kind = kind i;
+    object = own i;
+    trip = now i;
+    from = from i;
+    to = there i;
+    parcel = same i;
+  }
+
   stays-landed : lands way field note ≡ false → landing way field note before ≡ before
-  stays-landed out = if-false (lands way field note) (Some note.parcel) before out
+  stays-landed out = if-false (lands way field note) (Some note) before out
 
   unoffered : is_offer note.kind ≡ false → lands way field note ≡ false
   unoffered out =
@@ -332,42 +346,42 @@ module _ (way : Way) (trip : ℕ) (parcel : List ℕ) (field : List (List Card))
       (nat_lt (card_at field way.object way.to).trip note.trip)
       (λ a b c d. (let no = ne_eqb note.object way.object other in cc))
 
-  landing-offer : (first : First) → before ≡ landed_as first parcel
+  landing-offer : (first : First) → before ≡ landed_as first offer
       → ToIs way.from way.to trip parcel first (card_at field way.object way.to) → note.object ≡ way.object
-      → note.kind ≡ Offer → note.to ≡ way.to → note.parcel ≡ parcel → note.trip ≡ trip
-      → landing way field note before ≡ landed_as (or_first first OfferFirst) parcel
-  landing-offer Neither was to own kind there same now =
+      → note.kind ≡ Offer → note.from ≡ way.from → note.to ≡ way.to → note.parcel ≡ parcel → note.trip ≡ trip
+      → landing way field note before ≡ landed_as (or_first first OfferFirst) offer
+  landing-offer Neither was to own kind from there same now =
       let low : (card_at field way.object way.to).trip < trip = to.1 in
-      if-true (lands way field note) (Some note.parcel) before
+      if-true (lands way field note) (Some note) before
       (all-four (nat_eq note.object way.object) (nat_eq note.to way.to) (is_offer note.kind)
       (nat_lt (card_at field way.object way.to).trip note.trip)
       (eq-eqb note.object way.object own) (eq-eqb note.to way.to there) (ap is_offer kind) (grind (arith, nat_tests)))
-      ∙ ap Some same
-  landing-offer OfferFirst was to own kind there same now =
+      ∙ ap Some (is-offer kind own now from there same)
+  landing-offer OfferFirst was to own kind from there same now =
       let e : (card_at field way.object way.to).trip ≡ trip = to.1 in stays-landed (not-later (omega (arith, e, now))) ∙ was
-  landing-offer CancelFirst was to own kind there same now =
+  landing-offer CancelFirst was to own kind from there same now =
       let e : (card_at field way.object way.to).trip ≡ trip = to.1 in stays-landed (not-later (omega (arith, e, now))) ∙ was
 
-  module _ (first : First) (was : before ≡ landed_as first parcel)
+  module _ (first : First) (was : before ≡ landed_as first offer)
       (is : IsBetween way.from way.to trip parcel (card_at field way.object) first) (own : note.object ≡ way.object) where
     landing-now : (kind : NoteKind) → note.kind ≡ kind
         → IsNow way.from way.to trip parcel (card_at field way.object) first kind note → note.trip ≡ trip
-        → landing way field note before ≡ landed_as (or_first first (first_kind kind)) parcel
-    landing-now Offer e now this = landing-offer first was is.to own e now.1 now.2 this
+        → landing way field note before ≡ landed_as (or_first first (first_kind kind)) offer
+    landing-now Offer e now this = landing-offer first was is.to own e now.0 now.1 now.2 this
     landing-now Taken e now this =
-        stays-landed (unoffered (ap is_offer e)) ∙ was ∙ ap (λ (f : First). landed_as f parcel) (sym (or-neither first))
-    landing-now Cancel e now this = stays-landed (unoffered (ap is_offer e)) ∙ was ∙ sym (landed-cancel first parcel)
+        stays-landed (unoffered (ap is_offer e)) ∙ was ∙ ap (λ (f : First). landed_as f offer) (sym (or-neither first))
+    landing-now Cancel e now this = stays-landed (unoffered (ap is_offer e)) ∙ was ∙ sym (landed-cancel first offer)
     landing-now Refused e now this =
-        stays-landed (unoffered (ap is_offer e)) ∙ was ∙ ap (λ (f : First). landed_as f parcel) (sym (or-neither first))
+        stays-landed (unoffered (ap is_offer e)) ∙ was ∙ ap (λ (f : First). landed_as f offer) (sym (or-neither first))
 
     landing-is : IsKnown way.from way.to trip parcel (card_at field way.object) first note
-        → landing way field note before ≡ landed_as (first_with way trip first (Some note)) parcel
+        → landing way field note before ≡ landed_as (first_with way trip first (Some note)) offer
     landing-is (inl old) =
         stays-landed (old-lands old.by_to) ∙ was
-        ∙ ap (λ (f : First). landed_as f parcel) (sym (first-old way trip first note old.earlier))
+        ∙ ap (λ (f : First). landed_as f offer) (sym (first-old way trip first note old.earlier))
     landing-is (inr now) =
         landing-now note.kind refl now.1 now.0
-        ∙ ap (λ (f : First). landed_as f parcel) (sym (first-now way trip first note own now.0))
+        ∙ ap (λ (f : First). landed_as f offer) (sym (first-now way trip first note own now.0))
 
 no-reply : (reply : Option Note) → next_reply reply None ≡ None
 no-reply None = refl

@@ -13,7 +13,7 @@ use Rattle.lsl_handoff.specs.declared.note.Note.{Note}
 use Rattle.lsl_handoff.specs.declared.note.NoteKind.{NoteKind}
 use Rattle.lsl_handoff.specs.declared.note.NoteKind.TheVariants.{Offer, Taken, Cancel, Refused}
 use Rattle.lsl_handoff.specs.Cards.{depart_fault, is_live, last_trip}
-use Rattle.lsl_handoff.specs.DriveLaws.{First, Neither, OfferFirst, CancelFirst, AreAtRest, AreFaithful, ComesToRest, IsAtRest, IsPast, WasHanded, departure, first_kind, first_of, first_with, handed_by, landed_as, next_trip, or_first, rests_in}
+use Rattle.lsl_handoff.specs.DriveLaws.{First, Neither, OfferFirst, CancelFirst, AreAtRest, AreFaithful, ComesToRest, IsAtRest, IsPast, WasHanded, departure, first_kind, first_of, first_with, handed_by, landed_as, next_offer, next_trip, or_first, rests_in}
 use Rattle.lsl_handoff.specs.Drives.{Carried, HasWay, Moment, Obeys, after_carried, answered, asks, asks_unless, awaited_in, hears, most_rounds, received, rested, settled_unless}
 use Rattle.lsl_handoff.specs.Fields.{HasCard, IsLive, card_at, card_of, does}
 use Rattle.lsl_handoff.specs.Notes.{answer_of, cancel_of, offer_of}
@@ -286,7 +286,7 @@ module _ (way : Way) (trip : ℕ) (parcel : List ℕ) (start : List (List Card))
         faithful.1
 
     -- the end, where nothing is awaited
-    module _ (handed : Note → Type 0) (field : List (List Card)) (first : First) (before : Option (List ℕ)) (rounds : ℕ)
+    module _ (handed : Note → Type 0) (field : List (List Card)) (first : First) (before : Option Note) (rounds : ℕ)
         (reply : Option Note)
         (moves : Moves way trip parcel start handed first
         (record { field = field; rounds = rounds; reply = reply; landed = before }))
@@ -372,24 +372,29 @@ module _ (way : Way) (trip : ℕ) (parcel : List ℕ) (start : List (List Card))
 
       pub comes : (f : First) → IsBetween way.from way.to trip parcel at f → f ≢ Neither
           → IsAtRest field way.object (rests_in way f) × IsLive field way.object (rests_in way f) parcel
+          × ((at (rests_in way f)).trip ≡ trip)
       comes Neither is some = absurd (some refl)
       comes OfferFirst is some = (
         at-rest way.to way.from is.to.0 is.to.1
             (away-from way.from way.to trip parcel (at way.from).phase is.from calm) is.from_trip
             (λ q no isnt. is.others q isnt no),
         is.to.0,
+        is.to.1,
       )
       comes CancelFirst is some =
           let live = live-from way.from way.to trip parcel (at way.from).phase is.from calm in (
             at-rest way.from way.to live is.from_trip is.to.0 is.to.1 is.others,
             live,
+            is.from_trip,
           )
 
-      pub come-to-rest : (told : First) → rests_in way first ≡ rests_in way told → (landed : Option (List ℕ))
-          → landed ≡ landed_as told parcel → ComesToRest start field way parcel told handed landed
+      pub come-to-rest : (told : First) → rests_in way first ≡ rests_in way told → (landed : Option Note)
+          → landed ≡ landed_as told (offer_of way.object trip way.from way.to parcel)
+          → ComesToRest start field way (offer_of way.object trip way.from way.to parcel) told handed landed
       come-to-rest told same landed is = let end = comes first moves.between come in record {
         rests = subst (λ (r : ℕ). IsAtRest field way.object r) same end.0;
         as_parcel = subst (λ (r : ℕ). IsLive field way.object r parcel) same end.1;
+        after = subst (λ (r : ℕ). (at r).trip ≡ trip) same end.2;
         others = moves.others;
         past = all-past;
         landed_is = is;
@@ -444,11 +449,14 @@ module _ (way : Way) (trip : ℕ) (parcel : List ℕ) (start : List (List Card))
   abbrev last_card : Card
   last_card = card_at m.field way.object way.from
 
+  abbrev offer : Note
+  offer = offer_of way.object trip way.from way.to parcel
+
   -- nothing is awaited
   calm-rests : awaited_in m.field way ≡ None → IsSettled last_card.phase
-      → ComesToRest start (rested m.field way) way parcel first handed m.landed
+      → ComesToRest start (rested m.field way) way offer first handed m.landed
   calm-rests none calm =
-      subst (λ (f : List (List Card)). ComesToRest start f way parcel first handed m.landed)
+      subst (λ (f : List (List Card)). ComesToRest start f way offer first handed m.landed)
       (sym (ap (λ (o : Option Note). answered (received m.field o)) none))
       (come-to-rest way trip parcel start has apart place rest handed m.field first m.landed m.rounds m.reply moves calm
       first refl m.landed moves.landed)
@@ -530,9 +538,9 @@ module _ (way : Way) (trip : ℕ) (parcel : List ℕ) (start : List (List Card))
           (has-long start heard_once.field once-moves.long way.object way.from has.0)
           ∙ ap (λ (c : Card). (delivered kind c reply).0) same-card
 
-      answered-rests : ComesToRest start (rested m.field way) way parcel first handed m.landed
+      answered-rests : ComesToRest start (rested m.field way) way offer first handed m.landed
       answered-rests =
-          subst (λ (f : List (List Card)). ComesToRest start f way parcel first handed m.landed)
+          subst (λ (f : List (List Card)). ComesToRest start f way offer first handed m.landed)
           (sym (ap (λ (o : Option Note). answered (received m.field o)) asks-cancel
           ∙ ap (λ (o : Option Note). (received heard_once.field o).0) is))
           (come-to-rest way trip parcel start has apart place rest handed (heard_twice (Some reply)).field
@@ -541,15 +549,15 @@ module _ (way : Way) (trip : ℕ) (parcel : List ℕ) (start : List (List Card))
           (subst (λ (c : Card). IsSettled c.phase) (sym twice-card) calms) first
           (ap (λ (f : First). rests_in way f) still ∙ rests-cancel way first) m.landed moves.landed)
 
-    called-rests : ComesToRest start (rested m.field way) way parcel first handed m.landed
+    called-rests : ComesToRest start (rested m.field way) way offer first handed m.landed
     called-rests = go (cancel-answer (card_at m.field way.object to) cancel) where
       go : (answer ≡ Some (answer_of Taken cancel)) ⊎ (answer ≡ Some (answer_of Refused cancel))
-          → ComesToRest start (rested m.field way) way parcel first handed m.landed
+          → ComesToRest start (rested m.field way) way offer first handed m.landed
       go (inl is) = answered-rests Taken refl is (told-settled last_card to held e (answer_of Taken cancel) refl).0
       go (inr is) = answered-rests Refused refl is (told-settled last_card to held e (answer_of Refused cancel) refl).1
 
   pub ends : (p : Phase) → last_card.phase ≡ p → IsntLeaving p
-      → ComesToRest start (rested m.field way) way parcel first handed m.landed
+      → ComesToRest start (rested m.field way) way offer first handed m.landed
   ends Away e isnt =
       calm-rests (ap (λ (p : Phase). awaited p last_card.trip way.from way.object) e)
       (subst (λ (p : Phase). IsSettled p) (sym e) tt)
@@ -651,8 +659,8 @@ module _ (field : List (List Card)) (place : ℕ → ℕ) (way : Way) (parcel : 
 
   pub drive-rests : (trips : List Carried) → Obeys way (departure field way parcel) trips → AreCameOf handed trips
       → asks way (after_carried way (departure field way parcel) trips) ≡ None
-      → ComesToRest field (rested (after_carried way (departure field way parcel) trips).field way) way parcel
-      (first_of way (next_trip field way) Neither trips) (HandedBy handed trips)
+      → ComesToRest field (rested (after_carried way (departure field way parcel) trips).field way) way
+      (next_offer field way parcel) (first_of way (next_trip field way) Neither trips) (HandedBy handed trips)
       (after_carried way (departure field way parcel) trips).landed
   drive-rests trips obeys faithful none =
       let on = drive-moves way (home_card.trip + 1) parcel field has apart place rest trips handed Neither

@@ -33,11 +33,11 @@ module _ (regions home : ℕ) (there : IsOneOf regions home) where
   at : ℕ → Card
   at = card_of (cards_at_start regions home)
 
-  home-is : card_of (cards_at_start regions home) home ≡ home_card
+  pub home-is : card_of (cards_at_start regions home) home ≡ home_card
   home-is = card-replaced (replicate regions blank) home home_card
       (there.0, omega (arith, there.1, length-replicate regions blank))
 
-  other-is : (q : ℕ) → q ≢ home → card_of (cards_at_start regions home) q ≡ blank
+  pub other-is : (q : ℕ) → q ≢ home → card_of (cards_at_start regions home) q ≡ blank
   other-is q apart = card-others (replicate regions blank) home home_card there.0 q apart ∙ blank-card regions q
 
   low : (q : ℕ) → (q ≡ home) ⊎ (q ≢ home)
@@ -62,7 +62,7 @@ module _ (homes : List ℕ) (regions : ℕ) (are : All (IsOneOf regions) homes) 
     there = λ note (k, within, is). absurd (omega (arith, within));
   }
 
-  cards-start : (object : ℕ) → IsOneOf (length homes) object
+  pub cards-start : (object : ℕ) → IsOneOf (length homes) object
       → cards_of (field_at_start homes regions) object ≡ cards_at_start regions (get_or homes (object - 1) 0)
   cards-start object there = by-zero (nat_eq object 0) refl
     where

@@ -1,5 +1,5 @@
 -- The bytes of a note have no fault, and the note is what stands in them.
-use Rattle.std.proofs.Common.{◌≡◌, ◌∙◌, refl, sym, ap, arith, ℕ, ◌+◌, ◌-◌, ◌<◌, ◌^◌, ◌==◌, nat_le, Bool, true, false, ◌&&◌, List, ◌++◌, length, take, drop, get_or, append_assoc, Option, None}
+use Rattle.std.proofs.Common.{◌≡◌, ◌∙◌, refl, sym, ap, arith, ℕ, ◌+◌, ◌-◌, ◌<◌, ◌≤◌, ◌^◌, ◌==◌, nat_le, Bool, true, false, ◌&&◌, List, ◌++◌, length, take, drop, get_or, append_assoc, Option, None}
 use Rattle.std.specs.Int.{w16, w32, w64, from_be_bytes}
 use Rattle.std.specs.Prelude.{codes}
 use Rattle.std.specs.Str.{bytes_eq}
@@ -19,6 +19,7 @@ use Rattle.lsl_handoff.specs.Fields.{IsOneOf}
 use Rattle.lsl_handoff.specs.NoteBytes.{HasItsParcel, IsNoteOf, fields_bytes, head_bytes, kind_number, note_bytes, parcel_bytes}
 use Rattle.lsl_handoff.specs.NoteFaults.{covered, digest_in, end_fault, first_fault, head_fault, is_kind, is_one_of, kind_of, outer_fault, part_at, u16_at, u32_at, u64_at, unless}
 use Rattle.lsl_handoff.specs.Reading.{head_in, note_in, note_of, parcel_in}
+use Rattle.lsl_handoff.proofs.NoteLengths.{length-fields}
 use Rattle.lsl_handoff.proofs.PartLemmas.{byte-at, cut, u16-again, u32-again, u64-again}
 
 pub unless-good : (good : Bool) (fault : NoteFault) (next : Option NoteFault) → good ≡ true
@@ -148,32 +149,25 @@ module _ (fields parcel : List ℕ) (few : length fields < 2 ^ 64) where
   parcel-stands Cancel rest has = has
   parcel-stands Refused rest has = has
 
-module _ (objects regions : ℕ) (object_range : objects < 2 ^ 32) (region_range : regions < 2 ^ 32) (bytes : List ℕ)
-    (few : length bytes < 2 ^ 64) (note : Note) (it : IsNoteOf objects regions bytes note) where
-  front : List ℕ
+-- the bytes of a note pass the outer tests
+module _ (bytes : List ℕ) (few : length bytes < 2 ^ 64) (note : Note) (spelled : bytes ≡ note_bytes note) where
+  pub front : List ℕ
   front = head_bytes (14 + length (fields_bytes note) + 32) ++ fields_bytes note
 
   bytes-front : bytes ≡ front ++ sha256 front
   unfolding front note_bytes
-  bytes-front = it.bytes_are
+  bytes-front = spelled
 
   front-long : length bytes - 32 ≡ length front
   front-long = omega (arith, ap length bytes-front, length-append front (sha256 front), length-sha256 front)
 
-  covered-is : covered bytes ≡ front
+  pub covered-is : covered bytes ≡ front
   covered-is = ap (λ (n : ℕ). take n bytes) front-long ∙ ap (take (length front)) bytes-front
       ∙ take_at front (sha256 front) (length front) refl
 
-  digest-is : digest_in bytes ≡ sha256 front
+  pub digest-is : digest_in bytes ≡ sha256 front
   digest-is = ap (λ (n : ℕ). drop n bytes) front-long ∙ ap (drop (length front)) bytes-front
       ∙ drop_at front (sha256 front) (length front) refl
-
-  lies : IsLaid front note
-  unfolding front
-  lies = laid note (14 + length (fields_bytes note) + 32)
-      (head_bytes (14 + length (fields_bytes note) + 32) ++ fields_bytes note) refl
-      (omega (arith, it.is.object.1, object_range)) it.is.trip (omega (arith, it.is.from.1, region_range))
-      (omega (arith, it.is.to.1, region_range))
 
   head-long : (n : ℕ) → length (head_bytes n) ≡ 14
   unfolding head_bytes
@@ -193,9 +187,9 @@ module _ (objects regions : ℕ) (object_range : objects < 2 ^ 32) (region_range
   whole-long : length bytes ≡ 14 + length (fields_bytes note) + 32
   whole-long = omega (arith, ap length bytes-front, length-append front (sha256 front), length-sha256 front, front-is)
 
-  size-is : u64_at bytes 6 ≡ length bytes
+  pub size-part : part_at bytes 6 8 ≡ u64_bytes (length bytes)
   unfolding front head_bytes
-  size-is =
+  size-part =
       let n = 14 + length (fields_bytes note) + 32 in
       let rest = fields_bytes note ++ sha256 front in
       let flat : bytes ≡ codes "LSLN" ++ (u16_bytes 1 ++ (u64_bytes n ++ rest)) =
@@ -203,62 +197,86 @@ module _ (objects regions : ℕ) (object_range : objects < 2 ^ 32) (region_range
       let c0 = cut bytes (codes "LSLN") (u16_bytes 1 ++ (u64_bytes n ++ rest)) 0 4 flat refl in
       let c1 = cut bytes (u16_bytes 1) (u64_bytes n ++ rest) 4 2 c0.rest_is (length-u16 1) in
       let c2 = cut bytes (u64_bytes n) rest 6 8 c1.rest_is (length-u64 n) in
-      ap (from_be_bytes w64) c2.part_is ∙ u64-again n (omega (arith, few, whole-long)) ∙ sym whole-long
+      c2.part_is ∙ ap u64_bytes (sym whole-long)
 
-  outer-passes : (next : Option NoteFault) → outer_fault bytes next ≡ next
+  size-is : u64_at bytes 6 ≡ length bytes
+  size-is = ap (from_be_bytes w64) size-part ∙ u64-again (length bytes) few
+
+  pub long-enough : 67 ≤ length bytes
+  long-enough = omega (arith, whole-long, length-fields note)
+
+  pub outer-passes : (next : Option NoteFault) → outer_fault bytes next ≡ next
   outer-passes next =
       let digests = unless (bytes_eq (sha256 (covered bytes)) (digest_in bytes))
       (Digest (sha256 (covered bytes)) (digest_in bytes)) next in
       unless-good (nat_le 67 (length bytes)) (Size (length bytes) 67)
       (unless (u64_at bytes 6 == length bytes) (Size (length bytes) (u64_at bytes 6)) digests)
-      (le-leb 67 (length bytes) (omega (arith, whole-long, front-is, lies.long)))
+      (le-leb 67 (length bytes) long-enough)
       ∙ unless-good (u64_at bytes 6 == length bytes) (Size (length bytes) (u64_at bytes 6)) digests
       (eq-eqb (u64_at bytes 6) (length bytes) size-is)
       ∙ unless-good (bytes_eq (sha256 (covered bytes)) (digest_in bytes))
       (Digest (sha256 (covered bytes)) (digest_in bytes)) next
       ((bytes_eq-Decides (sha256 (covered bytes)) (digest_in bytes)).1 (ap sha256 covered-is ∙ sym digest-is))
 
-  head-passes : (next : Option NoteFault) → head_fault front objects regions next ≡ next
+module _ (objects regions : ℕ) (object_range : objects < 2 ^ 32) (region_range : regions < 2 ^ 32) (bytes : List ℕ)
+    (few : length bytes < 2 ^ 64) (note : Note) (it : IsNoteOf objects regions bytes note) where
+  abbrev here : List ℕ
+  here = front bytes few note it.bytes_are
+
+  lies : IsLaid here note
+  unfolding front
+  lies = laid note (14 + length (fields_bytes note) + 32)
+      (head_bytes (14 + length (fields_bytes note) + 32) ++ fields_bytes note) refl
+      (omega (arith, it.is.object.1, object_range)) it.is.trip (omega (arith, it.is.from.1, region_range))
+      (omega (arith, it.is.to.1, region_range))
+
+  head-passes : (next : Option NoteFault) → head_fault here objects regions next ≡ next
   head-passes next =
-      let f6 = unless (is_one_of regions (u32_at front 31)) (Body 31) next in
-      let f5 = unless (is_one_of regions (u32_at front 27)) (Body 27) f6 in
-      let f4 = unless (is_one_of objects (u32_at front 15)) (Body 15) f5 in
-      let f3 = unless (is_kind (get_or front 14 0)) (Body 14) f4 in
-      let f2 = unless (u16_at front 4 == 1) (Version (u16_at front 4)) f3 in
-      unless-good (bytes_eq (part_at front 0 4) (codes "LSLN")) (Body 0) f2
-      ((bytes_eq-Decides (part_at front 0 4) (codes "LSLN")).1 lies.letters)
-      ∙ unless-good (u16_at front 4 == 1) (Version (u16_at front 4)) f3 (eq-eqb (u16_at front 4) 1 lies.version)
-      ∙ unless-good (is_kind (get_or front 14 0)) (Body 14) f4 (ap is_kind lies.kind ∙ kind-passes note.kind)
-      ∙ unless-good (is_one_of objects (u32_at front 15)) (Body 15) f5
+      let f6 = unless (is_one_of regions (u32_at here 31)) (Body 31) next in
+      let f5 = unless (is_one_of regions (u32_at here 27)) (Body 27) f6 in
+      let f4 = unless (is_one_of objects (u32_at here 15)) (Body 15) f5 in
+      let f3 = unless (is_kind (get_or here 14 0)) (Body 14) f4 in
+      let f2 = unless (u16_at here 4 == 1) (Version (u16_at here 4)) f3 in
+      unless-good (bytes_eq (part_at here 0 4) (codes "LSLN")) (Body 0) f2
+      ((bytes_eq-Decides (part_at here 0 4) (codes "LSLN")).1 lies.letters)
+      ∙ unless-good (u16_at here 4 == 1) (Version (u16_at here 4)) f3 (eq-eqb (u16_at here 4) 1 lies.version)
+      ∙ unless-good (is_kind (get_or here 14 0)) (Body 14) f4 (ap is_kind lies.kind ∙ kind-passes note.kind)
+      ∙ unless-good (is_one_of objects (u32_at here 15)) (Body 15) f5
       (ap (is_one_of objects) lies.object ∙ one-of-passes objects note.object it.is.object)
-      ∙ unless-good (is_one_of regions (u32_at front 27)) (Body 27) f6
+      ∙ unless-good (is_one_of regions (u32_at here 27)) (Body 27) f6
       (ap (is_one_of regions) lies.from ∙ one-of-passes regions note.from it.is.from)
-      ∙ unless-good (is_one_of regions (u32_at front 31)) (Body 31) next
+      ∙ unless-good (is_one_of regions (u32_at here 31)) (Body 31) next
       (ap (is_one_of regions) lies.to ∙ one-of-passes regions note.to it.is.to)
 
-  kind-is : kind_of (get_or front 14 0) ≡ note.kind
+  kind-is : kind_of (get_or here 14 0) ≡ note.kind
   kind-is = ap kind_of lies.kind ∙ kind-again note.kind
 
-  front-few : length front < 2 ^ 64
-  front-few = omega (arith, few, whole-long, front-is)
+  front-few : length here < 2 ^ 64
+  front-few = omega (
+    arith,
+    few,
+    whole-long bytes few note it.bytes_are,
+    front-is bytes few note it.bytes_are,
+  )
 
-  front-passes : head_fault front objects regions (end_fault (kind_of (get_or front 14 0)) front) ≡ None
-  front-passes = head-passes (end_fault (kind_of (get_or front 14 0)) front)
-      ∙ ap (λ (k : NoteKind). end_fault k front) kind-is
-      ∙ end-passes front note.parcel front-few note.kind lies.rest lies.long
+  front-passes : head_fault here objects regions (end_fault (kind_of (get_or here 14 0)) here) ≡ None
+  front-passes = head-passes (end_fault (kind_of (get_or here 14 0)) here)
+      ∙ ap (λ (k : NoteKind). end_fault k here) kind-is
+      ∙ end-passes here note.parcel front-few note.kind lies.rest lies.long
 
   pub written-faultless : first_fault bytes objects regions ≡ None
   written-faultless =
-      outer-passes (head_fault (covered bytes) objects regions
+      outer-passes bytes few note it.bytes_are (head_fault (covered bytes) objects regions
       (end_fault (kind_of (get_or (covered bytes) 14 0)) (covered bytes)))
-      ∙ ap (λ (f : List ℕ). head_fault f objects regions (end_fault (kind_of (get_or f 14 0)) f)) covered-is
+      ∙ ap (λ (f : List ℕ). head_fault f objects regions (end_fault (kind_of (get_or f 14 0)) f))
+      (covered-is bytes few note it.bytes_are)
       ∙ front-passes
 
-  in-front : note_of (head_in front) (parcel_in (kind_of (get_or front 14 0)) front) ≡ note
+  in-front : note_of (head_in here) (parcel_in (kind_of (get_or here 14 0)) here) ≡ note
   in-front =
-      let parcel : parcel_in (kind_of (get_or front 14 0)) front ≡ note.parcel =
-      ap (λ (k : NoteKind). parcel_in k front) kind-is
-      ∙ sym (parcel-stands front note.parcel front-few note.kind lies.rest it.is.parcel) in
+      let parcel : parcel_in (kind_of (get_or here 14 0)) here ≡ note.parcel =
+      ap (λ (k : NoteKind). parcel_in k here) kind-is
+      ∙ sym (parcel-stands here note.parcel front-few note.kind lies.rest it.is.parcel) in
       λ i. record {
         kind = kind-is i;
         object = lies.object i;
@@ -269,4 +287,6 @@ module _ (objects regions : ℕ) (object_range : objects < 2 ^ 32) (region_range
       }
 
   pub written-is : note_in bytes ≡ note
-  written-is = ap (λ (f : List ℕ). note_of (head_in f) (parcel_in (kind_of (get_or f 14 0)) f)) covered-is ∙ in-front
+  written-is = ap (λ (f : List ℕ). note_of (head_in f) (parcel_in (kind_of (get_or f 14 0)) f))
+      (covered-is bytes few note it.bytes_are)
+      ∙ in-front

@@ -9,6 +9,7 @@ use Rattle.lsl_handoff.specs.declared.drive.Way.{Way}
 use Rattle.lsl_handoff.specs.Cards.{depart_fault}
 use Rattle.lsl_handoff.specs.Drives.{Carried, HasWay, Moment, Obeys, after_carried, asks, departed, rested}
 use Rattle.lsl_handoff.specs.Fields.{HasCard, IsLive, IsOneOf, card_at, cards_of, does}
+use Rattle.lsl_handoff.specs.Notes.{offer_of}
 use Rattle.lsl_handoff.specs.Rules.{Depart}
 
 -- which of a trip's two questions came first to the other region
@@ -40,16 +41,16 @@ abbrev pub first_of : Way → ℕ → First → List Carried → First
 first_of way trip first [] = first
 first_of way trip first (c ∷ more) = first_of way trip (first_with way trip first c.back) more
 
--- where the object rests then, and the parcel as which it came to the other region
+-- where the object rests then, and the offer as which it came to the other region
 abbrev pub rests_in : Way → First → ℕ
 rests_in way Neither = way.from
 rests_in way OfferFirst = way.to
 rests_in way CancelFirst = way.from
 
-abbrev pub landed_as : First → List ℕ → Option (List ℕ)
-landed_as Neither parcel = None
-landed_as OfferFirst parcel = Some parcel
-landed_as CancelFirst parcel = None
+abbrev pub landed_as : First → Note → Option Note
+landed_as Neither offer = None
+landed_as OfferFirst offer = Some offer
+landed_as CancelFirst offer = None
 
 -- the object is live in this region and away in the others, none of which heard of a later trip
 pub record IsAtRest (field : List (List Card)) (object region : ℕ) : Type 0 where
@@ -86,23 +87,27 @@ AreFaithful handed [] = Unit {0}
 AreFaithful handed (c ∷ more) =
     WasHanded (handed ++ c.note ∷ []) c.back × AreFaithful (handed ++ c.note ∷ []) more
 
--- what a drive comes to: the object is at rest, in the other region exactly where its offer came, and not behind its
--- cancel; the other objects are as before, and all notes are past
-pub record ComesToRest (old new : List (List Card)) (way : Way) (parcel : List ℕ) (first : First)
-    (handed : Note → Type 0) (landed : Option (List ℕ)) : Type 0 where
+-- what the drive of an offer comes to: the object is at rest after its trip, in the other region exactly where the
+-- offer came, and not behind its cancel; the other objects are as before, and all notes are past
+pub record ComesToRest (old new : List (List Card)) (way : Way) (offer : Note) (first : First)
+    (handed : Note → Type 0) (landed : Option Note) : Type 0 where
   pub rests : IsAtRest new way.object (rests_in way first)
-  pub as_parcel : IsLive new way.object (rests_in way first) parcel
+  pub as_parcel : IsLive new way.object (rests_in way first) offer.parcel
+  pub after : (card_at new way.object (rests_in way first)).trip ≡ offer.trip
   pub others : (object : ℕ) → object ≢ way.object → cards_of new object ≡ cards_of old object
   pub past : (note : Note) → handed note → IsPast new note
-  pub landed_is : landed ≡ landed_as first parcel
+  pub landed_is : landed ≡ landed_as first offer
 
 -- a departure of an object, as this parcel
 abbrev pub departure : List (List Card) → Way → List ℕ → Moment
 departure field way parcel = departed (does field (Depart way.from way.object way.to parcel)).0
 
--- its trip
+-- its trip, and its offer
 abbrev pub next_trip : List (List Card) → Way → ℕ
 next_trip field way = (card_at field way.object way.from).trip + 1
+
+abbrev pub next_offer : List (List Card) → Way → List ℕ → Note
+next_offer field way parcel = offer_of way.object (next_trip field way) way.from way.to parcel
 
 -- each drive comes to rest, where each object was at rest and all earlier notes were past, and nothing came back that
 -- wasn't handed over
@@ -113,6 +118,6 @@ DrivesComeToRest =
     → depart_fault (card_at field way.object way.from) way.from way.to ≡ None → ArePast field handed
     → Obeys way (departure field way parcel) trips → AreFaithful handed trips
     → asks way (after_carried way (departure field way parcel) trips) ≡ None
-    → ComesToRest field (rested (after_carried way (departure field way parcel) trips).field way) way parcel
-    (first_of way (next_trip field way) Neither trips) (Contains (handed_by handed trips))
+    → ComesToRest field (rested (after_carried way (departure field way parcel) trips).field way) way
+    (next_offer field way parcel) (first_of way (next_trip field way) Neither trips) (Contains (handed_by handed trips))
     (after_carried way (departure field way parcel) trips).landed

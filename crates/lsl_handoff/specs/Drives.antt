@@ -15,13 +15,13 @@ pub record Carried : Type 0 where
   pub note : Note
   pub back : Option Note
 
--- where a drive is: the cards, how often the note that asks was carried, the answer that is to be carried, and the parcel
--- as which a note made the object live in the other region
+-- where a drive is: the cards, how often the note that asks was carried, the answer that is to be carried, and the
+-- offer that made the object live in the other region
 pub record Moment : Type 0 where
   pub field : List (List Card)
   pub rounds : ℕ
   pub reply : Option Note
-  pub landed : Option (List ℕ)
+  pub landed : Option Note
 
 -- both regions have a card of the object
 abbrev pub HasWay : List (List Card) → Way → Type 0
@@ -67,7 +67,7 @@ abbrev pub received : List (List Card) → Option Note → List (List Card) × O
 received field None = (field, None)
 received field (Some note) = does field (Deliver note)
 
--- the parcel as which a note makes the object live in the other region, or what was before
+-- the offer that makes the object live in the other region, or what was before
 abbrev pub is_offer : NoteKind → Bool
 is_offer Offer = true
 is_offer Taken = false
@@ -79,10 +79,10 @@ lands way field note =
     nat_eq note.object way.object && nat_eq note.to way.to && is_offer note.kind
     && nat_lt (card_at field way.object way.to).trip note.trip
 
-abbrev pub landing : Way → List (List Card) → Note → Option (List ℕ) → Option (List ℕ)
-landing way field note before = if lands way field note then Some note.parcel else before
+abbrev pub landing : Way → List (List Card) → Note → Option Note → Option Note
+landing way field note before = if lands way field note then Some note else before
 
-abbrev pub landed_by : Way → Moment → Option Note → Option (List ℕ)
+abbrev pub landed_by : Way → Moment → Option Note → Option Note
 landed_by way m None = m.landed
 landed_by way m (Some note) = landing way m.field note m.landed
 

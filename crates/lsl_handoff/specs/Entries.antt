@@ -5,10 +5,10 @@ use Rattle.lsl_ports.specs.Trips.{Trip}
 use Rattle.lsl_handoff.specs.declared.card.Card.{Card}
 use Rattle.lsl_handoff.specs.declared.drive.Way.{Way}
 use Rattle.lsl_handoff.specs.declared.note.Note.{Note}
-use Rattle.lsl_handoff.specs.DriveLaws.{AreAtRest, IsAtRest, IsPast, next_trip}
+use Rattle.lsl_handoff.specs.DriveLaws.{AreAtRest, IsAtRest, IsPast, next_offer, next_trip}
 use Rattle.lsl_handoff.specs.Fields.{card_at, cards_of}
 use Rattle.lsl_handoff.specs.NoteBytes.{IsNoteOf, note_bytes}
-use Rattle.lsl_handoff.specs.Notes.{cancel_of, offer_of}
+use Rattle.lsl_handoff.specs.Notes.{cancel_of}
 
 -- these bytes came back
 abbrev pub is_same : List ℕ → Option (List ℕ) → Bool
@@ -24,7 +24,7 @@ comes offer cancel (t ∷ trips) =
 -- the offer of the object's next trip comes to the other region
 abbrev pub arrives : List (List Card) → Way → List ℕ → List Trip → Bool
 arrives field way parcel trips =
-    comes (note_bytes (offer_of way.object (next_trip field way) way.from way.to parcel))
+    comes (note_bytes (next_offer field way parcel))
     (note_bytes (cancel_of way.object (next_trip field way) way.from way.to)) trips
 
 -- all entries by the end of these trips
@@ -59,15 +59,17 @@ module _ (objects regions : ℕ) where
     pub rest : AreAtRest field place
     pub home : place way.object ≡ way.from
     pub fit : (object region : ℕ) → (card_at field object region).trip < 2 ^ 64
-    pub takes : Takes (offer_of way.object (next_trip field way) way.from way.to parcel)
+    pub takes : Takes (next_offer field way parcel)
     pub past : AreAllPast field entries
     pub carried : AreCarried entries trips
 
-  -- then the object is at rest, in the other region exactly where its offer came; the others are as before, and all
-  -- entries are past again
+  -- then the object is at rest after its trip, in the other region exactly where its offer came, and by that; the
+  -- others are as before, and all entries are past again
   pub record Rests (old new : List (List Card)) (way : Way) (parcel : List ℕ) (entries : List (List ℕ))
-      (trips : List Trip) (landed : Option (List ℕ)) : Type 0 where
+      (trips : List Trip) (landed : Option Note) : Type 0 where
     pub rests : IsAtRest new way.object (if arrives old way parcel trips then way.to else way.from)
+    pub after : (card_at new way.object (if arrives old way parcel trips then way.to else way.from)).trip
+        ≡ next_trip old way
     pub others : (object : ℕ) → object ≢ way.object → cards_of new object ≡ cards_of old object
     pub past : AreAllPast new (entries_by entries trips)
-    pub landed_is : landed ≡ (if arrives old way parcel trips then Some parcel else None)
+    pub landed_is : landed ≡ (if arrives old way parcel trips then Some (next_offer old way parcel) else None)

@@ -4,12 +4,13 @@ use Rattle.lsl_ports.specs.Trips.{Trip}
 use Rattle.lsl_handoff.specs.declared.card.Card.{Card}
 use Rattle.lsl_handoff.specs.declared.drive.Way.{Way}
 use Rattle.lsl_handoff.specs.declared.faults.DepartFault.{DepartFault}
+use Rattle.lsl_handoff.specs.declared.handover.Back.{Back}
 use Rattle.lsl_handoff.specs.declared.note.Note.{Note}
 use Rattle.lsl_handoff.specs.declared.note.NoteKind.{NoteKind}
 use Rattle.lsl_handoff.specs.declared.note.NoteKind.TheVariants.{Offer, Taken, Cancel, Refused}
 use Rattle.lsl_handoff.specs.Cards.{cause, depart_fault, is_live}
 use Rattle.lsl_handoff.specs.DriveLaws.{departure}
-use Rattle.lsl_handoff.specs.Drives.{Moment, asks, hears, rested}
+use Rattle.lsl_handoff.specs.Drives.{Moment, asks, hears, lands, rested}
 use Rattle.lsl_handoff.specs.Fields.{IsOneOf, card_at, cards_of}
 use Rattle.lsl_handoff.specs.NoteBytes.{IsNoteOf, note_bytes}
 
@@ -34,8 +35,41 @@ Passes Takes Cancel note = Unit {0}
 Passes Takes Refused note = Unit {0}
 
 -- an object that is live again where it was didn't come to the other region
-abbrev pub landed_unless : Bool → Option (List ℕ) → Option (List ℕ)
+abbrev pub landed_unless : {A : Type 0} → Bool → Option A → Option A
 landed_unless home landed = if home then None else landed
+
+-- what came back: a note, and what its parcel stands for, if it is an offer
+abbrev pub note_of : {T : Type 0} → Option (Back T) → Option Note
+note_of None = None
+note_of (Some back) = Some back.note
+
+-- an offer may be taken where its parcel stands for something
+abbrev pub IsTaken : {T : Type 0} → (Note → T → Type 0) → Note → Type 0
+IsTaken {T} stands offer = (parts : T) × stands offer parts
+
+-- what is told with a note: of an offer, that for which its parcel stands
+abbrev pub IsToldOf : {T : Type 0} → (Note → T → Type 0) → NoteKind → Note → Option T → Type 0
+IsToldOf stands Offer note None = ⊥
+IsToldOf stands Offer note (Some parts) = stands note parts
+IsToldOf stands Taken note parts = Unit {0}
+IsToldOf stands Cancel note parts = Unit {0}
+IsToldOf stands Refused note parts = Unit {0}
+
+abbrev pub IsToldWith : {T : Type 0} → (Note → T → Type 0) → Option (Back T) → Type 0
+IsToldWith stands None = Unit {0}
+IsToldWith stands (Some back) = IsToldOf stands back.note.kind back.note back.parts
+
+-- what the offer stands for that made the object live in the other region, or what was before
+abbrev pub given_by : {T : Type 0} → Way → List (List Card) → Option (Back T) → Option T → Option T
+given_by way field None before = before
+given_by way field (Some back) before = if lands way field back.note then back.parts else before
+
+-- the object came as what the offer's parcel stands for, if it came
+abbrev pub IsGivenOf : {T : Type 0} → (Note → T → Type 0) → Option Note → Option T → Type 0
+IsGivenOf stands None None = Unit {0}
+IsGivenOf stands None (Some parts) = ⊥
+IsGivenOf stands (Some offer) None = ⊥
+IsGivenOf stands (Some offer) (Some parts) = stands offer parts
 
 module _ (objects regions : ℕ) (Takes : Note → Type 0) where
   abbrev pub IsReadAs : List ℕ → Note → Type 0
@@ -62,10 +96,10 @@ module _ (objects regions : ℕ) (Takes : Note → Type 0) where
       (note : Note) × (asks way m ≡ Some note) × (t.sent ≡ note_bytes note)
       × ((trips ≡ []) ⊎ ((back : Option Note) × IsHeard t.back back × IsCut way (hears way m back) trips))
 
-  -- an object was driven to the end of its drive, and rests; it came to the other region as this parcel, or is where it
+  -- an object was driven to the end of its drive, and rests; it came to the other region by this offer, or is where it
   -- was
   pub record IsHandedOver (way : Way) (parcel : List ℕ) (trips : List Trip) (old new : List (List Card))
-      (landed : Option (List ℕ)) : Type 0 where
+      (landed : Option Note) : Type 0 where
     pub departs : depart_fault (card_at old way.object way.from) way.from way.to ≡ None
     pub last : Moment
     pub drives : Drives way (departure old way parcel) trips last

@@ -52,7 +52,8 @@ pub record IsNote (objects regions : ℕ) (note : Note) : Type 0 where
   pub to : IsOneOf regions note.to
   pub parcel : HasItsParcel note.kind note.parcel
 
--- these are the bytes of this note
+-- these are the bytes of this note; their number fits the field that tells it
 pub record IsNoteOf (objects regions : ℕ) (bytes : List ℕ) (note : Note) : Type 0 where
   pub is : IsNote objects regions note
   pub bytes_are : bytes ≡ note_bytes note
+  pub fits : length bytes < 2 ^ 64

@@ -12,7 +12,7 @@ AreCounts objects regions = (objects < 2 ^ 32) × (regions < 2 ^ 32)
 
 abbrev pub NotesAreOne : Type 0
 NotesAreOne =
-    (objects regions : ℕ) (bytes : List ℕ) (a b : Note) → AreCounts objects regions → length bytes < 2 ^ 64 →
+    (objects regions : ℕ) (bytes : List ℕ) (a b : Note) → AreCounts objects regions →
     IsNoteOf objects regions bytes a → IsNoteOf objects regions bytes b → a ≡ b
 
 abbrev pub NotesHaveOneSpelling : Type 0
@@ -20,15 +20,15 @@ NotesHaveOneSpelling =
     (objects regions : ℕ) (x y : List ℕ) (note : Note) → IsNoteOf objects regions x note →
     IsNoteOf objects regions y note → x ≡ y
 
--- the bytes of each note are its own
+-- the bytes of each note are its own, where their number fits the field that tells it
 abbrev pub NotesAreSpelled : Type 0
 NotesAreSpelled =
-    (objects regions : ℕ) (note : Note) → IsNote objects regions note →
+    (objects regions : ℕ) (note : Note) → IsNote objects regions note → length (note_bytes note) < 2 ^ 64 →
     IsNoteOf objects regions (note_bytes note) note
 
 abbrev pub NotesHaveNoFault : Type 0
 NotesHaveNoFault =
-    (objects regions : ℕ) (bytes : List ℕ) (note : Note) → AreCounts objects regions → length bytes < 2 ^ 64 →
+    (objects regions : ℕ) (bytes : List ℕ) (note : Note) → AreCounts objects regions →
     IsNoteOf objects regions bytes note → first_fault bytes objects regions ≡ None
 
 abbrev pub OthersHaveOne : Type 0

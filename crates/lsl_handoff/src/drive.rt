@@ -23,14 +23,14 @@ pub struct Way {
     pub to: u32,
 }
 
-/// A drive between two notes: how often the note that asks was carried, the answer that is to be carried, and the parcel
-/// as which a note made the object live in the other region.
+/// A drive between two notes: how often the note that asks was carried, the answer that is to be carried, and the offer
+/// that made the object live in the other region.
 #[derive(Debug, Drop)]
 pub struct Drive {
     way: Way,
     rounds: u32,
     reply: Option<Note>,
-    landed: Option<Parcel>,
+    landed: Option<Note>,
 }
 
 impl Drive {
@@ -112,7 +112,7 @@ impl Drive {
         Ok(())
     }
 
-    // Keeps the parcel of a note that will make the object live in the other region.
+    // Keeps a note that will make the object live in the other region.
     fn land(&mut self, field: &Field, note: &Note) -> Result<(), NoMemory>
         requires { HasWay field.now self.old.way }
         ensures lands { OnOk result (self.new ≡ record self.old {
@@ -121,13 +121,13 @@ impl Drive {
         ensures unchanged { OnErr result (self.new ≡ self.old) }
     {
         if self.lands(field, note) {
-            self.landed = Some(note.parcel.copy()?);
+            self.landed = Some(note.copy()?);
         }
         Ok(())
     }
 
-    // Whether a note will make the object live in the other region.
-    fn lands(&self, field: &Field, note: &Note) -> bool
+    /// Whether a note will make the object live in the other region. Takes no memory.
+    pub(crate) fn lands(&self, field: &Field, note: &Note) -> bool
         requires { HasWay field.now self.now.way }
         ensures { result ≡ lands self.now.way field.now note.now }
     {
@@ -152,8 +152,8 @@ impl Drive {
     }
 
     /// Nothing is asked any more. A cancel whose answer didn't come is delivered, and its answer, since both regions stand in
-    /// one process. Gives the parcel as which the object became live in the other region, if it did.
-    pub fn rest(self, field: &mut Field) -> Result<Option<Parcel>, NoMemory>
+    /// one process. Gives the offer that made the object live in the other region, if one did.
+    pub fn rest(self, field: &mut Field) -> Result<Option<Note>, NoMemory>
         requires way { HasWay field.old self.way }
         requires there { IfSome (awaited_in field.old self.way) (λ note. HasCard field.old note.object note.to) }
         ensures rests { OnOk result (field.new ≡ rested field.old self.way) }

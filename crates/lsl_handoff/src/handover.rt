@@ -1,13 +1,13 @@
 //! An object is handed over: the notes of its drive go over a link as bytes.
 
-ghost use Rattle.std.specs.Prelude.{◌≡◌, ◌↔◌, ◌<◌, ◌≤◌, ◌^◌, [], List, ℕ, Option, Some, None, length, option_map, IfOk, IsTrue, MatchOption, MatchResult};
+ghost use Rattle.std.specs.Prelude.{◌≡◌, true, ◌<◌, ◌≤◌, ◌^◌, [], List, ℕ, Option, Some, None, length, option_map, IfOk, IfSome, IsSome, MatchOption, MatchResult, OnErr, OnOk};
 ghost use Rattle.lsl_ports.specs.Trips.{Trip, Went};
 ghost use Rattle.lsl_handoff.specs.declared.note.Note.{Note as ANote};
 ghost use Rattle.lsl_handoff.specs.Cards.{is_live};
-ghost use Rattle.lsl_handoff.specs.Drives.{HasWay};
+ghost use Rattle.lsl_handoff.specs.Drives.{HasWay, asks, hears, moment};
 ghost use Rattle.lsl_handoff.specs.Fields.{HasCard, card_at};
 ghost use Rattle.lsl_handoff.specs.Entries.{MayRest, Rests};
-ghost use Rattle.lsl_handoff.specs.Handovers.{HasCounts, IsHandedOver, IsHeard, IsOneTrip, IsOneTripOrNone, IsntHandedOver, Passes, landed_unless};
+ghost use Rattle.lsl_handoff.specs.Handovers.{HasCounts, IsGivenOf, IsHandedOver, IsHeard, IsOneTrip, IsOneTripOrNone, IsTaken, IsToldOf, IsToldWith, IsntHandedOver, Passes, given_by, landed_unless, note_of};
 ghost use Rattle.lsl_handoff.specs.NoteBytes.{IsNote, note_bytes};
 
 use crate::drive::{Drive, Way};
@@ -15,30 +15,41 @@ use crate::faults::DepartFault;
 use crate::field::Field;
 use crate::note::{Note, NoteKind};
 use crate::parcel::Parcel;
-use crate::reader::read_note;
+use crate::reader::read_again;
 use crate::writer::write_note;
 use lsl_ports::{Link, LinkFault};
 use lsl_text::{NoMemory, Refusal};
 use std::alloc::{AllocError, Global};
 
-/// Which offers may be taken.
+/// How the parcels of offers are read.
 pub trait Parcels {
+    /// What a parcel stands for.
+    type Parts: Drop;
+
     ghost objects: { Self → ℕ };
 
     ghost regions: { Self → ℕ };
 
-    ghost takes: { Self → ANote → Type 0 };
+    ghost stands: { Self → ANote → Self.Parts → Type 0 };
 
-    /// Whether the parcel of this offer stands for its object.
-    fn takes(&self, offer: &Note) -> Result<bool, NoMemory>
+    /// What the parcel of an offer stands for; none where it stands for nothing, so that the offer may not be taken.
+    fn read(&self, offer: &Note) -> Result<Option<Self::Parts>, NoMemory>
         requires { IsNote (objects self.now) (regions self.now) offer.now }
-        ensures { IfOk result (λ is. IsTrue is ↔ takes self.now offer.now) };
+        ensures { IfOk result (λ parts. MatchOption parts ((p : Self.Parts) → stands self.now offer.now p → ⊥)
+            (stands self.now offer.now)) };
 }
 
-/// The object departs as this parcel, and is driven over the link until it rests. Gives the parcel as which it became live
-/// in the other region, if it did and isn't live again where it was. What comes back and can't be read as a note is lost,
-/// and so is an offer that may not be taken. At most 32 notes are carried. After want of memory the field is somewhere on
-/// the way; after another fault it is unchanged, and nothing was carried.
+/// What came back: a note, and what its parcel stands for, if it is an offer.
+#[derive(Drop)]
+pub struct Back<T: Drop> {
+    note: Note,
+    parts: Option<T>,
+}
+
+/// The object departs as this parcel, and is driven over the link until it rests. Gives what the offer stands for that
+/// made it live in the other region, if one did and the object isn't live again where it was. What comes back and can't
+/// be read as a note is lost, and so is an offer whose parcel stands for nothing. At most 32 notes are carried. After
+/// want of memory the field is somewhere on the way; after another fault it is unchanged, and nothing was carried.
 pub fn hand_over<L: Link, P: Parcels>(
     alloc: Global,
     field: &mut Field,
@@ -48,43 +59,76 @@ pub fn hand_over<L: Link, P: Parcels>(
     regions: u32,
     parcels: &P,
     link: &mut L,
-) -> Result<Option<Parcel>, DepartFault>
+) -> Result<Option<P::Parts>, DepartFault>
     requires way { HasWay field.old way }
     requires counts { HasCounts objects regions field.old }
     requires short { length parcel < 2 ^ 63 }
     requires parcels { (P.objects parcels.now ≡ objects) × (P.regions parcels.now ≡ regions) }
     ensures goes { (trips : List Trip) × Went L.gives (L.trips link.old) (L.trips link.new) trips
         × MatchResult result
-        (IsHandedOver objects regions (P.takes parcels.now) way parcel trips field.old field.new)
-        (IsntHandedOver objects regions (P.takes parcels.now) way parcel trips field.old field.new)
+        (λ given. (landed : Option ANote)
+        × IsHandedOver objects regions (IsTaken (P.stands parcels.now)) way parcel trips field.old field.new landed
+        × IsGivenOf (P.stands parcels.now) landed given
         × ((place : ℕ → ℕ) (entries : List (List ℕ))
-        → MayRest objects regions (P.takes parcels.now) place field.old way parcel entries trips
-        → IfOk result (λ landed. Rests objects regions field.old field.new way parcel entries trips landed)) }
+        → MayRest objects regions (IsTaken (P.stands parcels.now)) place field.old way parcel entries trips
+        → Rests objects regions field.old field.new way parcel entries trips landed))
+        (IsntHandedOver objects regions (IsTaken (P.stands parcels.now)) way parcel trips field.old field.new) }
     ensures counts { HasCounts objects regions field.new }
     ensures counted { L.faults link.old ≤ L.faults link.new }
 {
     let mut drive = Drive::depart(field, way, parcel)?;
+    let mut given = None;
     'notes: while let Some(note) = drive.asks(field)? {
         let back = carry(alloc, &note, objects, regions, parcels, link)?;
-        drive.hears(field, back)?;
+        given = hear(&mut drive, field, back, given)?;
     }
-    let landed = drive.rest(field)?;
-    Ok(came(landed, field, way))
+    drive.rest(field)?;
+    Ok(came(given, field, way))
+}
+
+// What came back is heard. Gives what the offer stands for, if it made the object live in the other region, or what was
+// given before.
+fn hear<T: Drop>(
+    drive: &mut Drive,
+    field: &mut Field,
+    back: Option<Back<T>>,
+    given: Option<T>,
+) -> Result<Option<T>, NoMemory>
+    requires way { HasWay field.old drive.old.way }
+    requires asks { IsSome (asks drive.old.way (moment drive.old field.old)) }
+    requires back { IfSome back (λ back. HasCard field.old back.note.object back.note.to) }
+    ensures hears { OnOk result
+        (moment drive.new field.new ≡ hears drive.old.way (moment drive.old field.old) (note_of back)) }
+    ensures given { IfOk result (λ parts. parts ≡ given_by drive.old.way field.old back given) }
+    ensures way { drive.new.way ≡ drive.old.way }
+    ensures unchanged { OnErr result (field.new ≡ field.old) }
+{
+    match back {
+        Some(Back { note, parts }) => {
+            let lands = drive.lands(field, &note);
+            drive.hears(field, Some(note))?;
+            Ok(if lands { parts } else { given })
+        }
+        None => {
+            drive.hears(field, None)?;
+            Ok(given)
+        }
+    }
 }
 
 // What came to the other region, unless the object is live again where it was.
-fn came(landed: Option<Parcel>, field: &Field, way: Way) -> Option<Parcel>
+fn came<T: Drop>(given: Option<T>, field: &Field, way: Way) -> Option<T>
     requires { HasCard field.now way.object way.from }
-    ensures { result ≡ landed_unless (is_live (card_at field.now way.object way.from).phase) landed }
+    ensures { result ≡ landed_unless (is_live (card_at field.now way.object way.from).phase) given }
 {
     if field.is_live(way.from, way.object) {
         None
     } else {
-        landed
+        given
     }
 }
 
-// Carries a note, and gives the one that came back.
+// Carries a note, and gives what came back.
 fn carry<L: Link, P: Parcels>(
     alloc: Global,
     note: &Note,
@@ -92,18 +136,22 @@ fn carry<L: Link, P: Parcels>(
     regions: u32,
     parcels: &P,
     link: &mut L,
-) -> Result<Option<Note>, NoMemory>
+) -> Result<Option<Back<P::Parts>>, NoMemory>
     requires { (P.objects parcels.now ≡ objects) × (P.regions parcels.now ≡ regions) }
     ensures went { (trips : List Trip) × Went L.gives (L.trips link.old) (L.trips link.new) trips
         × MatchResult result
         (λ back. (bytes : Option (List ℕ)) × IsOneTrip trips (note_bytes note.now) bytes
-        × IsHeard objects regions (P.takes parcels.now) bytes back)
+        × IsHeard objects regions (IsTaken (P.stands parcels.now)) bytes (note_of back)
+        × IsToldWith (P.stands parcels.now) back)
         (λ _. IsOneTripOrNone trips (note_bytes note.now)) }
     ensures counted { L.faults link.old ≤ L.faults link.new }
 {
     let bytes = write_note(alloc, note)?;
     match carried(alloc, bytes.as_slice(), link)? {
-        Some(back) => read_back(alloc, back.as_slice(), objects, regions, parcels),
+        Some(back) => {
+            let is_own = back.as_slice() == bytes.as_slice();
+            read_back(alloc, back.as_slice(), is_own, objects, regions, parcels)
+        }
         None => Ok(None),
     }
 }
@@ -125,29 +173,42 @@ fn carried<L: Link>(alloc: Global, sent: &[u8], link: &mut L) -> Result<Option<V
 fn read_back<P: Parcels>(
     alloc: Global,
     bytes: &[u8],
+    is_own: bool,
     objects: u32,
     regions: u32,
     parcels: &P,
-) -> Result<Option<Note>, NoMemory>
-    requires { (P.objects parcels.now ≡ objects) × (P.regions parcels.now ≡ regions) }
-    ensures { IfOk result (IsHeard objects regions (P.takes parcels.now) (Some bytes.now)) }
+) -> Result<Option<Back<P::Parts>>, NoMemory>
+    requires parcels { (P.objects parcels.now ≡ objects) × (P.regions parcels.now ≡ regions) }
+    requires own { is_own ≡ true → (note : ANote) × (bytes.now ≡ note_bytes note) }
+    ensures { IfOk result (λ back.
+        IsHeard objects regions (IsTaken (P.stands parcels.now)) (Some bytes.now) (note_of back)
+        × IsToldWith (P.stands parcels.now) back) }
 {
-    match read_note(alloc, bytes, objects, regions) {
+    match read_again(alloc, bytes, is_own, objects, regions) {
         Ok(note) => pass(note, parcels),
         Err(Refusal::Fault(_)) => Ok(None),
         Err(Refusal::NoMemory) => Err(AllocError),
     }
 }
 
-// The note, unless it is an offer that may not be taken.
-fn pass<P: Parcels>(note: Note, parcels: &P) -> Result<Option<Note>, NoMemory>
+// The note, unless it is an offer whose parcel stands for nothing.
+fn pass<P: Parcels>(note: Note, parcels: &P) -> Result<Option<Back<P::Parts>>, NoMemory>
     requires { IsNote (P.objects parcels.now) (P.regions parcels.now) note }
-    ensures { IfOk result (λ passed. MatchOption passed (Passes (P.takes parcels.now) note.kind note → ⊥)
-        (λ it. (it ≡ note) × Passes (P.takes parcels.now) note.kind note)) }
+    ensures { IfOk result (λ passed.
+        MatchOption passed (Passes (IsTaken (P.stands parcels.now)) note.kind note → ⊥)
+        (λ it. (it.note ≡ note) × Passes (IsTaken (P.stands parcels.now)) note.kind note
+        × IsToldOf (P.stands parcels.now) note.kind note it.parts)) }
 {
-    let passes = match note.kind {
-        NoteKind::Offer => parcels.takes(&note)?,
-        NoteKind::Taken | NoteKind::Cancel | NoteKind::Refused => true,
-    };
-    if passes { Ok(Some(note)) } else { Ok(None) }
+    match note.kind {
+        NoteKind::Offer => match parcels.read(&note)? {
+            Some(parts) => Ok(Some(Back {
+                note,
+                parts: Some(parts),
+            })),
+            None => Ok(None),
+        },
+        NoteKind::Taken | NoteKind::Cancel | NoteKind::Refused => {
+            Ok(Some(Back { note, parts: None }))
+        }
+    }
 }

@@ -9,6 +9,7 @@ returns c field place way parcel handed trips has rest home fine past obeys fait
     record {
       rests = end.rests;
       as_parcel = end.as_parcel;
+      after = end.after;
       others = end.others;
       past = λ n is. end.past n (handed-so trips handed (Contains handed) (λ x was. was) n is);
       landed_is = end.landed_is;

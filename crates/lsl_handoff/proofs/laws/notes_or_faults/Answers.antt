@@ -13,9 +13,9 @@ all-below (b ∷ bytes) all (suc i) = all-below bytes all.1 i
 
 pub returns : goal.returns
 returns c = record {
-  spelled = λ objects regions note is. record { is = is; bytes_are = refl };
-  notes = λ objects regions bytes note ranges few it.
-      written-faultless objects regions ranges.0 ranges.1 bytes few note it;
+  spelled = λ objects regions note is fits. record { is = is; bytes_are = refl; fits = fits };
+  notes = λ objects regions bytes note ranges it.
+      written-faultless objects regions ranges.0 ranges.1 bytes it.fits note it;
   others = λ objects regions bytes all none.
       (note_in bytes, faultless-is objects regions bytes (all-below bytes all) none);
 }

@@ -1,5 +1,5 @@
 use Rattle.std.proofs.Common.{arith}
-use Rattle.lsl_handoff.proofs.OuterLemmas.{length-fields}
+use Rattle.lsl_handoff.proofs.NoteLengths.{length-fields}
 use Rattle.lsl_handoff.proofs.writer.size_of.Goals as goal
 
 pub returns : goal.returns
