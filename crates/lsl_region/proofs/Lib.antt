@@ -38,6 +38,7 @@ pub mod Notices
 pub mod CardTold
 pub mod Furnishing
 pub mod Journeys
+pub mod Comers
 pub mod Passages
 pub mod Refilling
 pub mod Thawing

@@ -9,7 +9,7 @@ use Rattle.lsl_code.specs.declared.woven_units.Woven.{Woven as Code}
 use Rattle.lsl_post.specs.declared.parts.ScriptParts.{ScriptParts}
 use Rattle.lsl_image.specs.declared.parts.ObjectParts.{ObjectParts}
 use Rattle.lsl_image.specs.declared.parts.Shape.{Shape}
-use Rattle.lsl_image.specs.Images.{covered, digested}
+use Rattle.lsl_image.specs.Images.{ObjectImage, covered, digested}
 use Rattle.lsl_image.specs.Layout.{TextForm, each_behind, field}
 use Rattle.lsl_image.specs.Object.{body, object, script_of}
 use Rattle.lsl_image.specs.Rest.{script}
@@ -103,12 +103,11 @@ module _ (bytes : List ℕ) where
       ap shape_of (ended last.rest)
       ∙ body-shape headed.value shape library sent.middle read.value read.middle read.first
 
--- what came back can take the place of the object
-pub can-arrive : (codes : List Code) (grid : Contents) (place : ℕ) (parts : ObjectParts) (back : List ℕ)
-    → is_valid_key (parts_of_object grid place).key ≡ true → Brings codes grid place parts back
-    → CanArrive codes grid place parts
-can-arrive codes grid place parts back key image =
-    let region = (object_in_grid grid place).region in
+-- an image of the object, wherever its sender was, can take its place
+pub can-come : (codes : List Code) (grid : Contents) (place : ℕ) (region : List ℕ) (parts : ObjectParts)
+    (back : List ℕ) → is_valid_key (parts_of_object grid place).key ≡ true
+    → ObjectImage region (shape_of (parts_of_object grid place)) codes parts back → CanArrive codes grid place parts
+can-come codes grid place region parts back key image =
     let shape = shape_of (parts_of_object grid place) in
     record {
       valid = object-valid (covered back) region shape codes (digested back) key 0 parts (digested back)
@@ -116,6 +115,13 @@ can-arrive codes grid place parts back key image =
       shape = object-shape (covered back) region shape codes (digested back) 0 parts (digested back)
           (record { gives = image.1 });
     }
+
+-- what came back can take the place of the object
+pub can-arrive : (codes : List Code) (grid : Contents) (place : ℕ) (parts : ObjectParts) (back : List ℕ)
+    → is_valid_key (parts_of_object grid place).key ≡ true → Brings codes grid place parts back
+    → CanArrive codes grid place parts
+can-arrive codes grid place parts back key image =
+    can-come codes grid place (object_in_grid grid place).region parts back key image
 
 unit-kept : (codes : List Code) (number : ℕ) (unit : Code) (parts : ScriptParts) → slice_get codes number ≡ Some unit
     → FitsUnit unit parts → HasUnit codes (with_unit number parts)

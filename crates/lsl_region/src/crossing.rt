@@ -8,7 +8,7 @@ ghost use Rattle.lsl_ports.specs.Trips.{Trip, Went, sent_of};
 ghost use Rattle.lsl_script.specs.Codes.{Meant};
 ghost use Rattle.lsl_image.specs.Images.{ObjectFirst, ObjectImage};
 ghost use Rattle.lsl_image.specs.Valid.{shape_of};
-ghost use Rattle.lsl_region.specs.Crossings.{ComesOf, CrossesAs, IsOneTrip, IsSent, Stays, image_in, images_to, kept_entries, region_changed, region_in};
+ghost use Rattle.lsl_region.specs.Crossings.{CanArrive, ComesOf, CrossesAs, IsOneTrip, IsSent, Stays, image_in, images_to, kept_entries, region_changed, region_in};
 ghost use Rattle.lsl_region.specs.Grids.{AreSeated, Stands};
 ghost use Rattle.lsl_region.specs.Journeys.{Travels};
 ghost use Rattle.lsl_region.specs.ObjectParts.{parts_in_seat, parts_of_object};
@@ -138,13 +138,14 @@ impl Grid {
         carried(self.alloc, &image, link)
     }
 
-    // The image of the object of this number.
-    fn image(&self, object: u32, library: &Library) -> Result<Vec<u8>, NoMemory>
+    /// The image of the object of this number. Walks the scripts, and the image once more for its digest.
+    pub fn image(&self, object: u32, library: &Library) -> Result<Vec<u8>, NoMemory>
         requires first { 0 < object }
         requires last { object ≤ length self.now.objects }
         requires seated { AreSeated library.now self.now.seats }
         ensures bytes { IfOk result (λ image. image.items ≡ image_in library.now self.now (object - 1)) }
         ensures image { OnOk result (IsSent library.now self.now (object - 1)) }
+        ensures own { OnOk result (CanArrive library.now self.now (object - 1) (parts_of_object self.now (object - 1))) }
     {
         let parts = self.parts(object)?;
         write_object(self.alloc, &parts, self.region(object), library)
@@ -212,7 +213,7 @@ fn carried<L: Link>(alloc: Global, sent: &[u8], link: &mut L) -> Result<Option<V
 }
 
 // Reads what came back: the parts for which it stands, or its first fault.
-fn read_back(
+pub(crate) fn read_back(
     alloc: Global,
     back: &[u8],
     region: &Text,

@@ -11,6 +11,7 @@ mod assembling;
 mod audience;
 mod channels;
 mod crossing;
+mod entering;
 mod events;
 mod freezing;
 mod grid;
