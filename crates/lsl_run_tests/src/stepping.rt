@@ -1,5 +1,5 @@
 //! Worlds whose steps are all done.
-ghost use Rattle.std.specs.Prelude.{◌≡◌, All, OnOk, length};
+ghost use Rattle.std.specs.Prelude.{◌≡◌, None, All, OnOk, length};
 ghost use Rattle.lsl_world.specs.Ranges.{IsInRange};
 ghost use Rattle.lsl_world.specs.Sizes.{IsStepOf};
 ghost use Rattle.lsl_world.specs.Sound.{IsSound};
@@ -92,6 +92,7 @@ fn saves_in(alloc: Global, file: &WorldFile, units: Library) -> Result<u64, NoMe
 fn steps_done(alloc: Global, world: &mut World, steps: &[Step]) -> Result<(), NoMemory>
     requires sound { IsSound world.old }
     requires steps { All (IsStepOf (size_of world.old)) steps.now }
+    requires plain { world.old.cards ≡ None }
     ensures { OnOk result (IsSound world.new) }
 {
     let mut link = MemoryLink::new(alloc, Vec::new(alloc));

@@ -47,7 +47,7 @@ post-keeps r test e w =
     each-keeps outline (post_where r test e) (λ n x. member-keeps n _ x) (length w.members) 0 w
 
 -- an item is another one, of which the same is told
-set-keeps : {X Y : Type 0} (f : X → Y) (xs : List X) (k : ℕ) (y d : X) → f y ≡ f (get_or xs k d)
+pub set-keeps : {X Y : Type 0} (f : X → Y) (xs : List X) (k : ℕ) (y d : X) → f y ≡ f (get_or xs k d)
     → map f (slice_set xs k y) ≡ map f xs
 set-keeps f [] k y d e = refl
 set-keeps f (x ∷ xs) zero y d e = ap (λ z. z ∷ map f xs) e
@@ -75,8 +75,8 @@ store-keeps m pairs w =
 -- so a turn keeps it
 outline-kept : (place : ℕ) → IsKept outline place
 outline-kept place = record {
-  own = member-keeps place;
-  mail = mailed-keeps place;
+  own = λ thing code w. member-keeps place thing w;
+  mail = λ m done w at code. mailed-keeps place m done w;
   left = post-keeps;
   named = λ m name w. ap (λ (os : List Linkset). let kept : List Linkset × ℕ = (os, length w.members) in kept)
       (named-keeps w.objects m.object m.prim name);

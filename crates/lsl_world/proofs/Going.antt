@@ -31,11 +31,11 @@ pub go_on-here : (r : Rules) (step : Step) → IsHere step → (trips : List Tri
 go_on-here r (Cross object region) here trips w = absurd here
 go_on-here r step here trips w = refl
 
-images-here : (codes : List Code) (step : Step) → IsHere step → (w : SourceWorld) → images_of codes step w ≡ []
+pub images-here : (codes : List Code) (step : Step) → IsHere step → (w : SourceWorld) → images_of codes step w ≡ []
 images-here codes (Cross object region) here w = absurd here
 images-here codes step here w = refl
 
-went-none : (gives : List ℕ → Option (List ℕ) → Type 0) (link : Option (List Trip)) → Went gives link link []
+pub went-none : (gives : List ℕ → Option (List ℕ) → Type 0) (link : Option (List Trip)) → Went gives link link []
 went-none gives link = record { grew = grew-none link; given = λ k d lt. absurd (omega (arith, lt)) }
 
 sends-none : {T E : Type 0} (result : Result T E) → Sends result [] []

@@ -51,6 +51,7 @@ record Sound (r : Reading) : Type 0 where
   objects_fit : All (IsObjectOf (length r.files)) r.objects
   few_notes : length r.notes ≤ 256
   notes_fit : All (HasCard (length r.cards)) r.notes
+  few_steps : length r.steps ≤ 100000
   steps_fit : All (IsStepOf (size_in r.objects r.scripts)) r.steps
   no_steps : is_objects r.part ≡ true → r.steps ≡ []
 
@@ -141,14 +142,15 @@ known-fits r (Pause gaps) f h = f
 known-fits r (Cross object region) f h = has-object r.objects object h
 
 step-sound : (r : Reading) (step : TheStep) (clock : ℕ) → Sound r → is_steps r.part ≡ true → StepFits step
-    → knows r step ≡ true → Sound (record r { steps = r.steps ++ step ∷ []; clock = clock })
-step-sound r step clock s steps f h = record {
+    → length r.steps < 100000 → knows r step ≡ true → Sound (record r { steps = r.steps ++ step ∷ []; clock = clock })
+step-sound r step clock s steps f few h = record {
   few_objects = s.few_objects;
   counted = s.counted;
   few_scripts = s.few_scripts;
   objects_fit = s.objects_fit;
   few_notes = s.few_notes;
   notes_fit = s.notes_fit;
+  few_steps = omega (arith, few, length-append r.steps (step ∷ []));
   steps_fit = All-push (IsStepIn r.objects r.scripts) r.steps step s.steps_fit (known-fits r step f h);
   no_steps = λ e. absurd (not_both r.part e steps);
 }
@@ -164,7 +166,7 @@ step_added-sound r step s f =
     fit-fault_unless Sound (nat_lt (length r.steps) 100000) TooMany _ (λ b.
     fit-fault_unless Sound (knows r step) Unknown _ (λ c.
     fit-fault_unless Sound (nat_le r.clock (reading.clock_behind r.clock step)) ClockBack _ (λ d.
-    step-sound r step (reading.clock_behind r.clock step) s a f c))))
+    step-sound r step (reading.clock_behind r.clock step) s a f (ltb-true (length r.steps) 100000 b) c))))
 
 -- objects, prims and scripts are read before any step
 objects-sound : (r : Reading) (objects : List ObjectLine) (scripts : ℕ) (files keys : List (List ℕ)) → Sound r
@@ -178,6 +180,7 @@ objects-sound r objects scripts files keys s part few counted few_scripts fit = 
   objects_fit = fit;
   few_notes = s.few_notes;
   notes_fit = s.notes_fit;
+  few_steps = s.few_steps;
   steps_fit = fits-none (size_in objects scripts) r.steps (s.no_steps part);
   no_steps = s.no_steps;
 }
@@ -390,6 +393,7 @@ note-sound name file r s =
       notes_fit = All-push (HasCard (length (file_added r.cards file))) r.notes note
           (notes-later (length r.cards) (length (file_added r.cards file)) r.notes (files-grown r.cards file) s.notes_fit)
           (file-there r.cards file);
+      few_steps = s.few_steps;
       steps_fit = s.steps_fit;
       no_steps = s.no_steps;
     }))
@@ -403,6 +407,7 @@ part-sound r part s e = record {
   objects_fit = s.objects_fit;
   few_notes = s.few_notes;
   notes_fit = s.notes_fit;
+  few_steps = s.few_steps;
   steps_fit = s.steps_fit;
   no_steps = λ f. absurd (apart (sym e ∙ f));
 }
@@ -438,6 +443,7 @@ file-sound line Ended r file s e = subst IsInRange (ap value e) (record {
   objects_fit = s.objects_fit;
   few_notes = s.few_notes;
   notes_fit = s.notes_fit;
+  few_steps = s.few_steps;
   steps_fit = subst (λ n. All (IsStepOf (size_in r.objects n)) r.steps) s.counted s.steps_fit;
 })
   where
@@ -469,6 +475,7 @@ begun-sound = record {
   objects_fit = All-nil (IsObjectOf 0);
   few_notes = lit≤ tt;
   notes_fit = All-nil (HasCard 0);
+  few_steps = lit≤ tt;
   steps_fit = All-nil (IsStepOf (size_in [] 0));
   no_steps = λ e. refl;
 }

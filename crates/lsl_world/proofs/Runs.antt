@@ -56,7 +56,7 @@ left-first : (crossing : Bool) (trip : Trip) (before behind : List Trip)
 left-first true trip before behind = refl
 left-first false trip before behind = refl
 
-left-here : (step : Step) (trips : List Trip) (w : World) → is_crossing w step ≡ false → left step w trips ≡ trips
+pub left-here : (step : Step) (trips : List Trip) (w : World) → is_crossing w step ≡ false → left step w trips ≡ trips
 left-here step trips w e = ap (λ (b : Bool). if b then drop 1 trips else trips) e
 
 left-cross : (step : Step) (trips : List Trip) (w : World) → is_crossing w step ≡ true

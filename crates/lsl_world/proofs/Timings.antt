@@ -61,8 +61,8 @@ member-others place thing w = go (slice_get w.members place) where
 
 others-kept : (place : ℕ) → IsKept (others place) place
 others-kept place = record {
-  own = member-others place;
-  mail = λ m done w. set-others place w.members (record m { script = done.0 });
+  own = λ thing code w. member-others place thing w;
+  mail = λ m done w at code. set-others place w.members (record m { script = done.0 });
   left = λ r test e w. ap (λ (ts : List Timing). slice_set ts place stopped) (post-timings r test e w);
   named = λ m name w. refl;
   store = λ m pairs w. refl;

@@ -8,9 +8,14 @@ pub mod Reports
 pub mod Sizes
 pub mod Timers
 pub mod Ranges
+pub mod Regions
+pub mod Handing
+pub mod Orders
+pub mod Lossy
 pub mod Codes
 pub mod Sound
 pub mod Stands
+pub mod Stages
 pub mod Seats
 pub mod Frozen
 pub mod Laws

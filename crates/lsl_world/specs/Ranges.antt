@@ -35,6 +35,7 @@ pub record IsInRange (file : WorldFile) : Type 0 where
   pub objects_fit : All (IsObjectOf (length file.files)) file.objects
   pub few_notes : length file.notes ≤ 256
   pub notes_fit : All (HasCard (length file.cards)) file.notes
+  pub few_steps : length file.steps ≤ 100000
   pub steps_fit : All (IsStepOf (size_of_file file)) file.steps
 
 -- a good file is of this kind

@@ -22,6 +22,7 @@ ghost use Rattle.lsl_world.specs.Sound.{IsSound};
 ghost use Rattle.lsl_world.specs.Stands.{IsOf, size_of};
 ghost use Rattle.lsl_world.specs.Starts.{start};
 
+use crate::naming::Regions;
 use crate::starting::grid_of;
 use crate::timers::index_of;
 use crate::world::World;
@@ -88,6 +89,7 @@ impl World {
         ensures sound { IfOk result IsSound }
         ensures saves { IfOk result (λ world. Counts world.pause no_tally) }
         ensures units { IfOk result (λ world. world.units ≡ units) }
+        ensures plain { IfOk result (λ world. world.cards ≡ None) }
     {
         let mut grid = grid_of(alloc, file.objects.as_slice(), &units, cards)?;
         let WorldParts { clock, objects } = read_parts(alloc, &grid, &units, bytes)?;
@@ -100,6 +102,8 @@ impl World {
             units,
             pause: Pause::off(alloc),
             due,
+            regions: Regions::new(alloc),
+            cards: None,
         })
     }
 }

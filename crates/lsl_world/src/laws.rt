@@ -1,6 +1,7 @@
 //! Laws of runs. Each law is a function whose clause is the law; it does nothing.
 
 ghost use Rattle.lsl_world.specs.Laws.{CountingChangesNothing, OneScriptHasOneTurn, RunsEndWhereNoneIsReady, TripsKeepSteps, TwoListsAreTwoCounts, TwoListsAreTwoRuns, TwoListsAreTwoTravels};
+ghost use Rattle.lsl_world.specs.Lossy.{LossyRunsKeepSteps, PlainRunsTravel};
 ghost use Rattle.lsl_world.specs.Ranges.{GoodFilesAreInRange};
 
 /// A run of two lists of steps is the run of the first, and then that of the second from where the first ended.
@@ -11,6 +12,17 @@ pub fn two_lists_are_two_runs()
 /// A run by trips is the run of the steps without the crossings that were refused, in which nothing is known of trips.
 pub fn trips_keep_steps()
     ensures { TripsKeepSteps }
+{}
+
+/// A run in which nothing is known of notes is one by trips.
+pub fn plain_runs_travel()
+    ensures { PlainRunsTravel }
+{}
+
+/// A run in which objects are handed over by notes is the run of the steps without the crossings whose offer didn't come,
+/// or came behind its cancel, in which nothing is known of notes.
+pub fn lossy_runs_keep_steps()
+    ensures { LossyRunsKeepSteps }
 {}
 
 /// A run of two lists of steps is the run of the first by its trips, and then that of the second by those behind.

@@ -3,8 +3,10 @@
 #![tactic(auto)]
 
 mod freezing;
+mod handing;
 mod homes;
 pub mod laws;
+mod naming;
 mod rounds;
 mod starting;
 mod stepping;

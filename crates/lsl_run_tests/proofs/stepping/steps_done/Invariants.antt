@@ -1,4 +1,4 @@
-use Rattle.std.proofs.Common.{◌≡◌}
+use Rattle.std.proofs.Common.{◌≡◌, None}
 use Rattle.lsl_world.specs.Sound.{IsSound}
 use Rattle.lsl_world.specs.Stands.{size_of}
 use Rattle.lsl_run_tests.proofs.stepping.steps_done.Given as goal
@@ -8,4 +8,5 @@ invariant-loop-step l =
     record {
       sound : IsSound l.world;
       size : size_of l.world ≡ size_of l.fn.world;
+      plain : l.world.cards ≡ None;
     }

@@ -1,10 +1,13 @@
-use Rattle.std.proofs.Common.{ℕ, ap, sym, ◌∙◌, subst, arith}
+use Rattle.std.proofs.Common.{ℕ, List, ap, refl, sym, ◌∙◌, subst, arith}
 use Rattle.std.specs.Prelude.{All, map}
+use Rattle.lsl_region.specs.declared.objects.Linkset.{Linkset}
 use Rattle.lsl_world.specs.Ranges.{IsObjectOf}
+use Rattle.lsl_world.specs.Regions.{AreInNamed, LeadsToNamed, regions_of_file}
 use Rattle.lsl_world.specs.Seats.{seats_of_objects}
 use Rattle.lsl_world.specs.Starts.{object_of_line}
 use Rattle.lsl_world.proofs.Beginning.{sized, starts}
 use Rattle.lsl_world.proofs.Meanings.{meant}
+use Rattle.lsl_world.proofs.Named.{file-objects-named, file-steps-named}
 use Rattle.lsl_world.proofs.world.World.start.Goals as goal
 
 pub returns-clause-of : goal.returns-clause-of
@@ -36,3 +39,20 @@ returns-clause-sound c = record {
   timely = omega arith;
   numbered = c.in_ok-due.ensures.numbered;
 }
+
+pub returns-clause-begun : goal.returns-clause-begun
+returns-clause-begun c =
+    let file = c.args.file.now in
+    record {
+      plain = refl;
+      named = subst (λ (names : List (List ℕ)). AreInNamed names c.in_ok-grid.grid.objects)
+          (sym c.in_ok-regions.ensures.regions)
+          (subst (λ (objects : List Linkset). AreInNamed (regions_of_file file) objects)
+          (sym (c.in_ok-grid.ensures.objects ∙ ap (map object_of_line) c.as_slice.ensures)) (file-objects-named file));
+    }
+
+pub returns-clause-named : goal.returns-clause-named
+returns-clause-named c =
+    let file = c.args.file.now in
+    subst (λ (names : List (List ℕ)). All (LeadsToNamed names) file.steps) (sym c.in_ok-regions.ensures.regions)
+    (file-steps-named file)
