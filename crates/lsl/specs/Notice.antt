@@ -12,8 +12,8 @@ use Rattle.lsl_top.specs.declared.status.Status.TheVariants.{ReadFault, WriteFau
 abbrev pub meaning_of : Status → List ℕ
 meaning_of Ok = []
 meaning_of Usage =
-    codes "usage: lsl once FILE | check FILE | replay WORLD | freeze WORLD | thaw FROZEN WORLD | view FROZEN WORLD"
-    ++ codes " | make NUMBER\n"
+    codes "usage: lsl once FILE | check FILE | replay [--lossy] WORLD | freeze WORLD | thaw FROZEN WORLD"
+    ++ codes " | view FROZEN WORLD | make NUMBER\n"
 meaning_of BadWorld = codes "not in the form of a world file; standard output has the fault (lsl: status 2)\n"
 meaning_of BadScript = codes "a script isn't accepted; standard output has the fault, tools/explain says it in words (lsl: status 3)\n"
 meaning_of ReadFault = codes "it, or a file that is named in it or beside it, can't be read (lsl: status 4)\n"

@@ -18,8 +18,8 @@ fn meaning(status: Status) -> &'static str
     match status {
         Status::Ok => "",
         Status::Usage =>
-            "usage: lsl once FILE | check FILE | replay WORLD | freeze WORLD | thaw FROZEN WORLD | view FROZEN WORLD \
-                | make NUMBER\n",
+            "usage: lsl once FILE | check FILE | replay [--lossy] WORLD | freeze WORLD | thaw FROZEN WORLD \
+                | view FROZEN WORLD | make NUMBER\n",
         Status::BadWorld =>
             "not in the form of a world file; standard output has the fault (lsl: status 2)\n",
         Status::BadScript =>

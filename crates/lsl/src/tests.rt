@@ -73,15 +73,15 @@ fn each_status_is_said(rt: HostRuntime) -> Result<(), Fail> {
             Case::of(&["replay"], LITERAL),
             1,
             b"".as_slice(),
-            "usage: lsl once FILE | check FILE | replay WORLD | freeze WORLD | thaw FROZEN WORLD | view FROZEN WORLD \
-                | make NUMBER\n",
+            "usage: lsl once FILE | check FILE | replay [--lossy] WORLD | freeze WORLD | thaw FROZEN WORLD \
+                | view FROZEN WORLD | make NUMBER\n",
         ),
         (
             Case::of(&["once", "-x"], LITERAL),
             1,
             b"".as_slice(),
-            "usage: lsl once FILE | check FILE | replay WORLD | freeze WORLD | thaw FROZEN WORLD | view FROZEN WORLD \
-                | make NUMBER\n",
+            "usage: lsl once FILE | check FILE | replay [--lossy] WORLD | freeze WORLD | thaw FROZEN WORLD \
+                | view FROZEN WORLD | make NUMBER\n",
         ),
         (
             Case::of(&["replay", "s.lsl"], b"begin\n"),

@@ -12,7 +12,7 @@ use Rattle.lsl_top.specs.Status.{number_of}
 use Rattle.lsl_top.specs.Words.{Command}
 use Rattle.lsl_top.specs.declared.status.Status.{Status}
 use Rattle.lsl_top.specs.declared.status.Status.TheVariants.{Ok, Usage, BadWorld, BadScript, ReadFault, WriteFault, BadImage, NoMemory, BadNote}
-use Rattle.lsl_top.proofs.Trips.{copies-honest}
+use Rattle.lsl_top.proofs.Trips.{copies-fair}
 use Rattle.lsl_page.specs.Ended.{Ended, outside_of}
 use Rattle.lsl_page.specs.Faults.{IsMissing, faults_at, faults_in}
 use Rattle.lsl_page.proofs.Marks.{keeps-behind, keeps-mark, same-behind}
@@ -44,7 +44,7 @@ module _ (files : Files) (words : Option Command) (status : Status) (m n : ℕ) 
     mark-of from fits =
         let (trips, went, silent, keeps) = e.kept in
         keeps-mark m n [] output files from words status trips e.usage.1 e.nothing
-        (keeps from fits (copies-honest None None trips went))
+        (keeps from fits (copies-fair words None None trips went))
 
     -- what stands behind it ends so too
     pub ends-behind : Ends copies words (outside_of files 0 [] 0) (outside_of files missed output refused) status
@@ -55,7 +55,7 @@ module _ (files : Files) (words : Option Command) (status : Status) (m n : ℕ) 
         trips,
         went,
         silent,
-        λ from fits honest. keeps-behind m n [] output files from words status trips (keeps from fits honest),
+        λ from fits fair. keeps-behind m n [] output files from words status trips (keeps from fits fair),
       );
       read_fault = e.read_fault;
       write_fault = e.write_fault;

@@ -31,13 +31,13 @@ use Rattle.lsl_top.specs.Plays.{Homes, Whole, cards_in, names_in, play_of, play_
 use Rattle.lsl_top.specs.Promise.{KeepsTo, Wrote, WrotePart}
 use Rattle.lsl_top.specs.Scripts.{AreAccepted}
 use Rattle.lsl_top.specs.Status.{number_of}
-use Rattle.lsl_top.specs.Words.{Command, Once, Check, Replay, Freeze, Thaw, Make, View}
+use Rattle.lsl_top.specs.Words.{Command, Once, Check, Replay, Lossy, Freeze, Thaw, Make, View}
 use Rattle.lsl_top.specs.declared.status.Status.{Status}
 use Rattle.lsl_top.specs.declared.status.Status.TheVariants.{Ok, Usage, BadWorld, BadScript, ReadFault, WriteFault, BadImage, NoMemory, BadNote}
 use Rattle.lsl_top.proofs.Journals.{journal-pieces, pieces-images}
 use Rattle.lsl_top.proofs.OneAnswer.{plays-programs, replays-plays}
 use Rattle.lsl_top.proofs.Pieces.{begun-partly}
-use Rattle.lsl_top.proofs.Trips.{copies-honest}
+use Rattle.lsl_top.proofs.Trips.{copies-fair}
 use Rattle.lsl_page.specs.Ended.{Ended}
 use Rattle.lsl_page.specs.Faults.{IsMissing}
 use Rattle.lsl_page.specs.Headline.{AreCopied, IsFirst, Runs, WritesJournal, whole_journal}
@@ -126,6 +126,7 @@ none-missing files (Replay name) file programs cards h
     (subst (λ (w : WorldFile). place < length (cards_in w)) one lt)
     (subst (λ (w : WorldFile). get_or (cards_in w) place other ≡ other) one at) none
 none-missing files (Check name) file programs cards h missing = absurd h
+none-missing files (Lossy name) file programs cards h missing = absurd h
 none-missing files (Freeze name) file programs cards h missing = absurd h
 none-missing files (Thaw frozen name) file programs cards h missing = absurd h
 none-missing files (View frozen name) file programs cards h missing = absurd h
@@ -183,6 +184,7 @@ module _ (files : Files) (command : Command) (file : WorldFile) (programs : List
       (subst (λ (held : List Notecard). answer
       ≡ run_answer Homes codes programs file trips (start (rules_of programs) file held)) (sym ok.cards_are) comes.1)
   answer-run g from (Check name) h answer answers = absurd h
+  answer-run g from (Lossy name) h answer answers = absurd h
   answer-run g from (Freeze name) h answer answers = absurd h
   answer-run g from (Thaw frozen name) h answer answers = absurd h
   answer-run g from (View frozen name) h answer answers = absurd h
@@ -237,6 +239,7 @@ fits-any files (Once name) file programs cards from runs = tt
 fits-any files (Replay name) file programs cards from runs =
     λ bytes other is good texts notes text are noted holds accepted codes all has read cards_are. tt
 fits-any files (Check name) file programs cards from runs = absurd runs
+fits-any files (Lossy name) file programs cards from runs = absurd runs
 fits-any files (Freeze name) file programs cards from runs = absurd runs
 fits-any files (Thaw frozen name) file programs cards from runs = absurd runs
 fits-any files (View frozen name) file programs cards from runs = absurd runs
@@ -250,7 +253,8 @@ headline-of files command file programs cards room status output ended runs =
     let (trips, went, silent, keeps) = ended.ends.kept in
     let from = start (rules_of programs) file cards in
     written files command file programs cards trips runs went.given output status
-    (keeps from (fits-any files command file programs cards from runs) (copies-honest None None trips went))
+    (keeps from (fits-any files command file programs cards from runs)
+    (copies-fair (Some command) None None trips went))
     (λ e. let both : Some command ≡ None = ended.ends.usage.0 e in absurd (cc))
     (λ e. none-missing files command file programs cards runs
     (missing files (Some command) ended.missed (ended.ends.read_fault e)))

@@ -17,7 +17,7 @@ use Rattle.lsl_top.specs.Headline.{AreGood, IsScriptIn}
 use Rattle.lsl_top.specs.Laws.{copies}
 use Rattle.lsl_top.specs.Plays.{once_world}
 use Rattle.lsl_top.specs.Status.{number_of}
-use Rattle.lsl_top.specs.Words.{Command, Once, Check, Replay, Freeze, Thaw, Make, View}
+use Rattle.lsl_top.specs.Words.{Command, Once, Check, Replay, Lossy, Freeze, Thaw, Make, View}
 use Rattle.lsl_top.specs.declared.status.Status.TheVariants.{Ok, WriteFault, NoMemory}
 
 -- the command plays this world with these notecards from its start to its end, and the world's scripts are accepted as
@@ -27,6 +27,7 @@ Runs files (Once name) file programs cards =
     (file ≡ once_world) × (cards ≡ []) × AllZip (IsScriptIn files) (name ∷ []) programs
 Runs files (Replay name) file programs cards = AreGood files name file programs cards
 Runs files (Check name) file programs cards = ⊥
+Runs files (Lossy name) file programs cards = ⊥
 Runs files (Freeze name) file programs cards = ⊥
 Runs files (Thaw frozen name) file programs cards = ⊥
 Runs files (View frozen name) file programs cards = ⊥

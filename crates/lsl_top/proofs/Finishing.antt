@@ -9,6 +9,7 @@ use Rattle.lsl_ports.specs.declared.reading.ShelfFault.{ShelfFault}
 use Rattle.lsl_ports.specs.declared.reading.ShelfFault.TheVariants.{Failed, NoMemory as OutOfMemory}
 use Rattle.lsl_tree.specs.Program.{Program}
 use Rattle.lsl_region.specs.Worlds.{World}
+use Rattle.lsl_world.specs.Lossy.{IsFairFrom, Stage}
 use Rattle.lsl_top.specs.Answers.{Answer, Grade, Due, Written, plain}
 use Rattle.lsl_top.specs.Goes.{Performs}
 use Rattle.lsl_top.specs.Pieces.{Piece}
@@ -112,12 +113,13 @@ finish-memory IsAnswer a = record {
 }
 
 -- the same of what doesn't look at trips, and where the link wasn't called
-pub concludes-finished : (gives : List ℕ → Option (List ℕ) → Type 0) (IsOne : Answer → Type 0) (Fits : World → Type 0)
+pub concludes-finished : (gives : List ℕ → Option (List ℕ) → Type 0) (IsFair : List Trip → Type 0)
+    (IsOne : Answer → Type 0) (Fits : World → Type 0)
     (IsAnswer : Grade → World → List Trip → Answer → Type 0) (a b : Log) (p : Wire) (status : Status)
     → ((grade : Grade) (from : World) (trips : List Trip) (answer : Answer) → IsOne answer
     → IsAnswer grade from trips answer)
-    → Finishes IsOne a b status → Concludes gives Fits IsAnswer a b p p status
-concludes-finished gives IsOne Fits IsAnswer a b p status f h = record {
+    → Finishes IsOne a b status → Concludes gives IsFair Fits IsAnswer a b p p status
+concludes-finished gives IsFair IsOne Fits IsAnswer a b p status f h = record {
   trips = [];
   went = went-none gives p.told;
   silent = λ e. refl;
@@ -131,28 +133,34 @@ concludes-finished gives IsOne Fits IsAnswer a b p status f h = record {
   no_usage = h.no_usage;
 }
 
--- a run of these programs, from the world that was frozen or from another
-module _ (gives : List ℕ → Option (List ℕ) → Type 0) (Fits : World → Type 0)
-    (IsAnswer : Grade → World → List Trip → Answer → Type 0) (IsThen : List Program → World → Type 0)
-    (Then : List Program → World → List Trip → Type 0) (pieces : List Program → World → List Trip → List Piece)
-    (programs : List Program) (whence : World → World)
-    (there : (from : World) → Fits from → IsThen programs (whence from)) where
+-- a run of these programs, from where it begins by the world that was frozen; these are its pieces
+module _ (gives : List ℕ → Option (List ℕ) → Type 0) (IsFair : List Trip → Type 0) (Fits : World → Type 0)
+    (IsAnswer : Grade → World → List Trip → Answer → Type 0) (IsThen : List Program → Stage → Type 0)
+    (Then : List Program → Stage → List Trip → Type 0) (pieces : List Program → Stage → List Trip → List Piece)
+    (programs : List Program) (whence : World → Stage) (told : World → List Trip → List Piece)
+    (there : (from : World) → Fits from → IsThen programs (whence from))
+    (fair : (from : World) (trips : List Trip) → IsFair trips → IsFairFrom (whence from) trips)
+    (same : (from : World) (trips : List Trip) → pieces programs (whence from) trips ≡ told from trips) where
   abbrev run_of : World → List Trip → Answer
-  run_of from trips = record { status = Ok; pieces = pieces programs (whence from) trips }
+  run_of from trips = record { status = Ok; pieces = told from trips }
 
   -- it was written and sent, or begun
   pub concludes-performed : {T : Type 0} (a b : Log) (p q : Wire) (r : Result T Trouble)
       → ((from : World) (trips : List Trip) → IsAnswer Due from trips (run_of from trips))
       → ((from : World) (trips : List Trip) → Then programs (whence from) trips
       → IsAnswer Written from trips (run_of from trips))
-      → Performs gives IsThen Then pieces a b p q r → Concludes gives Fits IsAnswer a b p q (status_after r Ok)
+      → Performs gives IsThen Then pieces a b p q r → Concludes gives IsFair Fits IsAnswer a b p q (status_after r Ok)
   concludes-performed a b p q (OkResult t) due written h = record {
     trips = h.trips;
     went = h.went;
     silent = λ e. absurd e;
-    keeps = λ from fits honest.
-        let (whole, last) = h.runs programs (whence from) (there from fits) honest in
-        (run_of from h.trips, written from h.trips last, refl, whole);
+    keeps = λ from fits is.
+        let (whole, last) = h.runs programs (whence from) (there from fits) (fair from h.trips is) in (
+          run_of from h.trips,
+          written from h.trips last,
+          refl,
+          subst (λ (z : List Piece). IsWhole z h.trips a.sunk b.sunk) (same from h.trips) whole,
+        );
     answers = λ from trips own. (run_of from trips, due from trips, refl);
     counted = h.counted;
     links_counted = h.links_counted;
@@ -164,8 +172,12 @@ module _ (gives : List ℕ → Option (List ℕ) → Type 0) (Fits : World → T
     trips = h.trips;
     went = h.went;
     silent = λ e. absurd e;
-    keeps = λ from fits honest.
-        (run_of from h.trips, due from h.trips, h.runs programs (whence from) (there from fits) honest);
+    keeps = λ from fits is. (
+      run_of from h.trips,
+      due from h.trips,
+      subst (λ (z : List Piece). IsBegun z h.trips a.sunk b.sunk) (same from h.trips)
+          (h.runs programs (whence from) (there from fits) (fair from h.trips is)),
+    );
     answers = λ from trips own. absurd own;
     counted = h.counted;
     links_counted = h.links_counted;
@@ -177,8 +189,12 @@ module _ (gives : List ℕ → Option (List ℕ) → Type 0) (Fits : World → T
     trips = h.trips;
     went = h.went;
     silent = λ e. absurd e;
-    keeps = λ from fits honest.
-        inr (run_of from h.trips, due from h.trips, h.runs programs (whence from) (there from fits) honest);
+    keeps = λ from fits is. inr (
+      run_of from h.trips,
+      due from h.trips,
+      subst (λ (z : List Piece). IsBegun z h.trips a.sunk b.sunk) (same from h.trips)
+          (h.runs programs (whence from) (there from fits) (fair from h.trips is)),
+    );
     answers = λ from trips own. absurd own;
     counted = h.counted;
     links_counted = h.links_counted;
@@ -188,10 +204,10 @@ module _ (gives : List ℕ → Option (List ℕ) → Type 0) (Fits : World → T
   }
 
 -- there was no memory before anything was written or sent
-pub concludes-memory : (gives : List ℕ → Option (List ℕ) → Type 0) (Fits : World → Type 0)
+pub concludes-memory : (gives : List ℕ → Option (List ℕ) → Type 0) (IsFair : List Trip → Type 0) (Fits : World → Type 0)
     (IsAnswer : Grade → World → List Trip → Answer → Type 0) (a : Log) (p : Wire)
-    → Concludes gives Fits IsAnswer a a p p NoMemory
-concludes-memory gives Fits IsAnswer a p = record {
+    → Concludes gives IsFair Fits IsAnswer a a p p NoMemory
+concludes-memory gives IsFair Fits IsAnswer a p = record {
   trips = [];
   went = went-none gives p.told;
   silent = λ e. refl;
@@ -205,13 +221,14 @@ concludes-memory gives Fits IsAnswer a p = record {
 }
 
 -- what fits one play and comes of it fits another, and comes of that
-pub concludes-as : (gives : List ℕ → Option (List ℕ) → Type 0) (OneFits Fits : World → Type 0)
+pub concludes-as : (gives : List ℕ → Option (List ℕ) → Type 0) (IsFair : List Trip → Type 0)
+    (OneFits Fits : World → Type 0)
     (IsOne IsAnswer : Grade → World → List Trip → Answer → Type 0) (a b : Log) (p q : Wire) (status : Status)
     → ((from : World) → Fits from → OneFits from)
     → ((grade : Grade) (from : World) (trips : List Trip) (answer : Answer) → IsOne grade from trips answer
     → IsAnswer grade from trips answer)
-    → Concludes gives OneFits IsOne a b p q status → Concludes gives Fits IsAnswer a b p q status
-concludes-as gives OneFits Fits IsOne IsAnswer a b p q status fit f h = record {
+    → Concludes gives IsFair OneFits IsOne a b p q status → Concludes gives IsFair Fits IsAnswer a b p q status
+concludes-as gives IsFair OneFits Fits IsOne IsAnswer a b p q status fit f h = record {
   trips = h.trips;
   went = h.went;
   silent = h.silent;
@@ -226,7 +243,7 @@ concludes-as gives OneFits Fits IsOne IsAnswer a b p q status fit f h = record {
   no_usage = h.no_usage;
 }
 
-module _ (gives : List ℕ → Option (List ℕ) → Type 0) (Fits : World → Type 0)
+module _ (gives : List ℕ → Option (List ℕ) → Type 0) (IsFair : List Trip → Type 0) (Fits : World → Type 0)
     (IsAnswer : Grade → World → List Trip → Answer → Type 0) (IsName : List ℕ → Type 0) (held later : Option Files)
     (faults counted : List ℕ → ℕ) (same : later ≡ held) (fell : NoneFell faults counted) where
   -- the files were read, and then an answer was written and sent
@@ -234,8 +251,8 @@ module _ (gives : List ℕ → Option (List ℕ) → Type 0) (Fits : World → T
       (p q : Wire) (status : Status) → ((from : World) → Fits from → OneFits from)
       → ((grade : Grade) (from : World) (trips : List Trip) (answer : Answer) → IsOne grade from trips answer
       → IsAnswer grade from trips answer)
-      → Concludes gives OneFits IsOne a b p q status
-      → Serves gives Fits IsAnswer IsName (record { held = held; read_faults = faults; log = a; wire = p })
+      → Concludes gives IsFair OneFits IsOne a b p q status
+      → Serves gives IsFair Fits IsAnswer IsName (record { held = held; read_faults = faults; log = a; wire = p })
       (record { held = later; read_faults = counted; log = b; wire = q }) status
   serve-concluded OneFits IsOne a b p q status fit f h = record {
     trips = h.trips;
@@ -258,16 +275,16 @@ module _ (gives : List ℕ → Option (List ℕ) → Type 0) (Fits : World → T
 
   -- memory lacked before anything was written
   pub serve-memory : (a : Log) (p : Wire)
-      → Serves gives Fits IsAnswer IsName (record { held = held; read_faults = faults; log = a; wire = p })
+      → Serves gives IsFair Fits IsAnswer IsName (record { held = held; read_faults = faults; log = a; wire = p })
       (record { held = later; read_faults = counted; log = a; wire = p }) NoMemory
   serve-memory a p =
       serve-concluded Fits IsAnswer a a p p NoMemory (λ from fits. fits) (λ grade from trips answer is. is)
-      (concludes-memory gives Fits IsAnswer a p)
+      (concludes-memory gives IsFair Fits IsAnswer a p)
 
   -- a file wasn't read
   pub serve-unread : (a : Log) (p : Wire) (fault : ShelfFault)
       → (fault ≡ Failed → (name : List ℕ) × IsName name × Rose (faults name) (counted name))
-      → Serves gives Fits IsAnswer IsName (record { held = held; read_faults = faults; log = a; wire = p })
+      → Serves gives IsFair Fits IsAnswer IsName (record { held = held; read_faults = faults; log = a; wire = p })
       (record { held = later; read_faults = counted; log = a; wire = p }) (unread_status fault)
   serve-unread a p OutOfMemory rose = serve-memory a p
   serve-unread a p Failed rose = record {
@@ -287,18 +304,21 @@ module _ (gives : List ℕ → Option (List ℕ) → Type 0) (Fits : World → T
   }
 
 -- a file was read before, and nothing was written or sent yet
-pub serve-later : (gives : List ℕ → Option (List ℕ) → Type 0) (OneFits Fits : World → Type 0)
+pub serve-later : (gives : List ℕ → Option (List ℕ) → Type 0) (IsFair : List Trip → Type 0)
+    (OneFits Fits : World → Type 0)
     (IsOne IsAnswer : Grade → World → List Trip → Answer → Type 0) (IsOneName IsName : List ℕ → Type 0)
     (held later : Option Files) (faults counted : List ℕ → ℕ) (a : Log) (p : Wire) (new : Ports) (status : Status)
     → later ≡ held → NoneFell faults counted → ((from : World) → Fits from → OneFits from)
     → ((grade : Grade) (from : World) (trips : List Trip) (answer : Answer) → IsOne grade from trips answer
     → IsAnswer grade from trips answer)
     → ((name : List ℕ) → IsOneName name → IsName name)
-    → Serves gives OneFits IsOne IsOneName (record { held = later; read_faults = counted; log = a; wire = p }) new
+    → Serves gives IsFair OneFits IsOne IsOneName
+    (record { held = later; read_faults = counted; log = a; wire = p }) new
     status
-    → Serves gives Fits IsAnswer IsName (record { held = held; read_faults = faults; log = a; wire = p }) new status
-serve-later gives OneFits Fits IsOne IsAnswer IsOneName IsName held later faults counted a p new status same fell fit f
-    g h = record {
+    → Serves gives IsFair Fits IsAnswer IsName
+    (record { held = held; read_faults = faults; log = a; wire = p }) new status
+serve-later gives IsFair OneFits Fits IsOne IsAnswer IsOneName IsName held later faults counted a p new status same
+    fell fit f g h = record {
       trips = h.trips;
       went = h.went;
       silent = h.silent;

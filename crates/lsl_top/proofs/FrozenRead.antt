@@ -14,7 +14,7 @@ use Rattle.lsl_region.specs.Worlds.{World}
 use Rattle.lsl_top.specs.Answers.{Answer, Comes, Grade, PlaysTexts, Shows}
 use Rattle.lsl_top.specs.Froms.{IsFromIn, IsFromTexts}
 use Rattle.lsl_top.specs.Held.{HoldsFrozen}
-use Rattle.lsl_top.specs.Plays.{Mode, Whole, Freezing, Thawing, Viewing, Play}
+use Rattle.lsl_top.specs.Plays.{Mode, Whole, Handing, Freezing, Thawing, Viewing, Play}
 use Rattle.lsl_top.specs.Notes.{notecards_of}
 use Rattle.lsl_top.specs.Ports.{IsFrozenRead}
 use Rattle.lsl_top.specs.Thaws.{IsThawFault}
@@ -78,6 +78,12 @@ shown-comes name bytes text codes file answer of (inr (fault, first, e)) =
 pub frozen-read : (held : Option Files) (mode : Mode) (bytes : List ℕ) → IsFrozenRead held mode bytes
     → HasFrozen held mode bytes
 frozen-read held Whole bytes h = record {
+  text = bytes;
+  holds = tt;
+  comes = λ grade from trips codes programs file cards answer c. c;
+  fits = λ codes programs file cards from f. f;
+}
+frozen-read held Handing bytes h = record {
   text = bytes;
   holds = tt;
   comes = λ grade from trips codes programs file cards answer c. c;

@@ -1,5 +1,5 @@
 -- Steps that go one by one.
-use Rattle.std.proofs.Common.{◌≡◌, ℕ, suc, ◌+◌, ◌<◌, ◌≤◌, List, [], ◌∷◌, ◌++◌, take, drop, get_or, length, Option, Result, Ok as OkResult, Err, refl, ap, sym, ◌∙◌, subst, arith, append-nil}
+use Rattle.std.proofs.Common.{◌≡◌, ℕ, suc, ◌+◌, ◌<◌, ◌≤◌, List, [], ◌∷◌, ◌++◌, take, drop, get_or, length, Option, Some, None, Result, Ok as OkResult, Err, refl, ap, sym, ◌∙◌, subst, arith, append-nil}
 use Rattle.std.proofs.lemmas.List.{drop_more}
 use Rattle.lsl_code.specs.declared.woven_units.Woven.{Woven as Code}
 use Rattle.lsl_ports.specs.Growth.{Begins}
@@ -9,19 +9,23 @@ use Rattle.lsl_tree.specs.Program.{Program}
 use Rattle.lsl_lines.specs.Journal.{lines_of}
 use Rattle.lsl_lines.specs.declared.file.Step.{Step}
 use Rattle.lsl_post.specs.declared.entries.Entry.{Entry}
-use Rattle.lsl_post.specs.Told.{Told}
 use Rattle.lsl_script.specs.Rules.{Rules}
-use Rattle.lsl_region.specs.Worlds.{World}
 use Rattle.lsl_world.specs.Programs.{rules_of}
-use Rattle.lsl_world.specs.Travels.{Does, go_on, images_of, left, travel}
+use Rattle.lsl_handoff.specs.declared.card.Card.{Card}
+use Rattle.lsl_world.specs.declared.world.World.{World as Memory}
+use Rattle.lsl_world.specs.Handing.{CanHand}
+use Rattle.lsl_world.specs.Lossy.{Gone, IsFairFrom, Stage, goes, travel_from}
+use Rattle.lsl_world.specs.Regions.{LeadsToNamed}
+use Rattle.lsl_world.specs.Stages.{DoesAt}
+use Rattle.lsl_world.proofs.Staging.{fair-first, fair-second, goes-then as gone-then}
 use Rattle.lsl_top.specs.Goes.{Goes, Runs, StoppedAt}
-use Rattle.lsl_top.specs.Pieces.{Piece, step_piece, step_pieces}
+use Rattle.lsl_top.specs.Pieces.{Piece, stage_piece, stage_pieces}
 use Rattle.lsl_top.specs.Ports.{Log, Wire, Writes}
 use Rattle.lsl_top.specs.Promise.{IsBegunAt, IsWhole}
 use Rattle.lsl_top.specs.declared.writing.Trouble.{Trouble}
 use Rattle.lsl_top.specs.declared.writing.Trouble.TheVariants.{NoMemory}
 use Rattle.lsl_top.proofs.Pieces.{begun-more, begun-one, begun-then, whole-none, whole-one, whole-then}
-use Rattle.lsl_top.proofs.Trips.{go_on-then, honest-first, honest-second, left-then, went-none, went-then}
+use Rattle.lsl_top.proofs.Trips.{went-none, went-then}
 use Rattle.lsl_top.proofs.Written.{rose-later}
 
 -- the step at a place is the first of those that are left
@@ -30,87 +34,104 @@ pub step-here : (steps : List Step) (place : ℕ) (step : Step) → place < leng
 step-here steps place step lt is =
     drop_more steps place step lt ∙ ap (λ (s : Step). s ∷ drop (place + 1) steps) (sym is)
 
-module _ (codes : List Code) (r : Rules) (w : World) where
-  value-none : (trips : List Trip) → (travel r [] trips w).value ≡ w
-  unfolding travel
+-- a step that can be done in a world can be done in one that has cards only if that has, and the same regions
+pub can-hand : (old new : Memory) (step : Step) → new.regions ≡ old.regions → (old.cards ≡ None → new.cards ≡ None)
+    → CanHand old step → CanHand new step
+can-hand old new step same still can = λ cards some.
+    subst (λ (regions : List (List ℕ)). LeadsToNamed regions step) (sym same) (go old.cards refl cards some)
+  where
+    go : (o : Option (List (List Card))) → old.cards ≡ o → (cards : List (List Card)) → new.cards ≡ Some cards
+        → LeadsToNamed old.regions step
+    go None e cards some = absurd (let no = sym (still e) ∙ some in cc)
+    go (Some were) e cards some = can were e
+
+module _ (codes : List Code) (r : Rules) (regions : List (List ℕ)) (stage : Stage) where
+  value-none : (trips : List Trip) → (travel_from codes r regions [] trips stage).value ≡ stage
+  unfolding travel_from
   value-none trips = refl
 
-  pieces-none : (trips : List Trip) → step_pieces codes r [] trips w ≡ []
-  unfolding step_pieces
+  pieces-none : (trips : List Trip) → stage_pieces codes r regions [] trips stage ≡ []
+  unfolding stage_pieces
   pieces-none trips = refl
 
-  value-one : (step : Step) (trips : List Trip) → (travel r (step ∷ []) trips w).value ≡ (go_on r step trips w).value
-  unfolding travel
+  value-one : (step : Step) (trips : List Trip) → (travel_from codes r regions (step ∷ []) trips stage).value
+      ≡ (goes codes r regions step stage trips).told.value
+  unfolding travel_from
   value-one step trips = refl
 
   pieces-one : (step : Step) (trips : List Trip)
-      → step_pieces codes r (step ∷ []) trips w ≡ step_piece codes r step trips w ∷ []
-  unfolding step_pieces
+      → stage_pieces codes r regions (step ∷ []) trips stage ≡ stage_piece codes r regions step trips stage ∷ []
+  unfolding stage_pieces
   pieces-one step trips = refl
 
   pieces-first : (step : Step) (rest : List Step) (trips : List Trip)
-      → step_pieces codes r (step ∷ rest) trips w
-      ≡ (step_piece codes r step trips w ∷ [])
-      ++ step_pieces codes r rest (left step w trips) (go_on r step trips w).value
-  unfolding step_pieces
+      → stage_pieces codes r regions (step ∷ rest) trips stage
+      ≡ (stage_piece codes r regions step trips stage ∷ [])
+      ++ stage_pieces codes r regions rest (goes codes r regions step stage trips).behind
+      (goes codes r regions step stage trips).told.value
+  unfolding stage_pieces
   pieces-first step rest trips = refl
 
   -- where a step made its trips, and others follow
-  module _ (step : Step) (rest : List Step) (ts us : List Trip) (sent : sent_of ts ≡ images_of codes step w) where
-    as_told : Told World → List Trip → List Piece
-    as_told a trips =
-        (record { lines = lines_of a.entries; sent = images_of codes step w } ∷ [])
-        ++ step_pieces codes r rest trips a.value
+  module _ (step : Step) (rest : List Step) (ts us : List Trip)
+      (sent : sent_of ts ≡ (goes codes r regions step stage ts).sent) where
+    abbrev first_gone : Gone
+    first_gone = goes codes r regions step stage ts
 
-    pub pieces-then : step_pieces codes r (step ∷ rest) (ts ++ us) w
-        ≡ (step_piece codes r step ts w ∷ []) ++ step_pieces codes r rest us (go_on r step ts w).value
-    unfolding as_told
+    as_gone : Gone → List Piece
+    as_gone gone =
+        (record { lines = lines_of gone.told.entries; sent = gone.sent } ∷ [])
+        ++ stage_pieces codes r regions rest gone.behind gone.told.value
+
+    pub pieces-then : stage_pieces codes r regions (step ∷ rest) (ts ++ us) stage
+        ≡ (stage_piece codes r regions step ts stage ∷ [])
+        ++ stage_pieces codes r regions rest us first_gone.told.value
+    unfolding as_gone
     pieces-then =
         pieces-first step rest (ts ++ us)
-        ∙ ap (λ (a : Told World). as_told a (left step w (ts ++ us))) (go_on-then codes r step ts us w sent)
-        ∙ ap (λ (trips : List Trip). as_told (go_on r step ts w) trips) (left-then codes r step ts us w sent)
+        ∙ ap (λ (gone : Gone). as_gone gone) (gone-then codes r regions step stage ts us sent)
 
-    pub value-then : (travel r (step ∷ rest) (ts ++ us) w).value ≡ (travel r rest us (go_on r step ts w).value).value
-    unfolding travel
+    pub value-then : (travel_from codes r regions (step ∷ rest) (ts ++ us) stage).value
+        ≡ (travel_from codes r regions rest us first_gone.told.value).value
+    unfolding travel_from
     value-then =
-        ap (λ (a : Told World). (travel r rest (left step w (ts ++ us)) a.value).value)
-        (go_on-then codes r step ts us w sent)
-        ∙ ap (λ (trips : List Trip). (travel r rest trips (go_on r step ts w).value).value)
-        (left-then codes r step ts us w sent)
+        ap (λ (gone : Gone). (travel_from codes r regions rest gone.behind gone.told.value).value)
+        (gone-then codes r regions step stage ts us sent)
 
-module _ (gives : List ℕ → Option (List ℕ) → Type 0) (codes : List Code) where
+module _ (gives : List ℕ → Option (List ℕ) → Type 0) (codes : List Code) (regions : List (List ℕ)) where
   -- nothing is left to do
-  pub goes-none : {T : Type 0} (t : T) (steps : List Step) (IsNow : List Program → World → Type 0) (a : Log) (p : Wire)
-      → steps ≡ [] → Goes gives codes IsNow IsNow steps a a p p (OkResult t)
+  pub goes-none : {T : Type 0} (t : T) (steps : List Step) (IsNow : List Program → Stage → Type 0) (a : Log) (p : Wire)
+      → steps ≡ [] → Goes gives codes regions IsNow IsNow steps a a p p (OkResult t)
   goes-none t steps IsNow a p none = rw none (record {
     trips = [];
     went = went-none gives p.told;
-    runs = λ programs w is honest. record {
-      value = subst (IsNow programs) (sym (value-none codes (rules_of programs) w [])) is;
+    runs = λ programs stage is fair. record {
+      value = subst (IsNow programs) (sym (value-none codes (rules_of programs) regions stage [])) is;
       whole = subst (λ (z : List Piece). IsWhole z [] a.sunk a.sunk)
-          (sym (pieces-none codes (rules_of programs) w [])) (whole-none a.sunk);
+          (sym (pieces-none codes (rules_of programs) regions stage [])) (whole-none a.sunk);
     };
     counted = omega arith;
     links_counted = omega arith;
     cause = λ f. absurd (cc);
   })
 
-  module _ (step : Step) (IsThen IsNow : List Program → World → Type 0) (a : Log) (p q : Wire) (trips : List Trip)
+  module _ (step : Step) (IsThen IsNow : List Program → Stage → Type 0) (a : Log) (p q : Wire) (trips : List Trip)
       (went : Went gives p.told q.told trips) (linked : p.faults ≤ q.faults) where
     -- a step lacked memory
     pub goes-memory : {T U E : Type 0} (e : E) (old new : List Entry)
-        → ((programs : List Program) (w : World) → IsThen programs w
-        → Does {T = U} codes (rules_of programs) (IsNow programs) step w trips old new (Err e))
-        → Goes {T = T} gives codes IsThen IsNow (step ∷ []) a a p q (Err NoMemory)
+        → ((programs : List Program) (stage : Stage) → IsThen programs stage
+        → IsFairFrom stage trips → DoesAt {T = U} codes (rules_of programs) regions
+        (IsNow programs) step stage trips old new (Err e))
+        → Goes {T = T} gives codes regions IsThen IsNow (step ∷ []) a a p q (Err NoMemory)
     goes-memory e old new does = record {
       trips = trips;
       went = went;
-      runs = λ programs w is honest. (
+      runs = λ programs stage is fair. (
         0,
         record {
           begun = subst (λ (z : List Piece). IsBegunAt 0 z trips a.sunk a.sunk)
-              (sym (pieces-one codes (rules_of programs) w step trips))
-              (begun-lacks programs w (does programs w is).sent);
+              (sym (pieces-one codes (rules_of programs) regions stage step trips))
+              (begun-lacks programs stage (does programs stage is fair).sent);
           last = λ f. absurd (cc);
         },
       );
@@ -119,163 +140,185 @@ module _ (gives : List ℕ → Option (List ℕ) → Type 0) (codes : List Code)
       cause = λ f. absurd (cc);
     }
       where
-        begun-lacks : (programs : List Program) (w : World) → Begins (sent_of trips) (images_of codes step w)
-            → IsBegunAt 0 (step_piece codes (rules_of programs) step trips w ∷ []) trips a.sunk a.sunk
-        begun-lacks programs w sent =
-            let piece = step_piece codes (rules_of programs) step trips w in
+        begun-lacks : (programs : List Program) (stage : Stage)
+            → Begins (sent_of trips) (goes codes (rules_of programs) regions step stage trips).sent
+            → IsBegunAt 0 (stage_piece codes (rules_of programs) regions step trips stage ∷ []) trips a.sunk a.sunk
+        begun-lacks programs stage sent =
+            let piece = stage_piece codes (rules_of programs) regions step trips stage in
             begun-one piece piece.lines trips a.sunk a.sunk refl sent
             (record { added = []; grew = grew-none a.sunk; begins = begins-none piece.lines })
 
     -- a step was done, and these were its entries, whose lines were to be written
     pub goes-written : {T U E : Type 0} (u : U) (before entries these : List Entry) (b : Log) (r : Result T Trouble)
         → before ≡ [] → these ≡ entries
-        → ((programs : List Program) (w : World) → IsThen programs w
-        → Does {E = E} codes (rules_of programs) (IsNow programs) step w trips before entries (OkResult u))
-        → Writes (lines_of these) a b r → Goes gives codes IsThen IsNow (step ∷ []) a b p q r
+        → ((programs : List Program) (stage : Stage) → IsThen programs stage
+        → IsFairFrom stage trips → DoesAt {E = E} codes (rules_of programs) regions
+        (IsNow programs) step stage trips before entries (OkResult u))
+        → Writes (lines_of these) a b r → Goes gives codes regions IsThen IsNow (step ∷ []) a b p q r
     goes-written {T = T} u before entries these b r none are does written = record {
       trips = trips;
       went = went;
-      runs = λ programs w is honest.
-          let d = does programs w is in
-          let told = d.tells honest in
-          goes r programs w told.0
-          (ap lines_of (are ∙ told.1 ∙ ap (λ (es : List Entry). es ++ (go_on (rules_of programs) step trips w).entries)
-          none))
+      runs = λ programs stage is fair.
+          let d = does programs stage is fair in
+          let told = d.tells in
+          written-at r programs stage told.0
+          (ap lines_of (are ∙ told.1
+          ∙ ap (λ (es : List Entry). es ++
+          (goes codes (rules_of programs) regions step stage trips).told.entries) none))
           d.sent written;
       counted = written.counted;
       links_counted = linked;
       cause = written.cause;
     }
       where
-        goes : (r : Result T Trouble) (programs : List Program) (w : World)
-            → IsNow programs (go_on (rules_of programs) step trips w).value
-            → lines_of these ≡ lines_of (go_on (rules_of programs) step trips w).entries
-            → sent_of trips ≡ images_of codes step w → Writes (lines_of these) a b r
-            → Runs codes (rules_of programs) (IsNow programs) (step ∷ []) w trips a.sunk b.sunk r
-        goes (OkResult t) programs w is same sent written = record {
-          value = subst (IsNow programs) (sym (value-one codes (rules_of programs) w step trips)) is;
+        written-at : (r : Result T Trouble) (programs : List Program) (stage : Stage)
+            → IsNow programs (goes codes (rules_of programs) regions step stage trips).told.value
+            → lines_of these ≡ lines_of (goes codes (rules_of programs) regions step stage trips).told.entries
+            → sent_of trips ≡ (goes codes (rules_of programs) regions step stage trips).sent
+            → Writes (lines_of these) a b r
+            → Runs codes (rules_of programs) regions (IsNow programs) (step ∷ []) stage trips a.sunk b.sunk r
+        written-at (OkResult t) programs stage is same sent written = record {
+          value = subst (IsNow programs) (sym (value-one codes (rules_of programs) regions stage step trips)) is;
           whole = subst (λ (z : List Piece). IsWhole z trips a.sunk b.sunk)
-              (sym (pieces-one codes (rules_of programs) w step trips))
-              (whole-one (step_piece codes (rules_of programs) step trips w) (lines_of these) trips a.sunk b.sunk
+              (sym (pieces-one codes (rules_of programs) regions stage step trips))
+              (whole-one (stage_piece codes (rules_of programs) regions step trips stage)
+              (lines_of these) trips a.sunk b.sunk
               same sent written.ok);
         }
-        goes (Err e) programs w is same sent written = (
+        written-at (Err e) programs stage is same sent written = (
           0,
           record {
             begun = subst (λ (z : List Piece). IsBegunAt 0 z trips a.sunk b.sunk)
-                (sym (pieces-one codes (rules_of programs) w step trips))
-                (begun-one (step_piece codes (rules_of programs) step trips w) (lines_of these) trips a.sunk b.sunk same
+                (sym (pieces-one codes (rules_of programs) regions stage step trips))
+                (begun-one (stage_piece codes (rules_of programs) regions step trips stage)
+                (lines_of these) trips a.sunk b.sunk same
                 (record { others = []; whole = append-nil (sent_of trips) ∙ sent }) written.part);
-            last = λ f. subst (IsNow programs) (sym (value-one codes (rules_of programs) w step trips)) is;
+            last = λ f. subst (IsNow programs) (sym (value-one codes (rules_of programs) regions stage step trips)) is;
           },
         )
 
   -- a step stopped, whatever was left to do behind it
-  pub goes-stop : {T : Type 0} (step : Step) (rest steps : List Step) (IsThen IsNow : List Program → World → Type 0)
+  pub goes-stop : {T : Type 0} (step : Step) (rest steps : List Step) (IsThen IsNow : List Program → Stage → Type 0)
       (a b : Log) (p q : Wire) (e : Trouble) → steps ≡ step ∷ rest
-      → Goes {T = T} gives codes IsThen IsNow (step ∷ []) a b p q (Err e)
-      → Goes {T = T} gives codes IsThen IsNow steps a b p q (Err e)
+      → Goes {T = T} gives codes regions IsThen IsNow (step ∷ []) a b p q (Err e)
+      → Goes {T = T} gives codes regions IsThen IsNow steps a b p q (Err e)
   goes-stop {T = T} step rest steps IsThen IsNow a b p q e are one = rw are (record {
     trips = one.trips;
     went = one.went;
-    runs = λ programs w is honest.
-        let (n, stopped) = one.runs programs w is honest in
-        (n, stops programs w n stopped);
+    runs = λ programs stage is fair.
+        let (n, stopped) = one.runs programs stage is fair in
+        (n, stops programs stage n stopped);
     counted = one.counted;
     links_counted = one.links_counted;
     cause = one.cause;
   })
     where
-      stops : (programs : List Program) (w : World) (n : ℕ)
-          → StoppedAt {T = T} n codes (rules_of programs) (IsNow programs) (step ∷ []) w one.trips a.sunk b.sunk (Err e)
-          → StoppedAt {T = T} n codes (rules_of programs) (IsNow programs) (step ∷ rest) w one.trips a.sunk b.sunk (Err e)
-      stops programs w n s =
+      stops : (programs : List Program) (stage : Stage) (n : ℕ)
+          → StoppedAt {T = T} n codes (rules_of programs) regions (IsNow programs)
+          (step ∷ []) stage one.trips a.sunk b.sunk (Err e)
+          → StoppedAt {T = T} n codes (rules_of programs) regions (IsNow programs)
+          (step ∷ rest) stage one.trips a.sunk b.sunk (Err e)
+      stops programs stage n s =
           let r = rules_of programs in
           let first = subst (λ (z : List Piece). IsBegunAt n z one.trips a.sunk b.sunk)
-          (pieces-one codes r w step one.trips) s.begun in
+          (pieces-one codes r regions stage step one.trips) s.begun in
           let within = first.within in
           let none : n ≡ 0 = omega arith in
           record {
             begun = subst (λ (z : List Piece). IsBegunAt n z one.trips a.sunk b.sunk)
-                (sym (pieces-first codes r w step rest one.trips))
-                (begun-more n (step_piece codes r step one.trips w ∷ [])
-                (step_pieces codes r rest (left step w one.trips) (go_on r step one.trips w).value) one.trips a.sunk
+                (sym (pieces-first codes r regions stage step rest one.trips))
+                (begun-more n (stage_piece codes r regions step one.trips stage ∷ [])
+                (stage_pieces codes r regions rest (goes codes r regions step stage one.trips).behind
+                (goes codes r regions step stage one.trips).told.value) one.trips a.sunk
                 b.sunk first);
             last = λ f.
-                subst (λ (m : ℕ). IsNow programs (travel r (take (suc m) (step ∷ rest)) one.trips w).value) (sym none)
-                (subst (λ (m : ℕ). IsNow programs (travel r (take (suc m) (step ∷ [])) one.trips w).value) none
+                subst (λ (m : ℕ). IsNow programs
+                (travel_from codes r regions (take (suc m) (step ∷ rest)) one.trips stage).value) (sym none)
+                (subst (λ (m : ℕ). IsNow programs
+                (travel_from codes r regions (take (suc m) (step ∷ [])) one.trips stage).value) none
                 (s.last f));
           }
 
   -- a step was done, and then all that is left, or as far as that went
   pub goes-then : {T U : Type 0} (u : U) (step : Step) (rest steps : List Step)
-      (IsThen IsNow IsLast : List Program → World → Type 0) (a b c : Log) (p q s : Wire) (result : Result T Trouble)
-      → steps ≡ step ∷ rest → Goes gives codes IsThen IsNow (step ∷ []) a b p q (OkResult u)
-      → Goes gives codes IsNow IsLast rest b c q s result → Goes gives codes IsThen IsLast steps a c p s result
+      (IsThen IsNow IsLast : List Program → Stage → Type 0) (a b c : Log) (p q s : Wire) (result : Result T Trouble)
+      → steps ≡ step ∷ rest → Goes gives codes regions IsThen IsNow (step ∷ []) a b p q (OkResult u)
+      → Goes gives codes regions IsNow IsLast rest b c q s result
+      → Goes gives codes regions IsThen IsLast steps a c p s result
   goes-then {T = T} u step rest steps IsThen IsNow IsLast a b c p q s result are one others = rw are (record {
     trips = one.trips ++ others.trips;
     went = went-then gives p.told q.told s.told one.trips others.trips one.went others.went;
-    runs = λ programs w is honest.
+    runs = λ programs stage is fair.
         let r = rules_of programs in
-        let d = one.runs programs w is (honest-first one.trips others.trips honest) in
+        let d = one.runs programs stage is (fair-first stage one.trips others.trips fair) in
         let whole = subst (λ (z : List Piece). IsWhole z one.trips a.sunk b.sunk)
-        (pieces-one codes r w step one.trips) d.whole in
-        runs result programs w whole
-        (others.runs programs (go_on r step one.trips w).value
-        (subst (IsNow programs) (value-one codes r w step one.trips) d.value)
-        (honest-second one.trips others.trips honest));
+        (pieces-one codes r regions stage step one.trips) d.whole in
+        let sent = whole.sent ∙ append-nil (goes codes r regions step stage one.trips).sent in
+        runs result programs stage whole
+        (others.runs programs (goes codes r regions step stage one.trips).told.value
+        (subst (IsNow programs) (value-one codes r regions stage step one.trips) d.value)
+        (fair-second codes r regions step stage one.trips others.trips sent fair));
     counted = let le = one.counted in let more = others.counted in omega arith;
     links_counted = let le = one.links_counted in let more = others.links_counted in omega arith;
     cause = λ f. rose-later a.faults b.faults c.faults one.counted others.counted (others.cause f);
   })
     where
-      runs : (result : Result T Trouble) (programs : List Program) (w : World)
-          → IsWhole (step_piece codes (rules_of programs) step one.trips w ∷ []) one.trips a.sunk b.sunk
-          → Runs codes (rules_of programs) (IsLast programs) rest
-          (go_on (rules_of programs) step one.trips w).value others.trips b.sunk c.sunk result
-          → Runs codes (rules_of programs) (IsLast programs) (step ∷ rest) w (one.trips ++ others.trips) a.sunk c.sunk
+      runs : (result : Result T Trouble) (programs : List Program) (stage : Stage)
+          → IsWhole (stage_piece codes (rules_of programs) regions step one.trips stage ∷ []) one.trips a.sunk b.sunk
+          → Runs codes (rules_of programs) regions (IsLast programs) rest
+          (goes codes (rules_of programs) regions step stage one.trips).told.value others.trips b.sunk c.sunk result
+          → Runs codes (rules_of programs) regions (IsLast programs) (step ∷ rest) stage
+          (one.trips ++ others.trips) a.sunk
+          c.sunk
           result
-      runs (OkResult t) programs w whole d =
+      runs (OkResult t) programs stage whole d =
           let r = rules_of programs in
-          let sent = whole.sent ∙ append-nil (images_of codes step w) in
-          let first = step_piece codes r step one.trips w ∷ [] in
-          let second = step_pieces codes r rest others.trips (go_on r step one.trips w).value in
+          let sent = whole.sent ∙ append-nil (goes codes r regions step stage one.trips).sent in
+          let first = stage_piece codes r regions step one.trips stage ∷ [] in
+          let second = stage_pieces codes r regions rest others.trips
+          (goes codes r regions step stage one.trips).told.value in
           record {
             value = subst (IsLast programs)
-                (sym (value-then codes r w step rest one.trips others.trips sent)) d.value;
+                (sym (value-then codes r regions stage step rest one.trips others.trips sent)) d.value;
             whole = subst (λ (z : List Piece). IsWhole z (one.trips ++ others.trips) a.sunk c.sunk)
-                (sym (pieces-then codes r w step rest one.trips others.trips sent))
+                (sym (pieces-then codes r regions stage step rest one.trips others.trips sent))
                 (whole-then first second one.trips others.trips a.sunk b.sunk c.sunk whole d.whole);
           }
-      runs (Err e) programs w whole (n, s) =
+      runs (Err e) programs stage whole (n, s) =
           let r = rules_of programs in
-          let sent = whole.sent ∙ append-nil (images_of codes step w) in
-          let first = step_piece codes r step one.trips w ∷ [] in
-          let second = step_pieces codes r rest others.trips (go_on r step one.trips w).value in
+          let sent = whole.sent ∙ append-nil (goes codes r regions step stage one.trips).sent in
+          let first = stage_piece codes r regions step one.trips stage ∷ [] in
+          let second = stage_pieces codes r regions rest others.trips
+          (goes codes r regions step stage one.trips).told.value in
           let next : suc (suc n) ≡ suc (length first + n) = omega arith in (
             length first + n,
             record {
               begun = subst (λ (z : List Piece). IsBegunAt (length first + n) z (one.trips ++ others.trips) a.sunk c.sunk)
-                  (sym (pieces-then codes r w step rest one.trips others.trips sent))
+                  (sym (pieces-then codes r regions stage step rest one.trips others.trips sent))
                   (begun-then first second one.trips others.trips a.sunk b.sunk c.sunk whole n s.begun);
               last = λ f.
-                  subst (λ (m : ℕ). IsLast programs (travel r (take m (step ∷ rest)) (one.trips ++ others.trips) w).value)
+                  subst (λ (m : ℕ). IsLast programs (travel_from codes r regions (take m (step ∷ rest))
+                  (one.trips ++ others.trips) stage).value)
                   next
                   (subst (IsLast programs)
-                  (sym (value-then codes r w step (take (suc n) rest) one.trips others.trips sent)) (s.last f));
+                  (sym (value-then codes r regions stage step (take (suc n) rest) one.trips others.trips sent))
+                  (s.last f));
             },
           )
 
-  pub goes-of : {T : Type 0} (done steps : List Step) (IsThen IsNow : List Program → World → Type 0) (a b : Log)
-      (p q : Wire) (result : Result T Trouble) → done ≡ steps → Goes gives codes IsThen IsNow done a b p q result
-      → Goes gives codes IsThen IsNow steps a b p q result
+  pub goes-of : {T : Type 0} (done steps : List Step) (IsThen IsNow : List Program → Stage → Type 0) (a b : Log)
+      (p q : Wire) (result : Result T Trouble) → done ≡ steps
+      → Goes gives codes regions IsThen IsNow done a b p q result
+      → Goes gives codes regions IsThen IsNow steps a b p q result
   goes-of done steps IsThen IsNow a b p q result are goes =
-      subst (λ (ss : List Step). Goes gives codes IsThen IsNow ss a b p q result) are goes
+      subst (λ (ss : List Step). Goes gives codes regions IsThen IsNow ss a b p q result) are goes
 
--- by the same code
-pub goes-units : {T : Type 0} (gives : List ℕ → Option (List ℕ) → Type 0) (codes others : List Code) (steps : List Step)
-    (IsThen IsNow : List Program → World → Type 0) (a b : Log) (p q : Wire) (result : Result T Trouble)
-    → codes ≡ others → Goes gives codes IsThen IsNow steps a b p q result
-    → Goes gives others IsThen IsNow steps a b p q result
-goes-units {T = T} gives codes others steps IsThen IsNow a b p q result same goes =
-    subst (λ (units : List Code). Goes {T = T} gives units IsThen IsNow steps a b p q result) same goes
+-- by the same code, and among the same regions
+pub goes-units : {T : Type 0} (gives : List ℕ → Option (List ℕ) → Type 0) (codes others : List Code)
+    (regions named : List (List ℕ)) (steps : List Step) (IsThen IsNow : List Program → Stage → Type 0) (a b : Log)
+    (p q : Wire) (result : Result T Trouble) → codes ≡ others → regions ≡ named
+    → Goes gives codes regions IsThen IsNow steps a b p q result
+    → Goes gives others named IsThen IsNow steps a b p q result
+goes-units {T = T} gives codes others regions named steps IsThen IsNow a b p q result same alike goes =
+    subst (λ (places : List (List ℕ)). Goes {T = T} gives others places IsThen IsNow steps a b p q result) alike
+    (subst (λ (units : List Code). Goes {T = T} gives units regions IsThen IsNow steps a b p q result) same goes)

@@ -22,6 +22,8 @@ pub mod Frozen
 pub mod Lasting
 pub mod Runs
 pub mod Goings
+pub mod Staged
+pub mod LossyJournals
 pub mod Zips
 pub mod Ascii
 pub mod Faults

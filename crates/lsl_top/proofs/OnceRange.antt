@@ -42,6 +42,7 @@ once-in_range = record {
   objects_fit = All-cons (IsObjectOf 1) object [] object-fits (All-nil (IsObjectOf 1));
   few_notes = lit≤ tt;
   notes_fit = All-nil (HasCard 0);
+  few_steps = lit≤ tt;
   steps_fit = All-cons (IsStepOf (size_of_file once_world)) (Run 1000000) [] (lit≤ tt)
       (All-nil (IsStepOf (size_of_file once_world)));
 }

@@ -27,11 +27,11 @@ use Rattle.lsl_top.specs.Answers.{Answer, Checks, Comes, Grade, Plays, PlaysText
 use Rattle.lsl_top.specs.Held.{AreHeld, Holds, HoldsFrozen}
 use Rattle.lsl_top.specs.Laws.{AnswersAreOne}
 use Rattle.lsl_top.specs.Made.{made_files, made_name}
-use Rattle.lsl_top.specs.Plays.{Mode, Whole, Freezing, Thawing, Play, play_of, play_of_once, played, Viewing}
+use Rattle.lsl_top.specs.Plays.{Mode, Whole, Handing, Freezing, Thawing, Play, play_of, play_of_once, played, Viewing}
 use Rattle.lsl_top.specs.Notes.{AreCards, notecards_of}
 use Rattle.lsl_top.specs.Scripts.{AreAccepted, FirstRefused, IsRefusedAt}
 use Rattle.lsl_top.specs.Thaws.{IsThawFault, IsThawOf}
-use Rattle.lsl_top.specs.Words.{Once, Check, Replay, Freeze, Thaw, Make, View}
+use Rattle.lsl_top.specs.Words.{Once, Check, Replay, Lossy, Freeze, Thaw, Make, View}
 use Rattle.lsl_view.specs.Names.{script_names}
 use Rattle.lsl_view.specs.Parts.{view_of_parts}
 use Rattle.lsl_top.proofs.FrozenOne.{frozen-one, has-line}
@@ -149,6 +149,7 @@ comes-one : (g h : Grade) (from : World) (trips : List Trip) (mode : Mode) (code
     → Comes g from trips mode codes programs file cards text a
     → Comes h from trips mode codes programs file cards text b → a ≡ b
 comes-one g h from trips Whole codes programs file cards text a b (l, e) (m, f) = e ∙ sym f
+comes-one g h from trips Handing codes programs file cards text a b e f = e ∙ sym f
 comes-one g h from trips Freezing codes programs file cards text a b (l, e) (m, f) = e ∙ sym f
 comes-one g h from trips (Thawing name) codes programs file cards text a b (inl (p, t, e)) (inl (q, u, f)) = e ∙ sym f
 comes-one g h from trips (Thawing name) codes programs file cards text a b (inl (p, t, e)) (inr (fault, u, f)) =
@@ -197,6 +198,7 @@ texts-come : (files : Files) (mode : Mode) (g : Grade) (from : World) (trips : L
     → HoldsFrozen (Some files) mode u → PlaysTexts g from trips (played mode names cards file) texts notes t a
     → PlaysTexts g from trips (played mode names cards file) texts notes u a
 texts-come files Whole g from trips names cards file texts notes t u a h k p = p
+texts-come files Handing g from trips names cards file texts notes t u a h k p = p
 texts-come files Freezing g from trips names cards file texts notes t u a h k p = p
 texts-come files (Thawing name) g from trips names cards file texts notes t u a h k p =
     subst (λ (z : List ℕ). PlaysTexts g from trips (played (Thawing name) names cards file) texts notes z a)
@@ -335,6 +337,7 @@ answers-one files from trips (Check name) g h a b (text, is, p) (other, k, q) =
     checks-one name other a b
     (subst (λ (z : List ℕ). Checks name z a) (text-one files name text other is k) p) q
 answers-one files from trips (Replay name) g h a b p q = files-one files g h from trips Whole name a b p q
+answers-one files from trips (Lossy name) g h a b p q = files-one files g h from trips Handing name a b p q
 answers-one files from trips (Freeze name) g h a b p q = files-one files g h from trips Freezing name a b p q
 answers-one files from trips (Thaw frozen name) g h a b p q =
     files-one files g h from trips (Thawing frozen) name a b p q

@@ -2,7 +2,8 @@
 use Rattle.std.proofs.Common.{◌≡◌, ℕ, List, [], ◌∷◌, Some, inl, inr, refl, sym, ap, ◌∙◌, subst, append-nil}
 use Rattle.std.specs.List.{AllZip}
 use Rattle.lsl_ports.specs.Shelf.{Files}
-use Rattle.lsl_ports.specs.Trips.{Trip}
+use Rattle.lsl_ports.specs.Growth.{Begins}
+use Rattle.lsl_ports.specs.Trips.{Trip, sent_of}
 use Rattle.lsl_code.specs.declared.woven_units.Woven.{Woven as Code}
 use Rattle.lsl_image.specs.declared.parts.WorldParts.{WorldParts}
 use Rattle.lsl_image.specs.World.{world}
@@ -21,23 +22,26 @@ use Rattle.lsl_view.specs.Source.{view_of_world}
 use Rattle.lsl_view.proofs.Members.{views_are_of_the_source}
 use Rattle.lsl_world.specs.Codes.{AreRunBy}
 use Rattle.lsl_world.specs.Frozen.{AgreesWith, IsImageIn, parts_of_world, shapes_of_file}
+use Rattle.lsl_world.specs.Lossy.{WereCarried}
 use Rattle.lsl_world.specs.Programs.{rules_of}
 use Rattle.lsl_world.specs.Reports.{journal_of}
 use Rattle.lsl_world.specs.Starts.{start}
-use Rattle.lsl_top.specs.Answers.{Answer, Answers, Comes, Grade, made_piece, run_answer, Shows}
+use Rattle.lsl_top.specs.Answers.{Answer, Answers, Comes, Grade, lossy_answer, made_piece, run_answer, Shows}
+use Rattle.lsl_top.specs.Fair.{IsFairOf}
 use Rattle.lsl_top.specs.Froms.{IsFromOf}
-use Rattle.lsl_top.specs.Headline.{IsCardIn, IsFrozenIn, IsScriptIn, IsWorldIn, Outputs, frozen_from, output_from, report_from}
+use Rattle.lsl_top.specs.Headline.{IsCardIn, IsFrozenIn, IsScriptIn, IsWorldIn, Outputs, frozen_from, lossy_report, output_from, report_from}
 use Rattle.lsl_top.specs.Held.{AreHeld}
 use Rattle.lsl_top.specs.Made.{made_files, made_line, made_name}
 use Rattle.lsl_top.specs.Notes.{AreCards, notecards_of}
-use Rattle.lsl_top.specs.Pieces.{lines_in}
-use Rattle.lsl_top.specs.Plays.{Last, Homes, Frozen, Whole, Freezing, Thawing, Viewing, names_in, once_world, play_of, play_of_once, cards_in}
+use Rattle.lsl_top.specs.Pieces.{lines_in, sent_in}
+use Rattle.lsl_top.specs.Plays.{Last, Homes, Frozen, Whole, Handing, Freezing, Thawing, Viewing, names_in, once_world, play_of, play_of_once, cards_in}
 use Rattle.lsl_top.specs.Scripts.{AreAccepted}
 use Rattle.lsl_top.specs.Thaws.{IsFrom}
-use Rattle.lsl_top.specs.Words.{Command, Once, Check, Replay, Freeze, Thaw, Make, View}
+use Rattle.lsl_top.specs.Words.{Command, Once, Check, Replay, Lossy, Freeze, Thaw, Make, View}
 use Rattle.lsl_top.specs.declared.status.Status.TheVariants.{Ok}
 use Rattle.lsl_top.proofs.FrozenOne.{frozen-one}
 use Rattle.lsl_top.proofs.Journals.{journal-pieces}
+use Rattle.lsl_top.proofs.LossyJournals.{lossy-journal}
 use Rattle.lsl_top.proofs.Summed.{summed-well}
 use Rattle.lsl_top.proofs.OneAnswer.{plays-programs, plays-texts, programs-one, replays-plays, text-one, texts-accepted, texts-one, thaw-no_fault, world-one, thawed-one}
 use Rattle.lsl_top.proofs.CodesRun.{codes-named, codes-run}
@@ -77,6 +81,20 @@ run-output : (last : Last) (codes : List Code) (programs : List Program) (file :
 run-output last codes programs file trips w lines answer e are = record {
   well = ap (λ (a : Answer). a.status) e;
   is = ap (λ (a : Answer). lines_in a.pieces) e ∙ journal-pieces last codes programs file trips w ∙ sym are;
+}
+
+-- where first ones of its notes were handed over, a run by notes is the journal of the kept steps
+lossy-output : (codes : List Code) (programs : List Program) (file : WorldFile) (trips : List Trip)
+    (cards : List Notecard) (bytes lines : List ℕ) (answer : Answer) → IsWorld bytes file
+    → answer ≡ lossy_answer codes programs file trips (start (rules_of programs) file cards)
+    → WereCarried [] trips → Begins (sent_of trips) (sent_in answer.pieces)
+    → lines ≡ lossy_report programs file trips (start (rules_of programs) file cards) → IsOutput lines answer
+lossy-output codes programs file trips cards bytes lines answer good e fair sends are = record {
+  well = ap (λ (a : Answer). a.status) e;
+  is = ap (λ (a : Answer). lines_in a.pieces) e
+      ∙ lossy-journal codes programs file trips cards bytes good fair
+      (subst (λ (a : Answer). Begins (sent_of trips) (sent_in a.pieces)) e sends)
+      ∙ sym are;
 }
 
 thaw-output : (g : Grade) (from : World) (trips : List Trip) (name : List ℕ) (codes : List Code)
@@ -136,17 +154,29 @@ replay-output g files from name trips lines answer (file, programs, cards, ok, e
 
 pub outputs-answer : (g : Grade) (files : Files) (from : World) (command : Command) (trips : List Trip)
     (lines : List ℕ) (answer : Answer) → Outputs files from command trips lines
-    → Answers g (Some files) from trips command answer → IsOutput lines answer
-outputs-answer g files from (Once name) trips lines answer (programs, h, e) answers =
+    → Answers g (Some files) from trips command answer → IsFairOf command trips
+    → Begins (sent_of trips) (sent_in answer.pieces) → IsOutput lines answer
+outputs-answer g files from (Once name) trips lines answer (programs, h, e) answers fair sends =
     let (texts, are, all) = texts-of files (name ∷ []) programs h in
     let (codes, text, come) = plays-programs files g from trips (play_of_once name) programs [] answer texts [] are all
     tt tt answers in
     run-output Homes codes programs once_world trips (start (rules_of programs) once_world []) lines answer come.1 e
-outputs-answer g files from (Check name) trips lines answer h answers = absurd h
-outputs-answer g files from (Replay name) trips lines answer h answers =
+outputs-answer g files from (Check name) trips lines answer h answers fair sends = absurd h
+outputs-answer g files from (Replay name) trips lines answer h answers fair sends =
     replay-output g files from name trips lines answer h answers
+outputs-answer g files from (Lossy name) trips lines answer (file, programs, cards, ok, e) answers fair sends =
+    let (bytes, is, good) = ok.world in
+    let (texts, are, all) = texts-of files (names_in file) programs ok.scripts in
+    let (notes, noted, read) = notes-of files (cards_in file) ok.read ok.notes in
+    let (codes, text, come) = plays-programs files g from trips
+    (play_of Handing file) programs ok.read answer texts notes
+    are all noted read (replays-plays files g from trips Handing name bytes file answer is good answers) in
+    let held = notecards_of file.notes ok.read in
+    lossy-output codes programs file trips held bytes lines answer good come fair sends
+    (subst (λ (z : List Notecard). lines ≡ lossy_report programs file trips (start (rules_of programs) file z))
+    ok.cards_are e)
 outputs-answer g files from (Freeze name) trips lines answer
-    (file, programs, codes, cards, ok, (texts, are, has), e) answers =
+    (file, programs, codes, cards, ok, (texts, are, has), e) answers fair sends =
     let (bytes, is, good) = ok.world in
     let (notes, noted, read) = notes-of files (cards_in file) ok.read ok.notes in
     let held = notecards_of file.notes ok.read in
@@ -159,7 +189,7 @@ outputs-answer g files from (Freeze name) trips lines answer
     ok.cards_are e)
 outputs-answer g files from (Thaw frozen name) trips lines answer
     (file, programs, codes, cards, ok, (texts, are, has), (text, image, held, of, agrees, stands), e)
-    answers =
+    answers fair sends =
     let (bytes, is, good) = ok.world in
     let (notes, noted, read) = notes-of files (cards_in file) ok.read ok.notes in
     let come = texts-accepted g from trips
@@ -169,8 +199,16 @@ outputs-answer g files from (Thaw frozen name) trips lines answer
     (replays-plays files g from trips (Thawing frozen) name bytes file answer is good answers)) in
     thaw-output g from trips frozen codes programs file (notecards_of file.notes ok.read) text image lines answer of
     stands e come
-outputs-answer g files from (View frozen name) trips lines answer
-    (file, programs, codes, cards, ok, (texts, are, has), (text, image, held, of, agrees, stands), e) answers =
+outputs-answer g files from (View frozen name) trips lines answer (
+  file,
+  programs,
+  codes,
+  cards,
+  ok,
+  (texts, are, has),
+  (text, image, held, of, agrees, stands),
+  e,
+) answers fair sends =
     let (bytes, is, good) = ok.world in
     let (notes, noted, read) = notes-of files (cards_in file) ok.read ok.notes in
     let accepted = accepted-texts files (names_in file) programs texts ok.scripts are in
@@ -181,7 +219,8 @@ outputs-answer g files from (View frozen name) trips lines answer
     view-output from frozen codes programs file cards text image lines answer
     (codes-run texts programs codes accepted has) (codes-named texts programs codes accepted has) of agrees stands e
     come
-outputs-answer g files from (Make number) trips lines answer (file, programs, cards, good, e) (whole, answers, f) =
+outputs-answer g files from (Make number) trips lines answer (file, programs, cards, good, e) (whole, answers, f)
+    fair sends =
     let report = lines_of (journal_of programs file cards trips) in
     let out : IsOutput report whole =
     replay-output g (made_files number) from made_name trips report whole (file, programs, cards, good, refl) answers in
@@ -240,6 +279,8 @@ pub outputs-fit : (files : Files) (from : World) (command : Command) (trips : Li
 outputs-fit files from (Once name) trips lines h = tt
 outputs-fit files from (Check name) trips lines h = tt
 outputs-fit files from (Replay name) trips lines h =
+    λ bytes file is good texts notes text are noted holds programs codes all has cards read. tt
+outputs-fit files from (Lossy name) trips lines h =
     λ bytes file is good texts notes text are noted holds programs codes all has cards read. tt
 outputs-fit files from (Freeze name) trips lines h =
     λ bytes file is good texts notes text are noted holds programs codes all has cards read. tt

@@ -42,6 +42,17 @@ begun-partly xs ts a b (done, s) = record {
   begins = begins-through s.added (lines_in (take (suc done) xs)) (lines_in xs) s.part (take-begins (suc done) xs);
 }
 
+-- the first pieces send first ones of what all send
+pub sent-begins : (n : ℕ) (xs : List Piece) → Begins (sent_in (take n xs)) (sent_in xs)
+sent-begins zero xs = begins-none (sent_in xs)
+sent-begins (suc n) [] = begins-none []
+sent-begins (suc n) (x ∷ xs) = begins-after x.sent (sent_in (take n xs)) (sent_in xs) (sent-begins n xs)
+
+pub begun-sends : (xs : List Piece) (ts : List Trip) (a b : Option (List ℕ)) → IsBegun xs ts a b
+    → Begins (sent_of ts) (sent_in xs)
+begun-sends xs ts a b (done, s) =
+    begins-through (sent_of ts) (sent_in (take (suc done) xs)) (sent_in xs) s.sent (sent-begins (suc done) xs)
+
 pub whole-none : (a : Option (List ℕ)) → IsWhole [] [] a a
 whole-none a = record { written = grew-none a; sent = refl }
 

@@ -2,12 +2,12 @@
 use Rattle.std.proofs.Common.{◌≡◌, ◌≢◌, ℕ, List, [], ◌++◌, Option, Some, None, ◌⊎◌, inl, inr, refl, sym, ap, ◌∙◌, subst}
 use Rattle.lsl_ports.specs.Counts.{Rose}
 use Rattle.lsl_ports.specs.Shelf.{Files}
-use Rattle.lsl_ports.specs.Growth.{Grew, GrewPartly}
-use Rattle.lsl_ports.specs.Trips.{Honest, Trip, Went}
-use Rattle.lsl_ports.proofs.Growth.{begins-none, grew-none, partly-begins}
-use Rattle.lsl_image.specs.Images.{IsIntact}
+use Rattle.lsl_ports.specs.Growth.{Begins, Grew, GrewPartly}
+use Rattle.lsl_ports.specs.Trips.{Trip, Went, sent_of}
+use Rattle.lsl_ports.proofs.Growth.{begins-all, begins-none, grew-none, partly-begins}
 use Rattle.lsl_region.specs.Worlds.{World}
 use Rattle.lsl_top.specs.Answers.{Answer, Answers, Grade, Due, Written}
+use Rattle.lsl_top.specs.Fair.{IsFair, IsFairOf}
 use Rattle.lsl_top.specs.Froms.{IsFromOf, IsFromWords}
 use Rattle.lsl_top.specs.Headline.{Outputs, WritesLines}
 use Rattle.lsl_top.specs.Named.{IsNamed, NamedRose}
@@ -18,18 +18,19 @@ use Rattle.lsl_top.specs.declared.status.Status.{Status}
 use Rattle.lsl_top.specs.declared.status.Status.TheVariants.{Ok, Usage, BadWorld, BadScript, ReadFault, WriteFault, BadImage, NoMemory, BadNote}
 use Rattle.lsl_top.proofs.OneAnswer.{answers-one}
 use Rattle.lsl_top.proofs.Outputs.{outputs-answer, outputs-fit}
-use Rattle.lsl_top.proofs.Pieces.{begun-partly}
+use Rattle.lsl_top.proofs.Pieces.{begun-partly, begun-sends}
 use Rattle.lsl_top.proofs.Trips.{none-by, went-by, went-told}
 
 module _ (files : Files) (from : World) (command : Command) (trips : List Trip) (lines : List ℕ)
-    (outputs : Outputs files from command trips lines) (old new : Option (List ℕ)) where
+    (outputs : Outputs files from command trips lines) (fair : IsFairOf command trips) (old new : Option (List ℕ)) where
   abbrev IsThis : Grade → Answer → Type 0
   IsThis grade = Answers grade (Some files) from trips command
 
   -- an answer that was written whole is these lines
   wrote-lines : (status : Status) → Wrote (IsThis Written) status trips old new → (status ≡ Ok) × Grew old new lines
   wrote-lines status (answer, h, e, whole) =
-      let out = outputs-answer Written files from command trips lines answer outputs h in
+      let out = outputs-answer Written files from command trips lines answer outputs h fair
+      (subst (λ (z : List (List ℕ)). Begins (sent_of trips) z) whole.sent (begins-all (sent_of trips))) in
       (sym e ∙ out.well, subst (λ (z : List ℕ). Grew old new z) out.is whole.written)
 
   -- a prefix of them was written, or nothing
@@ -38,7 +39,8 @@ module _ (files : Files) (from : World) (command : Command) (trips : List Trip) 
       subst (λ z. GrewPartly old z lines) (sym e.0)
       (partly-begins old old [] lines (grew-none old) (begins-none lines))
   wrote-part (inr (answer, h, begun)) =
-      let out = outputs-answer Due files from command trips lines answer outputs h in
+      let out = outputs-answer Due files from command trips lines answer outputs h fair
+      (begun-sends answer.pieces trips old new begun) in
       subst (λ (z : List ℕ). GrewPartly old new z) out.is (begun-partly answer.pieces trips old new begun)
 
   -- all of it was written, or memory lacked
@@ -69,7 +71,7 @@ own-status WriteFault u r w = absurd (w refl)
 
 module _ (gives : List ℕ → Option (List ℕ) → Type 0) (held : Option Files) (words : Option Command)
     (command : Command) (is : words ≡ Some command) (old new : Ports) (status : Status)
-    (h : Serves (gives_by command gives) (IsFromOf held command)
+    (h : Serves (gives_by command gives) (IsFairOf command) (IsFromOf held command)
     (λ grade from trips. Answers grade held from trips command) (IsNamed held command) old new status) where
   pub promise-usage : (status ≡ Usage → words ≡ None) × (words ≡ None → status ≡ Usage)
   promise-usage = (λ e. absurd (h.no_usage e), λ e. let both : Some command ≡ None = sym is ∙ e in absurd (cc))
@@ -90,7 +92,7 @@ module _ (gives : List ℕ → Option (List ℕ) → Type 0) (held : Option File
 
   pub promise-kept : (trips : List Trip) × Went gives old.wire.told new.wire.told trips
       × (SendsNothing status ⊎ RunsNothing words → trips ≡ [])
-      × ((from : World) → IsFromWords held words from → Honest IsIntact trips
+      × ((from : World) → IsFromWords held words from → IsFair words trips
       → Keeps held from trips words status old.log.sunk new.log.sunk)
   promise-kept = (
     h.trips,
@@ -99,8 +101,9 @@ module _ (gives : List ℕ → Option (List ℕ) → Type 0) (held : Option File
       | inl nothing ↦ h.silent nothing
       | inr runs ↦ none-by gives command old.wire.told new.wire.told h.trips h.went (subst RunsNothing is runs)
     ],
-    λ from fits honest. subst (λ w. Keeps held from h.trips w status old.log.sunk new.log.sunk) (sym is)
-        (h.keeps from (subst (λ w. IsFromWords held w from) is fits) honest),
+    λ from fits fair. subst (λ w. Keeps held from h.trips w status old.log.sunk new.log.sunk) (sym is)
+        (h.keeps from (subst (λ w. IsFromWords held w from) is fits)
+        (subst (λ (w : Option Command). IsFair w h.trips) is fair)),
   )
 
   pub promise-read : status ≡ ReadFault → NamedRose held words old.read_faults new.read_faults
@@ -132,18 +135,19 @@ module _ (gives : List ℕ → Option (List ℕ) → Type 0) (held : Option File
 
   pub promise-headline : (files : Files) (from : World) (other : Command) (before trips : List Trip) (lines : List ℕ)
       → held ≡ Some files → words ≡ Some other → old.wire.told ≡ Some before
-      → new.wire.told ≡ Some (before ++ trips) → Honest IsIntact trips → Outputs files from other trips lines
+      → new.wire.told ≡ Some (before ++ trips) → IsFair words trips → Outputs files from other trips lines
       → (NamedRose held words old.read_faults new.read_faults → ⊥) → (Rose old.log.faults new.log.faults → ⊥)
       → WritesLines lines status old.log.sunk new.log.sunk
-  promise-headline files from other before trips lines told e tells telling honest outputs quiet whole =
+  promise-headline files from other before trips lines told e tells telling fair outputs quiet whole =
       let mine : h.trips ≡ trips =
       went-told (gives_by command gives) old.wire.told new.wire.told before h.trips trips tells telling h.went in
       let out : Outputs files from command trips lines =
       subst (λ c. Outputs files from c trips lines) (sym (same other e)) outputs in
       let fits : IsFromOf held command from =
       subst (λ z. IsFromOf z command from) (sym told) (outputs-fit files from command trips lines out) in
-      let keeps = h.keeps from fits (subst (λ (z : List Trip). Honest IsIntact z) (sym mine) honest) in
-      kept-lines files from command trips lines out old.log.sunk new.log.sunk status
+      let by : IsFairOf command trips = subst (λ (w : Option Command). IsFair w trips) is fair in
+      let keeps = h.keeps from fits (subst (λ (z : List Trip). IsFairOf command z) (sym mine) by) in
+      kept-lines files from command trips lines out by old.log.sunk new.log.sunk status
       (subst (λ (z : List Trip). KeepsTo (λ grade. Answers grade (Some files) from z command) status z old.log.sunk
       new.log.sunk) mine
       (subst (λ z. KeepsTo (λ grade. Answers grade z from h.trips command) status h.trips old.log.sunk new.log.sunk)

@@ -3,7 +3,6 @@ use Rattle.std.proofs.Common.{◌≡◌, ◌⊎◌, ℕ, List, Option, Result, O
 use Rattle.std.specs.Prelude.{IfErr, IfOk, IsErrOf}
 use Rattle.lsl_text.specs.declared.Refusal.{Refusal}
 use Rattle.lsl_text.specs.declared.Refusal.TheVariants.{Fault, NoMemory as WantsMemory}
-use Rattle.lsl_ports.specs.Trips.{Trip}
 use Rattle.lsl_code.specs.declared.woven_units.Woven.{Woven as Code}
 use Rattle.lsl_image.specs.declared.faults.ImageFault.{ImageFault}
 use Rattle.lsl_image.specs.declared.faults.ImageFault.TheVariants.{NotFrozen}
@@ -18,38 +17,42 @@ use Rattle.lsl_tree.specs.Program.{Program}
 use Rattle.lsl_region.specs.Worlds.{World}
 use Rattle.lsl_world.specs.declared.world.World.{World as Memory}
 use Rattle.lsl_world.specs.Frozen.{AgreesWith, IsImageIn, parts_in, parts_of_world, shapes_of_file}
+use Rattle.lsl_world.specs.Lossy.{Stage, travel_from}
 use Rattle.lsl_world.specs.Programs.{rules_of}
 use Rattle.lsl_world.specs.Stands.{IsOf}
-use Rattle.lsl_world.specs.Travels.{travel}
 use Rattle.lsl_top.specs.Goes.{IsLast, Performs}
-use Rattle.lsl_top.specs.Pieces.{pieces_from}
+use Rattle.lsl_top.specs.Pieces.{pieces_at}
 use Rattle.lsl_top.specs.Plays.{Last}
 use Rattle.lsl_top.specs.Ports.{Log, Wire}
 use Rattle.lsl_top.specs.Thaws.{IsFrom, IsThawFault, IsThawOf}
 use Rattle.lsl_top.specs.declared.writing.Trouble.{Trouble}
 use Rattle.lsl_top.proofs.Faults.{err-one}
 
-abbrev Ended : Last → List Code → List Step → List Program → World → List Trip → Type 0
-Ended last codes steps programs w trips =
-    IsLast last codes programs (travel (rules_of programs) steps trips w).value
-
--- a run of these units and steps
-pub performs-by : {T : Type 0} (gives : List ℕ → Option (List ℕ) → Type 0) (IsThen : List Program → World → Type 0)
-    (last : Last) (codes units : List Code) (steps others : List Step) (a b : Log) (p q : Wire)
-    (result : Result T Trouble) → codes ≡ units → steps ≡ others
+-- a run of these units and steps, among these regions
+pub performs-by : {T : Type 0} (gives : List ℕ → Option (List ℕ) → Type 0) (IsThen : List Program → Stage → Type 0)
+    (last : Last) (codes units : List Code) (regions named : List (List ℕ)) (steps others : List Step) (a b : Log)
+    (p q : Wire) (result : Result T Trouble) → codes ≡ units → regions ≡ named → steps ≡ others
     → Performs gives IsThen
-    (λ programs w trips. IsLast last codes programs (travel (rules_of programs) steps trips w).value)
-    (λ programs w trips. pieces_from last codes (rules_of programs) steps trips w) a b p q result
+    (λ programs stage trips.
+    IsLast last codes programs (travel_from codes (rules_of programs) regions steps trips stage).value.world)
+    (λ programs stage trips. pieces_at last codes (rules_of programs) regions steps trips stage) a b p q result
     → Performs gives IsThen
-    (λ programs w trips. IsLast last units programs (travel (rules_of programs) others trips w).value)
-    (λ programs w trips. pieces_from last units (rules_of programs) others trips w) a b p q result
-performs-by gives IsThen last codes units steps others a b p q result e f h =
+    (λ programs stage trips.
+    IsLast last units programs (travel_from units (rules_of programs) named others trips stage).value.world)
+    (λ programs stage trips. pieces_at last units (rules_of programs) named others trips stage) a b p q result
+performs-by gives IsThen last codes units regions named steps others a b p q result e f g h =
     subst (λ (z : List Step). Performs gives IsThen
-    (λ programs w trips. IsLast last units programs (travel (rules_of programs) z trips w).value)
-    (λ programs w trips. pieces_from last units (rules_of programs) z trips w) a b p q result) f
+    (λ programs stage trips. IsLast last units programs
+    (travel_from units (rules_of programs) named z trips stage).value.world)
+    (λ programs stage trips. pieces_at last units (rules_of programs) named z trips stage) a b p q result) g
+    (subst (λ (z : List (List ℕ)). Performs gives IsThen
+    (λ programs stage trips. IsLast last units programs
+    (travel_from units (rules_of programs) z steps trips stage).value.world)
+    (λ programs stage trips. pieces_at last units (rules_of programs) z steps trips stage) a b p q result) f
     (subst (λ (z : List Code). Performs gives IsThen
-    (λ programs w trips. IsLast last z programs (travel (rules_of programs) steps trips w).value)
-    (λ programs w trips. pieces_from last z (rules_of programs) steps trips w) a b p q result) e h)
+    (λ programs stage trips. IsLast last z programs
+    (travel_from z (rules_of programs) regions steps trips stage).value.world)
+    (λ programs stage trips. pieces_at last z (rules_of programs) regions steps trips stage) a b p q result) e h))
 
 -- the refusal of a text without a frozen world, and of one whose world isn't that of the file
 pub untaken : {T : Type 0} (codes : List Code) (file : WorldFile) (text : List ℕ) (refusal : Refusal ImageFault)

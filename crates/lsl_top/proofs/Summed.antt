@@ -1,5 +1,5 @@
 -- A number's world that was replayed over a sink that digests, and the line that is written of it.
-use Rattle.std.proofs.Common.{◌≡◌, ◌≢◌, ℕ, ◌<◌, zero, suc, List, [], ◌∷◌, ◌++◌, take, Option, Some, None, Result, Ok as OkResult, Err, ◌⊎◌, inl, inr, refl, sym, ap, ap₂, ◌∙◌, subst, arith}
+use Rattle.std.proofs.Common.{◌≡◌, ◌≢◌, ℕ, ◌<◌, suc, List, [], ◌∷◌, ◌++◌, take, Option, Some, None, Result, Ok as OkResult, Err, ◌⊎◌, inl, inr, refl, sym, ap, ap₂, ◌∙◌, subst, arith}
 use Rattle.std.specs.Str.{encode_utf8_all}
 use Rattle.std.proofs.lemmas.Str.{encodes-IsAscii}
 use Rattle.lsl_made.specs.Walker.{walker_text}
@@ -8,8 +8,9 @@ use Rattle.lsl_made.proofs.WorldSpelling.{walker_text-ascii, world_text-ascii}
 use Rattle.lsl_ports.specs.Counts.{Rose}
 use Rattle.lsl_ports.specs.Shelf.{Files}
 use Rattle.lsl_ports.specs.Growth.{Begins, GrewPartly}
-use Rattle.lsl_ports.specs.Trips.{Trip, Went, sent_of}
-use Rattle.lsl_ports.proofs.Growth.{begins-after, begins-all, begins-is, begins-none, grew-none, partly-begins}
+use Rattle.lsl_ports.specs.Trips.{Honest, Trip, Went, sent_of}
+use Rattle.lsl_ports.proofs.Growth.{begins-all, begins-is, begins-none, grew-none, partly-begins}
+use Rattle.lsl_image.specs.Images.{IsIntact}
 use Rattle.lsl_region.specs.Worlds.{World}
 use Rattle.lsl_top.specs.Answers.{Answer, Grade, Due, Written, Makes, ReplaysFile, made_piece, plain, summed, summed_as}
 use Rattle.lsl_top.specs.Froms.{IsFromFile}
@@ -26,7 +27,7 @@ use Rattle.lsl_top.specs.declared.writing.Trouble.{Trouble}
 use Rattle.lsl_top.specs.declared.writing.Trouble.TheVariants.{WriteFault as WriteTrouble, NoMemory as MemoryTrouble}
 use Rattle.lsl_top.proofs.Finishing.{keeps-as}
 use Rattle.lsl_top.proofs.OneAnswer.{files-one}
-use Rattle.lsl_top.proofs.Pieces.{begins-through, begun-one, whole-one}
+use Rattle.lsl_top.proofs.Pieces.{begins-through, begun-one, sent-begins, whole-one}
 use Rattle.lsl_top.proofs.Trips.{went-then}
 
 -- one line stands in place of a report
@@ -48,12 +49,6 @@ same-as BadNote number answer other = refl
 
 pub summed-other : (number : ℕ) (answer : Answer) → answer.status ≢ Ok → summed number answer ≡ answer
 summed-other number answer other = same-as answer.status number answer other
-
--- the first pieces send first ones of what all send
-sent-begins : (n : ℕ) (xs : List Piece) → Begins (sent_in (take n xs)) (sent_in xs)
-sent-begins zero xs = begins-none (sent_in xs)
-sent-begins (suc n) [] = begins-none []
-sent-begins (suc n) (x ∷ xs) = begins-after x.sent (sent_in (take n xs)) (sent_in xs) (sent-begins n xs)
 
 -- a refusal
 record IsRefusal (answer : Answer) : Type 0 where
@@ -236,23 +231,24 @@ module _ (number : ℕ) (held : Option Files) (is : held ≡ Some (made_files nu
     -- what a replay over a sink that never fails tells, from its start
     abbrev Over : List ℕ → Status → Type 0
     Over bytes status =
-        Serves gives Fits Replayed (IsNamedIn held Whole made_name)
+        Serves gives (Honest IsIntact) Fits Replayed (IsNamedIn held Whole made_name)
         (record { held = held; read_faults = λ name. 0; log = record { sunk = Some []; faults = 0 }; wire = p })
         (record { held = later; read_faults = λ name. 0; log = record { sunk = Some bytes; faults = 0 }; wire = q }) status
 
     abbrev Concluded : Wire → Wire → Log → Log → Status → Type 0
     Concluded before after a b status =
-        Concludes gives (λ from. Unit {0}) (λ grade from trips. Makes grade from trips number) a b before after status
+        Concludes gives (Honest IsIntact) (λ from. Unit {0})
+        (λ grade from trips. Makes grade from trips number) a b before after status
 
     -- what a replay tells that begins with nothing taken
     pub over-of : (bytes taken : List ℕ) (status ended : Status) → taken ≡ [] → ended ≡ status
-        → Serves gives Fits Replayed (IsNamedIn held Whole made_name)
+        → Serves gives (Honest IsIntact) Fits Replayed (IsNamedIn held Whole made_name)
         (record { held = held; read_faults = λ name. 0; log = record { sunk = Some taken; faults = 0 }; wire = p })
         (record { held = later; read_faults = λ name. 0; log = record { sunk = Some bytes; faults = 0 }; wire = q }) ended
         → Over bytes status
     over-of bytes taken status ended e f h =
         subst (λ (z : Status). Over bytes z) f
-        (subst (λ (z : List ℕ). Serves gives Fits Replayed (IsNamedIn held Whole made_name)
+        (subst (λ (z : List ℕ). Serves gives (Honest IsIntact) Fits Replayed (IsNamedIn held Whole made_name)
         (record { held = held; read_faults = λ name. 0; log = record { sunk = Some z; faults = 0 }; wire = p })
         (record { held = later; read_faults = λ name. 0; log = record { sunk = Some bytes; faults = 0 }; wire = q }) ended)
         e h)
@@ -337,7 +333,7 @@ module _ (number : ℕ) (held : Option Files) (is : held ≡ Some (made_files nu
     -- and the refusal was to be written as a second replay writes it
     pub concludes-refused : (bytes : List ℕ) (first second : Status) (ended : Option Files) (a b : Log) (s : Wire)
         → later ≡ held → first ≢ Ok → first ≢ NoMemory → Over bytes first
-        → Serves gives (λ from. IsFromFile later Whole made_name from)
+        → Serves gives (Honest IsIntact) (λ from. IsFromFile later Whole made_name from)
         (λ grade from trips. ReplaysFile grade later from trips Whole made_name) (IsNamedIn later Whole made_name)
         (record { held = later; read_faults = λ name. 0; log = a; wire = q })
         (record { held = ended; read_faults = λ name. 0; log = b; wire = s }) second

@@ -19,18 +19,20 @@ use Rattle.lsl_notes.specs.declared.faults.CardFault.{CardFault}
 use Rattle.lsl_region.specs.Worlds.{World}
 use Rattle.lsl_view.specs.Names.{script_names}
 use Rattle.lsl_view.specs.Parts.{view_of_parts}
+use Rattle.lsl_world.specs.Lossy.{lossy_stage}
 use Rattle.lsl_world.specs.Programs.{rules_of}
+use Rattle.lsl_world.specs.Regions.{regions_of_file}
 use Rattle.lsl_world.specs.Starts.{start}
 use Rattle.lsl_world.specs.Travels.{travel}
 use Rattle.lsl_top.specs.Held.{Holds, HoldsFrozen, AreHeld}
 use Rattle.lsl_top.specs.Lines.{accepted_line, image_refusal_of, note_refusal_of, refusal_of, world_refusal_of}
 use Rattle.lsl_top.specs.Made.{made_files, made_line, made_name}
-use Rattle.lsl_top.specs.Pieces.{Piece, lines_in, pieces_from, sent_in}
-use Rattle.lsl_top.specs.Plays.{Mode, Whole, Freezing, Thawing, Play, play_of, play_of_once, Last, Homes, Frozen, Viewing}
+use Rattle.lsl_top.specs.Pieces.{Piece, lines_in, pieces_at, pieces_from, sent_in}
+use Rattle.lsl_top.specs.Plays.{Mode, Whole, Handing, Freezing, Thawing, Play, play_of, play_of_once, Last, Homes, Frozen, Viewing}
 use Rattle.lsl_top.specs.Notes.{AreCards, FirstBad, notecards_of}
 use Rattle.lsl_top.specs.Scripts.{AreAccepted, FirstRefused}
 use Rattle.lsl_top.specs.Thaws.{CanThaw, IsThawFault, IsThawOf}
-use Rattle.lsl_top.specs.Words.{Command, Once, Check, Replay, Freeze, Thaw, Make, View}
+use Rattle.lsl_top.specs.Words.{Command, Once, Check, Replay, Lossy, Freeze, Thaw, Make, View}
 use Rattle.lsl_top.specs.declared.status.Status.{Status}
 use Rattle.lsl_top.specs.declared.status.Status.TheVariants.{Ok, Usage, BadWorld, BadScript, ReadFault, WriteFault, BadImage, NoMemory, BadNote}
 
@@ -63,6 +65,15 @@ abbrev pub run_answer : Last → List Code → List Program → WorldFile → Li
 run_answer last codes programs world trips w =
     record { status = Ok; pieces = pieces_from last codes (rules_of programs) world.steps trips w }
 
+-- what is answered to a run from a world at its start, where objects are handed over by notes
+abbrev pub lossy_answer : List Code → List Program → WorldFile → List Trip → World → Answer
+lossy_answer codes programs file trips w =
+    let regions = regions_of_file file in
+    record {
+      status = Ok;
+      pieces = pieces_at Homes codes (rules_of programs) regions file.steps trips (lossy_stage regions w);
+    }
+
 -- an answer that is due, or one that was written: then also the world that was frozen can be thawed
 pub data Grade : Type 0 where
   Due : Grade
@@ -94,6 +105,8 @@ abbrev pub Comes : Grade → World → List Trip → Mode → List Code → List
     → Answer → Type 0
 Comes grade from trips Whole codes programs file cards text answer =
     ComesFromStart grade trips Homes codes programs file cards answer
+Comes grade from trips Handing codes programs file cards text answer =
+    answer ≡ lossy_answer codes programs file trips (start (rules_of programs) file cards)
 Comes grade from trips Freezing codes programs file cards text answer =
     ComesFromStart grade trips Frozen codes programs file cards answer
 Comes grade from trips (Thawing name) codes programs file cards text answer =
@@ -175,6 +188,7 @@ abbrev pub Answers : Grade → Option Files → World → List Trip → Command 
 Answers grade held from trips (Once name) answer = Plays grade held from trips (play_of_once name) answer
 Answers grade held from trips (Check name) answer = (text : List ℕ) × Holds held name text × Checks name text answer
 Answers grade held from trips (Replay name) answer = ReplaysFile grade held from trips Whole name answer
+Answers grade held from trips (Lossy name) answer = ReplaysFile grade held from trips Handing name answer
 Answers grade held from trips (Freeze name) answer = ReplaysFile grade held from trips Freezing name answer
 Answers grade held from trips (Thaw frozen name) answer = ReplaysFile grade held from trips (Thawing frozen) name answer
 Answers grade held from trips (View frozen name) answer = ReplaysFile grade held from trips (Viewing frozen) name answer

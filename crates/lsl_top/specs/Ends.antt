@@ -1,11 +1,11 @@
 -- How a command ends, seen from outside: the contract of the top call as one fact, for whoever runs it.
 use Rattle.std.specs.Prelude.{◌≡◌, ◌≤◌, ◌↔◌, ◌⊎◌, ℕ, List, [], ◌++◌, Option, Some, None}
 use Rattle.lsl_ports.specs.Counts.{NoneFell, Rose}
-use Rattle.lsl_ports.specs.Trips.{Honest, Trip, Went}
+use Rattle.lsl_ports.specs.Trips.{Trip, Went}
 use Rattle.lsl_ports.specs.Shelf.{Files}
-use Rattle.lsl_image.specs.Images.{IsIntact}
 use Rattle.lsl_region.specs.Worlds.{World}
 use Rattle.lsl_top.specs.Answers.{Answer, Answers, Due}
+use Rattle.lsl_top.specs.Fair.{IsFair}
 use Rattle.lsl_top.specs.Froms.{IsFromWords}
 use Rattle.lsl_top.specs.Headline.{Outputs, WritesLines}
 use Rattle.lsl_top.specs.Named.{NamedRose}
@@ -47,7 +47,7 @@ pub record Ends (gives : List ℕ → Option (List ℕ) → Type 0) (words : Opt
   pub nothing : WritesNothing status → new.sunk ≡ old.sunk
   pub kept : (trips : List Trip) × Went gives old.trips new.trips trips
       × (SendsNothing status ⊎ RunsNothing words → trips ≡ [])
-      × ((from : World) → IsFromWords old.held words from → Honest IsIntact trips
+      × ((from : World) → IsFromWords old.held words from → IsFair words trips
       → Keeps old.held from trips words status old.sunk new.sunk)
   pub read_fault : status ≡ ReadFault → NamedRose old.held words old.read_faults new.read_faults
   pub write_fault : status ≡ WriteFault → Rose old.write_faults new.write_faults
@@ -56,7 +56,7 @@ pub record Ends (gives : List ℕ → Option (List ℕ) → Type 0) (words : Opt
       → IsCalm words old new → (status ≡ answer.status) ⊎ (status ≡ NoMemory)
   pub headline : (files : Files) (from : World) (command : Command) (before trips : List Trip) (lines : List ℕ)
       → old.held ≡ Some files → words ≡ Some command → old.trips ≡ Some before
-      → new.trips ≡ Some (before ++ trips) → Honest IsIntact trips → Outputs files from command trips lines
+      → new.trips ≡ Some (before ++ trips) → IsFair words trips → Outputs files from command trips lines
       → IsCalm words old new → WritesLines lines status old.sunk new.sunk
   pub unchanged : new.held ≡ old.held
   pub reads_counted : NoneFell old.read_faults new.read_faults

@@ -10,14 +10,15 @@ use Rattle.lsl_notes.specs.declared.cards.Notecard.{Notecard}
 use Rattle.lsl_tree.specs.Program.{Program}
 use Rattle.lsl_region.specs.Worlds.{World}
 use Rattle.lsl_top.specs.Held.{Holds, HoldsFrozen, AreHeld}
-use Rattle.lsl_top.specs.Plays.{Mode, Whole, Freezing, Thawing, Viewing, Play, play_of}
+use Rattle.lsl_top.specs.Plays.{Mode, Whole, Handing, Freezing, Thawing, Viewing, Play, play_of}
 use Rattle.lsl_top.specs.Notes.{AreCards, notecards_of}
 use Rattle.lsl_top.specs.Scripts.{AreAccepted}
 use Rattle.lsl_top.specs.Thaws.{IsFrom}
-use Rattle.lsl_top.specs.Words.{Command, Once, Check, Replay, Freeze, Thaw, Make, View}
+use Rattle.lsl_top.specs.Words.{Command, Once, Check, Replay, Lossy, Freeze, Thaw, Make, View}
 
 abbrev pub IsFromIn : Mode → List Code → List Program → WorldFile → List Notecard → List ℕ → World → Type 0
 IsFromIn Whole codes programs file cards text from = Unit {0}
+IsFromIn Handing codes programs file cards text from = Unit {0}
 IsFromIn Freezing codes programs file cards text from = Unit {0}
 IsFromIn (Thawing name) codes programs file cards text from = IsFrom codes programs file cards text from
 IsFromIn (Viewing name) codes programs file cards text from = Unit {0}
@@ -46,6 +47,7 @@ abbrev pub IsFromOf : Option Files → Command → World → Type 0
 IsFromOf held (Once name) from = Unit {0}
 IsFromOf held (Check name) from = Unit {0}
 IsFromOf held (Replay name) from = IsFromFile held Whole name from
+IsFromOf held (Lossy name) from = IsFromFile held Handing name from
 IsFromOf held (Freeze name) from = IsFromFile held Freezing name from
 IsFromOf held (Thaw frozen name) from = IsFromFile held (Thawing frozen) name from
 IsFromOf held (View frozen name) from = IsFromFile held (Viewing frozen) name from

@@ -2,9 +2,9 @@
 use Rattle.std.specs.Prelude.{◌≡◌, ℕ, suc, ◌≤◌, List, take, Option, Some, Result, MatchResult, IsErrOf, slice_get}
 use Rattle.hex.specs.Hex.{IsBytes}
 use Rattle.lsl_ports.specs.Counts.{Rose}
-use Rattle.lsl_ports.specs.Trips.{Honest, Trip, Went}
+use Rattle.lsl_ports.specs.Trips.{Trip, Went}
 use Rattle.lsl_code.specs.declared.woven_units.Woven.{Woven as Code}
-use Rattle.lsl_image.specs.Images.{IsIntact, WorldImage}
+use Rattle.lsl_image.specs.Images.{WorldImage}
 use Rattle.lsl_image.specs.Valid.{shapes_of}
 use Rattle.lsl_tree.specs.Program.{Program}
 use Rattle.lsl_script.specs.Lawful.{Lawful}
@@ -12,59 +12,59 @@ use Rattle.lsl_script.specs.Rules.{Rules}
 use Rattle.lsl_region.specs.Worlds.{Member, World}
 use Rattle.lsl_lines.specs.declared.file.Step.{Step}
 use Rattle.lsl_world.specs.Frozen.{frozen_image, parts_of_world}
+use Rattle.lsl_world.specs.Lossy.{IsFairFrom, Stage, travel_from}
 use Rattle.lsl_world.specs.Programs.{rules_of}
-use Rattle.lsl_world.specs.Travels.{travel}
-use Rattle.lsl_top.specs.Pieces.{Piece, step_pieces}
+use Rattle.lsl_top.specs.Pieces.{Piece, stage_pieces}
 use Rattle.lsl_top.specs.Plays.{Last, Homes, Frozen}
 use Rattle.lsl_top.specs.Ports.{Log, Wire}
 use Rattle.lsl_top.specs.Promise.{IsBegun, IsBegunAt, IsWhole}
 use Rattle.lsl_top.specs.declared.writing.Trouble.{Trouble}
 use Rattle.lsl_top.specs.declared.writing.Trouble.TheVariants.{WriteFault}
 
--- all steps were done from this world, what they come to is there now, and they were written and sent
-pub record Done (codes : List Code) (r : Rules) (IsNow : World → Type 0) (steps : List Step) (w : World)
-    (trips : List Trip) (old new : Option (List ℕ)) : Type 0 where
-  pub value : IsNow (travel r steps trips w).value
-  pub whole : IsWhole (step_pieces codes r steps trips w) trips old new
+-- all steps were done from this stage, what they come to is there now, and they were written and sent
+pub record Done (codes : List Code) (r : Rules) (regions : List (List ℕ)) (IsNow : Stage → Type 0) (steps : List Step)
+    (stage : Stage) (trips : List Trip) (old new : Option (List ℕ)) : Type 0 where
+  pub value : IsNow (travel_from codes r regions steps trips stage).value
+  pub whole : IsWhole (stage_pieces codes r regions steps trips stage) trips old new
 
 -- The lines of so many steps were written whole, and then first bytes of the next one's. At a failed write that step is
 -- the last one that was done: no step is done before the lines of the step before it are written.
-pub record StoppedAt {T : Type 0} (done : ℕ) (codes : List Code) (r : Rules) (IsNow : World → Type 0)
-    (steps : List Step) (w : World) (trips : List Trip) (old new : Option (List ℕ)) (result : Result T Trouble) : Type 0
-  where
-    pub begun : IsBegunAt done (step_pieces codes r steps trips w) trips old new
-    pub last : IsErrOf result WriteFault → IsNow (travel r (take (suc done) steps) trips w).value
+pub record StoppedAt {T : Type 0} (done : ℕ) (codes : List Code) (r : Rules) (regions : List (List ℕ))
+    (IsNow : Stage → Type 0) (steps : List Step) (stage : Stage) (trips : List Trip) (old new : Option (List ℕ))
+    (result : Result T Trouble) : Type 0 where
+  pub begun : IsBegunAt done (stage_pieces codes r regions steps trips stage) trips old new
+  pub last : IsErrOf result WriteFault → IsNow (travel_from codes r regions (take (suc done) steps) trips stage).value
 
-abbrev pub Runs : {T : Type 0} → List Code → Rules → (World → Type 0) → List Step → World → List Trip
+abbrev pub Runs : {T : Type 0} → List Code → Rules → List (List ℕ) → (Stage → Type 0) → List Step → Stage → List Trip
     → Option (List ℕ) → Option (List ℕ) → Result T Trouble → Type 0
-Runs codes r IsNow steps w trips old new result =
-    MatchResult result (λ _. Done codes r IsNow steps w trips old new)
-    (λ _. (done : ℕ) × StoppedAt done codes r IsNow steps w trips old new result)
+Runs codes r regions IsNow steps stage trips old new result =
+    MatchResult result (λ _. Done codes r regions IsNow steps stage trips old new)
+    (λ _. (done : ℕ) × StoppedAt done codes r regions IsNow steps stage trips old new result)
 
--- These trips were made, and from each world that is there then, the steps go so by them, where they are honest; that a
--- write failed comes only where the count rose.
-pub record Goes {T : Type 0} (gives : List ℕ → Option (List ℕ) → Type 0) (codes : List Code)
-    (IsThen IsNow : List Program → World → Type 0) (steps : List Step) (old new : Log) (before after : Wire)
+-- These trips were made, and from each stage that is there then, the steps go so by them, where what came back is fair;
+-- that a write failed comes only where the count rose.
+pub record Goes {T : Type 0} (gives : List ℕ → Option (List ℕ) → Type 0) (codes : List Code) (regions : List (List ℕ))
+    (IsThen IsNow : List Program → Stage → Type 0) (steps : List Step) (old new : Log) (before after : Wire)
     (result : Result T Trouble) : Type 0 where
   pub trips : List Trip
   pub went : Went gives before.told after.told trips
-  pub runs : (programs : List Program) (w : World) → IsThen programs w → Honest IsIntact trips
-      → Runs codes (rules_of programs) (IsNow programs) steps w trips old.sunk new.sunk result
+  pub runs : (programs : List Program) (stage : Stage) → IsThen programs stage → IsFairFrom stage trips
+      → Runs codes (rules_of programs) regions (IsNow programs) steps stage trips old.sunk new.sunk result
   pub counted : old.faults ≤ new.faults
   pub links_counted : before.faults ≤ after.faults
   pub cause : IsErrOf result WriteFault → Rose old.faults new.faults
 
--- From each world that is there, a run of programs was written and sent so, where the trips are honest; and then this
+-- From each stage that is there, a run of programs was written and sent so, where what came back is fair; and then this
 -- holds.
-pub record Performs {T : Type 0} (gives : List ℕ → Option (List ℕ) → Type 0) (IsThen : List Program → World → Type 0)
-    (Then : List Program → World → List Trip → Type 0) (pieces : List Program → World → List Trip → List Piece)
+pub record Performs {T : Type 0} (gives : List ℕ → Option (List ℕ) → Type 0) (IsThen : List Program → Stage → Type 0)
+    (Then : List Program → Stage → List Trip → Type 0) (pieces : List Program → Stage → List Trip → List Piece)
     (old new : Log) (before after : Wire) (result : Result T Trouble) : Type 0 where
   pub trips : List Trip
   pub went : Went gives before.told after.told trips
-  pub runs : (programs : List Program) (w : World) → IsThen programs w → Honest IsIntact trips
+  pub runs : (programs : List Program) (stage : Stage) → IsThen programs stage → IsFairFrom stage trips
       → MatchResult result
-      (λ _. IsWhole (pieces programs w trips) trips old.sunk new.sunk × Then programs w trips)
-      (λ _. IsBegun (pieces programs w trips) trips old.sunk new.sunk)
+      (λ _. IsWhole (pieces programs stage trips) trips old.sunk new.sunk × Then programs stage trips)
+      (λ _. IsBegun (pieces programs stage trips) trips old.sunk new.sunk)
   pub counted : old.faults ≤ new.faults
   pub links_counted : before.faults ≤ after.faults
   pub cause : IsErrOf result WriteFault → Rose old.faults new.faults

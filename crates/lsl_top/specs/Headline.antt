@@ -18,6 +18,7 @@ use Rattle.lsl_notes.specs.Card.{IsCard}
 use Rattle.lsl_region.specs.Worlds.{World}
 use Rattle.lsl_world.specs.Frozen.{AgreesWith, IsImageIn, frozen_image, parts_of_world}
 use Rattle.lsl_world.specs.Kept.{kept_steps, regions_of}
+use Rattle.lsl_world.specs.Lossy.{kept_lossy}
 use Rattle.lsl_world.specs.Programs.{rules_of}
 use Rattle.lsl_world.specs.Reports.{homes, journal_of}
 use Rattle.lsl_world.specs.Starts.{start}
@@ -26,7 +27,7 @@ use Rattle.lsl_view.specs.Source.{view_of_world}
 use Rattle.lsl_top.specs.Held.{AreHeld}
 use Rattle.lsl_top.specs.Made.{made_files, made_line, made_name}
 use Rattle.lsl_top.specs.Plays.{Last, Homes, Frozen, cards_in, names_in, once_world}
-use Rattle.lsl_top.specs.Words.{Command, Once, Check, Replay, Freeze, Thaw, Make, View}
+use Rattle.lsl_top.specs.Words.{Command, Once, Check, Replay, Lossy, Freeze, Thaw, Make, View}
 use Rattle.lsl_top.specs.Notes.{notecards_of}
 use Rattle.lsl_top.specs.declared.status.Status.{Status}
 use Rattle.lsl_top.specs.declared.status.Status.TheVariants.{Ok, NoMemory}
@@ -78,6 +79,13 @@ frozen_from codes programs file trips w =
     let all = reference (rules_of programs) (kept_from file trips w) w in
     lines_of all.entries ++ frozen_line (frozen_image codes all.value)
 
+-- the journal of the scripts' meaning over the steps without the crossings whose offer didn't come, or came behind its
+-- cancel, and then where each object is
+abbrev pub lossy_report : List Program → WorldFile → List Trip → World → List ℕ
+lossy_report programs file trips w =
+    let all = reference (rules_of programs) (kept_lossy (regions_of w) [] file.steps trips) w in
+    lines_of (all.entries ++ homes all.value)
+
 -- what a run from a world writes
 abbrev pub output_from : Last → List Code → List Program → WorldFile → List Trip → World → List ℕ
 output_from Homes codes programs file trips w = report_from programs file trips w
@@ -92,6 +100,9 @@ Outputs files from (Check name) trips lines = ⊥
 Outputs files from (Replay name) trips lines =
     (file : WorldFile) × (programs : List Program) × (cards : List Notecard) × AreGood files name file programs cards
     × (lines ≡ lines_of (journal_of programs file cards trips))
+Outputs files from (Lossy name) trips lines =
+    (file : WorldFile) × (programs : List Program) × (cards : List Notecard) × AreGood files name file programs cards
+    × (lines ≡ lossy_report programs file trips (start (rules_of programs) file cards))
 Outputs files from (Freeze name) trips lines =
     (file : WorldFile) × (programs : List Program) × (codes : List Code) × (cards : List Notecard)
     × AreGood files name file programs cards

@@ -1,9 +1,8 @@
 -- What holds of all answers.
 use Rattle.std.specs.Prelude.{◌≡◌, ℕ, List, Option, Some}
 use Rattle.lsl_ports.specs.Shelf.{Files}
-use Rattle.lsl_ports.specs.Trips.{Honest, Trip, Went}
+use Rattle.lsl_ports.specs.Trips.{Trip, Went}
 use Rattle.lsl_code.specs.declared.woven_units.Woven.{Woven as Code}
-use Rattle.lsl_image.specs.Images.{IsIntact}
 use Rattle.lsl_tree.specs.Program.{Program}
 use Rattle.lsl_lines.specs.declared.file.WorldFile.{WorldFile}
 use Rattle.lsl_region.specs.Worlds.{World}
@@ -11,6 +10,7 @@ use Rattle.lsl_world.specs.Programs.{rules_of}
 use Rattle.lsl_world.specs.Travels.{images}
 use Rattle.lsl_top.specs.Answers.{Answer, Answers, Grade}
 use Rattle.lsl_top.specs.Ends.{Ends, Outside}
+use Rattle.lsl_top.specs.Fair.{IsFair}
 use Rattle.lsl_top.specs.Froms.{IsFromWords}
 use Rattle.lsl_top.specs.Headline.{output_from}
 use Rattle.lsl_top.specs.Pieces.{lines_in, pieces_from, sent_in}
@@ -44,10 +44,11 @@ RunsAreJournals =
 abbrev pub copies : List ℕ → Option (List ℕ) → Type 0
 copies sent back = back ≡ Some sent
 
--- over such a link every trip is honest
-abbrev pub CopiesAreHonest : Type 0
-CopiesAreHonest =
-    (old new : Option (List Trip)) (trips : List Trip) → Went copies old new trips → Honest IsIntact trips
+-- over such a link what comes back is fair, whatever is played
+abbrev pub CopiesAreFair : Type 0
+CopiesAreFair =
+    (words : Option Command) (old new : Option (List Trip)) (trips : List Trip) → Went copies old new trips
+    → IsFair words trips
 
 -- so what a command keeps to holds over it without a premise on what comes back
 abbrev pub CopiesKeep : Type 0

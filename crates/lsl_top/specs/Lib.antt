@@ -10,6 +10,7 @@ pub mod Thaws
 pub mod Made
 pub mod Answers
 pub mod Froms
+pub mod Fair
 pub mod Named
 pub mod Promise
 pub mod Headline

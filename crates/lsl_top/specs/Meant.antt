@@ -10,8 +10,8 @@ use Rattle.lsl_top.specs.declared.words.Command.{Command as Found}
 use Rattle.lsl_top.specs.declared.words.Command.TheVariants as found
 use Rattle.lsl_top.specs.declared.modes.Mode.{Mode as AMode}
 use Rattle.lsl_top.specs.declared.modes.Mode.TheVariants as modes
-use Rattle.lsl_top.specs.Plays.{Mode, Whole, Freezing, Thawing, Last, Homes, Frozen, Viewing}
-use Rattle.lsl_top.specs.Words.{Command, Once, Check, Replay, Freeze, Thaw, Make, View}
+use Rattle.lsl_top.specs.Plays.{Mode, Whole, Handing, Freezing, Thawing, Last, Homes, Frozen, Viewing}
+use Rattle.lsl_top.specs.Words.{Command, Once, Check, Replay, Lossy, Freeze, Thaw, Make, View}
 use Rattle.lsl_top.specs.declared.modes.Last.{Last as ALast}
 use Rattle.lsl_top.specs.declared.modes.Last.TheVariants as lasts
 
@@ -19,6 +19,7 @@ abbrev pub asked_by : Found → Command
 asked_by (found.Once file) = Once file.now
 asked_by (found.Check file) = Check file.now
 asked_by (found.Replay file) = Replay file.now
+asked_by (found.Lossy file) = Lossy file.now
 asked_by (found.Freeze file) = Freeze file.now
 asked_by (found.Thaw frozen file) = Thaw frozen.now file.now
 asked_by (found.View frozen file) = View frozen.now file.now
@@ -26,6 +27,7 @@ asked_by (found.Make number) = Make number
 
 abbrev pub mode_of : AMode → Mode
 mode_of modes.Whole = Whole
+mode_of modes.Handing = Handing
 mode_of modes.Freezing = Freezing
 mode_of (modes.Thawing frozen) = Thawing frozen.now
 mode_of (modes.Viewing frozen) = Viewing frozen.now

@@ -5,8 +5,8 @@ use Rattle.lsl_ports.specs.Shelf.{Files}
 use Rattle.lsl_lines.specs.World.{IsWorld}
 use Rattle.lsl_lines.specs.declared.file.WorldFile.{WorldFile}
 use Rattle.lsl_top.specs.Held.{Holds}
-use Rattle.lsl_top.specs.Plays.{Mode, Whole, Freezing, Thawing, names_in, Viewing, cards_in}
-use Rattle.lsl_top.specs.Words.{Command, Once, Check, Replay, Freeze, Thaw, Make, View}
+use Rattle.lsl_top.specs.Plays.{Mode, Whole, Handing, Freezing, Thawing, names_in, Viewing, cards_in}
+use Rattle.lsl_top.specs.Words.{Command, Once, Check, Replay, Lossy, Freeze, Thaw, Make, View}
 
 -- the world's own file, as it is held, is good, and a script or a notecard of it has its text in the file of that name
 abbrev pub IsNamedInWorld : Option Files → List ℕ → List ℕ → Type 0
@@ -17,6 +17,7 @@ IsNamedInWorld held world name =
 -- the frozen file of a play
 abbrev pub IsFrozenName : Mode → List ℕ → Type 0
 IsFrozenName Whole name = ⊥
+IsFrozenName Handing name = ⊥
 IsFrozenName Freezing name = ⊥
 IsFrozenName (Thawing frozen) name = name ≡ frozen
 IsFrozenName (Viewing frozen) name = name ≡ frozen
@@ -37,6 +38,7 @@ abbrev pub IsNamed : Option Files → Command → List ℕ → Type 0
 IsNamed held (Once file) name = name ≡ file
 IsNamed held (Check file) name = name ≡ file
 IsNamed held (Replay world) name = IsNamedIn held Whole world name
+IsNamed held (Lossy world) name = IsNamedIn held Handing world name
 IsNamed held (Freeze world) name = IsNamedIn held Freezing world name
 IsNamed held (Thaw frozen world) name = IsNamedIn held (Thawing frozen) world name
 IsNamed held (View frozen world) name = IsNamedIn held (Viewing frozen) world name

@@ -9,6 +9,7 @@ use Rattle.lsl_lines.specs.Frozen.{frozen_line}
 use Rattle.lsl_lines.specs.Journal.{lines_of}
 use Rattle.lsl_lines.specs.declared.file.Step.{Step}
 use Rattle.lsl_world.specs.Frozen.{frozen_image}
+use Rattle.lsl_world.specs.Lossy.{Stage, goes, travel_from}
 use Rattle.lsl_world.specs.Reports.{homes}
 use Rattle.lsl_world.specs.Travels.{go_on, images_of, left, travel}
 use Rattle.lsl_top.specs.Plays.{Last, Homes, Frozen}
@@ -37,6 +38,18 @@ step_pieces codes r [] trips w = []
 step_pieces codes r (step ∷ steps) trips w =
     step_piece codes r step trips w ∷ step_pieces codes r steps (left step w trips) (go_on r step trips w).value
 
+-- the same of a run at a stage
+abbrev pub stage_piece : List Code → Rules → List (List ℕ) → Step → List Trip → Stage → Piece
+stage_piece codes r regions step trips stage =
+    let gone = goes codes r regions step stage trips in
+    record { lines = lines_of gone.told.entries; sent = gone.sent }
+
+unfoldable pub stage_pieces : List Code → Rules → List (List ℕ) → List Step → List Trip → Stage → List Piece
+stage_pieces codes r regions [] trips stage = []
+stage_pieces codes r regions (step ∷ steps) trips stage =
+    let gone = goes codes r regions step stage trips in
+    stage_piece codes r regions step trips stage ∷ stage_pieces codes r regions steps gone.behind gone.told.value
+
 -- where each object is
 abbrev pub home_piece : World → Piece
 home_piece w = record { lines = lines_of (homes w); sent = [] }
@@ -54,3 +67,9 @@ last_piece Frozen codes w = frozen_piece codes w
 abbrev pub pieces_from : Last → List Code → Rules → List Step → List Trip → World → List Piece
 pieces_from last codes r steps trips w =
     step_pieces codes r steps trips w ++ last_piece last codes (travel r steps trips w).value ∷ []
+
+-- the same from a stage
+abbrev pub pieces_at : Last → List Code → Rules → List (List ℕ) → List Step → List Trip → Stage → List Piece
+pieces_at last codes r regions steps trips stage =
+    stage_pieces codes r regions steps trips stage
+    ++ last_piece last codes (travel_from codes r regions steps trips stage).value.world ∷ []

@@ -17,6 +17,8 @@ pub data Last : Type 0 where
 pub data Mode : Type 0 where
   -- from its start, and then it is told where each object is
   Whole : Mode
+  -- from its start, where objects are handed over by notes, and then it is told where each object is
+  Handing : Mode
   -- from its start, and then the world is frozen
   Freezing : Mode
   -- from the frozen world of this file, and then it is told where each object is

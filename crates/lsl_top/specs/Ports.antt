@@ -5,15 +5,14 @@ use Rattle.lsl_ports.specs.Shelf.{Files, IsHead}
 use Rattle.lsl_ports.specs.declared.reading.ShelfFault.{ShelfFault}
 use Rattle.lsl_ports.specs.declared.reading.ShelfFault.TheVariants.{Failed, NoMemory as OutOfMemory}
 use Rattle.lsl_ports.specs.Growth.{Grew, GrewPartly}
-use Rattle.lsl_ports.specs.Trips.{Honest, Trip, Went}
-use Rattle.lsl_image.specs.Images.{IsIntact}
+use Rattle.lsl_ports.specs.Trips.{Trip, Went}
 use Rattle.lsl_region.specs.Worlds.{World}
 use Rattle.lsl_top.specs.Answers.{Answer, Grade, Due, PlaysTexts}
 use Rattle.lsl_top.specs.Froms.{IsFromTexts}
 use Rattle.lsl_top.specs.Held.{HoldsFrozen, AreHeld}
-use Rattle.lsl_top.specs.Plays.{Mode, Whole, Freezing, Thawing, Viewing, Play}
+use Rattle.lsl_top.specs.Plays.{Mode, Whole, Handing, Freezing, Thawing, Viewing, Play}
 use Rattle.lsl_top.specs.Promise.{KeepsTo, SendsNothing}
-use Rattle.lsl_top.specs.Words.{Command, Once, Check, Replay, Freeze, Thaw, View, Make}
+use Rattle.lsl_top.specs.Words.{Command, Once, Check, Replay, Lossy, Freeze, Thaw, View, Make}
 use Rattle.lsl_top.specs.declared.status.Status.{Status}
 use Rattle.lsl_top.specs.declared.status.Status.TheVariants as statuses
 use Rattle.lsl_top.specs.declared.writing.Trouble.{Trouble}
@@ -26,6 +25,7 @@ IsRead held name bytes = IsHead held name 65536 bytes
 -- what was read of a frozen file: all of it, or one byte more than it may have
 abbrev pub IsFrozenRead : Option Files → Mode → List ℕ → Type 0
 IsFrozenRead held Whole bytes = Unit {0}
+IsFrozenRead held Handing bytes = Unit {0}
 IsFrozenRead held Freezing bytes = Unit {0}
 IsFrozenRead held (Thawing name) bytes = IsHead held name 2147483647 bytes
 IsFrozenRead held (Viewing name) bytes = IsHead held name 2147483647 bytes
@@ -52,6 +52,7 @@ IsFromRead held play texts from =
 -- what a link may give back in a play: where no world is run it is handed nothing
 abbrev pub gives_in : Mode → (List ℕ → Option (List ℕ) → Type 0) → List ℕ → Option (List ℕ) → Type 0
 gives_in Whole gives = gives
+gives_in Handing gives = gives
 gives_in Freezing gives = gives
 gives_in (Thawing name) gives = gives
 gives_in (Viewing name) gives = λ sent back. ⊥
@@ -61,6 +62,7 @@ abbrev pub gives_by : Command → (List ℕ → Option (List ℕ) → Type 0) �
 gives_by (Once name) gives = gives
 gives_by (Check name) gives = λ sent back. ⊥
 gives_by (Replay name) gives = gives
+gives_by (Lossy name) gives = gives
 gives_by (Freeze name) gives = gives
 gives_by (Thaw frozen name) gives = gives
 gives_by (View frozen name) gives = λ sent back. ⊥
@@ -121,14 +123,16 @@ pub record Finishes (IsAnswer : Answer → Type 0) (old new : Log) (status : Sta
   pub no_usage : status ≢ statuses.Usage
 
 -- an answer by the trips that were made was written and sent, as far as the status says, from each world that can have
--- been frozen
-pub record Concludes (gives : List ℕ → Option (List ℕ) → Type 0) (Fits : World → Type 0)
-    (IsAnswer : Grade → World → List Trip → Answer → Type 0) (old new : Log) (before after : Wire) (status : Status) : Type 0
+-- been frozen, where what came back is fair
+pub record Concludes (gives : List ℕ → Option (List ℕ) → Type 0) (IsFair : List Trip → Type 0)
+    (Fits : World → Type 0) (IsAnswer : Grade → World → List Trip → Answer → Type 0) (old new : Log)
+    (before after : Wire)
+    (status : Status) : Type 0
   where
     pub trips : List Trip
     pub went : Went gives before.told after.told trips
     pub silent : SendsNothing status → trips ≡ []
-    pub keeps : (from : World) → Fits from → Honest IsIntact trips
+    pub keeps : (from : World) → Fits from → IsFair trips
         → KeepsTo (λ grade. IsAnswer grade from trips) status trips old.sunk new.sunk
     pub answers : (from : World) (trips : List Trip) → IsOwn status → HasAnswer (IsAnswer Due from trips) status
     pub counted : old.faults ≤ new.faults
@@ -154,13 +158,14 @@ ports held read_faults sunk write_faults told link_faults =
     }
 
 -- the same, after files of these names were read
-pub record Serves (gives : List ℕ → Option (List ℕ) → Type 0) (Fits : World → Type 0)
-    (IsAnswer : Grade → World → List Trip → Answer → Type 0) (IsName : List ℕ → Type 0) (old new : Ports) (status : Status) : Type 0
+pub record Serves (gives : List ℕ → Option (List ℕ) → Type 0) (IsFair : List Trip → Type 0) (Fits : World → Type 0)
+    (IsAnswer : Grade → World → List Trip → Answer → Type 0) (IsName : List ℕ → Type 0) (old new : Ports)
+    (status : Status) : Type 0
   where
     pub trips : List Trip
     pub went : Went gives old.wire.told new.wire.told trips
     pub silent : SendsNothing status → trips ≡ []
-    pub keeps : (from : World) → Fits from → Honest IsIntact trips
+    pub keeps : (from : World) → Fits from → IsFair trips
         → KeepsTo (λ grade. IsAnswer grade from trips) status trips old.log.sunk new.log.sunk
     pub answers : (from : World) (trips : List Trip) → IsOwn status → HasAnswer (IsAnswer Due from trips) status
     pub nothing : status ≡ statuses.ReadFault → new.log.sunk ≡ old.log.sunk

@@ -6,7 +6,7 @@ use Rattle.lsl_ports.specs.Trips.{Trip, sent_of}
 use Rattle.lsl_region.specs.Worlds.{World}
 use Rattle.lsl_top.specs.Answers.{Answer, Answers, Grade, Due, Written}
 use Rattle.lsl_top.specs.Pieces.{Piece, lines_in, sent_in}
-use Rattle.lsl_top.specs.Words.{Command, Once, Check, Replay, Freeze, Thaw, View, Make}
+use Rattle.lsl_top.specs.Words.{Command, Once, Check, Replay, Lossy, Freeze, Thaw, View, Make}
 use Rattle.lsl_top.specs.declared.status.Status.{Status}
 use Rattle.lsl_top.specs.declared.status.Status.TheVariants.{Ok, Usage, BadWorld, BadScript, ReadFault, WriteFault, BadImage, NoMemory, BadNote}
 
@@ -75,6 +75,7 @@ RunsNothing None = Unit {0}
 RunsNothing (Some (Once name)) = ⊥
 RunsNothing (Some (Check name)) = Unit {0}
 RunsNothing (Some (Replay name)) = ⊥
+RunsNothing (Some (Lossy name)) = ⊥
 RunsNothing (Some (Freeze name)) = ⊥
 RunsNothing (Some (Thaw frozen name)) = ⊥
 RunsNothing (Some (View frozen name)) = Unit {0}

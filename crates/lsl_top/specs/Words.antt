@@ -11,6 +11,8 @@ pub data Command : Type 0 where
   Check : (file : List ℕ) → Command
   -- runs a world file
   Replay : (world : List ℕ) → Command
+  -- runs a world file, in which objects are handed over by notes
+  Lossy : (world : List ℕ) → Command
   -- runs a world file, and freezes the world to which its steps lead
   Freeze : (world : List ℕ) → Command
   -- runs a world file from the frozen world of another file
@@ -46,10 +48,15 @@ abbrev pub command_of_two : List ℕ → List ℕ → List ℕ → Option Comman
 command_of_two word first second = if bytes_eq word (codes "thaw") then Some (Thaw first second)
     else if bytes_eq word (codes "view") then Some (View first second) else None
 
+-- the command of this word with the flag `--lossy`
+abbrev pub command_of_lossy : List ℕ → List ℕ → Option Command
+command_of_lossy word file = if bytes_eq word (codes "replay") then Some (Lossy file) else None
+
 abbrev pub command_in : List (List ℕ) → Option Command
 command_in (word ∷ file ∷ []) = if names_file file then command_named word file else None
 command_in (word ∷ first ∷ second ∷ []) =
-    if names_file first && names_file second then command_of_two word first second else None
+    if bytes_eq first (codes "--lossy") && names_file second then command_of_lossy word second
+    else if names_file first && names_file second then command_of_two word first second else None
 command_in _ = None
 
 -- what the words ask for, or none where they are no command

@@ -4,6 +4,7 @@ ghost use Rattle.lsl_tree.specs.Program.{Program};
 ghost use Rattle.lsl_world.specs.Codes.{AreRunBy};
 ghost use Rattle.lsl_world.specs.Ranges.{IsInRange};
 ghost use Rattle.lsl_top.specs.Answers.{Answers, Checks, Plays, PlaysAccepted, PlaysTexts, ReplaysFile};
+ghost use Rattle.lsl_top.specs.Fair.{IsFairIn, IsFairOf};
 ghost use Rattle.lsl_top.specs.Froms.{IsFromAccepted, IsFromFile, IsFromOf, IsFromPlay, IsFromTexts};
 ghost use Rattle.lsl_top.specs.Meant.{asked_by, mode_of};
 ghost use Rattle.lsl_top.specs.Named.{IsFrozenName, IsNamed, IsNamedIn, IsNotedName, IsPlayName};
@@ -40,7 +41,8 @@ pub fn serve<S: Shelf, K: Sink, L: Link>(
     sink: &mut K,
     link: &mut L,
 ) -> Status
-    ensures { Serves (gives_by (asked_by command.entry) L.gives) (IsFromOf (S.held shelf.old) (asked_by command.entry))
+    ensures { Serves (gives_by (asked_by command.entry) L.gives) (IsFairOf (asked_by command.entry))
+        (IsFromOf (S.held shelf.old) (asked_by command.entry))
         (λ grade from trips. Answers grade (S.held shelf.old) from trips (asked_by command.entry))
         (IsNamed (S.held shelf.old) (asked_by command.entry))
         (ports (S.held shelf.old) (S.faults shelf.old) (K.sunk sink.old) (K.faults sink.old) (L.trips link.old)
@@ -52,6 +54,7 @@ pub fn serve<S: Shelf, K: Sink, L: Link>(
         Command::Once(file) => once(alloc, file, shelf, sink, link),
         Command::Check(file) => check(alloc, file, shelf, sink, link),
         Command::Replay(file) => replay(alloc, Mode::Whole, file, shelf, sink, link),
+        Command::Lossy(file) => replay(alloc, Mode::Handing, file, shelf, sink, link),
         Command::Freeze(file) => replay(alloc, Mode::Freezing, file, shelf, sink, link),
         Command::Thaw(frozen, file) => replay(
             alloc,
@@ -91,7 +94,8 @@ fn check<S: Shelf, K: Sink, L: Link>(
     sink: &mut K,
     link: &mut L,
 ) -> Status
-    ensures { Serves (gives_by (Check name.now) L.gives) (IsFromOf (S.held shelf.old) (Check name.now))
+    ensures { Serves (gives_by (Check name.now) L.gives) (IsFairOf (Check name.now))
+        (IsFromOf (S.held shelf.old) (Check name.now))
         (λ grade from trips. Answers grade (S.held shelf.old) from trips (Check name.now))
         (IsNamed (S.held shelf.old) (Check name.now))
         (ports (S.held shelf.old) (S.faults shelf.old) (K.sunk sink.old) (K.faults sink.old) (L.trips link.old)
@@ -129,7 +133,7 @@ fn once<S: Shelf, K: Sink, L: Link>(
     sink: &mut K,
     link: &mut L,
 ) -> Status
-    ensures { Serves L.gives (IsFromOf (S.held shelf.old) (Once name.now))
+    ensures { Serves L.gives (IsFairOf (Once name.now)) (IsFromOf (S.held shelf.old) (Once name.now))
         (λ grade from trips. Answers grade (S.held shelf.old) from trips (Once name.now))
         (IsNamed (S.held shelf.old) (Once name.now))
         (ports (S.held shelf.old) (S.faults shelf.old) (K.sunk sink.old) (K.faults sink.old) (L.trips link.old)
@@ -152,7 +156,7 @@ pub fn replay<S: Shelf, K: Sink, L: Link>(
     sink: &mut K,
     link: &mut L,
 ) -> Status
-    ensures { Serves (gives_in (mode_of mode.entry) L.gives)
+    ensures { Serves (gives_in (mode_of mode.entry) L.gives) (IsFairIn (mode_of mode.entry))
         (IsFromFile (S.held shelf.old) (mode_of mode.entry) name.now)
         (λ grade from trips. ReplaysFile grade (S.held shelf.old) from trips (mode_of mode.entry) name.now)
         (IsNamedIn (S.held shelf.old) (mode_of mode.entry) name.now)
@@ -187,7 +191,7 @@ fn play_world<S: Shelf, K: Sink, L: Link>(
     link: &mut L,
 ) -> Status
     requires { IsInRange world.now }
-    ensures { Serves (gives_in (mode_of mode.entry) L.gives)
+    ensures { Serves (gives_in (mode_of mode.entry) L.gives) (IsFairIn (mode_of mode.entry))
         (IsFromPlay (S.held shelf.old) (play_of (mode_of mode.entry) world.now))
         (λ grade from trips. Plays grade (S.held shelf.old) from trips (play_of (mode_of mode.entry) world.now))
         (IsPlayName (mode_of mode.entry) (names_in world.now) (cards_in world.now))
@@ -228,7 +232,7 @@ fn play<S: Shelf, K: Sink, L: Link>(
     requires range { IsInRange world.now }
     requires names { length names.now ≡ length world.now.files }
     requires cards { length cards.now ≡ length world.now.cards }
-    ensures { Serves (gives_in (mode_of mode.entry) L.gives)
+    ensures { Serves (gives_in (mode_of mode.entry) L.gives) (IsFairIn (mode_of mode.entry))
         (IsFromPlay (S.held shelf.old)
         (played (mode_of mode.entry) (map (λ n. n.now) names.now) (map (λ n. n.now) cards.now) world.now))
         (λ grade from trips. Plays grade (S.held shelf.old) from trips
@@ -271,7 +275,7 @@ fn play_texts<S: Shelf, K: Sink, L: Link>(
     requires names { length names.now ≡ length world.now.files }
     requires cards { length cards.now ≡ length world.now.cards }
     requires texts { length texts.now ≡ length names.now }
-    ensures { Serves (gives_in (mode_of mode.entry) L.gives)
+    ensures { Serves (gives_in (mode_of mode.entry) L.gives) (IsFairIn (mode_of mode.entry))
         (IsFromRead (S.held shelf.old)
         (played (mode_of mode.entry) (map (λ n. n.now) names.now) (map (λ n. n.now) cards.now) world.now)
         (map (λ t. t.items) texts.now))
@@ -319,7 +323,7 @@ fn play_noted<S: Shelf, K: Sink, L: Link>(
     requires cards { length cards.now ≡ length world.now.cards }
     requires texts { length texts.now ≡ length names.now }
     requires notes { length notes.now ≡ length cards.now }
-    ensures { Serves (gives_in (mode_of mode.entry) L.gives)
+    ensures { Serves (gives_in (mode_of mode.entry) L.gives) (IsFairIn (mode_of mode.entry))
         (IsFromNoted (S.held shelf.old)
         (played (mode_of mode.entry) (map (λ n. n.now) names.now) (map (λ n. n.now) cards.now) world.now)
         (map (λ t. t.items) texts.now) (map (λ t. t.items) notes.now))
@@ -367,7 +371,7 @@ fn write_play<K: Sink, L: Link>(
     requires cards { length cards.now ≡ length world.now.cards }
     requires texts { length texts.now ≡ length names.now }
     requires notes { length notes.now ≡ length cards.now }
-    ensures { Concludes (gives_in (mode_of mode.entry) L.gives)
+    ensures { Concludes (gives_in (mode_of mode.entry) L.gives) (IsFairIn (mode_of mode.entry))
         (IsFromTexts (played (mode_of mode.entry) (map (λ n. n.now) names.now) (map (λ n. n.now) cards.now) world.now)
         (map (λ t. t.items) texts.now) (map (λ t. t.items) notes.now) text.now)
         (λ grade from trips. PlaysTexts grade from trips
@@ -407,7 +411,7 @@ fn run_noted<K: Sink, L: Link>(
     requires cards { length cards.now ≡ length world.now.cards }
     requires notes { length notes.now ≡ length cards.now }
     ensures { (names : List (List ℕ)) (programs : List Program) → AreRunBy programs units
-        → Concludes (gives_in (mode_of mode.entry) L.gives)
+        → Concludes (gives_in (mode_of mode.entry) L.gives) (IsFairIn (mode_of mode.entry))
         (IsFromAccepted (played (mode_of mode.entry) names (map (λ n. n.now) cards.now) world.now) units programs
         (map (λ t. t.items) notes.now) text.now)
         (λ grade from trips. PlaysAccepted grade from trips

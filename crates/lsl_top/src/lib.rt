@@ -4,10 +4,10 @@
 ghost use Rattle.std.specs.Prelude.{◌≡◌, ◌≤◌, ◌⊎◌, ◌↔◌, ℕ, List, [], ◌++◌, Some};
 ghost use Rattle.lsl_ports.specs.Counts.{NoneFell, Rose};
 ghost use Rattle.lsl_ports.specs.Shelf.{Files};
-ghost use Rattle.lsl_ports.specs.Trips.{Honest, Trip, Went};
-ghost use Rattle.lsl_image.specs.Images.{IsIntact};
+ghost use Rattle.lsl_ports.specs.Trips.{Trip, Went};
 ghost use Rattle.lsl_region.specs.Worlds.{World};
 ghost use Rattle.lsl_top.specs.Answers.{Answer, Answers, Due};
+ghost use Rattle.lsl_top.specs.Fair.{IsFair};
 ghost use Rattle.lsl_top.specs.Froms.{IsFromWords};
 ghost use Rattle.lsl_top.specs.Headline.{Outputs, WritesLines};
 ghost use Rattle.lsl_top.specs.Named.{NamedRose};
@@ -44,7 +44,7 @@ use std::alloc::Global;
 /// are tested, and then the frozen world; then the steps are run, and each step's lines are written before the next
 /// step. `view` runs no step: it writes where the scripts of the frozen world stand. It takes memory for the files, the
 /// code, the world, a step's lines or those of a view, and the image of a frozen world with its line. Each crossing to
-/// another region calls the link once, and waits for it.
+/// another region calls the link once, and waits for it; by `replay --lossy` at most 32 times.
 pub fn lsl<S: Shelf, K: Sink, L: Link>(
     alloc: Global,
     words: &[String],
@@ -59,12 +59,13 @@ pub fn lsl<S: Shelf, K: Sink, L: Link>(
     // With the trips that the link made: nothing was sent at Usage, BadWorld, BadScript, ReadFault, BadImage and
     // BadNote, and by `check` and `view` never. From each world that can have been frozen, by the files (any world,
     // where nothing is thawed or the frozen file is refused), and where each image came back as it was sent, or not at
-    // all, or isn't intact: at Ok, BadWorld, BadScript, BadNote and BadImage the sink grew by exactly an answer of that
-    // status, and what that sends was sent; at WriteFault and NoMemory an answer was begun, or at NoMemory nothing at
-    // all was written and sent.
+    // all, or isn't intact (by `replay --lossy` what came back was sent by then, or isn't intact): at Ok, BadWorld,
+    // BadScript, BadNote and BadImage the sink grew by exactly an answer of that status, and what that sends was sent;
+    // at WriteFault and NoMemory an answer was begun, or at NoMemory nothing at all was written and sent.
     ensures kept { (trips : List Trip) × Went L.gives (L.trips link.old) (L.trips link.new) trips
         × (SendsNothing result ⊎ RunsNothing (command_of words.now) → trips ≡ [])
-        × ((from : World) → IsFromWords (S.held shelf.old) (command_of words.now) from → Honest IsIntact trips
+        × ((from : World) → IsFromWords (S.held shelf.old) (command_of words.now) from
+        → IsFair (command_of words.now) trips
         → Keeps (S.held shelf.old) from trips (command_of words.now) result (K.sunk sink.old) (K.sunk sink.new)) }
     // The shelf failed at a file that the words or their world name.
     ensures read_fault { result ≡ Status.ReadFault
@@ -80,13 +81,13 @@ pub fn lsl<S: Shelf, K: Sink, L: Link>(
         → ¬ Rose (K.faults sink.old) (K.faults sink.new)
         → (result ≡ answer.status) ⊎ (result ≡ Status.NoMemory) }
     // Given good files and accepted scripts, and no fault of shelf or sink, the sink grew by exactly the journal of the
-    // scripts' meaning over the steps without refused crossings, and what the command writes behind it, or memory
-    // lacked, and it grew by a prefix of that; provided that each image came back as it was sent, or not at all, or
-    // isn't intact.
+    // scripts' meaning over the steps without refused crossings (by `replay --lossy` those whose offer didn't come, or
+    // came behind its cancel), and what the command writes behind it, or memory lacked, and it grew by a prefix of
+    // that; provided that what came back over the link is so, as above.
     ensures headline { (files : Files) (from : World) (command : TheCommand) (before trips : List Trip) (lines : List ℕ)
         → S.held shelf.old ≡ Some files → command_of words.now ≡ Some command
-        → L.trips link.old ≡ Some before → L.trips link.new ≡ Some (before ++ trips) → Honest IsIntact trips
-        → Outputs files from command trips lines
+        → L.trips link.old ≡ Some before → L.trips link.new ≡ Some (before ++ trips)
+        → IsFair (command_of words.now) trips → Outputs files from command trips lines
         → ¬ NamedRose (S.held shelf.old) (command_of words.now) (S.faults shelf.old) (S.faults shelf.new)
         → ¬ Rose (K.faults sink.old) (K.faults sink.new)
         → WritesLines lines result (K.sunk sink.old) (K.sunk sink.new) }

@@ -1,7 +1,9 @@
 //! The world that is made of a number, replayed: of its report one line is written.
 ghost use Rattle.std.specs.Prelude.{◌≡◌};
+ghost use Rattle.lsl_image.specs.Images.{IsIntact};
 ghost use Rattle.lsl_made.specs.Walker.{walker_text};
 ghost use Rattle.lsl_made.specs.World.{world_text};
+ghost use Rattle.lsl_ports.specs.Trips.{Honest};
 ghost use Rattle.lsl_top.specs.Answers.{Makes};
 ghost use Rattle.lsl_top.specs.Made.{made_name};
 ghost use Rattle.lsl_top.specs.Ports.{Concludes, log, wire};
@@ -20,7 +22,7 @@ use std::alloc::Global;
 /// Replays the world of a number, and writes how many lines its report has, and their digest. No line of the report is
 /// kept.
 pub fn make<K: Sink, L: Link>(alloc: Global, number: u32, sink: &mut K, link: &mut L) -> Status
-    ensures { Concludes L.gives (λ from. Unit {0}) (λ grade from trips. Makes grade from trips number)
+    ensures { Concludes L.gives (Honest IsIntact) (λ from. Unit {0}) (λ grade from trips. Makes grade from trips number)
         (log (K.sunk sink.old) (K.faults sink.old)) (log (K.sunk sink.new) (K.faults sink.new))
         (wire (L.trips link.old) (L.faults link.old)) (wire (L.trips link.new) (L.faults link.new)) result }
 {
@@ -40,7 +42,7 @@ fn make_of<K: Sink, L: Link>(
 ) -> Status
     requires world { made.now.world ≡ world_text number }
     requires script { made.now.script ≡ walker_text }
-    ensures { Concludes L.gives (λ from. Unit {0}) (λ grade from trips. Makes grade from trips number)
+    ensures { Concludes L.gives (Honest IsIntact) (λ from. Unit {0}) (λ grade from trips. Makes grade from trips number)
         (log (K.sunk sink.old) (K.faults sink.old)) (log (K.sunk sink.new) (K.faults sink.new))
         (wire (L.trips link.old) (L.faults link.old)) (wire (L.trips link.new) (L.faults link.new)) result }
 {

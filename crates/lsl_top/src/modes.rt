@@ -14,6 +14,8 @@ pub enum Last {
 pub enum Mode<'a> {
     /// From the file's start, and then it is told where each object is.
     Whole,
+    /// From the file's start, where objects are handed over by notes, and then it is told where each object is.
+    Handing,
     /// From the file's start, and then the world is frozen.
     Freezing,
     /// From the frozen world of the file of this name, and then it is told where each object is.

@@ -1,5 +1,5 @@
 //! The run of a world, written step by step.
-ghost use Rattle.std.specs.Prelude.{◌≡◌, ◌≤◌, List, [], ◌∷◌, All, IfOk, IsErrOf, OnOk};
+ghost use Rattle.std.specs.Prelude.{◌≡◌, ◌≤◌, List, [], ◌∷◌, None, All, IfOk, IsErrOf, OnOk};
 ghost use Rattle.hex.specs.Hex.{IsBytes};
 ghost use Rattle.lsl_ports.specs.Counts.{Rose};
 ghost use Rattle.lsl_lines.specs.Frozen.{frozen_line};
@@ -7,15 +7,17 @@ ghost use Rattle.lsl_lines.specs.Journal.{lines_of};
 ghost use Rattle.lsl_tree.specs.Program.{Program};
 ghost use Rattle.lsl_region.specs.Worlds.{World as SourceWorld};
 ghost use Rattle.lsl_world.specs.Frozen.{frozen_image};
+ghost use Rattle.lsl_world.specs.Handing.{AreCarded, CanHand};
+ghost use Rattle.lsl_world.specs.Lossy.{travel_from};
 ghost use Rattle.lsl_world.specs.Programs.{rules_of};
 ghost use Rattle.lsl_world.specs.Reports.{homes};
 ghost use Rattle.lsl_world.specs.Sizes.{IsStepOf};
 ghost use Rattle.lsl_world.specs.Sound.{IsSound};
+ghost use Rattle.lsl_world.specs.Stages.{IsAt};
 ghost use Rattle.lsl_world.specs.Stands.{IsOf, size_of};
-ghost use Rattle.lsl_world.specs.Travels.{travel};
 ghost use Rattle.lsl_top.specs.Goes.{Goes, IsFrozenWell, IsLast, Performs};
 ghost use Rattle.lsl_top.specs.Meant.{last_of};
-ghost use Rattle.lsl_top.specs.Pieces.{last_piece, pieces_from};
+ghost use Rattle.lsl_top.specs.Pieces.{last_piece, pieces_at};
 ghost use Rattle.lsl_top.specs.Ports.{Writes, log, wire};
 
 use crate::modes::Last;
@@ -38,13 +40,18 @@ fn write_step<K: Sink, L: Link>(
 ) -> Result<(), Trouble>
     requires sound { IsSound world.old }
     requires step { IsStepOf (size_of world.old) step.now }
-    ensures goes { Goes L.gives world.old.units (λ programs. IsOf programs world.old)
-        (λ programs. IsOf programs world.new) (step.now ∷ [])
+    requires carded { AreCarded world.old }
+    requires named { CanHand world.old step.now }
+    ensures goes { Goes L.gives world.old.units world.old.regions (λ programs. IsAt programs world.old)
+        (λ programs. IsAt programs world.new) (step.now ∷ [])
         (log (K.sunk sink.old) (K.faults sink.old)) (log (K.sunk sink.new) (K.faults sink.new))
         (wire (L.trips link.old) (L.faults link.old)) (wire (L.trips link.new) (L.faults link.new)) result }
     ensures units { world.new.units ≡ world.old.units }
     ensures size { OnOk result (size_of world.new ≡ size_of world.old) }
     ensures sound { OnOk result (IsSound world.new) }
+    ensures plain { world.old.cards ≡ None → world.new.cards ≡ None }
+    ensures carded { OnOk result (AreCarded world.new) }
+    ensures regions { world.new.regions ≡ world.old.regions }
 {
     let mut entries = Entries::new(alloc);
     world.step(step, link, &mut entries)?;
@@ -61,8 +68,10 @@ fn write_steps<K: Sink, L: Link>(
 ) -> Result<(), Trouble>
     requires sound { IsSound world.old }
     requires steps { All (IsStepOf (size_of world.old)) steps.now }
-    ensures goes { Goes L.gives world.old.units (λ programs. IsOf programs world.old)
-        (λ programs. IsOf programs world.new) steps.now
+    requires carded { AreCarded world.old }
+    requires named { All (CanHand world.old) steps.now }
+    ensures goes { Goes L.gives world.old.units world.old.regions (λ programs. IsAt programs world.old)
+        (λ programs. IsAt programs world.new) steps.now
         (log (K.sunk sink.old) (K.faults sink.old)) (log (K.sunk sink.new) (K.faults sink.new))
         (wire (L.trips link.old) (L.faults link.old)) (wire (L.trips link.new) (L.faults link.new)) result }
     ensures units { OnOk result (world.new.units ≡ world.old.units) }
@@ -157,10 +166,13 @@ pub fn write_run<K: Sink, L: Link>(
 ) -> Result<(), Trouble>
     requires sound { IsSound world }
     requires steps { All (IsStepOf (size_of world)) steps.now }
-    ensures { Performs L.gives (λ programs w. IsOf programs world w)
-        (λ programs w trips. IsLast (last_of last) world.units programs
-        (travel (rules_of programs) steps.now trips w).value)
-        (λ programs w trips. pieces_from (last_of last) world.units (rules_of programs) steps.now trips w)
+    requires carded { AreCarded world }
+    requires named { All (CanHand world) steps.now }
+    ensures { Performs L.gives (λ programs stage. IsAt programs world stage)
+        (λ programs stage trips. IsLast (last_of last) world.units programs
+        (travel_from world.units (rules_of programs) world.regions steps.now trips stage).value.world)
+        (λ programs stage trips.
+        pieces_at (last_of last) world.units (rules_of programs) world.regions steps.now trips stage)
         (log (K.sunk sink.old) (K.faults sink.old)) (log (K.sunk sink.new) (K.faults sink.new))
         (wire (L.trips link.old) (L.faults link.old)) (wire (L.trips link.new) (L.faults link.new)) result }
 {

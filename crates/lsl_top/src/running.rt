@@ -1,8 +1,10 @@
 //! Worlds whose scripts are built: their runs, from the file's start or from a frozen world, and where the scripts of a
 //! frozen world stand.
 
-ghost use Rattle.std.specs.Prelude.{◌≡◌, List, length, IfOk, IsErrOf};
+ghost use Rattle.std.specs.Prelude.{◌≡◌, List, [], None, length, All, IfOk, IsErrOf};
+ghost use Rattle.lsl_ports.specs.Trips.{Honest};
 ghost use Rattle.lsl_text.specs.declared.Refusal.TheVariants.{Fault};
+ghost use Rattle.lsl_image.specs.Images.{IsIntact};
 ghost use Rattle.lsl_image.specs.declared.faults.ImageFault.{ImageFault as AFault};
 ghost use Rattle.lsl_tree.specs.Program.{Program};
 ghost use Rattle.lsl_region.specs.Worlds.{World as SourceWorld};
@@ -10,11 +12,18 @@ ghost use Rattle.lsl_view.specs.Names.{script_names as names_of_scripts};
 ghost use Rattle.lsl_view.specs.Parts.{scripts_in, view_of_parts};
 ghost use Rattle.lsl_world.specs.Codes.{AreRunBy};
 ghost use Rattle.lsl_world.specs.Frozen.{parts_in};
+ghost use Rattle.lsl_world.specs.Handing.{AreCarded, CanHand};
+ghost use Rattle.lsl_world.specs.Lossy.{WereCarried, lossy_stage};
+ghost use Rattle.lsl_world.specs.Programs.{rules_of};
 ghost use Rattle.lsl_world.specs.Ranges.{IsInRange};
+ghost use Rattle.lsl_world.specs.Regions.{regions_of_file};
 ghost use Rattle.lsl_world.specs.Sizes.{size_of_file};
 ghost use Rattle.lsl_world.specs.Sound.{IsSound};
+ghost use Rattle.lsl_world.specs.Stages.{IsAt};
 ghost use Rattle.lsl_world.specs.Stands.{IsOf, size_of};
-ghost use Rattle.lsl_top.specs.Answers.{Comes, ComesFromStart, Shows};
+ghost use Rattle.lsl_world.specs.Starts.{start};
+ghost use Rattle.lsl_top.specs.Answers.{Comes, ComesFromStart, Shows, lossy_answer};
+ghost use Rattle.lsl_top.specs.Fair.{IsFairIn};
 ghost use Rattle.lsl_top.specs.Froms.{IsFromIn};
 ghost use Rattle.lsl_top.specs.Meant.{last_of, mode_of};
 ghost use Rattle.lsl_top.specs.Plays.{Thawing};
@@ -50,13 +59,14 @@ pub fn run_built<K: Sink, L: Link>(
     requires file { IsInRange file.now }
     requires units { length units ≡ length file.now.files }
     ensures { (programs : List Program) → AreRunBy programs units → Concludes (gives_in (mode_of mode.entry) L.gives)
-        (IsFromIn (mode_of mode.entry) units programs file.now cards text.now)
+        (IsFairIn (mode_of mode.entry)) (IsFromIn (mode_of mode.entry) units programs file.now cards text.now)
         (λ grade from trips. Comes grade from trips (mode_of mode.entry) units programs file.now cards text.now)
         (log (K.sunk sink.old) (K.faults sink.old)) (log (K.sunk sink.new) (K.faults sink.new))
         (wire (L.trips link.old) (L.faults link.old)) (wire (L.trips link.new) (L.faults link.new)) result }
 {
     match mode {
         Mode::Whole => run_started(alloc, Last::Homes, file, units, cards, sink, link),
+        Mode::Handing => run_lossy(alloc, file, units, cards, sink, link),
         Mode::Freezing => run_started(alloc, Last::Frozen, file, units, cards, sink, link),
         Mode::Thawing(name) => run_thawed(alloc, name, file, units, cards, text, sink, link),
         Mode::Viewing(name) => show_frozen(alloc, name, file, units, cards, text, sink),
@@ -75,8 +85,8 @@ fn run_started<K: Sink, L: Link>(
 ) -> Status
     requires file { IsInRange file.now }
     requires units { length units ≡ length file.now.files }
-    ensures { (programs : List Program) → AreRunBy programs units → Concludes L.gives (λ from. Unit {0})
-        (λ grade from trips. ComesFromStart grade trips (last_of last) units programs file.now cards)
+    ensures { (programs : List Program) → AreRunBy programs units → Concludes L.gives (Honest IsIntact)
+        (λ from. Unit {0}) (λ grade from trips. ComesFromStart grade trips (last_of last) units programs file.now cards)
         (log (K.sunk sink.old) (K.faults sink.old)) (log (K.sunk sink.new) (K.faults sink.new))
         (wire (L.trips link.old) (L.faults link.old)) (wire (L.trips link.new) (L.faults link.new)) result }
 {
@@ -87,6 +97,55 @@ fn run_started<K: Sink, L: Link>(
         ),
         Err(_) => Status::NoMemory,
     }
+}
+
+/// Runs a world from its file's start, where objects are handed over by notes.
+fn run_lossy<K: Sink, L: Link>(
+    alloc: Global,
+    file: &WorldFile,
+    units: Library,
+    cards: Cards,
+    sink: &mut K,
+    link: &mut L,
+) -> Status
+    requires file { IsInRange file.now }
+    requires units { length units ≡ length file.now.files }
+    ensures { (programs : List Program) → AreRunBy programs units → Concludes L.gives (WereCarried [])
+        (λ from. Unit {0}) (λ grade from trips answer. answer
+        ≡ lossy_answer units programs file.now trips (start (rules_of programs) file.now cards))
+        (log (K.sunk sink.old) (K.faults sink.old)) (log (K.sunk sink.new) (K.faults sink.new))
+        (wire (L.trips link.old) (L.faults link.old)) (wire (L.trips link.new) (L.faults link.new)) result }
+{
+    match lossy_start(alloc, file, units, cards) {
+        Ok(world) => status_after(
+            write_run(alloc, Last::Homes, world, file.steps.as_slice(), sink, link),
+            Status::Ok,
+        ),
+        Err(_) => Status::NoMemory,
+    }
+}
+
+/// The world of a file at its start, where objects are handed over by notes.
+fn lossy_start(
+    alloc: Global,
+    file: &WorldFile,
+    units: Library,
+    cards: Cards,
+) -> Result<World, NoMemory>
+    requires file { IsInRange file.now }
+    requires units { length units ≡ length file.now.files }
+    ensures at { (programs : List Program) → AreRunBy programs units
+        → IfOk result (λ world. IsAt programs world
+        (lossy_stage (regions_of_file file.now) (start (rules_of programs) file.now cards))) }
+    ensures carded { IfOk result AreCarded }
+    ensures named { IfOk result (λ world. All (CanHand world) file.now.steps) }
+    ensures regions { IfOk result (λ world. world.regions ≡ regions_of_file file.now) }
+    ensures size { IfOk result (λ world. size_of world ≡ size_of_file file.now) }
+    ensures sound { IfOk result IsSound }
+    ensures units { IfOk result (λ world. world.units ≡ units) }
+{
+    let world = World::start(alloc, file, units, cards)?;
+    world.lossy()
 }
 
 /// Runs a world from the frozen one of this text, or writes the refusal of the text, whose file has this name.
@@ -102,7 +161,7 @@ fn run_thawed<K: Sink, L: Link>(
 ) -> Status
     requires file { IsInRange file.now }
     requires units { length units ≡ length file.now.files }
-    ensures { (programs : List Program) → AreRunBy programs units → Concludes L.gives
+    ensures { (programs : List Program) → AreRunBy programs units → Concludes L.gives (Honest IsIntact)
         (IsFrom units programs file.now cards text.now)
         (λ grade from trips. Comes grade from trips (Thawing name.now) units programs file.now cards text.now)
         (log (K.sunk sink.old) (K.faults sink.old)) (log (K.sunk sink.new) (K.faults sink.new))
@@ -176,6 +235,7 @@ fn thawed(
     ensures size { IfOk result (λ world. size_of world ≡ size_of_file file.now) }
     ensures sound { IfOk result IsSound }
     ensures units { IfOk result (λ world. world.units ≡ units) }
+    ensures plain { IfOk result (λ world. world.cards ≡ None) }
 {
     let bytes = take_frozen(alloc, text)?;
     World::thaw(alloc, file, units, cards, bytes.as_slice())

@@ -1,6 +1,6 @@
 //! The words of a command, read by hand.
 ghost use Rattle.std.specs.Prelude.{◌≡◌};
-ghost use Rattle.lsl_top.specs.Words.{command_named, command_of, command_of_two, is_number_of, names_file, number_in};
+ghost use Rattle.lsl_top.specs.Words.{command_named, command_of, command_of_lossy, command_of_two, is_number_of, names_file, number_in};
 ghost use Rattle.lsl_top.specs.Meant.{meant_by};
 
 use itoa::Buffer;
@@ -14,6 +14,8 @@ pub enum Command<'a> {
     Check(&'a str),
     /// Runs a world file.
     Replay(&'a str),
+    /// Runs a world file, in which objects are handed over by notes.
+    Lossy(&'a str),
     /// Runs a world file, and freezes the world to which its steps lead.
     Freeze(&'a str),
     /// Runs a world file, the second, from the frozen world of the first.
@@ -80,12 +82,24 @@ fn command_of_two<'a>(word: &str, first: &'a str, second: &'a str) -> Option<Com
     }
 }
 
+fn command_of_lossy<'a>(word: &str, file: &'a str) -> Option<Command<'a>>
+    ensures { command_of_lossy word.now file.now ≡ meant_by result }
+{
+    match word {
+        "replay" => Some(Command::Lossy(file)),
+        _ => None,
+    }
+}
+
 /// What the words ask for, or none where they are no command. It takes no memory.
 pub fn parse_words(words: &[String]) -> Option<Command<'_>>
     ensures { command_of words.now ≡ meant_by result }
 {
     match words {
         [word, file] if names_file(file.as_str()) => command_named(word.as_str(), file.as_str()),
+        [word, flag, file] if flag.as_str() == "--lossy" && names_file(file.as_str()) => {
+            command_of_lossy(word.as_str(), file.as_str())
+        }
         [word, first, second] if names_file(first.as_str()) && names_file(second.as_str()) => {
             command_of_two(word.as_str(), first.as_str(), second.as_str())
         }

@@ -2,6 +2,7 @@ use Rattle.std.proofs.Common.{Err, List, ℕ, refl, sym, ap, subst}
 use Rattle.lsl_ports.specs.Trips.{Trip}
 use Rattle.lsl_region.specs.Worlds.{World}
 use Rattle.lsl_top.specs.Answers.{Answer, Answers, Checks, Grade}
+use Rattle.lsl_top.specs.Fair.{IsFairOf}
 use Rattle.lsl_top.specs.Froms.{IsFromOf}
 use Rattle.lsl_top.specs.Named.{IsNamed}
 use Rattle.lsl_top.specs.Ports.{Serves, gives_by, log, ports, wire}
@@ -23,7 +24,7 @@ returns-in-Ok g c =
     let link = (wire (g.L.Link.trips c.args.link.now) (g.L.Link.faults c.args.link.now)) in
     let Fits = IsFromOf held (Check name) in
     let IsOne : Grade → World → List Trip → Answer → Type 0 = λ grade from trips. Checks name c.as_slice.result.now in
-    serve-concluded (gives_by (Check name) g.L.Link.gives) Fits
+    serve-concluded (gives_by (Check name) g.L.Link.gives) (IsFairOf (Check name)) Fits
     (λ grade from trips. Answers grade held from trips (Check name))
     (IsNamed held (Check name)) held
     (g.S.Shelf.held c.read_script.new.shelf) (g.S.Shelf.faults c.args.shelf.now)
@@ -35,7 +36,8 @@ returns-in-Ok g c =
       checks-read name bytes text answer of
           (subst (λ (z : List ℕ). Checks name z answer) c.as_slice.ensures.value h),
     ))
-    (concludes-finished (gives_by (Check name) g.L.Link.gives) (Checks name c.as_slice.result.now) Fits IsOne
+    (concludes-finished (gives_by (Check name) g.L.Link.gives) (IsFairOf (Check name))
+    (Checks name c.as_slice.result.now) Fits IsOne
     old new link c.write_check.result (λ grade from trips answer h. h) c.write_check.ensures)
 
 pub returns-in-Err : goal.returns-in-Err
@@ -45,13 +47,15 @@ returns-in-Err g c =
     let read = c.in-Err.ensures in
     let Fits = IsFromOf held (Check name) in
     let IsThis : Grade → World → List Trip → Answer → Type 0 = λ grade from trips. Answers grade held from trips (Check name) in
-    subst (λ (status : Status). Serves (gives_by (Check name) g.L.Link.gives) Fits IsThis (IsNamed held (Check name))
+    subst (λ (status : Status). Serves (gives_by (Check name) g.L.Link.gives) (IsFairOf (Check name)) Fits IsThis
+    (IsNamed held (Check name))
     (ports held (g.S.Shelf.faults c.args.shelf.now) (g.K.Sink.sunk c.args.sink.now) (g.K.Sink.faults c.args.sink.now)
     (g.L.Link.trips c.args.link.now) (g.L.Link.faults c.args.link.now))
     (ports (g.S.Shelf.held c.read_script.new.shelf) (g.S.Shelf.faults c.read_script.new.shelf) (g.K.Sink.sunk c.args.sink.now)
     (g.K.Sink.faults c.args.sink.now) (g.L.Link.trips c.args.link.now) (g.L.Link.faults c.args.link.now)) status)
     (sym c.unread.ensures)
-    (serve-unread (gives_by (Check name) g.L.Link.gives) Fits IsThis (IsNamed held (Check name)) held
+    (serve-unread (gives_by (Check name) g.L.Link.gives) (IsFairOf (Check name)) Fits IsThis
+    (IsNamed held (Check name)) held
     (g.S.Shelf.held c.read_script.new.shelf) (g.S.Shelf.faults c.args.shelf.now) (g.S.Shelf.faults c.read_script.new.shelf)
     read.unchanged read.counted (log (g.K.Sink.sunk c.args.sink.now) (g.K.Sink.faults c.args.sink.now))
     (wire (g.L.Link.trips c.args.link.now) (g.L.Link.faults c.args.link.now)) c.in-Err.fault

@@ -1,4 +1,6 @@
 use Rattle.std.proofs.Common.{[], ◌∷◌, length, inl, inr, refl, sym, ap, subst, arith}
+use Rattle.lsl_ports.specs.Trips.{Honest}
+use Rattle.lsl_image.specs.Images.{IsIntact}
 use Rattle.lsl_lines.specs.declared.file.WorldFile.{WorldFile}
 use Rattle.lsl_world.specs.Ranges.{IsInRange}
 use Rattle.lsl_top.specs.Answers.{Answers, Plays}
@@ -25,7 +27,8 @@ returns-in-Ok g c =
     let held = g.S.Shelf.held c.args.shelf.now in
     let name = c.args.name.now in
     let faults = g.S.Shelf.faults c.args.shelf.now in
-    serve-later g.L.Link.gives (IsFromPlay held (played Whole (name ∷ []) [] c.in-Ok.world)) (IsFromOf held (Once name))
+    serve-later g.L.Link.gives (Honest IsIntact) (IsFromPlay held (played Whole (name ∷ []) [] c.in-Ok.world))
+    (IsFromOf held (Once name))
     (λ grade from trips. Plays grade held from trips (played Whole (name ∷ []) [] c.in-Ok.world))
     (λ grade from trips. Answers grade held from trips (Once name)) (IsPlayName Whole (name ∷ []) [])
     (IsNamed held (Once name)) held held faults faults
@@ -48,7 +51,8 @@ pub returns-in-Err : goal.returns-in-Err
 returns-in-Err g c =
     let held = g.S.Shelf.held c.args.shelf.now in
     let name = c.args.name.now in
-    serve-memory g.L.Link.gives (IsFromOf held (Once name)) (λ grade from trips. Answers grade held from trips (Once name))
+    serve-memory g.L.Link.gives (Honest IsIntact) (IsFromOf held (Once name))
+    (λ grade from trips. Answers grade held from trips (Once name))
     (IsNamed held (Once name)) held held
     (g.S.Shelf.faults c.args.shelf.now) (g.S.Shelf.faults c.args.shelf.now) refl (λ n. omega arith)
     (log (g.K.Sink.sunk c.args.sink.now) (g.K.Sink.faults c.args.sink.now))

@@ -5,6 +5,7 @@ use Rattle.lsl_ports.specs.Shelf.{Files}
 use Rattle.lsl_ports.specs.Trips.{Trip}
 use Rattle.lsl_region.specs.Worlds.{World}
 use Rattle.lsl_top.specs.Answers.{Answer, Grade, Plays}
+use Rattle.lsl_top.specs.Fair.{IsFairIn}
 use Rattle.lsl_top.specs.Froms.{IsFromPlay}
 use Rattle.lsl_top.specs.Meant.{mode_of}
 use Rattle.lsl_top.specs.Named.{IsNotedName, IsPlayName}
@@ -45,7 +46,7 @@ returns-in-Ok g c =
     let given = map (λ (t : Vec ℕ Global). t.items) c.as_slice.result.now in
     let read = c.in-Ok.ensures in
     let (texts, are, of) = texts-read held names bytes read.ok in
-    serve-later (gives_in mode g.L.Link.gives) (IsFromRead later play given) (IsFromPlay held play)
+    serve-later (gives_in mode g.L.Link.gives) (IsFairIn mode) (IsFromRead later play given) (IsFromPlay held play)
     (λ grade from trips. PlaysRead grade later from trips play given) (λ grade from trips. Plays grade held from trips play)
     (IsNotedName mode cards) (IsPlayName mode names cards) held later (g.S.Shelf.faults c.args.shelf.now)
     (g.S.Shelf.faults c.read_scripts.new.shelf)
@@ -79,14 +80,15 @@ returns-in-Err g c =
     let play : Play = played mode names cards c.args.world.now in
     let read = c.in-Err.ensures in
     let IsThis : Grade → World → List Trip → Answer → Type 0 = λ grade from trips. Plays grade held from trips play in
-    subst (λ (status : Status). Serves (gives_in mode g.L.Link.gives) (IsFromPlay held play) IsThis
+    subst (λ (status : Status). Serves (gives_in mode g.L.Link.gives) (IsFairIn mode) (IsFromPlay held play) IsThis
     (IsPlayName mode names cards)
     (ports held (g.S.Shelf.faults c.args.shelf.now) (g.K.Sink.sunk c.args.sink.now) (g.K.Sink.faults c.args.sink.now)
     (g.L.Link.trips c.args.link.now) (g.L.Link.faults c.args.link.now))
     (ports (g.S.Shelf.held c.read_scripts.new.shelf) (g.S.Shelf.faults c.read_scripts.new.shelf) (g.K.Sink.sunk c.args.sink.now)
     (g.K.Sink.faults c.args.sink.now) (g.L.Link.trips c.args.link.now) (g.L.Link.faults c.args.link.now)) status)
     (sym c.unread.ensures)
-    (serve-unread (gives_in mode g.L.Link.gives) (IsFromPlay held play) IsThis (IsPlayName mode names cards) held
+    (serve-unread (gives_in mode g.L.Link.gives) (IsFairIn mode) (IsFromPlay held play) IsThis
+    (IsPlayName mode names cards) held
     (g.S.Shelf.held c.read_scripts.new.shelf) (g.S.Shelf.faults c.args.shelf.now) (g.S.Shelf.faults c.read_scripts.new.shelf)
     read.unchanged read.counted (log (g.K.Sink.sunk c.args.sink.now) (g.K.Sink.faults c.args.sink.now))
     (wire (g.L.Link.trips c.args.link.now) (g.L.Link.faults c.args.link.now)) c.in-Err.fault

@@ -2,6 +2,7 @@ use Rattle.std.proofs.Common.{Err, ap, List, ℕ, Vec, Global, Bor, map, sym, su
 use Rattle.lsl_ports.specs.Trips.{Trip}
 use Rattle.lsl_region.specs.Worlds.{World}
 use Rattle.lsl_top.specs.Answers.{Answer, Grade, PlaysTexts}
+use Rattle.lsl_top.specs.Fair.{IsFairIn}
 use Rattle.lsl_top.specs.Froms.{IsFromTexts}
 use Rattle.lsl_top.specs.Meant.{mode_of}
 use Rattle.lsl_top.specs.Named.{IsFrozenName}
@@ -38,7 +39,7 @@ returns-in-Ok g c =
     let bytes = c.in-Ok.text.items in
     let read = c.in-Ok.ensures in
     let has = frozen-read held mode bytes read.ok in
-    serve-concluded (gives_in mode g.L.Link.gives) (IsFromNoted held play texts notes)
+    serve-concluded (gives_in mode g.L.Link.gives) (IsFairIn mode) (IsFromNoted held play texts notes)
     (λ grade from trips. PlaysNoted grade held from trips play texts notes) (IsFrozenName mode) held
     (g.S.Shelf.held c.read_frozen.new.shelf) (g.S.Shelf.faults c.args.shelf.now)
     (g.S.Shelf.faults c.read_frozen.new.shelf) read.unchanged read.counted
@@ -69,7 +70,8 @@ returns-in-Err g c =
     let read = c.in-Err.ensures in
     let IsThis : Grade → World → List Trip → Answer → Type 0 =
     λ grade from trips. PlaysNoted grade held from trips play texts notes in
-    subst (λ (status : Status). Serves (gives_in mode g.L.Link.gives) (IsFromNoted held play texts notes) IsThis
+    subst (λ (status : Status). Serves (gives_in mode g.L.Link.gives) (IsFairIn mode)
+    (IsFromNoted held play texts notes) IsThis
     (IsFrozenName mode)
     (ports held (g.S.Shelf.faults c.args.shelf.now) (g.K.Sink.sunk c.args.sink.now) (g.K.Sink.faults c.args.sink.now)
     (g.L.Link.trips c.args.link.now) (g.L.Link.faults c.args.link.now))
@@ -77,7 +79,8 @@ returns-in-Err g c =
     (g.K.Sink.sunk c.args.sink.now)
     (g.K.Sink.faults c.args.sink.now) (g.L.Link.trips c.args.link.now) (g.L.Link.faults c.args.link.now)) status)
     (sym c.unread.ensures)
-    (serve-unread (gives_in mode g.L.Link.gives) (IsFromNoted held play texts notes) IsThis (IsFrozenName mode) held
+    (serve-unread (gives_in mode g.L.Link.gives) (IsFairIn mode) (IsFromNoted held play texts notes) IsThis
+    (IsFrozenName mode) held
     (g.S.Shelf.held c.read_frozen.new.shelf) (g.S.Shelf.faults c.args.shelf.now)
     (g.S.Shelf.faults c.read_frozen.new.shelf)
     read.unchanged read.counted (log (g.K.Sink.sunk c.args.sink.now) (g.K.Sink.faults c.args.sink.now))

@@ -5,6 +5,7 @@ use Rattle.lsl_ports.specs.Shelf.{Files}
 use Rattle.lsl_ports.specs.Trips.{Trip}
 use Rattle.lsl_region.specs.Worlds.{World}
 use Rattle.lsl_top.specs.Answers.{Answer, Grade}
+use Rattle.lsl_top.specs.Fair.{IsFairIn}
 use Rattle.lsl_top.specs.Meant.{mode_of}
 use Rattle.lsl_top.specs.Named.{IsFrozenName, IsNotedName}
 use Rattle.lsl_top.specs.Plays.{Play, played}
@@ -48,7 +49,8 @@ returns-in-Ok g c =
     let given = map (λ (t : Vec ℕ Global). t.items) c.as_slice.result.now in
     let read = c.in-Ok.ensures in
     let (notes, are, of) = notes-read held cards bytes read.ok in
-    serve-later (gives_in mode g.L.Link.gives) (IsFromNoted later play texts given) (IsFromRead held play texts)
+    serve-later (gives_in mode g.L.Link.gives) (IsFairIn mode) (IsFromNoted later play texts given)
+    (IsFromRead held play texts)
     (λ grade from trips. PlaysNoted grade later from trips play texts given)
     (λ grade from trips. PlaysRead grade held from trips play texts)
     (IsFrozenName mode) (IsNotedName mode cards) held later (g.S.Shelf.faults c.args.shelf.now)
@@ -84,7 +86,8 @@ returns-in-Err g c =
     let read = c.in-Err.ensures in
     let texts = map (λ (t : Vec ℕ Global). t.items) c.args.texts.now in
     let IsThis : Grade → World → List Trip → Answer → Type 0 = λ grade from trips. PlaysRead grade held from trips play texts in
-    subst (λ (status : Status). Serves (gives_in mode g.L.Link.gives) (IsFromRead held play texts) IsThis
+    subst (λ (status : Status). Serves (gives_in mode g.L.Link.gives) (IsFairIn mode)
+    (IsFromRead held play texts) IsThis
     (IsNotedName mode cards)
     (ports held (g.S.Shelf.faults c.args.shelf.now) (g.K.Sink.sunk c.args.sink.now) (g.K.Sink.faults c.args.sink.now)
     (g.L.Link.trips c.args.link.now) (g.L.Link.faults c.args.link.now))
@@ -92,7 +95,8 @@ returns-in-Err g c =
     (g.K.Sink.sunk c.args.sink.now)
     (g.K.Sink.faults c.args.sink.now) (g.L.Link.trips c.args.link.now) (g.L.Link.faults c.args.link.now)) status)
     (sym c.unread.ensures)
-    (serve-unread (gives_in mode g.L.Link.gives) (IsFromRead held play texts) IsThis (IsNotedName mode cards) held
+    (serve-unread (gives_in mode g.L.Link.gives) (IsFairIn mode) (IsFromRead held play texts) IsThis
+    (IsNotedName mode cards) held
     (g.S.Shelf.held c.read_scripts.new.shelf) (g.S.Shelf.faults c.args.shelf.now)
     (g.S.Shelf.faults c.read_scripts.new.shelf)
     read.unchanged read.counted (log (g.K.Sink.sunk c.args.sink.now) (g.K.Sink.faults c.args.sink.now))

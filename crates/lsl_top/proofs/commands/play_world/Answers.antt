@@ -2,6 +2,7 @@ use Rattle.std.proofs.Common.{◌≡◌, List, ℕ, Bor, length, map, refl, sym,
 use Rattle.std.specs.Str.{encode_utf8_all}
 use Rattle.std.proofs.lemmas.List.{length-map}
 use Rattle.lsl_top.specs.Answers.{Plays}
+use Rattle.lsl_top.specs.Fair.{IsFairIn}
 use Rattle.lsl_top.specs.Froms.{IsFromPlay}
 use Rattle.lsl_top.specs.Meant.{mode_of}
 use Rattle.lsl_top.specs.Named.{IsPlayName}
@@ -48,7 +49,7 @@ returns-in-Ok-file_names g c =
     ∙ ap (map encode_utf8_all) c.as_slice-in-Ok.ensures in
     let same : played mode names cards world ≡ play_of mode world =
     ap₂ (λ ns cs. played mode ns cs world) same_names same_cards in
-    serve-later (gives_in mode g.L.Link.gives) (IsFromPlay held (played mode names cards world))
+    serve-later (gives_in mode g.L.Link.gives) (IsFairIn mode) (IsFromPlay held (played mode names cards world))
     (IsFromPlay held (play_of mode world))
     (λ grade from trips. Plays grade held from trips (played mode names cards world))
     (λ grade from trips. Plays grade held from trips (play_of mode world)) (IsPlayName mode names cards)
@@ -65,7 +66,7 @@ pub returns-in-Ok : goal.returns-in-Ok
 returns-in-Ok g c =
     let held = g.S.Shelf.held c.args.shelf.now in
     let mode = mode_of c.args.mode in
-    serve-memory (gives_in mode g.L.Link.gives) (IsFromPlay held (play_of mode c.args.world.now))
+    serve-memory (gives_in mode g.L.Link.gives) (IsFairIn mode) (IsFromPlay held (play_of mode c.args.world.now))
     (λ grade from trips. Plays grade held from trips (play_of mode c.args.world.now))
     (IsPlayName mode (names_in c.args.world.now) (cards_in c.args.world.now)) held held
     (g.S.Shelf.faults c.args.shelf.now) (g.S.Shelf.faults c.args.shelf.now) refl (λ n. omega arith)
@@ -76,7 +77,7 @@ pub returns : goal.returns
 returns g c =
     let held = g.S.Shelf.held c.args.shelf.now in
     let mode = mode_of c.args.mode in
-    serve-memory (gives_in mode g.L.Link.gives) (IsFromPlay held (play_of mode c.args.world.now))
+    serve-memory (gives_in mode g.L.Link.gives) (IsFairIn mode) (IsFromPlay held (play_of mode c.args.world.now))
     (λ grade from trips. Plays grade held from trips (play_of mode c.args.world.now))
     (IsPlayName mode (names_in c.args.world.now) (cards_in c.args.world.now)) held held
     (g.S.Shelf.faults c.args.shelf.now) (g.S.Shelf.faults c.args.shelf.now) refl (λ n. omega arith)

@@ -5,6 +5,7 @@ use Rattle.lsl_lines.specs.World.{FileFirst, IsRefused, IsWorld}
 use Rattle.lsl_region.specs.Worlds.{World}
 use Rattle.lsl_world.proofs.Ranges.{good-in_range}
 use Rattle.lsl_top.specs.Answers.{Answer, Grade, Plays, ReplaysFile, world_refused}
+use Rattle.lsl_top.specs.Fair.{IsFairIn}
 use Rattle.lsl_top.specs.Froms.{IsFromFile, IsFromPlay}
 use Rattle.lsl_top.specs.Lines.{world_refusal_of}
 use Rattle.lsl_top.specs.Meant.{mode_of}
@@ -28,14 +29,15 @@ returns-in-Err g c =
     let name = c.args.name.now in
     let read = c.in-Err.ensures in
     let IsThis : Grade → World → List Trip → Answer → Type 0 = λ grade from trips. ReplaysFile grade held from trips mode name in
-    subst (λ (status : Status). Serves (gives_in mode g.L.Link.gives) (IsFromFile held mode name) IsThis
+    subst (λ (status : Status). Serves (gives_in mode g.L.Link.gives) (IsFairIn mode) (IsFromFile held mode name) IsThis
     (IsNamedIn held mode name)
     (ports held (g.S.Shelf.faults c.args.shelf.now) (g.K.Sink.sunk c.args.sink.now) (g.K.Sink.faults c.args.sink.now)
     (g.L.Link.trips c.args.link.now) (g.L.Link.faults c.args.link.now))
     (ports (g.S.Shelf.held c.read_all.new.shelf) (g.S.Shelf.faults c.read_all.new.shelf) (g.K.Sink.sunk c.args.sink.now)
     (g.K.Sink.faults c.args.sink.now) (g.L.Link.trips c.args.link.now) (g.L.Link.faults c.args.link.now)) status)
     (sym c.unread.ensures)
-    (serve-unread (gives_in mode g.L.Link.gives) (IsFromFile held mode name) IsThis (IsNamedIn held mode name) held
+    (serve-unread (gives_in mode g.L.Link.gives) (IsFairIn mode) (IsFromFile held mode name) IsThis
+    (IsNamedIn held mode name) held
     (g.S.Shelf.held c.read_all.new.shelf) (g.S.Shelf.faults c.args.shelf.now) (g.S.Shelf.faults c.read_all.new.shelf)
     read.unchanged read.counted (log (g.K.Sink.sunk c.args.sink.now) (g.K.Sink.faults c.args.sink.now))
     (wire (g.L.Link.trips c.args.link.now) (g.L.Link.faults c.args.link.now)) c.in-Err.fault
@@ -52,7 +54,8 @@ returns-in-Ok-read_world g c =
     let (file, is, of) = world-read held name c.in-Ok.text.items read.ok in
     let good : IsWorld file world = of.good world
     (subst (λ (z : List ℕ). IsWorld z world) c.as_slice.ensures.value c.in-Ok-read_world.ensures.found) in
-    serve-later (gives_in mode g.L.Link.gives) (IsFromPlay later (play_of mode world)) (IsFromFile held mode name)
+    serve-later (gives_in mode g.L.Link.gives) (IsFairIn mode) (IsFromPlay later (play_of mode world))
+    (IsFromFile held mode name)
     (λ grade from trips. Plays grade later from trips (play_of mode world))
     (λ grade from trips. ReplaysFile grade held from trips mode name)
     (IsPlayName mode (names_in world) (cards_in world)) (IsNamedIn held mode name) held later
@@ -93,13 +96,13 @@ returns-in-Err-Fault g c =
     let new = (log (g.K.Sink.sunk c.write_line.new.sink) (g.K.Sink.faults c.write_line.new.sink)) in
     let link = (wire (g.L.Link.trips c.args.link.now) (g.L.Link.faults c.args.link.now)) in
     let IsThis : Answer → Type 0 = λ answer. answer ≡ world_refused name fault in
-    serve-concluded (gives_in mode g.L.Link.gives) (IsFromFile held mode name)
+    serve-concluded (gives_in mode g.L.Link.gives) (IsFairIn mode) (IsFromFile held mode name)
     (λ grade from trips. ReplaysFile grade held from trips mode name) (IsNamedIn held mode name) held
     (g.S.Shelf.held c.read_all.new.shelf) (g.S.Shelf.faults c.args.shelf.now)
     (g.S.Shelf.faults c.read_all.new.shelf) read.unchanged read.counted (IsFromFile held mode name)
     (λ grade from trips. IsThis) old new link link
     c.status_after.result (λ from fits. fits) (λ grade from trips answer e. (file, is, inr (fault, first, e)))
-    (concludes-finished (gives_in mode g.L.Link.gives) IsThis (IsFromFile held mode name)
+    (concludes-finished (gives_in mode g.L.Link.gives) (IsFairIn mode) IsThis (IsFromFile held mode name)
     (λ grade from trips. IsThis) old new link
     c.status_after.result (λ grade from trips answer e. e)
     (subst (λ (status : Status). Finishes IsThis old new status) (sym c.status_after.ensures)
@@ -112,7 +115,7 @@ returns g c =
     let mode = mode_of c.args.mode in
     let name = c.args.name.now in
     let read = c.in-Ok.ensures in
-    serve-memory (gives_in mode g.L.Link.gives) (IsFromFile held mode name)
+    serve-memory (gives_in mode g.L.Link.gives) (IsFairIn mode) (IsFromFile held mode name)
     (λ grade from trips. ReplaysFile grade held from trips mode name) (IsNamedIn held mode name) held
     (g.S.Shelf.held c.read_all.new.shelf) (g.S.Shelf.faults c.args.shelf.now)
     (g.S.Shelf.faults c.read_all.new.shelf) read.unchanged read.counted

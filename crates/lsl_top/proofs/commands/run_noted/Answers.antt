@@ -7,6 +7,7 @@ use Rattle.lsl_notes.specs.declared.cards.Notecard.{Notecard}
 use Rattle.lsl_region.specs.Worlds.{World}
 use Rattle.lsl_world.specs.Ranges.{HasCard}
 use Rattle.lsl_top.specs.Answers.{Answer, Comes, Grade, PlaysAccepted, note_refused}
+use Rattle.lsl_top.specs.Fair.{IsFairIn}
 use Rattle.lsl_top.specs.Froms.{IsFromAccepted, IsFromIn}
 use Rattle.lsl_top.specs.Lines.{note_refusal_of}
 use Rattle.lsl_top.specs.Meant.{mode_of}
@@ -48,7 +49,7 @@ returns-in-Ok g c = λ names programs run.
     let (read, all, made) = c.in-Ok.ensures.ok in
     let is : held ≡ notecards_of world.notes read =
     made ∙ ap (λ (lines : List NoteLine). notecards_of lines read) c.as_slice.ensures in
-    concludes-as (gives_in mode g.L.Link.gives) (IsFromIn mode units programs world held text)
+    concludes-as (gives_in mode g.L.Link.gives) (IsFairIn mode) (IsFromIn mode units programs world held text)
     (IsFromAccepted play units programs notes text)
     (λ grade from trips. Comes grade from trips mode units programs world held text)
     (λ grade from trips. PlaysAccepted grade from trips play units programs notes text)
@@ -71,7 +72,8 @@ returns g c = λ names programs run.
     let mode = mode_of c.args.mode in
     let play : Play = played mode names cards c.args.world.now in
     let notes = map (λ (t : Vec ℕ Global). t.items) c.args.notes.now in
-    concludes-memory (gives_in mode g.L.Link.gives) (IsFromAccepted play c.args.units programs notes c.args.text.now)
+    concludes-memory (gives_in mode g.L.Link.gives) (IsFairIn mode)
+    (IsFromAccepted play c.args.units programs notes c.args.text.now)
     (λ grade from trips. PlaysAccepted grade from trips play c.args.units programs notes c.args.text.now)
     (log (g.K.Sink.sunk c.args.sink.now) (g.K.Sink.faults c.args.sink.now))
     (wire (g.L.Link.trips c.args.link.now) (g.L.Link.faults c.args.link.now))
@@ -111,10 +113,10 @@ returns-in-Err-Fault g c = λ names programs run.
     let line : IfOk c.note_refusal.result (λ line. line.items ≡ note_refusal_of name bad.fault) =
     subst (λ (b : BadCard). IfOk c.note_refusal.result (λ line. line.items ≡ note_refusal_of name b.fault))
     c.in-Err-Fault.bad-is c.note_refusal.ensures in
-    subst (λ (status : Status). Concludes (gives_in mode g.L.Link.gives)
+    subst (λ (status : Status). Concludes (gives_in mode g.L.Link.gives) (IsFairIn mode)
     (IsFromAccepted play units programs notes text) IsAll old new
     link link status) (sym c.status_after.ensures)
-    (concludes-finished (gives_in mode g.L.Link.gives) IsThis
+    (concludes-finished (gives_in mode g.L.Link.gives) (IsFairIn mode) IsThis
     (IsFromAccepted play units programs notes text) IsAll old new link
     (status_after c.write_line.result BadNote) (λ grade from trips answer e. inr (name, bad.fault, first, e))
     (finish-written IsThis BadNote (note_refusal_of name bad.fault) old new c.write_line.result tt refl

@@ -1,5 +1,8 @@
 use Rattle.std.proofs.Common.{refl, sym, ap, subst, arith}
+use Rattle.lsl_ports.specs.Trips.{Honest}
+use Rattle.lsl_image.specs.Images.{IsIntact}
 use Rattle.lsl_top.specs.Answers.{Answers, Makes}
+use Rattle.lsl_top.specs.Fair.{IsFairOf}
 use Rattle.lsl_top.specs.Froms.{IsFromOf}
 use Rattle.lsl_top.specs.Meant.{asked_by}
 use Rattle.lsl_top.specs.Named.{IsNamed}
@@ -11,7 +14,7 @@ use Rattle.lsl_top.proofs.commands.serve.Goals as goal
 pub returns-in-Once : goal.returns-in-Once
 returns-in-Once g c =
     let held = g.S.Shelf.held c.args.shelf.now in
-    subst (λ (command : Command). Serves (gives_by command g.L.Link.gives) (IsFromOf held command)
+    subst (λ (command : Command). Serves (gives_by command g.L.Link.gives) (IsFairOf command) (IsFromOf held command)
     (λ grade from trips. Answers grade held from trips command) (IsNamed held command)
     (ports held (g.S.Shelf.faults c.args.shelf.now) (g.K.Sink.sunk c.args.sink.now) (g.K.Sink.faults c.args.sink.now)
     (g.L.Link.trips c.args.link.now) (g.L.Link.faults c.args.link.now))
@@ -23,7 +26,7 @@ returns-in-Once g c =
 pub returns-in-Check : goal.returns-in-Check
 returns-in-Check g c =
     let held = g.S.Shelf.held c.args.shelf.now in
-    subst (λ (command : Command). Serves (gives_by command g.L.Link.gives) (IsFromOf held command)
+    subst (λ (command : Command). Serves (gives_by command g.L.Link.gives) (IsFairOf command) (IsFromOf held command)
     (λ grade from trips. Answers grade held from trips command) (IsNamed held command)
     (ports held (g.S.Shelf.faults c.args.shelf.now) (g.K.Sink.sunk c.args.sink.now) (g.K.Sink.faults c.args.sink.now)
     (g.L.Link.trips c.args.link.now) (g.L.Link.faults c.args.link.now))
@@ -35,7 +38,7 @@ returns-in-Check g c =
 pub returns-in-Replay : goal.returns-in-Replay
 returns-in-Replay g c =
     let held = g.S.Shelf.held c.args.shelf.now in
-    subst (λ (command : Command). Serves (gives_by command g.L.Link.gives) (IsFromOf held command)
+    subst (λ (command : Command). Serves (gives_by command g.L.Link.gives) (IsFairOf command) (IsFromOf held command)
     (λ grade from trips. Answers grade held from trips command) (IsNamed held command)
     (ports held (g.S.Shelf.faults c.args.shelf.now) (g.K.Sink.sunk c.args.sink.now) (g.K.Sink.faults c.args.sink.now)
     (g.L.Link.trips c.args.link.now) (g.L.Link.faults c.args.link.now))
@@ -44,10 +47,23 @@ returns-in-Replay g c =
     c.replay.result)
     (sym (ap asked_by c.in-Replay.is)) c.replay.ensures
 
+pub returns-in-Lossy : goal.returns-in-Lossy
+returns-in-Lossy g c =
+    let held = g.S.Shelf.held c.args.shelf.now in
+    subst (λ (command : Command). Serves (gives_by command g.L.Link.gives) (IsFairOf command) (IsFromOf held command)
+    (λ grade from trips. Answers grade held from trips command) (IsNamed held command)
+    (ports held (g.S.Shelf.faults c.args.shelf.now) (g.K.Sink.sunk c.args.sink.now) (g.K.Sink.faults c.args.sink.now)
+    (g.L.Link.trips c.args.link.now) (g.L.Link.faults c.args.link.now))
+    (ports (g.S.Shelf.held c.replay-in-Lossy.new.shelf) (g.S.Shelf.faults c.replay-in-Lossy.new.shelf)
+    (g.K.Sink.sunk c.replay-in-Lossy.new.sink) (g.K.Sink.faults c.replay-in-Lossy.new.sink)
+    (g.L.Link.trips c.replay-in-Lossy.new.link) (g.L.Link.faults c.replay-in-Lossy.new.link))
+    c.replay-in-Lossy.result)
+    (sym (ap asked_by c.in-Lossy.is)) c.replay-in-Lossy.ensures
+
 pub returns-in-Freeze : goal.returns-in-Freeze
 returns-in-Freeze g c =
     let held = g.S.Shelf.held c.args.shelf.now in
-    subst (λ (command : Command). Serves (gives_by command g.L.Link.gives) (IsFromOf held command)
+    subst (λ (command : Command). Serves (gives_by command g.L.Link.gives) (IsFairOf command) (IsFromOf held command)
     (λ grade from trips. Answers grade held from trips command) (IsNamed held command)
     (ports held (g.S.Shelf.faults c.args.shelf.now) (g.K.Sink.sunk c.args.sink.now) (g.K.Sink.faults c.args.sink.now)
     (g.L.Link.trips c.args.link.now) (g.L.Link.faults c.args.link.now))
@@ -59,7 +75,7 @@ returns-in-Freeze g c =
 pub returns-in-Thaw : goal.returns-in-Thaw
 returns-in-Thaw g c =
     let held = g.S.Shelf.held c.args.shelf.now in
-    subst (λ (command : Command). Serves (gives_by command g.L.Link.gives) (IsFromOf held command)
+    subst (λ (command : Command). Serves (gives_by command g.L.Link.gives) (IsFairOf command) (IsFromOf held command)
     (λ grade from trips. Answers grade held from trips command) (IsNamed held command)
     (ports held (g.S.Shelf.faults c.args.shelf.now) (g.K.Sink.sunk c.args.sink.now) (g.K.Sink.faults c.args.sink.now)
     (g.L.Link.trips c.args.link.now) (g.L.Link.faults c.args.link.now))
@@ -71,7 +87,7 @@ returns-in-Thaw g c =
 pub returns-in-View : goal.returns-in-View
 returns-in-View g c =
     let held = g.S.Shelf.held c.args.shelf.now in
-    subst (λ (command : Command). Serves (gives_by command g.L.Link.gives) (IsFromOf held command)
+    subst (λ (command : Command). Serves (gives_by command g.L.Link.gives) (IsFairOf command) (IsFromOf held command)
     (λ grade from trips. Answers grade held from trips command) (IsNamed held command)
     (ports held (g.S.Shelf.faults c.args.shelf.now) (g.K.Sink.sunk c.args.sink.now) (g.K.Sink.faults c.args.sink.now)
     (g.L.Link.trips c.args.link.now) (g.L.Link.faults c.args.link.now))
@@ -86,14 +102,14 @@ returns-in-Make g c =
     let held = g.S.Shelf.held c.args.shelf.now in
     let faults = g.S.Shelf.faults c.args.shelf.now in
     let number = c.in-Make.number in
-    subst (λ (command : Command). Serves (gives_by command g.L.Link.gives) (IsFromOf held command)
+    subst (λ (command : Command). Serves (gives_by command g.L.Link.gives) (IsFairOf command) (IsFromOf held command)
     (λ grade from trips. Answers grade held from trips command) (IsNamed held command)
     (ports held faults (g.K.Sink.sunk c.args.sink.now) (g.K.Sink.faults c.args.sink.now)
     (g.L.Link.trips c.args.link.now) (g.L.Link.faults c.args.link.now))
     (ports held faults (g.K.Sink.sunk c.make.new.sink) (g.K.Sink.faults c.make.new.sink)
     (g.L.Link.trips c.make.new.link) (g.L.Link.faults c.make.new.link)) c.make.result)
     (sym (ap asked_by c.in-Make.is))
-    (serve-concluded g.L.Link.gives (IsFromOf held (Make number))
+    (serve-concluded g.L.Link.gives (Honest IsIntact) (IsFromOf held (Make number))
     (λ grade from trips. Answers grade held from trips (Make number)) (IsNamed held (Make number)) held held faults faults
     refl (λ n. omega arith) (λ from. Unit {0}) (λ grade from trips. Makes grade from trips number)
     (log (g.K.Sink.sunk c.args.sink.now) (g.K.Sink.faults c.args.sink.now))

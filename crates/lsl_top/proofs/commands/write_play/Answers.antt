@@ -3,6 +3,7 @@ use Rattle.std.proofs.lemmas.List.{length-map}
 use Rattle.lsl_ports.specs.Trips.{Trip}
 use Rattle.lsl_region.specs.Worlds.{World}
 use Rattle.lsl_top.specs.Answers.{Answer, Grade, PlaysAccepted, PlaysTexts, script_refused}
+use Rattle.lsl_top.specs.Fair.{IsFairIn}
 use Rattle.lsl_top.specs.Froms.{IsFromAccepted, IsFromTexts}
 use Rattle.lsl_top.specs.Lines.{refusal_of}
 use Rattle.lsl_top.specs.Meant.{mode_of}
@@ -39,7 +40,7 @@ returns-in-Ok g c =
     let units = c.in-Ok.units in
     let (programs, accepted, run) = c.in-Ok.ensures.ok in
     let codes = c.in-Ok.ensures.codes in
-    concludes-as (gives_in mode g.L.Link.gives) (IsFromAccepted play units programs notes text)
+    concludes-as (gives_in mode g.L.Link.gives) (IsFairIn mode) (IsFromAccepted play units programs notes text)
     (IsFromTexts play texts notes text)
     (λ grade from trips. PlaysAccepted grade from trips play units programs notes text)
     (λ grade from trips. PlaysTexts grade from trips play texts notes text)
@@ -58,7 +59,7 @@ returns-in-Err-NoMemory g c =
     let play : Play = played mode (map (λ (n : Bor (List ℕ)). n.now) c.args.names.now) cards c.args.world.now in
     let texts = map (λ (t : Vec ℕ Global). t.items) c.args.texts.now in
     let notes = map (λ (t : Vec ℕ Global). t.items) c.args.notes.now in
-    concludes-memory (gives_in mode g.L.Link.gives) (IsFromTexts play texts notes c.args.text.now)
+    concludes-memory (gives_in mode g.L.Link.gives) (IsFairIn mode) (IsFromTexts play texts notes c.args.text.now)
     (λ grade from trips. PlaysTexts grade from trips play texts notes c.args.text.now)
     (log (g.K.Sink.sunk c.args.sink.now) (g.K.Sink.faults c.args.sink.now))
     (wire (g.L.Link.trips c.args.link.now) (g.L.Link.faults c.args.link.now))
@@ -93,11 +94,12 @@ returns-in-Err-Fault g c =
     λ grade from trips. PlaysTexts grade from trips play texts notes text in
     let first : FirstRefused play.names texts name refused.fault =
     record { place = refused.place; named = c.name_at.ensures; refused = at } in
-    subst (λ (status : Status). Concludes (gives_in mode g.L.Link.gives)
+    subst (λ (status : Status). Concludes (gives_in mode g.L.Link.gives) (IsFairIn mode)
     (IsFromTexts play texts notes text) IsAll old new
     link link
     status) (sym c.status_after.ensures)
-    (concludes-finished (gives_in mode g.L.Link.gives) IsThis (IsFromTexts play texts notes text) IsAll old new link
+    (concludes-finished (gives_in mode g.L.Link.gives) (IsFairIn mode) IsThis
+    (IsFromTexts play texts notes text) IsAll old new link
     (status_after c.write_line.result BadScript) (λ grade from trips answer e. inr (name, refused.fault, first, e))
     (finish-written IsThis BadScript (refusal_of name refused.fault) old new c.write_line.result tt refl
     (c.write_line.ensures (refusal_of name refused.fault) c.refusal.ensures)))

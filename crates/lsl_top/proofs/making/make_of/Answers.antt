@@ -1,5 +1,7 @@
 use Rattle.std.proofs.Common.{Some, refl, sym, ap, ◌∙◌, subst}
 use Rattle.std.specs.Str.{encode_utf8_all}
+use Rattle.lsl_ports.specs.Trips.{Honest}
+use Rattle.lsl_image.specs.Images.{IsIntact}
 use Rattle.lsl_top.specs.Answers.{Makes}
 use Rattle.lsl_top.specs.Made.{made_line, two_files}
 use Rattle.lsl_top.specs.Ports.{Concludes, log, wire}
@@ -21,7 +23,7 @@ returns-in-Ok g c =
     let a = log (g.K.Sink.sunk c.args.sink.now) (g.K.Sink.faults c.args.sink.now) in
     let b = log (g.K.Sink.sunk c.write_line.new.sink) (g.K.Sink.faults c.write_line.new.sink) in
     let bytes = c.replay.new.sink in
-    subst (λ (status : Status). Concludes g.L.Link.gives (λ from. Unit {0})
+    subst (λ (status : Status). Concludes g.L.Link.gives (Honest IsIntact) (λ from. Unit {0})
     (λ grade from trips. Makes grade from trips number) a b old new status) (sym c.status_after.ensures)
     (concludes-line number held is g.L.Link.gives later old new bytes a b c.write_line.result
     (over-of number held is g.L.Link.gives later old new bytes c.new-report.result Ok c.replay.result c.new-report.ensures

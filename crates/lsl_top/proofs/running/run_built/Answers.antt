@@ -2,6 +2,7 @@ use Rattle.std.proofs.Common.{List, sym, ap, subst}
 use Rattle.lsl_ports.specs.Trips.{Trip}
 use Rattle.lsl_region.specs.Worlds.{World}
 use Rattle.lsl_top.specs.Answers.{Answer, Comes, Grade, Shows}
+use Rattle.lsl_top.specs.Fair.{IsFairIn}
 use Rattle.lsl_top.specs.Froms.{IsFromIn}
 use Rattle.lsl_top.specs.Meant.{mode_of}
 use Rattle.lsl_top.specs.Plays.{Mode, Viewing}
@@ -15,7 +16,8 @@ returns-in-Whole g c = λ programs run.
     let file = c.args.file.now in
     let text = c.args.text.now in
     let cards = c.args.cards in
-    subst (λ (mode : Mode). Concludes (gives_in mode g.L.Link.gives) (IsFromIn mode units programs file cards text)
+    subst (λ (mode : Mode). Concludes (gives_in mode g.L.Link.gives) (IsFairIn mode)
+    (IsFromIn mode units programs file cards text)
     (λ grade from trips. Comes grade from trips mode units programs file cards text)
     (log (g.K.Sink.sunk c.args.sink.now) (g.K.Sink.faults c.args.sink.now))
     (log (g.K.Sink.sunk c.run_started.new.sink) (g.K.Sink.faults c.run_started.new.sink))
@@ -23,13 +25,29 @@ returns-in-Whole g c = λ programs run.
     (wire (g.L.Link.trips c.run_started.new.link) (g.L.Link.faults c.run_started.new.link)) c.run_started.result)
     (sym (ap mode_of c.in-Whole.is)) (c.run_started.ensures programs run)
 
+pub returns-in-Handing : goal.returns-in-Handing
+returns-in-Handing g c = λ programs run.
+    let units = c.args.units in
+    let file = c.args.file.now in
+    let text = c.args.text.now in
+    let cards = c.args.cards in
+    subst (λ (mode : Mode). Concludes (gives_in mode g.L.Link.gives) (IsFairIn mode)
+    (IsFromIn mode units programs file cards text)
+    (λ grade from trips. Comes grade from trips mode units programs file cards text)
+    (log (g.K.Sink.sunk c.args.sink.now) (g.K.Sink.faults c.args.sink.now))
+    (log (g.K.Sink.sunk c.run_lossy.new.sink) (g.K.Sink.faults c.run_lossy.new.sink))
+    (wire (g.L.Link.trips c.args.link.now) (g.L.Link.faults c.args.link.now))
+    (wire (g.L.Link.trips c.run_lossy.new.link) (g.L.Link.faults c.run_lossy.new.link)) c.run_lossy.result)
+    (sym (ap mode_of c.in-Handing.is)) (c.run_lossy.ensures programs run)
+
 pub returns-in-Freezing : goal.returns-in-Freezing
 returns-in-Freezing g c = λ programs run.
     let units = c.args.units in
     let file = c.args.file.now in
     let text = c.args.text.now in
     let cards = c.args.cards in
-    subst (λ (mode : Mode). Concludes (gives_in mode g.L.Link.gives) (IsFromIn mode units programs file cards text)
+    subst (λ (mode : Mode). Concludes (gives_in mode g.L.Link.gives) (IsFairIn mode)
+    (IsFromIn mode units programs file cards text)
     (λ grade from trips. Comes grade from trips mode units programs file cards text)
     (log (g.K.Sink.sunk c.args.sink.now) (g.K.Sink.faults c.args.sink.now))
     (log (g.K.Sink.sunk c.run_started-in-Freezing.new.sink) (g.K.Sink.faults c.run_started-in-Freezing.new.sink))
@@ -44,7 +62,8 @@ returns-in-Thawing g c = λ programs run.
     let file = c.args.file.now in
     let text = c.args.text.now in
     let cards = c.args.cards in
-    subst (λ (mode : Mode). Concludes (gives_in mode g.L.Link.gives) (IsFromIn mode units programs file cards text)
+    subst (λ (mode : Mode). Concludes (gives_in mode g.L.Link.gives) (IsFairIn mode)
+    (IsFromIn mode units programs file cards text)
     (λ grade from trips. Comes grade from trips mode units programs file cards text)
     (log (g.K.Sink.sunk c.args.sink.now) (g.K.Sink.faults c.args.sink.now))
     (log (g.K.Sink.sunk c.run_thawed.new.sink) (g.K.Sink.faults c.run_thawed.new.sink))
@@ -65,10 +84,11 @@ returns-in-Viewing g c = λ programs run.
     let IsThis : Answer → Type 0 = λ answer. Shows units file name text answer in
     let IsAll : Grade → World → List Trip → Answer → Type 0 =
     λ grade from trips. Comes grade from trips (Viewing name) units programs file cards text in
-    subst (λ (mode : Mode). Concludes (gives_in mode g.L.Link.gives) (IsFromIn mode units programs file cards text)
+    subst (λ (mode : Mode). Concludes (gives_in mode g.L.Link.gives) (IsFairIn mode)
+    (IsFromIn mode units programs file cards text)
     (λ grade from trips. Comes grade from trips mode units programs file cards text) old new link link
     c.show_frozen.result)
     (sym (ap mode_of c.in-Viewing.is))
-    (concludes-finished (gives_in (Viewing name) g.L.Link.gives) IsThis
+    (concludes-finished (gives_in (Viewing name) g.L.Link.gives) (IsFairIn (Viewing name)) IsThis
     (IsFromIn (Viewing name) units programs file cards text) IsAll old new link
     c.show_frozen.result (λ grade from trips answer is. is) c.show_frozen.ensures)
