@@ -12,6 +12,7 @@ USAGE = """\
 usage: lsl once FILE                runs a script, and prints its journal
        lsl replay WORLD             plays a world file, and prints its journal
                                     both: with --show readably, with --html PAGE as a page with a timeline
+       lsl replay --lossy WORLD     the same, where objects cross by numbered notes
        lsl freeze WORLD             plays a world file, and then prints the world as one line
        lsl thaw FROZEN WORLD        goes on from what 'freeze' printed, with the steps of a world file
        lsl view FROZEN WORLD        shows where the scripts of what 'freeze' printed stand
@@ -46,7 +47,7 @@ class Options:
     """A command of the program: its word, its file or number, the frozen file, and how its journal is shown."""
 
     def __init__(self, words):
-        self.command, self.show, self.html, names = words[0], False, None, []
+        self.command, self.show, self.html, self.is_lossy, names = words[0], False, None, False, []
         if self.command not in COMMANDS:
             raise Bad(f"'{self.command}' is no command")
         rest = iter(words[1:])
@@ -57,6 +58,8 @@ class Options:
                 self.html = next(rest, None)
                 if self.html is None:
                     raise Bad("'--html' takes the name of the page that is to be written")
+            elif word == "--lossy" and self.command == "replay" and not self.is_lossy:
+                self.is_lossy = True
             elif word.startswith("-"):
                 raise Bad(f"'{word}' is no option of it")
             else:
@@ -69,6 +72,11 @@ class Options:
         if self.command == "make" and not is_number(names[0]):
             raise Bad("'make' takes a number from 1 to 1000000, without leading zeros")
         self.name = names[0]
+
+    @property
+    def words(self):
+        """The words of the program's command, before its files."""
+        return [self.command, "--lossy"] if self.is_lossy else [self.command]
 
     @property
     def is_world(self):
@@ -132,7 +140,7 @@ def carry(binary, command):
     follower, first = standing.Follower(), b""
     with tempfile.TemporaryDirectory(prefix="lsl-") as room, tempfile.TemporaryFile() as notes:
         handed = handed_name(command, room)
-        words = [command.command, *([command.frozen] if command.frozen is not None else []), handed]
+        words = [*command.words, *([command.frozen] if command.frozen is not None else []), handed]
         with subprocess.Popen([binary, *words], stdout=subprocess.PIPE, stderr=notes) as running:
             for piece in iter(lambda: os.read(running.stdout.fileno(), 65536), b""):
                 first = (first + piece)[:4096]
@@ -202,7 +210,7 @@ def tell_standing(binary, command, follower):
 
 def show(binary, command):
     """Runs a command, and shows its journal readably or as a page."""
-    ran = program.run(binary, [command.command, command.name])
+    ran = program.run(binary, [*command.words, command.name])
     if ran.status:
         hand_on(ran.output)
         tell(command, ran.status, ran.output, ran.notes)

@@ -19,7 +19,7 @@ STAYING = "default { state_entry() { integer left = 40000; while (left) --left; 
 # The memory of a proof, in kilobytes.
 PROOF_NEEDS = 4000000
 # What proving the program takes at first, in processor minutes.
-PROCESSOR_MINUTES = 90
+PROCESSOR_MINUTES = 120
 
 
 def say(text):
