@@ -23,7 +23,7 @@ usage: lsl once FILE                runs a script, and prints its journal
        lsl --help
 
 Write ./-x for a file whose name begins with '-'. The first call proves and builds the program, and says for how
-long: about half an hour on four processors. Later calls start at once, until a source of the program changes.
+long: about an hour on four processors. Later calls start at once, until a source of the program changes.
 'tools/explain FILE' tells a script's first fault in words, as 'lsl check FILE' does on a terminal."""
 COMMANDS = ("once", "replay", "freeze", "thaw", "view", "check", "make")
 OF_WORLDS = ("replay", "freeze", "thaw", "view")

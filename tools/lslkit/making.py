@@ -18,8 +18,10 @@ TRIED = in_top("out", "lsl-tried")
 STAYING = "default { state_entry() { integer left = 40000; while (left) --left; } }\n"
 # The memory of a proof, in kilobytes.
 PROOF_NEEDS = 4000000
-# What proving the program takes at first, in processor minutes.
+# What proving the program takes at first, in processor minutes, and what no further processor makes shorter: the
+# crates that stand one on another.
 PROCESSOR_MINUTES = 120
+CHAIN_MINUTES = 60
 
 
 def say(text):
@@ -85,7 +87,7 @@ def make_proved():
         return False
     jobs, crates = job_count(), sources.crates_of(PROGRAM)
     say(f"proving and building the program: {len(crates)} crates, {jobs} at a time")
-    say(f"for some {max(PROCESSOR_MINUTES // jobs, 25)} minutes the first time, and later what changed")
+    say(f"for some {max(PROCESSOR_MINUTES // jobs, CHAIN_MINUTES)} minutes the first time, and later what changed")
     folder, progress = in_top("crates", PROGRAM), Progress(crates)
     words = ["rt", "all", "check", "--jobs", str(jobs)]
     how = {"cwd": folder, "stdin": subprocess.DEVNULL, "stdout": subprocess.PIPE, "stderr": subprocess.STDOUT}
