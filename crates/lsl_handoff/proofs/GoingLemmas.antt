@@ -10,14 +10,17 @@ use Rattle.lsl_handoff.specs.declared.faults.DepartFault.{DepartFault}
 use Rattle.lsl_handoff.specs.declared.faults.DepartFault.TheVariants.{NoMemory}
 use Rattle.lsl_handoff.specs.declared.handover.Back.{Back}
 use Rattle.lsl_handoff.specs.declared.note.Note.{Note}
+use Rattle.lsl_handoff.specs.declared.note.NoteKind.TheVariants.{Offer}
 use Rattle.lsl_handoff.specs.Cards.{cause, depart_fault, is_live}
 use Rattle.lsl_handoff.specs.DriveLaws.{departure}
 use Rattle.lsl_handoff.specs.Drives.{HasWay, Moment, asks, hears, rested}
 use Rattle.lsl_handoff.specs.Entries.{MayRest, Rests}
 use Rattle.lsl_handoff.specs.Fields.{HasCard, card_at}
 use Rattle.lsl_handoff.specs.Handovers.{Drives, HasCounts, IsCut, IsGivenOf, IsHandedOver, IsHeard, IsOneTrip, IsOneTripOrNone, IsTaken, IsToldWith, IsntHandedOver, given_by, landed_unless, note_of}
-use Rattle.lsl_handoff.specs.NoteBytes.{note_bytes}
+use Rattle.lsl_handoff.specs.NoteBytes.{IsNote, note_bytes}
 use Rattle.lsl_handoff.specs.NoteLaws.{AreCounts}
+use Rattle.lsl_handoff.specs.Notes.{offer_of}
+use Rattle.lsl_handoff.proofs.AskedLemmas.{Asks, asked-is, asks-first, asks-on, heard-note}
 use Rattle.lsl_handoff.proofs.EntryLemmas.{handed-rests}
 use Rattle.lsl_handoff.proofs.GivenLemmas.{given-on}
 use Rattle.lsl_handoff.proofs.HandoverLemmas.{Onward, counts-long, drives-cut, drives-cut-off, drives-on, heard-there, left, less-hears, onward-departed, onward-hears, rested-long}
@@ -48,6 +51,7 @@ pub record IsUnderWay {T : Type 0} (gives : List ℕ → Option (List ℕ) → T
   pub drives : Drives objects regions (IsTaken stands) way (departure old way parcel) trips m
   pub given_is : IsGivenOf stands m.landed given
   pub onward : Onward way old m.field
+  pub asks_own : Asks objects regions way parcel m
 
 -- a drive has its way
 module _ (way drive : Way) (same : drive ≡ way) (m : Moment) where
@@ -107,6 +111,7 @@ module _ {T : Type 0} (gives : List ℕ → Option (List ℕ) → Type 0) (objec
     drives = sym is;
     given_is = subst (λ (n : Moment). IsGivenOf stands n.landed None) (sym is) tt;
     onward = subst (λ (n : Moment). Onward way old n.field) (sym is) (onward-departed way old has parcel fine);
+    asks_own = subst (Asks objects regions way parcel) (sym is) (asks-first objects regions way parcel old has fine);
   }
 
   module _ (fine : depart_fault (card_at old way.object way.from) way.from way.to ≡ None)
@@ -122,6 +127,14 @@ module _ {T : Type 0} (gives : List ℕ → Option (List ℕ) → Type 0) (objec
     pub goes-cut : (new : List (List Card)) → Goes new before link (Err NoMemory)
     goes-cut new = cut-as link now.trips new now.went
         (drives-cut objects regions (IsTaken stands) way now.trips (departure old way parcel) m now.drives)
+
+    -- the note that is asked is one of the field, and an offer is of the parcel
+    pub asked-note : (note : Note) → asks way m ≡ Some note → note.trip < 2 ^ 64 → HasCounts objects regions old
+        → HasWay old way
+        → IsNote objects regions note
+        × (note.kind ≡ Offer → note ≡ offer_of way.object note.trip way.from way.to parcel)
+    asked-note note asked small counts has =
+        asked-is objects regions way parcel old has m now.onward now.asks_own counts note small asked
 
     module _ (then : Option (List Trip)) (note : Note) (asked : asks way m ≡ Some note) where
       -- on the way of a note
@@ -165,6 +178,9 @@ module _ {T : Type 0} (gives : List ℕ → Option (List ℕ) → Type 0) (objec
                 given_is = given-on stands way m given now.given_is next parts back told heard is;
                 onward = subst (λ (n : Moment). Onward way old n.field) (sym heard)
                     (onward-hears way old has m now.onward (note_of back) there);
+                asks_own = subst (Asks objects regions way parcel) (sym heard)
+                    (asks-on objects regions way parcel old has m now.onward now.asks_own (note_of back)
+                    (heard-note objects regions (IsTaken stands) bytes (note_of back) as_note) there);
               }
 
     module _ (new : List (List Card)) (rests : new ≡ rested m.field way) where

@@ -192,7 +192,7 @@ module _ (way : Way) (start : List (List Card)) (has : HasWay start way) where
         (goes-delivered way.to note.kind (card_at field note.object note.to) note) on.goes;
   }
 
-  onward-received : (field : List (List Card)) → Onward way start field → (back : Option Note)
+  pub onward-received : (field : List (List Card)) → Onward way start field → (back : Option Note)
       → IfSome back (λ n. HasCard field n.object n.to) → Onward way start (received field back).0
   onward-received field on None there = on
   onward-received field on (Some note) there = onward-delivered field on note there

@@ -1,5 +1,6 @@
 pub mod AnswerLemmas
 pub mod ArrivalLemmas
+pub mod AskedLemmas
 pub mod BeginningLemmas
 pub mod DeliveryLemmas
 pub mod DriveLemmas

@@ -1,27 +1,29 @@
 //! An object is handed over: the notes of its drive go over a link as bytes.
 
-ghost use Rattle.std.specs.Prelude.{◌≡◌, true, ◌<◌, ◌≤◌, ◌^◌, [], List, ℕ, Option, Some, None, length, option_map, IfOk, IfSome, IsSome, MatchOption, MatchResult, OnErr, OnOk};
+ghost use Rattle.std.specs.Prelude.{◌≡◌, ◌<◌, ◌≤◌, ◌^◌, [], List, ℕ, Option, Some, None, length, option_map, IfOk, IfSome, IsSome, MatchOption, MatchResult, OnErr, OnOk};
 ghost use Rattle.lsl_ports.specs.Trips.{Trip, Went};
 ghost use Rattle.lsl_handoff.specs.declared.note.Note.{Note as ANote};
+ghost use Rattle.lsl_handoff.specs.declared.note.NoteKind.TheVariants.{Offer};
 ghost use Rattle.lsl_handoff.specs.Cards.{is_live};
 ghost use Rattle.lsl_handoff.specs.Drives.{HasWay, asks, hears, moment};
 ghost use Rattle.lsl_handoff.specs.Fields.{HasCard, card_at};
 ghost use Rattle.lsl_handoff.specs.Entries.{MayRest, Rests};
 ghost use Rattle.lsl_handoff.specs.Handovers.{HasCounts, IsGivenOf, IsHandedOver, IsHeard, IsOneTrip, IsOneTripOrNone, IsTaken, IsToldOf, IsToldWith, IsntHandedOver, Passes, given_by, landed_unless, note_of};
 ghost use Rattle.lsl_handoff.specs.NoteBytes.{IsNote, note_bytes};
+ghost use Rattle.lsl_handoff.specs.Notes.{offer_of};
 
 use crate::drive::{Drive, Way};
 use crate::faults::DepartFault;
 use crate::field::Field;
 use crate::note::{Note, NoteKind};
 use crate::parcel::Parcel;
-use crate::reader::read_again;
+use crate::reader::read_note;
 use crate::writer::write_note;
 use lsl_ports::{Link, LinkFault};
 use lsl_text::{NoMemory, Refusal};
 use std::alloc::{AllocError, Global};
 
-/// How the parcels of offers are read.
+/// For what the parcels of offers stand: they are read, but those of own offers needn't be.
 pub trait Parcels {
     /// What a parcel stands for.
     type Parts: Drop;
@@ -32,11 +34,19 @@ pub trait Parcels {
 
     ghost stands: { Self → ANote → Self.Parts → Type 0 };
 
+    ghost is_own: { Self → ANote → Type 0 };
+
     /// What the parcel of an offer stands for; none where it stands for nothing, so that the offer may not be taken.
     fn read(&self, offer: &Note) -> Result<Option<Self::Parts>, NoMemory>
         requires { IsNote (objects self.now) (regions self.now) offer.now }
         ensures { IfOk result (λ parts. MatchOption parts ((p : Self.Parts) → stands self.now offer.now p → ⊥)
             (stands self.now offer.now)) };
+
+    /// What the parcel of an own offer stands for.
+    fn own(&self, offer: &Note) -> Result<Self::Parts, NoMemory>
+        requires note { IsNote (objects self.now) (regions self.now) offer.now }
+        requires own { is_own self.now offer.now }
+        ensures { IfOk result (stands self.now offer.now) };
 }
 
 /// What came back: a note, and what its parcel stands for, if it is an offer.
@@ -48,8 +58,9 @@ pub struct Back<T: Drop> {
 
 /// The object departs as this parcel, and is driven over the link until it rests. Gives what the offer stands for that
 /// made it live in the other region, if one did and the object isn't live again where it was. What comes back and can't
-/// be read as a note is lost, and so is an offer whose parcel stands for nothing. At most 32 notes are carried. After
-/// want of memory the field is somewhere on the way; after another fault it is unchanged, and nothing was carried.
+/// be read as a note is lost, and so is an offer whose parcel stands for nothing; a note that comes back as it was sent
+/// isn't read. At most 32 notes are carried. After want of memory the field is somewhere on the way; after another fault
+/// it is unchanged, and nothing was carried.
 pub fn hand_over<L: Link, P: Parcels>(
     alloc: Global,
     field: &mut Field,
@@ -64,6 +75,7 @@ pub fn hand_over<L: Link, P: Parcels>(
     requires counts { HasCounts objects regions field.old }
     requires short { length parcel < 2 ^ 63 }
     requires parcels { (P.objects parcels.now ≡ objects) × (P.regions parcels.now ≡ regions) }
+    requires own { (trip : ℕ) → P.is_own parcels.now (offer_of way.object trip way.from way.to parcel) }
     ensures goes { (trips : List Trip) × Went L.gives (L.trips link.old) (L.trips link.new) trips
         × MatchResult result
         (λ given. (landed : Option ANote)
@@ -79,7 +91,8 @@ pub fn hand_over<L: Link, P: Parcels>(
     let mut drive = Drive::depart(field, way, parcel)?;
     let mut given = None;
     'notes: while let Some(note) = drive.asks(field)? {
-        let back = carry(alloc, &note, objects, regions, parcels, link)?;
+        trip_fits(note.trip);
+        let back = carry(alloc, note, objects, regions, parcels, link)?;
         given = hear(&mut drive, field, back, given)?;
     }
     drive.rest(field)?;
@@ -128,32 +141,53 @@ fn came<T: Drop>(given: Option<T>, field: &Field, way: Way) -> Option<T>
     }
 }
 
+// Each trip has a number that fits its field.
+fn trip_fits(trip: u64)
+    ensures { trip < 2 ^ 64 }
+{}
+
 // Carries a note, and gives what came back.
 fn carry<L: Link, P: Parcels>(
     alloc: Global,
-    note: &Note,
+    note: Note,
     objects: u32,
     regions: u32,
     parcels: &P,
     link: &mut L,
 ) -> Result<Option<Back<P::Parts>>, NoMemory>
-    requires { (P.objects parcels.now ≡ objects) × (P.regions parcels.now ≡ regions) }
+    requires parcels { (P.objects parcels.now ≡ objects) × (P.regions parcels.now ≡ regions) }
+    requires note { IsNote objects regions note }
+    requires own { note.kind ≡ Offer → P.is_own parcels.now note }
     ensures went { (trips : List Trip) × Went L.gives (L.trips link.old) (L.trips link.new) trips
         × MatchResult result
-        (λ back. (bytes : Option (List ℕ)) × IsOneTrip trips (note_bytes note.now) bytes
+        (λ back. (bytes : Option (List ℕ)) × IsOneTrip trips (note_bytes note) bytes
         × IsHeard objects regions (IsTaken (P.stands parcels.now)) bytes (note_of back)
         × IsToldWith (P.stands parcels.now) back)
-        (λ _. IsOneTripOrNone trips (note_bytes note.now)) }
+        (λ _. IsOneTripOrNone trips (note_bytes note)) }
     ensures counted { L.faults link.old ≤ L.faults link.new }
 {
-    let bytes = write_note(alloc, note)?;
-    match carried(alloc, bytes.as_slice(), link)? {
-        Some(back) => {
-            let is_own = back.as_slice() == bytes.as_slice();
-            read_back(alloc, back.as_slice(), is_own, objects, regions, parcels)
-        }
-        None => Ok(None),
+    let bytes = write_note(alloc, &note)?;
+    let Some(back) = carried(alloc, bytes.as_slice(), link)? else {
+        return Ok(None);
+    };
+    if back.as_slice() == bytes.as_slice() {
+        Ok(Some(as_sent(note, parcels)?))
+    } else {
+        read_back(alloc, back.as_slice(), objects, regions, parcels)
     }
+}
+
+// A note that came back as it was sent.
+fn as_sent<P: Parcels>(note: Note, parcels: &P) -> Result<Back<P::Parts>, NoMemory>
+    requires note { IsNote (P.objects parcels.now) (P.regions parcels.now) note }
+    requires own { note.kind ≡ Offer → P.is_own parcels.now note }
+    ensures { IfOk result (λ back. (back.note ≡ note) × IsToldOf (P.stands parcels.now) note.kind note back.parts) }
+{
+    let parts = match note.kind {
+        NoteKind::Offer => Some(parcels.own(&note)?),
+        NoteKind::Taken | NoteKind::Cancel | NoteKind::Refused => None,
+    };
+    Ok(Back { note, parts })
 }
 
 // Hands bytes over, and gives those that came back, or none where the link failed.
@@ -173,18 +207,16 @@ fn carried<L: Link>(alloc: Global, sent: &[u8], link: &mut L) -> Result<Option<V
 fn read_back<P: Parcels>(
     alloc: Global,
     bytes: &[u8],
-    is_own: bool,
     objects: u32,
     regions: u32,
     parcels: &P,
 ) -> Result<Option<Back<P::Parts>>, NoMemory>
-    requires parcels { (P.objects parcels.now ≡ objects) × (P.regions parcels.now ≡ regions) }
-    requires own { is_own ≡ true → (note : ANote) × (bytes.now ≡ note_bytes note) }
+    requires { (P.objects parcels.now ≡ objects) × (P.regions parcels.now ≡ regions) }
     ensures { IfOk result (λ back.
         IsHeard objects regions (IsTaken (P.stands parcels.now)) (Some bytes.now) (note_of back)
         × IsToldWith (P.stands parcels.now) back) }
 {
-    match read_again(alloc, bytes, is_own, objects, regions) {
+    match read_note(alloc, bytes, objects, regions) {
         Ok(note) => pass(note, parcels),
         Err(Refusal::Fault(_)) => Ok(None),
         Err(Refusal::NoMemory) => Err(AllocError),

@@ -5,7 +5,7 @@ ghost use Rattle.lsl_text.specs.declared.Refusal.TheVariants.{Fault};
 ghost use Rattle.lsl_handoff.specs.declared.faults.NoteFault.{NoteFault as AFault};
 ghost use Rattle.lsl_handoff.specs.declared.faults.NoteFault.TheVariants.{Body};
 ghost use Rattle.lsl_handoff.specs.declared.note.Note.{Note as ANote};
-ghost use Rattle.lsl_handoff.specs.NoteBytes.{IsNoteOf, note_bytes};
+ghost use Rattle.lsl_handoff.specs.NoteBytes.{IsNoteOf};
 ghost use Rattle.lsl_handoff.specs.NoteFaults.{GivesThat, IsRefusedBy, RefusesWith, end_fault, first_fault, head_fault, is_kind, is_one_of, kind_of, u32_at};
 ghost use Rattle.lsl_handoff.specs.Reading.{head_in, note_in, parcel_in};
 
@@ -45,38 +45,21 @@ pub fn read_note(
     ensures first { IfErr result (IsRefusedBy (λ fault. first_fault bytes.now objects regions ≡ Some fault)) }
     ensures only { (fault : AFault) → first_fault bytes.now objects regions ≡ Some fault → RefusesWith result fault }
 {
-    parse(alloc, bytes, false, objects, regions)
-}
-
-/// The same of bytes that may be of a note that was written here: then they aren't walked for their digest.
-pub(crate) fn read_again(
-    alloc: Global,
-    bytes: &[u8],
-    is_own: bool,
-    objects: u32,
-    regions: u32,
-) -> Result<Note, Refusal<NoteFault>>
-    requires { is_own ≡ true → (note : ANote) × (bytes.now ≡ note_bytes note) }
-    ensures found { IfOk result (λ note. IsNoteOf objects regions bytes.now note) }
-    ensures every { (note : ANote) → IsNoteOf objects regions bytes.now note → GivesThat result note }
-{
-    parse(alloc, bytes, is_own, objects, regions)
+    parse(alloc, bytes, objects, regions)
 }
 
 // What stands in the bytes, where nothing is wrong with them.
 fn parse(
     alloc: Global,
     bytes: &[u8],
-    is_own: bool,
     objects: u32,
     regions: u32,
 ) -> Result<Note, Refusal<NoteFault>>
-    requires { is_own ≡ true → (note : ANote) × (bytes.now ≡ note_bytes note) }
     ensures { MatchResult result
         (λ note. (first_fault bytes.now objects regions ≡ None) × (note ≡ note_in bytes.now))
         (IsRefusedBy (λ fault. first_fault bytes.now objects regions ≡ Some fault)) }
 {
-    let fields = open(bytes, is_own)?;
+    let fields = open(bytes)?;
     let head = read_head(fields, objects, regions)?;
     let parcel = read_parcel(alloc, fields, head.kind)?;
     Ok(Note {

@@ -1,13 +1,11 @@
 //! What is around the fields of a note: its size, and the digest of all before it.
 
-ghost use Rattle.std.specs.Prelude.{◌≡◌, ◌+◌, ◌≤◌, length, true, Option, Some, MatchResult};
+ghost use Rattle.std.specs.Prelude.{◌≡◌, ◌+◌, ◌≤◌, length, Option, Some, MatchResult};
 ghost use Rattle.std.specs.Str.{bytes_eq};
 ghost use Rattle.sha2.specs.Sha256.{sha256};
 ghost use Rattle.lsl_text.specs.declared.Refusal.TheVariants.{Fault};
 ghost use Rattle.lsl_handoff.specs.declared.faults.NoteFault.{NoteFault as AFault};
 ghost use Rattle.lsl_handoff.specs.declared.faults.NoteFault.TheVariants.{Size};
-ghost use Rattle.lsl_handoff.specs.declared.note.Note.{Note as ANote};
-ghost use Rattle.lsl_handoff.specs.NoteBytes.{note_bytes};
 ghost use Rattle.lsl_handoff.specs.NoteFaults.{IsRefusedBy, covered, outer_fault, part_at};
 
 use crate::faults::NoteFault;
@@ -23,18 +21,13 @@ const SIZE_PLACE: usize = 6;
 /// How many bytes the digest has.
 pub const DIGEST_BYTES: usize = 32;
 
-/// The bytes before the digest, where the size is that of the bytes and the digest is theirs. Those of a note that was
-/// written here aren't tested.
-pub fn open(bytes: &[u8], is_own: bool) -> Result<&[u8], Refusal<NoteFault>>
-    requires { is_own ≡ true → (note : ANote) × (bytes.now ≡ note_bytes note) }
+/// The bytes before the digest, where the size is that of the bytes and the digest is theirs.
+pub fn open(bytes: &[u8]) -> Result<&[u8], Refusal<NoteFault>>
     ensures { MatchResult result
         (λ fields. (fields.now ≡ covered bytes.now) × (67 ≤ length bytes.now)
         × ((next : Option AFault) → outer_fault bytes.now next ≡ next))
         (IsRefusedBy (λ fault. (next : Option AFault) → outer_fault bytes.now next ≡ Some fault)) }
 {
-    if is_own {
-        return Ok(fields_of(bytes));
-    }
     if bytes.len() < LEAST_BYTES {
         return Err(other_size(bytes, LEAST_BYTES as u64));
     }
@@ -49,15 +42,6 @@ pub fn open(bytes: &[u8], is_own: bool) -> Result<&[u8], Refusal<NoteFault>>
         return Err(Refusal::Fault(NoteFault::Digest { found, wanted }));
     }
     Ok(&bytes[..end])
-}
-
-// The bytes of a note before its digest.
-fn fields_of(bytes: &[u8]) -> &[u8]
-    requires { (note : ANote) × (bytes.now ≡ note_bytes note) }
-    ensures { (result.now ≡ covered bytes.now) × (67 ≤ length bytes.now)
-        × ((next : Option AFault) → outer_fault bytes.now next ≡ next) }
-{
-    &bytes[..bytes.len() - DIGEST_BYTES]
 }
 
 // The bytes have another size than this.

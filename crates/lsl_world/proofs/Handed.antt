@@ -23,6 +23,7 @@ use Rattle.lsl_handoff.specs.Drives.{HasWay}
 use Rattle.lsl_handoff.specs.Entries.{AreAllPast, AreCarried, MayRest, Rests, arrives, entries_by}
 use Rattle.lsl_handoff.specs.Fields.{IsOneOf, card_at}
 use Rattle.lsl_handoff.specs.Handovers.{HasCounts, IsCut, IsGivenOf, IsHandedOver, IsTaken}
+use Rattle.lsl_handoff.specs.Notes.{offer_of}
 use Rattle.lsl_handoff.proofs.HandoverLemmas.{drives-cut}
 use Rattle.lsl_image.specs.declared.parts.ObjectParts.{ObjectParts}
 use Rattle.lsl_image.specs.Images.{ObjectImage}
@@ -42,7 +43,7 @@ use Rattle.lsl_region.specs.Worlds.{World as SourceWorld, no_object, object_at}
 use Rattle.lsl_region.proofs.Journeys.{contents-is}
 use Rattle.lsl_region.proofs.Passages.{bytes-differ}
 use Rattle.lsl_world.specs.declared.world.World.{World}
-use Rattle.lsl_world.specs.Handing.{IsImageFrom}
+use Rattle.lsl_world.specs.Handing.{IsImageFrom, IsOwnImage}
 use Rattle.lsl_world.specs.Kept.{region_of, regions_of}
 use Rattle.lsl_world.specs.Orders.{AreAtMost, AreInOrder, DrivesTo, Hands, IsDriven, IsDrivenPartly, SendsIf, SendsNotes, hand_on, parcel_of, place_in, way_to}
 use Rattle.lsl_world.specs.Programs.{rules_of}
@@ -617,6 +618,21 @@ module _ (codes : List Code) (regions : List (List ℕ)) (grid : Contents) (way 
         (subst (λ (q : ℕ). IsCut k q (IsTaken (IsImageFrom codes grid regions)) way (departure old way parcel) trips) count
         (subst (λ (o : ℕ). IsCut o m (IsTaken (IsImageFrom codes grid regions)) way (departure old way parcel) trips)
         objects cut))
+
+-- each offer of an object's image, as it is, is an own one
+pub own-image : (codes : List Code) (regions : List (List ℕ)) (grid : Contents) (way : Way) (parcel : List ℕ)
+    → name_in regions way.from ≡ region_in grid (way.object - 1) → parcel ≡ image_in codes grid (way.object - 1)
+    → IsSent codes grid (way.object - 1)
+    → CanArrive codes grid (way.object - 1) (parts_of_object grid (way.object - 1)) → (trip : ℕ)
+    → IsOwnImage codes grid regions (offer_of way.object trip way.from way.to parcel)
+own-image codes regions grid way parcel here same sent fits trip =
+    let parts = parts_of_object grid (way.object - 1) in
+    record {
+      image = subst (λ (s : List ℕ). ObjectImage s (shape_of parts) codes parts parcel) (sym here)
+          (subst (λ (p : List ℕ). ObjectImage (region_in grid (way.object - 1)) (shape_of parts) codes parts p) (sym same)
+          sent);
+      fits = fits;
+    }
 
 -- both regions have a card of the object
 pub has-way : (n m : ℕ) (cards : List (List Card)) (way : Way) → HasCounts n m cards → IsOneOf n way.object

@@ -71,10 +71,11 @@ pub one-region : (names : List (List ℕ)) (a b : List ℕ) → IsNamed names a 
 one-region names a b here there same =
     sym (name-number names a here) ∙ ap (name_in names) same ∙ name-number names b there
 
--- the numbers of a way are there
-pub record IsThere (names : List (List ℕ)) (object : ℕ) (way : Way) : Type 0 where
+-- the numbers of a way are there, and it leads from here
+pub record IsThere (names : List (List ℕ)) (object : ℕ) (here : List ℕ) (way : Way) : Type 0 where
   pub object_is : way.object ≡ object
   pub from : IsOneOf (length names) way.from
+  pub from_is : name_in names way.from ≡ here
   pub to : IsOneOf (length names) way.to
 
 one-found : (names : List (List ℕ)) (region : List ℕ) (n : ℕ) → number_of names region ≡ Some n
@@ -82,19 +83,20 @@ one-found : (names : List (List ℕ)) (region : List ℕ) (n : ℕ) → number_o
 one-found names region n e = let at = found-at 1 names region n e in (at.low, omega (arith, at.high))
 
 pub way-there : (names : List (List ℕ)) (object : ℕ) (here there : List ℕ) (way : Way)
-    → way_between object (number_of names here) (number_of names there) ≡ Some way → IsThere names object way
+    → way_between object (number_of names here) (number_of names there) ≡ Some way → IsThere names object here way
 way-there names object here there way e = go (number_of names here) (number_of names there) refl refl e where
   go : (a b : Option ℕ) → number_of names here ≡ a → number_of names there ≡ b → way_between object a b ≡ Some way
-      → IsThere names object way
+      → IsThere names object here way
   go (Some x) (Some y) p q e = by (nat_eq x y) e where
     by : (t : Bool) → (if t then None else Some (record { object = object; from = x; to = y })) ≡ Some way
-        → IsThere names object way
+        → IsThere names object here way
     by true e = absurd (cc)
     by false e =
         let is : record { object = object; from = x; to = y } ≡ way = cc in
         record {
           object_is = sym (ap (λ (w : Way). w.object) is);
           from = subst (λ (w : Way). IsOneOf (length names) w.from) is (one-found names here x p);
+          from_is = subst (λ (w : Way). name_in names w.from ≡ here) is (found-at 1 names here x p).there;
           to = subst (λ (w : Way). IsOneOf (length names) w.to) is (one-found names there y q);
         }
   go (Some x) None p q e = absurd (cc)

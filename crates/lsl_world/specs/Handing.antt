@@ -21,6 +21,11 @@ pub record IsImageFrom (codes : List Code) (grid : Contents) (regions : List (Li
       offer.parcel
   pub fits : CanArrive codes grid (offer.object - 1) parts
 
+-- an own offer: its parcel stands for its object as it is
+abbrev pub IsOwnImage : List Code → Contents → List (List ℕ) → Note → Type 0
+IsOwnImage codes grid regions offer =
+    IsImageFrom codes grid regions offer (parts_of_object grid (offer.object - 1))
+
 -- objects aren't handed over by notes yet, and their regions are named
 pub record IsBegun (world : World) : Type 0 where
   pub plain : world.cards ≡ None

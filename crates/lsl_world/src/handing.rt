@@ -17,7 +17,7 @@ ghost use Rattle.lsl_world.specs.Handing.{IsImageFrom};
 ghost use Rattle.lsl_world.specs.Kept.{regions_of};
 ghost use Rattle.lsl_world.specs.Orders.{AreInOrder, DrivesTo, Hands, SendsOf};
 ghost use Rattle.lsl_world.specs.Programs.{rules_of};
-ghost use Rattle.lsl_world.specs.Regions.{IsNamed};
+ghost use Rattle.lsl_world.specs.Regions.{IsNamed, name_in};
 ghost use Rattle.lsl_world.specs.Sizes.{HasNumber};
 ghost use Rattle.lsl_world.specs.Sound.{IsSound};
 ghost use Rattle.lsl_world.specs.Stands.{IsOf, size_of};
@@ -46,7 +46,7 @@ struct Images<'a> {
 
 impl Parcels for Images<'_> {
     ghost use Rattle.std.specs.Prelude.{length};
-    ghost use Rattle.lsl_world.specs.Handing.{IsImageFrom};
+    ghost use Rattle.lsl_world.specs.Handing.{IsImageFrom, IsOwnImage};
 
     type Parts = ObjectParts;
 
@@ -56,6 +56,8 @@ impl Parcels for Images<'_> {
 
     ghost stands = { λ s offer parts. IsImageFrom s.units.now s.grid.now s.regions.now offer parts };
 
+    ghost is_own = { λ s offer. IsOwnImage s.units.now s.grid.now s.regions.now offer };
+
     fn read(&self, offer: &Note) -> Result<Option<ObjectParts>, NoMemory> {
         self.grid.read_image(
             offer.object,
@@ -63,6 +65,10 @@ impl Parcels for Images<'_> {
             offer.parcel.bytes(),
             self.units,
         )
+    }
+
+    fn own(&self, offer: &Note) -> Result<ObjectParts, NoMemory> {
+        self.grid.parts(offer.object)
     }
 }
 
@@ -145,6 +151,7 @@ impl World {
         requires seated { AreSeated self.now.units self.now.grid.seats }
         requires object { HasNumber (length self.now.grid.objects) way.object }
         requires from { IsOneOf (length regions.now) way.from }
+        requires here { name_in regions.now way.from ≡ region_in self.now.grid (way.object - 1) }
         requires to { IsOneOf (length regions.now) way.to }
         requires counts { HasCounts (length self.now.grid.objects) (length regions.now) field.old }
         ensures drives { (trips : List Trip) × Went L.gives (L.trips link.old) (L.trips link.new) trips

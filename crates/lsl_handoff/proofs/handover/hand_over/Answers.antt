@@ -1,8 +1,9 @@
-use Rattle.std.proofs.Common.{◌∙◌, Some, None, arith}
+use Rattle.std.proofs.Common.{◌∙◌, sym, subst, Some, None, arith}
 use Rattle.std.proofs.lemmas.Result.{err_from_is_err_and}
+use Rattle.lsl_handoff.specs.declared.note.Note.{Note}
 use Rattle.lsl_handoff.specs.Drives.{moment}
 use Rattle.lsl_handoff.specs.Handovers.{note_of}
-use Rattle.lsl_handoff.proofs.GoingLemmas.{asked-of, counts-rested, given-of, goes-cut, goes-fault, goes-off, goes-rested, goes-unheard, heard-of, less-on, rested-of, under-way-first, under-way-on}
+use Rattle.lsl_handoff.proofs.GoingLemmas.{asked-note, asked-of, counts-rested, given-of, goes-cut, goes-fault, goes-off, goes-rested, goes-unheard, heard-of, less-on, rested-of, under-way-first, under-way-on}
 use Rattle.lsl_handoff.proofs.handover.hand_over.Goals as goal
 
 pub returns-in_err-drive-clause-goes : goal.returns-in_err-drive-clause-goes
@@ -33,6 +34,27 @@ returns-in_err-note-clause-goes g c =
     c.args.parcel c.args.field.now now.departs (g.L.Link.trips c.args.link.now) (g.L.Link.trips c.notes.link)
     (moment c.notes.drive c.notes.field) c.notes.given now.under c.notes.field)
 
+pub carry-requires-clause-note : goal.carry-requires-clause-note
+carry-requires-clause-note g c =
+    let now = c.notes.invariant in
+    let asked = asked-of c.args.way c.notes.drive.way now.way (moment c.notes.drive c.notes.field) c.in_ok-note.field-0
+    (Some c.in-Some.note) c.in_ok-note.ensures c.in-Some.is in
+    (asked-note g.L.Link.gives c.args.objects c.args.regions (g.P.Parcels.stands c.args.parcels.now) c.args.way
+    c.args.parcel c.args.field.now now.departs (g.L.Link.trips c.args.link.now) (g.L.Link.trips c.notes.link)
+    (moment c.notes.drive c.notes.field) c.notes.given now.under c.in-Some.note asked c.trip_fits.ensures c.requires.counts
+    c.requires.way).0
+
+pub carry-requires-clause-own : goal.carry-requires-clause-own
+carry-requires-clause-own g c offer =
+    let now = c.notes.invariant in
+    let asked = asked-of c.args.way c.notes.drive.way now.way (moment c.notes.drive c.notes.field) c.in_ok-note.field-0
+    (Some c.in-Some.note) c.in_ok-note.ensures c.in-Some.is in
+    let known = (asked-note g.L.Link.gives c.args.objects c.args.regions (g.P.Parcels.stands c.args.parcels.now)
+    c.args.way c.args.parcel c.args.field.now now.departs (g.L.Link.trips c.args.link.now)
+    (g.L.Link.trips c.notes.link) (moment c.notes.drive c.notes.field) c.notes.given now.under c.in-Some.note asked
+    c.trip_fits.ensures c.requires.counts c.requires.way).1 in
+    subst (λ (n : Note). g.P.Parcels.is_own c.args.parcels.now n) (sym (known offer)) (c.requires.own c.in-Some.note.trip)
+
 pub returns-in_err-back-clause-goes : goal.returns-in_err-back-clause-goes
 returns-in_err-back-clause-goes g c =
     let p = err_from_is_err_and c.from_residual-in_err-back.result c.from_residual-in_err-back.ensures.1 in
@@ -56,39 +78,6 @@ returns-in_err-given-clause-goes g c =
     c.args.parcel c.args.field.now now.departs (g.L.Link.trips c.args.link.now) (g.L.Link.trips c.notes.link)
     (moment c.notes.drive c.notes.field) c.notes.given now.under
     (g.L.Link.trips c.carry.new.link) c.in-Some.note asked c.in_ok-back.back c.in_ok-back.ensures.went c.hear.new.field)
-
-pub notes-smaller-in_ok-given : goal.notes-smaller-in_ok-given
-notes-smaller-in_ok-given g c =
-    let now = c.notes.invariant in
-    let asked = asked-of c.args.way c.notes.drive.way now.way (moment c.notes.drive c.notes.field) c.in_ok-note.field-0
-    (Some c.in-Some.note) c.in_ok-note.ensures c.in-Some.is in
-    let heard = heard-of c.args.way c.notes.drive.way now.way (moment c.notes.drive c.notes.field)
-    (note_of c.in_ok-back.back) (moment c.hear.new.drive c.hear.new.field) c.in_ok-given.ensures.hears in
-    less-on g.L.Link.gives c.args.objects c.args.regions (g.P.Parcels.stands c.args.parcels.now) c.args.way
-    c.args.parcel c.args.field.now now.departs (g.L.Link.trips c.args.link.now) (g.L.Link.trips c.notes.link)
-    (moment c.notes.drive c.notes.field) c.notes.given now.under
-    (g.L.Link.trips c.carry.new.link) c.in-Some.note asked c.in_ok-back.back c.in_ok-back.ensures.went c.requires.counts
-    c.requires.way (moment c.hear.new.drive c.hear.new.field) heard
-
-pub notes-preserved-in_ok-given : goal.notes-preserved-in_ok-given
-notes-preserved-in_ok-given g c =
-    let now = c.notes.invariant in
-    let asked = asked-of c.args.way c.notes.drive.way now.way (moment c.notes.drive c.notes.field) c.in_ok-note.field-0
-    (Some c.in-Some.note) c.in_ok-note.ensures c.in-Some.is in
-    let heard = heard-of c.args.way c.notes.drive.way now.way (moment c.notes.drive c.notes.field)
-    (note_of c.in_ok-back.back) (moment c.hear.new.drive c.hear.new.field) c.in_ok-given.ensures.hears in
-    record {
-      under = under-way-on g.L.Link.gives c.args.objects c.args.regions (g.P.Parcels.stands c.args.parcels.now)
-          c.args.way c.args.parcel c.args.field.now now.departs (g.L.Link.trips c.args.link.now) (g.L.Link.trips c.notes.link)
-          (moment c.notes.drive c.notes.field) c.notes.given now.under
-          (g.L.Link.trips c.carry.new.link) c.in-Some.note asked c.in_ok-back.back c.in_ok-back.ensures.went
-          c.requires.counts c.requires.way (moment c.hear.new.drive c.hear.new.field) heard c.in_ok-given.given
-          (given-of c.args.way c.notes.drive.way now.way (moment c.notes.drive c.notes.field) c.in_ok-back.back
-          c.notes.given c.in_ok-given.given c.in_ok-given.ensures.given);
-      way = c.in_ok-given.ensures.way ∙ now.way;
-      departs = now.departs;
-      counted = omega (arith, now.counted, c.in_ok-back.ensures.counted);
-    }
 
 pub notes-smaller : goal.notes-smaller
 notes-smaller g c =

@@ -3,7 +3,7 @@ use Rattle.std.proofs.lemmas.Result.{MatchResult-from_err}
 use Rattle.lsl_handoff.specs.Handovers.{HasCounts}
 use Rattle.lsl_world.proofs.Going.{went-none}
 use Rattle.lsl_world.proofs.Given.{given-fits}
-use Rattle.lsl_world.proofs.Handed.{cut-as, has-way, over-as}
+use Rattle.lsl_world.proofs.Handed.{cut-as, has-way, over-as, own-image}
 use Rattle.lsl_world.proofs.world.World.drive.Goals as goal
 
 pub hand_over-requires-clause-way : goal.hand_over-requires-clause-way
@@ -19,6 +19,12 @@ hand_over-requires-clause-counts g c =
 
 pub hand_over-requires-clause-parcels : goal.hand_over-requires-clause-parcels
 hand_over-requires-clause-parcels g c = (sym c.objects-objects.ensures.value, sym c.len.ensures.value)
+
+pub hand_over-requires-clause-own : goal.hand_over-requires-clause-own
+hand_over-requires-clause-own g c trip =
+    own-image c.args.self.now.units c.args.regions.now c.args.self.now.grid c.args.way c.from_vec.result
+    c.requires.here (c.from_vec.ensures ∙ c.in_ok-image.ensures.bytes) c.in_ok-image.ensures.image
+    c.in_ok-image.ensures.own trip
 
 pub returns-in-Ok-clause-drives : goal.returns-in-Ok-clause-drives
 returns-in-Ok-clause-drives g c =

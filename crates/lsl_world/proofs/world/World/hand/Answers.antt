@@ -1,7 +1,7 @@
 use Rattle.std.proofs.Common.{◌≡◌, ◌∙◌, ◌-◌, refl, sym, ap, subst, inl, List, ℕ, [], None, Ok, Some, arith}
 use Rattle.std.specs.Prelude.{IfSome}
 use Rattle.std.proofs.lemmas.Result.{err_from_is_err_and}
-use Rattle.lsl_region.specs.Crossings.{CanArrive}
+use Rattle.lsl_region.specs.Crossings.{CanArrive, region_in}
 use Rattle.lsl_region.specs.ObjectParts.{parts_of_object}
 use Rattle.lsl_world.specs.Orders.{SendsOf}
 use Rattle.lsl_world.specs.Regions.{number_of, way_between}
@@ -23,6 +23,13 @@ pub drive-requires-clause-from : goal.drive-requires-clause-from
 drive-requires-clause-from g c =
     (way-there c.args.regions.now c.args.object c.region.result.now c.args.region.now c.in-Some.way
     (sym c.way.ensures ∙ c.in-Some.is)).from
+
+pub drive-requires-clause-here : goal.drive-requires-clause-here
+drive-requires-clause-here g c =
+    let there = way-there c.args.regions.now c.args.object c.region.result.now c.args.region.now c.in-Some.way
+    (sym c.way.ensures ∙ c.in-Some.is) in
+    there.from_is ∙ c.region.ensures
+    ∙ ap (λ (o : ℕ). region_in c.args.self.now.grid (o - 1)) (sym there.object_is)
 
 pub drive-requires-clause-to : goal.drive-requires-clause-to
 drive-requires-clause-to g c =
