@@ -23,8 +23,9 @@ const COUNT_BYTES: u64 = 8;
 pub fn write_note(alloc: Global, note: &Note) -> Result<Vec<u8>, NoMemory>
     ensures { IfOk result (λ bytes. bytes.items ≡ note_bytes note.now) }
 {
-    let mut out = Vec::new(alloc);
-    write_head(&mut out, size_of(note))?;
+    let size = size_of(note);
+    let mut out = Vec::with_capacity(alloc, size as usize)?;
+    write_head(&mut out, size)?;
     write_fields(&mut out, note)?;
     let digest = digest_of(out.as_slice());
     out.extend_from_slice(digest.as_slice())?;
