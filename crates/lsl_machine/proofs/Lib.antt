@@ -39,4 +39,5 @@ pub mod Fusing
 pub mod Joining
 pub mod Entries
 pub mod Raced
+pub mod Tops
 pub mod Passed

@@ -130,7 +130,7 @@ returns-clause-done c point g f place sl ops outer h =
       place = c.args.self.now.active.place + 1;
       charge = c.args.self.now.active.charge - c.charges_of-given.result;
     } in
-    let pushed = c.push_reserved.ensures.items ∙ ap (λ l. l ++ caller ∷ []) c.reserve.ensures.items in
+    let pushed = c.push_reserved.ensures.items ∙ ap (λ l. l ++ caller ∷ []) c.reserve_more.ensures.items in
     entered_in c.args.self.now _ (map woven_body c.args.functions.now) fn c.args.callee
     (32 + c.empties_charge-more.result) c.charges_of-given.result c.least.result _ g f place sl ops outer h
     (body_at c.args.functions.now c.args.callee c.index-functions-callee.result c.if-callee-functions.false
