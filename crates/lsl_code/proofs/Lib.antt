@@ -27,6 +27,7 @@ pub mod Ranks
 pub mod Reading
 pub mod Repeating
 pub mod Resuming
+pub mod Retargeting
 pub mod Running
 pub mod Sames
 pub mod Scans

@@ -28,6 +28,7 @@ pub mod Runs
 pub mod SaveWays
 pub mod Saving
 pub mod Standing
+pub mod Targets
 pub mod Units
 pub mod Weaves
 pub mod WellFormed

@@ -3,6 +3,7 @@
 ghost use Rattle.std.specs.Prelude.{◌≡◌, [], ◌∷◌, ◌++◌, length, OnOk, OnErr, IfOk, false};
 ghost use Rattle.lsl_code.specs.declared.instructions.Instr.TheVariants.{Tick, Call};
 ghost use Rattle.lsl_code.specs.Drafts.{carries_point, numbered, lines_of};
+ghost use Rattle.lsl_code.specs.Targets.{targeted, retargeted};
 
 use crate::instructions::Instr;
 use lsl_text::NoMemory;
@@ -78,6 +79,14 @@ impl Draft {
         Ok(())
     }
 
+    /// Leads the jump at this place to a target that wasn't known when it was added. Changes nothing where no jump of
+    /// plain code stands. Takes no memory.
+    pub fn set_target(&mut self, place: usize, target: u32)
+        ensures { self.new ≡ retargeted self.old place target }
+    {
+        retarget(&mut self.code, place, target);
+    }
+
     /// The code, and the lines of its points.
     pub fn into_parts(self) -> (Vec<Instr>, Vec<u32>)
         ensures code { result.0.items ≡ numbered self 0 }
@@ -95,6 +104,27 @@ fn number(n: usize) -> Result<u16, NoMemory>
     match u16::try_from(n) {
         Ok(m) => Ok(m),
         Err(_) => Err(AllocError),
+    }
+}
+
+// Leads the jump at this place to this target.
+fn retarget(code: &mut Vec<Instr>, place: usize, target: u32)
+    ensures { code.new.items ≡ retargeted code.old.items place target }
+{
+    if place < code.len() {
+        lead(&mut code[place], target);
+    }
+}
+
+// Leads a jump to this target.
+fn lead(instr: &mut Instr, target: u32)
+    ensures { instr.new ≡ targeted instr.old target }
+{
+    match instr {
+        Instr::Jump(to) => *to = target,
+        Instr::JumpIf(to) => *to = target,
+        Instr::JumpIfNot(to) => *to = target,
+        _ => {}
     }
 }
 
