@@ -1,5 +1,5 @@
 -- The steps of the functions that emit code.
-use Rattle.std.proofs.Common.{◌≡◌, ℕ, ◌+◌, ◌<◌, List, [], ◌∷◌, ◌++◌, length, Vec, Global, sym, ap, ◌∙◌, ap₂, append_assoc, length-append, take, get_or}
+use Rattle.std.proofs.Common.{◌≡◌, ℕ, ◌+◌, ◌<◌, List, [], ◌∷◌, ◌++◌, length, Vec, Global, sym, ap, ◌∙◌, ap₂, append_assoc, take, get_or}
 use Rattle.lsl_value.specs.declared.tagged.Kind.{Kind}
 use Rattle.lsl_tree.specs.declared.program_node.Callee.{Callee}
 use Rattle.lsl_tree.specs.declared.program_node.Node as declared
@@ -38,30 +38,3 @@ list_step new code base e n m args xs is same len long inv last =
     ∙ ap (λ ys. base ++ (values_code (nodes_of ys) ++ instr.MakeList
     (argument_count (nodes_of args.items)) ∷ [])) same
     ∙ ap (λ t. base ++ value_code t) (sym (ap node_of is ∙ node_of-List args))
-
-pub values_size_step : (total' total n : ℕ) (xs : List declared.Node) (i : ℕ) (x : declared.Node)
-    → i < length xs → x ≡ get_or xs i x → total ≡ length (values_code (nodes_of (take i xs)))
-    → n ≡ length (value_code (node_of x)) → total' ≡ total + n
-    → total' ≡ length (values_code (nodes_of (take (i + 1) xs)))
-values_size_step total' total n xs i x lt is inv len e =
-    e ∙ ap₂ (λ a b. a + b) inv len ∙ sym (length-append (values_code (nodes_of (take i xs)))
-    (value_code (node_of x))) ∙ ap (λ ts. length (values_code ts)) (sym (nodes_more xs i x lt is))
-
-pub call_size_step : (m n k : ℕ) (e : declared.Node) (c : Callee) (kind : Kind) (l : ℕ)
-    (args : Vec declared.Node Global) (xs : List declared.Node) → e ≡ declared.Call c kind l args
-    → xs ≡ args.items
-    → n ≡ length (values_code (nodes_of xs)) → k ≡ length (call_code c l) → m ≡ n + k
-    → m ≡ length (value_code (node_of e))
-call_size_step m n k e c kind l args xs is same len called last =
-    last ∙ ap₂ (λ a b. a + b) (len ∙ ap (λ ys. length (values_code (nodes_of ys))) same) called
-    ∙ sym (length-append (values_code (nodes_of args.items)) (call_code c l))
-    ∙ ap (λ t. length (value_code t)) (sym (ap node_of is ∙ node_of-Call c kind l args))
-
-pub list_size_step : (m n : ℕ) (e : declared.Node) (args : Vec declared.Node Global) (xs : List declared.Node)
-    → e ≡ declared.List args → xs ≡ args.items
-    → n ≡ length (values_code (nodes_of xs)) → m ≡ n + 1 → m ≡ length (value_code (node_of e))
-list_size_step m n e args xs is same len last =
-    last ∙ ap (λ a. a + 1) (len ∙ ap (λ ys. length (values_code (nodes_of ys))) same)
-    ∙ sym (length-append (values_code (nodes_of args.items))
-    (instr.MakeList (argument_count (nodes_of args.items)) ∷ []))
-    ∙ ap (λ t. length (value_code t)) (sym (ap node_of is ∙ node_of-List args))

@@ -1,50 +1,89 @@
--- Tables of labels, as labels come into scope.
-use Rattle.std.proofs.Common.{◌≡◌, ◌≢◌, ℕ, ◌<◌, ◌≤◌, List, [], ◌∷◌, ◌++◌, length, Bool, true, false, cond, nat_eq, sym, ap, ◌∙◌, refl, subst, arith, reverse, get_or, slice_set}
+-- Tables of labels, as labels are entered.
+use Rattle.std.proofs.Common.{◌≡◌, ℕ, ◌+◌, ◌-◌, ◌<◌, ◌≤◌, List, [], ◌∷◌, ◌++◌, length, Bool, true, false, cond, nat_eq, nat_lt, Option, Some, None, sym, ap, ◌∙◌, refl, subst, arith, take, get_or}
+use Rattle.std.specs.Prelude.{All}
 use Rattle.std.proofs.lemmas.Bool.Decides.{nat_tests}
-use Rattle.std.proofs.lemmas.List.{length-set, reverse-append, get_or-set_same, get_or-set_other}
-use Rattle.std.proofs.lemmas.Grind.{get_or_default_zero}
-use Rattle.lsl_gen.specs.declared.label_places.ScopedLabel.{ScopedLabel}
-use Rattle.lsl_gen.specs.LabelTables.{label_places, seen_in, TellBefore, IsIndexed}
-use Rattle.lsl_gen.specs.Statements.{place_of}
+use Rattle.std.proofs.lemmas.List.Elements.{All-more}
+use Rattle.std.proofs.lemmas.List.{take_more, take_all}
+use Rattle.lsl_gen.specs.declared.label_places.LabelPlace.{LabelPlace}
+use Rattle.lsl_gen.specs.LabelTables.{unless_told, IsIndexed}
+use Rattle.lsl_gen.specs.OpenJumps.{found_place}
 
-tell_more : (m n : ℕ) (xs : List ScopedLabel) → m ≤ n → TellBefore m xs → TellBefore n xs
-tell_more m n [] le h = tt
-tell_more m n (x ∷ xs) le h = (omega (arith, h.0), h.1, tell_more m n xs le h.2)
+found_place-push : (label : ℕ) (xs : List LabelPlace) (x : LabelPlace)
+    → found_place label (xs ++ x ∷ []) ≡ unless_told (found_place label xs) label x.label x.place
+found_place-push label [] x = refl
+found_place-push label (y ∷ xs) x =
+    either (nat_eq label y.label) (found_place label xs) (found_place label (xs ++ x ∷ []))
+    (found_place-push label xs x)
+  where
+    either : (b : Bool) (o p : Option ℕ) → p ≡ unless_told o label x.label x.place
+        → cond b (Some y.place) p ≡ unless_told (cond b (Some y.place) o) label x.label x.place
+    either true o p e = refl
+    either false o p e = e
 
--- a longer table that leads to the same places
-pub widened : (scope : List ScopedLabel) (old new : List ℕ) → ((k : ℕ) → get_or new k 0 ≡ get_or old k 0)
-    → length old ≤ length new → IsIndexed scope old → IsIndexed scope new
-widened scope old new same le h = record {
-  found = λ label. same label ∙ h.found label;
-  before =
-      tell_more (length old) (length new) (reverse scope) le h.before;
-}
+found_place-more : (label : ℕ) (xs : List LabelPlace) (i : ℕ) (d : LabelPlace) → i < length xs
+    → unless_told (found_place label (take i xs)) label (get_or xs i d).label (get_or xs i d).place
+    ≡ found_place label (take (i + 1) xs)
+found_place-more label xs i d lt =
+    sym (ap (found_place label) (take_more xs i d lt) ∙ found_place-push label (take i xs) (get_or xs i d))
+
+same_told : (o : Option ℕ) (k entry j label place : ℕ) → nat_eq k entry ≡ nat_eq j label
+    → unless_told o k entry place ≡ unless_told o j label place
+same_told None k entry j label place e = ap (λ b. cond b (Some place) None) e
+same_told (Some before) k entry j label place e = refl
+
+same_test : (first label other entry : ℕ) → first ≤ label → first ≤ other → entry ≡ other - first
+    → nat_eq (label - first) entry ≡ nat_eq label other
+same_test first label other entry le le' e = by (nat_eq (label - first) entry) (nat_eq label other) refl refl
+  where
+    by : (b c : Bool) → nat_eq (label - first) entry ≡ b → nat_eq label other ≡ c → b ≡ c
+    by true true p q = refl
+    by false false p q = refl
+    by true false p q = absurd (grind (arith, nat_tests))
+    by false true p q = absurd (grind (arith, nat_tests))
 
 -- with one more label
-pub one_more : (scope new : List ScopedLabel) (places places' : List ℕ) (x : ScopedLabel)
-    → new ≡ scope ++ x ∷ [] → places' ≡ slice_set places x.label x.place → x.label < length places
-    → x.before ≡ get_or places x.label x.before
-    → IsIndexed scope places → IsIndexed new places'
-one_more scope new places places' x e f lt was h =
-    let back : reverse new ≡ x ∷ reverse scope = ap reverse e ∙ reverse-append scope (x ∷ []) in
-    let same : length places ≡ length places' = sym (ap length f ∙ length-set places x.label x.place) in
-    record {
-      found = λ label. ap (λ l. get_or l label 0) f ∙ leads (nat_eq label x.label) label refl
-          ∙ ap (λ l. place_of label (label_places l)) (sym back);
-      before = subst (TellBefore (length places')) (sym back)
-          (subst (λ n. TellBefore n (x ∷ reverse scope)) same
-          (lt, was ∙ get_or_default_zero places x.label x.before lt ∙ h.found x.label, h.before));
-    }
+pub one_more : (first entry : ℕ) (old new : List (Option ℕ)) (xs : List LabelPlace) (i : ℕ) (d : LabelPlace)
+    → i < length xs → All (λ x. first ≤ x.label) xs → entry ≡ (get_or xs i d).label - first
+    → ((k : ℕ) → get_or new k None ≡ unless_told (get_or old k None) k entry (get_or xs i d).place)
+    → IsIndexed first old (take i xs) → IsIndexed first new (take (i + 1) xs)
+one_more first entry old new xs i d lt all at entered h = record {
+  found = λ label. told label (get_or xs i d) (all i d lt) at entered (nat_lt label first) refl (h.found label)
+      ∙ found_place-more label xs i d lt;
+}
   where
-    leads : (b : Bool) (label : ℕ) → nat_eq label x.label ≡ b
-        → get_or (slice_set places x.label x.place) label 0
-        ≡ cond (nat_eq label x.label) x.place (place_of label (seen_in scope))
-    leads true label t =
-        let same : label ≡ x.label = grind (arith, nat_tests) in
-        ap (λ l. get_or (slice_set places x.label x.place) l 0) same
-        ∙ get_or-set_same places x.label x.place 0 lt
-        ∙ sym (ap (λ b. cond b x.place (place_of label (seen_in scope))) t)
-    leads false label t =
-        let other : label ≢ x.label = grind (arith, nat_tests) in
-        get_or-set_other places x.label label x.place 0 other ∙ h.found label
-        ∙ sym (ap (λ b. cond b x.place (place_of label (seen_in scope))) t)
+    told : (label : ℕ) (x : LabelPlace) → first ≤ x.label → entry ≡ x.label - first
+        → ((k : ℕ) → get_or new k None ≡ unless_told (get_or old k None) k entry x.place)
+        → (b : Bool) → nat_lt label first ≡ b
+        → cond (nat_lt label first) None (get_or old (label - first) None) ≡ found_place label (take i xs)
+        → cond (nat_lt label first) None (get_or new (label - first) None)
+        ≡ unless_told (found_place label (take i xs)) label x.label x.place
+    told label x above at entered true t was =
+        let none : None ≡ found_place label (take i xs) =
+        sym (ap (λ b. cond b None (get_or old (label - first) None)) t) ∙ was in
+        let other : nat_eq label x.label ≡ false = grind (arith, nat_tests) in
+        ap (λ b. cond b None (get_or new (label - first) None)) t
+        ∙ sym (ap (λ b. cond b (Some x.place) None) other)
+        ∙ ap (λ o. unless_told o label x.label x.place) none
+    told label x above at entered false t was =
+        let some : get_or old (label - first) None ≡ found_place label (take i xs) =
+        sym (ap (λ b. cond b None (get_or old (label - first) None)) t) ∙ was in
+        let le : first ≤ label = grind (arith, nat_tests) in
+        ap (λ b. cond b None (get_or new (label - first) None)) t ∙ entered (label - first)
+        ∙ ap (λ o. unless_told o (label - first) entry x.place) some
+        ∙ same_told (found_place label (take i xs)) (label - first) entry label x.label x.place
+        (same_test first label x.label entry le above at)
+
+-- a number that no label is below
+pub least_more : (first next : ℕ) (xs : List LabelPlace) (i : ℕ) (d : LabelPlace) → i < length xs
+    → next ≤ first → next ≤ (get_or xs i d).label → All (λ y. first ≤ y.label) (take i xs)
+    → All (λ y. next ≤ y.label) (take (i + 1) xs)
+least_more first next xs i d lt le here all =
+    All-more (λ y. next ≤ y.label) xs i d lt (λ k e l. lower k e l) here
+  where
+    lower : (k : ℕ) (e : LabelPlace) → k < length (take i xs) → next ≤ (get_or (take i xs) k e).label
+    lower k e l = let h : first ≤ (get_or (take i xs) k e).label = all k e l in omega arith
+
+pub least_all : (first : ℕ) (xs : List LabelPlace) (i : ℕ) → length xs ≤ i → All (λ y. first ≤ y.label) (take i xs)
+    → All (λ y. first ≤ y.label) xs
+least_all first xs i le all = let P : List LabelPlace → Type 0 = λ l. All (λ y. first ≤ y.label) l in
+    subst P (take_all i xs le) all

@@ -10,6 +10,7 @@ pub mod Drafts
 pub mod Executions
 pub mod Fitting
 pub mod Forms
+pub mod OpenJumps
 pub mod Operands
 pub mod JumpTargets
 pub mod FunctionSteps

@@ -1,24 +1,17 @@
--- A table of the labels in scope, by their numbers.
-use Rattle.std.specs.Prelude.{◌≡◌, ◌<◌, ℕ, List, [], ◌∷◌, length, map, reverse, get_or}
+-- A table of labels by their numbers.
+use Rattle.std.specs.Prelude.{◌≡◌, ℕ, ◌-◌, nat_eq, nat_lt, cond, List, Option, Some, None, get_or}
 use Rattle.lsl_gen.specs.declared.label_places.LabelPlace.{LabelPlace}
-use Rattle.lsl_gen.specs.declared.label_places.ScopedLabel.{ScopedLabel}
-use Rattle.lsl_gen.specs.Statements.{place_of}
+use Rattle.lsl_gen.specs.OpenJumps.{found_place}
 
-abbrev pub label_place : ScopedLabel → LabelPlace
-label_place x = record { label = x.label; place = x.place }
+-- what entry k tells where a place is entered at this one, unless it tells one before
+abbrev pub unless_told : Option ℕ → ℕ → ℕ → ℕ → Option ℕ
+unless_told (Some before) k entry place = Some before
+unless_told None k entry place = cond (nat_eq k entry) (Some place) None
 
-abbrev pub label_places : List ScopedLabel → List LabelPlace
-label_places xs = map label_place xs
+-- what a table tells of this number, where its first entry is for the first number
+abbrev pub place_at : ℕ → List (Option ℕ) → ℕ → Option ℕ
+place_at first places label = cond (nat_lt label first) None (get_or places (label - first) None)
 
--- the labels, the innermost first, of a list that has it last
-abbrev pub seen_in : List ScopedLabel → List LabelPlace
-seen_in scope = label_places (reverse scope)
-
--- each label tells where its number led before, and all have a place in a table of so many
-abbrev pub TellBefore : ℕ → List ScopedLabel → Type 0
-TellBefore count [] = Unit {0}
-TellBefore count (x ∷ xs) = (x.label < count) × (x.before ≡ place_of x.label (label_places xs)) × TellBefore count xs
-
-pub record IsIndexed (scope : List ScopedLabel) (places : List ℕ) : Type 0 where
-  pub found : (label : ℕ) → get_or places label 0 ≡ place_of label (seen_in scope)
-  pub before : TellBefore (length places) (reverse scope)
+-- the table tells the place of each label, of the first one where several have its number
+pub record IsIndexed (first : ℕ) (places : List (Option ℕ)) (labels : List LabelPlace) : Type 0 where
+  pub found : (label : ℕ) → place_at first places label ≡ found_place label labels

@@ -1,5 +1,6 @@
 pub mod Expressions
 pub mod Statements
+pub mod OpenJumps
 pub mod LabelTables
 pub mod Programs
 pub mod Counts

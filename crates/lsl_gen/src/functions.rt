@@ -5,7 +5,6 @@ ghost use Rattle.lsl_tree.specs.Program.{routine_of, function_of, handler_of, st
 ghost use Rattle.lsl_tree.specs.Signatures.{handlers_of};
 ghost use Rattle.lsl_gen.specs.Programs.{draft_of, functions_made, handlers_made, made_by, IsReady, IsShort, numbered_handlers, numbered_states};
 
-use crate::labels::Labels;
 use crate::numbers::to_u16;
 use crate::statements::emit_block;
 use crate::texts::{ascii_text, copy_text};
@@ -30,9 +29,9 @@ fn emit_routine(alloc: Global, routine: &Routine) -> Result<Draft, NoMemory>
     ensures { IfOk result (λ d. d ≡ draft_of (routine_of routine.now)) }
 {
     let mut draft = Draft::new(alloc);
-    let mut labels = Labels::new(alloc);
+    let mut jumps = Vec::new(alloc);
     draft.push_tick(routine.line)?;
-    emit_block(alloc, &mut draft, &mut labels, &routine.body)?;
+    emit_block(alloc, &mut draft, &mut jumps, &routine.body)?;
     if routine.kind.is_none() {
         draft.push(Instr::Return)?;
     }

@@ -1,16 +1,15 @@
-//! Labels with their places.
+//! Labels with their places, and jumps that wait for one.
 
 /// A label with the place at which it stands.
-#[derive(Clone, Copy, Debug)]
+#[derive(Clone, Copy)]
 pub struct LabelPlace {
     pub label: usize,
     pub place: usize,
 }
 
-/// A label in scope, and the place that its number led to before.
-#[derive(Clone, Copy, Debug)]
-pub struct ScopedLabel {
-    pub label: usize,
+/// A jump that stands at a place and leads to a label whose place isn't known yet.
+#[derive(Clone, Copy)]
+pub struct OpenJump {
     pub place: usize,
-    pub before: usize,
+    pub label: usize,
 }

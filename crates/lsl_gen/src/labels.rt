@@ -1,152 +1,112 @@
-//! The labels in scope, found by their numbers without a search.
+//! The labels of a block, found by their numbers without a search.
 
-ghost use Rattle.std.specs.Prelude.{◌≡◌, ◌+◌, ◌≤◌, ◌<◌, ℕ, [], ◌∷◌, ◌++◌, OnOk, IfOk, length, drop, get_or};
-ghost use Rattle.lsl_tree.specs.Actions.{action_of, actions_of};
-ghost use Rattle.lsl_gen.specs.Statements.{place_of, place_if_label, places_in};
+ghost use Rattle.std.specs.Prelude.{◌≡◌, ◌≤◌, ◌<◌, ℕ, OnOk, IfOk, All, length, get_or};
+ghost use Rattle.lsl_gen.specs.OpenJumps.{found_place};
+ghost use Rattle.lsl_gen.specs.LabelTables.{unless_told, IsIndexed};
 
-use crate::label_places::{LabelPlace, ScopedLabel};
+use crate::label_places::LabelPlace;
 use crate::numbers::add;
-use crate::sizes::action_size;
 use lsl_text::NoMemory;
-use lsl_tree::Action;
 use std::alloc::Global;
 use std::marker::Model;
 
-/// The labels in scope, which contracts see with the innermost first. `places` has for each number the place of
-/// the innermost label that has it, and 0 where none has.
+/// The labels of a block, in order. `places` has an entry for each number from `first` on: the place of the first label
+/// that has it.
 #[derive(Drop)]
 pub struct Labels {
-    scope: Vec<ScopedLabel>,
-    places: Vec<usize>,
+    labels: Vec<LabelPlace>,
+    first: usize,
+    places: Vec<Option<usize>>,
 }
 
 impl Model for Labels {
     ghost use Rattle.std.specs.Prelude.{List};
     ghost use Rattle.lsl_gen.specs.declared.label_places.LabelPlace.{LabelPlace};
-    ghost use Rattle.lsl_gen.specs.LabelTables.{seen_in, IsIndexed};
+    ghost use Rattle.lsl_gen.specs.LabelTables.{IsIndexed};
 
     ghost Value = { List LabelPlace };
 
-    ghost view = { λ l. seen_in l.scope.items };
+    ghost view = { λ l. l.labels.items };
 
-    ghost invariant = { λ l. IsIndexed l.scope.items l.places.items };
+    ghost invariant = { λ l. IsIndexed l.first l.places.items l.labels.items };
 }
 
 impl Labels {
-    /// No label. Takes no memory.
-    pub fn new(alloc: Global) -> Labels
-        ensures { result ≡ [] }
+    /// These labels. Takes memory for an entry for each number from the least one to the greatest.
+    pub fn new(alloc: Global, labels: Vec<LabelPlace>) -> Result<Labels, NoMemory>
+        ensures { IfOk result (λ l. l ≡ labels.items) }
     {
-        Labels {
-            scope: Vec::new(alloc),
-            places: Vec::new(alloc),
-        }
+        let first = least(&labels);
+        let places = indexed(alloc, &labels, first)?;
+        Ok(Labels {
+            labels,
+            first,
+            places,
+        })
     }
 
-    /// The place of the innermost label of this number, or 0. Takes no memory, and no search.
-    pub fn place(&self, label: usize) -> usize
-        ensures { result ≡ place_of label self.now }
+    /// The place of the first label of this number.
+    pub fn place(&self, label: usize) -> Option<usize>
+        ensures { result ≡ found_place label self.now }
     {
-        match self.places.get(label) {
+        if label < self.first {
+            return None;
+        }
+        match self.places.get(label - self.first) {
             Some(place) => *place,
-            None => 0,
-        }
-    }
-
-    // Adds the innermost label.
-    fn push(&mut self, x: LabelPlace) -> Result<(), NoMemory>
-        ensures { OnOk result (self.new ≡ x ∷ self.old) }
-    {
-        widen(&mut self.places, x.label)?;
-        let before = self.places[x.label];
-        self.scope.push(ScopedLabel {
-            label: x.label,
-            place: x.place,
-            before,
-        })?;
-        self.places[x.label] = x.place;
-        Ok(())
-    }
-
-    // Takes the innermost label out of scope.
-    fn pop(&mut self)
-        ensures { self.new ≡ drop 1 self.old }
-    {
-        if let Some(x) = self.scope.pop() {
-            self.places[x.label] = x.before;
-        }
-    }
-
-    /// Takes the labels into scope that stand directly in a block whose code begins at this place, and counts them.
-    pub fn enter(
-        &mut self,
-        alloc: Global,
-        actions: &[Action],
-        place: usize,
-    ) -> Result<usize, NoMemory>
-        ensures labels { OnOk result (self.new ≡ places_in (actions_of actions.now) place ++ self.old) }
-        ensures count { IfOk result (λ n. n ≡ length (places_in (actions_of actions.now) place)) }
-    {
-        let mut own = labels_in(alloc, actions, place)?;
-        let count = own.len();
-        for _ in 0..count {
-            if let Some(x) = own.pop() {
-                self.push(x)?;
-            }
-        }
-        Ok(count)
-    }
-
-    /// Takes so many innermost labels out of scope. Takes no memory.
-    pub fn leave(&mut self, count: usize)
-        ensures { self.new ≡ drop count self.old }
-    {
-        for _ in 0..count {
-            self.pop();
+            None => None,
         }
     }
 }
 
-// Makes room for the place of this number.
-fn widen(places: &mut Vec<usize>, label: usize) -> Result<(), NoMemory>
-    ensures same { (l : ℕ) → get_or places.new.items l 0 ≡ get_or places.old.items l 0 }
-    ensures more { length places.old.items ≤ length places.new.items }
-    ensures room { OnOk result (label < length places.new.items) }
+// A number that no label is below.
+fn least(labels: &[LabelPlace]) -> usize
+    ensures { All (λ x. result ≤ x.label) labels.now }
 {
-    let count = add(label, 1)?;
-    let missing = count.saturating_sub(places.len());
-    for _ in 0..missing {
-        places.push(0)?;
+    let mut first = usize::MAX;
+    for x in labels {
+        first = first.min(x.label);
+    }
+    first
+}
+
+// The places of the labels, the first number's at first.
+fn indexed(
+    alloc: Global,
+    labels: &[LabelPlace],
+    first: usize,
+) -> Result<Vec<Option<usize>>, NoMemory>
+    requires { All (λ x. first ≤ x.label) labels.now }
+    ensures { IfOk result (λ places. IsIndexed first places.items labels.now) }
+{
+    let mut places = Vec::new(alloc);
+    for x in labels {
+        enter(&mut places, x.label - first, x.place)?;
+    }
+    Ok(places)
+}
+
+// Adds the place of a label, unless an earlier one has its entry.
+fn enter(places: &mut Vec<Option<usize>>, entry: usize, place: usize) -> Result<(), NoMemory>
+    ensures { OnOk result ((k : ℕ)
+        → get_or places.new.items k None ≡ unless_told (get_or places.old.items k None) k entry place) }
+{
+    widen(places, entry)?;
+    if places[entry].is_none() {
+        places[entry] = Some(place);
     }
     Ok(())
 }
 
-// Adds a statement's place where it is a label.
-fn push_label(own: &mut Vec<LabelPlace>, action: &Action, place: usize) -> Result<(), NoMemory>
-    ensures { OnOk result (own.new.items ≡ own.old.items ++ place_if_label (action_of action.now) place) }
+// Makes room for this entry.
+fn widen(places: &mut Vec<Option<usize>>, entry: usize) -> Result<(), NoMemory>
+    ensures same { (k : ℕ) → get_or places.new.items k None ≡ get_or places.old.items k None }
+    ensures room { OnOk result (entry < length places.new.items) }
 {
-    match action {
-        Action::Label { label } => {
-            own.push(LabelPlace {
-                label: *label,
-                place,
-            })?;
-            Ok(())
-        }
-        _ => Ok(()),
+    let count = add(entry, 1)?;
+    let missing = count.saturating_sub(places.len());
+    for _ in 0..missing {
+        places.push(None)?;
     }
-}
-
-// The labels that stand directly in a block whose code begins at this place.
-fn labels_in(alloc: Global, actions: &[Action], start: usize) -> Result<Vec<LabelPlace>, NoMemory>
-    ensures { IfOk result (λ own. own.items ≡ places_in (actions_of actions.now) start) }
-{
-    let mut own = Vec::new(alloc);
-    let mut place = start;
-    for action in actions {
-        push_label(&mut own, action, place)?;
-        let size = action_size(action)?;
-        place = add(place, size)?;
-    }
-    Ok(own)
+    Ok(())
 }

@@ -4,12 +4,12 @@
 mod expressions;
 mod functions;
 mod globals;
+mod jumps;
 mod label_places;
 mod labels;
 pub mod laws;
 mod numbers;
 mod programs;
-mod sizes;
 mod statements;
 mod texts;
 
