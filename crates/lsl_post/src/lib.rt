@@ -7,6 +7,7 @@ mod entries;
 mod events;
 mod filters;
 mod listen;
+mod listen_table;
 mod listens;
 mod numbers;
 mod parts;

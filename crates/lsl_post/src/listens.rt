@@ -1,40 +1,32 @@
 //! The listens of a script.
 
-ghost use Rattle.std.specs.Prelude.{◌≡◌, ◌<◌, ◌∷◌, [], ◌++◌, length, Some, None, true, remove, slice_get, IfOk, OnOk, OnErr};
-ghost use Rattle.std.specs.Option.{option_map};
-ghost use Rattle.lsl_post.specs.Adding.{AddsListen, GivesListen};
+ghost use Rattle.std.specs.Prelude.{◌≡◌, ◌<◌, [], length, Some, slice_get, IfOk};
+ghost use Rattle.lsl_post.specs.Adding.{GivesListen};
 ghost use Rattle.lsl_post.specs.Filters.{filter};
-ghost use Rattle.lsl_post.specs.Listens.{closed, controlled, hears, is_number, no_listens, number_of, place_of_filter, standing, with_active_at, IsStanding};
+ghost use Rattle.lsl_post.specs.Listens.{closed, controlled, hears, no_listens, standing, IsStanding};
 
-use crate::filters::Filter;
 use crate::listen::{Listen, ListenFault};
-use crate::numbers::number_after;
-use indexmap::IndexMap;
+use crate::listen_table::ListenTable;
 use lsl_text::NoMemory;
 use lsl_value::Text;
 use std::alloc::Global;
 use std::marker::Model;
 
-/// How many listens stand at most.
-const MOST_LISTENS: usize = 65;
-
-/// At most 65 listens, in the order in which they were asked for, with the number of the next. They are found
-/// by what they ask in one look-up.
+/// At most 65 listens, in the order in which they were asked for, with the number of the next. Where none was ever
+/// asked for there is no table of them.
 #[derive(Drop)]
 pub struct Listens {
-    next: i32,
-    table: IndexMap<Filter, Listen>,
+    alloc: Global,
+    table: Option<Box<ListenTable>>,
 }
 
 impl Model for Listens {
-    ghost use Rattle.lsl_post.specs.Listens.{Standing, standing};
-    ghost use Rattle.lsl_post.specs.Tables.{listens_of, IsTable};
+    ghost use Rattle.lsl_post.specs.Listens.{Standing};
+    ghost use Rattle.lsl_post.specs.Tables.{listens_in};
 
     ghost Value = { Standing };
 
-    ghost view = { λ l. standing l.next (listens_of l.table.entries) };
-
-    ghost invariant = { λ l. IsTable l.next l.table.entries };
+    ghost view = { λ l. listens_in l.table };
 }
 
 impl Listens {
@@ -42,7 +34,7 @@ impl Listens {
     pub fn new(alloc: Global) -> Listens
         ensures { result ≡ no_listens }
     {
-        Listens::empty(alloc, 1)
+        Listens { alloc, table: None }
     }
 
     /// These listens. Takes memory to find them by.
@@ -50,18 +42,18 @@ impl Listens {
         requires { IsStanding (standing next list.items) }
         ensures { IfOk result (λ listens. listens ≡ standing next list.items) }
     {
-        let mut listens = Listens::empty(alloc, next);
-        for listen in list {
-            listens.push(listen)?;
-        }
-        Ok(listens)
+        let table = ListenTable::from_list(alloc, next, list)?;
+        Listens::of(alloc, table)
     }
 
     /// The number from which on the next listen's is looked for. Takes no memory.
     pub fn next(&self) -> i32
         ensures { result ≡ self.now.next }
     {
-        self.next
+        match &self.table {
+            Some(table) => table.next(),
+            None => 1,
+        }
     }
 
     /// How many listens stand. Takes no memory.
@@ -69,7 +61,10 @@ impl Listens {
         ensures value { result ≡ length self.now.list }
         ensures standing { IsStanding self.now }
     {
-        self.table.len() as u32
+        match &self.table {
+            Some(table) => table.count(),
+            None => 0,
+        }
     }
 
     /// The listen at this place, from 0. Takes no memory.
@@ -77,8 +72,8 @@ impl Listens {
         requires { place < length self.now.list }
         ensures { Some result.now ≡ slice_get self.now.list place }
     {
-        match self.table.get_index(place as usize) {
-            Some((_, listen)) => listen,
+        match &self.table {
+            Some(table) => table.listen(place),
             None => unreachable!(),
         }
     }
@@ -94,24 +89,18 @@ impl Listens {
     ) -> Result<i32, ListenFault>
         ensures { GivesListen (filter channel name id message) self.old self.new result }
     {
-        let filter = Filter {
-            channel,
-            name,
-            id,
-            message,
+        let Some(table) = &mut self.table else {
+            return self.add_first(channel, name, id, message);
         };
-        match self.table.get_index_of(&filter) {
-            Some(place) => Ok(self.set_active(place, true)),
-            None => self.add_new(filter),
-        }
+        table.add(channel, name, id, message)
     }
 
     /// Forgets the listen of this number, if there is one. Takes no memory; walks the listens.
     pub fn close(&mut self, number: i32)
         ensures { self.new ≡ closed number self.old }
     {
-        if let Some(place) = self.place_of(number) {
-            self.remove_at(place as usize);
+        if let Some(table) = &mut self.table {
+            table.close(number);
         }
     }
 
@@ -119,8 +108,8 @@ impl Listens {
     pub fn control(&mut self, number: i32, active: bool)
         ensures { self.new ≡ controlled number active self.old }
     {
-        if let Some(place) = self.place_of(number) {
-            let _number = self.set_active(place as usize, active);
+        if let Some(table) = &mut self.table {
+            table.control(number, active);
         }
     }
 
@@ -129,85 +118,55 @@ impl Listens {
     pub fn hears(&self, channel: i32, name: &Text, id: &Text, message: &Text) -> bool
         ensures { result ≡ hears (filter channel name.now id.now message.now) self.now }
     {
-        for place in 0..self.count() {
-            if self.listen(place).hears(channel, name, id, message) {
-                return true;
-            }
+        match &self.table {
+            Some(table) => table.hears(channel, name, id, message),
+            None => false,
         }
-        false
     }
 
     /// Forgets all listens; numbers go on. Takes no memory.
     pub fn clear(&mut self)
         ensures { self.new ≡ standing self.old.next [] }
     {
-        self.table.clear();
+        if let Some(table) = &mut self.table {
+            table.clear();
+        }
     }
 
     /// Equal listens.
     pub fn copy(&self, alloc: Global) -> Result<Listens, NoMemory>
         ensures { IfOk result (λ listens. listens ≡ self.now) }
     {
-        let mut copied = Listens::empty(alloc, self.next);
-        for place in 0..self.count() {
-            copied.push(self.listen(place).copy()?)?;
-        }
-        Ok(copied)
-    }
-}
-
-impl Listens {
-    // None stands, and this is the next number.
-    fn empty(alloc: Global, next: i32) -> Listens
-        requires { is_number next ≡ true }
-        ensures { result ≡ standing next [] }
-    {
-        Listens {
-            next,
-            table: IndexMap::new(alloc),
+        match &self.table {
+            Some(table) => Listens::of(alloc, table.copy(alloc)?),
+            None => Ok(Listens::new(alloc)),
         }
     }
 
-    // Makes the listen at this place active or not. Its number.
-    fn set_active(&mut self, place: usize, active: bool) -> i32
-        requires { place < length self.old.list }
-        ensures number { Some result ≡ option_map number_of (slice_get self.old.list place) }
-        ensures listens { self.new ≡ standing self.old.next (with_active_at active place self.old.list) }
+    // Asks for a listen where none was ever asked for.
+    fn add_first(
+        &mut self,
+        channel: i32,
+        name: Text,
+        id: Text,
+        message: Text,
+    ) -> Result<i32, ListenFault>
+        requires { self.old ≡ no_listens }
+        ensures { GivesListen (filter channel name id message) self.old self.new result }
     {
-        let listen = &mut self.table[place];
-        listen.active = active;
-        listen.number
+        let mut table = ListenTable::new(self.alloc);
+        let added = table.add(channel, name, id, message);
+        *self = Listens::of(self.alloc, table)?;
+        added
     }
 
-    // Forgets the listen at this place.
-    fn remove_at(&mut self, place: usize)
-        ensures { self.new ≡ standing self.old.next (remove self.old.list place) }
+    // Those of a table.
+    fn of(alloc: Global, table: ListenTable) -> Result<Listens, NoMemory>
+        ensures { IfOk result (λ listens. listens ≡ table) }
     {
-        drop(self.table.shift_remove_index(place));
-    }
-
-    // Adds a listen that asks what no other does.
-    fn add_new(&mut self, filter: Filter) -> Result<i32, ListenFault>
-        requires { place_of_filter filter self.old.list ≡ None }
-        ensures { AddsListen filter self.old self.new result }
-    {
-        if self.table.len() >= MOST_LISTENS {
-            return Err(ListenFault::TooMany);
-        }
-        let number = self.free_number();
-        self.push(Listen::new(number, filter))?;
-        self.next = number_after(number);
-        Ok(number)
-    }
-
-    // Adds a listen, whose number and values no other has.
-    fn push(&mut self, listen: Listen) -> Result<(), NoMemory>
-        requires { IsStanding (standing self.old.next (self.old.list ++ listen ∷ [])) }
-        ensures ok { OnOk result (self.new ≡ standing self.old.next (self.old.list ++ listen ∷ [])) }
-        ensures unchanged { OnErr result (self.new ≡ self.old) }
-    {
-        let filter = listen.filter()?;
-        drop(self.table.insert(filter, listen)?);
-        Ok(())
+        Ok(Listens {
+            alloc,
+            table: Some(Box::new(alloc, table)?),
+        })
     }
 }

@@ -3,12 +3,12 @@
 ghost use Rattle.std.specs.Prelude.{◌≡◌, ◌<◌, true, false, length, IfSome};
 ghost use Rattle.lsl_post.specs.Listens.{free_number, has_number, is_number, number_after, place_of_number};
 
-use crate::listens::Listens;
+use crate::listen_table::ListenTable;
 
-impl Listens {
+impl ListenTable {
     /// The first number from the next on that no listen has. Takes no memory; walks the listens for each
     /// number that one has.
-    pub fn free_number(&self) -> i32
+    pub(crate) fn free_number(&self) -> i32
         ensures value { result ≡ free_number self.now }
         ensures free { has_number self.now.list result ≡ false }
         ensures number { is_number result ≡ true }
@@ -31,7 +31,7 @@ impl Listens {
     }
 
     /// The place of the listen of this number, if it stands. Takes no memory; walks the listens.
-    pub fn place_of(&self, number: i32) -> Option<u32>
+    pub(crate) fn place_of(&self, number: i32) -> Option<u32>
         ensures place { result ≡ place_of_number number self.now.list }
         ensures within { IfSome result (λ place. place < length self.now.list) }
     {
@@ -45,7 +45,7 @@ impl Listens {
 }
 
 /// The number after a number: 1 behind the greatest.
-pub fn number_after(number: i32) -> i32
+pub(crate) fn number_after(number: i32) -> i32
     requires { is_number number ≡ true }
     ensures { result ≡ number_after number }
 {

@@ -16,7 +16,7 @@ const MOST_EVENTS: usize = 64;
 /// At most 64 events, the first to be taken first.
 #[derive(Drop)]
 pub struct Queue {
-    ring: HeapCircularBuffer<Event>,
+    ring: Box<HeapCircularBuffer<Event>>,
 }
 
 impl Model for Queue {
@@ -26,9 +26,9 @@ impl Model for Queue {
 
     ghost Value = { List Event };
 
-    ghost view = { λ q. q.ring.items };
+    ghost view = { λ q. q.ring.value.items };
 
-    ghost invariant = { λ q. q.ring.capacity ≡ most_events };
+    ghost invariant = { λ q. q.ring.value.capacity ≡ most_events };
 }
 
 impl Queue {
@@ -37,7 +37,9 @@ impl Queue {
         ensures { IfOk result (λ queue. queue ≡ []) }
     {
         let ring = HeapCircularBuffer::with_capacity(alloc, MOST_EVENTS)?;
-        Ok(Queue { ring })
+        Ok(Queue {
+            ring: Box::new(alloc, ring)?,
+        })
     }
 
     /// The event that waits longest, which goes. None where none waits.
