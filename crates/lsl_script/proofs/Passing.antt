@@ -1,5 +1,5 @@
 -- An awake script passes the tick at which it stands.
-use Rattle.std.proofs.Common.{◌≡◌, ℕ, false, ◌+◌, ◌-◌, ◌<◌, List, [], ◌++◌, refl, sym, ap, ◌∙◌, subst, arith}
+use Rattle.std.proofs.Common.{◌≡◌, ℕ, false, ◌+◌, ◌-◌, ◌<◌, ◌≤◌, List, [], ◌++◌, refl, sym, ap, ◌∙◌, subst, arith}
 use Rattle.lsl_running.specs.declared.host.Reply.{Reply}
 use Rattle.lsl_code.specs.declared.woven_units.Woven.{Woven as Code}
 use Rattle.lsl_machine.specs.declared.standing.Halt.TheVariants as halt
@@ -137,6 +137,18 @@ last_tick unit n old new (NoTick s) some = absurd (omega (arith, some))
 last_tick unit n old new (OneMore k s t u before one) some =
     let e : k ≡ k + 1 - 1 = omega arith in
     record { before = t; ticks = subst (λ (x : ℕ). PassesTicks unit x s t) e before; last = one }
+
+no_tick : (unit : Code) (n : ℕ) (old new : State) → PassesTicks unit n old new → n ≡ 0 → old ≡ new
+no_tick unit n old new (NoTick s) none = refl
+no_tick unit n old new (OneMore k s t u before one) none = absurd (omega (arith, none))
+
+-- a single one
+pub one_tick : (unit : Code) (n : ℕ) (old new : State) → PassesTicks unit n old new → 0 < n → n ≤ 1
+    → PassesTick unit old new
+one_tick unit n old new p some most =
+    let l = last_tick unit n old new p some in
+    subst (λ (s : State). PassesTick unit s new) (sym (no_tick unit (n - 1) old l.before l.ticks (omega (arith, most))))
+    l.last
 
 module _ (unit : Code) (live : Live) where
   abbrev with : State → Live

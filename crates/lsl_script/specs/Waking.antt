@@ -10,6 +10,7 @@ use Rattle.lsl_post.specs.declared.parts.Rest.{Rest}
 use Rattle.lsl_post.specs.declared.parts.Rest.TheVariants.{Idle, Saved, Dead}
 use Rattle.lsl_post.specs.declared.parts.ScriptParts.{ScriptParts}
 use Rattle.lsl_script.specs.declared.live.Live.{Live}
+use Rattle.lsl_script.specs.declared.waking.Handling.{Handling}
 use Rattle.lsl_script.specs.declared.waking.WakeFault.{WakeFault}
 use Rattle.lsl_script.specs.declared.waking.WakeFault.TheVariants.{NotReady, NoMemory}
 use Rattle.lsl_script.specs.Awake.{GoesOnAs, taken_by}
@@ -19,6 +20,27 @@ use Rattle.lsl_script.specs.Handlers.{take_next}
 use Rattle.lsl_script.specs.Lawful.{AsksAtMost}
 use Rattle.lsl_script.specs.Lives.{Lives, Rests, entries_of_taking}
 use Rattle.lsl_script.specs.Scripts.{Flight, Flying, Script, state_exit}
+
+-- it is there, and this holds of it
+abbrev pub IsThere : {X : Type 0} → Option X → (X → Type 0) → Type 0
+IsThere None P = ⊥
+IsThere (Some x) P = P x
+
+-- a script that took up a saved handler stands at its tick
+abbrev pub StandsWoken : Live → Type 0
+StandsWoken live = live.began ≡ false → live.machine.standing ≡ standing.AtTick
+
+-- the script of these parts, with a handler that begins or is taken up
+abbrev pub awake_with : ScriptParts → Handling → Live
+awake_with parts h = record {
+  parts = parts;
+  event = h.event;
+  handler = h.handler;
+  began = h.began;
+  fresh = h.began;
+  outcome = None;
+  machine = h.machine;
+}
 
 -- it can't run, and is handed back as it was, exactly where it isn't ready
 abbrev pub IsRefused : ℕ → ScriptParts → WakeFault → Type 0

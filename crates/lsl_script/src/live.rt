@@ -23,6 +23,7 @@ ghost use Rattle.lsl_script.specs.Lives.{Lives, Rests, Turns, Waits};
 ghost use Rattle.lsl_script.specs.Mailing.{LendsListens, LendsTimer, listening, ticking, turn_of, with_halt, with_listens, with_timer, with_wake};
 ghost use Rattle.lsl_script.specs.Passing.{PassesTo};
 ghost use Rattle.lsl_script.specs.Scripts.{Flight, Script as Source, entries_of_posting, is_ready, napped, post_to};
+ghost use Rattle.lsl_script.specs.Waking.{StandsWoken};
 
 use lsl_code::Woven;
 use lsl_machine::{Halt, Machine};
@@ -129,7 +130,8 @@ impl Live {
         ensures memory { result ≡ false → TakesNone (bodies_of unit.now) self.old.machine →
             TakesNone (bodies_of unit.now) self.new.machine }
     {
-        self.machine.pass_tick(unit)
+        let passed = self.machine.pass_ticks(unit, 1);
+        passed.1
     }
 
     /// Passes the tick at which the script stands, and further ones, at most so many in all, while its machine meets
@@ -157,6 +159,42 @@ impl Live {
             return (passed, true);
         }
         (passed - 1, false)
+    }
+
+    /// Goes on from where the script woke, as `go` does.
+    #[inline(always)]
+    pub fn start(&mut self, unit: &Woven) -> Turn
+        requires able { CanRun self.old.machine.standing }
+        requires awake { IsAwake unit.now self.old }
+        requires woken { StandsWoken self.old }
+        ensures awake { IsAwake unit.now self.new }
+        ensures stands { StandsAfter unit.now result self.new }
+        ensures beside { IsBeside self.old self.new }
+        ensures source { (codes : List Code) (s : Source) (f : Flight) → Lives codes unit.now s f self.old →
+            (self.old.began ≡ false → Rests codes unit.now s f self.old) → Turns codes unit.now s f result self.new }
+    {
+        if self.began {
+            self.go(unit)
+        } else {
+            self.go_from_tick(unit)
+        }
+    }
+
+    // From a tick, at which the script stands.
+    #[inline(always)]
+    fn go_from_tick(&mut self, unit: &Woven) -> Turn
+        requires stands { self.old.machine.standing ≡ standings.AtTick }
+        requires awake { IsAwake unit.now self.old }
+        ensures awake { IsAwake unit.now self.new }
+        ensures stands { StandsAfter unit.now result self.new }
+        ensures beside { IsBeside self.old self.new }
+        ensures source { (codes : List Code) (s : Source) (f : Flight) → Rests codes unit.now s f self.old →
+            Turns codes unit.now s f result self.new }
+    {
+        if self.pass_tick(unit) {
+            return Turn::AtTick;
+        }
+        self.go(unit)
     }
 
     // From the handler's start: to its first tick, and then on.

@@ -1,6 +1,6 @@
 //! A script wakes: it takes its next event and begins the handler, or takes up the one that was saved.
 
-ghost use Rattle.std.specs.Prelude.{◌≡◌, ℕ, true, false, is_some, IfOk, IfErr};
+ghost use Rattle.std.specs.Prelude.{◌≡◌, ℕ, Some, None, true, false, is_some, IfOk, IfErr, OnOk};
 ghost use Rattle.lsl_code.specs.Frames.{AreValid, points_of};
 ghost use Rattle.lsl_code.specs.Kinds.{kinds_of};
 ghost use Rattle.lsl_code.specs.Units.{handler_of};
@@ -14,7 +14,7 @@ ghost use Rattle.lsl_script.specs.Fitting.{FitsUnit, FitsStates, IsInHand, are_r
 ghost use Rattle.lsl_script.specs.Lawful.{Lawful};
 ghost use Rattle.lsl_script.specs.Parts.{parts_of};
 ghost use Rattle.lsl_script.specs.Scripts.{Script as Source, state_exit};
-ghost use Rattle.lsl_script.specs.Waking.{CanWake, IsEmptied, IsRefused, TakesNext, WakesAs, event_in, queue_behind, resting_parts};
+ghost use Rattle.lsl_script.specs.Waking.{CanWake, IsEmptied, IsRefused, IsThere, StandsWoken, TakesNext, WakesAs, awake_with, event_in, queue_behind, resting_parts};
 
 use crate::live::Live;
 use crate::scripts::{Script, state_exit_event};
@@ -33,6 +33,16 @@ pub enum WakeFault {
     /// it can't run; here it is, as it was
     NotReady(Script),
     NoMemory,
+}
+
+/// A handler that a script which wakes begins or takes up: the event in hand, the event's handler, whether it begins,
+/// and the machine that runs it.
+#[derive(Drop)]
+struct Handling {
+    event: Event,
+    handler: u16,
+    began: bool,
+    machine: Machine,
 }
 
 impl From<NoMemory> for WakeFault {
@@ -63,29 +73,59 @@ impl Script {
         if !self.ready(clock) {
             return Err(WakeFault::NotReady(self));
         }
-        Ok(Live::of(alloc, unit, self.into_parts())?)
+        let mut parts = self.into_parts();
+        let handling = Handling::of(alloc, unit, &mut parts)?;
+        Ok(handling.with(parts))
+    }
+
+    /// Wakes the script in this seat, which is ready, as `wake` does. It goes out of the seat and into the room; after
+    /// `NoMemory` it is gone.
+    pub fn wake_into(
+        seat: &mut Option<Script>,
+        room: &mut Option<Live>,
+        alloc: Global,
+        unit: &Woven,
+    ) -> Result<(), NoMemory>
+        requires fits { IsThere seat.old (FitsUnit unit.now) }
+        requires ready { IsThere seat.old CanWake }
+        requires weaves { Weaves unit.now }
+        ensures gone { seat.new ≡ None }
+        ensures awake { OnOk result (IsThere room.new (IsAwake unit.now)) }
+        ensures able { OnOk result (IsThere room.new (λ live. CanRun live.machine.standing)) }
+        ensures stands { OnOk result (IsThere room.new StandsWoken) }
+        ensures source { (codes : _) (s : Source) → HasUnit codes s.code unit.now → seat.old ≡ Some (parts_of codes s) →
+            Lawful (rules_of codes) s → OnOk result (IsThere room.new (WakesAs codes unit.now s)) }
+    {
+        let Some(script) = seat.take() else {
+            unreachable!();
+        };
+        let mut parts = script.into_parts();
+        let handling = Handling::of(alloc, unit, &mut parts)?;
+        *room = Some(handling.with(parts));
+        Ok(())
     }
 }
 
-impl Live {
-    // An awake script of these parts, which are ready.
-    fn of(alloc: Global, unit: &Woven, mut parts: ScriptParts) -> Result<Live, NoMemory>
-        requires fits { FitsUnit unit.now parts }
-        requires ready { CanWake parts }
+impl Handling {
+    // What these parts, which are ready, wake to; they keep what stays beside it.
+    fn of(alloc: Global, unit: &Woven, parts: &mut ScriptParts) -> Result<Handling, NoMemory>
+        requires fits { FitsUnit unit.now parts.old }
+        requires ready { CanWake parts.old }
         requires weaves { Weaves unit.now }
-        ensures awake { IfOk result (IsAwake unit.now) }
-        ensures able { IfOk result (λ live. CanRun live.machine.standing) }
-        ensures took { IfOk result (TakesNext unit.now parts) }
-        ensures source { (codes : _) (s : Source) → HasUnit codes s.code unit.now → parts ≡ parts_of codes s →
-            Lawful (rules_of codes) s → IfOk result (WakesAs codes unit.now s) }
+        ensures awake { IfOk result (λ handling. IsAwake unit.now (awake_with parts.new handling)) }
+        ensures able { IfOk result (λ handling. CanRun handling.machine.standing) }
+        ensures took { IfOk result (λ handling. TakesNext unit.now parts.old (awake_with parts.new handling)) }
+        ensures source { (codes : _) (s : Source) → HasUnit codes s.code unit.now → parts.old ≡ parts_of codes s →
+            Lawful (rules_of codes) s →
+            IfOk result (λ handling. WakesAs codes unit.now s (awake_with parts.new handling)) }
     {
         let kept = Kept {
             globals: replace(&mut parts.globals, Values::new(alloc)),
             limit: parts.limit,
         };
         match replace(&mut parts.rest, Rest::Idle) {
-            Rest::Idle => Live::begin(alloc, unit, parts, kept),
-            Rest::Saved(event, sack) => Live::take_up(alloc, unit, parts, kept, event, sack),
+            Rest::Idle => Handling::begin(alloc, unit, parts, kept),
+            Rest::Saved(event, sack) => Handling::take_up(alloc, unit, parts, kept, event, sack),
             Rest::Dead(_) => unreachable!(),
         }
     }
@@ -94,18 +134,19 @@ impl Live {
     fn begin(
         alloc: Global,
         unit: &Woven,
-        mut parts: ScriptParts,
+        parts: &mut ScriptParts,
         kept: Kept,
-    ) -> Result<Live, NoMemory>
-        requires fits { FitsUnit unit.now (resting_parts parts kept rests.Idle) }
-        requires due { is_some (event_in parts.leaving parts.queue) ≡ true }
-        requires idle { IsEmptied parts }
-        ensures awake { IfOk result (IsAwake unit.now) }
-        ensures able { IfOk result (λ live. CanRun live.machine.standing) }
-        ensures took { IfOk result (TakesNext unit.now (resting_parts parts kept rests.Idle)) }
+    ) -> Result<Handling, NoMemory>
+        requires fits { FitsUnit unit.now (resting_parts parts.old kept rests.Idle) }
+        requires due { is_some (event_in parts.old.leaving parts.old.queue) ≡ true }
+        requires idle { IsEmptied parts.old }
+        ensures awake { IfOk result (λ handling. IsAwake unit.now (awake_with parts.new handling)) }
+        ensures able { IfOk result (λ handling. CanRun handling.machine.standing) }
+        ensures took { IfOk result (λ handling.
+            TakesNext unit.now (resting_parts parts.old kept rests.Idle) (awake_with parts.new handling)) }
         ensures source { (codes : _) (s : Source) → HasUnit codes s.code unit.now →
-            resting_parts parts kept rests.Idle ≡ parts_of codes s → Lawful (rules_of codes) s →
-            IfOk result (WakesAs codes unit.now s) }
+            resting_parts parts.old kept rests.Idle ≡ parts_of codes s → Lawful (rules_of codes) s →
+            IfOk result (λ handling. WakesAs codes unit.now s (awake_with parts.new handling)) }
     {
         let event = next_event(alloc, parts.leaving, &mut parts.queue);
         let handler = handler_of(unit, parts.state, &event);
@@ -118,13 +159,10 @@ impl Live {
             limit,
             event.args.copy(alloc)?,
         )?;
-        Ok(Live {
-            parts,
+        Ok(Handling {
             event,
             handler,
             began: true,
-            fresh: true,
-            outcome: None,
             machine,
         })
     }
@@ -133,33 +171,52 @@ impl Live {
     fn take_up(
         alloc: Global,
         unit: &Woven,
-        parts: ScriptParts,
+        parts: &ScriptParts,
         kept: Kept,
         event: Event,
         sack: Sack,
-    ) -> Result<Live, NoMemory>
-        requires fits { FitsUnit unit.now (resting_parts parts kept (rests.Saved event sack)) }
-        requires idle { IsEmptied parts }
+    ) -> Result<Handling, NoMemory>
+        requires fits { FitsUnit unit.now (resting_parts parts.now kept (rests.Saved event sack)) }
+        requires idle { IsEmptied parts.now }
         requires weaves { Weaves unit.now }
-        ensures awake { IfOk result (IsAwake unit.now) }
-        ensures able { IfOk result (λ live. CanRun live.machine.standing) }
-        ensures took { IfOk result (TakesNext unit.now (resting_parts parts kept (rests.Saved event sack))) }
+        ensures awake { IfOk result (λ handling. IsAwake unit.now (awake_with parts.now handling)) }
+        ensures able { IfOk result (λ handling. CanRun handling.machine.standing) }
+        ensures took { IfOk result (λ handling.
+            TakesNext unit.now (resting_parts parts.now kept (rests.Saved event sack)) (awake_with parts.now handling)) }
         ensures source { (codes : _) (s : Source) → HasUnit codes s.code unit.now →
-            resting_parts parts kept (rests.Saved event sack) ≡ parts_of codes s → Lawful (rules_of codes) s →
-            IfOk result (WakesAs codes unit.now s) }
+            resting_parts parts.now kept (rests.Saved event sack) ≡ parts_of codes s → Lawful (rules_of codes) s →
+            IfOk result (λ handling. WakesAs codes unit.now s (awake_with parts.now handling)) }
     {
         let handler = handler_of(unit, parts.state, &event);
         let mut steps = 0;
         let machine = Machine::restore(alloc, unit, handler, Parked { sack, kept }, &mut steps)?;
-        Ok(Live {
-            parts,
+        Ok(Handling {
             event,
             handler,
             began: false,
-            fresh: false,
-            outcome: None,
             machine,
         })
+    }
+
+    // The script of these parts, awake.
+    fn with(self, parts: ScriptParts) -> Live
+        ensures { result ≡ awake_with parts self }
+    {
+        let Handling {
+            event,
+            handler,
+            began,
+            machine,
+        } = self;
+        Live {
+            parts,
+            event,
+            handler,
+            began,
+            fresh: began,
+            outcome: None,
+            machine,
+        }
     }
 }
 

@@ -7,7 +7,7 @@ use Rattle.lsl_script.proofs.Origins.{parked_left, restored_runs}
 use Rattle.lsl_script.proofs.Running.{begun_so}
 use Rattle.lsl_script.proofs.TakesUp.{taken_up, taken_wakes}
 use Rattle.lsl_script.proofs.Wakes.{emptied}
-use Rattle.lsl_script.proofs.live.Live.take_up.Goals as goal
+use Rattle.lsl_script.proofs.waking.Handling.take_up.Goals as goal
 
 pub returns-clause-awake : goal.returns-clause-awake
 returns-clause-awake c =
@@ -33,7 +33,7 @@ returns-clause-took c = record {
   took = refl;
   event = refl;
   fresh = refl;
-  beside = emptied c.args.parts c.args.parts.queue c.requires.idle;
+  beside = emptied c.args.parts.now c.args.parts.now.queue c.requires.idle;
   begins = λ began. absurd cc;
   has = λ saved. c.in_ok-machine.ensures.kept;
   stands = λ saved. c.in_ok-machine.ensures.stands;
@@ -43,12 +43,12 @@ pub returns-clause-source : goal.returns-clause-source
 returns-clause-source c codes s known is lawful =
     let unit = c.args.unit.now in
     let handler = c.handler_of-handler.result in
-    let t = taken_up codes unit s c.args.parts c.args.kept c.args.event handler c.args.sack known is lawful
+    let t = taken_up codes unit s c.args.parts.now c.args.kept c.args.event handler c.args.sack known is lawful
     c.handler_of-handler.ensures in
     let frames : HasFrames (bodies_of unit) handler t.machine.calls c.args.sack =
     subst (λ (x : List Frame). HasFrames (bodies_of unit) handler t.machine.calls x) (sym t.has_frames)
     t.saved.frames in
-    taken_wakes codes unit s c.args.parts c.args.kept c.args.event handler c.args.sack _ known c.requires.idle is
+    taken_wakes codes unit s c.args.parts.now c.args.kept c.args.event handler c.args.sack _ known c.requires.idle is
     lawful t
     refl refl refl refl refl c.in_ok-machine.ensures.stands c.in_ok-machine.ensures.kept c.in_ok-machine.ensures.silent
     (c.in_ok-machine.ensures.same c.requires.weaves t.machine.calls frames)

@@ -12,16 +12,16 @@ use Rattle.lsl_script.proofs.Origins.{begun_goes, begun_runs}
 use Rattle.lsl_script.proofs.Running.{begun_runs_so}
 use Rattle.lsl_script.proofs.Units.{arguments_fit}
 use Rattle.lsl_script.proofs.Wakes.{begun_wakes, behind_fits, emptied, taken_handled}
-use Rattle.lsl_script.proofs.live.Live.begin.Goals as goal
+use Rattle.lsl_script.proofs.waking.Handling.begin.Goals as goal
 
 pub handler_of-handler-requires : goal.handler_of-handler-requires
 handler_of-handler-requires c =
-    (taken_handled c.args.unit.now.states c.args.parts.state c.args.parts.leaving c.args.parts.queue
+    (taken_handled c.args.unit.now.states c.args.parts.now.state c.args.parts.now.leaving c.args.parts.now.queue
     c.next_event-event.result c.requires.fits.states c.next_event-event.ensures.event).0
 
 pub begin-requires-clause-args : goal.begin-requires-clause-args
 begin-requires-clause-args c =
-    let a = arguments_fit c.args.unit.now c.args.parts.state c.handler_of-handler.result c.next_event-event.result
+    let a = arguments_fit c.args.unit.now c.args.parts.now.state c.handler_of-handler.result c.next_event-event.result
     c.handler_of-handler.ensures in
     let same : c.in_ok-copy.field-0 ≡ c.next_event-event.result.args = c.in_ok-copy.ensures in
     subst (λ o. AreArguments o c.in_ok-copy.field-0) (sym a.1) (ap kinds_of same ∙ a.2)
@@ -29,7 +29,7 @@ begin-requires-clause-args c =
 pub returns-clause-awake : goal.returns-clause-awake
 returns-clause-awake c =
     let unit = c.args.unit.now in
-    let parts = c.args.parts in
+    let parts = c.args.parts.now in
     let taken = taken_handled unit.states parts.state parts.leaving parts.queue c.next_event-event.result
     c.requires.fits.states c.next_event-event.ensures.event in
     record {
@@ -49,7 +49,7 @@ returns-clause-awake c =
 pub returns-clause-took : goal.returns-clause-took
 returns-clause-took c =
     let unit = c.args.unit.now in
-    let parts = c.args.parts in
+    let parts = c.args.parts.now in
     let first = c.next_event-event.ensures.event in
     let handler = c.handler_of-handler.result in
     let kept = kept_with c.args.kept.globals c.args.kept.limit in
@@ -70,7 +70,7 @@ returns-clause-took c =
 pub returns-clause-source : goal.returns-clause-source
 returns-clause-source c codes s known is lawful =
     let unit = c.args.unit.now in
-    let parts = c.args.parts in
+    let parts = c.args.parts.now in
     let handler = c.handler_of-handler.result in
     let kept = kept_with c.args.kept.globals c.args.kept.limit in
     let same : c.in_ok-copy.field-0 ≡ c.next_event-event.result.args = c.in_ok-copy.ensures in
