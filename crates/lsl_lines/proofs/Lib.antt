@@ -8,6 +8,7 @@ pub mod LineLemmas
 pub mod ReadBack
 pub mod Texts
 pub mod Top
+pub mod WordLemmas
 pub mod WrittenFields
 pub mod WrittenFiles
 pub mod WrittenLines

@@ -6,10 +6,8 @@ use Rattle.std.specs.Str.{encode_utf8_all}
 use Rattle.lsl_text.specs.Quoted.{escaped, quoted}
 use Rattle.lsl_value.specs.Text.{IsText}
 use Rattle.lsl_lines.specs.Checks.{◌>>=◌}
-use Rattle.lsl_lines.specs.Words.{words_of, quoted_words, behind_quote}
+use Rattle.lsl_lines.specs.Words.{Quoted, Word, behind_quote, quoted_words, words_of}
 use Rattle.lsl_lines.specs.declared.faults.FileKind.{FileKind}
-use Rattle.lsl_lines.specs.declared.words.Word.{Word}
-use Rattle.lsl_lines.specs.declared.words.Word.TheVariants.{Quoted}
 use Rattle.lsl_lines.proofs.Texts.{text_of-text}
 
 abbrev Words : Type 0

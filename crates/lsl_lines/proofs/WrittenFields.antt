@@ -17,12 +17,11 @@ use Rattle.lsl_value.specs.Limits.{most_text_bytes}
 use Rattle.lsl_value.proofs.KeyLemmas.{passes-in_range}
 use Rattle.lsl_lines.specs.Checks.{◌>>=◌, fault_unless}
 use Rattle.lsl_lines.specs.Fields.{digits_of, integer_of, is_decimal, is_negative, key_of, magnitude_of, name_of, natural_of, signed_of}
-use Rattle.lsl_lines.specs.Words.{text_of}
+use Rattle.lsl_lines.specs.Words.{Plain, Quoted, text_of}
 use Rattle.lsl_lines.specs.Writable.{IsInteger, IsLowerKey, IsName}
 use Rattle.lsl_lines.specs.Written.{integer, number}
 use Rattle.lsl_lines.specs.declared.faults.FileKind.{FileKind}
 use Rattle.lsl_lines.specs.declared.faults.FileKind.TheVariants.{BadLine}
-use Rattle.lsl_lines.specs.declared.words.Word.TheVariants.{Plain, Quoted}
 use Rattle.lsl_lines.proofs.Texts.{text_of-text}
 use Rattle.lsl_lines.proofs.WrittenWords.{IsPlain, is_word_byte, plain_ascii}
 

@@ -11,7 +11,7 @@ use Rattle.lsl_lines.specs.Fields.{integer_of, key_of, name_of, natural_of, quot
 use Rattle.lsl_lines.specs.Forms.{clock_of, say_of, touch_of, changed_of, rez_of, go_of, run_of, pause_of, cross_of, object_of, prim_of, note_of, script_of, each_gap, form_of, form_of_words, gap_of, gaps_of, number_of, row_of, step_of, ticks_of}
 use Rattle.lsl_lines.specs.Lines.{lines_of}
 use Rattle.lsl_lines.specs.Reading.{line_added, read_line}
-use Rattle.lsl_lines.specs.Words.{is_skipped, words_of}
+use Rattle.lsl_lines.specs.Words.{Plain, Quoted, Word, is_skipped, words_of}
 use Rattle.lsl_lines.specs.Writable.{IsGap, IsInteger, IsLowerKey, IsName}
 use Rattle.lsl_lines.specs.Written.{gap_words, integer, line_text, line_words, number, step_words}
 use Rattle.lsl_lines.specs.declared.faults.FileKind.{FileKind}
@@ -21,8 +21,6 @@ use Rattle.lsl_lines.specs.declared.file.Step.TheVariants.{Clock, Say, Touch, Ch
 use Rattle.lsl_lines.specs.declared.forms.Line.{Line}
 use Rattle.lsl_lines.specs.declared.forms.Line.TheVariants.{Object, Prim, Script, Note, Begin, Step, End}
 use Rattle.lsl_lines.specs.declared.reading.Reading.{Reading}
-use Rattle.lsl_lines.specs.declared.words.Word.{Word}
-use Rattle.lsl_lines.specs.declared.words.Word.TheVariants.{Plain, Quoted}
 use Rattle.lsl_lines.proofs.WrittenFields.{integer_back, integer_plain, key_back, key_plain, name_back, number_back, number_plain}
 use Rattle.lsl_lines.proofs.WrittenWords.{BeginsPlain, IsLineOf, IsPlain, IsWritten, is_word_byte, line_of-words, plain_utf8}
 

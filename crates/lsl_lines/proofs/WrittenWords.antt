@@ -15,11 +15,9 @@ use Rattle.lsl_lines.specs.Checks.{◌>>=◌}
 use Rattle.lsl_lines.specs.Journal.{joined, spaced, text_word}
 use Rattle.lsl_lines.specs.Lines.{lines_of}
 use Rattle.lsl_lines.specs.Reads.{is_in_line, without_return}
-use Rattle.lsl_lines.specs.Words.{behind_quote, is_blank, is_skipped, plain_words, quoted_words, words_of}
+use Rattle.lsl_lines.specs.Words.{Plain, Quoted, Word, behind_quote, is_blank, is_skipped, plain_words, quoted_words, words_of}
 use Rattle.lsl_lines.specs.Written.{written}
 use Rattle.lsl_lines.specs.declared.faults.FileKind.{FileKind}
-use Rattle.lsl_lines.specs.declared.words.Word.{Word}
-use Rattle.lsl_lines.specs.declared.words.Word.TheVariants.{Plain, Quoted}
 use Rattle.lsl_lines.proofs.LineLemmas.{line_cut}
 use Rattle.lsl_lines.proofs.ReadBack.{all_back}
 use Rattle.lsl_lines.proofs.Texts.{text_of-text}

@@ -6,11 +6,9 @@ use Rattle.std.specs.Str.{encode_utf8_all}
 use Rattle.std.specs.Str.Parse.{digits_value}
 use Rattle.lsl_value.specs.Key.{is_valid_key}
 use Rattle.lsl_lines.specs.Checks.{◌>>=◌, fault_unless}
-use Rattle.lsl_lines.specs.Words.{text_of}
+use Rattle.lsl_lines.specs.Words.{Plain, Quoted, Word, text_of}
 use Rattle.lsl_lines.specs.declared.faults.FileKind.{FileKind}
 use Rattle.lsl_lines.specs.declared.faults.FileKind.TheVariants.{BadLine}
-use Rattle.lsl_lines.specs.declared.words.Word.{Word}
-use Rattle.lsl_lines.specs.declared.words.Word.TheVariants.{Plain, Quoted}
 
 -- a word without quotes
 abbrev pub plain_of : Word → Result (List ℕ) FileKind

@@ -3,14 +3,13 @@ use Rattle.std.specs.Prelude.{ℕ, ◌==◌, nat_le, nat_lt, cond, ◌&&◌, Lis
 use Rattle.std.specs.Str.{bytes_eq, is_utf8}
 use Rattle.lsl_lines.specs.Checks.{◌>>=◌, fault_unless}
 use Rattle.lsl_lines.specs.Fields.{plain_of, quoted_of, natural_of, integer_of, key_of, name_of}
-use Rattle.lsl_lines.specs.Words.{words_of}
+use Rattle.lsl_lines.specs.Words.{Word, words_of}
 use Rattle.lsl_lines.specs.declared.faults.FileKind.{FileKind}
 use Rattle.lsl_lines.specs.declared.faults.FileKind.TheVariants.{BadLine}
 use Rattle.lsl_lines.specs.declared.file.Step.{Step as TheStep}
 use Rattle.lsl_lines.specs.declared.file.Step.TheVariants.{Clock, Say, Touch, Changed, Rez, Go, Run, Pause, Cross}
 use Rattle.lsl_lines.specs.declared.forms.Line.{Line}
 use Rattle.lsl_lines.specs.declared.forms.Line.TheVariants.{Object, Prim, Script, Note, Begin, Step, End}
-use Rattle.lsl_lines.specs.declared.words.Word.{Word}
 
 -- the number of an object, a script or a prim
 abbrev pub number_of : Word → Result ℕ FileKind

@@ -5,8 +5,7 @@ use Rattle.std.specs.Str.{encode_utf8_all}
 use Rattle.lsl_text.specs.Quoted.{quoted}
 use Rattle.lsl_value.specs.Text.{IsText}
 use Rattle.lsl_lines.specs.Lines.{lines_of}
-use Rattle.lsl_lines.specs.Words.{words_of}
-use Rattle.lsl_lines.specs.declared.words.Word.TheVariants.{Quoted}
+use Rattle.lsl_lines.specs.Words.{Quoted, words_of}
 
 -- a text as it is written between quotes is one word, and stands for that text
 abbrev pub ReadBack : Type 0

@@ -9,6 +9,7 @@ pub mod Laws
 pub mod Lines
 pub mod Reading
 pub mod Reads
+pub mod WordForm
 pub mod Words
 pub mod World
 pub mod Writable

@@ -1,15 +1,14 @@
 -- What the functions of the code give, against the definitions. No public clause cites these.
-use Rattle.std.specs.Prelude.{◌≡◌, ℕ, ◌==◌, Bool, true, false, not, cond, List, [], ◌∷◌, min, Result, Ok, Err}
+use Rattle.std.specs.Prelude.{◌≡◌, ℕ, ◌==◌, Bool, true, false, not, cond, ◌||◌, List, [], ◌∷◌, min, Result, Ok, Err}
 use Rattle.lsl_text.specs.declared.Refusal.{Refusal}
 use Rattle.lsl_text.specs.declared.Refusal.TheVariants.{Fault, NoMemory}
 use Rattle.lsl_lines.specs.Checks.{◌>>=◌, fault_unless}
-use Rattle.lsl_lines.specs.Words.{is_blank, words_of}
+use Rattle.lsl_lines.specs.Words.{Word, behind_quote, is_blank, text_of, words_of}
 use Rattle.lsl_lines.specs.World.{fault_at}
 use Rattle.lsl_lines.specs.declared.faults.FileFault.{FileFault}
 use Rattle.lsl_lines.specs.declared.faults.FileKind.{FileKind}
 use Rattle.lsl_lines.specs.declared.faults.FileKind.TheVariants.{BadLine}
 use Rattle.lsl_lines.specs.declared.file.WorldFile.{WorldFile}
-use Rattle.lsl_lines.specs.declared.words.Word.{Word}
 
 -- the code gives what the checks give, or lacks memory
 abbrev pub Gives : {A : Type 0} → Result A (Refusal FileKind) → Result A FileKind → Type 0
@@ -34,6 +33,10 @@ GivesWord view (Ok x) words = words ≡ ahead (view x).0 (view x).1
 GivesWord view (Err (Fault kind)) words = words ≡ Err kind
 GivesWord view (Err NoMemory) words = Unit {0}
 
+-- the words from a quoted one on, whose bytes stand before its second quote
+abbrev pub closed_words : List ℕ → List ℕ → Result (List Word) FileKind
+closed_words bytes line = text_of bytes >>= λ text. behind_quote text line
+
 -- a line that may stand directly behind a quoted word
 abbrev pub behind_of : List ℕ → Result (List ℕ) FileKind
 behind_of [] = Ok []
@@ -55,6 +58,13 @@ abbrev pub Makes : {A B : Type 0} → Result A (Refusal FileKind) → B → Resu
 Makes (Ok x) made checked = checked ≡ Ok made
 Makes (Err (Fault kind)) made checked = checked ≡ Err kind
 Makes (Err NoMemory) made checked = Unit {0}
+
+abbrev pub is_in_word : ℕ → Bool
+is_in_word b = not (is_blank b)
+
+-- a byte that stands for itself between quotes
+abbrev pub is_verbatim : ℕ → Bool
+is_verbatim b = not (b == 34 || b == 92)
 
 abbrev pub is_in_line : ℕ → Bool
 is_in_line b = not (b == 10)

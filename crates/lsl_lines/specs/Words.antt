@@ -5,8 +5,11 @@ use Rattle.lsl_value.specs.Limits.{most_text_bytes}
 use Rattle.lsl_lines.specs.Checks.{◌>>=◌, fault_unless}
 use Rattle.lsl_lines.specs.declared.faults.FileKind.{FileKind}
 use Rattle.lsl_lines.specs.declared.faults.FileKind.TheVariants.{BadLine}
-use Rattle.lsl_lines.specs.declared.words.Word.{Word}
-use Rattle.lsl_lines.specs.declared.words.Word.TheVariants.{Plain, Quoted}
+
+-- a word: the bytes between blanks, or the text between quotes
+pub data Word : Type 0 where
+  Plain : List ℕ → Word
+  Quoted : List ℕ → Word
 
 -- a tab or a space
 abbrev pub is_blank : ℕ → Bool

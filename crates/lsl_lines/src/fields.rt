@@ -2,8 +2,8 @@
 
 ghost use Rattle.std.specs.Prelude.{◌≡◌, ◌≤◌, ◌<◌, map, true, false, IfOk};
 ghost use Rattle.std.specs.Char.{to_ascii_lowercase};
-ghost use Rattle.lsl_lines.specs.Fields.{plain_of, quoted_of, digits_of, magnitude_of, is_negative, signed_of, natural_of, integer_of, key_of, name_of};
-ghost use Rattle.lsl_lines.specs.Reads.{Gives, GivesBy, capped};
+ghost use Rattle.lsl_lines.specs.Fields.{quoted_of, digits_of, magnitude_of, is_negative, signed_of, natural_of, integer_of, key_of, name_of};
+ghost use Rattle.lsl_lines.specs.Reads.{Gives, capped};
 
 use crate::faults::FileKind;
 use crate::words::{Word, text};
@@ -21,24 +21,6 @@ const CAP: u64 = 4_294_967_296_000;
 
 /// How many bytes a name has at most.
 const MAX_NAME_BYTES: usize = 255;
-
-pub fn plain(word: &Word) -> Field<&[u8]>
-    ensures { GivesBy (λ b. b.now) result (plain_of word.now) }
-{
-    match word {
-        Word::Plain(bytes) => Ok(bytes.as_slice()),
-        Word::Quoted(_) => Err(BAD_LINE),
-    }
-}
-
-fn quoted(word: &Word) -> Field<&Text>
-    ensures { GivesBy (λ t. t.now) result (quoted_of word.now) }
-{
-    match word {
-        Word::Plain(_) => Err(BAD_LINE),
-        Word::Quoted(text) => Ok(text),
-    }
-}
 
 // The number of one digit or more, and the cap for every greater one.
 fn digits(bytes: &[u8]) -> Field<u64>
@@ -80,7 +62,7 @@ pub fn natural(word: &Word, most: u64) -> Field<u64>
     ensures value { Gives result (natural_of most word.now) }
     ensures within { IfOk result (λ n. n ≤ most) }
 {
-    let bytes = plain(word)?;
+    let bytes = word.plain()?;
     let n = magnitude(bytes)?;
     let limit = if is_negative(bytes) { 0 } else { most };
     if n > limit { Err(BAD_LINE) } else { Ok(n) }
@@ -97,7 +79,7 @@ pub fn short(word: &Word, most: u32) -> Field<u32>
 pub fn integer(word: &Word) -> Field<i32>
     ensures { Gives result (integer_of word.now) }
 {
-    let bytes = plain(word)?;
+    let bytes = word.plain()?;
     let n = magnitude(bytes)?;
     if is_negative(bytes) {
         lowered(n)
@@ -128,7 +110,7 @@ fn lowered(n: u64) -> Field<i32>
 pub fn key(alloc: Global, word: &Word) -> Field<Text>
     ensures { Gives result (key_of word.now) }
 {
-    let lower = lower(alloc, plain(word)?)?;
+    let lower = lower(alloc, word.plain()?)?;
     let key = text(alloc, lower.as_slice())?;
     if valid_key(&key) {
         Ok(key)
@@ -147,7 +129,7 @@ fn lower(alloc: Global, bytes: &[u8]) -> Result<Vec<u8>, NoMemory>
 pub fn name(word: &Word) -> Field<Text>
     ensures { Gives result (name_of word.now) }
 {
-    let name = quoted(word)?;
+    let name = word.quoted()?;
     if name.bytes().len() > MAX_NAME_BYTES {
         return Err(BAD_LINE);
     }
@@ -158,5 +140,5 @@ pub fn name(word: &Word) -> Field<Text>
 pub fn free(word: &Word) -> Field<Text>
     ensures { Gives result (quoted_of word.now) }
 {
-    Ok(quoted(word)?.copy()?)
+    Ok(word.quoted()?.copy()?)
 }

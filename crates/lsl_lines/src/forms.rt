@@ -3,10 +3,10 @@
 ghost use Rattle.lsl_lines.specs.Forms.{utf8_of, form_of, form_of_words, row_of, object_of, prim_of, script_of, note_of, alone_of};
 ghost use Rattle.lsl_lines.specs.Reads.{Gives, GivesBy};
 
-use crate::fields::{BAD_LINE, Field, key, name, plain};
+use crate::fields::{BAD_LINE, Field, key, name};
 use crate::file::Step;
 use crate::steps::parse_step;
-use crate::words::{Word, words};
+use crate::words::{Word, read_words};
 use lsl_value::Text;
 use std::alloc::Global;
 
@@ -26,12 +26,13 @@ pub enum Line {
     End,
 }
 
-/// What the line says. Takes memory for its words and texts.
+/// What the line says, whose words take the place of others. Takes memory for texts, and for more words than ever before.
 #[tactic(auto, unfolding(crate::specs::Forms::form_of))]
-pub fn parse_line(alloc: Global, line: &[u8]) -> Field<Line>
+pub fn parse_line<'a>(alloc: Global, line: &'a [u8], words: &mut Vec<Word<'a>>) -> Field<Line>
     ensures { Gives result (form_of line.now) }
 {
-    let words = words(alloc, utf8(line)?.as_bytes())?;
+    utf8(line)?;
+    read_words(alloc, line, words)?;
     parse_words(alloc, words.as_slice())
 }
 
@@ -39,7 +40,7 @@ fn parse_words(alloc: Global, words: &[Word]) -> Field<Line>
     ensures { Gives result (form_of_words words.now) }
 {
     match words {
-        [first, rest @ ..] => parse_row(alloc, utf8(plain(first)?)?, rest),
+        [first, rest @ ..] => parse_row(alloc, utf8(first.plain()?)?, rest),
         [] => Err(BAD_LINE),
     }
 }

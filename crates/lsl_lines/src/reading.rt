@@ -7,7 +7,7 @@ use crate::file::{NoteLine, ObjectLine, ScriptLine, Step};
 use crate::forms::{Line, parse_line};
 use crate::keys::Keys;
 use crate::lasts::{add_last_prim, add_last_script};
-use crate::words::is_skipped;
+use crate::words::{Word, is_skipped};
 use lsl_code::Sequence;
 use lsl_value::Text;
 use std::alloc::{AllocError, Global};
@@ -91,15 +91,20 @@ impl Reading {
         }
     }
 
-    /// Reads a line. After a refusal the value is only to be dropped.
+    /// Reads a line, whose words take the place of others. After a refusal the value is only to be dropped.
     #[tactic(auto, unfolding(crate::specs::Reading::read_line))]
-    pub fn read_line(&mut self, alloc: Global, line: &[u8]) -> Field<()>
+    pub fn read_line<'a>(
+        &mut self,
+        alloc: Global,
+        line: &'a [u8],
+        words: &mut Vec<Word<'a>>,
+    ) -> Field<()>
         ensures { Makes result self.new (read_line line.now self.old) }
     {
         if is_skipped(line) {
             return Ok(());
         }
-        let line = parse_line(alloc, line)?;
+        let line = parse_line(alloc, line, words)?;
         self.add_line(alloc, line)
     }
 

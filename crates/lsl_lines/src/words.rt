@@ -1,20 +1,74 @@
 //! Lines and words.
 
-ghost use Rattle.std.specs.Prelude.{◌≡◌, ◌≤◌, ◌∷◌, [], length, IfOk};
-ghost use Rattle.lsl_lines.specs.Reads.{Gives, GivesBy, GivesWord, behind_of};
-ghost use Rattle.lsl_lines.specs.Words.{is_blank, is_skipped, escape_of, text_of, words_of, plain_words, quoted_words};
+ghost use Rattle.std.specs.Prelude.{◌≡◌, ◌≤◌, ◌<◌, [], length, take, drop, IfOk};
+ghost use Rattle.std.specs.List.{prefix_len};
+ghost use Rattle.lsl_lines.specs.Fields.{plain_of, quoted_of};
+ghost use Rattle.lsl_lines.specs.Reads.{Gives, GivesBy, GivesWord, Makes, ahead, behind_of, closed_words, is_in_word, is_verbatim};
+ghost use Rattle.lsl_lines.specs.Words.{Plain, Quoted, is_blank, is_skipped, escape_of, text_of, words_of, plain_words, quoted_words};
 
-use crate::faults::FileKind;
-use lsl_code::Sequence;
-use lsl_text::Refusal;
+use crate::fields::{BAD_LINE, Field};
 use lsl_value::Text;
 use std::alloc::Global;
+use std::marker::Model;
 
-/// A word: what stands between blanks, or the text between quotes.
+/// A word of a line: what stands between blanks, or the text between quotes. The bytes are the line's own.
 #[derive(Drop)]
-pub enum Word {
-    Plain(Sequence<u8>),
+pub struct Word<'a> {
+    form: Form<'a>,
+}
+
+#[derive(Drop)]
+enum Form<'a> {
+    Plain(&'a [u8]),
     Quoted(Text),
+}
+
+impl<'a> Model for Word<'a> {
+    ghost use Rattle.lsl_lines.specs.Words.{Word as TheWord};
+
+    ghost Value = { TheWord };
+
+    ghost use Rattle.lsl_lines.specs.WordForm.{word_of};
+
+    ghost view = { λ w. word_of w.form };
+}
+
+impl<'a> Word<'a> {
+    fn from_plain(bytes: &'a [u8]) -> Word<'a>
+        ensures { result ≡ Plain bytes.now }
+    {
+        Word {
+            form: Form::Plain(bytes),
+        }
+    }
+
+    fn from_quoted(text: Text) -> Word<'a>
+        ensures { result ≡ Quoted text }
+    {
+        Word {
+            form: Form::Quoted(text),
+        }
+    }
+
+    /// The bytes of a word without quotes.
+    pub fn plain(&self) -> Field<&[u8]>
+        ensures { GivesBy (λ b. b.now) result (plain_of self.now) }
+    {
+        match &self.form {
+            Form::Plain(bytes) => Ok(*bytes),
+            Form::Quoted(_) => Err(BAD_LINE),
+        }
+    }
+
+    /// The text of a quoted word.
+    pub fn quoted(&self) -> Field<&Text>
+        ensures { GivesBy (λ t. t.now) result (quoted_of self.now) }
+    {
+        match &self.form {
+            Form::Plain(_) => Err(BAD_LINE),
+            Form::Quoted(text) => Ok(text),
+        }
+    }
 }
 
 /// Whether the byte is a tab or a space.
@@ -38,11 +92,12 @@ pub fn is_skipped(line: &[u8]) -> bool
     true
 }
 
-/// The words of a line. Takes memory for them.
-pub fn words(alloc: Global, line: &[u8]) -> Result<Vec<Word>, Refusal<FileKind>>
-    ensures { GivesBy (λ v. v.items) result (words_of line.now) }
+/// Puts the words of a line in the place of others. Takes memory where they are more than ever before, and for the
+/// texts of quoted ones.
+pub fn read_words<'a>(alloc: Global, line: &'a [u8], words: &mut Vec<Word<'a>>) -> Field<()>
+    ensures { Makes result words.new.items (words_of line.now) }
 {
-    let mut words = Vec::new(alloc);
+    words.clear();
     let mut rest = line;
     'words: while let [b, more @ ..] = rest {
         if is_blank(*b) {
@@ -51,33 +106,72 @@ pub fn words(alloc: Global, line: &[u8]) -> Result<Vec<Word>, Refusal<FileKind>>
         }
         let (word, behind) = match *b {
             b'"' => quoted(alloc, more)?,
-            _ => plain(alloc, *b, more)?,
+            _ => plain(rest),
         };
         words.push(word)?;
         rest = behind;
     }
-    Ok(words)
+    Ok(())
 }
 
-// The plain word that begins with this byte, and what stands behind it.
-fn plain(alloc: Global, first: u8, line: &[u8]) -> Result<(Word, &[u8]), Refusal<FileKind>>
-    ensures word { GivesWord (λ x. (x.0, x.1.now)) result (plain_words (first ∷ []) line.now) }
-    ensures shorter { IfOk result (λ x. length x.1.now ≤ length line.now) }
+// The plain word that the line begins with, and what stands behind it.
+fn plain(line: &[u8]) -> (Word, &[u8])
+    requires { 0 < length line.now }
+    ensures word { plain_words (take 1 line.now) (drop 1 line.now) ≡ ahead result.0 result.1.now }
+    ensures shorter { length result.1.now < length line.now }
 {
-    let mut front = vec![in alloc; first]?;
+    let size = 1 + word_length(&line[1..]);
+    (Word::from_plain(&line[..size]), &line[size..])
+}
+
+// How many bytes stand before the first blank.
+fn word_length(line: &[u8]) -> usize
+    ensures count { result ≡ prefix_len is_in_word line.now }
+    ensures within { result ≤ length line.now }
+{
+    let mut n = 0;
     let mut rest = line;
     'bytes: while let [b, more @ ..] = rest {
         if is_blank(*b) {
             break;
         }
-        front.push(*b)?;
+        n += 1;
         rest = more;
     }
-    Ok((Word::Plain(Sequence::from_vec(front)), rest))
+    n
 }
 
 // The quoted word behind a quote, and what stands behind it.
-fn quoted(alloc: Global, line: &[u8]) -> Result<(Word, &[u8]), Refusal<FileKind>>
+fn quoted(alloc: Global, line: &[u8]) -> Field<(Word, &[u8])>
+    ensures word { GivesWord (λ x. (x.0, x.1.now)) result (quoted_words [] line.now) }
+    ensures shorter { IfOk result (λ x. length x.1.now ≤ length line.now) }
+{
+    let size = verbatim_length(line);
+    if size < line.len() && line[size] == b'"' {
+        return closed(alloc, &line[..size], &line[size + 1..]);
+    }
+    escaped(alloc, line)
+}
+
+// How many bytes stand before the first quote or backslash.
+fn verbatim_length(line: &[u8]) -> usize
+    ensures count { result ≡ prefix_len is_verbatim line.now }
+    ensures within { result ≤ length line.now }
+{
+    let mut n = 0;
+    let mut rest = line;
+    'bytes: while let [b, more @ ..] = rest {
+        if *b == b'"' || *b == b'\\' {
+            break;
+        }
+        n += 1;
+        rest = more;
+    }
+    n
+}
+
+// The same as `quoted`, byte by byte.
+fn escaped(alloc: Global, line: &[u8]) -> Field<(Word, &[u8])>
     ensures word { GivesWord (λ x. (x.0, x.1.now)) result (quoted_words [] line.now) }
     ensures shorter { IfOk result (λ x. length x.1.now ≤ length line.now) }
 {
@@ -85,10 +179,7 @@ fn quoted(alloc: Global, line: &[u8]) -> Result<(Word, &[u8]), Refusal<FileKind>
     let mut rest = line;
     'bytes: while let [b, more @ ..] = rest {
         match (*b, more) {
-            (b'"', _) => return Ok((
-                Word::Quoted(text(alloc, front.as_slice())?),
-                behind_quote(more)?,
-            )),
+            (b'"', _) => return closed(alloc, front.as_slice(), more),
             (b'\\', [c, after @ ..]) => {
                 front.push(escape(*c)?)?;
                 rest = after;
@@ -100,36 +191,46 @@ fn quoted(alloc: Global, line: &[u8]) -> Result<(Word, &[u8]), Refusal<FileKind>
             }
         }
     }
-    Err(Refusal::Fault(FileKind::BadLine))
+    Err(BAD_LINE)
+}
+
+// The word of these bytes, whose quote stands before the rest of the line.
+fn closed<'a>(alloc: Global, bytes: &[u8], line: &'a [u8]) -> Field<(Word<'a>, &'a [u8])>
+    ensures word { GivesWord (λ x. (x.0, x.1.now)) result (closed_words bytes.now line.now) }
+    ensures shorter { IfOk result (λ x. length x.1.now ≤ length line.now) }
+{
+    let text = text(alloc, bytes)?;
+    let behind = behind_quote(line)?;
+    Ok((Word::from_quoted(text), behind))
 }
 
 // What stands behind a quoted word: nothing, or a blank and more.
-fn behind_quote(line: &[u8]) -> Result<&[u8], Refusal<FileKind>>
+fn behind_quote(line: &[u8]) -> Field<&[u8]>
     ensures { GivesBy (λ r. r.now) result (behind_of line.now) }
 {
     match line {
-        [b, ..] if !is_blank(*b) => Err(Refusal::Fault(FileKind::BadLine)),
+        [b, ..] if !is_blank(*b) => Err(BAD_LINE),
         _ => Ok(line),
     }
 }
 
 // What this byte stands for behind a backslash.
-fn escape(b: u8) -> Result<u8, Refusal<FileKind>>
+fn escape(b: u8) -> Field<u8>
     ensures { Gives result (escape_of b) }
 {
     match b {
         b'"' | b'\\' => Ok(b),
         b'n' => Ok(b'\n'),
-        _ => Err(Refusal::Fault(FileKind::BadLine)),
+        _ => Err(BAD_LINE),
     }
 }
 
 /// The text of these bytes. Takes memory for it.
-pub fn text(alloc: Global, bytes: &[u8]) -> Result<Text, Refusal<FileKind>>
+pub fn text(alloc: Global, bytes: &[u8]) -> Field<Text>
     ensures { Gives result (text_of bytes.now) }
 {
     match Text::from_utf8(alloc, bytes)? {
         Some(text) => Ok(text),
-        None => Err(Refusal::Fault(FileKind::BadLine)),
+        None => Err(BAD_LINE),
     }
 }

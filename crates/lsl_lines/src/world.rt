@@ -24,11 +24,12 @@ pub fn read_file(alloc: Global, text: &[u8]) -> Result<WorldFile, Refusal<FileFa
         return Err(fault_at(0, FileKind::TooLong));
     }
     let mut reading = Reading::new(alloc);
+    let mut words = Vec::new(alloc);
     let mut number = 1;
     let mut rest = text;
     'lines: while !rest.is_empty() {
         let (line, behind) = first_line(rest);
-        if let Err(refusal) = reading.read_line(alloc, line) {
+        if let Err(refusal) = reading.read_line(alloc, line, &mut words) {
             return Err(refused_at(number, refusal));
         }
         number += 1;
