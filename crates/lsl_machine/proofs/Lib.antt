@@ -27,6 +27,9 @@ pub mod Sacking
 pub mod Chained
 pub mod BackCharged
 pub mod Waking
+pub mod Blocked
+pub mod Looked
+pub mod Ordered
 pub mod Putting
 pub mod Totals
 pub mod Sealing

@@ -1,10 +1,12 @@
 pub mod Appending
+pub mod Blocks
 pub mod CallsRestored
 pub mod CallsSaved
 pub mod Entry
 pub mod Fused
 pub mod Futures
 pub mod Integers
+pub mod Known
 pub mod Laid
 pub mod Memory
 pub mod Parking

@@ -31,11 +31,13 @@ use std::marker::Model;
 use std::mem::replace;
 
 mod appending;
+mod blocks;
 mod calls;
 mod entering;
 mod fused;
 mod integers;
 mod jumps;
+mod known;
 mod limits;
 mod operands;
 mod operating;

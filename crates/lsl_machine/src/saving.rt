@@ -1,6 +1,6 @@
 //! Saving: the code of each call's function keeps the call as a frame.
 
-ghost use Rattle.std.specs.Prelude.{◌≡◌, ◌++◌, ◌∷◌, [], ℕ, List, IfOk, OnOk, Some, None};
+ghost use Rattle.std.specs.Prelude.{◌≡◌, ◌++◌, ◌∷◌, ◌≤◌, [], ℕ, List, IfOk, OnOk, Some, None, drop, length};
 ghost use Rattle.lsl_value.specs.declared.tagged.Value.{Value as Tagged};
 ghost use Rattle.lsl_code.specs.Machine.{MachineCall};
 ghost use Rattle.lsl_code.specs.Packs.{packed};
@@ -9,9 +9,11 @@ ghost use Rattle.lsl_code.specs.Weaves.{bodies_of};
 ghost use Rattle.lsl_code.specs.declared.instructions.Instr.TheVariants as instrs;
 ghost use Rattle.lsl_weave.specs.WovenCalls.{RestAtTick};
 ghost use Rattle.lsl_machine.specs.Laid.{Held, IsVacant, kept_of, machine_of};
+ghost use Rattle.lsl_machine.specs.Known.{IsKept};
 ghost use Rattle.lsl_machine.specs.CallsSaved.{AreSaved, CanKeep, CanSeal, DidKeep, HasCall, HasSealed, low_of};
 
 use crate::calls::shorten;
+use crate::known::{KnownKeep, point_of};
 use crate::running::{Activation, Room, Running};
 use lsl_code::{Instr, Pack, Sack, Woven};
 use lsl_running::Kept;
@@ -29,8 +31,51 @@ pub struct Saver {
 }
 
 impl Saver {
-    /// Keeps the call in hand as its function's code does, and leaves it.
-    pub fn seal(&mut self, unit: &Woven) -> Result<(), NoMemory>
+    /// Keeps the call in hand as its function's code does, and leaves it. How the last call was kept is remembered.
+    #[inline(always)]
+    pub fn seal(&mut self, unit: &Woven, last: &mut Option<KnownKeep>) -> Result<(), NoMemory>
+        requires call { CanSeal (bodies_of unit.now) self.old }
+        requires known { IsKept (bodies_of unit.now) last.old }
+        ensures frame { OnOk result (HasSealed (bodies_of unit.now) self.old self.new) }
+        ensures left { OnOk result (self.new.stack.items ≡ low_of self.old) }
+        ensures known { IsKept (bodies_of unit.now) last.new }
+    {
+        let Activation {
+            function,
+            place,
+            base,
+            floor,
+            ..
+        } = self.active;
+        let count = self.stack.len() - base;
+        match point_of(last, unit, function, place, floor - base, count) {
+            Some(point) => self.close_in_order(point),
+            None => self.seal_by_code(unit),
+        }
+    }
+
+    /// Closes the frame at this point, whose values are the call's as they lie, and leaves the call.
+    #[inline(always)]
+    fn close_in_order(&mut self, point: u16) -> Result<(), NoMemory>
+        requires base { self.old.active.base ≤ length self.old.stack.items }
+        requires hand { self.old.pack.hand ≡ [] }
+        ensures sealed { OnOk result (self.new.pack ≡ packed (self.old.pack.frames
+            ++ frame_of self.old.active.function point (drop self.old.active.base self.old.stack.items) ∷ []) []) }
+        ensures left { OnOk result (self.new.stack.items ≡ low_of self.old) }
+    {
+        let base = self.active.base;
+        'values: while self.stack.len() > base {
+            let Some(value) = self.stack.pop() else {
+                unreachable!();
+            };
+            self.pack.keep(value)?;
+        }
+        self.pack.seal(self.active.function, point)
+    }
+
+    /// The same, instruction by instruction.
+    #[inline(never)]
+    fn seal_by_code(&mut self, unit: &Woven) -> Result<(), NoMemory>
         requires { CanSeal (bodies_of unit.now) self.old }
         ensures frame { OnOk result (HasSealed (bodies_of unit.now) self.old self.new) }
         ensures left { OnOk result (self.new.stack.items ≡ low_of self.old) }
@@ -127,7 +172,7 @@ impl Saver {
 
 impl Running {
     /// What the unit's own code saves the calls as, the innermost first, the globals with the limit, and the room that
-    /// the calls had. The values move, and each is touched so often as the code names it.
+    /// the calls had. The values move.
     pub fn save(self, unit: &Woven) -> Result<(Sack, Kept, Room), NoMemory>
         requires laid { Held self }
         requires rests { (handler : ℕ) × RestAtTick (bodies_of unit.now) handler (machine_of self).calls }
@@ -154,10 +199,11 @@ impl Running {
             stack,
             pack,
         };
-        saver.seal(unit)?;
+        let mut last = None;
+        saver.seal(unit, &mut last)?;
         while let Some(caller) = callers.pop() {
             saver.active = caller;
-            saver.seal(unit)?;
+            saver.seal(unit, &mut last)?;
         }
         let Saver {
             mut stack,
