@@ -30,6 +30,8 @@ pub mod Waking
 pub mod Blocked
 pub mod Looked
 pub mod Ordered
+pub mod LayingOut
+pub mod AtOnce
 pub mod Putting
 pub mod Totals
 pub mod Sealing

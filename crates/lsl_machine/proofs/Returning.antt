@@ -94,6 +94,24 @@ module _ (unit : Woven) (handler : ℕ) (frames : List Frame) (kept : Kept)
   pub body_there : (body : Body) × (slice_get bodies handler ≡ Some body)
   body_there = let w = whole_of unit handler frames kept valid.0 in (w.body, w.found)
 
+  -- a whole run is no longer than can be counted
+  pub run_short : (m : Machine) (n : ℕ) → BackRun bodies handler frames (beside kept) m n
+      → n ≤ 9223372036854775807
+  run_short m n run =
+      let all = whole_of unit handler frames kept valid.0 in
+      let same : run.0 ≡ all.body = cc (run.2, all.found) in
+      let other = alone (back_step bodies) n (beside kept) (beside_of m) (begins_restoring handler run.0 frames)
+      (awake_with m.calls run.1 [] []) run.3 in
+      let here = subst (λ (b : Body). repeat (back_step bodies) n (begins_restoring handler b frames)
+      ≡ Some (awake_with m.calls run.1 [] [])) same other in
+      let one = one_end (back_step bodies) n all.count (begins_restoring handler all.body frames)
+      (awake_with m.calls run.1 [] []) (awake_with all.calls all.point [] []) here refl all.ran refl in
+      let few = all.few in
+      let some = frames_few frames in
+      let within = valid.1 in
+      let e = one.0 in
+      omega arith
+
   module _ (r : Restorer) (k : ℕ) (x : IsReturning unit handler frames r k) where
     total : Whole unit handler frames
     total = whole_of unit handler frames kept valid.0

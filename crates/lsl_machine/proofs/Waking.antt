@@ -142,7 +142,7 @@ entered_again bodies old r t callee charge w land found charged stack room grows
         (λ x. record { function = b.function; place = b.place; base = b.base; floor = b.floor; charge = x }) e
 
 -- a call that is charged less than the greatest number is kept as it is
-uncapped : (calls : List MachineCall) → base calls ≤ 18446744073709551615
+pub uncapped : (calls : List MachineCall) → base calls ≤ 18446744073709551615
     → map capped (activations calls) ≡ activations calls
 uncapped [] le = refl
 uncapped (c ∷ outer) le =

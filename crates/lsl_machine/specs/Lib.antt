@@ -8,6 +8,7 @@ pub mod Futures
 pub mod Integers
 pub mod Known
 pub mod Laid
+pub mod Layouts
 pub mod Memory
 pub mod Parking
 pub mod Passing

@@ -38,6 +38,7 @@ mod fused;
 mod integers;
 mod jumps;
 mod known;
+mod layouts;
 mod limits;
 mod operands;
 mod operating;

@@ -16,6 +16,7 @@ ghost use Rattle.lsl_machine.specs.CallsRestored.{Backs, CanBack, IsRestored, Is
 ghost use Rattle.lsl_machine.specs.Laid.{IsVacant, Lays};
 
 use crate::calls::{above, push_empties};
+use crate::layouts::Layout;
 use crate::running::{Activation, Room, Running};
 use lsl_code::{Instr, Pack, Sack, Woven};
 use lsl_running::{CALL_CHARGE, Kept, SCRIPT_CHARGE, charged_with_values};
@@ -267,6 +268,44 @@ pub fn instruction(unit: &Woven, function: u16, place: usize) -> Option<&Instr>
 /// The machine that the unit's own code makes of these frames of the handler's function, beside these globals and this
 /// limit. The room is used again. The count of steps grows by one for each instruction.
 pub fn restore(
+    alloc: Global,
+    unit: &Woven,
+    handler: u16,
+    sack: Sack,
+    kept: Kept,
+    room: Room,
+    steps: &mut u64,
+) -> Result<Running, NoMemory>
+    requires valid { AreValid (points_of (bodies_of unit.now)) handler kept.globals kept.limit sack }
+    requires limit { kept.limit ≤ default_limit }
+    requires vacant { IsVacant room }
+    requires steps { steps.old ≤ 9223372036854775807 }
+    ensures restored { IfOk result (λ running.
+        IsRestored (bodies_of unit.now) handler sack kept running (steps.new - steps.old)) }
+    ensures counted { steps.old ≤ steps.new }
+    ensures lacking { OnErr result ((m : Restored) (n : ℕ) →
+        BackRun (bodies_of unit.now) handler sack (beside kept) m n → steps.new - steps.old ≤ n) }
+{
+    let Room { callers, stack } = room;
+    match Layout::of(unit, handler, &sack, callers)? {
+        Some(layout) => {
+            let count = layout.steps;
+            let running = layout.into_running(alloc, sack, stack, kept)?;
+            *steps += count;
+            Ok(running)
+        }
+        None => {
+            let room = Room {
+                callers: Vec::new(alloc),
+                stack,
+            };
+            restore_by_code(alloc, unit, handler, sack, kept, room, steps)
+        }
+    }
+}
+
+// The same, instruction by instruction.
+fn restore_by_code(
     alloc: Global,
     unit: &Woven,
     handler: u16,

@@ -1,88 +1,80 @@
-use Rattle.std.proofs.Common.{◌≡◌, sym, subst, arith, ◌+◌, ◌-◌, Result, OnErr, Ok, Err}
+use Rattle.std.proofs.Common.{◌≡◌, subst, arith, ◌+◌, ◌-◌, Result, OnErr, Ok, Err}
+use Rattle.std.specs.Prelude.{IfSome}
 use Rattle.lsl_code.specs.Weaves.{bodies_of}
-use Rattle.lsl_machine.specs.CallsRestored.{Backs, IsRestored}
-use Rattle.lsl_machine.proofs.Returning.{begins_so, body_there, can_back, counts_on, ends, ends_within, goes_on, has_next, part_of}
+use Rattle.lsl_machine.specs.CallsRestored.{IsRestored}
+use Rattle.lsl_machine.specs.Layouts.{IsLayout}
+use Rattle.lsl_machine.proofs.AtOnce.{counts, restored, some_calls}
 use Rattle.lsl_machine.proofs.restoring.restore.Goals as goal
-
-pub begin-requires-clause-there : goal.begin-requires-clause-there
-begin-requires-clause-there c =
-    body_there c.args.unit.now c.args.handler c.args.sack c.args.kept c.requires.valid c.requires.limit
-
-pub loop-i-init : goal.loop-i-init
-loop-i-init c =
-    let b = body_there c.args.unit.now c.args.handler c.args.sack c.args.kept c.requires.valid
-    c.requires.limit in
-    record {
-      way = begins_so c.args.unit.now c.args.handler c.args.sack c.in_ok-restorer.restorer b.0 b.1
-          (c.in_ok-restorer.ensures b.0 b.1);
-      counted = omega arith;
-    }
-
-pub unreachable-requires : goal.unreachable-requires
-unreachable-requires c =
-    has_next c.args.unit.now c.args.handler c.args.sack c.args.kept c.requires.valid c.requires.limit
-    c.loop-i.restorer c.loop-i.i c.loop-i.invariant.way (sym c.in_default.ensures)
-
-pub overflow_add-steps : goal.overflow_add-steps
-overflow_add-steps c =
-    let few = counts_on c.args.unit.now c.args.handler c.args.sack c.args.kept c.requires.valid
-    c.requires.limit c.loop-i.restorer c.loop-i.i c.loop-i.invariant.way in
-    let start = c.requires.steps in
-    let now = c.loop-i.invariant.counted in
-    omega arith
-
-pub back-requires : goal.back-requires
-back-requires c =
-    can_back c.args.unit.now c.args.handler c.args.sack c.args.kept c.requires.valid c.requires.limit
-    c.loop-i.restorer c.loop-i.i c.loop-i.invariant.way c.in-Some.instr.now (sym c.in-Some.ensures)
 
 on_err_all : {T E : Type 0} (r : Result T E) {P : Type 0} → P → OnErr r P
 on_err_all (Ok x) p = tt
 on_err_all (Err e) p = p
 
-pub returns-in_err-back-clause-lacking : goal.returns-in_err-back-clause-lacking
-returns-in_err-back-clause-lacking c =
-    on_err_all c.from_residual-in_err-back.result
-    (λ m n run.
-    let le = part_of c.args.unit.now c.args.handler c.args.sack c.args.kept c.requires.valid c.requires.limit
-    c.loop-i.restorer c.loop-i.i c.loop-i.invariant.way m n run in
-    let now = c.loop-i.invariant.counted in
-    omega arith)
+pub of-requires : goal.of-requires
+of-requires c = c.requires.vacant.0
 
-pub finish-requires : goal.finish-requires
-finish-requires c =
-    let backs = subst (λ b. Backs (bodies_of c.args.unit.now) c.in-Some.instr.now c.loop-i.restorer b
-    c.back.new.self) c.if-branch.true c.in_ok-back.ensures in
-    ends_within c.args.unit.now c.args.handler c.args.sack c.args.kept c.requires.valid c.requires.limit
-    c.loop-i.restorer c.loop-i.i c.loop-i.invariant.way c.in-Some.instr.now (sym c.in-Some.ensures) c.back.new.self
-    backs
+pub returns-in_err-layout-clause-lacking : goal.returns-in_err-layout-clause-lacking
+returns-in_err-layout-clause-lacking c = on_err_all c.from_residual.result (λ m n run. omega arith)
 
-pub returns-then-branch-clause-restored : goal.returns-then-branch-clause-restored
-returns-then-branch-clause-restored c =
-    let backs = subst (λ b. Backs (bodies_of c.args.unit.now) c.in-Some.instr.now c.loop-i.restorer b
-    c.back.new.self) c.if-branch.true c.in_ok-back.ensures in
-    let now = c.loop-i.invariant.counted in
-    let count : c.loop-i.i + 1 ≡ c.loop-i.steps + 1 - c.args.steps.now = omega arith in
-    subst (IsRestored (bodies_of c.args.unit.now) c.args.handler c.args.sack c.args.kept c.finish.result) count
-    (ends c.args.unit.now c.args.handler c.args.sack c.args.kept c.requires.valid c.requires.limit
-    c.loop-i.restorer c.loop-i.i c.loop-i.invariant.way c.in-Some.instr.now (sym c.in-Some.ensures) c.back.new.self
-    c.finish.result backs c.finish.ensures.lays c.finish.ensures.room)
+pub into_running-requires-clause-calls : goal.into_running-requires-clause-calls
+into_running-requires-clause-calls c =
+    some_calls (bodies_of c.args.unit.now) c.args.handler c.args.sack c.in-Some.layout
+    (subst (λ o. IfSome o (IsLayout (bodies_of c.args.unit.now) c.args.handler c.args.sack)) c.in-Some.is
+    c.in_ok-layout.ensures)
 
-pub loop-i-preserved : goal.loop-i-preserved
-loop-i-preserved c =
-    let backs = subst (λ b. Backs (bodies_of c.args.unit.now) c.in-Some.instr.now c.loop-i.restorer b
-    c.back.new.self) c.if-branch.false c.in_ok-back.ensures in
-    let now = c.loop-i.invariant.counted in
-    record {
-      way = goes_on c.args.unit.now c.args.handler c.args.sack c.args.kept c.requires.valid c.requires.limit
-          c.loop-i.restorer c.loop-i.i c.loop-i.invariant.way c.in-Some.instr.now (sym c.in-Some.ensures)
-          c.back.new.self backs;
-      counted = omega arith;
-    }
+pub into_running-requires-clause-vacant : goal.into_running-requires-clause-vacant
+into_running-requires-clause-vacant c = c.requires.vacant.1
 
-pub unreachable-requires-2 : goal.unreachable-requires-2
-unreachable-requires-2 c =
-    let few = counts_on c.args.unit.now c.args.handler c.args.sack c.args.kept c.requires.valid
-    c.requires.limit c.loop-i.restorer c.loop-i.i c.loop-i.invariant.way in
-    let all = c.loop-i-test.false in
+pub into_running-requires-clause-room : goal.into_running-requires-clause-room
+into_running-requires-clause-room c =
+    let x : IsLayout (bodies_of c.args.unit.now) c.args.handler c.args.sack c.in-Some.layout =
+    subst (λ o. IfSome o (IsLayout (bodies_of c.args.unit.now) c.args.handler c.args.sack)) c.in-Some.is
+    c.in_ok-layout.ensures in
+    x.room
+
+pub returns-in_err-running-in-Some-clause-lacking : goal.returns-in_err-running-in-Some-clause-lacking
+returns-in_err-running-in-Some-clause-lacking c =
+    on_err_all c.from_residual-in_err-running-in-Some.result (λ m n run. omega arith)
+
+pub overflow_add-steps : goal.overflow_add-steps
+overflow_add-steps c =
+    let few = counts c.args.unit.now c.args.handler c.args.sack c.args.kept c.requires.valid c.requires.limit
+    c.in-Some.layout
+    (subst (λ o. IfSome o (IsLayout (bodies_of c.args.unit.now) c.args.handler c.args.sack)) c.in-Some.is
+    c.in_ok-layout.ensures) in
+    let start = c.requires.steps in
     omega arith
+
+pub returns-in_ok-running-in-Some-clause-restored : goal.returns-in_ok-running-in-Some-clause-restored
+returns-in_ok-running-in-Some-clause-restored c =
+    let count : c.in-Some.layout.steps ≡ c.args.steps.now + c.in-Some.layout.steps - c.args.steps.now = omega arith in
+    subst (IsRestored (bodies_of c.args.unit.now) c.args.handler c.args.sack c.args.kept
+    c.in_ok-running-in-Some.running) count
+    (restored c.args.unit.now c.args.handler c.args.sack c.args.kept c.requires.valid c.requires.limit
+    c.in-Some.layout
+    (subst (λ o. IfSome o (IsLayout (bodies_of c.args.unit.now) c.args.handler c.args.sack)) c.in-Some.is
+    c.in_ok-layout.ensures) c.in_ok-running-in-Some.running c.in_ok-running-in-Some.ensures)
+
+pub returns-in_ok-running-in-Some-clause-counted : goal.returns-in_ok-running-in-Some-clause-counted
+returns-in_ok-running-in-Some-clause-counted c = omega arith
+
+pub restore_by_code-requires-clause-valid : goal.restore_by_code-requires-clause-valid
+restore_by_code-requires-clause-valid c = c.requires.valid
+
+pub restore_by_code-requires-clause-limit : goal.restore_by_code-requires-clause-limit
+restore_by_code-requires-clause-limit c = c.requires.limit
+
+pub restore_by_code-requires-clause-vacant : goal.restore_by_code-requires-clause-vacant
+restore_by_code-requires-clause-vacant c = (c.new.ensures.items, c.requires.vacant.1)
+
+pub restore_by_code-requires-clause-steps : goal.restore_by_code-requires-clause-steps
+restore_by_code-requires-clause-steps c = c.requires.steps
+
+pub returns-in-None-clause-restored : goal.returns-in-None-clause-restored
+returns-in-None-clause-restored c = c.restore_by_code.ensures.restored
+
+pub returns-in-None-clause-counted : goal.returns-in-None-clause-counted
+returns-in-None-clause-counted c = c.restore_by_code.ensures.counted
+
+pub returns-in-None-clause-lacking : goal.returns-in-None-clause-lacking
+returns-in-None-clause-lacking c = c.restore_by_code.ensures.lacking

@@ -1,6 +1,6 @@
 use Rattle.std.proofs.Common.{◌≡◌, ◌+◌}
 use Rattle.lsl_machine.proofs.Returning.{IsReturning}
-use Rattle.lsl_machine.proofs.restoring.restore.Given as goal
+use Rattle.lsl_machine.proofs.restoring.restore_by_code.Given as goal
 
 -- so many instructions were done and counted
 abbrev pub invariant-loop-i : goal.invariant-loop-i
