@@ -49,7 +49,7 @@ at-equal row c x b h e = ap (has_channel row) ((Decides-int_eq c x).0 e) ∙ h
 
 -- one channel of a row more
 module _ (row : List ℤ) (i : ℕ) (x : ℤ) (there : i < length row) (at : get_or row i x ≡ x) (c : ℤ) where
-  one-more : has_channel (take (i + 1) row) c ≡ (has_channel (take i row) c || int_eq c x)
+  pub one-more : has_channel (take (i + 1) row) c ≡ (has_channel (take i row) c || int_eq c x)
   one-more = list_any_more (int_eq c) row i x there
       ∙ ap (λ (z : ℤ). has_channel (take i row) c || int_eq c z) at
 

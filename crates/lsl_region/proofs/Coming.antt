@@ -5,12 +5,15 @@ use Rattle.std.proofs.lemmas.Option.{slice_get_within}
 use Rattle.lsl_code.specs.declared.woven_units.Woven.{Woven as Code}
 use Rattle.lsl_post.specs.declared.parts.ScriptParts.{ScriptParts}
 use Rattle.lsl_script.specs.Codes.{HasUnit, rules_of}
+use Rattle.lsl_script.specs.Fitting.{FitsUnit}
 use Rattle.lsl_script.specs.Lawful.{Lawful}
 use Rattle.lsl_script.specs.Parts.{parts_of}
 use Rattle.lsl_script.specs.Scripts.{Script}
+use Rattle.lsl_script.specs.Waking.{CanWake, IsThere}
+use Rattle.lsl_script.proofs.Readies.{ready_wakes}
 use Rattle.lsl_region.specs.declared.grid.Seat.{Seat}
 use Rattle.lsl_region.specs.Grids.{AreSeated, Contents, FitsSeat, IsLawful, Stands, is_out, seat_of, outline_of}
-use Rattle.lsl_region.specs.Turning.{IsUnitAt, with_seated}
+use Rattle.lsl_region.specs.Turning.{IsReady, IsUnitAt, with_seated}
 use Rattle.lsl_region.specs.Worlds.{Member, World, with_member}
 use Rattle.lsl_region.proofs.Away.{away-seat, other-home, self-out}
 use Rattle.lsl_region.proofs.Placed.{seated-at, stands-with}
@@ -57,6 +60,12 @@ module _ (codes : List Code) (clock place : ℕ) (grid : Contents) (w : World) (
         lawful = subst (λ (b : Bool). IsLawful codes b t) (sym (self-out place)) tt;
       }) refl refl (ap (slice_set grid.seats place) same)
       (λ k other. other-home place k (λ e. other (sym e)))
+
+-- a script that is ready in its seat is there, and can wake
+pub ready-there : (clock : ℕ) (unit : Code) (script : Option ScriptParts) → IsReady clock script → FitsSeat unit script
+    → IsThere script (FitsUnit unit) × IsThere script CanWake
+ready-there clock unit None ready fits = absurd ready
+ready-there clock unit (Some parts) ready fits = (fits, ready_wakes clock parts ready)
 
 -- the seat that is read at a place
 pub seat-is : (g h : Contents) (n : ℕ) (x seat : Seat) → g ≡ h → slice_get g.seats n ≡ Some x

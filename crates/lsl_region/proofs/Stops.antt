@@ -278,6 +278,10 @@ module _ (codes : List Code) (unit : Code) (clock place : ℕ) (grid : Contents)
               (m.most s.code (b.stands.scripts place b.member b.at).known) b.asks;
         }
 
+    pub begun-rests : live.began ≡ false → Rests codes unit begun-goes.member.script b.flight live
+    unfolding begun-goes
+    begun-rests = b.rests
+
 -- a script wakes and takes its next event
 module _ (codes : List Code) (unit : Code) (clock place : ℕ) (grid : Contents) (w : World) (u : Member) (seat : Seat)
     (st : Stands codes None clock grid w) (at : slice_get w.members place ≡ Some u)
@@ -315,6 +319,10 @@ module _ (codes : List Code) (unit : Code) (clock place : ℕ) (grid : Contents)
                     (subst (λ (n : ℕ). AsksAtMost (rules_of codes) u.script.code n k.flight
                     ((rules_of codes).most u.script.code)) (sym beside.state) k.asks);
                 flies = k.flies (place + 1);
+                rests = λ saved.
+                    let r = k.rests saved in
+                    subst (λ (s : Script). Rests codes unit s k.flight live)
+                    (sym (ap (λ (d : Doing). (take_next (place + 1) u.script d).value) r.flies)) r;
               }),
           e ∙ ap (λ (es : List Entry). out ++ es) (sym taken-entries),
         )

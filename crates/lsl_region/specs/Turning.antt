@@ -18,6 +18,7 @@ use Rattle.lsl_script.specs.Lives.{Lives, Rests, Turns}
 use Rattle.lsl_script.specs.Passing.{PassesPart, PassesTo}
 use Rattle.lsl_script.specs.Rules.{Rules}
 use Rattle.lsl_script.specs.Scripts.{Flight, Flying}
+use Rattle.lsl_script.specs.Waking.{IsThere}
 use Rattle.lsl_region.specs.declared.grid.Seat.{Seat}
 use Rattle.lsl_region.specs.Grids.{Contents, Stands}
 use Rattle.lsl_region.specs.Segments.{asked}
@@ -32,8 +33,7 @@ with_seated grid place seat script = record grid {
 
 -- a script is out of the grid, and this holds of it
 abbrev pub IsOut : Option Live → (Live → Type 0) → Type 0
-IsOut None P = ⊥
-IsOut (Some live) P = P live
+IsOut live P = IsThere live P
 
 -- the script in a seat is there, and can run
 abbrev pub IsReady : ℕ → Option ScriptParts → Type 0
@@ -77,6 +77,7 @@ pub record Begins (codes : List Code) (unit : Code) (clock place : ℕ) (grid : 
   pub asks : AsksAtMost (rules_of codes) member.script.code member.script.state flight
       ((rules_of codes).most member.script.code)
   pub flies : member.script.doing ≡ Flying flight
+  pub rests : live.began ≡ false → Rests codes unit member.script flight live
 
 -- the script at a place is out, and came to this stop of this flight
 pub record Paused (codes : List Code) (unit : Code) (clock place : ℕ) (grid : Contents) (live : Live) (stop : Turn)

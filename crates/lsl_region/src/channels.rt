@@ -1,6 +1,6 @@
 //! The channels on which a script listens.
 
-ghost use Rattle.std.specs.Prelude.{◌≡◌, ◌<◌, ◌≤◌, ◌+◌, ◌||◌, [], ℤ, length};
+ghost use Rattle.std.specs.Prelude.{◌≡◌, ◌<◌, ◌≤◌, ◌+◌, ◌||◌, [], ℤ, IsTrue, length};
 ghost use Rattle.std.specs.Ordering.{int_eq};
 ghost use Rattle.lsl_region.specs.Hearing.{HasRow, has_channel, listens_on, most_channels};
 
@@ -85,6 +85,24 @@ pub(crate) fn channels_of(listens: &Listens) -> Channels
         }
     }
     channels
+}
+
+/// Whether these channels are known to be those on which a listen is active: the active listens have them one by one.
+/// Takes no memory; walks the listens.
+pub(crate) fn are_channels_of(channels: &[i32], listens: &Listens) -> bool
+    ensures { IsTrue result → (channel : ℤ) → has_channel channels.now channel ≡ listens_on channel listens.now }
+{
+    let mut met = 0;
+    for place in 0..listens.count() {
+        let listen = listens.listen(place);
+        if listen.active {
+            if met == channels.len() || channels[met] != listen.channel {
+                return false;
+            }
+            met += 1;
+        }
+    }
+    met == channels.len()
 }
 
 /// The channels on which a listen of a script is active; none where it is out. Takes no memory; walks its listens.

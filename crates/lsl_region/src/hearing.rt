@@ -1,11 +1,12 @@
 //! The scripts that listen on a channel, and the next of them from a place on.
 
-ghost use Rattle.std.specs.Prelude.{◌≡◌, ◌<◌, ◌≤◌, ◌∷◌, [], ◌++◌, ◌+◌, ◌&&◌, ◌||◌, ℕ, ℤ, false, length, not, slice_set, vec_capacity, OnErr, OnOk, ◌≢◌};
-ghost use Rattle.lsl_region.specs.Hearing.{IsFound, has_channel, is_in_row, most_channels};
+ghost use Rattle.std.specs.Prelude.{◌≡◌, ◌<◌, ◌≤◌, ◌∷◌, [], ◌++◌, ◌+◌, ◌&&◌, ◌||◌, ℕ, ℤ, IsTrue, false, get_or, length, not, slice_set, vec_capacity, OnErr, OnOk, ◌≢◌};
+ghost use Rattle.lsl_region.specs.Hearing.{IsFound, has_channel, is_in_row, listens_on, most_channels};
 ghost use Rattle.lsl_region.specs.Table.{IsOrdered, is_heard};
 
-use crate::channels::{Channels, MOST_CHANNELS};
+use crate::channels::{Channels, MOST_CHANNELS, are_channels_of, channels_of};
 use crate::heard::{ChannelEntry, forget, next_heard, note};
+use lsl_post::Listens;
 use lsl_text::NoMemory;
 use std::alloc::Global;
 use std::marker::Model;
@@ -62,6 +63,30 @@ impl ChannelTable {
         forget_gone(&mut self.table, place, row, &channels);
         note_new(&mut self.table, place, row, &channels);
         *row = channels;
+    }
+
+    /// The script at this place has these listens. Takes no memory; walks them. Each channel on which it began or ceased
+    /// to listen costs a binary search, and a move of what stands behind it.
+    pub(crate) fn follow(&mut self, place: usize, listens: &Listens)
+        requires { place < length self.old }
+        ensures count { length self.new ≡ length self.old }
+        ensures others { (other : ℕ) → other ≢ place → get_or self.new other [] ≡ get_or self.old other [] }
+        ensures told { (channel : ℤ) →
+            has_channel (get_or self.new place []) channel ≡ listens_on channel listens.now }
+    {
+        if self.knows(place, listens) {
+            return;
+        }
+        self.tell(place, channels_of(listens));
+    }
+
+    // Whether the channels of this place are known to be those of these listens. Walks the listens.
+    fn knows(&self, place: usize, listens: &Listens) -> bool
+        requires { place < length self.now }
+        ensures { IsTrue result → (channel : ℤ) →
+            has_channel (get_or self.now place []) channel ≡ listens_on channel listens.now }
+    {
+        are_channels_of(self.rows[place].as_slice(), listens)
     }
 
     /// The next place from this one on whose script listens on this channel: none between them does. Takes no memory;

@@ -1,20 +1,16 @@
 //! Segments of one script: from one tick to the next, or to its handler's end, with all host calls on the way.
 
 ghost use Rattle.std.specs.Prelude.{◌≡◌, ◌<◌, ◌≤◌, ◌-◌, ◌+◌, ℕ, None, false, true, length, IfOk, MatchResult, OnOk};
-ghost use Rattle.lsl_code.specs.Weaves.{Weaves};
 ghost use Rattle.lsl_machine.specs.State.{CanRun};
 ghost use Rattle.lsl_machine.specs.declared.standing.Standing.TheVariants as standings;
 ghost use Rattle.lsl_post.specs.Journal.{Adds, Part, Tells};
 ghost use Rattle.lsl_post.specs.Timing.{latest_clock};
 ghost use Rattle.lsl_script.specs.Awake.{IsAskedFor, IsAwake, taken_by};
-ghost use Rattle.lsl_script.specs.Codes.{HasUnit, Meant, rules_of};
-ghost use Rattle.lsl_script.specs.Fitting.{FitsUnit, are_ready};
+ghost use Rattle.lsl_script.specs.Codes.{Meant};
 ghost use Rattle.lsl_script.specs.Handlers.{given};
-ghost use Rattle.lsl_script.specs.Lawful.{Lawful};
 ghost use Rattle.lsl_script.specs.Lives.{entries_of_closing, entries_of_taking};
-ghost use Rattle.lsl_script.specs.Parts.{parts_of};
-ghost use Rattle.lsl_script.specs.Scripts.{Flight, Script as Source};
-ghost use Rattle.lsl_script.specs.Waking.{TakesNext, WakesAs};
+ghost use Rattle.lsl_script.specs.Scripts.{Flight};
+ghost use Rattle.lsl_script.specs.Waking.{StandsWoken};
 ghost use Rattle.lsl_region.specs.Answers.{answer};
 ghost use Rattle.lsl_region.specs.Grids.{AreSeated, Stands, outline_of};
 ghost use Rattle.lsl_region.specs.PausedTurns.{flies_at};
@@ -28,40 +24,43 @@ use crate::posting::number;
 use lsl_code::{Library, Woven};
 use lsl_post::{Entries, Entry};
 use lsl_running::{Call, Reply};
-use lsl_script::{Closed, Live, Script, Turn, WakeFault};
+use lsl_script::{Closed, Live, Turn};
 use lsl_text::NoMemory;
 use std::alloc::{AllocError, Global};
 
 impl Grid {
-    /// Takes the script at this place out of the grid and wakes it, and tells of the event that it takes.
+    /// Takes the script at this place out of the grid and wakes it in this room, and tells of the event that it takes.
     pub(crate) fn begin(
         &mut self,
         place: usize,
+        room: &mut Option<Live>,
         clock: u64,
         library: &Library,
         unit: &Woven,
         out: &mut Entries,
-    ) -> Result<Live, NoMemory>
+    ) -> Result<(), NoMemory>
         requires place { place < length self.old.seats }
         requires seated { AreSeated library.now self.old.seats }
         requires unit { IsUnitAt library.now unit.now self.old.seats place }
         requires ready { IsReadyInTurn clock self.old.seats place None }
         ensures does { (m : Meant library.now) (w : World) → Stands library.now None clock self.old w →
-            Tells result (λ v live. Begins library.now unit.now clock place self.new live v) out.old out.new
-            (taken place w) }
-        ensures awake { IfOk result (IsAwake unit.now) }
-        ensures able { IfOk result (λ live. CanRun live.machine.standing) }
+            Tells result (λ v _. IsOut room.new (λ live. Begins library.now unit.now clock place self.new live v))
+            out.old out.new (taken place w) }
+        ensures awake { OnOk result (IsOut room.new (IsAwake unit.now)) }
+        ensures able { OnOk result (IsOut room.new (λ live. CanRun live.machine.standing)) }
+        ensures stands { OnOk result (IsOut room.new StandsWoken) }
         ensures seated { OnOk result (AreSeated library.now self.new.seats) }
         ensures unit { OnOk result (IsUnitAt library.now unit.now self.new.seats place) }
         ensures len { length self.new.seats ≡ length self.old.seats }
         ensures outline { outline_of self.new ≡ outline_of self.old }
     {
-        let Some(script) = self.take_out(place) else {
+        let alloc = self.alloc;
+        self.wake_at(place, room, unit)?;
+        let Some(live) = room else {
             unreachable!();
         };
-        let live = wake(script, self.alloc, unit, clock)?;
-        tell_taken(number(place), &live, self.alloc, out)?;
-        Ok(live)
+        tell_taken(number(place), live, alloc, out)?;
+        Ok(())
     }
 
     /// Goes on from a stop to the next tick or the handler's end, and answers all host calls on the way.
@@ -230,24 +229,6 @@ impl Grid {
             Turn::NoMemory => Err(AllocError),
             Turn::AtTick | Turn::Asks(_) => unreachable!(),
         }
-    }
-}
-
-/// Wakes a script that can run.
-fn wake(script: Script, alloc: Global, unit: &Woven, clock: u64) -> Result<Live, NoMemory>
-    requires fits { FitsUnit unit.now script }
-    requires weaves { Weaves unit.now }
-    requires ready { are_ready clock script ≡ true }
-    ensures awake { IfOk result (IsAwake unit.now) }
-    ensures able { IfOk result (λ live. CanRun live.machine.standing) }
-    ensures took { IfOk result (TakesNext unit.now script) }
-    ensures source { (codes : _) (s : Source) → HasUnit codes s.code unit.now → script ≡ parts_of codes s →
-        Lawful (rules_of codes) s → IfOk result (WakesAs codes unit.now s) }
-{
-    match script.wake(alloc, unit, clock) {
-        Ok(live) => Ok(live),
-        Err(WakeFault::NoMemory) => Err(AllocError),
-        Err(WakeFault::NotReady(_)) => unreachable!(),
     }
 }
 

@@ -282,9 +282,11 @@ impl Grid {
         ensures len { length self.new.seats ≡ length self.old.seats }
         ensures outline { outline_of self.new ≡ outline_of self.old }
     {
-        let mut awake = self.begin(place, clock, library, unit, out)?;
-        let turn = awake.go(unit);
-        *live = Some(awake);
+        self.begin(place, live, clock, library, unit, out)?;
+        let Some(awake) = live else {
+            unreachable!();
+        };
+        let turn = awake.start(unit);
         self.go_on(place, live, turn, clock, library, unit, out)
     }
 

@@ -7,7 +7,7 @@ use Rattle.lsl_region.specs.declared.grid.Seat.{Seat}
 use Rattle.lsl_region.specs.Grids.{Contents, outline_of}
 use Rattle.lsl_region.specs.Turning.{with_seated}
 use Rattle.lsl_region.proofs.Coming.{seat-is}
-use Rattle.lsl_region.proofs.Told.{row-told}
+use Rattle.lsl_region.proofs.Told.{row-set}
 use Rattle.lsl_region.proofs.Outlines.{outline-seated}
 use Rattle.lsl_region.proofs.Seats.{placed-set, read-at}
 use Rattle.lsl_region.proofs.grid.Grid.put_back.Goals as goal
@@ -17,10 +17,9 @@ invariant_of-self c =
     let h : c.args.place < length c.self.inside.seats.items = search (rules, c.requires) in (
       placed-set c.self.inside.objects.items c.self.inside.seats.items c.args.place c.index_mut.result.now _
           (read-at c.self.inside.seats.items c.args.place _ h c.index_mut.ensures.value) refl refl c.self.invariant.0,
-      row-told c.self.inside.hearers c.tell.new.self c.self.inside.seats.items c.args.place _
-          c.channels_of-channels.result h
-          c.tell.ensures
-          (λ channel. c.channels_of-channels.ensures.told channel
+      row-set c.self.inside.hearers c.follow.new.self c.self.inside.seats.items c.args.place _ h
+          c.follow.ensures.count c.follow.ensures.others
+          (λ channel. c.follow.ensures.told channel
           ∙ ap (λ (parts : ScriptParts). listens_on channel parts.listens) c.parts.ensures) c.self.invariant.1,
     )
 
