@@ -1,16 +1,16 @@
 -- What a text's characters are, from its bytes.
-use Rattle.std.proofs.Common.{◌≡◌, ℤ, FitsSigned, ◌∙◌, ℕ, ◌≤◌, Bool, true, false, cond, not, ◌==◌, nat_lt, List, [], ◌∷◌, ◌++◌, length, Option, Some, None, Result, Ok, Err, OnOk, sym, ap, refl, subst, arith, nat_eq}
-use Rattle.std.specs.Result.{is_ok}
+use Rattle.std.proofs.Common.{◌≡◌, ℤ, FitsSigned, ◌∙◌, ℕ, ◌+◌, ◌≤◌, ◌<◌, true, not, ◌==◌, nat_lt, List, [], ◌∷◌, ◌++◌, length, sym, ap, refl, subst, arith, nat_eq, length-append}
+use Rattle.std.specs.Char.{encode_utf8, len_utf8}
 use Rattle.std.specs.Int.{w32}
 use Rattle.std.specs.Cmp.Lexicographic.{pointwise}
 use Rattle.std.specs.Str.{chars, encode_utf8_all, all_scalars, IsUtf8, IsAscii}
 use Rattle.std.proofs.lemmas.Bool.{eqb-true}
-use Rattle.std.proofs.lemmas.Str.{IsUtf8-nil, chars-append, chars-encodes, encodes-chars, encodes_same, encodes-IsAscii, length-le-encodes, scalars-chars}
+use Rattle.std.proofs.lemmas.Str.{chars-append, chars-encodes, encodes-chars, encodes_same, encodes-IsAscii, length-encode, length-le-encodes, len_utf8_bounds, scalars-chars}
+use Rattle.std.proofs.lemmas.Str.Ascii.{IsAscii-cons, IsAscii-nil}
 use Rattle.std.proofs.lemmas.Slice.Eq.{bytes_eq-Decides}
 use Rattle.std.proofs.lemmas.Bool.Decides.{nat_tests, same_from_decides, Decides-like}
 use Rattle.std.proofs.lemmas.Fmt.{IsAscii-signed, length_signed_le}
 use Rattle.lsl_text.specs.Number.{decimal_of}
-use Rattle.lsl_value.specs.Held.{held_items}
 use Rattle.lsl_value.specs.Text.{IsText, IsTextOf}
 
 pub IsText-chars : (bytes : List ℕ) → IsUtf8 bytes → length bytes ≤ 1048576 → IsText (chars bytes)
@@ -28,11 +28,6 @@ pointwise-encodes a b =
     (Decides-like _ (encodes_same a b) (ap encode_utf8_all) (bytes_eq-Decides (encode_utf8_all a) (encode_utf8_all b)))
     (bytes_eq-Decides a b)
 
--- a fact that holds where the result is Ok
-pub OnOk-from : {T E : Type 0} (r : Result T E) (P : Type 0) → (is_ok r ≡ true → P) → OnOk r P
-OnOk-from (Ok x) P holds = holds refl
-OnOk-from (Err e) P holds = tt
-
 -- one text's characters behind another's
 pub chars-join : (bytes self other : List ℕ) → IsUtf8 bytes → chars bytes ≡ self → all_scalars other ≡ true
     → chars (bytes ++ encode_utf8_all other) ≡ self ++ other
@@ -40,11 +35,45 @@ chars-join bytes self other valid same scalars =
     chars-append bytes (encode_utf8_all other) valid ∙ ap (λ c. c ++ chars (encode_utf8_all other)) same
     ∙ ap (λ c. self ++ c) (chars-encodes other scalars)
 
--- a list that gained a part or stayed, where both ways are short
-pub length-joined : (b : Bool) (new old more : List ℕ) (most : ℕ) → new ≡ cond b (old ++ more) old
-    → length old ≤ most → length (old ++ more) ≤ most → length new ≤ most
-length-joined true new old more most same short joined = rw same joined
-length-joined false new old more most same short joined = rw same short
+pub chars-joined : (whole bytes self other : List ℕ) → whole ≡ bytes ++ encode_utf8_all other → IsUtf8 bytes
+    → chars bytes ≡ self → all_scalars other ≡ true → chars whole ≡ self ++ other
+chars-joined whole bytes self other joined valid same scalars =
+    ap chars joined ∙ chars-join bytes self other valid same scalars
+
+-- what is kept of both, where the two are short
+pub counted-join : (whole bytes self other : List ℕ) (n m : ℕ) → whole ≡ bytes ++ encode_utf8_all other → IsUtf8 bytes
+    → chars bytes ≡ self → all_scalars other ≡ true → n ≡ length self → m ≡ length other
+    → length (encode_utf8_all self) + length (encode_utf8_all other) ≤ 1048576
+    → (length whole ≤ 1048576) × (n + m ≡ length (chars whole))
+counted-join whole bytes self other n m joined valid same scalars first second short =
+    let size : length bytes ≡ length (encode_utf8_all self) =
+    ap length (sym (encodes-chars bytes valid) ∙ ap encode_utf8_all same) in
+    let spelled = chars-joined whole bytes self other joined valid same scalars in (
+      omega (arith, ap length joined, length-append bytes (encode_utf8_all other), size, short),
+      omega (arith, first, second, ap length spelled, length-append self other),
+    )
+
+-- there are no more characters than bytes
+pub few-characters : (bytes : List ℕ) (n : ℕ) → IsUtf8 bytes → length bytes ≤ 1048576 → n ≡ length (chars bytes)
+    → n ≤ 1048576
+few-characters bytes n valid short count =
+    let spelled = ap length (encodes-chars bytes valid) in
+    let few = length-le-encodes (chars bytes) in
+    omega (arith, spelled, few, short, count)
+
+-- a character of one byte is ASCII, and so is a text that has as many characters as bytes
+one_byte : (c : ℕ) → length (encode_utf8 c) ≡ 1 → c < 128
+one_byte c one = let size : len_utf8 c ≡ 1 = sym (length-encode c) ∙ one in grind (arith, nat_tests)
+
+pub IsAscii-from_length : (cs : List ℕ) → length cs ≡ length (encode_utf8_all cs) → IsAscii cs
+IsAscii-from_length [] same = IsAscii-nil
+IsAscii-from_length (c ∷ cs) same =
+    let parts = length-append (encode_utf8 c) (encode_utf8_all cs) in
+    let least = (len_utf8_bounds c).0 in
+    let size = length-encode c in
+    let others = length-le-encodes cs in
+    IsAscii-cons c cs (one_byte c (omega (arith, same, parts, least, size, others)))
+    (IsAscii-from_length cs (omega (arith, same, parts, least, size, others)))
 
 -- a text is empty exactly where its bytes are
 pub nonempty-encodes : (text : List ℕ) → not (length (encode_utf8_all text) == 0) ≡ nat_lt 0 (length text)
@@ -62,12 +91,6 @@ pub decimal-encodes_short : (n : ℤ) (text : List ℕ) → FitsSigned w32 n →
     → length (encode_utf8_all text) ≤ 11
 decimal-encodes_short n text fits same = rw (encodes-IsAscii text (decimal-ascii n text fits same))
     (decimal-short n text fits same)
-
--- what is held is UTF-8 where each holder has UTF-8
-pub utf8-held : {R : Type 0} (held : Option R) (read : R → List ℕ) → ((h : R) → IsUtf8 (read h))
-    → IsUtf8 (held_items held read)
-utf8-held None read valid = IsUtf8-nil
-utf8-held (Some h) read valid = valid h
 
 -- a list without an element is the empty one
 pub empty-list : (text : List ℕ) → (length text == 0) ≡ true → text ≡ []

@@ -1,6 +1,6 @@
 //! Texts: lists of Unicode characters.
 
-ghost use Rattle.std.specs.Prelude.{◌≡◌, ◌+◌, ◌≤◌, ◌<◌, ◌++◌, [], length, if◌then◌else◌, nat_eq, IfOk, OnOk, OnErr, MatchOption, ◌⊎◌};
+ghost use Rattle.std.specs.Prelude.{◌≡◌, ◌+◌, ◌≤◌, ◌<◌, ◌++◌, ◌↔◌, [], length, if◌then◌else◌, nat_eq, IfOk, OnOk, OnErr, MatchOption, ◌⊎◌, IsTrue};
 ghost use Rattle.std.specs.Cmp.{partial_equiv_from_equiv};
 ghost use Rattle.std.specs.Cmp.Lexicographic.{nat_list_eq_equiv, pointwise};
 ghost use Rattle.std.specs.Rc.{rc_value};
@@ -8,11 +8,11 @@ ghost use Rattle.std.specs.Result.{is_ok};
 ghost use Rattle.std.specs.Str.{chars, encode_utf8_all, IsAscii};
 ghost use Rattle.std.specs.String.{string_bytes};
 ghost use Rattle.lsl_text.specs.Number.{decimal_of};
-ghost use Rattle.lsl_value.specs.Held.{held_items};
 ghost use Rattle.lsl_value.specs.Limits.{most_text_bytes};
 ghost use Rattle.lsl_value.specs.Text.{IsText, IsTextOf, IsNoText, integer_of_text, text_charge_of};
 
 use crate::charges::TEXT_CHARGE;
+use crate::counted::CountedString;
 use lsl_text::{NoMemory, leading_integer, push_decimal};
 use std::alloc::Global;
 use std::marker::Model;
@@ -24,22 +24,17 @@ pub const MAX_TEXT_BYTES: usize = 1_048_576;
 /// A text: a list of characters, of at most 1,048,576 bytes in UTF-8. Copies share it.
 #[derive(Debug, Drop)]
 pub struct Text {
-    held: Option<Rc<String>>,
+    held: Option<Rc<CountedString>>,
 }
 
 impl Model for Text {
-    ghost use Rattle.std.specs.Prelude.{List, ℕ, ◌≤◌, length};
+    ghost use Rattle.std.specs.Prelude.{List, ℕ};
     ghost use Rattle.std.specs.Rc.{rc_value};
-    ghost use Rattle.std.specs.Str.{chars};
-    ghost use Rattle.std.specs.String.{string_bytes};
     ghost use Rattle.lsl_value.specs.Held.{held_items};
-    ghost use Rattle.lsl_value.specs.Limits.{most_text_bytes};
 
     ghost Value = { List ℕ };
 
-    ghost view = { λ t. chars (held_items t.held (λ held. string_bytes (rc_value held))) };
-
-    ghost invariant = { λ t. length (held_items t.held (λ held. string_bytes (rc_value held))) ≤ most_text_bytes };
+    ghost view = { λ t. held_items t.held (λ held. rc_value held) };
 }
 
 impl Text {
@@ -63,7 +58,8 @@ impl Text {
         }
     }
 
-    /// This string as a text. Takes memory to share it, and copies nothing; none for the empty one.
+    /// This string as a text, walked once for its characters. Takes memory to share it, and copies nothing; none for the
+    /// empty one.
     pub fn from_string(text: String) -> Result<Text, NoMemory>
         requires { length (string_bytes text) ≤ most_text_bytes }
         ensures { IfOk result (λ made. made ≡ chars (string_bytes text)) }
@@ -71,8 +67,7 @@ impl Text {
         if text.as_str().is_empty() {
             return Ok(Text::new());
         }
-        let held = Rc::new(*text.allocator(), text)?;
-        Ok(Text { held: Some(held) })
+        Text::shared(*text.allocator(), CountedString::new(text))
     }
 
     /// The text of these ASCII bytes, in one pass. Takes memory to share them, and copies nothing.
@@ -82,9 +77,16 @@ impl Text {
         ensures { IfOk result (λ text. text ≡ bytes.items) }
     {
         match String::from_utf8(bytes) {
-            Ok(text) => Text::from_string(text),
+            Ok(text) => Text::shared(*text.allocator(), CountedString::from_ascii(text)),
             Err(_) => unreachable!(),
         }
+    }
+
+    fn shared(alloc: Global, string: CountedString) -> Result<Text, NoMemory>
+        ensures { IfOk result (λ text. text ≡ string) }
+    {
+        let held = Rc::new(alloc, string)?;
+        Ok(Text { held: Some(held) })
     }
 
     /// The integer's text, in decimal.
@@ -110,7 +112,28 @@ impl Text {
         ensures value { result.now ≡ encode_utf8_all self.now }
         ensures valid { IsText self.now }
     {
-        string_of(&self.held)
+        match &self.held {
+            Some(held) => held.as_str(),
+            None => "",
+        }
+    }
+
+    /// How many characters the text has. Takes no memory, and no walk.
+    pub fn character_count(&self) -> usize
+        ensures value { result ≡ length self.now }
+        ensures within { result ≤ most_text_bytes }
+    {
+        match &self.held {
+            Some(held) => held.characters(),
+            None => 0,
+        }
+    }
+
+    /// Whether each character is ASCII, a byte in UTF-8. Takes no memory, and no walk.
+    pub fn is_ascii(&self) -> bool
+        ensures { IsTrue result ↔ IsAscii self.now }
+    {
+        self.character_count() == self.bytes().len()
     }
 
     /// What a text or a key of this text is charged: 16 and its bytes. Takes no memory, and no walk.
@@ -147,40 +170,28 @@ impl Text {
         ensures ok { OnOk result (self.new ≡ self.old ++ other.now) }
         ensures unchanged { OnErr result (self.new ≡ self.old) }
     {
+        let Some(more) = &other.held else {
+            return Ok(());
+        };
         match &mut self.held {
-            Some(held) => push_held(held, other.as_str()),
+            Some(held) => push_held(held, more),
             None => {
-                *self = other.copy()?;
+                self.held = Some(more.clone()?);
                 Ok(())
             }
         }
     }
 }
 
-// The string that is held, and the empty one of no holder.
-fn string_of(held: &Option<Rc<String>>) -> &str
-    ensures { result.now ≡ held_items held.now (λ text. string_bytes (rc_value text)) }
-{
-    match held {
-        Some(text) => text.as_str(),
-        None => "",
-    }
-}
-
 // Adds characters at the end: in place where nobody else holds the string, else to a copy.
-fn push_held(held: &mut Rc<String>, more: &str) -> Result<(), NoMemory>
-    requires { length (string_bytes (rc_value held.old)) + length more.now ≤ most_text_bytes }
-    ensures { string_bytes (rc_value held.new)
-        ≡ (if is_ok result then string_bytes (rc_value held.old) ++ more.now else string_bytes (rc_value held.old)) }
+fn push_held(held: &mut Rc<CountedString>, more: &CountedString) -> Result<(), NoMemory>
+    requires { length (encode_utf8_all (rc_value held.old)) + length (encode_utf8_all more.now) ≤ most_text_bytes }
+    ensures { rc_value held.new ≡ (if is_ok result then rc_value held.old ++ more.now else rc_value held.old) }
 {
-    if let Some(text) = Rc::get_mut(held) {
-        return text.push_str(more);
+    if let Some(string) = Rc::get_mut(held) {
+        return string.push(more);
     }
-    let text: &String = held;
-    let mut joined = String::with_capacity(*text.allocator(), text.len() + more.len())?;
-    joined.push_str(text.as_str())?;
-    joined.push_str(more)?;
-    *held = Rc::new(*joined.allocator(), joined)?;
+    *held = held.joined(more)?;
     Ok(())
 }
 

@@ -3,6 +3,7 @@
 
 mod characters;
 mod charges;
+mod counted;
 mod keys;
 mod list;
 mod names;
