@@ -2,13 +2,13 @@
 use Rattle.std.proofs.Common.{◌≡◌, ◌∙◌, ℕ, zero, suc, ◌+◌, ◌/◌, ◌%◌, ◌<◌, ◌≤◌, min, true, false, cond, nat_lt, List, [], ◌∷◌, ◌++◌, length, take, drop, sym, ap, refl, inl, inr, arith, length-append, nat_eq, Decides}
 use Rattle.std.specs.Char.{encode_utf8}
 use Rattle.std.specs.List.{starts_with, count_by}
-use Rattle.std.specs.Str.{encode_utf8_all, all_scalars, chars, IsAscii}
-use Rattle.std.proofs.lemmas.Bool.{cases_Bool, cond-true, cond-false, false≢true}
+use Rattle.std.specs.Str.{encode_utf8_all, IsAscii}
+use Rattle.std.proofs.lemmas.Bool.{cases_Bool, cond-true, cond-false, false≢true, lt-ltb}
 use Rattle.std.proofs.lemmas.Bool.Decides.{nat_tests, same_from_decides, Decides-like, Decides-eqb}
 use Rattle.std.proofs.lemmas.List.{append_assoc, take-append-drop, length-take}
 use Rattle.std.proofs.lemmas.List.Sums.{sum_by-append, sum_by-cons}
 use Rattle.std.proofs.lemmas.Slice.Eq.{starts_is}
-use Rattle.std.proofs.lemmas.Str.{IsAscii-take, chars-encodes, chars-IsAscii, cons_from_encodes, encodes-IsAscii, encodes-append}
+use Rattle.std.proofs.lemmas.Str.{IsAscii-drop, IsAscii-take, cons_from_encodes, encodes-IsAscii, encodes-append}
 use Rattle.lsl_pure.specs.Spelling.{is_lead, front_len}
 
 -- no byte begins a character
@@ -122,12 +122,30 @@ length-encodes-take n cs =
     omega (arith, ap length parts, length-append (encode_utf8_all (take n cs)) (encode_utf8_all (drop n cs)))
 
 -- in ASCII each character is a byte
-pub ascii_offset : (n : ℕ) (text bytes : List ℕ) → bytes ≡ encode_utf8_all text → all_scalars text ≡ true
-    → IsAscii bytes → min n (length bytes) ≡ length (encode_utf8_all (take n text))
-ascii_offset n text bytes same scalars ascii =
-    let plain : bytes ≡ text = sym (chars-IsAscii bytes ascii) ∙ ap chars same ∙ chars-encodes text scalars in
-    sym (length-take n bytes) ∙ sym (ap length (encodes-IsAscii (take n bytes) (IsAscii-take bytes n ascii)))
-    ∙ ap (λ t. length (encode_utf8_all (take n t))) plain
+pub ascii_offset : (n : ℕ) (text bytes : List ℕ) → bytes ≡ encode_utf8_all text → IsAscii text
+    → min n (length bytes) ≡ length (encode_utf8_all (take n text))
+ascii_offset n text bytes same ascii =
+    ap (λ b. min n (length b)) (same ∙ encodes-IsAscii text ascii) ∙ sym (length-take n text)
+    ∙ sym (ap length (encodes-IsAscii (take n text) (IsAscii-take text n ascii)))
+
+-- and each byte begins a character
+count_by-ascii : (bs : List ℕ) → IsAscii bs → count_by is_lead bs ≡ length bs
+count_by-ascii [] ascii = refl
+count_by-ascii (b ∷ bs) ascii =
+    let low : b < 128 = ascii 0 in
+    let one : ℕ = 1 in
+    let here : cond (is_lead b) one 0 ≡ one = ap (λ t. cond t one 0) (low-leads b (lt-ltb b 128 low)) in
+    let both = sum_by-cons (λ x. cond (is_lead x) 1 0) b bs in
+    let there = count_by-ascii bs (IsAscii-drop (b ∷ bs) 1 ascii) in
+    omega (arith, here, both, there)
+
+pub ascii_before : (at : ℕ) (text : List ℕ) → IsAscii text → at ≤ length (encode_utf8_all text)
+    → at ≡ count_by is_lead (take at (encode_utf8_all text))
+ascii_before at text ascii within =
+    let plain = encodes-IsAscii text ascii in
+    let count = count_by-ascii (take at text) (IsAscii-take text at ascii) in
+    let size : length (take at text) ≡ at = omega (arith, within, length-take at text, ap length plain) in
+    sym (ap (λ b. count_by is_lead (take at b)) plain ∙ count ∙ size)
 
 -- a text begins with another one where its bytes do
 

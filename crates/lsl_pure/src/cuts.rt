@@ -9,7 +9,7 @@ ghost use Rattle.lsl_pure.specs.Cuts.{taken, left, inserted_at, trimmed, trims_h
 
 use crate::PureFault;
 use crate::ranges::{Range, clamp};
-use crate::spelling::{copy_of, count_characters, offset, offsets, text_of};
+use crate::spelling::{copy_of, offset, offsets, text_of};
 use lsl_text::{NoMemory, behind_blanks, is_blank};
 use lsl_value::{MOST_CHARGE, Text};
 use std::alloc::Global;
@@ -18,7 +18,7 @@ use std::alloc::Global;
 pub fn sub_string(alloc: Global, text: &Text, first: i32, last: i32) -> Result<Text, NoMemory>
     ensures { IfOk result (λ part. part ≡ taken text.now first last) }
 {
-    let range = Range::new(count_characters(text), first, last);
+    let range = Range::new(text.character_count(), first, last);
     if range.turned {
         outside(alloc, text, range.start, range.end)
     } else {
@@ -35,7 +35,7 @@ pub fn delete_sub_string(
 ) -> Result<Text, NoMemory>
     ensures { IfOk result (λ rest. rest ≡ left text.now first last) }
 {
-    let range = Range::new(count_characters(text), first, last);
+    let range = Range::new(text.character_count(), first, last);
     if range.turned {
         inside(alloc, text, range.start, range.end)
     } else {
@@ -79,7 +79,7 @@ pub fn insert_string(
     if text.charge() + more.len() as u64 > MOST_CHARGE {
         return Err(PureFault::TooBig);
     }
-    let at = offset(text, clamp(count_characters(text), i64::from(place)));
+    let at = offset(text, clamp(text.character_count(), i64::from(place)));
     let mut out = Vec::with_capacity(alloc, bytes.len() + more.len())?;
     out.extend_from_slice(&bytes[..at])?;
     out.extend_from_slice(more)?;

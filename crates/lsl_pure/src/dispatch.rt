@@ -17,7 +17,6 @@ use crate::joining::{dump_list, list_to_csv};
 use crate::list_cuts::{delete_sub_list, insert_list, replace_list, sub_list};
 use crate::parsing::parse_string;
 use crate::searching::{list_find_list, sub_string_index};
-use crate::spelling::count_characters;
 use lsl_value::BuiltinId::*;
 use lsl_value::{BuiltinId, Value, Values};
 use std::alloc::Global;
@@ -51,7 +50,7 @@ fn value(alloc: Global, id: BuiltinId, args: Values) -> Result<Value, PureFault>
     let (a, b, c, d) = first_four(args);
     match id {
         Abs => Ok(Value::Int(int(a).wrapping_abs())),
-        StringLength => Ok(Value::Int(count_characters(&text(a)) as i32)),
+        StringLength => Ok(Value::Int(text(a).character_count() as i32)),
         GetListLength => Ok(Value::Int(list(alloc, a).len() as i32)),
         GetSubString => Ok(Value::Str(sub_string(alloc, &text(a), int(b), int(c))?)),
         List2List => Ok(Value::List(sub_list(list(alloc, a), int(b), int(c))?)),

@@ -17,18 +17,22 @@ fn is_lead(b: u8) -> bool
 }
 
 /// How many characters begin in these bytes.
-pub fn count_leads(bytes: &[u8]) -> usize
+fn count_leads(bytes: &[u8]) -> usize
     ensures { result ≡ count_by is_lead bytes.now }
 {
     bytes.iter().filter(|b| is_lead(**b)).count()
 }
 
-/// How many characters the text has. One pass.
-pub fn count_characters(text: &Text) -> usize
-    ensures value { result ≡ length text.now }
-    ensures within { result ≤ most_text_bytes }
+/// How many of the text's characters begin before a byte. Walks no character where the text is ASCII.
+pub fn count_before(text: &Text, at: usize) -> usize
+    requires { at ≤ length (encode_utf8_all text.now) }
+    ensures { result ≡ count_by is_lead (take at (encode_utf8_all text.now)) }
 {
-    count_leads(text.bytes())
+    if text.is_ascii() {
+        at
+    } else {
+        count_leads(&text.bytes()[..at])
+    }
 }
 
 /// How many bytes the text's first characters have. Walks no character where the text is ASCII.
@@ -37,7 +41,7 @@ pub fn offset(text: &Text, characters: usize) -> usize
     ensures within { result ≤ length (encode_utf8_all text.now) }
 {
     let bytes = text.bytes();
-    if bytes.is_ascii() {
+    if text.is_ascii() {
         characters.min(bytes.len())
     } else {
         walk(bytes, characters)

@@ -37,8 +37,8 @@ returns-clause-ok c =
     let whole : FitsSigned w32 c.args.place = c.ranges.place in
     let is : c.from.result ≡ c.args.place = omega (arith, ints, c.from.ensures) in
     let k : c.clamp.result ≡ clamped (length c.args.text.now) c.args.place =
-    c.clamp.ensures.value ∙ ap (clamped c.count_characters.result) (to_z-of_z w64 c.from.result fits ∙ is)
-    ∙ ap (λ n. clamped n c.args.place) c.count_characters.ensures.value in
+    c.clamp.ensures.value ∙ ap (clamped c.character_count.result) (to_z-of_z w64 c.from.result fits ∙ is)
+    ∙ ap (λ n. clamped n c.args.place) c.character_count.ensures.value in
     c.in_ok-text_of.ensures
     ∙ chars-spelled _ (inserted c.args.text.now c.clamp.result c.args.other.now)
     (inserted-spelled c.args.text.now c.args.other.now c.bytes-bytes.result.now c.bytes-more.result.now _ _ _ _

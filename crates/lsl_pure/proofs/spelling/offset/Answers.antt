@@ -7,7 +7,7 @@ use Rattle.lsl_pure.proofs.spelling.offset.Goals as goal
 pub returns-then-is_ascii-clause-value : goal.returns-then-is_ascii-clause-value
 returns-then-is_ascii-clause-value c =
     c.min.ensures ∙ ascii_offset c.args.characters c.args.text.now c.bytes-bytes.result.now
-    c.bytes-bytes.ensures.value c.bytes-bytes.ensures.valid.scalars (c.if-is_ascii.ensures.cases)
+    c.bytes-bytes.ensures.value (c.is_ascii.ensures.0 c.if-is_ascii.true)
 
 pub returns-else-is_ascii-clause-value : goal.returns-else-is_ascii-clause-value
 returns-else-is_ascii-clause-value c =
