@@ -1,7 +1,6 @@
--- Kinds of values compared from the last value.
-use Rattle.std.proofs.Common.{◌≡◌, ◌∙◌, ◌↔◌, sym, ap, arith, ℕ, suc, ◌+◌, ◌-◌, ◌<◌, List, ◌∷◌, length, drop, reverse, get_or}
+-- Kinds of values compared one after another.
+use Rattle.std.proofs.Common.{◌≡◌, ◌∙◌, ◌↔◌, sym, ap, arith, ℕ, suc, ◌+◌, ◌<◌, List, ◌∷◌, length, drop, get_or}
 use Rattle.std.proofs.Math.Seq.{drop-cons}
-use Rattle.std.proofs.lemmas.List.{get_or-reverse, length-reverse}
 use Rattle.lsl_value.specs.Values.{kind_of}
 use Rattle.lsl_value.specs.declared.tagged.Kind.{Kind}
 use Rattle.lsl_value.specs.declared.tagged.Value.{Value}
@@ -17,17 +16,14 @@ same_rest v vs k ks e = cc
 
 -- one kind is the same: all are from here on exactly where they are behind it
 pub kinds_on : (vs : List Value) (ks : List Kind) (i : ℕ) (v : Value) (d : Kind) (All : Type 0) → length vs ≡ length ks
-    → i < length vs → v ≡ get_or vs (length vs - 1 - i) v → kind_of v ≡ get_or ks i d
-    → (kinds_of (drop i (reverse vs)) ≡ drop i ks) ↔ All
-    → (kinds_of (drop (i + 1) (reverse vs)) ≡ drop (i + 1) ks) ↔ All
+    → i < length vs → v ≡ get_or vs i v → kind_of v ≡ get_or ks i d
+    → (kinds_of (drop i vs) ≡ drop i ks) ↔ All → (kinds_of (drop (i + 1) vs) ≡ drop (i + 1) ks) ↔ All
 kinds_on vs ks i v d All long within is same iff =
-    let turned = length-reverse vs in
-    let here : drop i (reverse vs) ≡ v ∷ drop (i + 1) (reverse vs) =
-    behind (reverse vs) i v (omega arith)
-    ∙ ap (λ x. x ∷ drop (i + 1) (reverse vs)) (get_or-reverse vs i v within ∙ sym is) in
+    let here : drop i vs ≡ v ∷ drop (i + 1) vs =
+    behind vs i v within ∙ ap (λ x. x ∷ drop (i + 1) vs) (sym is) in
     let kind : drop i ks ≡ kind_of v ∷ drop (i + 1) ks =
     behind ks i d (omega arith) ∙ ap (λ k. k ∷ drop (i + 1) ks) (sym same) in (
       (λ e. iff.0 (ap kinds_of here ∙ ap (λ l. kind_of v ∷ l) e ∙ sym kind)),
-      (λ all. same_rest v (drop (i + 1) (reverse vs)) (kind_of v) (drop (i + 1) ks)
+      (λ all. same_rest v (drop (i + 1) vs) (kind_of v) (drop (i + 1) ks)
           (sym (ap kinds_of here) ∙ iff.1 all ∙ kind)),
     )

@@ -19,6 +19,7 @@ pub mod MachineKinds
 pub mod Made
 pub mod ModeRuns
 pub mod Numbering
+pub mod OnStack
 pub mod Packing
 pub mod Passes
 pub mod Placed
@@ -42,6 +43,7 @@ pub mod Tabled
 pub mod Taking
 pub mod Tested
 pub mod Told
+pub mod Turning
 pub mod UnitTold
 pub mod ValueKinds
 pub mod Ways

@@ -6,7 +6,7 @@ use Rattle.std.proofs.lemmas.List.{append_assoc, append-nil, drop-append-le, tak
 use Rattle.lsl_value.specs.declared.tagged.Value.{Value}
 use Rattle.lsl_code.specs.declared.frames.Frame.{Frame}
 use Rattle.lsl_code.specs.declared.frames.Mark.{Mark}
-use Rattle.lsl_code.specs.Packs.{EndAt, Packed, packed, values_between, frames_in, end_in}
+use Rattle.lsl_code.specs.Packs.{EndAt, Packed, calls_by, end_in, frames_in, packed, values_between}
 use Rattle.lsl_code.specs.Saving.{frame_of}
 
 pub on_ok : {T E P Q : Type 0} (r : Result T E) → (P → Q) → OnOk r P → OnOk r Q
@@ -21,34 +21,36 @@ between_same : (from to : ℕ) (vs ws : List Value) → from ≤ to → to ≤ l
     → values_between from to (vs ++ ws) ≡ values_between from to vs
 between_same from to vs ws a b =
     let d = length-drop from vs in
-    ap (λ (xs : List Value). reverse (take (to - from) xs)) (drop-append-le from vs ws (omega arith))
-    ∙ ap {A = List Value} reverse (take-append-le (to - from) (drop from vs) ws (omega arith))
+    ap (λ (xs : List Value). take (to - from) xs) (drop-append-le from vs ws (omega arith))
+    ∙ take-append-le (to - from) (drop from vs) ws (omega arith)
 
--- calls are what they were, whatever values stand behind theirs
-pub frames_same : (from : ℕ) (ms : List Mark) (to : ℕ) (vs ws : List Value) → EndAt from ms to → to ≤ length vs
-    → frames_in from ms (vs ++ ws) ≡ frames_in from ms vs
-frames_same from [] to vs ws e le = refl
-frames_same from (m ∷ ms) to vs ws e le =
-    let b = from_below m.end ms to e.1 in
-    let one = between_same from m.end vs ws e.0 (omega arith) in
-    ap (λ s. frame_of m.function m.point s ∷ frames_in m.end ms (vs ++ ws)) one
-    ∙ ap (λ (fs : List Frame). frame_of m.function m.point (values_between from m.end vs) ∷ fs)
-    (frames_same m.end ms to vs ws e.1 le)
+module _ (order : List Value → List Value) where
+  -- calls are what they were, whatever values stand behind theirs
+  pub calls_same : (from : ℕ) (ms : List Mark) (to : ℕ) (vs ws : List Value) → EndAt from ms to → to ≤ length vs
+      → calls_by order from ms (vs ++ ws) ≡ calls_by order from ms vs
+  calls_same from [] to vs ws e le = refl
+  calls_same from (m ∷ ms) to vs ws e le =
+      let b = from_below m.end ms to e.1 in
+      let one = between_same from m.end vs ws e.0 (omega arith) in
+      ap (λ s. frame_of m.function m.point (order s) ∷ calls_by order m.end ms (vs ++ ws)) one
+      ∙ ap (λ (fs : List Frame). frame_of m.function m.point (order (values_between from m.end vs)) ∷ fs)
+      (calls_same m.end ms to vs ws e.1 le)
 
-frames_more : (from : ℕ) (ms : List Mark) (to : ℕ) (m : Mark) (vs : List Value) → EndAt from ms to
-    → frames_in from (ms ++ m ∷ []) vs
-    ≡ frames_in from ms vs ++ frame_of m.function m.point (values_between to m.end vs) ∷ []
-frames_more from [] to m vs e = ap (λ (n : ℕ). frame_of m.function m.point (values_between n m.end vs) ∷ []) e
-frames_more from (k ∷ ms) to m vs e =
-    ap (λ (fs : List Frame). frame_of k.function k.point (values_between from k.end vs) ∷ fs)
-    (frames_more k.end ms to m vs e.1)
+  pub calls_more : (from : ℕ) (ms : List Mark) (to : ℕ) (m : Mark) (vs : List Value) → EndAt from ms to
+      → calls_by order from (ms ++ m ∷ []) vs
+      ≡ calls_by order from ms vs ++ frame_of m.function m.point (order (values_between to m.end vs)) ∷ []
+  calls_more from [] to m vs e =
+      ap (λ (n : ℕ). frame_of m.function m.point (order (values_between n m.end vs)) ∷ []) e
+  calls_more from (k ∷ ms) to m vs e =
+      ap (λ (fs : List Frame). frame_of k.function k.point (order (values_between from k.end vs)) ∷ fs)
+      (calls_more k.end ms to m vs e.1)
 
-ends_more : (from : ℕ) (ms : List Mark) (to : ℕ) (m : Mark) → EndAt from ms to → to ≤ m.end
+pub ends_more : (from : ℕ) (ms : List Mark) (to : ℕ) (m : Mark) → EndAt from ms to → to ≤ m.end
     → EndAt from (ms ++ m ∷ []) m.end
 ends_more from [] to m e le = (omega arith, refl)
 ends_more from (k ∷ ms) to m e le = (e.0, ends_more k.end ms to m e.1 le)
 
-ends_less : (from : ℕ) (ms : List Mark) (m : Mark) (to : ℕ) → EndAt from (ms ++ m ∷ []) to
+pub ends_less : (from : ℕ) (ms : List Mark) (m : Mark) (to : ℕ) → EndAt from (ms ++ m ∷ []) to
     → EndAt from ms (end_in from ms) × (end_in from ms ≤ to) × (m.end ≡ to)
 ends_less from [] m to e = let a = e.0 in let b = e.1 in (refl, omega arith, e.1)
 ends_less from (k ∷ ms) m to e =
@@ -79,7 +81,7 @@ module _ (ms : List Mark) (start : ℕ) (vs : List Value) (old : Packed) (ends :
   kept_view more v is =
       ap (λ (l : List Value). shown ms l start) is
       ∙ ap (λ (f : List Frame). packed f (reverse (drop start (vs ++ v ∷ []))))
-      (frames_same 0 ms start vs (v ∷ []) ends within)
+      (calls_same reverse 0 ms start vs (v ∷ []) ends within)
       ∙ ap (λ (h : List Value). packed (frames_in 0 ms vs) h) (hand_kept start vs v within)
       ∙ ap (λ (p : Packed). packed p.frames (v ∷ p.hand)) view
 
@@ -113,7 +115,7 @@ module _ (ms : List Mark) (start : ℕ) (vs : List Value) (old : Packed) (ends :
     pub cleared_view : shown ms few start ≡ packed old.frames []
     cleared_view =
         let n = cut_long in
-        let whole = frames_same 0 ms start (take start vs) (drop start vs) ends
+        let whole = calls_same reverse 0 ms start (take start vs) (drop start vs) ends
         (let m = length-take-le start vs within in omega arith) in
         let kept : frames_in 0 ms few ≡ old.frames =
         ap (frames_in 0 ms) cut ∙ sym whole ∙ ap (frames_in 0 ms) (take-append-drop start vs)
@@ -129,7 +131,7 @@ module _ (ms : List Mark) (start : ℕ) (vs : List Value) (old : Packed) (ends :
     taken_frames (Some v) is =
         let n = ap {A = List Value} length is in
         let m = length-append few (v ∷ []) in
-        sym (frames_same 0 ms start few (v ∷ []) ends (omega arith)) ∙ ap (frames_in 0 ms) (sym is)
+        sym (calls_same reverse 0 ms start few (v ∷ []) ends (omega arith)) ∙ ap (frames_in 0 ms) (sym is)
         ∙ ap (λ (p : Packed). p.frames) view
 
     pub taken_hand : (o : Option Value) → vs ≡ few ++ option_to_list o
@@ -152,10 +154,10 @@ module _ (ms : List Mark) (start : ℕ) (vs : List Value) (old : Packed) (ends :
         → shown more vs n ≡ packed (old.frames ++ frame_of m.function m.point old.hand ∷ []) []
     sealed_view n all =
         ap (λ (l : List Mark). shown l vs n) is
-        ∙ ap (λ (f : List Frame). packed f (reverse (drop n vs))) (frames_more 0 ms start m vs ends)
+        ∙ ap (λ (f : List Frame). packed f (reverse (drop n vs))) (calls_more reverse 0 ms start m vs ends)
         ∙ ap (λ (s : List Value). packed (frames_in 0 ms vs ++ frame_of m.function m.point s ∷ [])
         (reverse (drop n vs)))
-        (ap (λ (k : ℕ). values_between start k vs) end ∙ ap {A = List Value} reverse (take_rest vs start))
+        (ap (λ (k : ℕ). reverse (values_between start k vs)) end ∙ ap {A = List Value} reverse (take_rest vs start))
         ∙ ap (λ (h : List Value). packed (frames_in 0 ms vs
         ++ frame_of m.function m.point (reverse (drop start vs)) ∷ []) (reverse h)) (drop_all n vs (omega arith))
         ∙ ap (λ (p : Packed). packed (p.frames ++ frame_of m.function m.point p.hand ∷ []) []) view
@@ -186,14 +188,14 @@ module _ (ms : List Mark) (start : ℕ) (vs : List Value) (old : Packed) (ends :
         let c = length-take-le start vs within in
         let b = ap {A = List Value} length cut in
         let d = e.1 in
-        let whole = frames_same 0 left s (take start vs) (drop start vs) e.0 (omega arith) in
+        let whole = calls_same reverse 0 left s (take start vs) (drop start vs) e.0 (omega arith) in
         let joined : frames_in 0 left vs ≡ frames_in 0 left few =
         ap (frames_in 0 left) (sym (take-append-drop start vs)) ∙ whole ∙ ap (frames_in 0 left) (sym cut) in
         let sum : s + (m.end - s) ≡ start = let g = f.2 in omega arith in (
-          frame_of m.function m.point (values_between s m.end vs),
+          frame_of m.function m.point (reverse (values_between s m.end vs)),
           sym (ap (λ (p : Packed). p.frames) view) ∙ ap (λ (l : List Mark). frames_in 0 l vs) is
-              ∙ frames_more 0 left s m vs e.0
-              ∙ ap (λ (fs : List Frame). fs ++ frame_of m.function m.point (values_between s m.end vs) ∷ []) joined,
+              ∙ calls_more reverse 0 left s m vs e.0
+              ∙ ap (λ (fs : List Frame). fs ++ frame_of m.function m.point (reverse (values_between s m.end vs)) ∷ []) joined,
           refl,
           ap (λ (l : List Value). reverse (drop s l)) (cut ∙ ap (λ (n : ℕ). take n vs) (sym sum))
               ∙ ap {A = List Value} reverse (drop-take s (m.end - s) vs),
@@ -206,7 +208,7 @@ module _ (ms : List Mark) (start : ℕ) (vs : List Value) (old : Packed) (ends :
       let hand : reverse (drop start vs) ≡ [] = ap (λ (p : Packed). p.hand) view ∙ none in
       ap (λ (l : List Value). shown ms l start) is
       ∙ ap (λ (f : List Frame). packed f (reverse (drop start (vs ++ reverse slots))))
-      (frames_same 0 ms start vs (reverse slots) ends within ∙ ap (λ (p : Packed). p.frames) view)
+      (calls_same reverse 0 ms start vs (reverse slots) ends within ∙ ap (λ (p : Packed). p.frames) view)
       ∙ ap (λ (l : List Value). packed old.frames (reverse l)) (drop-append-le start vs (reverse slots) within)
       ∙ ap (packed old.frames) (reverse-append (drop start vs) (reverse slots)
       ∙ ap (λ (l : List Value). l ++ reverse (drop start vs)) (reverse-reverse slots)
@@ -223,52 +225,3 @@ pub poured_all : (to from all : List Value) → to ++ reverse from ≡ all → f
 poured_all to from all before none =
     sym (append-nil to) ∙ ap (λ (l : List Value). to ++ reverse l) (sym none) ∙ before
 
-pub frames_count : (from : ℕ) (ms : List Mark) (vs : List Value) → length (frames_in from ms vs) ≡ length ms
-frames_count from [] vs = refl
-frames_count from (m ∷ ms) vs = ap suc (frames_count m.end ms vs)
-
--- where the values of the call at a place lie
-pub ends_at : (from : ℕ) (ms : List Mark) (to i : ℕ) (m : Mark) → EndAt from ms to → slice_get ms i ≡ Some m
-    → (end_in from (take i ms) ≤ m.end) × (m.end ≤ to)
-ends_at from [] to i m e is = absurd cc
-ends_at from (k ∷ ms) to zero m e is =
-    let same : k ≡ m = cc in
-    let b = from_below k.end ms to e.1 in
-    let c = ap (λ (x : Mark). x.end) same in
-    let a = e.0 in
-    (omega arith, omega arith)
-ends_at from (k ∷ ms) to (suc i) m e is = ends_at k.end ms to i m e.1 is
-
-pub frame_there : (from : ℕ) (ms : List Mark) (vs : List Value) (i : ℕ) (m : Mark) → slice_get ms i ≡ Some m
-    → slice_get (frames_in from ms vs) i
-    ≡ Some (frame_of m.function m.point (values_between (end_in from (take i ms)) m.end vs))
-frame_there from [] vs i m is = absurd cc
-frame_there from (k ∷ ms) vs zero m is =
-    let same : k ≡ m = cc in
-    ap (λ (x : Mark). Some (frame_of x.function x.point (values_between from x.end vs))) same
-frame_there from (k ∷ ms) vs (suc i) m is = frame_there k.end ms vs i m is
-
--- the call of a number, whose mark was found
-module _ (ms : List Mark) (vs : List Value) (frames : List Frame) (i : ℕ) (m : Mark) (start : ℕ)
-    (view : frames_in 0 ms vs ≡ frames) (within : i < length frames) (is : m ≡ get_or ms i m) where
-  pub mark_within : i < length ms
-  mark_within =
-      let a = frames_count 0 ms vs in
-      let b = ap (λ (fs : List Frame). length fs) view in
-      omega arith
-
-  mark_there : slice_get ms i ≡ Some m
-  mark_there = slice_get_read ms (length ms) i m refl mark_within is
-
-  pub call_span : EndAt 0 ms (length vs) → start ≡ end_in 0 (take i ms) → (start ≤ m.end) × (m.end ≤ length vs)
-  call_span ends at =
-      let s = ends_at 0 ms (length vs) i m ends mark_there in
-      let a = s.0 in
-      let b = s.1 in
-      (omega arith, omega arith)
-
-  pub call_laid : start ≡ end_in 0 (take i ms)
-      → slice_get frames i ≡ Some (frame_of m.function m.point (values_between start m.end vs))
-  call_laid at =
-      ap (λ (fs : List Frame). slice_get fs i) (sym view) ∙ frame_there 0 ms vs i m mark_there
-      ∙ ap (λ (n : ℕ). Some (frame_of m.function m.point (values_between n m.end vs))) (sym at)

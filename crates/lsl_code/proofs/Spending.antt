@@ -11,23 +11,12 @@ use Rattle.lsl_code.specs.declared.frames.Frame.{Frame}
 use Rattle.lsl_code.specs.Frames.{frame_charge, parked_charge}
 use Rattle.lsl_code.specs.Saving.{frame_of}
 
--- a charge doesn't depend on the order
-charges_reverse : (vs : List Value) → charges_of (reverse vs) ≡ charges_of vs
-charges_reverse [] = refl
-charges_reverse (v ∷ vs) =
-    let turned = ap charges_of (reverse-append (v ∷ []) vs) in
-    let pushed = sum_by_push charge_of (reverse vs) v in
-    let rest = charges_reverse vs in
-    let first = sum_by-cons charge_of v vs in
-    omega arith
-
--- a call is charged for its values, from whichever end
+-- a call is charged for its values
 pub without_laid : (left held f p : ℕ) (vs : List Value) (r : Option ℕ) → held + call_charge ≡ left
     → MatchOption r (held < charges_of vs) (λ rest. rest + charges_of vs ≡ held)
-    → MatchOption r (left < frame_charge (frame_of f p (reverse vs)))
-    (λ rest. rest + frame_charge (frame_of f p (reverse vs)) ≡ left)
-without_laid left held f p vs None is h = let e = charges_reverse vs in omega arith
-without_laid left held f p vs (Some rest) is h = let e = charges_reverse vs in omega arith
+    → MatchOption r (left < frame_charge (frame_of f p vs)) (λ rest. rest + frame_charge (frame_of f p vs) ≡ left)
+without_laid left held f p vs None is h = omega arith
+without_laid left held f p vs (Some rest) is h = omega arith
 
 module _ (globals : List Value) (frames : List Frame) (i : ℕ) (frame : Frame) (is : slice_get frames i ≡ Some frame)
   where

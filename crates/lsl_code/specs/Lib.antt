@@ -25,6 +25,7 @@ pub mod Packs
 pub mod Pieces
 pub mod Restoring
 pub mod Runs
+pub mod Sacks
 pub mod SaveWays
 pub mod Saving
 pub mod Standing

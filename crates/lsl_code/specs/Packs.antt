@@ -14,15 +14,18 @@ pub record Packed : Type 0 where
 abbrev pub packed : List Frame → List Value → Packed
 packed frames hand = record { frames = frames; hand = hand }
 
--- the values from one place up to another, the last first
+-- the values from one place up to another
 abbrev pub values_between : ℕ → ℕ → List Value → List Value
-values_between from to values = reverse (take (to - from) (drop from values))
+values_between from to values = take (to - from) (drop from values)
 
--- the calls whose values begin at this place
+-- the calls whose values begin at this place; this is done to the values of each
+abbrev pub calls_by : (List Value → List Value) → ℕ → List Mark → List Value → List Frame
+calls_by order from [] values = []
+calls_by order from (m ∷ marks) values =
+    frame_of m.function m.point (order (values_between from m.end values)) ∷ calls_by order m.end marks values
+
 abbrev pub frames_in : ℕ → List Mark → List Value → List Frame
-frames_in from [] values = []
-frames_in from (m ∷ marks) values =
-    frame_of m.function m.point (values_between from m.end values) ∷ frames_in m.end marks values
+frames_in = calls_by reverse
 
 -- each call's values end no earlier than they begin, and the last one's at this place
 abbrev pub EndAt : ℕ → List Mark → ℕ → Type 0

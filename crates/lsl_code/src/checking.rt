@@ -1,6 +1,6 @@
 //! Frames that come from outside, tested before they are taken for a handler's saved calls.
 
-ghost use Rattle.std.specs.Prelude.{◌≡◌, ◌+◌, ◌<◌, ◌↔◌, List, length, map, reverse, IfOk, IfErr, IsTrue, MatchOption, None};
+ghost use Rattle.std.specs.Prelude.{◌≡◌, ◌+◌, ◌<◌, ◌↔◌, List, length, map, IfOk, IfErr, IsTrue, MatchOption, None};
 ghost use Rattle.lsl_running.specs.Charging.{charges_of};
 ghost use Rattle.lsl_code.specs.Frames.{AreValid, FirstUnfit, FitFrames, FitsFrame, IsAtPoint, frame_charge, parked_charge, points_of};
 ghost use Rattle.lsl_code.specs.FrameFaults.{IsFrameFault};
@@ -90,15 +90,15 @@ fn is_at_point(unit: &Woven, callee: Option<u16>, call: &Laid<'_>) -> bool
     }
 }
 
-// Whether the values have these kinds, from the last to the first.
+// Whether the values have these kinds.
 fn have_kinds(values: &[Value], kinds: &[Kind]) -> bool
-    ensures { IsTrue result ↔ (kinds_of (reverse values.now) ≡ kinds.now) }
+    ensures { IsTrue result ↔ (kinds_of values.now ≡ kinds.now) }
 {
     if values.len() != kinds.len() {
         return false;
     }
     for i in 0..values.len() {
-        if values[values.len() - 1 - i].kind() != kinds[i] {
+        if values[i].kind() != kinds[i] {
             return false;
         }
     }
