@@ -1,8 +1,8 @@
 -- Saved calls as they lie on a stack.
-use Rattle.std.proofs.Common.{◌≡◌, ◌∙◌, refl, sym, ap, arith, ℕ, zero, suc, ◌+◌, ◌-◌, ◌≤◌, ◌<◌, List, [], ◌∷◌, ◌++◌, length, take, drop, reverse, get_or, Option, Some, None}
+use Rattle.std.proofs.Common.{◌≡◌, ◌∙◌, refl, sym, ap, subst, arith, ℕ, zero, suc, ◌+◌, ◌-◌, ◌≤◌, ◌<◌, List, [], ◌∷◌, ◌++◌, length, take, drop, reverse, get_or, Option, Some, None}
 use Rattle.std.specs.Prelude.{slice_get}
 use Rattle.std.proofs.Math.Seq.{take-add}
-use Rattle.std.proofs.lemmas.List.{append_assoc, append-nil, get_or-reverse, length-reverse, length-take-le, reverse-append, take_rest, take-append-drop}
+use Rattle.std.proofs.lemmas.List.{append_assoc, append-nil, get_or-reverse, length-reverse, reverse-append, take_all, take-append-drop}
 use Rattle.std.proofs.lemmas.Option.{slice_get-get_or, slice_get_read, slice_get_within}
 use Rattle.lsl_value.specs.declared.tagged.Value.{Value}
 use Rattle.lsl_code.specs.declared.frames.Frame.{Frame}
@@ -91,16 +91,63 @@ reversed_there fs i f lt is =
     ∙ ap Some (get_or-reverse fs i f lt)
     ∙ sym (slice_get-get_or fs (length fs - 1 - i) f (omega arith)) ∙ is
 
--- the calls around the innermost one, by their numbers
-pub outer_call : (top : Top) (outer : List Mark) (vs : List Value) (number place : ℕ) (m : Mark) (start : ℕ)
-    → 0 < number → place + number ≡ length outer → m ≡ get_or outer place m → start ≡ end_in 0 (take place outer)
-    → slice_get (sack_frames (Some top) outer vs) number
-    ≡ Some (frame_of m.function m.point (values_between start m.end vs))
-outer_call top outer vs zero place m start pos at is from = absurd (omega arith)
-outer_call top outer vs (suc i) place m start pos at is from =
-    let count = calls_count (λ (l : List Value). l) 0 outer vs in
-    let n : length (calls_in 0 outer vs) - 1 - i ≡ place = omega arith in
-    let there = slice_get_read outer (length outer) place m refl (omega arith) is in
-    reversed_there (calls_in 0 outer vs) i _ (omega arith)
-    (ap (slice_get (calls_in 0 outer vs)) n ∙ call_there (λ (l : List Value). l) 0 outer vs place m there
-    ∙ ap (λ (k : ℕ). Some (frame_of m.function m.point (values_between k m.end vs))) (sym from))
+-- a sack without a call
+pub no_call : (top : Option Top) (outer : List Mark) (vs : List Value) → top ≡ None → IsSack top outer vs
+    → (outer ≡ []) × (vs ≡ [])
+no_call None outer vs none fits = fits
+no_call (Some top) outer vs none fits = absurd cc
+
+-- the calls of a sack that has some
+module _ (top : Option Top) (t : Top) (outer : List Mark) (vs : List Value) (frames : List Frame)
+    (view : sack_frames top outer vs ≡ frames) (fits : IsSack top outer vs) (some : top ≡ Some t) where
+  pub some_view : stack_frames t.function t.point outer vs ≡ frames
+  some_view = ap (λ (o : Option Top). sack_frames o outer vs) (sym some) ∙ view
+
+  pub some_fits : EndsWithin 0 outer (length vs)
+  some_fits = subst (λ (o : Option Top). IsSack o outer vs) some fits
+
+  pub sack_count : length frames ≡ length outer + 1
+  sack_count =
+      let count = calls_count (λ (l : List Value). l) 0 outer vs in
+      let turned = length-reverse (calls_in 0 outer vs) in
+      let all = ap {A = List Frame} length some_view in
+      omega arith
+
+  module _ (number place start : ℕ) (at : place ≡ length outer - number)
+      (from : start ≡ end_in 0 (take place outer)) where
+    -- the innermost call
+    module _ (first : number ≡ 0) where
+      all_outer : start ≡ end_in 0 outer
+      all_outer = from ∙ ap (end_in 0) (take_all place outer (omega arith))
+
+      pub top_within : start ≤ length vs
+      top_within = let e = (last_end 0 outer (length vs) some_fits).2 in let a = all_outer in omega arith
+
+      pub top_call : slice_get frames number ≡ Some (frame_of t.function t.point (drop start vs))
+      top_call =
+          ap (slice_get frames) first ∙ ap (λ (fs : List Frame). slice_get fs 0) (sym some_view)
+          ∙ ap (λ (n : ℕ). Some (frame_of t.function t.point (drop n vs))) (sym all_outer)
+
+    -- a call around it
+    module _ (m : Mark) (pos : 0 < number) (within : number < length frames) (is : m ≡ get_or outer place m) where
+      mark_there : slice_get outer place ≡ Some m
+      mark_there = let n = sack_count in slice_get_read outer (length outer) place m refl (omega arith) is
+
+      pub outer_span : (start ≤ m.end) × (m.end ≤ length vs)
+      outer_span =
+          let s = ends_there 0 outer (length vs) place m some_fits mark_there in
+          let a = s.0 in
+          (omega arith, s.1)
+
+      pub outer_call : slice_get frames number ≡ Some (frame_of m.function m.point (values_between start m.end vs))
+      outer_call =
+          let calls = calls_in 0 outer vs in
+          let count = calls_count (λ (l : List Value). l) 0 outer vs in
+          let some = sack_count in
+          let next : number ≡ suc (number - 1) = omega arith in
+          let place_is : length calls - 1 - (number - 1) ≡ place = omega arith in
+          ap (slice_get frames) next ∙ ap (λ (fs : List Frame). slice_get fs (suc (number - 1))) (sym some_view)
+          ∙ reversed_there calls (number - 1) _ (omega arith)
+          (ap (slice_get calls) place_is
+          ∙ call_there (λ (l : List Value). l) 0 outer vs place m mark_there
+          ∙ ap (λ (k : ℕ). Some (frame_of m.function m.point (values_between k m.end vs))) (sym from))

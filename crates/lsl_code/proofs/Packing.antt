@@ -96,13 +96,17 @@ module _ (ms : List Mark) (start : ℕ) (vs : List Value) (old : Packed) (ends :
   hand_none le =
       sym (ap (λ (p : Packed). p.hand) view) ∙ ap {A = List Value} reverse (drop_all start vs le)
 
-  pub none_left : old.hand ≡ [] → length vs ≡ start
+  none_left : old.hand ≡ [] → length vs ≡ start
   none_left none =
       let a = ap (λ (p : Packed). length p.hand) view in
       let b = length-reverse (drop start vs) in
       let c = length-drop start vs in
       let d = ap {A = List Value} length none in
       omega arith
+
+  -- the calls are all
+  pub all_ends : (n : ℕ) → n ≡ length vs → old.hand ≡ [] → EndAt 0 ms n
+  all_ends n is none = subst (EndAt 0 ms) (sym (is ∙ none_left none)) ends
 
   -- nothing is left in hand
   module _ (few : List Value) (cut : few ≡ take start vs) where
@@ -224,4 +228,3 @@ poured_on to next from left all v before off on =
 pub poured_all : (to from all : List Value) → to ++ reverse from ≡ all → from ≡ [] → to ≡ all
 poured_all to from all before none =
     sym (append-nil to) ∙ ap (λ (l : List Value). to ++ reverse l) (sym none) ∙ before
-

@@ -1,14 +1,14 @@
 -- Calls on a stack, and the same calls in a pack, the innermost first: the ones seen from the end of the others.
-use Rattle.std.proofs.Common.{◌≡◌, ◌∙◌, refl, sym, ap, subst, arith, ℕ, ◌+◌, ◌-◌, ◌<◌, ◌≤◌, List, [], ◌∷◌, ◌++◌, length, take, drop, reverse, get_or, slice_set}
+use Rattle.std.proofs.Common.{◌≡◌, ◌∙◌, refl, sym, ap, subst, arith, ℕ, ◌+◌, ◌-◌, ◌≤◌, List, [], ◌∷◌, ◌++◌, length, take, drop, reverse}
 use Rattle.std.proofs.Math.Seq.{drop-append_seam, take-append_seam}
-use Rattle.std.proofs.lemmas.List.{append-nil, append_assoc, at_drop_more, drop-set-lt, drop_all, length-drop, length-reverse, length-take-le, reverse-append, reverse-reverse, take_all, take_more_set, take_rest, take-append-drop}
+use Rattle.std.proofs.lemmas.List.{drop_all, length-drop, length-reverse, length-take-le, nil_from_length, reverse-append, reverse-reverse, take_rest, take-append-drop}
 use Rattle.lsl_value.specs.declared.tagged.Value.{Value}
 use Rattle.lsl_code.specs.declared.frames.Frame.{Frame}
 use Rattle.lsl_code.specs.declared.frames.Mark.{Mark}
-use Rattle.lsl_code.specs.Packs.{EndAt, calls_by, end_in, frames_in, values_between}
+use Rattle.lsl_code.specs.Packs.{EndAt, calls_by, end_in, frames_in, packed, values_between}
 use Rattle.lsl_code.specs.Sacks.{EndsWithin, calls_in, seen_from_end, stack_frames}
 use Rattle.lsl_code.specs.Saving.{frame_of}
-use Rattle.lsl_code.proofs.OnStack.{between_joined, ends_within}
+use Rattle.lsl_code.proofs.OnStack.{between_joined, ends_within, last_end}
 use Rattle.lsl_code.proofs.Packing.{calls_more, ends_less, ends_more, from_below}
 
 -- one more call is seen, the first at the end
@@ -95,34 +95,75 @@ pub stack_in_pack : (ms : List Mark) (vs : List Value) → EndAt 0 ms (length vs
     → frames_in 0 (reverse (seen_from_end (length vs) 0 ms)) (reverse vs) ≡ reverse (calls_in 0 ms vs)
 stack_in_pack ms vs e = turned_calls reverse (λ (l : List Value). l) reverse-reverse 0 ms vs e
 
--- one more call of a slice is seen from the end
-module _ (total from i : ℕ) (ms now all : List Mark) (m : Mark) (lt : i < length ms) (is : m ≡ get_or ms i m)
-    (put : now ≡ slice_set ms i (record m { end = total - from })) (ends : EndAt from (drop i ms) total) where
-  front : drop i ms ≡ m ∷ drop (i + 1) ms
-  front =
-      at_drop_more (λ (l : List Mark). l) ms i m lt ∙ ap (λ (k : Mark). k ∷ drop (i + 1) ms) (sym is)
+-- a stack's marks with that of the innermost call, and all of them turned
+module _ (outer more : List Mark) (m : Mark) (vs : List Value) (end : ℕ) (fit : EndsWithin 0 outer (length vs))
+    (pushed : more ≡ outer ++ m ∷ []) (at : m.end ≡ end) (all : end ≡ length vs) where
+  pub whole_ends : EndAt 0 more end
+  whole_ends =
+      let r = last_end 0 outer (length vs) fit in
+      let le : end_in 0 outer ≤ m.end = let b = r.2 in omega arith in
+      subst (λ (l : List Mark). EndAt 0 l end) (sym pushed)
+      (subst (EndAt 0 (outer ++ m ∷ [])) at (ends_more 0 outer (end_in 0 outer) m r.0 le))
 
-  behind : drop (i + 1) now ≡ drop (i + 1) ms
-  behind =
-      ap (drop (i + 1)) set ∙ drop-set-lt (i + 1) ms i (record m { end = total - from }) (omega arith)
+  module _ (now : List Mark) (back : List Value) (turned : now ≡ reverse (seen_from_end end 0 more))
+      (reversed : back ≡ reverse vs) where
+    pub packed_ends : EndAt 0 now end × (end ≤ length back)
+    packed_ends =
+        let none : end - 0 ≡ end = omega arith in
+        let long = ap {A = List Value} length reversed in
+        let same = length-reverse vs in (
+          subst (λ (l : List Mark). EndAt 0 l end) (sym turned)
+              (subst (EndAt 0 (reverse (seen_from_end end 0 more))) none (turned_ends end 0 more whole_ends)),
+          omega arith,
+        )
 
-  pub seen_ends : (from ≤ m.end) × EndAt m.end (drop (i + 1) now) total
-  seen_ends =
-      let e = subst (λ (l : List Mark). EndAt from l total) front ends in
-      (e.0, subst (λ (l : List Mark). EndAt m.end l total) (sym behind) e.1)
+    pub packed_view : packed (frames_in 0 now back) (reverse (drop end back))
+        ≡ packed (stack_frames m.function m.point outer vs) []
+    packed_view =
+        let ends : EndAt 0 (outer ++ m ∷ []) (length vs) =
+        subst (λ (l : List Mark). EndAt 0 l (length vs)) pushed (subst (EndAt 0 more) all whole_ends) in
+        let marks : now ≡ reverse (seen_from_end (length vs) 0 (outer ++ m ∷ [])) =
+        turned ∙ ap (λ (n : ℕ). reverse (seen_from_end n 0 more)) all
+        ∙ ap (λ (l : List Mark). reverse (seen_from_end (length vs) 0 l)) pushed in
+        let over = packed_ends.1 in
+        let long = ap {A = List Value} length reversed in
+        let same = length-reverse vs in
+        ap (λ (l : List Mark). packed (frames_in 0 l back) (reverse (drop end back))) marks
+        ∙ ap (λ (l : List Value). packed (frames_in 0 (reverse (seen_from_end (length vs) 0 (outer ++ m ∷ []))) l)
+        (reverse (drop end back))) reversed
+        ∙ ap (λ (fs : List Frame). packed fs (reverse (drop end back)))
+        (stack_in_pack (outer ++ m ∷ []) vs ends ∙ (stack_of outer m vs ends).1)
+        ∙ ap (λ (l : List Value). packed (stack_frames m.function m.point outer vs) (reverse l))
+        (drop_all end back (omega arith))
 
-  pub seen_on : take i ms ++ seen_from_end total from (drop i ms) ≡ all
-      → take (i + 1) now ++ seen_from_end total m.end (drop (i + 1) now) ≡ all
-  seen_on before =
-      let seen = record m { end = total - from } in
-      ap (λ (l : List Mark). take (i + 1) now ++ seen_from_end total m.end l) behind
-      ∙ ap (λ (l : List Mark). l ++ seen_from_end total m.end (drop (i + 1) ms))
-      (ap (take (i + 1)) put ∙ take_more_set ms i seen lt)
-      ∙ append_assoc (take i ms) (seen ∷ []) (seen_from_end total m.end (drop (i + 1) ms))
-      ∙ ap (λ (l : List Mark). take i ms ++ seen_from_end total from l) (sym front) ∙ before
+-- a pack's marks turned, and the last of them taken off
+module _ (ms now left : List Mark) (vs back : List Value) (end : ℕ) (ends : EndAt 0 ms end) (all : end ≡ length vs)
+    (turned : now ≡ reverse (seen_from_end end 0 ms)) (reversed : back ≡ reverse vs) where
+  module _ (m : Mark) (popped : now ≡ left ++ m ∷ []) where
+    front_ends : EndAt 0 (left ++ m ∷ []) (length back)
+    front_ends =
+        let long = ap {A = List Value} length reversed in
+        let same = length-reverse vs in
+        let none : end - 0 ≡ length back = omega arith in
+        subst (λ (l : List Mark). EndAt 0 l (length back)) (sym turned ∙ popped)
+        (subst (EndAt 0 (reverse (seen_from_end end 0 ms))) none (turned_ends end 0 ms ends))
 
-pub seen_all : (total from i : ℕ) (ms all : List Mark) → length ms ≤ i
-    → take i ms ++ seen_from_end total from (drop i ms) ≡ all → ms ≡ all
-seen_all total from i ms all over before =
-    sym (append-nil ms) ∙ ap (λ (l : List Mark). l ++ []) (sym (take_all i ms over))
-    ∙ ap (λ (l : List Mark). take i ms ++ seen_from_end total from l) (sym (drop_all i ms over)) ∙ before
+    pub popped_fit : EndsWithin 0 left (length back)
+    popped_fit = (stack_of left m back front_ends).0
+
+    pub popped_calls : stack_frames m.function m.point left back ≡ frames_in 0 ms vs
+    popped_calls =
+        sym (stack_of left m back front_ends).1
+        ∙ ap (λ (l : List Mark). reverse (calls_in 0 l back)) (sym popped ∙ turned)
+        ∙ ap (λ (n : ℕ). reverse (calls_in 0 (reverse (seen_from_end n 0 ms)) back)) all
+        ∙ ap (λ (l : List Value). reverse (calls_in 0 (reverse (seen_from_end (length vs) 0 ms)) l)) reversed
+        ∙ pack_on_stack ms vs (subst (EndAt 0 ms) all ends)
+
+-- there is no call
+pub none_turned : (ms now : List Mark) (vs : List Value) (end : ℕ) → EndAt 0 ms end → end ≡ length vs
+    → now ≡ reverse (seen_from_end end 0 ms) → length now ≡ 0 → (ms ≡ []) × (vs ≡ [])
+none_turned [] now vs end e all turned none = let zero : length vs ≡ 0 = omega arith in (refl, nil_from_length vs zero)
+none_turned (m ∷ ms) now vs end e all turned none =
+    let long = ap {A = List Mark} length turned in
+    let same = length-reverse (seen_from_end end 0 (m ∷ ms)) in
+    absurd (omega arith)

@@ -103,13 +103,18 @@ impl Sack {
             mut values,
         } = self;
         let end = values.len();
-        if let Some(Top { function, point }) = top {
-            marks.push(Mark {
-                function,
-                point,
-                end,
-            })?;
-        }
+        let Some(top) = top else {
+            return Ok(Pack {
+                marks,
+                values,
+                start: end,
+            });
+        };
+        marks.push(Mark {
+            function: top.function,
+            point: top.point,
+            end,
+        })?;
         turn(&mut marks, end);
         values.reverse();
         Ok(Pack {
@@ -173,9 +178,9 @@ impl Sack {
 }
 
 // The calls from the last to the first, of values that lie in that order.
-fn turn(marks: &mut [Mark], total: usize)
-    requires { EndAt 0 marks.old total }
-    ensures { marks.new ≡ reverse (seen_from_end total 0 marks.old) }
+fn turn(marks: &mut Vec<Mark>, total: usize)
+    requires { EndAt 0 marks.old.items total }
+    ensures { marks.new.items ≡ reverse (seen_from_end total 0 marks.old.items) }
 {
     let mut from = 0;
     for i in 0..marks.len() {

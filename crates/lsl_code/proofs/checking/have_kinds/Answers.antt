@@ -6,5 +6,5 @@ use Rattle.lsl_code.proofs.checking.have_kinds.Goals as goal
 pub loop-i-preserved : goal.loop-i-preserved
 loop-i-preserved c =
     let same : c.kind.result ≡ get_or c.args.kinds.now c.loop-i.i kind.Int = search rules in
-    kinds_on c.args.values.now c.args.kinds.now c.loop-i.i c.index-values-values.result kind.Int _
-    c.if-values-kinds.false c.loop-i-test.true c.index-values-values.is (sym c.kind.ensures ∙ same) c.loop-i.invariant
+    kinds_on c.args.values.now c.args.kinds.now c.loop-i.i c.index-values-i.result kind.Int _
+    c.if-values-kinds.false c.loop-i-test.true c.index-values-i.is (sym c.kind.ensures ∙ same) c.loop-i.invariant

@@ -6,8 +6,8 @@ use Rattle.lsl_code.proofs.sacks.turn.Given as goal
 -- those before the place end where they began, and those from it on end as they did
 abbrev pub invariant-loop-i : goal.invariant-loop-i
 invariant-loop-i l = record {
-  seen : take l.i l.marks ++ seen_from_end l.total l.from (drop l.i l.marks)
-      ≡ seen_from_end l.total 0 l.fn.marks;
-  ends : EndAt l.from (drop l.i l.marks) l.total;
-  end : l.i-end ≡ length l.marks;
+  seen : take l.i l.marks.items ++ seen_from_end l.total l.from (drop l.i l.marks.items)
+      ≡ seen_from_end l.total 0 l.fn.marks.items;
+  ends : EndAt l.from (drop l.i l.marks.items) l.total;
+  end : l.i-end ≡ length l.marks.items;
 }
