@@ -1,10 +1,8 @@
 -- What saved calls are charged, one after another.
-use Rattle.std.proofs.Common.{◌≡◌, ◌∙◌, refl, ap, arith, ℕ, ◌+◌, ◌<◌, List, [], ◌∷◌, take, reverse, Option, Some, None, MatchOption, sum_by}
+use Rattle.std.proofs.Common.{◌≡◌, ◌∙◌, ap, arith, ℕ, ◌+◌, ◌<◌, List, take, Option, Some, None, MatchOption, sum_by}
 use Rattle.std.specs.Prelude.{slice_get}
-use Rattle.std.proofs.lemmas.List.{reverse-append}
-use Rattle.std.proofs.lemmas.List.Sums.{sum_by-cons, sum_by-take-le, sum_by_more, sum_by_push}
+use Rattle.std.proofs.lemmas.List.Sums.{sum_by-take-le, sum_by_more}
 use Rattle.std.proofs.lemmas.Option.{get_or_from_slice_get, slice_get_within}
-use Rattle.lsl_value.specs.Values.{charge_of}
 use Rattle.lsl_value.specs.declared.tagged.Value.{Value}
 use Rattle.lsl_running.specs.Charging.{call_charge, charges_of}
 use Rattle.lsl_code.specs.declared.frames.Frame.{Frame}

@@ -1,5 +1,5 @@
 -- Calls on a stack, and the same calls in a pack, the innermost first: the ones seen from the end of the others.
-use Rattle.std.proofs.Common.{◌≡◌, ◌∙◌, refl, sym, ap, subst, arith, ℕ, ◌+◌, ◌-◌, ◌≤◌, List, [], ◌∷◌, ◌++◌, length, take, drop, reverse}
+use Rattle.std.proofs.Common.{◌≡◌, ◌∙◌, refl, sym, ap, subst, arith, ℕ, ◌-◌, ◌≤◌, List, [], ◌∷◌, ◌++◌, length, take, drop, reverse}
 use Rattle.std.proofs.Math.Seq.{drop-append_seam, take-append_seam}
 use Rattle.std.proofs.lemmas.List.{drop_all, length-drop, length-reverse, length-take-le, nil_from_length, reverse-append, reverse-reverse, take_rest, take-append-drop}
 use Rattle.lsl_value.specs.declared.tagged.Value.{Value}

@@ -1,7 +1,6 @@
-use Rattle.std.proofs.Common.{◌≡◌, ◌∙◌, arith, ap, sym, List, reverse}
+use Rattle.std.proofs.Common.{◌∙◌, arith, ap, sym, List, reverse}
 use Rattle.std.proofs.lemmas.List.{nil_from_length}
 use Rattle.lsl_value.specs.declared.tagged.Value.{Value}
-use Rattle.lsl_code.specs.declared.frames.Frame.{Frame}
 use Rattle.lsl_code.specs.declared.frames.Mark.{Mark}
 use Rattle.lsl_code.specs.Packs.{Packed, frames_in}
 use Rattle.lsl_code.proofs.Packing.{all_ends}
