@@ -1,8 +1,8 @@
 -- What was appended, piece by piece and one for each of a list.
-use Rattle.std.proofs.Common.{◌≡◌, ◌∙◌, refl, sym, ap, subst, arith, ℕ, zero, suc, ◌+◌, ◌-◌, ◌*◌, ◌<◌, ◌≤◌, List, [], ◌∷◌, ◌++◌, length, reverse, take, get_or, append_assoc, Result, Ok, Err, OnOk, Some, slice_get, sum_by}
+use Rattle.std.proofs.Common.{◌≡◌, ◌∙◌, refl, sym, ap, subst, arith, ℕ, zero, suc, ◌+◌, ◌*◌, ◌<◌, ◌≤◌, List, [], ◌∷◌, ◌++◌, length, take, get_or, append_assoc, Result, Ok, Err, OnOk, Some, slice_get, sum_by}
 use Rattle.std.proofs.lemmas.Option.{slice_get_read}
 use Rattle.std.specs.List.{flat_map, AllByRecursion}
-use Rattle.std.proofs.lemmas.List.{append-nil, get_or-reverse, length-reverse}
+use Rattle.std.proofs.lemmas.List.{append-nil}
 use Rattle.std.proofs.lemmas.List.Sums.{sum_by-cons}
 use Rattle.std.proofs.lemmas.Grind.{flat_map-append}
 use Rattle.lsl_value.specs.declared.tagged.Value.{Value}
@@ -61,14 +61,6 @@ module _ {X : Type 0} where
   -- an item is what stands at its place
   pub item-at : (xs : List X) (i : ℕ) (x : X) → i < length xs → x ≡ get_or xs i x → Some x ≡ slice_get xs i
   item-at xs i x within is = sym (slice_get_read xs (length xs) i x refl within is)
-
-  -- the item so far before the last
-  pub from-last : (xs : List X) (i at : ℕ) (x : X) → i < length xs → at ≡ length xs - 1 - i → x ≡ get_or xs at x
-      → Some x ≡ slice_get (reverse xs) i
-  from-last xs i at x within place is =
-      let long = length-reverse xs in
-      item-at (reverse xs) i x (omega arith)
-      (is ∙ ap (λ (k : ℕ). get_or xs k x) place ∙ sym (get_or-reverse xs i x within))
 
   -- what holds of each holds of the one at a place
   pub each-at : (P : X → Type 0) (xs : List X) (i : ℕ) (x : X) → AllByRecursion P xs → i < length xs

@@ -1,19 +1,18 @@
 //! What a script rests in, appended to an image.
 
-ghost use Rattle.std.specs.Prelude.{◌≡◌, ◌++◌, ◌<◌, ◌≤◌, length, reverse, OnOk};
+ghost use Rattle.std.specs.Prelude.{◌≡◌, ◌++◌, ◌<◌, length, OnOk};
 ghost use Rattle.std.specs.List.{flat_map, AllByRecursion};
 ghost use Rattle.lsl_code.specs.Laid.{frame_laid};
-ghost use Rattle.lsl_image.specs.Bytes.{calls_bytes, fault_number, frame_bytes, rest_bytes, values_bytes};
-ghost use Rattle.lsl_image.specs.Fits.{AreValues, FitsFrame, FitsRest};
+ghost use Rattle.lsl_image.specs.Bytes.{calls_bytes, fault_number, frame_bytes, rest_bytes};
+ghost use Rattle.lsl_image.specs.Fits.{FitsFrame, FitsRest};
 ghost use Rattle.lsl_image.specs.Valid.{HasFewCalls};
 
-use crate::write_events::write_event;
+use crate::write_events::{write_event, write_values};
 use lsl_bytes::{push_u8, push_u16, push_value};
 use lsl_code::{Laid, Sack};
 use lsl_post::Rest;
 use lsl_running::Fault;
 use lsl_text::NoMemory;
-use lsl_value::Value;
 
 /// Appends what a script rests in behind its number.
 pub fn write_rest(out: &mut Vec<u8>, rest: &Rest) -> Result<(), NoMemory>
@@ -74,17 +73,5 @@ fn write_call(out: &mut Vec<u8>, call: &Laid<'_>) -> Result<(), NoMemory>
 {
     push_u16(out, call.function)?;
     push_u16(out, call.point)?;
-    write_from_last(out, call.values)
-}
-
-// Appends values, the last first.
-fn write_from_last(out: &mut Vec<u8>, values: &[Value]) -> Result<(), NoMemory>
-    ensures ok { OnOk result (out.new.items ≡ out.old.items ++ values_bytes (reverse values.now)) }
-    ensures fits { OnOk result (AreValues (reverse values.now)) }
-{
-    for i in 0..values.len() {
-        let value = &values[values.len() - 1 - i];
-        push_value(out, value)?;
-    }
-    Ok(())
+    write_values(out, call.values)
 }
