@@ -1,5 +1,5 @@
 -- Calls that were laid out are those that restoring ends with.
-use Rattle.std.proofs.Common.{◌≡◌, ◌∙◌, refl, sym, ap, subst, arith, ℕ, ◌+◌, ◌<◌, ◌≤◌, List, [], ◌∷◌, ◌++◌, length, map, vec_capacity}
+use Rattle.std.proofs.Common.{◌≡◌, ◌∙◌, sym, ap, subst, arith, ℕ, ◌≤◌, List, [], ◌∷◌, ◌++◌, vec_capacity}
 use Rattle.std.specs.Prelude.{option_map}
 use Rattle.lsl_running.specs.declared.kept.Kept.{Kept}
 use Rattle.lsl_running.specs.Charging.{default_limit}
@@ -13,9 +13,8 @@ use Rattle.lsl_code.specs.Restoring.{back_step, begins_restoring}
 use Rattle.lsl_code.specs.Weaves.{bodies_of}
 use Rattle.lsl_code.proofs.ModeRuns.{runs_beside}
 use Rattle.lsl_machine.specs.declared.layouts.Layout.{Layout}
-use Rattle.lsl_machine.specs.declared.running.Activation.{Activation}
 use Rattle.lsl_machine.specs.declared.running.Running.{Running}
-use Rattle.lsl_machine.specs.CallsRestored.{IsRestored, beside, capped}
+use Rattle.lsl_machine.specs.CallsRestored.{IsRestored, beside}
 use Rattle.lsl_machine.specs.Laid.{Lays, activation, activations, machine_of}
 use Rattle.lsl_machine.specs.Layouts.{HasLayout, IsLayout}
 use Rattle.lsl_machine.specs.Rooms.{IsReserved}
@@ -25,24 +24,6 @@ use Rattle.lsl_machine.proofs.Reserving.{reserved_more}
 use Rattle.lsl_machine.proofs.Returning.{body_there, run_short}
 use Rattle.lsl_machine.proofs.Viewing.{machine_view}
 use Rattle.lsl_machine.proofs.Waking.{uncapped}
-
--- there are calls
-pub some_calls : (bodies : List Body) (handler : ℕ) (frames : List Frame) (l : Layout)
-    → IsLayout bodies handler frames l → 0 < length l.calls.items
-some_calls bodies handler frames l x =
-    let n = ap length x.calls in
-    let m = long (map capped (activations x.outer)) (capped (activation x.c x.outer)) in
-    let same = ap length (map_last (activations x.outer) (activation x.c x.outer)) in
-    omega arith
-  where
-    long : (xs : List Activation) (a : Activation) → length (xs ++ a ∷ []) ≡ length xs + 1
-    long [] a = omega arith
-    long (y ∷ xs) a = let e = long xs a in omega arith
-
-    map_last : (xs : List Activation) (a : Activation)
-        → map capped (xs ++ a ∷ []) ≡ map capped xs ++ capped a ∷ []
-    map_last [] a = refl
-    map_last (y ∷ xs) a = ap (λ l. capped y ∷ l) (map_last xs a)
 
 module _ (unit : Woven) (handler : ℕ) (frames : List Frame) (kept : Kept)
     (valid : AreValid (points_of (bodies_of unit)) handler kept.globals kept.limit frames)
@@ -72,7 +53,8 @@ module _ (unit : Woven) (handler : ℕ) (frames : List Frame) (kept : Kept)
       let charged = restored_charge unit.globals unit.states bodies unit.woven handler frames (beside kept)
       valid.0 machine l.steps run in
       let within = valid.1 in
-      let calls = sym h.calls ∙ x.calls ∙ uncapped (x.c ∷ x.outer) (omega arith) in
+      let calls = ap (λ l1. l1 ++ r.active ∷ []) h.callers ∙ ap (λ a. l.callers.items ++ a ∷ []) h.active
+      ∙ x.calls ∙ uncapped (x.c ∷ x.outer) (omega arith) in
       let both = last_same r.callers.items (activations x.outer) r.active (activation x.c x.outer) calls in
       let lays : Lays r kept x.c x.outer =
       record {

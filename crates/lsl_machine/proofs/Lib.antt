@@ -46,3 +46,5 @@ pub mod Entries
 pub mod Raced
 pub mod Tops
 pub mod Passed
+pub mod Dropped
+pub mod AsTheyLie

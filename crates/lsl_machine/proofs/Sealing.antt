@@ -1,5 +1,5 @@
 -- The call that a saver has in hand.
-use Rattle.std.proofs.Common.{◌≡◌, ◌∙◌, sym, ap, subst, arith, ℕ, suc, ◌+◌, ◌<◌, ◌≤◌, List, ◌++◌, length, reverse, take, length-append, Some, true}
+use Rattle.std.proofs.Common.{◌≡◌, ◌∙◌, sym, ap, subst, arith, ℕ, suc, ◌+◌, ◌<◌, ◌≤◌, List, ◌++◌, length, reverse, take, Some, true}
 use Rattle.std.specs.Prelude.{slice_get, nat_lt}
 use Rattle.std.proofs.lemmas.Option.{slice_get_within}
 use Rattle.std.proofs.lemmas.Bool.Decides.{nat_tests}
@@ -26,14 +26,6 @@ low_is s low c hand h =
     ap (λ n. take n s.stack.items) h.base
     ∙ ap (take (length low)) (h.stack ∙ append_assoc low c.slots (reverse c.operands))
     ∙ take_front low (c.slots ++ reverse c.operands)
-
-pub low_within : (s : Saver) (low : List Value) (c : MachineCall) (hand : List Value) → HasCall s low c hand
-    → s.active.base ≤ length s.stack.items
-low_within s low c hand h =
-    let all = ap length h.stack ∙ length-append (low ++ c.slots) (reverse c.operands) in
-    let some = length-append low c.slots in
-    let b = h.base in
-    omega arith
 
 frame_same : (f p : ℕ) (values : List Value) (fr : Frame) → fr.function ≡ f → fr.point ≡ p → fr.slots ≡ values
     → frame_of f p values ≡ fr

@@ -9,6 +9,7 @@ pub mod Integers
 pub mod Known
 pub mod Laid
 pub mod Layouts
+pub mod Marked
 pub mod Memory
 pub mod Parking
 pub mod Passing

@@ -40,6 +40,7 @@ mod jumps;
 mod known;
 mod layouts;
 mod limits;
+mod marking;
 mod operands;
 mod operating;
 mod performing;
@@ -52,7 +53,7 @@ mod standing;
 
 use crate::entering::enter;
 use crate::restoring::restore;
-use crate::running::{Room, Running};
+use crate::running::Running;
 pub use crate::standing::Halt;
 use crate::standing::{Standing, standing_at};
 pub use lsl_running::{Call, Fault, Kept, Outcome, Reply};
@@ -288,7 +289,7 @@ impl Machine {
             BackRun (bodies_of unit.now) handler parked.sack (beside parked.kept) m n → steps.new - steps.old ≤ n) }
     {
         let Parked { sack, kept } = parked;
-        let running = restore(alloc, unit, handler, sack, kept, Room::new(alloc), steps)?;
+        let running = restore(alloc, unit, handler, sack, kept, Vec::new(alloc), steps)?;
         let standing = Standing::AtTick;
         Ok(Machine { running, standing })
     }
@@ -308,9 +309,9 @@ impl Machine {
         self.standing = Standing::Lost;
         let alloc = self.running.alloc;
         let running = replace(&mut self.running, Running::vacant(alloc));
-        let (sack, kept, room) = running.save(unit)?;
+        let (sack, kept, callers) = running.save(unit)?;
         let mut steps = 0;
-        self.running = restore(alloc, unit, handler, sack, kept, room, &mut steps)?;
+        self.running = restore(alloc, unit, handler, sack, kept, callers, &mut steps)?;
         self.standing = Standing::AtTick;
         Ok(())
     }

@@ -13,11 +13,11 @@ ghost use Rattle.lsl_code.specs.Weaves.{bodies_of};
 ghost use Rattle.lsl_code.specs.Frames.{AreValid, points_of};
 ghost use Rattle.lsl_code.specs.ModeRuns.{BackRun};
 ghost use Rattle.lsl_machine.specs.CallsRestored.{Backs, CanBack, IsRestored, IsRestoring, beside};
-ghost use Rattle.lsl_machine.specs.Laid.{IsVacant, Lays};
+ghost use Rattle.lsl_machine.specs.Laid.{Lays};
 
 use crate::calls::{above, push_empties};
 use crate::layouts::Layout;
-use crate::running::{Activation, Room, Running};
+use crate::running::{Activation, Running};
 use lsl_code::{Instr, Pack, Sack, Woven};
 use lsl_running::{CALL_CHARGE, Kept, SCRIPT_CHARGE, charged_with_values};
 use lsl_text::NoMemory;
@@ -37,26 +37,21 @@ pub struct Restorer {
 }
 
 impl Restorer {
-    /// The handler's function, entered to be restored, before these frames. The room is used again.
+    /// The handler's function, entered to be restored, before these frames.
     pub fn begin(
         alloc: Global,
         unit: &Woven,
         handler: u16,
         sack: Sack,
-        room: Room,
     ) -> Result<Restorer, NoMemory>
-        requires there { (body : Body) × (slice_get (bodies_of unit.now) handler ≡ Some body) }
-        requires vacant { IsVacant room }
+        requires { (body : Body) × (slice_get (bodies_of unit.now) handler ≡ Some body) }
         ensures { IfOk result (λ begun. (body : Body) → slice_get (bodies_of unit.now) handler ≡ Some body →
             IsRestoring (bodies_of unit.now) begun (blank handler body) [] 0 [] sack) }
     {
         let Some(function) = unit.functions.get(handler as usize) else {
             unreachable!();
         };
-        let Room {
-            mut callers,
-            mut stack,
-        } = room;
+        let mut stack = Vec::new(alloc);
         push_empties(alloc, &mut stack, function.slots.as_slice(), function.most)?;
         let active = Activation {
             function: handler,
@@ -65,14 +60,15 @@ impl Restorer {
             floor: stack.len(),
             charge: SCRIPT_CHARGE,
         };
-        callers.reserve(sack.len())?;
+        let callers = Vec::with_capacity(alloc, sack.len())?;
+        let pack = sack.into_pack()?;
         Ok(Restorer {
             alloc,
             active,
             callers,
             stack,
             point: 0,
-            pack: sack.into_pack(),
+            pack,
         })
     }
 
@@ -266,19 +262,19 @@ pub fn instruction(unit: &Woven, function: u16, place: usize) -> Option<&Instr>
 }
 
 /// The machine that the unit's own code makes of these frames of the handler's function, beside these globals and this
-/// limit. The room is used again. The count of steps grows by one for each instruction.
+/// limit. The vector for calls is used again. The count of steps grows by one for each instruction.
 pub fn restore(
     alloc: Global,
     unit: &Woven,
     handler: u16,
     sack: Sack,
     kept: Kept,
-    room: Room,
+    callers: Vec<Activation>,
     steps: &mut u64,
 ) -> Result<Running, NoMemory>
     requires valid { AreValid (points_of (bodies_of unit.now)) handler kept.globals kept.limit sack }
     requires limit { kept.limit ≤ default_limit }
-    requires vacant { IsVacant room }
+    requires vacant { callers.items ≡ [] }
     requires steps { steps.old ≤ 9223372036854775807 }
     ensures restored { IfOk result (λ running.
         IsRestored (bodies_of unit.now) handler sack kept running (steps.new - steps.old)) }
@@ -286,21 +282,14 @@ pub fn restore(
     ensures lacking { OnErr result ((m : Restored) (n : ℕ) →
         BackRun (bodies_of unit.now) handler sack (beside kept) m n → steps.new - steps.old ≤ n) }
 {
-    let Room { callers, stack } = room;
     match Layout::of(unit, handler, &sack, callers)? {
         Some(layout) => {
             let count = layout.steps;
-            let running = layout.into_running(alloc, sack, stack, kept)?;
+            let running = layout.into_running(alloc, sack, kept)?;
             *steps += count;
             Ok(running)
         }
-        None => {
-            let room = Room {
-                callers: Vec::new(alloc),
-                stack,
-            };
-            restore_by_code(alloc, unit, handler, sack, kept, room, steps)
-        }
+        None => restore_by_code(alloc, unit, handler, sack, kept, steps),
     }
 }
 
@@ -311,12 +300,10 @@ fn restore_by_code(
     handler: u16,
     sack: Sack,
     kept: Kept,
-    room: Room,
     steps: &mut u64,
 ) -> Result<Running, NoMemory>
     requires valid { AreValid (points_of (bodies_of unit.now)) handler kept.globals kept.limit sack }
     requires limit { kept.limit ≤ default_limit }
-    requires vacant { IsVacant room }
     requires steps { steps.old ≤ 9223372036854775807 }
     ensures restored { IfOk result (λ running.
         IsRestored (bodies_of unit.now) handler sack kept running (steps.new - steps.old)) }
@@ -324,7 +311,7 @@ fn restore_by_code(
     ensures lacking { OnErr result ((m : Restored) (n : ℕ) →
         BackRun (bodies_of unit.now) handler sack (beside kept) m n → steps.new - steps.old ≤ n) }
 {
-    let mut restorer = Restorer::begin(alloc, unit, handler, sack, room)?;
+    let mut restorer = Restorer::begin(alloc, unit, handler, sack)?;
     for i in 0..u64::MAX {
         let Some(instr) = instruction(unit, restorer.active.function, restorer.active.place) else {
             unreachable!();

@@ -1,7 +1,5 @@
 //! The handler that runs: one vector for the slots and the operands of all its calls.
 
-ghost use Rattle.lsl_machine.specs.Laid.{IsVacant};
-
 use lsl_running::{Call, Fault, Outcome};
 use lsl_value::Value;
 use std::alloc::Global;
@@ -44,25 +42,6 @@ impl Running {
                 floor: 0,
                 charge: 0,
             },
-            callers: Vec::new(alloc),
-            stack: Vec::new(alloc),
-        }
-    }
-}
-
-/// Vectors for calls and for what they hold, without any, whose room is used again.
-#[derive(Drop)]
-pub struct Room {
-    pub callers: Vec<Activation>,
-    pub stack: Vec<Value>,
-}
-
-impl Room {
-    /// No room. Takes no memory.
-    pub fn new(alloc: Global) -> Room
-        ensures { IsVacant result }
-    {
-        Room {
             callers: Vec::new(alloc),
             stack: Vec::new(alloc),
         }

@@ -1,20 +1,20 @@
 //! Saving: the code of each call's function keeps the call as a frame.
 
-ghost use Rattle.std.specs.Prelude.{◌≡◌, ◌++◌, ◌∷◌, ◌≤◌, [], ℕ, List, IfOk, OnOk, Some, None, drop, length};
+ghost use Rattle.std.specs.Prelude.{◌≡◌, ◌++◌, ◌∷◌, [], ℕ, List, IfOk, OnOk, Some, None, length};
 ghost use Rattle.lsl_value.specs.declared.tagged.Value.{Value as Tagged};
 ghost use Rattle.lsl_code.specs.Machine.{MachineCall};
 ghost use Rattle.lsl_code.specs.Packs.{packed};
+ghost use Rattle.lsl_code.specs.Sacks.{EndsWithin, stack_frames};
 ghost use Rattle.lsl_code.specs.Saving.{frame_of, save_act};
 ghost use Rattle.lsl_code.specs.Weaves.{bodies_of};
 ghost use Rattle.lsl_code.specs.declared.instructions.Instr.TheVariants as instrs;
 ghost use Rattle.lsl_weave.specs.WovenCalls.{RestAtTick};
-ghost use Rattle.lsl_machine.specs.Laid.{Held, IsVacant, kept_of, machine_of};
-ghost use Rattle.lsl_machine.specs.Known.{IsKept};
+ghost use Rattle.lsl_machine.specs.Laid.{Held, kept_of, machine_of};
 ghost use Rattle.lsl_machine.specs.CallsSaved.{AreSaved, CanKeep, CanSeal, DidKeep, HasCall, HasSealed, low_of};
 
 use crate::calls::shorten;
-use crate::known::{KnownKeep, point_of};
-use crate::running::{Activation, Room, Running};
+use crate::marking::Marks;
+use crate::running::{Activation, Running};
 use lsl_code::{Instr, Pack, Sack, Woven};
 use lsl_running::Kept;
 use lsl_text::NoMemory;
@@ -31,51 +31,9 @@ pub struct Saver {
 }
 
 impl Saver {
-    /// Keeps the call in hand as its function's code does, and leaves it. How the last call was kept is remembered.
-    #[inline(always)]
-    pub fn seal(&mut self, unit: &Woven, last: &mut Option<KnownKeep>) -> Result<(), NoMemory>
-        requires call { CanSeal (bodies_of unit.now) self.old }
-        requires known { IsKept (bodies_of unit.now) last.old }
-        ensures frame { OnOk result (HasSealed (bodies_of unit.now) self.old self.new) }
-        ensures left { OnOk result (self.new.stack.items ≡ low_of self.old) }
-        ensures known { IsKept (bodies_of unit.now) last.new }
-    {
-        let Activation {
-            function,
-            place,
-            base,
-            floor,
-            ..
-        } = self.active;
-        let count = self.stack.len() - base;
-        match point_of(last, unit, function, place, floor - base, count) {
-            Some(point) => self.close_in_order(point),
-            None => self.seal_by_code(unit),
-        }
-    }
-
-    /// Closes the frame at this point, whose values are the call's as they lie, and leaves the call.
-    #[inline(always)]
-    fn close_in_order(&mut self, point: u16) -> Result<(), NoMemory>
-        requires base { self.old.active.base ≤ length self.old.stack.items }
-        requires hand { self.old.pack.hand ≡ [] }
-        ensures sealed { OnOk result (self.new.pack ≡ packed (self.old.pack.frames
-            ++ frame_of self.old.active.function point (drop self.old.active.base self.old.stack.items) ∷ []) []) }
-        ensures left { OnOk result (self.new.stack.items ≡ low_of self.old) }
-    {
-        let base = self.active.base;
-        'values: while self.stack.len() > base {
-            let Some(value) = self.stack.pop() else {
-                unreachable!();
-            };
-            self.pack.keep(value)?;
-        }
-        self.pack.seal(self.active.function, point)
-    }
-
-    /// The same, instruction by instruction.
+    /// Keeps the call in hand as its function's code does, and leaves it.
     #[inline(never)]
-    fn seal_by_code(&mut self, unit: &Woven) -> Result<(), NoMemory>
+    fn seal(&mut self, unit: &Woven) -> Result<(), NoMemory>
         requires { CanSeal (bodies_of unit.now) self.old }
         ensures frame { OnOk result (HasSealed (bodies_of unit.now) self.old self.new) }
         ensures left { OnOk result (self.new.stack.items ≡ low_of self.old) }
@@ -171,25 +129,62 @@ impl Saver {
 }
 
 impl Running {
-    /// What the unit's own code saves the calls as, the innermost first, the globals with the limit, and the room that
-    /// the calls had. The values move.
-    pub fn save(self, unit: &Woven) -> Result<(Sack, Kept, Room), NoMemory>
+    /// What the unit's own code saves the calls as, the globals with the limit, and a vector for calls, whose room is
+    /// used again. Where the code of all calls keeps their values in the order in which they lie, no value moves.
+    pub fn save(self, unit: &Woven) -> Result<(Sack, Kept, Vec<Activation>), NoMemory>
         requires laid { Held self }
         requires rests { (handler : ℕ) × RestAtTick (bodies_of unit.now) handler (machine_of self).calls }
         ensures frames { IfOk result (λ parked. AreSaved (bodies_of unit.now) (machine_of self).calls parked.0) }
         ensures kept { IfOk result (λ parked. parked.1 ≡ kept_of self) }
-        ensures room { IfOk result (λ parked. IsVacant parked.2) }
+        ensures room { IfOk result (λ parked. parked.2.items ≡ []) }
+    {
+        match self.marks(unit)? {
+            Some(marks) => Ok(self.into_sack(marks)),
+            None => self.save_by_code(unit),
+        }
+    }
+
+    // The calls as they lie, where they are saved so.
+    #[inline(always)]
+    fn into_sack(self, marks: Marks) -> (Sack, Kept, Vec<Activation>)
+        requires { EndsWithin 0 marks.outer.items (length self.stack.items) }
+        ensures frames { result.0 ≡ stack_frames self.active.function marks.point marks.outer.items self.stack.items }
+        ensures kept { result.1 ≡ kept_of self }
+        ensures room { result.2.items ≡ [] }
+    {
+        let Running {
+            globals,
+            limit,
+            active,
+            mut callers,
+            stack,
+            ..
+        } = self;
+        callers.clear();
+        let globals = Values::from_vec(globals);
+        let kept = Kept { globals, limit };
+        let sack = Sack::from_stack(active.function, marks.point, marks.outer, stack);
+        (sack, kept, callers)
+    }
+
+    // The same, instruction by instruction.
+    #[inline(never)]
+    fn save_by_code(self, unit: &Woven) -> Result<(Sack, Kept, Vec<Activation>), NoMemory>
+        requires laid { Held self }
+        requires rests { (handler : ℕ) × RestAtTick (bodies_of unit.now) handler (machine_of self).calls }
+        ensures frames { IfOk result (λ parked. AreSaved (bodies_of unit.now) (machine_of self).calls parked.0) }
+        ensures kept { IfOk result (λ parked. parked.1 ≡ kept_of self) }
+        ensures room { IfOk result (λ parked. parked.2.items ≡ []) }
     {
         let Running {
             alloc,
             globals,
             limit,
             active,
-            callers,
+            mut callers,
             stack,
             ..
         } = self;
-        let mut callers = callers;
         let pack = Pack::with_room(alloc, callers.len() + 1, stack.len())?;
         let mut saver = Saver {
             active: Activation {
@@ -199,20 +194,13 @@ impl Running {
             stack,
             pack,
         };
-        let mut last = None;
-        saver.seal(unit, &mut last)?;
+        saver.seal(unit)?;
         while let Some(caller) = callers.pop() {
             saver.active = caller;
-            saver.seal(unit, &mut last)?;
+            saver.seal(unit)?;
         }
-        let Saver {
-            mut stack,
-            pack,
-            ..
-        } = saver;
-        stack.clear();
         let globals = Values::from_vec(globals);
         let kept = Kept { globals, limit };
-        Ok((Sack::from_pack(pack), kept, Room { callers, stack }))
+        Ok((Sack::from_pack(saver.pack), kept, callers))
     }
 }

@@ -3,7 +3,7 @@ use Rattle.std.specs.Prelude.{IfSome}
 use Rattle.lsl_code.specs.Weaves.{bodies_of}
 use Rattle.lsl_machine.specs.CallsRestored.{IsRestored}
 use Rattle.lsl_machine.specs.Layouts.{IsLayout}
-use Rattle.lsl_machine.proofs.AtOnce.{counts, restored, some_calls}
+use Rattle.lsl_machine.proofs.AtOnce.{counts, restored}
 use Rattle.lsl_machine.proofs.restoring.restore.Goals as goal
 
 on_err_all : {T E : Type 0} (r : Result T E) {P : Type 0} → P → OnErr r P
@@ -11,22 +11,13 @@ on_err_all (Ok x) p = tt
 on_err_all (Err e) p = p
 
 pub of-requires : goal.of-requires
-of-requires c = c.requires.vacant.0
+of-requires c = c.requires.vacant
 
 pub returns-in_err-layout-clause-lacking : goal.returns-in_err-layout-clause-lacking
 returns-in_err-layout-clause-lacking c = on_err_all c.from_residual.result (λ m n run. omega arith)
 
-pub into_running-requires-clause-calls : goal.into_running-requires-clause-calls
-into_running-requires-clause-calls c =
-    some_calls (bodies_of c.args.unit.now) c.args.handler c.args.sack c.in-Some.layout
-    (subst (λ o. IfSome o (IsLayout (bodies_of c.args.unit.now) c.args.handler c.args.sack)) c.in-Some.is
-    c.in_ok-layout.ensures)
-
-pub into_running-requires-clause-vacant : goal.into_running-requires-clause-vacant
-into_running-requires-clause-vacant c = c.requires.vacant.1
-
-pub into_running-requires-clause-room : goal.into_running-requires-clause-room
-into_running-requires-clause-room c =
+pub into_running-requires : goal.into_running-requires
+into_running-requires c =
     let x : IsLayout (bodies_of c.args.unit.now) c.args.handler c.args.sack c.in-Some.layout =
     subst (λ o. IfSome o (IsLayout (bodies_of c.args.unit.now) c.args.handler c.args.sack)) c.in-Some.is
     c.in_ok-layout.ensures in
@@ -63,9 +54,6 @@ restore_by_code-requires-clause-valid c = c.requires.valid
 
 pub restore_by_code-requires-clause-limit : goal.restore_by_code-requires-clause-limit
 restore_by_code-requires-clause-limit c = c.requires.limit
-
-pub restore_by_code-requires-clause-vacant : goal.restore_by_code-requires-clause-vacant
-restore_by_code-requires-clause-vacant c = (c.new.ensures.items, c.requires.vacant.1)
 
 pub restore_by_code-requires-clause-steps : goal.restore_by_code-requires-clause-steps
 restore_by_code-requires-clause-steps c = c.requires.steps

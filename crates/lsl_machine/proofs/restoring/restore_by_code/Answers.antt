@@ -4,8 +4,8 @@ use Rattle.lsl_machine.specs.CallsRestored.{Backs, IsRestored}
 use Rattle.lsl_machine.proofs.Returning.{begins_so, body_there, can_back, counts_on, ends, ends_within, goes_on, has_next, part_of}
 use Rattle.lsl_machine.proofs.restoring.restore_by_code.Goals as goal
 
-pub begin-requires-clause-there : goal.begin-requires-clause-there
-begin-requires-clause-there c =
+pub begin-requires : goal.begin-requires
+begin-requires c =
     body_there c.args.unit.now c.args.handler c.args.sack c.args.kept c.requires.valid c.requires.limit
 
 pub loop-i-init : goal.loop-i-init

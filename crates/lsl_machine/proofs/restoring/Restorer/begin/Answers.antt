@@ -25,23 +25,23 @@ returns c body given =
     record {
       alloc = c.args.alloc;
       active = record { function = c.args.handler; place = 0; base = 0; floor = c.len.result; charge = 1024 };
-      callers = c.reserve.new.self;
+      callers = c.in_ok-callers.callers;
       stack = c.push_empties.new.stack;
       point = 0;
-      pack = c.into_pack.result;
+      pack = c.in_ok-pack.pack;
     } in
     let slots : c.push_empties.new.stack.items ≡ map empty_of w.slots =
     c.in_ok-push_empties.ensures.pushed
-    ∙ ap (λ l. l ++ map empty_of c.as_slice.result.now) c.requires.vacant.1
+    ∙ ap (λ l. l ++ map empty_of c.as_slice.result.now) c.new-stack.ensures.items
     ∙ ap (map empty_of) c.as_slice.ensures in
     subst (λ (b : Body). IsRestoring (bodies_of c.args.unit.now) r (blank c.args.handler b) [] 0 []
     c.args.sack) same
     (begun_restoring (bodies_of c.args.unit.now) r c.args.handler w c.args.sack found slots
-    (c.reserve.ensures.items ∙ c.requires.vacant.0) (ap {B = Activation} (λ x. record {
+    c.in_ok-callers.ensures.items (ap {B = Activation} (λ x. record {
       function = c.args.handler;
       place = 0;
       base = 0;
       floor = x;
       charge = 1024;
-    }) floor) refl (ap (λ (x : Packed). x.hand) c.into_pack.ensures)
-    (ap (λ (x : Packed). x.frames) c.into_pack.ensures) c.in_ok-push_empties.ensures.room)
+    }) floor) refl (ap (λ (x : Packed). x.hand) c.in_ok-pack.ensures)
+    (ap (λ (x : Packed). x.frames) c.in_ok-pack.ensures) c.in_ok-push_empties.ensures.room)

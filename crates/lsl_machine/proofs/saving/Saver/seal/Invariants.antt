@@ -3,7 +3,7 @@ use Rattle.lsl_code.specs.Weaves.{bodies_of}
 use Rattle.lsl_code.specs.WovenBodies.{woven_body}
 use Rattle.lsl_machine.specs.CallsSaved.{call_of, low_of}
 use Rattle.lsl_machine.proofs.Keeping.{IsSealing}
-use Rattle.lsl_machine.proofs.saving.Saver.seal_by_code.Given as goal
+use Rattle.lsl_machine.proofs.saving.Saver.seal.Given as goal
 
 -- the call is on its way to its frame
 abbrev pub invariant-loop-i : goal.invariant-loop-i

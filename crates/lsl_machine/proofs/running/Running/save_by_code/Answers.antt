@@ -5,7 +5,7 @@ use Rattle.lsl_machine.specs.CallsSaved.{AreSaved}
 use Rattle.lsl_machine.specs.declared.saving.Saver.{Saver}
 use Rattle.lsl_machine.specs.Laid.{machine_of}
 use Rattle.lsl_machine.proofs.Sacking.{rests_so, tick_short, seals_first, saves_first, next_taken, seals_next, saves_next, all_saved}
-use Rattle.lsl_machine.proofs.running.Running.save.Goals as goal
+use Rattle.lsl_machine.proofs.running.Running.save_by_code.Goals as goal
 
 pub overflow_add-saver : goal.overflow_add-saver
 overflow_add-saver c =
@@ -13,8 +13,8 @@ overflow_add-saver c =
     let short = tick_short c.args.unit.now c.args.self x in
     omega arith
 
-pub seal-requires-clause-call : goal.seal-requires-clause-call
-seal-requires-clause-call c =
+pub seal-requires : goal.seal-requires
+seal-requires c =
     let x = rests_so c.args.unit.now c.args.self c.requires.laid c.requires.rests in
     seals_first c.args.unit.now c.args.self x _ refl refl (ap (λ (p : Packed). p.hand) c.in_ok-pack.ensures)
 
@@ -28,22 +28,18 @@ loop-caller-init c =
       pack = c.in_ok-pack.pack;
     } in
     let sealed = c.in_ok-seal.ensures.frame in
-    record {
-      saving = saves_first c.args.unit.now c.args.self x saver c.seal.new.self sealed.0 c.seal.new.self.pack.frames refl refl
-          (ap (λ (p : Packed). p.hand) c.in_ok-pack.ensures) sealed.2 c.in_ok-seal.ensures.left
-          (ap (λ (p : Packed). p.hand) sealed.1)
-          (ap (λ (p : Packed). p.frames) sealed.1
-          ∙ ap (λ (p : Packed). p.frames ++ sealed.0 ∷ []) c.in_ok-pack.ensures);
-      known = c.seal.ensures.known;
-    }
+    saves_first c.args.unit.now c.args.self x saver c.seal.new.self sealed.0 c.seal.new.self.pack.frames refl refl
+    (ap (λ (p : Packed). p.hand) c.in_ok-pack.ensures) sealed.2 c.in_ok-seal.ensures.left
+    (ap (λ (p : Packed). p.hand) sealed.1)
+    (ap (λ (p : Packed). p.frames) sealed.1 ∙ ap (λ (p : Packed). p.frames ++ sealed.0 ∷ []) c.in_ok-pack.ensures)
 
-pub seal-requires-in-Some-clause-call : goal.seal-requires-in-Some-clause-call
-seal-requires-in-Some-clause-call c =
+pub seal-requires-in-Some : goal.seal-requires-in-Some
+seal-requires-in-Some c =
     let bodies = bodies_of c.args.unit.now in
     let first = (machine_of c.args.self).calls in
     let frames = c.loop-caller.saver.pack.frames in
     let x = next_taken bodies first c.loop-caller.saver c.in-Some.caller c.loop-caller.callers.items
-    c.pop.new.self.items frames c.loop-caller.invariant.saving c.in-Some.ensures.items in
+    c.pop.new.self.items frames c.loop-caller.invariant c.in-Some.ensures.items in
     seals_next bodies first c.loop-caller.saver c.in-Some.caller c.pop.new.self.items frames x _ refl refl refl
 
 pub loop-caller-preserved : goal.loop-caller-preserved
@@ -52,17 +48,14 @@ loop-caller-preserved c =
     let first = (machine_of c.args.self).calls in
     let frames = c.loop-caller.saver.pack.frames in
     let x = next_taken bodies first c.loop-caller.saver c.in-Some.caller c.loop-caller.callers.items
-    c.pop.new.self.items frames c.loop-caller.invariant.saving c.in-Some.ensures.items in
+    c.pop.new.self.items frames c.loop-caller.invariant c.in-Some.ensures.items in
     let sealed = c.in_ok-seal-2.ensures.frame in
-    record {
-      saving = saves_next bodies first c.loop-caller.saver c.in-Some.caller c.pop.new.self.items frames x _
-          c.seal-in-Some.new.self sealed.0 c.seal-in-Some.new.self.pack.frames refl refl refl sealed.2
-          c.in_ok-seal-2.ensures.left (ap (λ (p : Packed). p.hand) sealed.1) (ap (λ (p : Packed). p.frames) sealed.1);
-      known = c.seal-in-Some.ensures.known;
-    }
+    saves_next bodies first c.loop-caller.saver c.in-Some.caller c.pop.new.self.items frames x _
+    c.seal-in-Some.new.self sealed.0 c.seal-in-Some.new.self.pack.frames refl refl refl sealed.2
+    c.in_ok-seal-2.ensures.left (ap (λ (p : Packed). p.hand) sealed.1) (ap (λ (p : Packed). p.frames) sealed.1)
 
 pub returns-clause-frames : goal.returns-clause-frames
 returns-clause-frames c =
     subst (AreSaved (bodies_of c.args.unit.now) (machine_of c.args.self).calls) (sym c.from_pack.ensures)
     (all_saved (bodies_of c.args.unit.now) (machine_of c.args.self).calls c.loop-caller.saver
-    c.loop-caller.callers.items c.loop-caller.saver.pack.frames c.loop-caller.invariant.saving (search rules))
+    c.loop-caller.callers.items c.loop-caller.saver.pack.frames c.loop-caller.invariant (search rules))
