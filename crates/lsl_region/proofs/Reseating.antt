@@ -120,6 +120,16 @@ seat-own seat (Some parts) script scripts all own e =
     sym (ap (λ (z : List ScriptParts). with_first seat (Some parts) z) e)
 seat-own seat None script scripts all own e = absurd cc
 
+there : (here : Bool) (unit : ℕ) (o : Option ScriptParts)
+    → is_some (if here then option_map (with_unit unit) o else None) ≡ true → is_some o ≡ true
+there true unit (Some parts) own = refl
+there true unit None own = own
+there false unit o own = absurd (false≢true own)
+
+-- a seat of the object has a script
+pub seat-there : (place : ℕ) (seat : Seat) → is_some (parts_in_seat place seat) ≡ true → is_some seat.script ≡ true
+seat-there place seat own = there (nat_eq seat.object place) seat.unit seat.script own
+
 pub behind-own : (o : Option ScriptParts) (script : ScriptParts) (scripts all : List ScriptParts)
     → is_some o ≡ true → all ≡ script ∷ scripts → scripts ≡ behind_first o all
 behind-own (Some parts) script scripts all own e = sym (ap (λ (z : List ScriptParts). behind_first (Some parts) z) e)

@@ -235,9 +235,10 @@ impl Grid {
         }
     }
 
-    // A script comes into this seat.
+    // The script in this seat has these parts. Takes no memory.
     fn seat_script(&mut self, seat: usize, parts: ScriptParts, library: &Library)
         requires seat { seat < length self.old.seats }
+        requires there { (at : Place) → slice_get self.old.seats seat ≡ Some at → is_some at.script ≡ true }
         requires seated { AreSeated library.now self.old.seats }
         requires fits { (at : Place) → slice_get self.old.seats seat ≡ Some at →
             IsSeated library.now (record at { script = Some parts }) }
@@ -248,8 +249,11 @@ impl Grid {
         ensures seated { AreSeated library.now self.new.seats }
     {
         let unit = library.unit(self.seats[seat].unit);
-        let script = Script::from_parts(parts, unit);
-        self.put_back(seat, script);
+        self.hearers.follow(seat, &parts.listens);
+        let Some(script) = &mut self.seats[seat].script else {
+            unreachable!();
+        };
+        script.set_parts(parts, unit);
     }
 
     // All scripts of the object at this place are told by these events, and the entries stand behind so many.

@@ -47,7 +47,7 @@ impl Live {
             IfOk result (ClosesAs codes number s self.machine.machine.kept ends.way) }
     {
         let Live {
-            mut parts,
+            parts: mut script,
             outcome,
             machine,
             ..
@@ -57,12 +57,13 @@ impl Live {
         };
         let kept = machine.finish();
         let charge = charged_with_values(SCRIPT_CHARGE, kept.globals.as_slice());
-        keep(&mut parts, kept);
+        let parts = &mut *script.parts;
+        keep(parts, kept);
         let exits = unit.handler(parts.state, EventId::StateExit).is_some();
         let going = Going::of(parts.leaving, parts.state, exits, outcome);
-        let cleared = go(alloc, unit, &mut parts, going)?;
+        let cleared = go(alloc, unit, parts, going)?;
         Ok(Closed {
-            script: Script::from_parts(parts, unit),
+            script,
             charge,
             cleared,
         })

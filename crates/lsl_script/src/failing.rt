@@ -33,11 +33,15 @@ impl Live {
         ensures lawful { (codes : List Code) (s : Source) (number : ℕ) → Carries codes unit.now s self →
             Lawful (rules_of codes) (failed (rules_of codes) number s fault).value }
     {
-        let Live { mut parts, .. } = self;
-        keep(&mut parts, initial(alloc, unit)?);
+        let Live {
+            parts: mut script,
+            ..
+        } = self;
+        let parts = &mut *script.parts;
+        keep(parts, initial(alloc, unit)?);
         parts.leaving = None;
-        let _count = forget(alloc, &mut parts);
+        let _count = forget(alloc, parts);
         parts.rest = Rest::Dead(fault);
-        Ok(Script::from_parts(parts, unit))
+        Ok(script)
     }
 }

@@ -25,16 +25,17 @@ ghost use Rattle.lsl_script.specs.Passing.{PassesTo};
 ghost use Rattle.lsl_script.specs.Scripts.{Flight, Script as Source, entries_of_posting, is_ready, napped, post_to};
 ghost use Rattle.lsl_script.specs.Waking.{StandsWoken};
 
+use crate::scripts::Script;
 use lsl_code::Woven;
 use lsl_machine::{Halt, Machine};
-use lsl_post::{Event, Listens, Posted, ScriptParts, Timer};
+use lsl_post::{Event, Listens, Posted, Timer};
 use lsl_running::{Call, Fault, Outcome};
 use lsl_value::Value;
 
 /// A script that is awake. Its parts have neither its globals, which the machine has, nor the calls that were saved.
 #[derive(Drop)]
 pub struct Live {
-    pub(crate) parts: ScriptParts,
+    pub(crate) parts: Script,
     pub(crate) event: Event,
     /// the function of the event's handler
     pub(crate) handler: u16,
@@ -80,7 +81,7 @@ impl Live {
         ensures source { (codes : List Code) (unit : Code) (s : Source) (f : Flight) → Rests codes unit s f self.now →
             result ≡ is_ready clock s }
     {
-        self.parts.wake <= clock
+        self.parts.parts.wake <= clock
     }
 
     /// Goes on to the next tick, ask or end. A handler that was just begun passes its first tick too. After `NoMemory`
@@ -282,7 +283,7 @@ impl Live {
             let told = post_to (rules_of codes) number event s in
             Waits codes unit.now told.value f id self.new × (told.entries ≡ entries_of_posting number result) }
     {
-        self.parts.post(unit, event)
+        self.parts.parts.post(unit, event)
     }
 
     /// Its listens. Takes no memory.
@@ -290,7 +291,7 @@ impl Live {
         ensures* lends { sem 𝓛 (LendsListens self.entry result) }
         ensures value { result.now ≡ self.old.parts.listens }
     {
-        let parts = &mut self.parts;
+        let parts = &mut self.parts.parts;
         &mut parts.listens
     }
 
@@ -299,7 +300,7 @@ impl Live {
         ensures* lends { sem 𝓛 (LendsTimer self.entry result) }
         ensures value { result.now ≡ self.old.parts.timer }
     {
-        let parts = &mut self.parts;
+        let parts = &mut self.parts.parts;
         &mut parts.timer
     }
 
@@ -310,6 +311,6 @@ impl Live {
         ensures source { (codes : List Code) (unit : Code) (s : Source) (f : Flight) (id : BuiltinId) →
             Waits codes unit s f id self.old → Waits codes unit (napped wake s) f id self.new }
     {
-        self.parts.wake = wake;
+        self.parts.parts.wake = wake;
     }
 }

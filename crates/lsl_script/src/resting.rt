@@ -37,15 +37,16 @@ impl Live {
             Lawful (rules_of codes) s }
     {
         let Live {
-            mut parts,
+            parts: mut script,
             event,
             machine,
             ..
         } = self;
         let Parked { sack, kept } = machine.save(unit)?;
-        keep(&mut parts, kept);
+        let parts = &mut *script.parts;
+        keep(parts, kept);
         parts.rest = Rest::Saved(event, sack);
-        Ok(Script::from_parts(parts, unit))
+        Ok(script)
     }
 
     /// Saves the calls by the unit's own code, and restores them; the script is then as it was. After `NoMemory` it is only

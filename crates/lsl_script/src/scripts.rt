@@ -24,10 +24,10 @@ use lsl_value::{EventId, Values};
 use std::alloc::Global;
 use std::marker::Model;
 
-/// A script between turns. A contract sees its parts.
+/// A script between turns, which moves as one pointer. A contract sees its parts.
 #[derive(Drop)]
 pub struct Script {
-    parts: ScriptParts,
+    pub(crate) parts: Box<ScriptParts>,
 }
 
 impl Model for Script {
@@ -35,7 +35,7 @@ impl Model for Script {
 
     ghost Value = { Parts };
 
-    ghost view = { λ s. s.parts };
+    ghost view = { λ s. s.parts.value };
 }
 
 impl Script {
@@ -60,7 +60,9 @@ impl Script {
             rest: Rest::Idle,
         };
         drop(parts.post(unit, entry(alloc)));
-        Ok(Script { parts })
+        Ok(Script {
+            parts: Box::new(alloc, parts)?,
+        })
     }
 
     /// Its parts. Takes no memory.
@@ -70,13 +72,13 @@ impl Script {
         &self.parts
     }
 
-    /// The script with these parts, which fit its unit. Takes no memory.
-    pub fn from_parts(parts: ScriptParts, unit: &Woven) -> Script
+    /// The script has these parts, which fit its unit. Takes no memory.
+    pub fn set_parts(&mut self, parts: ScriptParts, unit: &Woven)
         requires { FitsUnit unit.now parts }
-        ensures { result ≡ parts }
+        ensures { self.new ≡ parts }
     {
         let _unit = unit;
-        Script { parts }
+        *self.parts = parts;
     }
 
     /// Whether the script can run: it didn't stop, and either its handler in flight isn't asleep, or without one it is
@@ -105,14 +107,6 @@ impl Script {
             (self.new ≡ parts_of codes told.value) × (told.entries ≡ entries_of_posting number result) }
     {
         self.parts.post(unit, event)
-    }
-
-    /// Its parts, by value. Takes no memory.
-    pub fn into_parts(self) -> ScriptParts
-        ensures { result ≡ self }
-    {
-        let Script { parts } = self;
-        parts
     }
 
     /// Its timer. Takes no memory.

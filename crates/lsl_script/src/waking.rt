@@ -73,9 +73,9 @@ impl Script {
         if !self.ready(clock) {
             return Err(WakeFault::NotReady(self));
         }
-        let mut parts = self.into_parts();
-        let handling = Handling::of(alloc, unit, &mut parts)?;
-        Ok(handling.with(parts))
+        let mut script = self;
+        let handling = Handling::of(alloc, unit, &mut script.parts)?;
+        Ok(handling.with(script))
     }
 
     /// Wakes the script in this seat, which is ready, as `wake` does. It goes out of the seat and into the room; after
@@ -96,12 +96,11 @@ impl Script {
         ensures source { (codes : _) (s : Source) → HasUnit codes s.code unit.now → seat.old ≡ Some (parts_of codes s) →
             Lawful (rules_of codes) s → OnOk result (IsThere room.new (WakesAs codes unit.now s)) }
     {
-        let Some(script) = seat.take() else {
+        let Some(mut script) = seat.take() else {
             unreachable!();
         };
-        let mut parts = script.into_parts();
-        let handling = Handling::of(alloc, unit, &mut parts)?;
-        *room = Some(handling.with(parts));
+        let handling = Handling::of(alloc, unit, &mut script.parts)?;
+        *room = Some(handling.with(script));
         Ok(())
     }
 }
@@ -198,9 +197,9 @@ impl Handling {
         })
     }
 
-    // The script of these parts, awake.
-    fn with(self, parts: ScriptParts) -> Live
-        ensures { result ≡ awake_with parts self }
+    // This script, awake.
+    fn with(self, script: Script) -> Live
+        ensures { result ≡ awake_with script self }
     {
         let Handling {
             event,
@@ -209,7 +208,7 @@ impl Handling {
             machine,
         } = self;
         Live {
-            parts,
+            parts: script,
             event,
             handler,
             began,

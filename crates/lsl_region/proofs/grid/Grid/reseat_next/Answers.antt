@@ -5,7 +5,7 @@ use Rattle.lsl_region.specs.declared.grid.Seat.{Seat}
 use Rattle.lsl_region.specs.Grids.{Contents}
 use Rattle.lsl_region.specs.ObjectParts.{parts_in_seat}
 use Rattle.lsl_region.proofs.Coming.{seat-is}
-use Rattle.lsl_region.proofs.Reseating.{behind-other, behind-own, reverse-last, seat-empty, seat-other, seat-own}
+use Rattle.lsl_region.proofs.Reseating.{behind-other, behind-own, reverse-last, seat-empty, seat-other, seat-own, seat-there}
 use Rattle.lsl_region.proofs.Seats.{read-at}
 use Rattle.lsl_region.proofs.grid.Grid.reseat_next.Goals as goal
 
@@ -48,6 +48,19 @@ seat_script-requires-clause-fits c = λ seat sits.
     c.requires.fits seat c.pop.new.self.items c.in-Some.parts sits
     (ap (λ (z : Seat). is_some (parts_in_seat c.args.place z)) (sym is) ∙ sym c.is_of.ensures ∙ c.if-not-is_of.false)
     c.in-Some.ensures.items
+
+pub seat_script-requires-clause-there : goal.seat_script-requires-clause-there
+seat_script-requires-clause-there c = λ seat sits.
+    let h : c.args.seat < length c.self.inside.seats.items = search (rules, c.requires.seat) in
+    let at = read-at c.self.inside.seats.items c.args.seat c.index.result.now h c.index.ensures in
+    let inside : Contents = record {
+      objects = c.self.inside.objects.items;
+      seats = c.self.inside.seats.items;
+      cards = c.self.inside.cards;
+    } in
+    let is = seat-is inside c.args.self.now c.args.seat c.index.result.now seat c.self.view_is at sits in
+    seat-there c.args.place seat
+    (ap (λ (z : Seat). is_some (parts_in_seat c.args.place z)) (sym is) ∙ sym c.is_of.ensures ∙ c.if-not-is_of.false)
 
 pub returns-in-Some-clause-seats : goal.returns-in-Some-clause-seats
 returns-in-Some-clause-seats c = λ seat sits.

@@ -1,4 +1,4 @@
-use Rattle.std.proofs.Common.{sym, ◌∙◌, subst}
+use Rattle.std.proofs.Common.{◌≡◌, sym, ◌∙◌, subst}
 use Rattle.lsl_machine.specs.State.{CanRun}
 use Rattle.lsl_post.specs.declared.parts.ScriptParts.{ScriptParts}
 use Rattle.lsl_script.specs.declared.live.Live.{Live}
@@ -9,11 +9,14 @@ use Rattle.lsl_script.proofs.Readies.{ready_wakes}
 use Rattle.lsl_script.proofs.scripts.Script.wake.Goals as goal
 
 pub of-requires-clause-fits : goal.of-requires-clause-fits
-of-requires-clause-fits c = subst (FitsUnit c.args.unit.now) (sym c.into_parts-parts.ensures) c.requires.fits
+of-requires-clause-fits c =
+    let at : c.deref_mut.result.now ≡ c.args.self = c.deref_mut.ensures.value ∙ c.script.view_is in
+    subst (FitsUnit c.args.unit.now) (sym at) c.requires.fits
 
 pub of-requires-clause-ready : goal.of-requires-clause-ready
 of-requires-clause-ready c =
-    subst CanWake (sym c.into_parts-parts.ensures)
+    let at : c.deref_mut.result.now ≡ c.args.self = c.deref_mut.ensures.value ∙ c.script.view_is in
+    subst CanWake (sym at)
     (ready_wakes c.args.clock c.args.self (sym c.ready.ensures.value ∙ c.if-not-ready.false))
 
 pub returns-clause-awake : goal.returns-clause-awake
@@ -25,12 +28,13 @@ returns-clause-able c =
 
 pub returns-clause-took : goal.returns-clause-took
 returns-clause-took c =
+    let at : c.deref_mut.result.now ≡ c.args.self = c.deref_mut.ensures.value ∙ c.script.view_is in
     subst (TakesNext c.args.unit.now c.args.self) (sym c.with.ensures)
     (subst (λ (parts : ScriptParts). TakesNext c.args.unit.now parts
-    (awake_with c.of.new.parts c.in_ok-handling.handling)) c.into_parts-parts.ensures
-    c.in_ok-handling.ensures.took)
+    (awake_with c.of.new.parts c.in_ok-handling.handling)) at c.in_ok-handling.ensures.took)
 
 pub returns-clause-source : goal.returns-clause-source
 returns-clause-source c codes s known is lawful =
+    let at : c.deref_mut.result.now ≡ c.args.self = c.deref_mut.ensures.value ∙ c.script.view_is in
     subst (WakesAs codes c.args.unit.now s) (sym c.with.ensures)
-    (c.in_ok-handling.ensures.source codes s known (c.into_parts-parts.ensures ∙ is) lawful)
+    (c.in_ok-handling.ensures.source codes s known (at ∙ is) lawful)

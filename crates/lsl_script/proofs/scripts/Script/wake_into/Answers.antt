@@ -11,13 +11,15 @@ use Rattle.lsl_script.proofs.scripts.Script.wake_into.Goals as goal
 
 pub of-requires-clause-fits : goal.of-requires-clause-fits
 of-requires-clause-fits c =
-    subst (FitsUnit c.args.unit.now) (sym c.into_parts-parts.ensures)
+    let at : c.deref_mut.result.now ≡ c.in-Some.script = c.deref_mut.ensures.value ∙ c.script.view_is in
+    subst (FitsUnit c.args.unit.now) (sym at)
     (subst (λ (seat : Option ScriptParts). IsThere seat (FitsUnit c.args.unit.now))
     (sym c.take.ensures.value ∙ c.in-Some.is) c.requires.fits)
 
 pub of-requires-clause-ready : goal.of-requires-clause-ready
 of-requires-clause-ready c =
-    subst CanWake (sym c.into_parts-parts.ensures)
+    let at : c.deref_mut.result.now ≡ c.in-Some.script = c.deref_mut.ensures.value ∙ c.script.view_is in
+    subst CanWake (sym at)
     (subst (λ (seat : Option ScriptParts). IsThere seat CanWake) (sym c.take.ensures.value ∙ c.in-Some.is)
     c.requires.ready)
 
@@ -33,7 +35,8 @@ returns-clause-stands c = subst StandsWoken (sym c.with.ensures) c.in_ok-handlin
 
 pub returns-clause-source : goal.returns-clause-source
 returns-clause-source c codes s known is lawful =
+    let at : c.deref_mut.result.now ≡ c.in-Some.script = c.deref_mut.ensures.value ∙ c.script.view_is in
     let same : Some c.in-Some.script ≡ Some (parts_of codes s) = sym c.in-Some.is ∙ c.take.ensures.value ∙ is in
     let script : c.in-Some.script ≡ parts_of codes s = cc in
     subst (WakesAs codes c.args.unit.now s) (sym c.with.ensures)
-    (c.in_ok-handling.ensures.source codes s known (c.into_parts-parts.ensures ∙ script) lawful)
+    (c.in_ok-handling.ensures.source codes s known (at ∙ script) lawful)
