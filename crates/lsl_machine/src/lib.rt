@@ -34,6 +34,7 @@ mod appending;
 mod blocks;
 mod calls;
 mod entering;
+mod entry_steps;
 mod fused;
 mod integers;
 mod jumps;
