@@ -6,6 +6,7 @@ pub mod Parting
 pub mod Laying
 pub mod Limiting
 pub mod Leaving
+pub mod LeavingWith
 pub mod Remaining
 pub mod Viewing
 pub mod Storing
@@ -42,6 +43,7 @@ pub mod Carried
 pub mod Following
 pub mod Fusing
 pub mod Joining
+pub mod Entrances
 pub mod Entries
 pub mod Raced
 pub mod Tops
