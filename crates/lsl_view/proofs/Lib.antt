@@ -1,7 +1,7 @@
 mod ActiveCalls
 mod Fitting
 mod Flights
-mod FromLast
+mod OneMore
 pub mod Members
 pub mod CodeNames
 mod Order

@@ -1,6 +1,6 @@
 //! Saved calls, appended as lines.
 
-ghost use Rattle.std.specs.Prelude.{◌≡◌, ◌++◌, length, map, reverse, take, OnOk};
+ghost use Rattle.std.specs.Prelude.{◌≡◌, ◌++◌, length, map, take, OnOk};
 ghost use Rattle.std.specs.List.{AllByRecursion, flat_map};
 ghost use Rattle.lsl_code.specs.Laid.{frame_laid};
 ghost use Rattle.lsl_code.specs.Naming.{HasPoint};
@@ -38,13 +38,12 @@ fn push_call(out: &mut Vec<u8>, call: &Laid<'_>, unit: &Woven) -> Result<(), NoM
     Ok(())
 }
 
-// The slots of a call, from the last to the first, without the operands that lie before them.
+// The slots of a call, without the operands that wait behind them.
 fn slots<'s>(call: &Laid<'s>, unit: &Woven) -> &'s [Value]
     requires { IsAt unit.now.functions (frame_laid call.now) }
-    ensures { reverse result.now
-        ≡ take (slot_count unit.now.functions call.now.function) (frame_laid call.now).slots }
+    ensures { result.now ≡ take (slot_count unit.now.functions call.now.function) (frame_laid call.now).slots }
 {
     let function = &unit.functions.as_slice()[usize::from(call.function)];
     let values = call.values;
-    &values[values.len().saturating_sub(function.slots.len())..]
+    &values[..function.slots.len().min(values.len())]
 }

@@ -1,6 +1,6 @@
 //! Values, appended as words.
 
-ghost use Rattle.std.specs.Prelude.{◌≡◌, ◌++◌, ◌∷◌, [], map, reverse, OnOk};
+ghost use Rattle.std.specs.Prelude.{◌≡◌, ◌++◌, ◌∷◌, [], map, OnOk};
 ghost use Rattle.std.specs.List.{flat_map};
 ghost use Rattle.lsl_lines.specs.Journal.{spaced};
 ghost use Rattle.lsl_view.specs.Values.{behind_comma, element_word, elements_of, value_word};
@@ -8,14 +8,13 @@ ghost use Rattle.lsl_view.specs.Values.{behind_comma, element_word, elements_of,
 use lsl_text::{NoMemory, push_decimal, push_quoted};
 use lsl_value::{Atom, Value};
 
-/// Appends values from the last to the first, each behind a space.
+/// Appends values, each behind a space.
 pub fn push_values(out: &mut Vec<u8>, values: &[Value]) -> Result<(), NoMemory>
-    ensures { OnOk result
-        (out.new.items ≡ out.old.items ++ flat_map spaced (map value_word (reverse values.now))) }
+    ensures { OnOk result (out.new.items ≡ out.old.items ++ flat_map spaced (map value_word values.now)) }
 {
-    for i in 0..values.len() {
+    for value in values {
         out.push(b' ')?;
-        push_value(out, &values[values.len() - 1 - i])?;
+        push_value(out, value)?;
     }
     Ok(())
 }

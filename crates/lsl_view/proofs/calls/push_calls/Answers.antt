@@ -2,7 +2,7 @@ use Rattle.std.proofs.Common.{sym}
 use Rattle.lsl_code.specs.Laid.{frame_laid}
 use Rattle.lsl_view.specs.Calls.{IsAt, shown_frame}
 use Rattle.lsl_view.specs.Lines.{call_line}
-use Rattle.lsl_view.proofs.FromLast.{call-at, one-more}
+use Rattle.lsl_view.proofs.OneMore.{call-at, one-more}
 use Rattle.lsl_view.proofs.calls.push_calls.Goals as goal
 
 pub push_call-requires : goal.push_call-requires

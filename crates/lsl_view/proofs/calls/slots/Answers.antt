@@ -1,10 +1,9 @@
-use Rattle.std.proofs.Common.{◌≡◌, ◌∙◌, sym, ap, arith, ℕ, ◌-◌, List, length, get_or, reverse, drop, Some, slice_get}
-use Rattle.std.proofs.lemmas.List.{length-drop, take_all}
+use Rattle.std.proofs.Common.{◌≡◌, ◌∙◌, sym, ap, ℕ, List, length, get_or, min, take, Some, slice_get}
+use Rattle.std.proofs.lemmas.List.{take_min}
 use Rattle.std.proofs.lemmas.Option.{slice_get_within}
 use Rattle.lsl_code.specs.declared.woven_functions.WovenCode.{WovenCode}
 use Rattle.lsl_image.proofs.WroteLemmas.{item-at}
 use Rattle.lsl_view.specs.Calls.{slot_count, slots_in}
-use Rattle.lsl_view.proofs.FromLast.{last-taken}
 use Rattle.lsl_view.proofs.calls.slots.Goals as goal
 
 pub returns : goal.returns
@@ -12,7 +11,6 @@ returns c =
     let functions = c.args.unit.now.functions in
     let f = c.args.call.now.function in
     let values = c.args.call.now.values.now in
-    let k = c.saturating_sub.result in
     let code = c.requires.0 in
     let function = c.index-as_slice-from.result in
     let is = c.index-as_slice-from.is
@@ -23,6 +21,5 @@ returns c =
     let one : code ≡ function = cc in
     let count : slot_count functions f ≡ c.len.result = ap slots_in c.requires.1
     ∙ ap (λ (w : WovenCode). length w.slots) one ∙ sym c.len.ensures in
-    let long = length-drop k values in
-    ap reverse (take_all (length values - k) (drop k values) (omega arith))
-    ∙ last-taken (slot_count functions f) k values (omega (arith, count, c.saturating_sub.ensures))
+    ap (λ (n : ℕ). take n values) (c.min.ensures ∙ ap (λ (n : ℕ). min n (length values)) (sym count))
+    ∙ take_min (slot_count functions f) values
