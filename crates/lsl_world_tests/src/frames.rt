@@ -55,9 +55,8 @@ fn tell_value(told: &mut String, value: &Value) -> Result<(), NoMemory> {
 
 /// The values of a frame.
 fn tell_values(told: &mut String, call: &Laid<'_>) -> Result<(), NoMemory> {
-    let count = call.values.len();
-    for i in 0..count {
-        tell_value(told, &call.values[count - 1 - i])?;
+    for value in call.values {
+        tell_value(told, value)?;
     }
     Ok(())
 }
