@@ -92,7 +92,7 @@ module _ {X : Type 0} (scripts : X → ℕ) (ready : X → ℕ → Bool) (segmen
       (turn-idle place (min 7 left) w (ap (λ (n : ℕ). (turn_of n place w).value.1) (sym e) ∙ h))
 
   -- segments are only spent
-  left-less : (count first : ℕ) (x : X × ℕ) → (each turn_among count first x).value.1 ≤ x.1
+  pub left-less : (count first : ℕ) (x : X × ℕ) → (each turn_among count first x).value.1 ≤ x.1
   unfolding each
   left-less zero first x = omega arith
   left-less (suc count) first x =

@@ -43,3 +43,6 @@ pub mod KeptLossy
 pub mod Following
 pub mod Shapes
 pub mod Reaching
+pub mod Parted
+pub mod Rows
+pub mod Leaving

@@ -17,7 +17,7 @@ use Rattle.lsl_world.specs.Steps.{next}
 use Rattle.lsl_world.specs.Travels.{go_on, is_crossing}
 use Rattle.lsl_world.proofs.Counts.{next-keeps, outline, post-keeps}
 
-nameless-regions : (objects : List Linkset) → map region_of (map without_names objects) ≡ map region_of objects
+pub nameless-regions : (objects : List Linkset) → map region_of (map without_names objects) ≡ map region_of objects
 nameless-regions [] = refl
 nameless-regions (o ∷ objects) = ap (λ (rs : List (List ℕ)). o.region ∷ rs) (nameless-regions objects)
 

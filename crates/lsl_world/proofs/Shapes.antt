@@ -40,7 +40,7 @@ use Rattle.lsl_world.proofs.Keeping.{IsKept, KeepsCode, each-keeps, touch-keeps,
 
 -- ---- the units of scripts
 
-abbrev unit_in : Member → ℕ × ℕ
+abbrev pub unit_in : Member → ℕ × ℕ
 unit_in m = (m.object, m.script.code)
 
 -- of each script, its object and its code
@@ -125,7 +125,7 @@ next-units r (Cross object region) w = go (is_in_region w (object - 1) region) w
 abbrev key_in : Primitive → List ℕ
 key_in prim = prim.key
 
-abbrev keys_in : Linkset → List (List ℕ)
+abbrev pub keys_in : Linkset → List (List ℕ)
 keys_in object = map key_in object.prims
 
 abbrev pub keys_of : World → List (List (List ℕ))
@@ -135,7 +135,7 @@ nameless-keys : (prims : List Primitive) → map key_in (map nameless prims) ≡
 nameless-keys [] = refl
 nameless-keys (p ∷ prims) = ap (λ (ks : List (List ℕ)). p.key ∷ ks) (nameless-keys prims)
 
-outline-keys : (objects : List Linkset) → map keys_in (map without_names objects) ≡ map keys_in objects
+pub outline-keys : (objects : List Linkset) → map keys_in (map without_names objects) ≡ map keys_in objects
 outline-keys [] = refl
 outline-keys (o ∷ objects) =
     ap₂ (λ (k : List (List ℕ)) (ks : List (List (List ℕ))). k ∷ ks) (nameless-keys o.prims) (outline-keys objects)

@@ -16,6 +16,7 @@ pub mod Codes
 pub mod Sound
 pub mod Stands
 pub mod Stages
+pub mod Parts
 pub mod Seats
 pub mod Frozen
 pub mod Laws

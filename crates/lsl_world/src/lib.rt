@@ -7,6 +7,7 @@ mod handing;
 mod homes;
 pub mod laws;
 mod naming;
+mod parting;
 mod rounds;
 mod starting;
 mod stepping;

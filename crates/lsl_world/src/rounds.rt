@@ -3,6 +3,7 @@
 ghost use Rattle.std.specs.Prelude.{◌≡◌, ◌<◌, ◌≤◌, ◌-◌, ℕ, List, length, IfOk, OnOk};
 ghost use Rattle.lsl_post.specs.Journal.{Tells};
 ghost use Rattle.lsl_tree.specs.Program.{Program};
+ghost use Rattle.lsl_region.specs.Grids.{outline_of};
 ghost use Rattle.lsl_region.specs.PausedTurns.{counted_turn};
 ghost use Rattle.lsl_region.specs.Pausing.{Counts, Tally};
 ghost use Rattle.lsl_region.specs.Posting.{ring_all, ring_at};
@@ -82,8 +83,8 @@ impl World {
         Ok(())
     }
 
-    // A turn for each script, in order, and how many segments are left then.
-    fn round(&mut self, left: u32, out: &mut Entries) -> Result<u32, NoMemory>
+    /// A turn for each script, in order, and how many segments are left then.
+    pub(crate) fn round(&mut self, left: u32, out: &mut Entries) -> Result<u32, NoMemory>
         requires sound { IsSound self.old }
         ensures tells { (programs : List Program) (w : SourceWorld) → IsOf programs self.old w
             → Tells result (λ x n. IsOf programs self.new x.0 × (n ≡ x.1)) out.old out.new
@@ -91,7 +92,11 @@ impl World {
         ensures saves { (programs : List Program) (w : SourceWorld) (t : Tally) → IsOf programs self.old w
             → Counts self.old.pause t
             → OnOk result (Counts self.new.pause (counted_round (rules_of programs) ((w, left), t)).value.1) }
+        ensures within { IfOk result (λ n. n ≤ left) }
         ensures units { self.new.units ≡ self.old.units }
+        ensures regions { self.new.regions ≡ self.old.regions }
+        ensures cards { self.new.cards ≡ self.old.cards }
+        ensures outline { outline_of self.new.grid ≡ outline_of self.old.grid }
         ensures size { size_of self.new ≡ size_of self.old }
         ensures sound { OnOk result (IsSound self.new) }
     {
@@ -121,6 +126,9 @@ impl World {
             → Counts self.old.pause t
             → OnOk result (Counts self.new.pause (counted_turn (rules_of programs) most (script - 1) w t)) }
         ensures units { self.new.units ≡ self.old.units }
+        ensures regions { self.new.regions ≡ self.old.regions }
+        ensures cards { self.new.cards ≡ self.old.cards }
+        ensures outline { outline_of self.new.grid ≡ outline_of self.old.grid }
         ensures size { size_of self.new ≡ size_of self.old }
         ensures sound { OnOk result (IsSound self.new) }
     {

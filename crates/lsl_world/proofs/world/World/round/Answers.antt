@@ -11,7 +11,11 @@ use Rattle.lsl_world.proofs.world.World.round.Goals as goal
 pub loop-place-init : goal.loop-place-init
 loop-place-init c = record {
   few = c.scripts-place-end.ensures.within;
+  within = omega arith;
   units = refl;
+  regions = refl;
+  cards = refl;
+  outline = refl;
   size = refl;
   sound = c.requires.sound;
   walk = λ programs w is.
@@ -44,7 +48,11 @@ returns-in_err-spent-clause-tells c = λ programs w is.
 pub loop-place-preserved : goal.loop-place-preserved
 loop-place-preserved c = record {
   few = c.loop-place.invariant.few;
+  within = let few = c.loop-place.invariant.within in omega (arith, few);
   units = c.turn.ensures.units ∙ c.loop-place.invariant.units;
+  regions = c.turn.ensures.regions ∙ c.loop-place.invariant.regions;
+  cards = c.turn.ensures.cards ∙ c.loop-place.invariant.cards;
+  outline = c.turn.ensures.outline ∙ c.loop-place.invariant.outline;
   size = c.turn.ensures.size ∙ c.loop-place.invariant.size;
   sound = c.in_ok-spent.ensures.sound;
   walk = λ programs w is.
