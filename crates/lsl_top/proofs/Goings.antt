@@ -18,7 +18,7 @@ use Rattle.lsl_world.specs.Lossy.{Gone, IsFairFrom, Stage, goes, travel_from}
 use Rattle.lsl_world.specs.Regions.{LeadsToNamed}
 use Rattle.lsl_world.specs.Stages.{DoesAt}
 use Rattle.lsl_world.proofs.Staging.{fair-first, fair-second, goes-then as gone-then}
-use Rattle.lsl_top.specs.Goes.{Goes, Runs, StoppedAt}
+use Rattle.lsl_top.specs.Goes.{Goes, IsWithin, Runs, StoppedAt}
 use Rattle.lsl_top.specs.Pieces.{Piece, stage_piece, stage_pieces}
 use Rattle.lsl_top.specs.Ports.{Log, Wire, Writes}
 use Rattle.lsl_top.specs.Promise.{IsBegunAt, IsWhole}
@@ -54,12 +54,12 @@ module _ (codes : List Code) (r : Rules) (regions : List (List ℕ)) (stage : St
   unfolding stage_pieces
   pieces-none trips = refl
 
-  value-one : (step : Step) (trips : List Trip) → (travel_from codes r regions (step ∷ []) trips stage).value
+  pub value-one : (step : Step) (trips : List Trip) → (travel_from codes r regions (step ∷ []) trips stage).value
       ≡ (goes codes r regions step stage trips).told.value
   unfolding travel_from
   value-one step trips = refl
 
-  pieces-one : (step : Step) (trips : List Trip)
+  pub pieces-one : (step : Step) (trips : List Trip)
       → stage_pieces codes r regions (step ∷ []) trips stage ≡ stage_piece codes r regions step trips stage ∷ []
   unfolding stage_pieces
   pieces-one step trips = refl
@@ -193,7 +193,15 @@ module _ (gives : List ℕ → Option (List ℕ) → Type 0) (codes : List Code)
                 (begun-one (stage_piece codes (rules_of programs) regions step trips stage)
                 (lines_of these) trips a.sunk b.sunk same
                 (record { others = []; whole = append-nil (sent_of trips) ∙ sent }) written.part);
-            last = λ f. subst (IsNow programs) (sym (value-one codes (rules_of programs) regions stage step trips)) is;
+            last = λ f. record {
+              there = (goes codes (rules_of programs) regions step stage trips).told.value;
+              now = is;
+              left = [];
+              few = omega arith;
+              leads = value-none codes (rules_of programs) regions
+                  (goes codes (rules_of programs) regions step stage trips).told.value []
+                  ∙ sym (value-one codes (rules_of programs) regions stage step trips);
+            };
           },
         )
 
@@ -232,9 +240,9 @@ module _ (gives : List ℕ → Option (List ℕ) → Type 0) (codes : List Code)
                 (goes codes r regions step stage one.trips).told.value) one.trips a.sunk
                 b.sunk first);
             last = λ f.
-                subst (λ (m : ℕ). IsNow programs
+                subst (λ (m : ℕ). IsWithin codes r regions (IsNow programs)
                 (travel_from codes r regions (take (suc m) (step ∷ rest)) one.trips stage).value) (sym none)
-                (subst (λ (m : ℕ). IsNow programs
+                (subst (λ (m : ℕ). IsWithin codes r regions (IsNow programs)
                 (travel_from codes r regions (take (suc m) (step ∷ [])) one.trips stage).value) none
                 (s.last f));
           }
@@ -297,10 +305,10 @@ module _ (gives : List ℕ → Option (List ℕ) → Type 0) (codes : List Code)
                   (sym (pieces-then codes r regions stage step rest one.trips others.trips sent))
                   (begun-then first second one.trips others.trips a.sunk b.sunk c.sunk whole n s.begun);
               last = λ f.
-                  subst (λ (m : ℕ). IsLast programs (travel_from codes r regions (take m (step ∷ rest))
-                  (one.trips ++ others.trips) stage).value)
+                  subst (λ (m : ℕ). IsWithin codes r regions (IsLast programs)
+                  (travel_from codes r regions (take m (step ∷ rest)) (one.trips ++ others.trips) stage).value)
                   next
-                  (subst (IsLast programs)
+                  (subst (λ (s : Stage). IsWithin codes r regions (IsLast programs) s)
                   (sym (value-then codes r regions stage step (take (suc n) rest) one.trips others.trips sent))
                   (s.last f));
             },

@@ -22,6 +22,7 @@ pub mod Frozen
 pub mod Lasting
 pub mod Runs
 pub mod Goings
+pub mod Parts
 pub mod Staged
 pub mod LossyJournals
 pub mod Zips

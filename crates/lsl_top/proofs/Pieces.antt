@@ -84,6 +84,49 @@ module _ (p : Piece) (lines : List ℕ) (ts : List Trip) (a b : Option (List ℕ
     sent = begins-is (sent_of ts) p.sent (sent_in (p ∷ [])) sent (sym (append-nil p.sent));
   }
 
+-- lines that are written before those of a piece
+abbrev pub lines_before : List ℕ → Piece → Piece
+lines_before lines p = record p { lines = lines ++ p.lines }
+
+module _ (lines : List ℕ) (p : Piece) (ts : List Trip) (a b c : Option (List ℕ)) where
+  in-one : lines ++ lines_in (p ∷ []) ≡ lines_in (lines_before lines p ∷ [])
+  in-one = sym (append_assoc lines p.lines [])
+
+  pub whole-left : Grew a b lines → IsWhole (p ∷ []) ts b c → IsWhole (lines_before lines p ∷ []) ts a c
+  whole-left first rest = record {
+    written = grew-is a c (lines ++ lines_in (p ∷ [])) (lines_in (lines_before lines p ∷ []))
+        (grew-then a b c lines (lines_in (p ∷ [])) first rest.written) in-one;
+    sent = rest.sent;
+  }
+
+  pub begun-left : Grew a b lines → (n : ℕ) → n ≡ 0 → IsBegunAt n (p ∷ []) ts b c
+      → IsBegunAt 0 (lines_before lines p ∷ []) ts a c
+  begun-left first n none rest = go (subst (λ (k : ℕ). IsBegunAt k (p ∷ []) ts b c) none rest)
+    where
+      go : IsBegunAt 0 (p ∷ []) ts b c → IsBegunAt 0 (lines_before lines p ∷ []) ts a c
+      go s = record {
+        within = omega arith;
+        added = lines ++ s.added;
+        grew = grew-then a b c lines s.added first s.grew;
+        written = begins-none (lines ++ s.added);
+        part = begins-is (lines ++ s.added) (lines ++ lines_in (p ∷ [])) (lines_in (lines_before lines p ∷ []))
+            (begins-after lines s.added (lines_in (p ∷ [])) s.part) in-one;
+        sent = s.sent;
+      }
+
+-- or first ones of them
+pub begun-before : (lines : List ℕ) (p : Piece) (a b : Option (List ℕ)) → GrewPartly a b lines
+    → IsBegunAt 0 (lines_before lines p ∷ []) [] a b
+begun-before lines p a b part = record {
+  within = omega arith;
+  added = part.added;
+  grew = part.grew;
+  written = begins-none part.added;
+  part = begins-is part.added (lines ++ lines_in (p ∷ [])) (lines_in (lines_before lines p ∷ []))
+      (begins-more part.added lines (lines_in (p ∷ [])) part.begins) (in-one lines p [] a b b);
+  sent = begins-none (sent_in (lines_before lines p ∷ []));
+}
+
 -- whole pieces, and then others
 module _ (xs ys : List Piece) (ts us : List Trip) (a b c : Option (List ℕ)) (first : IsWhole xs ts a b) where
   pub whole-then : IsWhole ys us b c → IsWhole (xs ++ ys) (ts ++ us) a c

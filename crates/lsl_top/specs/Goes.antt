@@ -1,5 +1,5 @@
 -- Steps that are done one by one, each one's lines being written before the next step: for private functions.
-use Rattle.std.specs.Prelude.{◌≡◌, ℕ, suc, ◌≤◌, List, take, Option, Some, Result, MatchResult, IsErrOf, slice_get}
+use Rattle.std.specs.Prelude.{◌≡◌, ℕ, suc, ◌≤◌, List, [], ◌∷◌, length, take, Option, Some, None, Result, MatchResult, Err, IsErrOf, slice_get}
 use Rattle.hex.specs.Hex.{IsBytes}
 use Rattle.lsl_ports.specs.Counts.{Rose}
 use Rattle.lsl_ports.specs.Trips.{Trip, Went}
@@ -14,6 +14,8 @@ use Rattle.lsl_lines.specs.declared.file.Step.{Step}
 use Rattle.lsl_world.specs.Frozen.{frozen_image, parts_of_world}
 use Rattle.lsl_world.specs.Lossy.{IsFairFrom, Stage, travel_from}
 use Rattle.lsl_world.specs.Programs.{rules_of}
+use Rattle.lsl_world.specs.Stages.{IsAt}
+use Rattle.lsl_world.specs.declared.world.World.{World as Memory}
 use Rattle.lsl_top.specs.Pieces.{Piece, stage_pieces}
 use Rattle.lsl_top.specs.Plays.{Last, Homes, Frozen}
 use Rattle.lsl_top.specs.Ports.{Log, Wire}
@@ -27,13 +29,23 @@ pub record Done (codes : List Code) (r : Rules) (regions : List (List ℕ)) (IsN
   pub value : IsNow (travel_from codes r regions steps trips stage).value
   pub whole : IsWhole (stage_pieces codes r regions steps trips stage) trips old new
 
+-- Within a step that was begun: what is left of it, if anything, leads from a stage that is there now to its end.
+pub record IsWithin (codes : List Code) (r : Rules) (regions : List (List ℕ)) (IsNow : Stage → Type 0) (end : Stage)
+    : Type 0 where
+  pub there : Stage
+  pub now : IsNow there
+  pub left : List Step
+  pub few : length left ≤ 1
+  pub leads : (travel_from codes r regions left [] there).value ≡ end
+
 -- The lines of so many steps were written whole, and then first bytes of the next one's. At a failed write that step is
--- the last one that was done: no step is done before the lines of the step before it are written.
+-- the last one that was begun: no step is begun before the lines of the step before it are written.
 pub record StoppedAt {T : Type 0} (done : ℕ) (codes : List Code) (r : Rules) (regions : List (List ℕ))
     (IsNow : Stage → Type 0) (steps : List Step) (stage : Stage) (trips : List Trip) (old new : Option (List ℕ))
     (result : Result T Trouble) : Type 0 where
   pub begun : IsBegunAt done (stage_pieces codes r regions steps trips stage) trips old new
-  pub last : IsErrOf result WriteFault → IsNow (travel_from codes r regions (take (suc done) steps) trips stage).value
+  pub last : IsErrOf result WriteFault → IsWithin codes r regions IsNow
+      (travel_from codes r regions (take (suc done) steps) trips stage).value
 
 abbrev pub Runs : {T : Type 0} → List Code → Rules → List (List ℕ) → (Stage → Type 0) → List Step → Stage → List Trip
     → Option (List ℕ) → Option (List ℕ) → Result T Trouble → Type 0
@@ -53,6 +65,25 @@ pub record Goes {T : Type 0} (gives : List ℕ → Option (List ℕ) → Type 0)
   pub counted : old.faults ≤ new.faults
   pub links_counted : before.faults ≤ after.faults
   pub cause : IsErrOf result WriteFault → Rose old.faults new.faults
+
+-- what is left of a step, as steps
+abbrev pub steps_left : Option Step → List Step
+steps_left None = []
+steps_left (Some step) = step ∷ []
+
+-- a part of a step was done, and its lines were written: however what is left of it goes, so the step goes; or it
+-- stopped
+abbrev pub GoesPart : (List ℕ → Option (List ℕ) → Type 0) → List Code → List (List ℕ) → (first now : Memory) → Step
+    → (old new : Log) → (before after : Wire) → Result (Option Step) Trouble → Type 0
+GoesPart gives codes regions first now step old new before after result =
+    MatchResult result
+    (λ left. (last : Memory) (end : Log) (done : Wire) (r : Result (Unit {0}) Trouble)
+    → Goes gives codes regions (λ programs. IsAt programs now) (λ programs. IsAt programs last) (steps_left left)
+    new end after done r
+    → Goes gives codes regions (λ programs. IsAt programs first) (λ programs. IsAt programs last) (step ∷ [])
+    old end before done r)
+    (λ trouble. Goes {T = Unit {0}} gives codes regions (λ programs. IsAt programs first)
+    (λ programs. IsAt programs now) (step ∷ []) old new before after (Err trouble))
 
 -- From each stage that is there, a run of programs was written and sent so, where what came back is fair; and then this
 -- holds.

@@ -1,5 +1,5 @@
 //! The run of a world, written step by step.
-ghost use Rattle.std.specs.Prelude.{◌≡◌, ◌≤◌, List, [], ◌∷◌, None, All, IfOk, IsErrOf, OnOk};
+ghost use Rattle.std.specs.Prelude.{◌≡◌, ◌≤◌, List, [], ◌∷◌, None, All, IfOk, IfSome, IsErrOf, OnOk};
 ghost use Rattle.hex.specs.Hex.{IsBytes};
 ghost use Rattle.lsl_ports.specs.Counts.{Rose};
 ghost use Rattle.lsl_lines.specs.Frozen.{frozen_line};
@@ -9,13 +9,14 @@ ghost use Rattle.lsl_region.specs.Worlds.{World as SourceWorld};
 ghost use Rattle.lsl_world.specs.Frozen.{frozen_image};
 ghost use Rattle.lsl_world.specs.Handing.{AreCarded, CanHand};
 ghost use Rattle.lsl_world.specs.Lossy.{travel_from};
+ghost use Rattle.lsl_world.specs.Parts.{IsRestOf};
 ghost use Rattle.lsl_world.specs.Programs.{rules_of};
 ghost use Rattle.lsl_world.specs.Reports.{homes};
 ghost use Rattle.lsl_world.specs.Sizes.{IsStepOf};
 ghost use Rattle.lsl_world.specs.Sound.{IsSound};
 ghost use Rattle.lsl_world.specs.Stages.{IsAt};
 ghost use Rattle.lsl_world.specs.Stands.{IsOf, size_of};
-ghost use Rattle.lsl_top.specs.Goes.{Goes, IsFrozenWell, IsLast, Performs};
+ghost use Rattle.lsl_top.specs.Goes.{Goes, GoesPart, IsFrozenWell, IsLast, Performs};
 ghost use Rattle.lsl_top.specs.Meant.{last_of};
 ghost use Rattle.lsl_top.specs.Pieces.{last_piece, pieces_at};
 ghost use Rattle.lsl_top.specs.Ports.{Writes, log, wire};
@@ -29,11 +30,43 @@ use lsl_text::NoMemory;
 use lsl_world::World;
 use std::alloc::Global;
 
-/// Does a step and writes its lines. `lines` is the room in which they are made.
-fn write_step<K: Sink, L: Link>(
-    alloc: Global,
+/// Does a step, or a first part of it, writes its lines, and gives the step that is left. `entries` and `lines` are the
+/// room in which they are made.
+fn write_part<K: Sink, L: Link>(
     world: &mut World,
     step: &Step,
+    entries: &mut Entries,
+    lines: &mut Vec<u8>,
+    sink: &mut K,
+    link: &mut L,
+) -> Result<Option<Step>, Trouble>
+    requires sound { IsSound world.old }
+    requires step { IsStepOf (size_of world.old) step.now }
+    requires carded { AreCarded world.old }
+    requires named { CanHand world.old step.now }
+    ensures goes { GoesPart L.gives world.old.units world.old.regions world.old world.new step.now
+        (log (K.sunk sink.old) (K.faults sink.old)) (log (K.sunk sink.new) (K.faults sink.new))
+        (wire (L.trips link.old) (L.faults link.old)) (wire (L.trips link.new) (L.faults link.new)) result }
+    ensures rest { IfOk result (λ left. IfSome left (λ rest. IsRestOf step.now rest)) }
+    ensures units { world.new.units ≡ world.old.units }
+    ensures size { OnOk result (size_of world.new ≡ size_of world.old) }
+    ensures sound { OnOk result (IsSound world.new) }
+    ensures plain { world.old.cards ≡ None → world.new.cards ≡ None }
+    ensures carded { OnOk result (AreCarded world.new) }
+    ensures regions { world.new.regions ≡ world.old.regions }
+{
+    entries.truncate(0);
+    let left = world.step_part(step, link, entries)?;
+    write_entries(entries.as_slice(), lines, sink)?;
+    Ok(left)
+}
+
+/// Does a step, and writes the lines of each part of it before the next part. `entries` and `lines` are the room in
+/// which they are made.
+fn write_step<K: Sink, L: Link>(
+    world: &mut World,
+    step: &Step,
+    entries: &mut Entries,
     lines: &mut Vec<u8>,
     sink: &mut K,
     link: &mut L,
@@ -53,9 +86,11 @@ fn write_step<K: Sink, L: Link>(
     ensures carded { OnOk result (AreCarded world.new) }
     ensures regions { world.new.regions ≡ world.old.regions }
 {
-    let mut entries = Entries::new(alloc);
-    world.step(step, link, &mut entries)?;
-    write_entries(entries.as_slice(), lines, sink)
+    let mut left = write_part(world, step, entries, lines, sink, link)?;
+    'parts: while let Some(rest) = left.take() {
+        left = write_part(world, &rest, entries, lines, sink, link)?;
+    }
+    Ok(())
 }
 
 /// Does all steps, each step's lines being written before the next step.
@@ -77,9 +112,10 @@ fn write_steps<K: Sink, L: Link>(
     ensures units { OnOk result (world.new.units ≡ world.old.units) }
     ensures sound { OnOk result (IsSound world.new) }
 {
+    let mut entries = Entries::new(alloc);
     let mut lines = Vec::new(alloc);
     for step in steps {
-        write_step(alloc, world, step, &mut lines, sink, link)?;
+        write_step(world, step, &mut entries, &mut lines, sink, link)?;
     }
     Ok(())
 }

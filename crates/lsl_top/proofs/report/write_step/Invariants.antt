@@ -1,0 +1,38 @@
+use Rattle.std.proofs.Common.{◌≡◌, Result, None, [], ◌∷◌}
+use Rattle.std.specs.Prelude.{IfSome}
+use Rattle.lsl_world.specs.Handing.{AreCarded}
+use Rattle.lsl_world.specs.Parts.{IsRestOf}
+use Rattle.lsl_world.specs.Sound.{IsSound}
+use Rattle.lsl_world.specs.Stages.{IsAt}
+use Rattle.lsl_world.specs.Stands.{size_of}
+use Rattle.lsl_world.specs.declared.world.World.{World}
+use Rattle.lsl_top.specs.Goes.{Goes, steps_left}
+use Rattle.lsl_top.specs.Ports.{Log, Wire, log, wire}
+use Rattle.lsl_top.specs.declared.writing.Trouble.{Trouble}
+use Rattle.lsl_top.proofs.Parts.{parts_left}
+use Rattle.lsl_top.proofs.report.write_step.Given as goal
+
+-- however what is left of the step goes, so the step goes
+abbrev pub invariant-parts : goal.invariant-parts
+invariant-parts g l =
+    record {
+      sound : IsSound l.world;
+      units : l.world.units ≡ l.fn.world.units;
+      size : size_of l.world ≡ size_of l.fn.world;
+      carded : AreCarded l.world;
+      regions : l.world.regions ≡ l.fn.world.regions;
+      still : l.fn.world.cards ≡ None → l.world.cards ≡ None;
+      rest : IfSome l.left (λ rest. IsRestOf l.step rest);
+      goes : (last : World) (end : Log) (done : Wire) (r : Result (Unit {0}) Trouble)
+          → Goes g.L.Link.gives l.fn.world.units l.fn.world.regions (λ programs. IsAt programs l.world)
+          (λ programs. IsAt programs last) (steps_left l.left)
+          (log (g.K.Sink.sunk l.sink) (g.K.Sink.faults l.sink)) end
+          (wire (g.L.Link.trips l.link) (g.L.Link.faults l.link)) done r
+          → Goes g.L.Link.gives l.fn.world.units l.fn.world.regions (λ programs. IsAt programs l.fn.world)
+          (λ programs. IsAt programs last) (l.step ∷ [])
+          (log (g.K.Sink.sunk l.fn.sink) (g.K.Sink.faults l.fn.sink)) end
+          (wire (g.L.Link.trips l.fn.link) (g.L.Link.faults l.fn.link)) done r;
+    }
+
+abbrev pub decreases-parts : goal.decreases-parts
+decreases-parts g l = parts_left l.left
