@@ -24,7 +24,8 @@ unreachable-requires c =
     let h : c.args.seat < length c.self.inside.seats.items = search (rules, c.requires.seat) in
     let seat = c.index_mut.result.now in
     let at = read-at c.self.inside.seats.items c.args.seat seat h c.index_mut.ensures.value in
-    let there = c.requires.there seat (ap (λ (g : Contents). slice_get g.seats c.args.seat) (sym c.self.view_is) ∙ at) in
+    let there = c.requires.there seat (ap (λ (g : Contents). slice_get g.seats c.args.seat) (sym c.self.view_is) ∙ at)
+    in
     false≢true (ap (λ (s : Option ScriptParts). is_some s) (sym c.in_default.is) ∙ there)
 
 pub set_parts-requires : goal.set_parts-requires

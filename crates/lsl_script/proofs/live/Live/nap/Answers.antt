@@ -8,7 +8,8 @@ use Rattle.lsl_script.proofs.live.Live.nap.Goals as goal
 
 pub returns-clause-source : goal.returns-clause-source
 returns-clause-source c codes unit s f id waits =
-    let at : c.deref_mut.result.now ≡ c.args.self.now.parts = c.deref_mut.ensures.value ∙ ap (λ (l : Live). l.parts) c.self.view_is in
+    let at : c.deref_mut.result.now ≡ c.args.self.now.parts = c.deref_mut.ensures.value ∙ ap (λ (l : Live). l.parts)
+    c.self.view_is in
     subst (λ (l : Live). Waits codes unit (napped c.args.wake s) f id
     (record l { parts = record c.deref_mut.result.now { wake = c.args.wake } })) (sym c.self.view_is)
     (subst (λ (p : ScriptParts). Waits codes unit (napped c.args.wake s) f id

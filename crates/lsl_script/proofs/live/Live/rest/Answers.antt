@@ -28,7 +28,8 @@ returns-clause-parts c =
     let at : c.deref_mut-parts.result.now ≡ c.args.self.parts = c.deref_mut-parts.ensures.value ∙ c.script.view_is in
     let live = c.args.self in
     let p = c.in_ok-sack.field-0 in
-    ap {A = ScriptParts} {B = ScriptParts} (λ x. record x { rest = Saved live.event p.sack }) (c.keep.ensures ∙ ap (keeping c.in_ok-sack.field-0.kept) at)
+    ap {A = ScriptParts} {B = ScriptParts} (λ x. record x { rest = Saved live.event p.sack }) (c.keep.ensures ∙ ap
+    (keeping c.in_ok-sack.field-0.kept) at)
     ∙ ap {A = Kept} {B = ScriptParts} (λ k. saved_parts live.parts k live.event p.sack) c.in_ok-sack.ensures.kept
     ∙ ap {A = List Frame} {B = ScriptParts} (saved_parts live.parts live.machine.machine.kept live.event)
     (c.in_ok-sack.ensures.frames c.requires.weaves)
@@ -37,7 +38,8 @@ pub returns-clause-source : goal.returns-clause-source
 returns-clause-source c codes s f rests =
     let at : c.deref_mut-parts.result.now ≡ c.args.self.parts = c.deref_mut-parts.ensures.value ∙ c.script.view_is in
     let p = c.in_ok-sack.field-0 in
-    ap {A = ScriptParts} {B = ScriptParts} (λ x. record x { rest = Saved c.args.self.event p.sack }) (c.keep.ensures ∙ ap (keeping c.in_ok-sack.field-0.kept) at)
+    ap {A = ScriptParts} {B = ScriptParts} (λ x. record x { rest = Saved c.args.self.event p.sack }) (c.keep.ensures ∙
+    ap (keeping c.in_ok-sack.field-0.kept) at)
     ∙ rested_is codes c.args.unit.now s f c.args.self p.kept p.sack rests c.in_ok-sack.ensures.kept
     (c.in_ok-sack.ensures.frames c.requires.weaves)
 
