@@ -198,7 +198,8 @@ module _ (ms : List Mark) (start : ℕ) (vs : List Value) (old : Packed) (ends :
           frame_of m.function m.point (reverse (values_between s m.end vs)),
           sym (ap (λ (p : Packed). p.frames) view) ∙ ap (λ (l : List Mark). frames_in 0 l vs) is
               ∙ calls_more reverse 0 left s m vs e.0
-              ∙ ap (λ (fs : List Frame). fs ++ frame_of m.function m.point (reverse (values_between s m.end vs)) ∷ []) joined,
+              ∙ ap (λ (fs : List Frame). fs ++ frame_of m.function m.point (reverse (values_between s m.end vs)) ∷ [])
+              joined,
           refl,
           ap (λ (l : List Value). reverse (drop s l)) (cut ∙ ap (λ (n : ℕ). take n vs) (sym sum))
               ∙ ap {A = List Value} reverse (drop-take s (m.end - s) vs),

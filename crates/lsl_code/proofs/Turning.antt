@@ -37,7 +37,8 @@ turned_between vs a b le within =
     ap {A = List Value} reverse (sym (take-append-drop b vs)) ∙ reverse-append (take b vs) (drop b vs)
     ∙ ap (λ (l : List Value). back ++ reverse l) (sym (between_joined vs a b le))
     ∙ ap (λ (l : List Value). back ++ l) (reverse-append (take a vs) part) in
-    let behind : length vs - b ≡ length back = let n = length-drop b vs in let m = length-reverse (drop b vs) in omega arith in
+    let behind : length vs - b ≡ length back =
+    let n = length-drop b vs in let m = length-reverse (drop b vs) in omega arith in
     let long : length (reverse part) ≡ length vs - a - (length vs - b) =
     let n = length-reverse part in
     let m = length-drop a vs in

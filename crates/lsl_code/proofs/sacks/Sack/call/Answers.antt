@@ -11,7 +11,8 @@ overflow_sub-place c =
     let some : c.self.inside.top ≡ Some c.in-Some.top = cc in
     let outer = c.self.inside.outer.items in
     let values = c.self.inside.values.items in
-    let count = sack_count c.self.inside.top c.in-Some.top outer values c.args.self.now c.self.view_is c.self.invariant some in
+    let count = sack_count c.self.inside.top c.in-Some.top outer values c.args.self.now c.self.view_is c.self.invariant
+    some in
     omega arith
 
 pub offset_bounds-deref-start : goal.offset_bounds-deref-start
@@ -22,7 +23,8 @@ offset_bounds-deref-start c =
     let place : c.len.result - c.args.number ≡ length outer - c.args.number = omega arith in
     let from = c.end_of-start.ensures
     ∙ ap (λ (l : List Mark). end_in 0 (take (c.len.result - c.args.number) l)) c.deref.ensures.value in
-    let within = top_within c.self.inside.top c.in-Some.top outer values c.args.self.now c.self.view_is c.self.invariant some
+    let within = top_within c.self.inside.top c.in-Some.top outer values c.args.self.now c.self.view_is
+    c.self.invariant some
     c.args.number (c.len.result - c.args.number) c.end_of-start.result place from c.if-number-eq0.true in
     let long = ap (λ (vs : List Value). length vs) c.deref-then-number-eq0.ensures.value in
     let small = c.deref-then-number-eq0.type_inv.1 in
@@ -36,7 +38,8 @@ slice_bounds-result-count c =
     let place : c.len.result - c.args.number ≡ length outer - c.args.number = omega arith in
     let from = c.end_of-start.ensures
     ∙ ap (λ (l : List Mark). end_in 0 (take (c.len.result - c.args.number) l)) c.deref.ensures.value in
-    let within = top_within c.self.inside.top c.in-Some.top outer values c.args.self.now c.self.view_is c.self.invariant some
+    let within = top_within c.self.inside.top c.in-Some.top outer values c.args.self.now c.self.view_is
+    c.self.invariant some
     c.args.number (c.len.result - c.args.number) c.end_of-start.result place from c.if-number-eq0.true in
     let long = ap (λ (vs : List Value). length vs) c.deref-then-number-eq0.ensures.value in
     omega arith
@@ -49,7 +52,8 @@ slice_bounds-result-start c =
     let place : c.len.result - c.args.number ≡ length outer - c.args.number = omega arith in
     let from = c.end_of-start.ensures
     ∙ ap (λ (l : List Mark). end_in 0 (take (c.len.result - c.args.number) l)) c.deref.ensures.value in
-    let within = top_within c.self.inside.top c.in-Some.top outer values c.args.self.now c.self.view_is c.self.invariant some
+    let within = top_within c.self.inside.top c.in-Some.top outer values c.args.self.now c.self.view_is
+    c.self.invariant some
     c.args.number (c.len.result - c.args.number) c.end_of-start.result place from c.if-number-eq0.true in
     let long = ap (λ (vs : List Value). length vs) c.deref-then-number-eq0.ensures.value in
     let le : c.end_of-start.result ≤ length c.deref-then-number-eq0.result.now = omega arith in
@@ -63,8 +67,10 @@ offset_bounds-deref-start-2 c =
     let place : c.len.result - c.args.number ≡ length outer - c.args.number = omega arith in
     let from = c.end_of-start.ensures
     ∙ ap (λ (l : List Mark). end_in 0 (take (c.len.result - c.args.number) l)) c.deref.ensures.value in
-    let span = outer_span c.self.inside.top c.in-Some.top outer values c.args.self.now c.self.view_is c.self.invariant some
-    c.args.number (c.len.result - c.args.number) c.end_of-start.result place from c.index-mark.result.now (omega arith) c.requires c.index-mark.ensures in
+    let span = outer_span c.self.inside.top c.in-Some.top outer values c.args.self.now c.self.view_is
+    c.self.invariant some
+    c.args.number (c.len.result - c.args.number) c.end_of-start.result place from c.index-mark.result.now (omega arith)
+    c.requires c.index-mark.ensures in
     let start = span.0 in
     let end = span.1 in
     let long = ap (λ (vs : List Value). length vs) c.deref-2.ensures.value in
@@ -79,8 +85,10 @@ slice_bounds-result-count-2 c =
     let place : c.len.result - c.args.number ≡ length outer - c.args.number = omega arith in
     let from = c.end_of-start.ensures
     ∙ ap (λ (l : List Mark). end_in 0 (take (c.len.result - c.args.number) l)) c.deref.ensures.value in
-    let span = outer_span c.self.inside.top c.in-Some.top outer values c.args.self.now c.self.view_is c.self.invariant some
-    c.args.number (c.len.result - c.args.number) c.end_of-start.result place from c.index-mark.result.now (omega arith) c.requires c.index-mark.ensures in
+    let span = outer_span c.self.inside.top c.in-Some.top outer values c.args.self.now c.self.view_is
+    c.self.invariant some
+    c.args.number (c.len.result - c.args.number) c.end_of-start.result place from c.index-mark.result.now (omega arith)
+    c.requires c.index-mark.ensures in
     let start = span.0 in
     let end = span.1 in
     let long = ap (λ (vs : List Value). length vs) c.deref-2.ensures.value in
@@ -94,8 +102,10 @@ slice_bounds-result-start-2 c =
     let place : c.len.result - c.args.number ≡ length outer - c.args.number = omega arith in
     let from = c.end_of-start.ensures
     ∙ ap (λ (l : List Mark). end_in 0 (take (c.len.result - c.args.number) l)) c.deref.ensures.value in
-    let span = outer_span c.self.inside.top c.in-Some.top outer values c.args.self.now c.self.view_is c.self.invariant some
-    c.args.number (c.len.result - c.args.number) c.end_of-start.result place from c.index-mark.result.now (omega arith) c.requires c.index-mark.ensures in
+    let span = outer_span c.self.inside.top c.in-Some.top outer values c.args.self.now c.self.view_is
+    c.self.invariant some
+    c.args.number (c.len.result - c.args.number) c.end_of-start.result place from c.index-mark.result.now (omega arith)
+    c.requires c.index-mark.ensures in
     let start = span.0 in
     let end = span.1 in
     let long = ap (λ (vs : List Value). length vs) c.deref-2.ensures.value in
@@ -109,8 +119,10 @@ slice_bounds-result-end-2 c =
     let place : c.len.result - c.args.number ≡ length outer - c.args.number = omega arith in
     let from = c.end_of-start.ensures
     ∙ ap (λ (l : List Mark). end_in 0 (take (c.len.result - c.args.number) l)) c.deref.ensures.value in
-    let span = outer_span c.self.inside.top c.in-Some.top outer values c.args.self.now c.self.view_is c.self.invariant some
-    c.args.number (c.len.result - c.args.number) c.end_of-start.result place from c.index-mark.result.now (omega arith) c.requires c.index-mark.ensures in
+    let span = outer_span c.self.inside.top c.in-Some.top outer values c.args.self.now c.self.view_is
+    c.self.invariant some
+    c.args.number (c.len.result - c.args.number) c.end_of-start.result place from c.index-mark.result.now (omega arith)
+    c.requires c.index-mark.ensures in
     let start = span.0 in
     let end = span.1 in
     let long = ap (λ (vs : List Value). length vs) c.deref-2.ensures.value in
@@ -127,6 +139,7 @@ returns c =
     ∙ ap (λ (l : List Mark). end_in 0 (take (c.len.result - c.args.number) l)) c.deref.ensures.value in
     let mark = c.index-mark.result.now in
     outer_call c.self.inside.top c.in-Some.top outer values c.args.self.now c.self.view_is c.self.invariant some
-    c.args.number (c.len.result - c.args.number) c.end_of-start.result place from mark (omega arith) c.requires c.index-mark.ensures
+    c.args.number (c.len.result - c.args.number) c.end_of-start.result place from mark (omega arith) c.requires
+    c.index-mark.ensures
     ∙ ap (λ (vs : List Value). Some (frame_of mark.function mark.point
     (take (mark.end - c.end_of-start.result) (drop c.end_of-start.result vs)))) (sym c.deref-2.ensures.value)
