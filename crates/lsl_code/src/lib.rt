@@ -12,6 +12,7 @@ mod functions;
 mod fused;
 mod fused_functions;
 mod fusing;
+mod fusing_globals;
 mod instructions;
 mod kind_stack;
 pub mod laws;

@@ -45,6 +45,7 @@ pub mod Fusing
 pub mod Joining
 pub mod Entrances
 pub mod Entries
+pub mod Globals
 pub mod Raced
 pub mod Tops
 pub mod Passed

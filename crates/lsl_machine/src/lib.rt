@@ -35,7 +35,7 @@ mod blocks;
 mod calls;
 mod entering;
 mod entry_steps;
-mod fused;
+mod global_steps;
 mod integers;
 mod jumps;
 mod known;
