@@ -46,6 +46,7 @@ pub mod Joining
 pub mod Entrances
 pub mod Entries
 pub mod Globals
+pub mod EntryRooms
 pub mod Raced
 pub mod Tops
 pub mod Passed
