@@ -18,6 +18,7 @@ pub mod Kinding
 pub mod MachineKinds
 pub mod Made
 pub mod ModeRuns
+pub mod Noted
 pub mod Numbering
 pub mod OnStack
 pub mod Packing

@@ -1,6 +1,7 @@
 pub mod Acts
 pub mod Asking
 pub mod BackWays
+pub mod Blocks
 pub mod Bodies
 pub mod Drafts
 pub mod Effects
@@ -22,6 +23,7 @@ pub mod ModeStacks
 pub mod Modes
 pub mod Naming
 pub mod Packs
+pub mod Passages
 pub mod Pieces
 pub mod Restoring
 pub mod Runs

@@ -2,6 +2,7 @@
 //! machine that runs them comes to (in `specs/`). Nothing here runs a unit.
 #![tactic(auto)]
 
+mod blocks;
 mod checking;
 mod drafts;
 mod effects;
@@ -20,6 +21,7 @@ mod library;
 pub mod mode_laws;
 mod naming;
 mod packs;
+mod passages;
 mod sacks;
 mod sequence;
 mod signatures;
@@ -40,6 +42,7 @@ pub use crate::instructions::Instr;
 pub use crate::kind_stack::KindStack;
 pub use crate::library::Library;
 pub use crate::packs::Pack;
+pub use crate::passages::Passage;
 pub use crate::sacks::{Laid, Sack};
 pub use crate::sequence::Sequence;
 pub use crate::signatures::{Names, Signature};

@@ -29,7 +29,6 @@ pub mod Chained
 pub mod BackCharged
 pub mod Waking
 pub mod Blocked
-pub mod Looked
 pub mod Ordered
 pub mod LayingOut
 pub mod AtOnce
@@ -52,3 +51,4 @@ pub mod Tops
 pub mod Passed
 pub mod Dropped
 pub mod AsTheyLie
+pub mod Settling

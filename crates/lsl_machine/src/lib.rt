@@ -28,22 +28,20 @@ use lsl_text::NoMemory;
 use lsl_value::{Value, Values};
 use std::alloc::Global;
 use std::marker::Model;
-use std::mem::replace;
 
 mod appending;
-mod blocks;
 mod calls;
 mod entering;
 mod entry_steps;
 mod global_steps;
 mod integers;
 mod jumps;
-mod known;
 mod layouts;
 mod limits;
 mod marking;
 mod operands;
 mod operating;
+mod pausing;
 mod performing;
 mod racing;
 mod restoring;
@@ -251,7 +249,7 @@ impl Machine {
             running,
             standing: _,
         } = self;
-        let (sack, kept, _) = running.save(unit)?;
+        let (sack, kept) = running.save(unit)?;
         Ok(Parked { sack, kept })
     }
 
@@ -290,7 +288,7 @@ impl Machine {
             BackRun (bodies_of unit.now) handler parked.sack (beside parked.kept) m n → steps.new - steps.old ≤ n) }
     {
         let Parked { sack, kept } = parked;
-        let running = restore(alloc, unit, handler, sack, kept, Vec::new(alloc), steps)?;
+        let running = restore(alloc, unit, handler, sack, kept, steps)?;
         let standing = Standing::AtTick;
         Ok(Machine { running, standing })
     }
@@ -308,11 +306,7 @@ impl Machine {
         ensures of { OnOk result (IsOf unit.now self.new) }
     {
         self.standing = Standing::Lost;
-        let alloc = self.running.alloc;
-        let running = replace(&mut self.running, Running::vacant(alloc));
-        let (sack, kept, callers) = running.save(unit)?;
-        let mut steps = 0;
-        self.running = restore(alloc, unit, handler, sack, kept, callers, &mut steps)?;
+        self.running.pause(unit, handler)?;
         self.standing = Standing::AtTick;
         Ok(())
     }

@@ -262,19 +262,17 @@ pub fn instruction(unit: &Woven, function: u16, place: usize) -> Option<&Instr>
 }
 
 /// The machine that the unit's own code makes of these frames of the handler's function, beside these globals and this
-/// limit. The vector for calls is used again. The count of steps grows by one for each instruction.
+/// limit. The count of steps grows by one for each instruction.
 pub fn restore(
     alloc: Global,
     unit: &Woven,
     handler: u16,
     sack: Sack,
     kept: Kept,
-    callers: Vec<Activation>,
     steps: &mut u64,
 ) -> Result<Running, NoMemory>
     requires valid { AreValid (points_of (bodies_of unit.now)) handler kept.globals kept.limit sack }
     requires limit { kept.limit ≤ default_limit }
-    requires vacant { callers.items ≡ [] }
     requires steps { steps.old ≤ 9223372036854775807 }
     ensures restored { IfOk result (λ running.
         IsRestored (bodies_of unit.now) handler sack kept running (steps.new - steps.old)) }
@@ -282,7 +280,7 @@ pub fn restore(
     ensures lacking { OnErr result ((m : Restored) (n : ℕ) →
         BackRun (bodies_of unit.now) handler sack (beside kept) m n → steps.new - steps.old ≤ n) }
 {
-    match Layout::of(unit, handler, &sack, callers)? {
+    match Layout::of(unit, handler, &sack, Vec::new(alloc))? {
         Some(layout) => {
             let count = layout.steps;
             let running = layout.into_running(alloc, sack, kept)?;
@@ -293,8 +291,8 @@ pub fn restore(
     }
 }
 
-// The same, instruction by instruction.
-fn restore_by_code(
+/// The same, instruction by instruction.
+pub fn restore_by_code(
     alloc: Global,
     unit: &Woven,
     handler: u16,

@@ -129,14 +129,13 @@ impl Saver {
 }
 
 impl Running {
-    /// What the unit's own code saves the calls as, the globals with the limit, and a vector for calls, whose room is
-    /// used again. Where the code of all calls keeps their values in the order in which they lie, no value moves.
-    pub fn save(self, unit: &Woven) -> Result<(Sack, Kept, Vec<Activation>), NoMemory>
+    /// What the unit's own code saves the calls as, and the globals with the limit. Where the code of all calls keeps
+    /// their values in the order in which they lie, no value moves.
+    pub fn save(self, unit: &Woven) -> Result<(Sack, Kept), NoMemory>
         requires laid { Held self }
         requires rests { (handler : ℕ) × RestAtTick (bodies_of unit.now) handler (machine_of self).calls }
         ensures frames { IfOk result (λ parked. AreSaved (bodies_of unit.now) (machine_of self).calls parked.0) }
         ensures kept { IfOk result (λ parked. parked.1 ≡ kept_of self) }
-        ensures room { IfOk result (λ parked. parked.2.items ≡ []) }
     {
         match self.marks(unit)? {
             Some(marks) => Ok(self.into_sack(marks)),
@@ -146,35 +145,31 @@ impl Running {
 
     // The calls as they lie, where they are saved so.
     #[inline(always)]
-    fn into_sack(self, marks: Marks) -> (Sack, Kept, Vec<Activation>)
+    fn into_sack(self, marks: Marks) -> (Sack, Kept)
         requires { EndsWithin 0 marks.outer.items (length self.stack.items) }
         ensures frames { result.0 ≡ stack_frames self.active.function marks.point marks.outer.items self.stack.items }
         ensures kept { result.1 ≡ kept_of self }
-        ensures room { result.2.items ≡ [] }
     {
         let Running {
             globals,
             limit,
             active,
-            mut callers,
             stack,
             ..
         } = self;
-        callers.clear();
         let globals = Values::from_vec(globals);
         let kept = Kept { globals, limit };
         let sack = Sack::from_stack(active.function, marks.point, marks.outer, stack);
-        (sack, kept, callers)
+        (sack, kept)
     }
 
-    // The same, instruction by instruction.
+    /// The same, instruction by instruction.
     #[inline(never)]
-    fn save_by_code(self, unit: &Woven) -> Result<(Sack, Kept, Vec<Activation>), NoMemory>
+    pub fn save_by_code(self, unit: &Woven) -> Result<(Sack, Kept), NoMemory>
         requires laid { Held self }
         requires rests { (handler : ℕ) × RestAtTick (bodies_of unit.now) handler (machine_of self).calls }
         ensures frames { IfOk result (λ parked. AreSaved (bodies_of unit.now) (machine_of self).calls parked.0) }
         ensures kept { IfOk result (λ parked. parked.1 ≡ kept_of self) }
-        ensures room { IfOk result (λ parked. parked.2.items ≡ []) }
     {
         let Running {
             alloc,
@@ -201,6 +196,6 @@ impl Running {
         }
         let globals = Values::from_vec(globals);
         let kept = Kept { globals, limit };
-        Ok((Sack::from_pack(saver.pack), kept, callers))
+        Ok((Sack::from_pack(saver.pack), kept))
     }
 }

@@ -11,7 +11,7 @@ on_err_all (Ok x) p = tt
 on_err_all (Err e) p = p
 
 pub of-requires : goal.of-requires
-of-requires c = c.requires.vacant
+of-requires c = c.new.ensures.items
 
 pub returns-in_err-layout-clause-lacking : goal.returns-in_err-layout-clause-lacking
 returns-in_err-layout-clause-lacking c = on_err_all c.from_residual.result (λ m n run. omega arith)
