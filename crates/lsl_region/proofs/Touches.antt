@@ -18,9 +18,11 @@ use Rattle.lsl_post.specs.declared.parts.ScriptParts.{ScriptParts}
 use Rattle.lsl_post.proofs.Amid.{Amid, amid-err, amid-last, amid-ok, amid-start}
 use Rattle.lsl_script.specs.Codes.{HasUnit, Meant, handler_in_unit}
 use Rattle.lsl_script.specs.Parts.{parts_of}
+use Rattle.lsl_region.specs.declared.audience.Audience.{Audience}
+use Rattle.lsl_region.specs.declared.audience.Audience.TheVariants.{Prim as InPrim}
 use Rattle.lsl_region.specs.declared.grid.Seat.{Seat}
 use Rattle.lsl_region.specs.Arrivals.{handles_touch, is_in_prim, touch_end, touch_held, touch_start, touched}
-use Rattle.lsl_region.specs.Posting.{post_all}
+use Rattle.lsl_region.specs.Posting.{admits, post_all}
 use Rattle.lsl_region.specs.Grids.{AreSeated, Contents, Stands, seat_of}
 use Rattle.lsl_region.specs.Touching.{has_touch}
 use Rattle.lsl_region.specs.Worlds.{Member, World}
@@ -107,59 +109,74 @@ amid-part Rel total old now rest a = record {
   all = sym (ap (λ t. t.entries) a.whole);
 }
 
--- the three events of a touch, one after another
+-- the three events of a touch, one after another, go to an audience that is a prim
 module _ (codes : List Code) (m : Meant codes) (clock object prim : ℕ) (t : Toucher) (self : Contents) (w : World)
-    (st : Stands codes None clock self w) (old : List Entry) where
+    (st : Stands codes None clock self w) (old : List Entry) (audience : Audience)
+    (prim_is : audience ≡ InPrim object prim) where
   abbrev pub At : Contents → World → Type 0
   At grid v = Stands codes None clock grid v
 
-  abbrev pub posts : Event → World → Told World
-  posts e v = post_all m.rules (is_in_prim object prim) e v
+  abbrev pub posts : Audience → Event → World → Told World
+  posts a e v = post_all m.rules (admits a) e v
 
   abbrev pub total : Told World
   total = touched m.rules object prim t w
 
+  abbrev pub last : World → Told World
+  last = posts (InPrim object prim) (touch_end t)
+
   abbrev pub behind_first : World → Told World
-  behind_first v = next_to (posts (touch_held t) v) (posts (touch_end t))
+  behind_first v = next_to (posts (InPrim object prim) (touch_held t) v) last
 
-  abbrev pub Goes : Contents → Contents → (before now : List Entry) → Event → Type 0
-  Goes from to before now e = (v : World) → At from v → At to (posts e v).value × (now ≡ before ++ (posts e v).entries)
+  abbrev pub Goes : Contents → Contents → (before now : List Entry) → Audience → Event → Type 0
+  Goes from to before now a e = (v : World) → At from v
+      → At to (posts a e v).value × (now ≡ before ++ (posts a e v).entries)
 
-  abbrev pub Breaks : Contents → (before now : List Entry) → Event → Type 0
-  Breaks from before now e = (v : World) → At from v → Part before now (posts e v).entries
+  abbrev pub Breaks : Contents → (before now : List Entry) → Audience → Event → Type 0
+  Breaks from before now a e = (v : World) → At from v → Part before now (posts a e v).entries
 
   pub begins : Amid (At self) total old old (touched m.rules object prim t)
   begins = amid-start (At self) w old (touched m.rules object prim t) st
 
-  pub first-err : (now : List Entry) (e : Event) → e ≡ touch_start t → Breaks self old now e
+  pub first-err : (now : List Entry) (e : Event) → e ≡ touch_start t → Breaks self old now audience e
       → Part old now total.entries
   first-err now e is does =
-      amid-err (At self) total old old (touched m.rules object prim t) begins behind_first (posts (touch_start t)) now
-      (λ v r. refl) (subst (λ (z : Event). Breaks self old now z) is does)
+      amid-err (At self) total old old (touched m.rules object prim t) begins behind_first
+      (posts (InPrim object prim) (touch_start t)) now (λ v r. refl)
+      (subst (λ (a : Audience). Breaks self old now a (touch_start t)) prim_is
+      (subst (λ (z : Event). Breaks self old now audience z) is does))
 
-  pub first-ok : (grid : Contents) (now : List Entry) (e : Event) → e ≡ touch_start t → Goes self grid old now e
-      → Amid (At grid) total old now behind_first
+  pub first-ok : (grid : Contents) (now : List Entry) (e : Event) → e ≡ touch_start t
+      → Goes self grid old now audience e → Amid (At grid) total old now behind_first
   first-ok grid now e is does =
       amid-ok (At self) total old old (touched m.rules object prim t) begins (At grid) behind_first
-      (posts (touch_start t)) now (λ v r. refl) (subst (λ (z : Event). Goes self grid old now z) is does)
+      (posts (InPrim object prim) (touch_start t)) now (λ v r. refl)
+      (subst (λ (a : Audience). Goes self grid old now a (touch_start t)) prim_is
+      (subst (λ (z : Event). Goes self grid old now audience z) is does))
 
   module _ (one : Contents) (done : List Entry) (a : Amid (At one) total old done behind_first) where
-    pub second-err : (now : List Entry) (e : Event) → e ≡ touch_held t → Breaks one done now e
+    pub second-err : (now : List Entry) (e : Event) → e ≡ touch_held t → Breaks one done now audience e
         → Part old now total.entries
     second-err now e is does =
-        amid-err (At one) total old done behind_first a (posts (touch_end t)) (posts (touch_held t)) now
-        (λ v r. refl) (subst (λ (z : Event). Breaks one done now z) is does)
+        amid-err (At one) total old done behind_first a last (posts (InPrim object prim) (touch_held t)) now
+        (λ v r. refl)
+        (subst (λ (a : Audience). Breaks one done now a (touch_held t)) prim_is
+        (subst (λ (z : Event). Breaks one done now audience z) is does))
 
-    pub second-ok : (grid : Contents) (now : List Entry) (e : Event) → e ≡ touch_held t → Goes one grid done now e
-        → Amid (At grid) total old now (posts (touch_end t))
+    pub second-ok : (grid : Contents) (now : List Entry) (e : Event) → e ≡ touch_held t
+        → Goes one grid done now audience e → Amid (At grid) total old now last
     second-ok grid now e is does =
-        amid-ok (At one) total old done behind_first a (At grid) (posts (touch_end t)) (posts (touch_held t)) now
-        (λ v r. refl) (subst (λ (z : Event). Goes one grid done now z) is does)
+        amid-ok (At one) total old done behind_first a (At grid) last (posts (InPrim object prim) (touch_held t)) now
+        (λ v r. refl)
+        (subst (λ (a : Audience). Goes one grid done now a (touch_held t)) prim_is
+        (subst (λ (z : Event). Goes one grid done now audience z) is does))
 
   pub third : {T E : Type 0} (two grid : Contents) (done now : List Entry) (e : Event) (r : Result T E)
-      → e ≡ touch_end t → Amid (At two) total old done (posts (touch_end t))
-      → ((v : World) → At two v → Tells r (λ u _. At grid u) done now (posts e v))
+      → e ≡ touch_end t → Amid (At two) total old done last
+      → ((v : World) → At two v → Tells r (λ u _. At grid u) done now (posts audience e v))
       → Tells r (λ u _. At grid u) old now total
   third two grid done now e r is a does =
-      amid-last (At two) total old done (posts (touch_end t)) a r (λ u _. At grid u) now
-      (subst (λ (z : Event). (v : World) → At two v → Tells r (λ u _. At grid u) done now (posts z v)) is does)
+      amid-last (At two) total old done last a r (λ u _. At grid u) now
+      (subst (λ (b : Audience). (v : World) → At two v
+      → Tells r (λ u _. At grid u) done now (posts b (touch_end t) v)) prim_is
+      (subst (λ (z : Event). (v : World) → At two v → Tells r (λ u _. At grid u) done now (posts audience z v)) is does))

@@ -12,6 +12,7 @@ ghost use Rattle.lsl_region.specs.Grids.{AreSeated, Stands, outline_of};
 ghost use Rattle.lsl_region.specs.Posting.{admits, post_all};
 ghost use Rattle.lsl_region.specs.Touching.{has_touch};
 ghost use Rattle.lsl_region.specs.Worlds.{World, no_object};
+ghost use Rattle.lsl_region.specs.declared.audience.Audience.TheVariants as audiences;
 ghost use Rattle.lsl_region.specs.declared.grid.Seat.{Seat as Place};
 
 use crate::audience::Audience;
@@ -104,12 +105,31 @@ impl Grid {
         ensures outline { outline_of self.new ≡ outline_of self.old }
     {
         let audience = Audience::Prim { object, prim };
+        self.touch_all(&audience, toucher, library, out)
+    }
+
+    // The three events of a touch go to these scripts.
+    fn touch_all(
+        &mut self,
+        audience: &Audience,
+        toucher: &Toucher,
+        library: &Library,
+        out: &mut Entries,
+    ) -> Result<(), NoMemory>
+        requires { AreSeated library.now self.old.seats }
+        ensures does { (m : Meant library.now) (clock : ℕ) (object prim : ℕ) (w : World) →
+            audience.now ≡ audiences.Prim object prim → Stands library.now None clock self.old w →
+            Tells result (λ v _. Stands library.now None clock self.new v) out.old out.new
+            (touched m.rules object prim toucher.now w) }
+        ensures seated { OnOk result (AreSeated library.now self.new.seats) }
+        ensures outline { outline_of self.new ≡ outline_of self.old }
+    {
         let start = touch_start(self.alloc, toucher)?;
-        self.post_one(&audience, start, library, out)?;
+        self.post_one(audience, start, library, out)?;
         let held = touch_held(self.alloc, toucher)?;
-        self.post_one(&audience, held, library, out)?;
+        self.post_one(audience, held, library, out)?;
         let end = touch_end(self.alloc, toucher)?;
-        self.post_one(&audience, end, library, out)
+        self.post_one(audience, end, library, out)
     }
 
     // Posts an event that is at hand for this alone.
