@@ -17,10 +17,11 @@ ghost use Rattle.lsl_script.specs.Codes.{Meant};
 ghost use Rattle.lsl_script.specs.Fitting.{is_exit};
 ghost use Rattle.lsl_script.specs.Scripts.{Flight};
 ghost use Rattle.lsl_script.specs.declared.live.Live.{Live as Awake};
-ghost use Rattle.lsl_region.specs.Answers.{answer_of, home_of, integer_at, message_of, nothing, renamed, said_by, says, text_at, told_in};
+ghost use Rattle.lsl_region.specs.Answers.{answer_of, home_of, integer_at, is_message_to, message_of, nothing, prims_count, renamed, said_by, says, text_at, told_in};
 ghost use Rattle.lsl_region.specs.Grids.{AreSeated, Lent, linked_to, object_in, outline_of, prim_in, renamed_grid};
 ghost use Rattle.lsl_region.specs.Links.{link_of};
 ghost use Rattle.lsl_region.specs.Mailing.{stop_of};
+ghost use Rattle.lsl_region.specs.Posting.{post_all, said_to_all};
 ghost use Rattle.lsl_region.specs.Texts.{cut_name, cut_speech};
 ghost use Rattle.lsl_region.specs.Worlds.{World, prim_of};
 ghost use Rattle.lsl_region.specs.declared.grid.Seat.{Seat as Place};
@@ -125,6 +126,7 @@ impl Grid {
         out: &mut Entries,
     ) -> Result<(), NoMemory>
         requires place { place < length self.old.seats }
+        requires number { place < 256 }
         requires seated { AreSeated library.now self.old.seats }
         requires awake { IsAwake unit.now live.old }
         ensures does { (m : Meant library.now) (clock : ℕ) (f : Flight) (of : Id) (w : World) →
@@ -138,10 +140,36 @@ impl Grid {
         ensures machine { live.new.machine ≡ live.old.machine }
     {
         let said = self.heard_of(place, channel, &text)?;
-        let event = listen_event(self.alloc, &said)?;
-        let hearers = Audience::Hearers(said);
         let line = Entry::Chat(number(place), voice, channel, text);
         out.push(line)?;
+        self.tell_hearers(place, live, said, library, unit, out)
+    }
+
+    // Others hear what is said where the script at this place is out.
+    fn tell_hearers(
+        &mut self,
+        place: usize,
+        live: &mut Live,
+        said: Filter,
+        library: &Library,
+        unit: &Woven,
+        out: &mut Entries,
+    ) -> Result<(), NoMemory>
+        requires place { place < length self.old.seats }
+        requires seated { AreSeated library.now self.old.seats }
+        requires awake { IsAwake unit.now live.old }
+        ensures does { (m : Meant library.now) (clock : ℕ) (f : Flight) (of : Id) (w : World) →
+            Lent library.now unit.now clock place self.old live.old of f w →
+            Tells result (λ v _. Lent library.now unit.now clock place self.new live.new of f v) out.old out.new
+            (said_to_all m.rules said w) }
+        ensures seated { OnOk result (AreSeated library.now self.new.seats) }
+        ensures len { length self.new.seats ≡ length self.old.seats }
+        ensures outline { outline_of self.new ≡ outline_of self.old }
+        ensures awake { IsAwake unit.now live.new }
+        ensures machine { live.new.machine ≡ live.old.machine }
+    {
+        let event = listen_event(self.alloc, &said)?;
+        let hearers = Audience::Hearers(said);
         self.post_all_with(place, live, &hearers, &event, library, unit, out)
     }
 
@@ -267,6 +295,35 @@ impl Grid {
         }
     }
 
+    // A message with these arguments goes to the scripts of the prims that the number at place 0 names.
+    fn send_linked(
+        &mut self,
+        place: usize,
+        live: &mut Live,
+        args: &Values,
+        library: &Library,
+        unit: &Woven,
+        out: &mut Entries,
+    ) -> Result<(), NoMemory>
+        requires place { place < length self.old.seats }
+        requires seated { AreSeated library.now self.old.seats }
+        requires awake { IsAwake unit.now live.old }
+        ensures does { (m : Meant library.now) (clock : ℕ) (f : Flight) (of : Id) (w : World) →
+            (lent : Lent library.now unit.now clock place self.old live.old of f w) →
+            Tells result (λ v _. Lent library.now unit.now clock place self.new live.new of f v) out.old out.new
+            (post_all m.rules (is_message_to (prims_count w lent.member) lent.member (integer_at 0 args.now))
+            (message_of w lent.member args.now) w) }
+        ensures seated { OnOk result (AreSeated library.now self.new.seats) }
+        ensures len { length self.new.seats ≡ length self.old.seats }
+        ensures outline { outline_of self.new ≡ outline_of self.old }
+        ensures awake { IsAwake unit.now live.new }
+        ensures machine { live.new.machine ≡ live.old.machine }
+    {
+        let event = self.message(place, args)?;
+        let audience = self.linked(place, args);
+        self.post_all_with(place, live, &audience, &event, library, unit, out)
+    }
+
     /// A message goes to the scripts of the prims that the number at place 0 names.
     pub(crate) fn answer_message_linked(
         &mut self,
@@ -291,9 +348,7 @@ impl Grid {
         ensures awake { IsAwake unit.now live.new }
         ensures machine { live.new.machine ≡ live.old.machine }
     {
-        let event = self.message(place, args)?;
-        let audience = self.linked(place, args);
-        self.post_all_with(place, live, &audience, &event, library, unit, out)?;
+        self.send_linked(place, live, args, library, unit, out)?;
         Ok(Reply::Value(None))
     }
 

@@ -4,7 +4,6 @@ use Rattle.std.proofs.lemmas.Int.{to_z-of_z}
 use Rattle.std.proofs.lemmas.Result.{MatchResult-from_err}
 use Rattle.lsl_post.specs.declared.entries.Entry.{Entry}
 use Rattle.lsl_post.specs.declared.entries.Entry.TheVariants.{Chat}
-use Rattle.lsl_post.specs.declared.events.Event.{Event}
 use Rattle.lsl_post.specs.declared.filters.Filter.{Filter}
 use Rattle.lsl_post.specs.Filters.{filter}
 use Rattle.lsl_post.specs.Journal.{Part, Tells}
@@ -12,7 +11,7 @@ use Rattle.lsl_post.proofs.Amid.{part-none, tells-lead}
 use Rattle.lsl_region.specs.declared.objects.Primitive.{Primitive}
 use Rattle.lsl_region.specs.Answers.{said_by}
 use Rattle.lsl_region.specs.Grids.{Lent, seat_of}
-use Rattle.lsl_region.specs.Posting.{hears_said, post_all, said_to_all}
+use Rattle.lsl_region.specs.Posting.{said_to_all}
 use Rattle.lsl_region.specs.Worlds.{prim_of}
 use Rattle.lsl_region.proofs.Away.{away-seat}
 use Rattle.lsl_region.proofs.Lending.{lent-prim}
@@ -41,19 +40,15 @@ returns-clause-does c = λ m clock f of w lent.
     let chat : Chat c.number.result c.args.voice (cast_signed w32 (cast_unsigned w32 c.args.channel)) c.args.text
     ≡ Chat (c.args.place + 1) c.args.voice c.args.channel c.args.text
     = λ i. Chat (c.number.ensures i) c.args.voice (same i) c.args.text in
-    tells-lead c.post_all_with.result
-    (λ v _. Lent c.args.library.now c.args.unit.now clock c.args.place c.post_all_with.new.self c.post_all_with.new.live
+    tells-lead c.tell_hearers.result
+    (λ v _. Lent c.args.library.now c.args.unit.now clock c.args.place c.tell_hearers.new.self c.tell_hearers.new.live
     of f v)
     c.args.out.now c.push.new.self _ (Chat (c.args.place + 1) c.args.voice c.args.channel c.args.text ∷ [])
     (said_by m.rules c.args.place c.args.voice p c.args.channel c.args.text w)
     (said_to_all m.rules (filter c.args.channel p.name p.key c.args.text) w) refl
     (c.in_ok-push.ensures.ok ∙ ap (λ (e : Entry). c.args.out.now ++ e ∷ []) chat)
-    (subst (λ (z : Filter). Tells c.post_all_with.result
-    (λ v _. Lent c.args.library.now c.args.unit.now clock c.args.place c.post_all_with.new.self c.post_all_with.new.live
+    (subst (λ (z : Filter). Tells c.tell_hearers.result
+    (λ v _. Lent c.args.library.now c.args.unit.now clock c.args.place c.tell_hearers.new.self c.tell_hearers.new.live
     of f v)
-    c.push.new.self c.post_all_with.new.out (said_to_all m.rules z w)) s
-    (subst (λ (e : Event). Tells c.post_all_with.result
-    (λ v _. Lent c.args.library.now c.args.unit.now clock c.args.place c.post_all_with.new.self c.post_all_with.new.live
-    of f v)
-    c.push.new.self c.post_all_with.new.out (post_all m.rules (hears_said c.in_ok-said.said) e w)) c.in_ok-event.ensures
-    (c.post_all_with.ensures.does m clock f of w lent)))
+    c.push.new.self c.tell_hearers.new.out (said_to_all m.rules z w)) s
+    (c.tell_hearers.ensures.does m clock f of w lent))
