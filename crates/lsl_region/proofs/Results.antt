@@ -1,10 +1,11 @@
 -- What holds of results.
-use Rattle.std.proofs.Common.{◌≡◌, List, [], ◌++◌, sym, subst, append-nil}
+use Rattle.std.proofs.Common.{◌≡◌, List, [], ◌++◌, refl, sym, subst, append-nil}
 use Rattle.lsl_post.specs.declared.entries.Entry.{Entry}
 use Rattle.lsl_post.specs.Journal.{Adds, Part, Tells}
-use Rattle.lsl_post.specs.Told.{Told, quiet}
+use Rattle.lsl_post.specs.Told.{Told, as_value, quiet}
 use Rattle.lsl_post.proofs.Amid.{part-none}
 use Rattle.std.specs.Prelude.{IfOk, OnOk}
+use Rattle.std.specs.Result.{result_map_both}
 use Rattle.std.specs.declared.result.Result.{Result}
 use Rattle.std.specs.declared.result.Result.TheVariants.{Ok, Err}
 
@@ -36,3 +37,21 @@ IfOk-both (Err e) P Q p q = tt
 pub OnOk-any : {T E : Type 0} (r : Result T E) (P : Type 0) → P → OnOk r P
 OnOk-any (Ok x) P p = p
 OnOk-any (Err e) P p = tt
+
+-- what is answered once something was done
+pub IfOk-answered : {T U E : Type 0} (r : Result T E) (given : U) (P : U → Type 0) → P given
+    → IfOk (result_map_both (λ _. given) (λ e. e) r) P
+IfOk-answered (Ok x) given P p = p
+IfOk-answered (Err e) given P p = tt
+
+pub OnOk-answered : {T U E : Type 0} (r : Result T E) (given : U) (P : Type 0) → OnOk r P
+    → OnOk (result_map_both (λ _. given) (λ e. e) r) P
+OnOk-answered (Ok x) given P p = p
+OnOk-answered (Err e) given P p = tt
+
+pub tells-answered : {T U E X : Type 0} (r : Result T E) (given : U) (P : X → Type 0) (old new : List Entry)
+    (a : Told X) → Tells r (λ v _. P v) old new a
+    → Tells (result_map_both (λ _. given) (λ e. e) r) (λ (v : X × U) reply. P v.0 × (reply ≡ v.1)) old new
+    (as_value (λ v. (v, given)) a)
+tells-answered (Ok x) given P old new a d = ((d.0, refl), d.1)
+tells-answered (Err e) given P old new a d = d

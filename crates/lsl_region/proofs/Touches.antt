@@ -179,4 +179,5 @@ module _ (codes : List Code) (m : Meant codes) (clock object prim : ℕ) (t : To
       amid-last (At two) total old done last a r (λ u _. At grid u) now
       (subst (λ (b : Audience). (v : World) → At two v
       → Tells r (λ u _. At grid u) done now (posts b (touch_end t) v)) prim_is
-      (subst (λ (z : Event). (v : World) → At two v → Tells r (λ u _. At grid u) done now (posts audience z v)) is does))
+      (subst (λ (z : Event). (v : World) → At two v → Tells r (λ u _. At grid u) done now (posts audience z v)) is
+      does))

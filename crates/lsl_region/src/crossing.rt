@@ -109,9 +109,41 @@ impl Grid {
         ensures scripts { length self.new.seats ≡ length self.old.seats }
     {
         let shape = self.shape(object)?;
+        self.cross_shaped(object, &shape, region, library, link, out)
+    }
+
+    // An object of this shape crosses from another region. Where it stays there may be entries behind the others.
+    fn cross_shaped<L: Link>(
+        &mut self,
+        object: u32,
+        shape: &Shape,
+        region: &Text,
+        library: &Library,
+        link: &mut L,
+        out: &mut Entries,
+    ) -> Result<Crossed, NoMemory>
+        requires first { 0 < object }
+        requires last { object ≤ length self.old.objects }
+        requires seated { AreSeated library.now self.old.seats }
+        requires elsewhere { region_in self.old (object - 1) ≢ region.now }
+        requires shape { shape.now ≡ shape_of (parts_of_object self.old (object - 1)) }
+        ensures crosses { (trips : List Trip) × Went L.gives (L.trips link.old) (L.trips link.new) trips
+            × MatchResult result
+            (λ crossed. CrossesAs library.now (object - 1) region.now self.old self.new out.old
+            (kept_entries crossed (length out.old) out.new) trips crossed)
+            (λ _. Stays self.old self.new out.old (take (length out.old) out.new)
+            × Begins (sent_of trips) (image_in library.now self.old (object - 1) ∷ [])) }
+        ensures image { OnOk result (IsSent library.now self.old (object - 1)) }
+        ensures link { result ≡ OkResult (Crossed.Stayed StayedWhy.Link) →
+            Rose (L.faults link.old) (L.faults link.new) }
+        ensures counted { L.faults link.old ≤ L.faults link.new }
+        ensures seated { OnOk result (AreSeated library.now self.new.seats) }
+        ensures objects { map (λ o. length o.prims) self.new.objects ≡ map (λ o. length o.prims) self.old.objects }
+        ensures scripts { length self.new.seats ≡ length self.old.seats }
+    {
         let arrival = prepare(self.alloc, shape.units.len(), region, out)?;
         match self.send(object, library, link)? {
-            Some(back) => self.receive(object, &back, &shape, arrival, library, out),
+            Some(back) => self.receive(object, &back, shape, arrival, library, out),
             None => Ok(Crossed::Stayed(StayedWhy::Link)),
         }
     }

@@ -9,12 +9,13 @@ ghost use Rattle.lsl_code.specs.declared.woven_units.Woven.{Woven as Code};
 ghost use Rattle.lsl_notes.specs.Notecards.{IsListed, card_at, most_cards};
 ghost use Rattle.lsl_post.specs.Journal.{Tells};
 ghost use Rattle.lsl_script.specs.Awake.{IsAwake};
-ghost use Rattle.lsl_script.specs.Codes.{Meant};
-ghost use Rattle.lsl_script.specs.Scripts.{Flight};
+ghost use Rattle.lsl_script.specs.Codes.{Meant, rules_of};
+ghost use Rattle.lsl_script.specs.Lives.{Waits};
+ghost use Rattle.lsl_script.specs.Scripts.{Flight, Script as Source, post_to};
 ghost use Rattle.lsl_region.specs.Answers.{gives, home_of, line_asked, line_from, noted, queried};
 ghost use Rattle.lsl_region.specs.Grids.{Lent};
 ghost use Rattle.lsl_region.specs.Mailing.{stop_of};
-ghost use Rattle.lsl_region.specs.Notes.{card_of, data_told, prims_in};
+ghost use Rattle.lsl_region.specs.Notes.{card_of, data_event, data_told, prims_in};
 ghost use Rattle.lsl_region.specs.Worlds.{World};
 ghost use Rattle.lsl_region.specs.declared.grid.Seat.{Seat as Place};
 
@@ -26,7 +27,7 @@ use crate::objects::{Linkset, null_key};
 use crate::posting::number;
 use lsl_code::Woven;
 use lsl_notes::query;
-use lsl_post::Entries;
+use lsl_post::{Entries, Event};
 use lsl_running::Reply;
 use lsl_script::Live;
 use lsl_text::NoMemory;
@@ -130,9 +131,40 @@ impl Grid {
         let alloc = self.alloc;
         let script = number(place);
         let key = query(alloc, script, card, line)?;
-        let event = data_event(alloc, key.copy()?, self.data_of(card, line)?)?;
-        post_live(alloc, live, script, &event, unit, out)?;
+        self.post_data(script, live, &key, card, line, unit, out)?;
         Ok(key)
+    }
+
+    // The script of this number is told of this line of a notecard, or how many there are, by a query of this key.
+    fn post_data(
+        &self,
+        script: u32,
+        live: &mut Live,
+        key: &Text,
+        card: u32,
+        line: Option<u32>,
+        unit: &Woven,
+        out: &mut Entries,
+    ) -> Result<(), NoMemory>
+        requires listed { IsListed self.now.cards card }
+        requires awake { IsAwake unit.now live.old }
+        ensures told { (codes : List Code) (s : Source) (f : Flight) (of : Id) → Waits codes unit.now s f of live.old →
+            Tells result (λ t _. Waits codes unit.now t f of live.new) out.old out.new
+            (post_to (rules_of codes) script (data_event key.now (data_told (card_at self.now.cards card) line)) s) }
+        ensures awake { IsAwake unit.now live.new }
+        ensures machine { live.new.machine ≡ live.old.machine }
+    {
+        let event = self.event_of(key, card, line)?;
+        post_live(self.alloc, live, script, &event, unit, out)
+    }
+
+    // The event that tells of it.
+    fn event_of(&self, key: &Text, card: u32, line: Option<u32>) -> Result<Event, NoMemory>
+        requires { IsListed self.now.cards card }
+        ensures { IfOk result (λ event. event ≡ data_event key.now (data_told (card_at self.now.cards card) line)) }
+    {
+        let data = self.data_of(card, line)?;
+        data_event(self.alloc, key.copy()?, data)
     }
 
     // What is told of this line of a notecard, or of how many there are.

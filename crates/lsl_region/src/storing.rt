@@ -1,6 +1,7 @@
 //! Host calls on the store of an object.
 
 ghost use Rattle.std.specs.Prelude.{◌≡◌, ◌<◌, ℕ, [], false, pos, length, slice_get, Some, None, IfOk, IfSome, OnOk};
+ghost use Rattle.std.specs.Result.{result_map_both};
 ghost use Rattle.lsl_value.specs.declared.names.BuiltinId.{BuiltinId as Id};
 ghost use Rattle.lsl_value.specs.declared.names.BuiltinId.TheVariants as ids;
 ghost use Rattle.lsl_table.specs.declared.calls.Home.TheVariants as homes;
@@ -77,9 +78,8 @@ impl Grid {
         ensures machine { live.new.machine ≡ live.old.machine }
     {
         let change = self.change_store(place, id, args)?;
-        self.tell_object(place, live, &change.told, library, unit, out)?;
-        let Change { answer, told: _ } = change;
-        Ok(Reply::Value(answer))
+        let told = self.tell_object(place, live, &change.told, library, unit, out);
+        answered(change, told)
     }
 
     // All scripts of the object of the script at this place, which is out, are told, if of anything.
@@ -137,6 +137,16 @@ impl Grid {
     {
         let object = self.seats[place].object;
         changed(self.alloc, &mut self.objects[object].store, id, args)
+    }
+}
+
+// The answer of a change, once the scripts were told of it.
+fn answered(change: Change, told: Result<(), NoMemory>) -> Result<Reply, NoMemory>
+    ensures { result ≡ result_map_both (λ _. replies.Value change.answer) (λ error. error) told }
+{
+    match told {
+        Ok(()) => Ok(Reply::Value(change.answer)),
+        Err(error) => Err(error),
     }
 }
 

@@ -9,7 +9,8 @@ returns-in_err-post_one-clause-does c = λ m clock object prim w is st.
     let t = c.args.toucher.now in
     let old = c.args.out.now in
     MatchResult-from_err c.from_residual-in_err-post_one.result _ _ c.from_residual-in_err-post_one.ensures.0
-    (λ y. first-err codes m clock object prim t self w st old c.args.audience.now is c.post_one.new.out c.in_ok-start.start
+    (λ y. first-err codes m clock object prim t self w st old c.args.audience.now is
+    c.post_one.new.out c.in_ok-start.start
     c.in_ok-start.ensures
     (λ v k. c.in_err-post_one.ensures.does m clock v k))
 
@@ -19,7 +20,8 @@ returns-in_err-held-clause-does c = λ m clock object prim w is st.
     let self = c.args.self.now in
     let t = c.args.toucher.now in
     let old = c.args.out.now in
-    let a = first-ok codes m clock object prim t self w st old c.args.audience.now is c.post_one.new.self c.post_one.new.out
+    let a = first-ok codes m clock object prim t self w st old c.args.audience.now is
+    c.post_one.new.self c.post_one.new.out
     c.in_ok-start.start c.in_ok-start.ensures
     (λ v k. c.in_ok-post_one.ensures.does m clock v k) in
     MatchResult-from_err c.from_residual-in_err-held.result _ _ c.from_residual-in_err-held.ensures.0
@@ -31,11 +33,13 @@ returns-in_err-post_one-2-clause-does c = λ m clock object prim w is st.
     let self = c.args.self.now in
     let t = c.args.toucher.now in
     let old = c.args.out.now in
-    let a = first-ok codes m clock object prim t self w st old c.args.audience.now is c.post_one.new.self c.post_one.new.out
+    let a = first-ok codes m clock object prim t self w st old c.args.audience.now is
+    c.post_one.new.self c.post_one.new.out
     c.in_ok-start.start c.in_ok-start.ensures
     (λ v k. c.in_ok-post_one.ensures.does m clock v k) in
     MatchResult-from_err c.from_residual-in_err-post_one-2.result _ _ c.from_residual-in_err-post_one-2.ensures.0
-    (λ y. second-err codes m clock object prim t self w st old c.args.audience.now is c.post_one.new.self c.post_one.new.out a
+    (λ y. second-err codes m clock object prim t self w st old c.args.audience.now is
+    c.post_one.new.self c.post_one.new.out a
     c.post_one-2.new.out
     c.in_ok-held.held c.in_ok-held.ensures (λ v k. c.in_err-post_one-2.ensures.does m clock v k))
 
@@ -45,10 +49,12 @@ returns-in_err-end-clause-does c = λ m clock object prim w is st.
     let self = c.args.self.now in
     let t = c.args.toucher.now in
     let old = c.args.out.now in
-    let a = first-ok codes m clock object prim t self w st old c.args.audience.now is c.post_one.new.self c.post_one.new.out
+    let a = first-ok codes m clock object prim t self w st old c.args.audience.now is
+    c.post_one.new.self c.post_one.new.out
     c.in_ok-start.start c.in_ok-start.ensures
     (λ v k. c.in_ok-post_one.ensures.does m clock v k) in
-    let b = second-ok codes m clock object prim t self w st old c.args.audience.now is c.post_one.new.self c.post_one.new.out a
+    let b = second-ok codes m clock object prim t self w st old c.args.audience.now is
+    c.post_one.new.self c.post_one.new.out a
     c.post_one-2.new.self c.post_one-2.new.out
     c.in_ok-held.held c.in_ok-held.ensures (λ v k. c.in_ok-post_one-2.ensures.does m clock v k) in
     MatchResult-from_err c.from_residual-in_err-end.result _ _ c.from_residual-in_err-end.ensures.0
@@ -60,10 +66,12 @@ returns-clause-does c = λ m clock object prim w is st.
     let self = c.args.self.now in
     let t = c.args.toucher.now in
     let old = c.args.out.now in
-    let a = first-ok codes m clock object prim t self w st old c.args.audience.now is c.post_one.new.self c.post_one.new.out
+    let a = first-ok codes m clock object prim t self w st old c.args.audience.now is
+    c.post_one.new.self c.post_one.new.out
     c.in_ok-start.start c.in_ok-start.ensures
     (λ v k. c.in_ok-post_one.ensures.does m clock v k) in
-    let b = second-ok codes m clock object prim t self w st old c.args.audience.now is c.post_one.new.self c.post_one.new.out a
+    let b = second-ok codes m clock object prim t self w st old c.args.audience.now is
+    c.post_one.new.self c.post_one.new.out a
     c.post_one-2.new.self c.post_one-2.new.out
     c.in_ok-held.held c.in_ok-held.ensures (λ v k. c.in_ok-post_one-2.ensures.does m clock v k) in
     third codes m clock object prim t self w st old c.args.audience.now is c.post_one-2.new.self c.post_one-3.new.self
