@@ -194,7 +194,7 @@ module _ (bodies : List Body) (w : Body) (start : MachineCall) (low : List Value
     able_by _ e g = absurd (none-some x.on.way e)
 
     -- which finds what it needs
-    pub can_keep : s.active.place + 1 ≤ 4294967296 → CanKeep i s
+    pub can_keep : s.active.place + 1 < 4294967296 → CanKeep i s
     can_keep short = (low, with_slots x.c x.slots, x.hand, x.lies, able_by i way_here goes, short)
 
     one_step : (next : MachineCall) (more : List Value)

@@ -14,6 +14,7 @@ pub mod Exchanging
 pub mod Advancing
 pub mod Moving
 pub mod Halting
+pub mod Through
 pub mod Ticking
 pub mod Answering
 pub mod Beginning

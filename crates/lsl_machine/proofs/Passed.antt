@@ -94,6 +94,17 @@ pub ticks_of : (unit : Code) (n : ℕ) (s t : State) → PassesTicks unit n s t 
 ticks_of unit n s t (NoTick u) of = of
 ticks_of unit n s t (OneMore k u v w before one) of = one.of
 
+ticks_none : (unit : Code) (n : ℕ) (s t : State) → PassesTicks unit n s t → n ≡ 0 → s ≡ t
+ticks_none unit n s t (NoTick u) e = refl
+ticks_none unit n s t (OneMore k u v w before one) e = absurd (omega (arith, e))
+
+-- one tick
+pub ticks_one : (unit : Code) (n : ℕ) (s t : State) → PassesTicks unit n s t → n ≡ 1 → PassesTick unit s t
+ticks_one unit n s t (NoTick u) e = absurd (omega (arith, e))
+ticks_one unit n s t (OneMore k u v w before one) e =
+    let none : k ≡ 0 = omega (arith, e) in
+    subst (λ (x : State). PassesTick unit x w) (sym (ticks_none unit k u v before none)) one
+
 -- a machine that stands before a tick
 module _ (unit : Code) (r q : Running) (z : Standing) (old : State) (view : state_of r z ≡ old)
     (stands : old.standing ≡ standing.AtTick) (of : IsOf unit old) (n : ℕ) (many : PassesMany unit n r q) where

@@ -1,5 +1,5 @@
 -- Restoring goes on from instruction to instruction, up to its end.
-use Rattle.std.proofs.Common.{◌≡◌, ◌∙◌, refl, sym, ap, subst, arith, ℕ, ◌+◌, ◌*◌, ◌≤◌, true, false, Bool, List, [], ◌∷◌, ◌++◌, length, length-append, reverse, Option, Some, None, vec_capacity}
+use Rattle.std.proofs.Common.{◌≡◌, ◌∙◌, refl, sym, ap, subst, arith, ℕ, ◌+◌, ◌*◌, ◌<◌, ◌≤◌, true, false, Bool, List, [], ◌∷◌, ◌++◌, length, length-append, reverse, Option, Some, None, vec_capacity}
 use Rattle.std.specs.Prelude.{slice_get, option_map, sum_by}
 use Rattle.std.proofs.lemmas.List.Sums.{sum_by-cons}
 use Rattle.std.proofs.lemmas.Option.{none-some}
@@ -8,20 +8,21 @@ use Rattle.lsl_running.specs.declared.kept.Kept.{Kept}
 use Rattle.lsl_running.specs.Charging.{default_limit}
 use Rattle.lsl_code.specs.declared.frames.Frame.{Frame}
 use Rattle.lsl_code.specs.declared.instructions.Instr.{Instr}
+use Rattle.lsl_code.specs.declared.instructions.Instr.TheVariants.{Branch}
 use Rattle.lsl_code.specs.declared.woven_units.Woven.{Woven}
 use Rattle.lsl_code.specs.Bodies.{Body, instruction_in, instruction_at}
 use Rattle.lsl_code.specs.Frames.{AreFrames, AreValid, frame_charge, points_of}
-use Rattle.lsl_code.specs.Machine.{MachineCall, Machine, used_in}
+use Rattle.lsl_code.specs.Machine.{MachineCall, Machine, call_at, used_in}
 use Rattle.lsl_code.specs.ModeRuns.{BackRun, beside_of, whole}
 use Rattle.lsl_code.specs.Modes.{repeat}
-use Rattle.lsl_code.specs.Restoring.{Restoring, awake_with, blank, back_act, back_after, back_step, back_step_in, begins_restoring, unless_awake}
+use Rattle.lsl_code.specs.Restoring.{Restoring, awake_with, blank, back_act, back_after, back_step, back_step_in, begins_restoring, restoring, unless_awake}
 use Rattle.lsl_code.specs.Weaves.{bodies_of}
 use Rattle.lsl_code.proofs.ModeRuns.{runs_beside}
 use Rattle.lsl_code.proofs.Repeating.{then_one, one_end}
 use Rattle.lsl_weave.proofs.FramesBack.{woven_restores}
 use Rattle.lsl_machine.specs.declared.restoring.Restorer.{Restorer}
 use Rattle.lsl_machine.specs.declared.running.Running.{Running}
-use Rattle.lsl_machine.specs.CallsRestored.{Backs, CameTo, CanBack, HasCalls, IsRestored, IsRestoring, IsState, beside, next_of}
+use Rattle.lsl_machine.specs.CallsRestored.{Backs, CameTo, CanBack, HasCalls, HasPlace, IsRestored, IsRestoring, IsState, beside, next_of}
 use Rattle.lsl_machine.specs.Laid.{Lays, flat, machine_of}
 use Rattle.lsl_machine.specs.Rooms.{IsReserved}
 use Rattle.lsl_machine.proofs.BackCharged.{restored_charge}
@@ -202,13 +203,54 @@ module _ (unit : Woven) (handler : ℕ) (frames : List Frame) (kept : Kept)
           ∙ ap (λ o. back_after bodies (back_act (slice_get bodies at.c.function) o at.c x.state.point x.state.hand
           x.state.sack) at.outer x.state.point x.state.hand x.state.sack) (sym at_place ∙ here)
 
-      short : r.active.place + 1 ≤ 4294967296
-      short = by_body (slice_get bodies r.active.function) refl here
+      -- a place with an instruction can be numbered
+      numbered : (f place : ℕ) → (j : Instr) → instruction_at bodies f place ≡ Some j → place + 1 < 4294967296
+      numbered f place j = by_body (slice_get bodies f) refl
         where
-          by_body : (o : Option Body) → slice_get bodies r.active.function ≡ o
-              → instruction_in o r.active.place ≡ Some i → r.active.place + 1 ≤ 4294967296
+          by_body : (o : Option Body) → slice_get bodies f ≡ o → instruction_in o place ≡ Some j
+              → place + 1 < 4294967296
           by_body None e h = absurd cc
-          by_body (Some w) e h = place_short unit r.active.function w r.active.place i e h
+          by_body (Some w) e h = place_short unit f w place j e h
+
+      -- where a branch leads to an instruction restores as well
+      branched : i ≡ Branch → at.c.place + 1 + x.state.point < 4294967296
+      branched e =
+          let to = call_at at.c.function (at.c.place + 1 + x.state.point) at.c.slots at.c.operands in
+          let s = restoring (to ∷ at.outer) x.state.point x.state.hand x.state.sack in
+          let steps : back_step bodies x.state ≡ Some s = next_is
+          ∙ ap (λ j. next_of bodies j at.c at.outer x.state.point x.state.hand x.state.sack) e in
+          let after = next_there (back_step bodies) (k + 1) total.count (begins_restoring handler x.body frames) s
+          (awake_with total.calls total.point [] [])
+          (then_one (back_step bodies) k (begins_restoring handler x.body frames) x.state (Some s) x.ran steps) same_run
+          refl (λ d. let no : false ≡ true = ap (λ (t : Restoring). t.awake) d in absurd cc) in
+          by_instr (instruction_at bodies at.c.function (at.c.place + 1 + x.state.point)) refl after.0 after.1
+        where
+          by_instr : (o : Option Instr) → instruction_at bodies at.c.function (at.c.place + 1 + x.state.point) ≡ o
+              → (v : Restoring)
+              → back_step bodies (restoring (call_at at.c.function (at.c.place + 1 + x.state.point) at.c.slots
+              at.c.operands ∷ at.outer) x.state.point x.state.hand x.state.sack) ≡ Some v
+              → at.c.place + 1 + x.state.point < 4294967296
+          by_instr None e v d =
+              let to = call_at at.c.function (at.c.place + 1 + x.state.point) at.c.slots at.c.operands in
+              absurd (none-some v (sym (ap (λ o. back_after bodies (back_act (slice_get bodies at.c.function) o to
+              x.state.point x.state.hand x.state.sack) at.outer x.state.point x.state.hand x.state.sack) e) ∙ d))
+          by_instr (Some j) e v d =
+              let less = numbered at.c.function (at.c.place + 1 + x.state.point) j e in
+              omega arith
+
+      placed_here : HasPlace i r
+      placed_here = by_branch i refl
+        where
+          one : (j : Instr) → i ≡ j → r.active.place + 1 < 4294967296
+          one j e = numbered r.active.function r.active.place i here
+
+          by_branch : (j : Instr) → i ≡ j → HasPlace j r
+          by_branch Branch e =
+              let to = branched e in
+              let place = at.is.place in
+              let point = at.is.at_point in
+              omega arith
+          by_branch j e = one j e
 
       pub can_back : CanBack bodies i r
       can_back =
@@ -221,7 +263,7 @@ module _ (unit : Woven) (handler : ℕ) (frames : List Frame) (kept : Kept)
             n.0,
             at.is,
             sym next_is ∙ n.1,
-            short,
+            placed_here,
           )
 
       -- what the instruction comes to

@@ -1,5 +1,5 @@
 -- Calls are saved, one after another.
-use Rattle.std.proofs.Common.{◌≡◌, ◌∙◌, refl, sym, ap, subst, arith, ℕ, ◌+◌, ◌≤◌, List, [], ◌∷◌, ◌++◌, length, Some, None}
+use Rattle.std.proofs.Common.{◌<◌, ◌≡◌, ◌∙◌, refl, sym, ap, subst, arith, ℕ, ◌+◌, List, [], ◌∷◌, ◌++◌, length, Some, None}
 use Rattle.std.specs.Prelude.{sum_by}
 use Rattle.std.proofs.lemmas.List.{append-nil}
 use Rattle.std.proofs.lemmas.List.Sums.{sum_by-append}
@@ -241,7 +241,7 @@ rests_so unit r h rests =
     }
 
 module _ (unit : Woven) (r : Running) (x : Rests unit r) where
-  pub tick_short : r.active.place + 1 ≤ 4294967296
+  pub tick_short : r.active.place + 1 < 4294967296
   tick_short =
       let fit : IsAt (bodies_of unit) x.c x.c.place None x.rests.0 = x.rests.1 in
       let short = place_short unit x.c.function fit.body x.c.place (Tick x.rests.0) fit.found fit.here in

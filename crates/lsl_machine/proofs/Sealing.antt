@@ -1,5 +1,5 @@
 -- The call that a saver has in hand.
-use Rattle.std.proofs.Common.{◌≡◌, ◌∙◌, sym, ap, subst, arith, ℕ, suc, ◌+◌, ◌<◌, ◌≤◌, List, ◌++◌, length, reverse, take, Some, true}
+use Rattle.std.proofs.Common.{◌≡◌, ◌∙◌, sym, ap, subst, arith, ℕ, suc, ◌+◌, ◌<◌, List, ◌++◌, length, reverse, take, Some, true}
 use Rattle.std.specs.Prelude.{slice_get, nat_lt}
 use Rattle.std.proofs.lemmas.Option.{slice_get_within}
 use Rattle.std.proofs.lemmas.Bool.Decides.{nat_tests}
@@ -49,7 +49,7 @@ is_less m n e = grind (arith, nat_tests)
 
 -- a place of woven code can be numbered
 pub place_short : (unit : Woven) (f : ℕ) (w : Body) (place : ℕ) (i : Instr) → slice_get (bodies_of unit) f ≡ Some w
-    → slice_get w.code place ≡ Some i → place + 1 ≤ 4294967296
+    → slice_get w.code place ≡ Some i → place + 1 < 4294967296
 place_short unit f w place i found here =
     let short : length w.code < 4294967296 = is_less (length w.code) 4294967296
     (both_true _ _ (both_true _ _

@@ -81,7 +81,7 @@ tick_passed bodies r n h e a =
     ap (λ m. step bodies (with_answers a m)) v ∙ ap (λ x. after x g a f place sl ops outer) passes
     ∙ ap (λ m. Pauses (Passing (with_answers a m))) (sym w)
 
-pub place_small : (unit : Code) (r : Running) → Held r → IsKinded unit (machine_of r) → r.active.place + 1 < 2 ^ 64
+pub place_small : (unit : Code) (r : Running) → Held r → IsKinded unit (machine_of r) → r.active.place + 1 < 2 ^ 32
 place_small unit r h k =
     let v : machine_of r ≡ put h.0 [] h.1 h.2 h.3 h.4 h.5 = machine_view r h.0 (call_at h.1 h.2 h.3 h.4) h.5 h.6 in
     let kinded : IsKinded unit (put h.0 [] h.1 h.2 h.3 h.4 h.5) = subst (IsKinded unit) v k in

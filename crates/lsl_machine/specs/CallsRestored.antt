@@ -1,9 +1,10 @@
 -- How the calls that are restored lie on the stack, and what an instruction makes of them.
-use Rattle.std.specs.Prelude.{◌≡◌, ℕ, ◌+◌, ◌≤◌, Bool, List, [], ◌∷◌, ◌++◌, Option, Some, None, length, map, min, slice_get, vec_capacity}
+use Rattle.std.specs.Prelude.{◌≡◌, ℕ, ◌+◌, ◌<◌, Bool, List, [], ◌∷◌, ◌++◌, Option, Some, None, length, map, min, slice_get, vec_capacity}
 use Rattle.lsl_value.specs.declared.tagged.Value.{Value}
 use Rattle.lsl_running.specs.declared.kept.Kept.{Kept}
 use Rattle.lsl_code.specs.declared.frames.Frame.{Frame}
 use Rattle.lsl_code.specs.declared.instructions.Instr.{Instr}
+use Rattle.lsl_code.specs.declared.instructions.Instr.TheVariants.{Branch}
 use Rattle.lsl_code.specs.Bodies.{Body}
 use Rattle.lsl_code.specs.Machine.{MachineCall, base}
 use Rattle.lsl_code.specs.ModeRuns.{Beside, BackRun}
@@ -50,12 +51,17 @@ abbrev pub CameTo : List Body → Option Restoring → Bool → Restorer → Typ
 CameTo bodies None awake r = ⊥
 CameTo bodies (Some s) awake r = (s.awake ≡ awake) × IsState bodies r s
 
--- the instruction restores, and its place can be numbered
+-- the place behind the instruction can be numbered, and the one to which it branches
+abbrev pub HasPlace : Instr → Restorer → Type 0
+HasPlace Branch r = r.active.place + 1 + r.point < 4294967296
+HasPlace i r = r.active.place + 1 < 4294967296
+
+-- the instruction restores
 abbrev pub CanBack : List Body → Instr → Restorer → Type 0
 CanBack bodies i r =
     (c : MachineCall) × (outer : List MachineCall) × (point : ℕ) × (hand : List Value) × (sack : List Frame)
     × (s : Restoring) × IsRestoring bodies r c outer point hand sack
-    × (next_of bodies i c outer point hand sack ≡ Some s) × (r.active.place + 1 ≤ 4294967296)
+    × (next_of bodies i c outer point hand sack ≡ Some s) × HasPlace i r
 
 -- it did what it is to do
 abbrev pub Backs : List Body → Instr → Restorer → Bool → Restorer → Type 0

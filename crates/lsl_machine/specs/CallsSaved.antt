@@ -1,5 +1,5 @@
 -- How a call that is saved lies on the stack, and what saving it gives.
-use Rattle.std.specs.Prelude.{◌≡◌, ℕ, ◌+◌, ◌≤◌, List, [], ◌∷◌, ◌++◌, Option, Some, None, length, reverse, take, slice_set, sum_by}
+use Rattle.std.specs.Prelude.{◌≡◌, ℕ, ◌+◌, ◌<◌, List, [], ◌∷◌, ◌++◌, Option, Some, None, length, reverse, take, slice_set, sum_by}
 use Rattle.lsl_value.specs.declared.tagged.Value.{Value}
 use Rattle.lsl_running.specs.Charging.{charges_of, script_charge}
 use Rattle.lsl_running.specs.Values.{absent}
@@ -40,7 +40,7 @@ IsSaveAct NoSave = ⊥
 abbrev pub CanKeep : Instr → Saver → Type 0
 CanKeep i s =
     (low : List Value) × (c : MachineCall) × (hand : List Value) × HasCall s low c hand
-    × IsSaveAct (save_act (Some i) c hand) × (s.active.place + 1 ≤ 4294967296)
+    × IsSaveAct (save_act (Some i) c hand) × (s.active.place + 1 < 4294967296)
 
 -- a slot that was kept is empty
 abbrev pub vacated : Instr → MachineCall → MachineCall

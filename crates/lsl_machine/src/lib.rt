@@ -2,8 +2,7 @@
 //! definition comes to, and looks at nothing but the unit.
 #![tactic(auto)]
 
-ghost use Rattle.std.specs.Prelude.{◌≡◌, ◌≢◌, ◌<◌, ◌≤◌, [], ◌∷◌, ◌-◌, ◌+◌, ℕ, true, false, List, length, slice_get, IfOk, OnErr, OnOk};
-ghost use Rattle.lsl_value.specs.declared.tagged.Value.{Value as Tagged};
+ghost use Rattle.std.specs.Prelude.{◌≡◌, ◌≢◌, ◌<◌, ◌≤◌, [], ◌∷◌, ◌-◌, ◌+◌, ℕ, true, false, List, slice_get, IfOk, OnErr, OnOk};
 ghost use Rattle.lsl_running.specs.Charging.{default_limit};
 ghost use Rattle.lsl_running.specs.declared.host.Reply.{Reply};
 ghost use Rattle.lsl_running.specs.declared.host.Reply.TheVariants as reply;
@@ -167,11 +166,8 @@ impl Machine {
         ensures memory { result ≡ false → TakesNone (bodies_of unit.now) self.old →
             TakesNone (bodies_of unit.now) self.new }
     {
-        if self.running.goes_to_tick(unit) {
-            return true;
-        }
-        self.standing = Standing::Ready;
-        false
+        let (_, at_tick) = self.pass_ticks(unit, 1);
+        at_tick
     }
 
     /// Passes the tick before which the machine stands, and further ones, at most so many in all, while it meets nothing

@@ -1,6 +1,6 @@
 //! Restoring: the code of each frame's function makes the frame a call again.
 
-ghost use Rattle.std.specs.Prelude.{◌≡◌, ◌≤◌, ◌+◌, ◌-◌, ◌∷◌, ℕ, [], List, IfOk, OnOk, OnErr, Some, false, min, length, slice_get, option_copied, vec_capacity};
+ghost use Rattle.std.specs.Prelude.{◌≡◌, ◌<◌, ◌≤◌, ◌+◌, ◌-◌, ◌∷◌, ℕ, [], List, IfOk, OnOk, OnErr, Some, false, min, length, slice_get, option_copied, vec_capacity};
 ghost use Rattle.lsl_value.specs.declared.tagged.Value.{Value as Tagged};
 ghost use Rattle.lsl_running.specs.Charging.{default_limit};
 ghost use Rattle.lsl_code.specs.declared.frames.Frame.{Frame as SavedCall};
@@ -80,11 +80,11 @@ impl Restorer {
     {
         match instr {
             Instr::TestBack(to) => {
-                self.active.place = *to as usize;
+                self.active.place = *to;
                 Ok(false)
             }
             Instr::Jump(to) => {
-                self.active.place = *to as usize;
+                self.active.place = *to;
                 Ok(false)
             }
             Instr::Unpack => {
@@ -92,7 +92,7 @@ impl Restorer {
                 Ok(false)
             }
             Instr::Branch => {
-                self.active.place += 1 + self.point as usize;
+                self.active.place += 1 + self.point as u32;
                 Ok(false)
             }
             Instr::BackSlot(n) => {
@@ -190,7 +190,7 @@ impl Restorer {
     /// Goes on behind the instruction, or where the jump there leads.
     #[inline(always)]
     fn land(&mut self, unit: &Woven)
-        requires { self.old.active.place + 1 ≤ 4294967296 }
+        requires { self.old.active.place + 1 < 4294967296 }
         ensures { self.new ≡ record self.old {
           active = record self.old.active {
             place = landing_of
@@ -245,20 +245,23 @@ impl Restorer {
 }
 
 /// The place, or the one to which the jump there leads.
-fn landing(unit: &Woven, function: u16, place: usize) -> usize
+fn landing(unit: &Woven, function: u16, place: u32) -> u32
     ensures { result ≡ landing_of (instruction_at (bodies_of unit.now) function place) place }
 {
     match instruction(unit, function, place) {
-        Some(Instr::Jump(to)) => *to as usize,
+        Some(Instr::Jump(to)) => *to,
         _ => place,
     }
 }
 
 /// The instruction at this place of this function, if there is one.
-pub fn instruction(unit: &Woven, function: u16, place: usize) -> Option<&Instr>
+pub fn instruction(unit: &Woven, function: u16, place: u32) -> Option<&Instr>
     ensures { option_copied result ≡ instruction_at (bodies_of unit.now) function place }
 {
-    unit.functions.get(function as usize)?.code.get(place)
+    unit.functions
+        .get(function as usize)?
+        .code
+        .get(place as usize)
 }
 
 /// The machine that the unit's own code makes of these frames of the handler's function, beside these globals and this

@@ -8,7 +8,7 @@ use std::alloc::Global;
 #[derive(Clone, Copy)]
 pub struct Activation {
     pub function: u16,
-    pub place: usize,
+    pub place: u32,
     pub base: usize,
     pub floor: usize,
     pub charge: u64,

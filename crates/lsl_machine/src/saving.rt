@@ -43,7 +43,7 @@ impl Saver {
         };
         let end = function.code.len();
         for i in 0..end {
-            let Some(instr) = function.code.get(self.active.place) else {
+            let Some(instr) = function.code.get(self.active.place as usize) else {
                 unreachable!();
             };
             if let Some(point) = self.keep(instr)? {
@@ -64,11 +64,11 @@ impl Saver {
     {
         match instr {
             Instr::TestSave(to) => {
-                self.active.place = *to as usize;
+                self.active.place = *to;
                 Ok(None)
             }
             Instr::Jump(to) => {
-                self.active.place = *to as usize;
+                self.active.place = *to;
                 Ok(None)
             }
             Instr::KeepSlot(n) => {

@@ -17,13 +17,13 @@ charges_of-given-requires c =
     let lenis : c.len.result ≡ length st.items = c.len.ensures ∙ st.ok.0 in
     let len2 : c.len-2.result ≡ length st.items = c.len-2.ensures ∙ st.ok.0 in
     let dep = depth_is c.args.self.now h.0 h.1 h.2 h.3 h.4 h.5 h.8 in
-    let n : c.least.result ≡ length (take (length fn.params) h.4) =
-    n_is c.len-3.result c.least.result (c.len.result - c.args.self.now.active.floor) h.4 (omega arith)
-    c.least.ensures ∙ ap {A = ℕ} (λ k. length (take k h.4)) c.len-3.ensures in
-    let above : c.above.result.now ≡ drop (length st.items - c.least.result) st.items =
-    c.above.ensures ∙ ap {A = ℕ} (λ x. drop (x - c.least.result) c.as_slice.result.now) len2
-    ∙ ap (drop (length st.items - c.least.result)) c.as_slice.ensures.value in
-    let le = given_least c.args.self.now h.0 h.1 h.2 (length fn.params) c.least.result h.3 h.4 h.5 h.8 n in
+    let n : c.min.result ≡ length (take (length fn.params) h.4) =
+    n_is c.len-3.result c.min.result (c.len.result - c.args.self.now.active.floor) h.4 (omega arith)
+    c.min.ensures ∙ ap {A = ℕ} (λ k. length (take k h.4)) c.len-3.ensures in
+    let above : c.above.result.now ≡ drop (length st.items - c.min.result) st.items =
+    c.above.ensures ∙ ap {A = ℕ} (λ x. drop (x - c.min.result) c.as_slice.result.now) len2
+    ∙ ap (drop (length st.items - c.min.result)) c.as_slice.ensures.value in
+    let le = given_least c.args.self.now h.0 h.1 h.2 (length fn.params) c.min.result h.3 h.4 h.5 h.8 n in
     let a = le.0 in
     let b = le.1 in
     let q = ap charges_of above in
@@ -60,13 +60,13 @@ overflow_sub-caller c =
     let lenis : c.len.result ≡ length st.items = c.len.ensures ∙ st.ok.0 in
     let len2 : c.len-2.result ≡ length st.items = c.len-2.ensures ∙ st.ok.0 in
     let dep = depth_is c.args.self.now h.0 h.1 h.2 h.3 h.4 h.5 h.8 in
-    let n : c.least.result ≡ length (take (length fn.params) h.4) =
-    n_is c.len-3.result c.least.result (c.len.result - c.args.self.now.active.floor) h.4 (omega arith)
-    c.least.ensures ∙ ap {A = ℕ} (λ k. length (take k h.4)) c.len-3.ensures in
-    let above : c.above.result.now ≡ drop (length st.items - c.least.result) st.items =
-    c.above.ensures ∙ ap {A = ℕ} (λ x. drop (x - c.least.result) c.as_slice.result.now) len2
-    ∙ ap (drop (length st.items - c.least.result)) c.as_slice.ensures.value in
-    let le = given_least c.args.self.now h.0 h.1 h.2 (length fn.params) c.least.result h.3 h.4 h.5 h.8 n in
+    let n : c.min.result ≡ length (take (length fn.params) h.4) =
+    n_is c.len-3.result c.min.result (c.len.result - c.args.self.now.active.floor) h.4 (omega arith)
+    c.min.ensures ∙ ap {A = ℕ} (λ k. length (take k h.4)) c.len-3.ensures in
+    let above : c.above.result.now ≡ drop (length st.items - c.min.result) st.items =
+    c.above.ensures ∙ ap {A = ℕ} (λ x. drop (x - c.min.result) c.as_slice.result.now) len2
+    ∙ ap (drop (length st.items - c.min.result)) c.as_slice.ensures.value in
+    let le = given_least c.args.self.now h.0 h.1 h.2 (length fn.params) c.min.result h.3 h.4 h.5 h.8 n in
     let a = le.0 in
     let b = le.1 in
     let q = ap charges_of above in
@@ -115,12 +115,12 @@ returns-clause-done c point g f place sl ops outer h =
     let lenis : c.len.result ≡ length st.items = c.len.ensures ∙ st.ok.0 in
     let len2 : c.len-2.result ≡ length st.items = c.len-2.ensures ∙ st.ok.0 in
     let dep = depth_is c.args.self.now g f place sl ops outer h in
-    let n : c.least.result ≡ length (take (length fn.params) ops) =
-    n_is c.len-3.result c.least.result (c.len.result - c.args.self.now.active.floor) ops (omega arith)
-    c.least.ensures ∙ ap {A = ℕ} (λ k. length (take k ops)) c.len-3.ensures in
-    let above : c.above.result.now ≡ drop (length st.items - c.least.result) st.items =
-    c.above.ensures ∙ ap {A = ℕ} (λ x. drop (x - c.least.result) c.as_slice.result.now) len2
-    ∙ ap (drop (length st.items - c.least.result)) c.as_slice.ensures.value in
+    let n : c.min.result ≡ length (take (length fn.params) ops) =
+    n_is c.len-3.result c.min.result (c.len.result - c.args.self.now.active.floor) ops (omega arith)
+    c.min.ensures ∙ ap {A = ℕ} (λ k. length (take k ops)) c.len-3.ensures in
+    let above : c.above.result.now ≡ drop (length st.items - c.min.result) st.items =
+    c.above.ensures ∙ ap {A = ℕ} (λ x. drop (x - c.min.result) c.as_slice.result.now) len2
+    ∙ ap (drop (length st.items - c.min.result)) c.as_slice.ensures.value in
     let kd : c.behind-kinds.result.now ≡ drop (length fn.params) fn.slots = c.behind-kinds.ensures
     ∙ ap {A = ℕ} (λ k. drop k c.as_slice-2.result.now) c.len-4.ensures
     ∙ ap (drop (length fn.params)) c.as_slice-2.ensures in
@@ -132,7 +132,7 @@ returns-clause-done c point g f place sl ops outer h =
     } in
     let pushed = c.push_reserved.ensures.items ∙ ap (λ l. l ++ caller ∷ []) c.reserve_more.ensures.items in
     entered_in c.args.self.now _ (map woven_body c.args.functions.now) fn c.args.callee
-    (32 + c.empties_charge-more.result) c.charges_of-given.result c.least.result _ g f place sl ops outer h
+    (32 + c.empties_charge-more.result) c.charges_of-given.result c.min.result _ g f place sl ops outer h
     (body_at c.args.functions.now c.args.callee c.index-functions-callee.result c.if-callee-functions.false
     c.index-functions-callee.is)
     (ap {A = ℕ} (λ k. 32 + k) (c.empties_charge-more.ensures.value ∙ ap (λ l. charges_of (map empty_of l)) kd))
@@ -142,7 +142,7 @@ returns-clause-done c point g f place sl ops outer h =
     (λ x. record {
       function = c.args.callee;
       place = 0;
-      base = x - c.least.result;
+      base = x - c.min.result;
       floor =
           c.len-5.result;
       charge = c.args.self.now.active.charge + (32 + c.empties_charge-more.result);
@@ -151,7 +151,7 @@ returns-clause-done c point g f place sl ops outer h =
     (λ x. record {
       function = c.args.callee;
       place = 0;
-      base = length st.items - c.least.result;
+      base = length st.items - c.min.result;
       floor =
           x;
       charge = c.args.self.now.active.charge + (32 + c.empties_charge-more.result);

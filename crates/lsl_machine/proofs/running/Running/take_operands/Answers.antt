@@ -10,14 +10,14 @@ charges_of-requires c =
     let lenis : c.len.result ≡ length st.items = c.len.ensures ∙ st.ok.0 in
     let len2 : c.len-2.result ≡ length st.items = c.len-2.ensures ∙ st.ok.0 in
     let dep = depth_is c.args.self.now h.0 h.1 h.2 h.3 h.4 h.5 h.6 in
-    let n = n_is c.args.count c.least.result (c.len.result - c.args.self.now.active.floor) h.4 (omega arith)
-    c.least.ensures in
-    let vals : c.as_slice.result.now ≡ drop (c.len-2.result - c.least.result) st.items = c.as_slice.ensures.value
+    let n = n_is c.args.count c.min.result (c.len.result - c.args.self.now.active.floor) h.4 (omega arith)
+    c.min.ensures in
+    let vals : c.as_slice.result.now ≡ drop (c.len-2.result - c.min.result) st.items = c.as_slice.ensures.value
     ∙ c.in_ok-values.ensures.tail in
-    let le = given_least c.args.self.now h.0 h.1 h.2 c.args.count c.least.result h.3 h.4 h.5 h.6 n in
+    let le = given_least c.args.self.now h.0 h.1 h.2 c.args.count c.min.result h.3 h.4 h.5 h.6 n in
     let a = le.0 in
     let b = le.1 in
-    let d = ap charges_of (vals ∙ ap {A = ℕ} (λ x. drop (x - c.least.result) st.items) len2) in
+    let d = ap charges_of (vals ∙ ap {A = ℕ} (λ x. drop (x - c.min.result) st.items) len2) in
     omega arith
 
 pub overflow_sub-self : goal.overflow_sub-self
@@ -27,14 +27,14 @@ overflow_sub-self c =
     let lenis : c.len.result ≡ length st.items = c.len.ensures ∙ st.ok.0 in
     let len2 : c.len-2.result ≡ length st.items = c.len-2.ensures ∙ st.ok.0 in
     let dep = depth_is c.args.self.now h.0 h.1 h.2 h.3 h.4 h.5 h.6 in
-    let n = n_is c.args.count c.least.result (c.len.result - c.args.self.now.active.floor) h.4 (omega arith)
-    c.least.ensures in
-    let vals : c.as_slice.result.now ≡ drop (c.len-2.result - c.least.result) st.items = c.as_slice.ensures.value
+    let n = n_is c.args.count c.min.result (c.len.result - c.args.self.now.active.floor) h.4 (omega arith)
+    c.min.ensures in
+    let vals : c.as_slice.result.now ≡ drop (c.len-2.result - c.min.result) st.items = c.as_slice.ensures.value
     ∙ c.in_ok-values.ensures.tail in
-    let le = given_least c.args.self.now h.0 h.1 h.2 c.args.count c.least.result h.3 h.4 h.5 h.6 n in
+    let le = given_least c.args.self.now h.0 h.1 h.2 c.args.count c.min.result h.3 h.4 h.5 h.6 n in
     let a = le.0 in
     let b = le.1 in
-    let d = ap charges_of (vals ∙ ap {A = ℕ} (λ x. drop (x - c.least.result) st.items) len2) in
+    let d = ap charges_of (vals ∙ ap {A = ℕ} (λ x. drop (x - c.min.result) st.items) len2) in
     let e = c.charges_of.ensures in
     omega arith
 
@@ -44,15 +44,15 @@ returns-clause-taken c g f place sl ops outer h =
     let lenis : c.len.result ≡ length st.items = c.len.ensures ∙ st.ok.0 in
     let len2 : c.len-2.result ≡ length st.items = c.len-2.ensures ∙ st.ok.0 in
     let dep = depth_is c.args.self.now g f place sl ops outer h in
-    let n = n_is c.args.count c.least.result (c.len.result - c.args.self.now.active.floor) ops (omega arith)
-    c.least.ensures in
-    let vals : c.as_slice.result.now ≡ drop (c.len-2.result - c.least.result) st.items = c.as_slice.ensures.value
+    let n = n_is c.args.count c.min.result (c.len.result - c.args.self.now.active.floor) ops (omega arith)
+    c.min.ensures in
+    let vals : c.as_slice.result.now ≡ drop (c.len-2.result - c.min.result) st.items = c.as_slice.ensures.value
     ∙ c.in_ok-values.ensures.tail in (
-      c.in_ok-values.ensures.tail ∙ ap {A = ℕ} (λ x. drop (x - c.least.result) st.items) len2
-          ∙ taken_items c.args.self.now g f place c.least.result c.args.count sl ops outer h n,
-      taken_lays c.args.self.now _ g f place c.least.result c.args.count c.charges_of.result sl ops outer h n
-          (c.in_ok-values.ensures.items ∙ ap {A = ℕ} (λ x. take (x - c.least.result) st.items) len2)
-          (c.charges_of.ensures ∙ ap charges_of (vals ∙ ap {A = ℕ} (λ x. drop (x - c.least.result) st.items) len2))
+      c.in_ok-values.ensures.tail ∙ ap {A = ℕ} (λ x. drop (x - c.min.result) st.items) len2
+          ∙ taken_items c.args.self.now g f place c.min.result c.args.count sl ops outer h n,
+      taken_lays c.args.self.now _ g f place c.min.result c.args.count c.charges_of.result sl ops outer h n
+          (c.in_ok-values.ensures.items ∙ ap {A = ℕ} (λ x. take (x - c.min.result) st.items) len2)
+          (c.charges_of.ensures ∙ ap charges_of (vals ∙ ap {A = ℕ} (λ x. drop (x - c.min.result) st.items) len2))
           refl refl refl refl refl,
     )
 
@@ -63,9 +63,9 @@ returns-clause-held c =
     let lenis : c.len.result ≡ length st.items = c.len.ensures ∙ st.ok.0 in
     let len2 : c.len-2.result ≡ length st.items = c.len-2.ensures ∙ st.ok.0 in
     let dep = depth_is c.args.self.now h.0 h.1 h.2 h.3 h.4 h.5 h.6 in
-    let n = n_is c.args.count c.least.result (c.len.result - c.args.self.now.active.floor) h.4 (omega arith)
-    c.least.ensures in
-    let vals : c.as_slice.result.now ≡ drop (c.len-2.result - c.least.result) st.items = c.as_slice.ensures.value
+    let n = n_is c.args.count c.min.result (c.len.result - c.args.self.now.active.floor) h.4 (omega arith)
+    c.min.ensures in
+    let vals : c.as_slice.result.now ≡ drop (c.len-2.result - c.min.result) st.items = c.as_slice.ensures.value
     ∙ c.in_ok-values.ensures.tail in (
       h.0,
       h.1,
@@ -73,10 +73,10 @@ returns-clause-held c =
       h.3,
       drop c.args.count h.4,
       h.5,
-      taken_lays c.args.self.now _ h.0 h.1 h.2 c.least.result
+      taken_lays c.args.self.now _ h.0 h.1 h.2 c.min.result
           c.args.count c.charges_of.result h.3 h.4 h.5 h.6 n
-          (c.in_ok-values.ensures.items ∙ ap {A = ℕ} (λ x. take (x - c.least.result) st.items) len2)
-          (c.charges_of.ensures ∙ ap charges_of (vals ∙ ap {A = ℕ} (λ x. drop (x - c.least.result) st.items) len2))
+          (c.in_ok-values.ensures.items ∙ ap {A = ℕ} (λ x. take (x - c.min.result) st.items) len2)
+          (c.charges_of.ensures ∙ ap charges_of (vals ∙ ap {A = ℕ} (λ x. drop (x - c.min.result) st.items) len2))
           refl refl refl refl refl,
     )
 
@@ -87,13 +87,13 @@ returns-clause-small c =
     let lenis : c.len.result ≡ length st.items = c.len.ensures ∙ st.ok.0 in
     let len2 : c.len-2.result ≡ length st.items = c.len-2.ensures ∙ st.ok.0 in
     let dep = depth_is c.args.self.now h.0 h.1 h.2 h.3 h.4 h.5 h.6 in
-    let n = n_is c.args.count c.least.result (c.len.result - c.args.self.now.active.floor) h.4 (omega arith)
-    c.least.ensures in
-    let vals : c.as_slice.result.now ≡ drop (c.len-2.result - c.least.result) st.items = c.as_slice.ensures.value
+    let n = n_is c.args.count c.min.result (c.len.result - c.args.self.now.active.floor) h.4 (omega arith)
+    c.min.ensures in
+    let vals : c.as_slice.result.now ≡ drop (c.len-2.result - c.min.result) st.items = c.as_slice.ensures.value
     ∙ c.in_ok-values.ensures.tail in
-    let le = given_least c.args.self.now h.0 h.1 h.2 c.args.count c.least.result h.3 h.4 h.5 h.6 n in
+    let le = given_least c.args.self.now h.0 h.1 h.2 c.args.count c.min.result h.3 h.4 h.5 h.6 n in
     let a = le.0 in
     let b = le.1 in
-    let d = ap charges_of (vals ∙ ap {A = ℕ} (λ x. drop (x - c.least.result) st.items) len2) in
+    let d = ap charges_of (vals ∙ ap {A = ℕ} (λ x. drop (x - c.min.result) st.items) len2) in
     let e = ap charges_of c.as_slice.ensures.value in
     omega arith
