@@ -1,6 +1,6 @@
 //! A world is frozen as an image, and thawed from one.
 
-ghost use Rattle.std.specs.Prelude.{◌≡◌, List, length, map, IfErr, IfOk, MatchResult};
+ghost use Rattle.std.specs.Prelude.{◌≡◌, ◌≤◌, List, [], length, map, IfErr, IfOk, MatchResult, OnOk};
 ghost use Rattle.lsl_text.specs.declared.Refusal.TheVariants.{NoMemory as WantsMemory};
 ghost use Rattle.lsl_image.specs.declared.faults.ImageFault.{ImageFault as AFault};
 ghost use Rattle.lsl_image.specs.declared.parts.WorldParts.{WorldParts as TheParts};
@@ -9,8 +9,10 @@ ghost use Rattle.lsl_image.specs.Bytes.{world_image};
 ghost use Rattle.lsl_image.specs.Images.{WorldFirst, WorldImage};
 ghost use Rattle.lsl_image.specs.Reading.{IsRefusedBy};
 ghost use Rattle.lsl_image.specs.Valid.{IsWorld, placed_shape, shapes_of};
+ghost use Rattle.lsl_post.specs.Timing.{latest_clock};
 ghost use Rattle.lsl_tree.specs.Program.{Program};
 ghost use Rattle.lsl_region.specs.GridParts.{fixed_in, fixed_of, placed_in};
+ghost use Rattle.lsl_region.specs.Grids.{AreSeated};
 ghost use Rattle.lsl_region.specs.Pausing.{Counts, no_tally};
 ghost use Rattle.lsl_region.specs.Worlds.{World as SourceWorld};
 ghost use Rattle.lsl_world.specs.Codes.{AreRunBy};
@@ -19,17 +21,20 @@ ghost use Rattle.lsl_world.specs.Programs.{rules_of};
 ghost use Rattle.lsl_world.specs.Ranges.{IsInRange};
 ghost use Rattle.lsl_world.specs.Sizes.{size_of_file};
 ghost use Rattle.lsl_world.specs.Sound.{IsSound};
-ghost use Rattle.lsl_world.specs.Stands.{IsOf, size_of};
+ghost use Rattle.lsl_world.specs.Stands.{IsOf, prims_of, size_of};
 ghost use Rattle.lsl_world.specs.Starts.{start};
+ghost use Rattle.lsl_world.specs.Timers.{AreNumbered};
+ghost use Rattle.lsl_world.specs.declared.world.World.{World as TheWorld};
 
 use crate::naming::Regions;
-use crate::starting::grid_of;
-use crate::timers::index_of;
+use crate::starting::add_objects;
+use crate::timers::note_timers;
 use crate::world::World;
 use lsl_code::Library;
 use lsl_image::{ImageFault, WorldParts, read_world, write_world};
 use lsl_lines::WorldFile;
 use lsl_notes::Cards;
+use lsl_post::Due;
 use lsl_region::{Grid, Pause};
 use lsl_text::{NoMemory, Refusal};
 use std::alloc::Global;
@@ -91,21 +96,75 @@ impl World {
         ensures units { IfOk result (λ world. world.units ≡ units) }
         ensures plain { IfOk result (λ world. world.cards ≡ None) }
     {
-        let mut grid = grid_of(alloc, file.objects.as_slice(), &units, cards)?;
-        let WorldParts { clock, objects } = read_parts(alloc, &grid, &units, bytes)?;
-        grid.thaw(objects, &units)?;
-        let due = index_of(alloc, &grid)?;
-        Ok(World {
+        let mut world = World {
             alloc,
-            clock,
-            grid,
+            clock: 0,
+            grid: Grid::new(alloc),
             units,
             pause: Pause::off(alloc),
-            due,
+            due: Due::new(alloc),
             regions: Regions::new(alloc),
             cards: None,
-        })
+        };
+        match restore(
+            alloc,
+            file,
+            &world.units,
+            cards,
+            bytes,
+            &mut world.grid,
+            &mut world.due,
+        ) {
+            Ok(clock) => {
+                world.clock = clock;
+                Ok(world)
+            }
+            Err(refusal) => Err(refusal),
+        }
     }
+}
+
+// What these bytes are an image of comes to where there is nothing, and its clock is given.
+fn restore(
+    alloc: Global,
+    file: &WorldFile,
+    units: &Library,
+    cards: Cards,
+    bytes: &[u8],
+    grid: &mut Grid,
+    due: &mut Due,
+) -> Result<u64, Refusal<ImageFault>>
+    requires file { IsInRange file.now }
+    requires units { length units.now ≡ length file.now.files }
+    requires no_object { grid.old.objects ≡ [] }
+    requires no_script { grid.old.seats ≡ [] }
+    requires no_time { due.old ≡ [] }
+    ensures found { IfOk result (λ clock.
+        IsImageIn units.now file.now (record { clock = clock; objects = placed_in grid.new }) bytes.now) }
+    ensures every { (parts : TheParts) → IsImageIn units.now file.now parts bytes.now → MatchResult result
+        (λ clock. parts ≡ record { clock = clock; objects = placed_in grid.new })
+        (λ refusal. refusal ≡ WantsMemory) }
+    ensures first { IfErr result (IsRefusedBy (WorldFirst (shapes_of_file file.now) units.now bytes.now)) }
+    ensures only { (fault : AFault) → WorldFirst (shapes_of_file file.now) units.now bytes.now fault
+        → RefusesWith result fault }
+    ensures of { (programs : List Program) (w : SourceWorld) (world : TheWorld) → AreRunBy programs units.now
+        → AgreesWith programs file.now cards w → IsImageIn units.now file.now (parts_of_world units.now w) bytes.now
+        → world.units ≡ units.now → world.grid ≡ grid.new → world.due ≡ due.new
+        → IfOk result (λ clock. world.clock ≡ clock → IsOf programs world w) }
+    ensures fixed { (programs : List Program) → AreRunBy programs units.now
+        → OnOk result (fixed_of grid.new ≡ fixed_in (start (rules_of programs) file.now cards)) }
+    ensures size { OnOk result (size_of_file file.now
+        ≡ record { prims = map prims_of grid.new.objects; scripts = length grid.new.seats }) }
+    ensures seated { OnOk result (AreSeated units.now grid.new.seats) }
+    ensures timely { IfOk result (λ clock. clock ≤ latest_clock) }
+    ensures numbered { OnOk result (AreNumbered (length grid.new.seats) due.new) }
+{
+    add_objects(alloc, grid, file.objects.as_slice(), units)?;
+    grid.hold(cards);
+    let WorldParts { clock, objects } = read_parts(alloc, grid, units, bytes)?;
+    grid.thaw(objects, units)?;
+    note_timers(grid, due)?;
+    Ok(clock)
 }
 
 // The parts of which these bytes are an image, where the objects have the shapes of the grid's, or the first fault of

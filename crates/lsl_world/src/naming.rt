@@ -1,6 +1,6 @@
 //! The regions that a file names.
 
-ghost use Rattle.std.specs.Prelude.{◌≡◌, ◌<◌, ◌^◌, [], fold, IfOk, OnOk, length};
+ghost use Rattle.std.specs.Prelude.{◌≡◌, ◌<◌, ◌^◌, [], fold, OnOk, length};
 ghost use Rattle.lsl_handoff.specs.Fields.{IsOneOf};
 ghost use Rattle.lsl_world.specs.Regions.{name_in, number_of, regions_of_file, way_between, with_object, with_region, with_step};
 
@@ -37,14 +37,13 @@ impl Regions {
         }
     }
 
-    /// The regions that a file names, each once, in the order of first naming.
-    pub(crate) fn of(alloc: Global, file: &WorldFile) -> Result<Regions, NoMemory>
-        ensures regions { IfOk result (λ regions. regions ≡ regions_of_file file.now) }
+    /// No region becomes those that a file names, each once, in the order of first naming.
+    pub(crate) fn add_file(&mut self, file: &WorldFile) -> Result<(), NoMemory>
+        requires none { self.old ≡ [] }
+        ensures regions { OnOk result (self.new ≡ regions_of_file file.now) }
     {
-        let mut regions = Regions::new(alloc);
-        regions.add_objects(file.objects.as_slice())?;
-        regions.add_steps(file.steps.as_slice())?;
-        Ok(regions)
+        self.add_objects(file.objects.as_slice())?;
+        self.add_steps(file.steps.as_slice())
     }
 
     // Adds the regions of objects.

@@ -1,6 +1,6 @@
 //! Steps in parts: what a part told can be written before the next one is done.
 
-ghost use Rattle.std.specs.Prelude.{◌≡◌, ◌≤◌, ℕ, List, None, IfOk, IfSome, OnOk, length};
+ghost use Rattle.std.specs.Prelude.{◌≡◌, ◌≤◌, List, None, IfOk, IfSome, OnOk, length};
 ghost use Rattle.lsl_ports.specs.Trips.{Trip, Went};
 ghost use Rattle.lsl_tree.specs.Program.{Program};
 ghost use Rattle.lsl_lines.specs.declared.file.Step.TheVariants as steps;
@@ -62,36 +62,11 @@ impl World {
         match step {
             Step::Go(script, most) => self.go_part(*script, *most, out),
             Step::Run(most) => self.run_part(*most, out),
-            _ => self.whole_step(step, link, out),
+            _ => {
+                self.step(step, link, out)?;
+                Ok(None)
+            }
         }
-    }
-
-    // Does a step as one part.
-    fn whole_step<L: Link>(
-        &mut self,
-        step: &Step,
-        link: &mut L,
-        out: &mut Entries,
-    ) -> Result<Option<Step>, NoMemory>
-        requires sound { IsSound self.old }
-        requires step { IsStepOf (size_of self.old) step.now }
-        requires carded { AreCarded self.old }
-        requires named { CanHand self.old step.now }
-        ensures at { (trips : List Trip) × Went L.gives (L.trips link.old) (L.trips link.new) trips
-            × ((programs : List Program) (stage : Stage) → IsAt programs self.old stage → IsFairFrom stage trips
-            → DoesPartAt self.old.units (rules_of programs) self.old.regions (λ s. IsAt programs self.new s) step.now
-            stage trips out.old out.new result) }
-        ensures rest { IfOk result (λ left. left ≡ None) }
-        ensures plain { self.old.cards ≡ None → self.new.cards ≡ None }
-        ensures carded { OnOk result (AreCarded self.new) }
-        ensures regions { self.new.regions ≡ self.old.regions }
-        ensures units { self.new.units ≡ self.old.units }
-        ensures size { OnOk result (size_of self.new ≡ size_of self.old) }
-        ensures sound { OnOk result (IsSound self.new) }
-        ensures counted { L.faults link.old ≤ L.faults link.new }
-    {
-        self.step(step, link, out)?;
-        Ok(None)
     }
 
     // Segments of a script, at most so many, or the first of them.

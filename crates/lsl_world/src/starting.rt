@@ -10,33 +10,31 @@ ghost use Rattle.lsl_world.specs.Starts.{object_of_line, prim_of_line};
 use lsl_code::Library;
 use lsl_data::Store;
 use lsl_lines::{ObjectLine, PrimLine, ScriptLine};
-use lsl_notes::Cards;
 use lsl_region::{Grid, Linkset, Prims, Seat};
 use lsl_script::Script;
 use lsl_text::NoMemory;
 use std::alloc::Global;
 
-/// The grid of these objects and notecards, each script at its start.
-pub(crate) fn grid_of(
+/// Adds these objects to a grid in which there is nothing, each script at its start.
+pub(crate) fn add_objects(
     alloc: Global,
+    grid: &mut Grid,
     lines: &[ObjectLine],
     units: &Library,
-    cards: Cards,
-) -> Result<Grid, NoMemory>
+) -> Result<(), NoMemory>
     requires few_objects { length lines.now ≤ 64 }
     requires few_scripts { scripts_of lines.now ≤ 256 }
     requires fit { All (IsObjectOf (length units.now)) lines.now }
-    ensures objects { IfOk result (λ grid. grid.objects ≡ map object_of_line lines.now) }
-    ensures seats { IfOk result (λ grid. grid.seats ≡ seats_of_objects units.now 0 lines.now) }
-    ensures cards { IfOk result (λ grid. grid.cards ≡ cards) }
-    ensures seated { IfOk result (λ grid. AreSeated units.now grid.seats) }
+    requires no_object { grid.old.objects ≡ [] }
+    requires no_script { grid.old.seats ≡ [] }
+    ensures objects { OnOk result (grid.new.objects ≡ map object_of_line lines.now) }
+    ensures seats { OnOk result (grid.new.seats ≡ seats_of_objects units.now 0 lines.now) }
+    ensures seated { OnOk result (AreSeated units.now grid.new.seats) }
 {
-    let mut grid = Grid::new(alloc);
     for line in lines {
-        add_object(alloc, &mut grid, line, units)?;
+        add_object(alloc, grid, line, units)?;
     }
-    grid.hold(cards);
-    Ok(grid)
+    Ok(())
 }
 
 // Adds an object with its scripts.
@@ -124,11 +122,12 @@ fn first_seat(
     ensures seat { IfOk result (λ seat. seat ≡ seat_of_line units.now object prim line.now) }
     ensures seated { IfOk result (IsSeated units.now) }
 {
+    let name = line.name.copy()?;
     let script = Script::new(alloc, line.file, units.unit(line.file))?;
     Ok(Seat {
         object,
         prim,
-        name: line.name.copy()?,
+        name,
         unit: line.file,
         script: Some(script),
     })

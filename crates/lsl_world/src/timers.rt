@@ -1,6 +1,6 @@
 //! The index of due times, kept in step with the scripts' timers.
 
-ghost use Rattle.std.specs.Prelude.{◌≡◌, ℕ, List, None, length, IfOk, OnOk};
+ghost use Rattle.std.specs.Prelude.{◌≡◌, ℕ, List, None, length, OnOk};
 ghost use Rattle.lsl_code.specs.declared.woven_units.Woven.{Woven as Code};
 ghost use Rattle.lsl_post.specs.Due.{Puts};
 ghost use Rattle.lsl_region.specs.Grids.{Stands};
@@ -11,18 +11,6 @@ ghost use Rattle.lsl_world.specs.Timers.{AreNumbered, IsIndexOf, due_of, timings
 use lsl_post::Due;
 use lsl_region::Grid;
 use lsl_text::NoMemory;
-use std::alloc::Global;
-
-/// When the scripts of this grid are due.
-pub(crate) fn index_of(alloc: Global, grid: &Grid) -> Result<Due, NoMemory>
-    ensures exact { IfOk result (λ due. (codes : List Code) (clock : ℕ) (w : SourceWorld)
-        → Stands codes None clock grid.now w → IsIndexOf (timings_of w) due) }
-    ensures numbered { IfOk result (AreNumbered (length grid.now.seats)) }
-{
-    let mut due = Due::new(alloc);
-    note_timers(grid, &mut due)?;
-    Ok(due)
-}
 
 /// The entries of all scripts become what their timers say. Walks the scripts.
 pub(crate) fn note_timers(grid: &Grid, due: &mut Due) -> Result<(), NoMemory>

@@ -1,10 +1,12 @@
 //! A world in memory.
 
-ghost use Rattle.std.specs.Prelude.{◌≡◌, ℕ, List, None, Some, length, min, All, IfOk};
+ghost use Rattle.std.specs.Prelude.{◌≡◌, ℕ, List, [], None, Some, length, map, min, All, IfOk, OnOk};
+ghost use Rattle.lsl_code.specs.declared.woven_units.Woven.{Woven as Code};
 ghost use Rattle.lsl_handoff.specs.declared.card.Card.{Card};
 ghost use Rattle.lsl_ports.specs.Trips.{Trip, Went};
 ghost use Rattle.lsl_post.specs.Journal.{Adds};
 ghost use Rattle.lsl_tree.specs.Program.{Program};
+ghost use Rattle.lsl_region.specs.Grids.{AreSeated, Stands};
 ghost use Rattle.lsl_region.specs.Pausing.{Counts, Tally, most_saves, no_tally};
 ghost use Rattle.lsl_region.specs.Worlds.{World as SourceWorld};
 ghost use Rattle.lsl_world.specs.Codes.{AreRunBy};
@@ -16,14 +18,16 @@ ghost use Rattle.lsl_world.specs.Programs.{rules_of};
 ghost use Rattle.lsl_world.specs.Ranges.{IsInRange};
 ghost use Rattle.lsl_world.specs.Regions.{AreInNamed, LeadsToNamed, regions_of_file};
 ghost use Rattle.lsl_world.specs.Reports.{homes};
+ghost use Rattle.lsl_world.specs.Seats.{seats_of_objects};
 ghost use Rattle.lsl_world.specs.Sizes.{size_of_file};
 ghost use Rattle.lsl_world.specs.Sound.{IsSound};
 ghost use Rattle.lsl_world.specs.Stands.{IsOf, size_of};
-ghost use Rattle.lsl_world.specs.Starts.{start};
+ghost use Rattle.lsl_world.specs.Starts.{object_of_line, start};
+ghost use Rattle.lsl_world.specs.Timers.{AreNumbered, IsIndexOf, timings_of};
 
 use crate::naming::Regions;
-use crate::starting::grid_of;
-use crate::timers::index_of;
+use crate::starting::add_objects;
+use crate::timers::note_timers;
 use lsl_code::Library;
 use lsl_handoff::Field;
 use lsl_lines::WorldFile;
@@ -36,7 +40,6 @@ use std::alloc::Global;
 /// The reading of the clock, the objects of a world file, the units of its scripts' files, at which segments scripts are
 /// saved and restored, and when the timers that run are due; the regions that the file names, and where objects are
 /// handed over by notes the cards of all regions.
-#[derive(Drop)]
 pub struct World {
     pub(crate) alloc: Global,
     pub(crate) clock: u64,
@@ -46,6 +49,22 @@ pub struct World {
     pub(crate) due: Due,
     pub(crate) regions: Regions,
     pub(crate) cards: Option<Field>,
+}
+
+// Takes the world apart in one place: whatever drops a world calls this, and is proved without its fields.
+impl Drop for World {
+    fn drop(self) {
+        let World {
+            alloc: _,
+            clock: _,
+            grid: _,
+            units: _,
+            pause: _,
+            due: _,
+            regions: _,
+            cards: _,
+        } = self;
+    }
 }
 
 impl World {
@@ -70,19 +89,26 @@ impl World {
         ensures regions { IfOk result (λ world. world.regions ≡ regions_of_file file.now) }
         ensures named { IfOk result (λ world. All (LeadsToNamed world.regions) file.now.steps) }
     {
-        let grid = grid_of(alloc, file.objects.as_slice(), &units, cards)?;
-        let due = index_of(alloc, &grid)?;
-        let regions = Regions::of(alloc, file)?;
-        Ok(World {
+        let mut world = World {
             alloc,
             clock: 0,
-            grid,
+            grid: Grid::new(alloc),
             units,
             pause: Pause::off(alloc),
-            due,
-            regions,
+            due: Due::new(alloc),
+            regions: Regions::new(alloc),
             cards: None,
-        })
+        };
+        begin(
+            alloc,
+            file,
+            &world.units,
+            cards,
+            &mut world.grid,
+            &mut world.due,
+            &mut world.regions,
+        )?;
+        Ok(world)
     }
 
     /// The same world, in which objects are handed over by notes from now on. It takes memory for a card of each object
@@ -130,6 +156,37 @@ impl World {
     {
         self.tell_homes(out)
     }
+}
+
+// What a file says comes to where there is nothing: its objects, when their scripts are due, and its regions.
+fn begin(
+    alloc: Global,
+    file: &WorldFile,
+    units: &Library,
+    cards: Cards,
+    grid: &mut Grid,
+    due: &mut Due,
+    regions: &mut Regions,
+) -> Result<(), NoMemory>
+    requires file { IsInRange file.now }
+    requires units { length units.now ≡ length file.now.files }
+    requires no_object { grid.old.objects ≡ [] }
+    requires no_script { grid.old.seats ≡ [] }
+    requires no_time { due.old ≡ [] }
+    requires no_region { regions.old ≡ [] }
+    ensures objects { OnOk result (grid.new.objects ≡ map object_of_line file.now.objects) }
+    ensures seats { OnOk result (grid.new.seats ≡ seats_of_objects units.now 0 file.now.objects) }
+    ensures cards { OnOk result (grid.new.cards ≡ cards) }
+    ensures seated { OnOk result (AreSeated units.now grid.new.seats) }
+    ensures exact { OnOk result ((codes : List Code) (clock : ℕ) (w : SourceWorld)
+        → Stands codes None clock grid.new w → IsIndexOf (timings_of w) due.new) }
+    ensures numbered { OnOk result (AreNumbered (length grid.new.seats) due.new) }
+    ensures regions { OnOk result (regions.new ≡ regions_of_file file.now) }
+{
+    add_objects(alloc, grid, file.objects.as_slice(), units)?;
+    grid.hold(cards);
+    note_timers(grid, due)?;
+    regions.add_file(file)
 }
 
 // The cards of objects that are at home where they are.

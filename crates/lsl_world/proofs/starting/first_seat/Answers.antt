@@ -16,7 +16,7 @@ returns-clause-seat c =
       name = name;
       unit = unit;
       script = Some c.in_ok-script.script;
-    } in seat) c.in_ok-copy.ensures
+    } in seat) c.in_ok-name.ensures
     ∙ ap (λ (parts : ScriptParts). let seat : Seat = record {
       object = object;
       prim = prim;

@@ -14,30 +14,27 @@ pub returns-clause-of : goal.returns-clause-of
 returns-clause-of c = λ programs runs.
     let codes = c.args.units in
     let file = c.args.file.now in
-    let begins = starts codes (meant programs codes runs) file c.args.cards c.in_ok-grid.grid
+    let begins = starts codes (meant programs codes runs) file c.args.cards c.begin.new.grid
     (subst (λ (n : ℕ). All (IsObjectOf n) file.objects) (sym c.requires.units) c.requires.file.objects_fit)
-    (c.in_ok-grid.ensures.objects ∙ ap (map object_of_line) c.as_slice.ensures)
-    (c.in_ok-grid.ensures.seats ∙ ap (seats_of_objects codes 0) c.as_slice.ensures) c.in_ok-grid.ensures.cards in
+    c.in_ok-begin.ensures.objects c.in_ok-begin.ensures.seats c.in_ok-begin.ensures.cards in
     record {
       runs = runs;
-      seated = c.in_ok-grid.ensures.seated;
+      seated = c.in_ok-begin.ensures.seated;
       timely = omega arith;
       stands = begins;
-      index = c.in_ok-due.ensures.exact codes 0 _ begins;
+      index = c.in_ok-begin.ensures.exact codes 0 _ begins;
     }
 
 pub returns-clause-size : goal.returns-clause-size
 returns-clause-size c =
     let codes = c.args.units in
-    sized codes c.args.file.now c.in_ok-grid.grid
-    (c.in_ok-grid.ensures.objects ∙ ap (map object_of_line) c.as_slice.ensures)
-    (c.in_ok-grid.ensures.seats ∙ ap (seats_of_objects codes 0) c.as_slice.ensures)
+    sized codes c.args.file.now c.begin.new.grid c.in_ok-begin.ensures.objects c.in_ok-begin.ensures.seats
 
 pub returns-clause-sound : goal.returns-clause-sound
 returns-clause-sound c = record {
-  seated = c.in_ok-grid.ensures.seated;
+  seated = c.in_ok-begin.ensures.seated;
   timely = omega arith;
-  numbered = c.in_ok-due.ensures.numbered;
+  numbered = c.in_ok-begin.ensures.numbered;
 }
 
 pub returns-clause-begun : goal.returns-clause-begun
@@ -45,14 +42,14 @@ returns-clause-begun c =
     let file = c.args.file.now in
     record {
       plain = refl;
-      named = subst (λ (names : List (List ℕ)). AreInNamed names c.in_ok-grid.grid.objects)
-          (sym c.in_ok-regions.ensures.regions)
+      named = subst (λ (names : List (List ℕ)). AreInNamed names c.begin.new.grid.objects)
+          (sym c.in_ok-begin.ensures.regions)
           (subst (λ (objects : List Linkset). AreInNamed (regions_of_file file) objects)
-          (sym (c.in_ok-grid.ensures.objects ∙ ap (map object_of_line) c.as_slice.ensures)) (file-objects-named file));
+          (sym c.in_ok-begin.ensures.objects) (file-objects-named file));
     }
 
 pub returns-clause-named : goal.returns-clause-named
 returns-clause-named c =
     let file = c.args.file.now in
-    subst (λ (names : List (List ℕ)). All (LeadsToNamed names) file.steps) (sym c.in_ok-regions.ensures.regions)
+    subst (λ (names : List (List ℕ)). All (LeadsToNamed names) file.steps) (sym c.in_ok-begin.ensures.regions)
     (file-steps-named file)

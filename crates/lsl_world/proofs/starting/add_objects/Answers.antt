@@ -2,7 +2,7 @@ use Rattle.std.proofs.Common.{◌≤◌, ℕ, ◌++◌, length, refl, sym, subst
 use Rattle.lsl_world.specs.Seats.{seats_of_objects, seats_of_prims}
 use Rattle.lsl_world.proofs.Filling.{objects-count, objects-more}
 use Rattle.lsl_world.proofs.Seams.{seam-room}
-use Rattle.lsl_world.proofs.starting.grid_of.Goals as goal
+use Rattle.lsl_world.proofs.starting.add_objects.Goals as goal
 
 pub add_object-requires-clause-room : goal.add_object-requires-clause-room
 add_object-requires-clause-room c =

@@ -2,7 +2,7 @@ use Rattle.std.proofs.Common.{◌≡◌, ◌++◌, drop, length, map}
 use Rattle.lsl_region.specs.Grids.{AreSeated}
 use Rattle.lsl_world.specs.Seats.{seats_of_objects}
 use Rattle.lsl_world.specs.Starts.{object_of_line}
-use Rattle.lsl_world.proofs.starting.grid_of.Given as goal
+use Rattle.lsl_world.proofs.starting.add_objects.Given as goal
 
 abbrev pub invariant-loop-line : goal.invariant-loop-line
 invariant-loop-line l = record {
