@@ -161,7 +161,8 @@ then_over base c1 c2 t a over e1 e2 e =
 
 -- the code before the jump over the other branch
 front_length : (base : List Instr) (t : Node) (a : Action) (r : ℕ)
-    → length ((base ++ (value_code t ++ JumpIfNot r ∷ [])) ++ (action_code a [] (length base + length (value_code t) + 1)
+    → length ((base ++ (value_code t ++ JumpIfNot r ∷ [])) ++
+    (action_code a [] (length base + length (value_code t) + 1)
     ++ Jump 0 ∷ []))
     ≡ length base + length (value_code t) + 1 + size a + 1
 front_length base t a r =

@@ -28,7 +28,8 @@ use Rattle.lsl_gen.proofs.Bodies.{All-at}
 use Rattle.lsl_gen.proofs.LabelScopes.{CanEnter, CanEnterIn, has_outer, has_contained}
 use Rattle.lsl_gen.proofs.Routines.{outline}
 
-no_result_sound : (o : Option Value) (s : State) → Has false o → Sound Any s.answers (λ x. no_result o (with_answers s x))
+no_result_sound : (o : Option Value) (s : State) → Has false o
+    → Sound Any s.answers (λ x. no_result o (with_answers s x))
 no_result_sound None s none = gives_sound Any tt s.answers s tt
 no_result_sound (Some v) s none = absurd cc
 
@@ -40,7 +41,8 @@ open_flow has labels closed (Returned o) post = post
 open_flow has labels closed (Jumped label) post = post
 
 -- the end of the last statement is that of the block
-last_flow : (has : Bool) (labels : List ℕ) (xs : Actions) (a : Action) (flow : Flow) → Flows has labels (is_closed a) flow
+last_flow : (has : Bool) (labels : List ℕ) (xs : Actions) (a : Action) (flow : Flow)
+    → Flows has labels (is_closed a) flow
     → Flows has labels (ends_with_value (AndAction xs a)) flow
 last_flow has labels xs (action.ReturnValue t) flow post = post
 last_flow has labels xs a flow post = open_flow has labels (is_closed a) flow post
@@ -88,7 +90,8 @@ module _ (p : Program) (shaped : IsShaped p) (low : Lower) (lower : LowerSound p
       gives_sound (Flows has labels closed) (Jumped label) t.answers t post
 
   -- a jump to a label of this block, or out of it
-  caught_sound : (labels : List ℕ) (xs : Actions) (site : Site) → IsShapedAction (outline p has) labels (action.Block xs)
+  caught_sound : (labels : List ℕ) (xs : Actions) (site : Site)
+      → IsShapedAction (outline p has) labels (action.Block xs)
       → (flow : Flow) (s : State) → Flows has (labels_in xs ++ labels) (ends_with_value xs) flow
       → Sound (Flows has labels (ends_with_value xs)) s.answers
       (λ l. caught (routines_of p) low xs site flow (with_answers s l))
@@ -211,7 +214,8 @@ module _ (p : Program) (shaped : IsShaped p) (low : Lower) (lower : LowerSound p
     execute_all_sound NoAction from labels site s sh enters =
         gives_sound (Flows has labels false) Normal s.answers s refl
     execute_all_sound (AndAction xs a) None labels site s sh enters =
-        bind_sound (Flows has labels (ends_with_value xs)) (Flows has labels (ends_with_value (AndAction xs a))) s.answers
+        bind_sound (Flows has labels (ends_with_value xs)) (Flows has labels (ends_with_value (AndAction xs a)))
+        s.answers
         (λ l. execute_all (routines_of p) low xs None site (with_answers s l)) _
         (execute_all_sound xs None labels site s sh.0 tt)
         (normal_sound labels (ends_with_value xs) (ends_with_value (AndAction xs a)) _

@@ -199,7 +199,8 @@ module _ (regions : ℕ) (at : ℕ → Card) (sent : Note → Type 0) (parcel : 
           to = o.to;
           apart = o.apart;
           below = omega (arith, o.below, ap (λ (c : Card). c.trip) here);
-          fits = kept_by_refused regions at new parcel keeps.holder old keeps.holds o.below held to old.kind was answered
+          fits = kept_by_refused regions at new parcel keeps.holder old keeps.holds o.below held to old.kind was
+              answered
               (ap (λ (c : Card). c.trip) here) (ap (λ (c : Card). c.took) here) (ap (λ (c : Card). c.phase) here) same
               o.fits;
         }

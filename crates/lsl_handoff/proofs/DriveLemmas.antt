@@ -61,7 +61,8 @@ module _ (field : List (List Card)) (note : Note) (there : IsOneOf (length field
 
 -- so an answer can be delivered where its question came from a region that has a card
 pub answer-there : (field new : List (List Card)) (note : Note) (answer : Option Note)
-    → does field (Deliver note) ≡ (new, answer) → HasCard field note.object note.to → HasCard field note.object note.from
+    → does field (Deliver note) ≡ (new, answer) → HasCard field note.object note.to
+    → HasCard field note.object note.from
     → IfSome answer (λ a. HasCard new a.object a.to)
 answer-there field new note answer e to from =
     go answer (ap (λ (x : List (List Card) × Option Note). x.1) e)
@@ -95,7 +96,8 @@ pub answer-received : (field new : List (List Card)) (way : Way) (note answer : 
     → IfSome (awaited_in field way) (λ n. HasCard field n.object n.to) → received field note ≡ (new, answer)
     → IfSome answer (λ a. HasCard new a.object a.to)
 answer-received field new way note answer is has there e =
-    go note (subst (λ (o : Option Note). IfSome o (λ n. HasCard field n.object n.from)) is (awaited-there field way has))
+    go note (subst (λ (o : Option Note). IfSome o (λ n. HasCard field n.object n.from)) is
+    (awaited-there field way has))
     (subst (λ (o : Option Note). IfSome o (λ n. HasCard field n.object n.to)) is there) e
   where
     go : (o : Option Note) → IfSome o (λ n. HasCard field n.object n.from)

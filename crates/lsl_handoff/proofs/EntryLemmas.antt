@@ -220,7 +220,8 @@ module _ (objects regions : ℕ) (Takes : Note → Type 0) (ranges : AreCounts o
     go true e = absurd (other ((bytes_eq-Decides (note_bytes x) bytes).0 e))
     go false e = e
 
-  module _ (now : List (List Card)) (first : First) (note : Note) (held : IsHeld way trip parcel start now first note) where
+  module _ (now : List (List Card)) (first : First) (note : Note)
+      (held : IsHeld way trip parcel start now first note) where
     trip-few : note.trip < 2 ^ 64
     trip-few = go (cases_eq note.object way.object) where
       known : IsKnown way.from way.to trip parcel (card_at now way.object) first note → note.trip < 2 ^ 64
@@ -251,7 +252,8 @@ module _ (objects regions : ℕ) (Takes : Note → Type 0) (ranges : AreCounts o
           → Tells (first_with way trip Neither (Some note)) (is_same (note_bytes offer) (Some bytes))
           (is_same (note_bytes cancel) (Some bytes))
       tells-nothing e a b =
-          subst (λ (f : First). Tells f (is_same (note_bytes offer) (Some bytes)) (is_same (note_bytes cancel) (Some bytes)))
+          subst (λ (f : First). Tells f (is_same (note_bytes offer) (Some bytes))
+          (is_same (note_bytes cancel) (Some bytes)))
           (sym e) (unlike offer offer-note short a, unlike cancel cancel-note (omega arith) b)
 
       module _ (own : note.object ≡ way.object) (this : note.trip ≡ trip) where
@@ -268,7 +270,8 @@ module _ (objects regions : ℕ) (Takes : Note → Type 0) (ranges : AreCounts o
               to = is.1 i;
               parcel = is.2 i;
             } in
-            subst (λ (f : First). Tells f (is_same (note_bytes offer) (Some bytes)) (is_same (note_bytes cancel) (Some bytes)))
+            subst (λ (f : First). Tells f (is_same (note_bytes offer) (Some bytes))
+            (is_same (note_bytes cancel) (Some bytes)))
             (sym (first-now way trip Neither note own this ∙ ap first_kind k))
             ((bytes_eq-Decides (note_bytes offer) bytes).1 (sym (read.bytes_are ∙ ap note_bytes same)))
         by-kind Cancel k is =
@@ -282,7 +285,8 @@ module _ (objects regions : ℕ) (Takes : Note → Type 0) (ranges : AreCounts o
               to = is.1 i;
               parcel = none i;
             } in
-            subst (λ (f : First). Tells f (is_same (note_bytes offer) (Some bytes)) (is_same (note_bytes cancel) (Some bytes)))
+            subst (λ (f : First). Tells f (is_same (note_bytes offer) (Some bytes))
+            (is_same (note_bytes cancel) (Some bytes)))
             (sym (first-now way trip Neither note own this ∙ ap first_kind k)) (
               unlike offer offer-note short
                   (λ e. (let clash : Cancel ≡ Offer = sym k ∙ ap (λ (n : Note). n.kind) e in cc)),
@@ -321,7 +325,8 @@ module _ (objects regions : ℕ) (Takes : Note → Type 0) (ranges : AreCounts o
   module _ (takes : Takes offer) (now : List (List Card)) (first : First) where
     back-tells : (bytes : Option (List ℕ)) (back : Option Note) → IsHeard objects regions Takes bytes back
         → IsHeldIf way trip parcel start now first back
-        → Tells (first_with way trip Neither back) (is_same (note_bytes offer) bytes) (is_same (note_bytes cancel) bytes)
+        → Tells (first_with way trip Neither back) (is_same (note_bytes offer) bytes)
+        (is_same (note_bytes cancel) bytes)
     back-tells None None is held = (refl, refl)
     back-tells None (Some note) is held = absurd is
     back-tells (Some bytes) None is held = (
@@ -401,7 +406,8 @@ module _ (objects regions : ℕ) (Takes : Note → Type 0) (ranges : AreCounts o
         come = ends way trip parcel start has apart place rest (IsAmong objects regions entries) first m moves
             (card_at m.field way.object way.from).phase refl (quiet (ap (asks way) drives ∙ none));
       })
-  bytes-rest takes (t ∷ trips) entries first m last moves quiet plain (note, back, asked, sent, heard-is, more) carried none =
+  bytes-rest takes (t ∷ trips) entries first m last moves quiet plain (note, back, asked, sent, heard-is, more) carried
+      none =
       let among = IsAmong objects regions entries in
       let held = question-held way trip parcel start has apart among first m moves m.reply refl note asked in
       let bare = weaken among (λ (n : Note). ⊥) first m (λ n is. absurd is) moves in
@@ -409,7 +415,8 @@ module _ (objects regions : ℕ) (Takes : Note → Type 0) (ranges : AreCounts o
       let is-note = held-note m.field first note held note-plain in
       let into : (n : Note) → IsAmong objects regions (entries ++ t.sent ∷ []) n → OrNote among note n =
       λ n is. among-more entries t.sent note n is-note note-plain.short sent is in
-      let came : CameOf (OrNote among note) back = came-back entries t.sent t.back back note is-note note-plain.short sent
+      let came : CameOf (OrNote among note) back =
+      came-back entries t.sent t.back back note is-note note-plain.short sent
       heard-is carried.0 in
       let on = trip-moves way trip parcel start has apart place rest among first m moves
       (record { note = note; back = back }) asked came in
@@ -450,7 +457,8 @@ module _ (objects regions : ℕ) (Takes : Note → Type 0) (ranges : AreCounts o
           among-more es one x n is few e (bytes, among, h.0)
       came-back es one (Some bytes) (Some n) x is few e h (inr never) = absurd (never n h.0)
 
-      back-if-held : (among : Note → Type 0) (f : First) (mm : Moment) → Moves way trip parcel start among f mm → (x : Note)
+      back-if-held : (among : Note → Type 0) (f : First) (mm : Moment) → Moves way trip parcel start among f mm
+          → (x : Note)
           → IsHeld way trip parcel start mm.field f x → (b : Option Note) → CameOf (OrNote among x) b
           → IsHeldIf way trip parcel start mm.field f b
       back-if-held among f mm moves x held None came = tt
@@ -501,7 +509,8 @@ handed-rests objects regions Takes field new way parcel trips landed ranges shor
     (next_trip field way) (next-fits (card_at field way.object way.from).trip fits last-free) may.takes trips entries
     Neither (departure field way parcel) it.last
     (start-moves field place way parcel among has may.rest may.home it.departs may.past)
-    (start-quiet field place way parcel among has may.rest may.home it.departs may.past) tt it.drives may.carried it.ends in
+    (start-quiet field place way parcel among has may.rest may.home it.departs may.past) tt it.drives may.carried
+    it.ends in
     let come = end.come in
     let rest-new : IsAtRest new way.object (rests_in way end.then_first) =
     subst (λ (f : List (List Card)). IsAtRest f way.object (rests_in way end.then_first)) (sym it.rests) come.rests in

@@ -97,14 +97,16 @@ module _ (regions : ℕ) (at : ℕ → Card) (sent : Note → Type 0) (parcel : 
 
       known-old : (note : Note) → sent note → Known regions new region note
       known-old note old =
-          let k : Known regions at region note = subst (λ (h : ℕ). Known regions at h note) (sym is-held) (keeps.known note old) in
+          let k : Known regions at region note =
+          subst (λ (h : ℕ). Known regions at h note) (sym is-held) (keeps.known note old) in
           let trip : (new region).trip ≡ (at region).trip + 1 = ap (λ (c : Card). c.trip) here in
           record {
             from = k.from;
             to = k.to;
             apart = k.apart;
             below = omega (arith, k.below);
-            fits = kept_by_departure regions at new parcel region note holds-here k.below next held to note.kind was trip
+            fits = kept_by_departure regions at new parcel region note holds-here k.below next held to note.kind
+                was trip
                 (ap (λ (c : Card). c.took) here) (ap (λ (c : Card). c.phase) here) same k.fits;
           }
 
@@ -124,7 +126,8 @@ module _ (regions : ℕ) (at : ℕ → Card) (sent : Note → Type 0) (parcel : 
                 (offer-sent regions new next region holds-new object region to next (ap (λ (c : Card). c.phase) here));
           }
 
-      pub departure-keeps : Keeps regions new (OrSent sent (Some (offer_of object ((at region).trip + 1) region to next)))
+      pub departure-keeps : Keeps regions new
+          (OrSent sent (Some (offer_of object ((at region).trip + 1) region to next)))
           next
       unfolding offer
       departure-keeps = keeps-note regions new sent next (offer_of object ((at region).trip + 1) region to next)
@@ -160,7 +163,8 @@ module _ (regions : ℕ) (at : ℕ → Card) (sent : Note → Type 0) (parcel : 
     leads-again region object from (Live held) is =
         leads-same regions at sent region parcel (at region) None refl (keeps-none regions at sent parcel keeps)
     leads-again region object from (Leaving to held) is =
-        leads-same regions at sent region parcel (at region) (Some (offer_of object (at region).trip region to held)) refl
+        leads-same regions at sent region parcel (at region)
+        (Some (offer_of object (at region).trip region to held)) refl
         (keeps-note regions at sent parcel (offer_of object (at region).trip region to held) keeps
         (known-sent object region to held from
         (leaving-there regions at at parcel keeps.holder keeps.holds region to held is)

@@ -58,7 +58,8 @@ module _ (cards : List Card) (region : ℕ) (card : Card) where
 
   pub card-others : 1 ≤ region → (other : ℕ) → other ≢ region
       → card_of (with_card cards region card) other ≡ card_of cards other
-  card-others least other apart = same-else (nat_eq other 0) blank (get_or (set cards (region - 1) card) (other - 1) blank)
+  card-others least other apart = same-else (nat_eq other 0) blank
+      (get_or (set cards (region - 1) card) (other - 1) blank)
       (get_or cards (other - 1) blank) (λ is. get_or-set_other cards (region - 1) (other - 1) card blank
       (let some : other ≢ 0 = eqb-false other 0 is in omega (arith, least, apart, some)))
 

@@ -184,7 +184,8 @@ module _ (way : Way) (start : List (List Card)) (has : HasWay start way) where
   from-there : (field : List (List Card)) → IsAsLong start field → HasCard field way.object way.from
   from-there field long = has-long start field long way.object way.from has.0
 
-  onward-delivered : (field : List (List Card)) → Onward way start field → (note : Note) → HasCard field note.object note.to
+  onward-delivered : (field : List (List Card)) → Onward way start field → (note : Note)
+      → HasCard field note.object note.to
       → Onward way start (does field (Deliver note)).0
   onward-delivered field on note there = record {
     long = long-on start field (does field (Deliver note)).0 on.long (done-long field (Deliver note) there);
@@ -197,7 +198,8 @@ module _ (way : Way) (start : List (List Card)) (has : HasWay start way) where
   onward-received field on None there = on
   onward-received field on (Some note) there = onward-delivered field on note there
 
-  onward-given : (field : List (List Card)) → Onward way start field → Onward way start (does field (GiveUp way.from way.object)).0
+  onward-given : (field : List (List Card)) → Onward way start field
+      → Onward way start (does field (GiveUp way.from way.object)).0
   onward-given field on = record {
     long = long-on start field (does field (GiveUp way.from way.object)).0 on.long
         (done-long field (GiveUp way.from way.object) (from-there field on.long));
@@ -207,7 +209,8 @@ module _ (way : Way) (start : List (List Card)) (has : HasWay start way) where
         way.object refl on.goes);
   }
 
-  onward-settled : (m : Moment) → Onward way start m.field → (asked : Option Note) → Onward way start (settled_unless asked way m).field
+  onward-settled : (m : Moment) → Onward way start m.field → (asked : Option Note)
+      → Onward way start (settled_unless asked way m).field
   onward-settled m on (Some note) = on
   onward-settled m on None = onward-given m.field on
 
@@ -251,7 +254,8 @@ module _ (way : Way) (start : List (List Card)) (has : HasWay start way) where
       at-most-one None = omega arith
       at-most-one (Some r) = omega arith
 
-      few-rounds : (b : Bool) → nat_lt m.rounds most_rounds ≡ b → (if b then awaited_in m.field way else None) ≡ Some note
+      few-rounds : (b : Bool) → nat_lt m.rounds most_rounds ≡ b → (if b then awaited_in m.field way else None)
+          ≡ Some note
           → m.rounds < 8
       few-rounds true e k = grind (arith, nat_tests)
       few-rounds false e k = absurd (cc)
@@ -282,13 +286,16 @@ module _ (way : Way) (start : List (List Card)) (has : HasWay start way) where
 
       go : (q : Phase) → (card_at m.field way.object way.from).phase ≡ q
           → left way (settled_unless None way m) ≤ left way m
-      go Away e = let k : left way (settled_unless None way m) ≡ left way m = step-is ∙ ap (called_left m) e in omega (arith, k)
-      go (Live held) e = let k : left way (settled_unless None way m) ≡ left way m = step-is ∙ ap (called_left m) e in omega (arith, k)
+      go Away e = let k : left way (settled_unless None way m) ≡ left way m = step-is
+          ∙ ap (called_left m) e in omega (arith, k)
+      go (Live held) e = let k : left way (settled_unless None way m) ≡ left way m = step-is
+          ∙ ap (called_left m) e in omega (arith, k)
       go (Leaving to held) e =
           let k : left way (settled_unless None way m) ≡ 16 + reply_left m.reply = step-is ∙ ap (called_left m) e in
           let much : leaving (card_at m.field way.object way.from).phase ≡ 16 = ap leaving e in
           omega (arith, k, much)
-      go (Cancelling to held) e = let k : left way (settled_unless None way m) ≡ left way m = step-is ∙ ap (called_left m) e in omega (arith, k)
+      go (Cancelling to held) e = let k : left way (settled_unless None way m) ≡ left way m = step-is
+          ∙ ap (called_left m) e in omega (arith, k)
 
   less-settled : (m : Moment) → Onward way start m.field → (asked : Option Note)
       → left way (settled_unless asked way m) ≤ left way m

@@ -179,12 +179,14 @@ idle card settled Cancel note low =
     (card, Some (known_answer card note)) (grind (arith, nat_tests)))
 idle card settled Taken note low = go (nat_eq card.trip note.trip) where
   go : (test : Bool)
-      → (λ (e : Effect). e.0) (if test then (record card { phase = was_taken card.phase }, None) else (card, None)) ≡ card
+      → (λ (e : Effect). e.0) (if test then (record card { phase = was_taken card.phase }, None) else (card, None))
+      ≡ card
   go true = ap (λ (p : Phase). record card { phase = p }) (taken-none card.phase settled)
   go false = refl
 idle card settled Refused note low = go (nat_eq card.trip note.trip) where
   go : (test : Bool)
-      → (λ (e : Effect). e.0) (if test then (record card { phase = was_refused card.phase }, None) else (card, None)) ≡ card
+      → (λ (e : Effect). e.0) (if test then (record card { phase = was_refused card.phase }, None) else (card, None))
+      ≡ card
   go true = ap (λ (p : Phase). record card { phase = p }) (refused-none card.phase settled)
   go false = refl
 
@@ -358,12 +360,15 @@ module _ (way : Way) (trip : ℕ) (parcel : List ℕ) (field : List (List Card))
       (eq-eqb note.object way.object own) (eq-eqb note.to way.to there) (ap is_offer kind) (grind (arith, nat_tests)))
       ∙ ap Some (is-offer kind own now from there same)
   landing-offer OfferFirst was to own kind from there same now =
-      let e : (card_at field way.object way.to).trip ≡ trip = to.1 in stays-landed (not-later (omega (arith, e, now))) ∙ was
+      let e : (card_at field way.object way.to).trip ≡ trip =
+      to.1 in stays-landed (not-later (omega (arith, e, now))) ∙ was
   landing-offer CancelFirst was to own kind from there same now =
-      let e : (card_at field way.object way.to).trip ≡ trip = to.1 in stays-landed (not-later (omega (arith, e, now))) ∙ was
+      let e : (card_at field way.object way.to).trip ≡ trip =
+      to.1 in stays-landed (not-later (omega (arith, e, now))) ∙ was
 
   module _ (first : First) (was : before ≡ landed_as first offer)
-      (is : IsBetween way.from way.to trip parcel (card_at field way.object) first) (own : note.object ≡ way.object) where
+      (is : IsBetween way.from way.to trip parcel (card_at field way.object) first)
+      (own : note.object ≡ way.object) where
     landing-now : (kind : NoteKind) → note.kind ≡ kind
         → IsNow way.from way.to trip parcel (card_at field way.object) first kind note → note.trip ≡ trip
         → landing way field note before ≡ landed_as (or_first first (first_kind kind)) offer
@@ -402,7 +407,8 @@ module _ (way : Way) (trip : ℕ) (parcel : List ℕ) (start : List (List Card))
     landed = landed_by way m back;
   }
 
-  module _ (apart : way.from ≢ way.to) (place : ℕ → ℕ) (rest : AreAtRest start place) (handed : Note → Type 0) (first : First)
+  module _ (apart : way.from ≢ way.to) (place : ℕ → ℕ) (rest : AreAtRest start place) (handed : Note → Type 0)
+      (first : First)
       (m : Moment) (moves : Moves way trip parcel start handed first m) where
     lost-moves : Moves way trip parcel start handed first (heard m None)
     lost-moves = record {
@@ -460,7 +466,8 @@ module _ (way : Way) (trip : ℕ) (parcel : List ℕ) (start : List (List Card))
               long = subst (λ (x : List (List Card)). IsAsLong start x) (sym stays) moves.long;
               others = subst (λ (x : List (List Card)). (object : ℕ) → object ≢ way.object
                   → cards_of x object ≡ cards_of start object) (sym stays) moves.others;
-              between = subst (λ (x : List (List Card)). IsBetween way.from way.to trip parcel (card_at x way.object) first)
+              between = subst (λ (x : List (List Card)). IsBetween way.from way.to trip parcel (card_at x way.object)
+                  first)
                   (sym stays) moves.between;
               known = subst (λ (x : List (List Card)). (n : Note) → handed n
                   → IsHeld way trip parcel start x first n) (sym stays) moves.known;
@@ -476,9 +483,11 @@ module _ (way : Way) (trip : ℕ) (parcel : List ℕ) (start : List (List Card))
         abbrev next : First
         next = first_with way trip first (Some note)
 
-        arrived : Arrived way.from way.to trip parcel (card_at m.field way.object) (card_at new way.object) first next answer
+        arrived : Arrived way.from way.to trip parcel (card_at m.field way.object) (card_at new way.object) first next
+            answer
         arrived =
-            subst (λ (o : ℕ). Arrived way.from way.to trip parcel (card_at m.field o) (card_at new o) first next answer) own
+            subst (λ (o : ℕ). Arrived way.from way.to trip parcel (card_at m.field o) (card_at new o) first next answer)
+            own
             (arrives way trip parcel apart (card_at m.field note.object) (card_at new note.object) first
             (subst (λ (o : ℕ). IsBetween way.from way.to trip parcel (card_at m.field o) first) (sym own) moves.between)
             note (done-elsewhere m.field (Deliver note) there) own

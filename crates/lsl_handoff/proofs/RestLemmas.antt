@@ -159,8 +159,10 @@ module _ (way : Way) (trip : ℕ) (parcel : List ℕ) (start : List (List Card))
         other = λ other. absurd (other refl);
       })
 
-  module _ (handed : Note → Type 0) (first : First) (m : Moment) (moves : Moves way trip parcel start handed first m) where
-    pub awaited-held : (note : Note) → awaited_in m.field way ≡ Some note → IsHeld way trip parcel start m.field first note
+  module _ (handed : Note → Type 0) (first : First) (m : Moment)
+      (moves : Moves way trip parcel start handed first m) where
+    pub awaited-held : (note : Note) → awaited_in m.field way ≡ Some note
+        → IsHeld way trip parcel start m.field first note
     awaited-held = asked-held m first moves.between (card_at m.field way.object way.from).phase refl
 
     pub question-held : (reply : Option Note) → m.reply ≡ reply → (note : Note) → asks_unless reply way m ≡ Some note
@@ -221,7 +223,8 @@ module _ (way : Way) (trip : ℕ) (parcel : List ℕ) (start : List (List Card))
     given-known n h = record {
       from = h.from;
       to = h.to;
-      own = λ e. told-known way.from way.to trip parcel apart (card_at m.field way.object) (card_at given way.object) first
+      own = λ e. told-known way.from way.to trip parcel apart (card_at m.field way.object)
+          (card_at given way.object) first
           moves.between (done-elsewhere m.field (GiveUp way.from way.object) from-there) (gave_up phase) given-card
           (from-given way.from way.to trip parcel first phase moves.between.from) (λ was. isnt-now phase) n (h.own e);
       other = h.other;
@@ -272,17 +275,20 @@ module _ (way : Way) (trip : ℕ) (parcel : List ℕ) (start : List (List Card))
         (question-held handed first m moves m.reply refl c.note asked) in
         let on = received-moves way trip parcel start apart place rest (OrNote handed c.note) first m more c.back
         (back-held (OrNote handed c.note) first m more c.back was) in
-        settled-moves (OrNote handed c.note) (first_with way trip first c.back) (heard way trip parcel start m c.back) on
+        settled-moves (OrNote handed c.note) (first_with way trip first c.back)
+        (heard way trip parcel start m c.back) on
         (asks way (heard way trip parcel start m c.back)) refl
 
     drive-moves : (trips : List Carried) (handed : Note → Type 0) (first : First) (m : Moment)
         → Moves way trip parcel start handed first m → Quiet m → Obeys way m trips → AreCameOf handed trips
-        → Moves way trip parcel start (HandedBy handed trips) (first_of way trip first trips) (after_carried way m trips)
+        → Moves way trip parcel start (HandedBy handed trips) (first_of way trip first trips)
+        (after_carried way m trips)
         × Quiet (after_carried way m trips)
     drive-moves [] handed first m moves quiet obeys faithful = (moves, quiet)
     drive-moves (c ∷ more) handed first m moves quiet obeys faithful =
         let on = trip-moves handed first m moves c obeys.0 faithful.0 in
-        drive-moves more (OrNote handed c.note) (first_with way trip first c.back) (hears way m c.back) on.0 on.1 obeys.1
+        drive-moves more (OrNote handed c.note) (first_with way trip first c.back) (hears way m c.back) on.0 on.1
+        obeys.1
         faithful.1
 
     -- the end, where nothing is awaited
@@ -320,7 +326,8 @@ module _ (way : Way) (trip : ℕ) (parcel : List ℕ) (start : List (List Card))
           go Refused is-now = (by n.from way.to is-now.0 there, by n.to way.from is-now.1 is.from_trip)
 
       come : first ≢ Neither
-      come = has-come way.from way.to trip parcel first (card_at field way.object way.from).phase moves.between.from calm
+      come = has-come way.from way.to trip parcel first (card_at field way.object way.from).phase
+          moves.between.from calm
 
       past-of : (n : Note) → IsHeld way trip parcel start field first n → IsPast field n
       past-of n h = go (cases_eq n.object way.object) where
@@ -436,10 +443,12 @@ told-settled : (card : Card) (to : ℕ) (held : List ℕ) → card.phase ≡ Can
 told-settled card to held e note same =
     let test : nat_eq card.trip note.trip ≡ true = eq-eqb card.trip note.trip (sym same) in (
       subst (λ (x : Effect). IsSettled x.0.phase)
-          (sym (if-true (nat_eq card.trip note.trip) (record card { phase = was_taken card.phase }, None) (card, None) test))
+          (sym (if-true (nat_eq card.trip note.trip) (record card { phase = was_taken card.phase }, None) (card, None)
+          test))
           (subst (λ (p : Phase). IsSettled (was_taken p)) (sym e) tt),
       subst (λ (x : Effect). IsSettled x.0.phase)
-          (sym (if-true (nat_eq card.trip note.trip) (record card { phase = was_refused card.phase }, None) (card, None) test))
+          (sym (if-true (nat_eq card.trip note.trip) (record card { phase = was_refused card.phase }, None) (card, None)
+          test))
           (subst (λ (p : Phase). IsSettled (was_refused p)) (sym e) tt),
     )
 
@@ -520,7 +529,8 @@ module _ (way : Way) (trip : ℕ) (parcel : List ℕ) (start : List (List Card))
       twice-moves : Moves way trip parcel start handed
           (first_with way trip (first_with way trip first (Some cancel)) (Some reply)) (heard_twice (Some reply))
       twice-moves =
-          received-moves way trip parcel start apart place rest handed (first_with way trip first (Some cancel)) heard_once
+          received-moves way trip parcel start apart place rest handed (first_with way trip first (Some cancel))
+          heard_once
           once-moves (Some reply)
           (subst (λ (o : Option Note). IsHeldIf way trip parcel start heard_once.field
           (first_with way trip first (Some cancel)) o) is once-moves.reply)

@@ -168,13 +168,15 @@ module _ (regions objects : ℕ) (run : Run) where
       (leads-departing regions (card_of (cards_of run.field object)) (SentOf run.sent object) parcel state.keeps region
       object to next may.2 (depart_fault (card_of (cards_of run.field object) region) region to) refl)
   event-leads (Again region object) parcel state may =
-      leads-again regions (card_of (cards_of run.field object)) (SentOf run.sent object) parcel state.keeps region object
+      leads-again regions (card_of (cards_of run.field object)) (SentOf run.sent object) parcel state.keeps region
+      object
       may.0 (card_of (cards_of run.field object) region).phase refl
   event-leads (GiveUp region object) parcel state may =
       leads-giving_up regions (card_of (cards_of run.field object)) (SentOf run.sent object) parcel state.keeps region
       object may.0 (card_of (cards_of run.field object) region).phase refl
   event-leads (Deliver note) parcel state may =
-      leads-delivered regions (card_of (cards_of run.field note.object)) (SentOf run.sent note.object) parcel state.keeps
+      leads-delivered regions (card_of (cards_of run.field note.object)) (SentOf run.sent note.object) parcel
+      state.keeps
       note (known-of note parcel state may) note.kind (known-of note parcel state may).fits
 
   module _ (event : Event) (numbers : KeepsNumbers objects run) (may : MayHappen objects regions run event) where
@@ -237,7 +239,8 @@ module _ (regions objects : ℕ) (run : Run) where
       own-kept = record {
         long = ap length own-cards ∙ length-set (cards_of run.field (object_of event)) (region_of event - 1)
             (effect_of run event).0 ∙ state.long;
-        keeps = subst (λ (cs : List Card). Keeps regions (card_of cs) (SentOf (happens run event).sent (object_of event))
+        keeps = subst (λ (cs : List Card). Keeps regions (card_of cs)
+            (SentOf (happens run event).sent (object_of event))
             (newer_parcel (object_of event) run event parcel)) (sym own-cards)
             (keeps-fewer regions (card_of (cards_after run event))
             (OrSent (SentOf run.sent (object_of event)) (effect_of run event).1)

@@ -20,7 +20,8 @@ blank-at regions i = by-place (cases_lt i regions)
   where
     by-place : (i < regions) ⊎ (regions ≤ i) → get_or (replicate regions blank) i blank ≡ blank
     by-place (inl within) = get_or-replicate regions i blank blank within
-    by-place (inr past) = get_or_past (replicate regions blank) i blank (omega (arith, length-replicate regions blank, past))
+    by-place (inr past) = get_or_past (replicate regions blank) i blank
+        (omega (arith, length-replicate regions blank, past))
 
 blank-card : (regions region : ℕ) → card_of (replicate regions blank) region ≡ blank
 blank-card regions region = by-zero (nat_eq region 0)

@@ -16,7 +16,8 @@ cap = 4294967296000
 
 -- the capped number of the digits behind those of n
 abbrev pub digits_behind : ℕ → List ℕ → Result ℕ FileKind
-digits_behind n digits = fault_unless (list_all is_decimal digits) BadLine (Ok (min (digits_value_after 10 n digits) cap))
+digits_behind n digits = fault_unless (list_all is_decimal digits) BadLine
+    (Ok (min (digits_value_after 10 n digits) cap))
 
 digits_value_after-ge : (n : ℕ) (ds : List ℕ) → n ≤ digits_value_after 10 n ds
 digits_value_after-ge n [] = omega arith
@@ -84,7 +85,8 @@ capped_within {A} (Ok m) n limit f h lt = ⊎_elim small big (cases_lt m cap)
     is : min m cap ≡ n
     is = ap number h
 
-    small : m < cap → fault_unless (nat_le m limit) BadLine (Ok (f m)) ≡ fault_unless (nat_le n limit) BadLine (Ok (f n))
+    small : m < cap → fault_unless (nat_le m limit) BadLine (Ok (f m))
+        ≡ fault_unless (nat_le n limit) BadLine (Ok (f n))
     small lt = let same : m ≡ n = omega (arith, is) in ap (λ v. fault_unless (nat_le v limit) BadLine (Ok (f v))) same
 
     big : cap ≤ m → fault_unless (nat_le m limit) BadLine (Ok (f m)) ≡ fault_unless (nat_le n limit) BadLine (Ok (f n))

@@ -37,7 +37,8 @@ digits_plain : (ds : List ℕ) → AllDigits 10 ds → list_all is_word_byte ds 
 digits_plain [] h = refl
 digits_plain (c ∷ ds) (one, more) =
     let (l, r) = digit_bounds c one in
-    and_from (is_word_byte c) (list_all is_word_byte ds) (word_byte c (omega arith) (omega arith)) (digits_plain ds more)
+    and_from (is_word_byte c) (list_all is_word_byte ds) (word_byte c (omega arith) (omega arith))
+    (digits_plain ds more)
 
 digits_decimal : (ds : List ℕ) → AllDigits 10 ds → list_all is_decimal ds ≡ true
 digits_decimal [] h = refl

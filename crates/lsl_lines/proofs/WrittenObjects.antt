@@ -169,7 +169,8 @@ some_last : (front : List ObjectLine) (o : ObjectLine) → nat_lt 0 (length (fro
 some_last front o = lt-ltb 0 (length (front ++ o ∷ [])) (omega (arith, length-append front (o ∷ [])))
 
 script_told : (file : WorldFile) (notes : List NoteLine) (front : List ObjectLine) (owner region : List ℕ)
-    (ps : List PrimLine) (key name : List ℕ) (ss : List ScriptLine) (s : ScriptLine) (rest : List ScriptLine) → IsWritable file
+    (ps : List PrimLine) (key name : List ℕ) (ss : List ScriptLine) (s : ScriptLine) (rest : List ScriptLine)
+    → IsWritable file
     → scripts_in (with_scripts front owner region ps key name ss) ++ s ∷ rest ≡ scripts_in file.objects
     → line_added (script_line file.files s) (told file notes (with_scripts front owner region ps key name ss))
     ≡ Ok (told file notes (with_scripts front owner region ps key name (ss ++ s ∷ [])))

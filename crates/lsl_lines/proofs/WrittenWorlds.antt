@@ -276,7 +276,8 @@ read_through (line ∷ lines) n r q (one, h) e end =
     ]
 
     go : (m : Result Reading FileKind) → (m >>= add_all lines) ≡ Ok q
-        → ((next : Reading) → add_all lines next ≡ Ok q → world_from (n + 1) next (map line_text lines) ≡ Ok (world_in q))
+        → ((next : Reading) → add_all lines next ≡ Ok q → world_from (n + 1) next (map line_text lines)
+        ≡ Ok (world_in q))
         → rest m ≡ Ok (world_in q)
     go (Ok next) f more = more next f
     go (Err kind) f more = absurd (cc)

@@ -13,7 +13,8 @@ use Rattle.lsl_made.specs.World.{object_lines, step_lines, world_lines, world_te
 
 -- the text of the first objects, with their scripts
 unfoldable pub objects_text : ℕ → List ℕ
-objects_text count = flat_map line (flat_map (λ object. object_words object ∷ script_words ∷ []) (range_with_len 1 count))
+objects_text count = flat_map line
+    (flat_map (λ object. object_words object ∷ script_words ∷ []) (range_with_len 1 count))
 
 -- the text of the first steps
 unfoldable pub steps_text : ℕ → ℕ → List ℕ

@@ -38,7 +38,13 @@ object_lines-each =
                           object-line 6 (omega arith),
                           (
                             script-line,
-                            (object-line 7 (omega arith), (script-line, (object-line 8 (omega arith), (script-line, tt)))),
+                            (
+                              object-line 7 (omega arith),
+                              (
+                                script-line,
+                                (object-line 8 (omega arith), (script-line, tt)),
+                              ),
+                            ),
                           ),
                         ),
                       ),

@@ -35,7 +35,8 @@ pub at-home : (r : Rules) (place : ℕ) (m : Member) (args : List Value) (w : Wo
 at-home r place m args w id h e = ap (λ (k : Home). answer_at_home k r place m id args w) e
 
 -- no call of this room is left behind these
-pub no-mailing-left : (id : BuiltinId) → is_on_own_mailbox id ≡ true → id ≢ Listen → id ≢ ListenRemove → id ≢ ListenControl
+pub no-mailing-left : (id : BuiltinId) → is_on_own_mailbox id ≡ true → id ≢ Listen → id ≢ ListenRemove
+    → id ≢ ListenControl
     → id ≢ SetTimerEvent → id ≢ Sleep → ⊥
 no-mailing-left Listen e a b c d f = a refl
 no-mailing-left ListenRemove e a b c d f = b refl

@@ -113,7 +113,8 @@ asks-from : (said : Filter) (l : Listen) → is_heard said l ≡ true → AsksWh
 asks-from said l e =
     let (active, fits) = and_parts l.active
     (((tunes_in said l && names_it said l) && knows_it said l) && awaits_it said l) e in
-    let (three, message) = and_parts ((tunes_in said l && names_it said l) && knows_it said l) (awaits_it said l) fits in
+    let (three, message) = and_parts ((tunes_in said l && names_it said l) && knows_it said l) (awaits_it said l)
+    fits in
     let (two, id) = and_parts (tunes_in said l && names_it said l) (knows_it said l) three in
     let (channel, name) = and_parts (tunes_in said l) (names_it said l) two in
     record {
@@ -153,7 +154,8 @@ hears said w m = (forth, back) where
   forth e =
       let (apart, heard) = and_parts (not (bytes_eq key said.id)) (list_any (is_heard said) listens) e in
       record {
-        apart = λ same. absurd (let k = text-same key said.id same in let n = not-true (bytes_eq key said.id) apart in cc);
+        apart = λ same. absurd (let k = text-same key said.id same in let n = not-true (bytes_eq key said.id)
+            apart in cc);
         listen = any-map (λ l. is_heard said l ≡ true) (AsksWhatIsSaid said) listens (asks-from said)
             (Any-from_list_any (is_heard said) listens heard);
       }

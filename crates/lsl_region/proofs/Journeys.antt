@@ -62,10 +62,12 @@ module _ (codes : List Code) (place : ℕ) where
       → reseated place scripts seats ≡ others
       → with_first (seat_of codes false m)
       (if own then option_map (with_unit m.script.code) (Some (parts_of codes m.script)) else None)
-      (cons_option (if own then option_map (with_unit m.script.code) (Some (parts_of codes m.script)) else None) scripts)
+      (cons_option (if own then option_map (with_unit m.script.code) (Some (parts_of codes m.script)) else None)
+      scripts)
       ∷ reseated place (behind_first
       (if own then option_map (with_unit m.script.code) (Some (parts_of codes m.script)) else None)
-      (cons_option (if own then option_map (with_unit m.script.code) (Some (parts_of codes m.script)) else None) scripts))
+      (cons_option (if own then option_map (with_unit m.script.code) (Some (parts_of codes m.script)) else None)
+      scripts))
       seats
       ≡ seat_of codes false m ∷ others
   own-first true m scripts seats others e = ap (λ (z : List Seat). seat_of codes false m ∷ z) e
@@ -98,7 +100,8 @@ module _ (codes : List Code) (place : ℕ) where
         seats = reseated place (filter_map (parts_in_seat place) grid.seats) grid.seats;
         cards = grid.cards;
       }) (set-get_or grid.objects place no_object)
-      ∙ ap {A = List Seat} {B = Contents} (λ seats. record { objects = grid.objects; seats = seats; cards = grid.cards })
+      ∙ ap {A = List Seat} {B = Contents}
+      (λ seats. record { objects = grid.objects; seats = seats; cards = grid.cards })
       (own-scripts w.members)
 
   pub own-arrived : (clock : ℕ) (grid : Contents) (w : World) (region : List ℕ) → Stands codes None clock grid w

@@ -73,7 +73,8 @@ now-there false true = refl
 now-there false false = refl
 
 -- a row is another
-module _ (rows : List (List ℤ)) (old between new : List ChannelEntry) (before after : ℕ) (place : ℕ) (row channels : List ℤ)
+module _ (rows : List (List ℤ)) (old between new : List ChannelEntry) (before after : ℕ) (place : ℕ)
+    (row channels : List ℤ)
     (table : IsTable rows old before) (there : place < length rows) (at : row ≡ get_or rows place [])
     (few : length channels ≤ most_channels) (room : before ≤ after) (ordered : IsOrdered new)
     (out-here : (c : ℤ) → is_heard between c place

@@ -140,7 +140,12 @@ formed-named o t place name e same f =
       few = omega (arith, f.few, count);
       keyed = subst (λ (ps : List Primitive). All HasKey ps) (sym e) (λ k d within.
           subst (λ (key : List ℕ). is_valid_key key ≡ true) (sym (key-kept o.prims place name k d))
-          (f.keyed k d (omega (arith, within, length-set o.prims place (record (prim_at o.prims place) { name = name })))));
+          (f.keyed k d (omega (
+            arith,
+            within,
+            length-set o.prims place
+                (record (prim_at o.prims place) { name = name }),
+          ))));
       stored = subst IsStore (sym same) f.stored;
     }
 

@@ -67,7 +67,8 @@ ended-rests r number s kept way =
     (going_of s.leaving s.state (handles r s.code s.state event.StateExit) way)
 
 -- whether the script at a place is in flight, when it was changed
-flies-with : (w : World) (place : ℕ) (m : Member) (a : Told World) (t : Told Script) → slice_get w.members place ≡ Some m
+flies-with : (w : World) (place : ℕ) (m : Member) (a : Told World) (t : Told Script) → slice_get w.members place
+    ≡ Some m
     → a ≡ as_value (λ (t : Script). with_member w place (record m { script = t })) t
     → flies_at a.value place ≡ is_flying t.value.doing
 flies-with w place m a t at e =

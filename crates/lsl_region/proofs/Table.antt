@@ -20,7 +20,8 @@ use Rattle.lsl_region.proofs.Ordered.{and-false, and-true, searchable, sorted-at
 
 pub order-total : IsTotalOrder heard_order
 order-total =
-    then_total (on_total (λ (h : ChannelEntry). h.channel) int_cmp_total) (on_total (λ (h : ChannelEntry). h.place) nat_cmp_total)
+    then_total (on_total (λ (h : ChannelEntry). h.channel) int_cmp_total)
+    (on_total (λ (h : ChannelEntry). h.place) nat_cmp_total)
 
 equal-is : (r : Ordering) → is_eq r ≡ true → r ≡ Equal
 equal-is Less e = absurd cc
@@ -133,7 +134,8 @@ or-false true b e = refl
 or-false false b e = e
 
 module _ (table : List ChannelEntry) (h : ChannelEntry) (at : ℕ) (stands : StandsAt table h at) where
-  stands-of : (q : ChannelEntry) (b : Bool) → same_heard q h ≡ b → has_entry table q ≡ (has_entry table q || same_heard q h)
+  stands-of : (q : ChannelEntry) (b : Bool) → same_heard q h ≡ b → has_entry table q
+      ≡ (has_entry table q || same_heard q h)
   stands-of q true e =
       let here : get_or table at h ≡ h = stands.is in
       let yes : has_entry table q ≡ true

@@ -89,8 +89,10 @@ negative-none a (suc (suc (suc (suc n)))) e = none-told a (negsuc (suc (suc (suc
 abbrev TellsOf : Asker → ℤ → Option Toucher → Type 0
 TellsOf a n o =
     (Some (value.Key (detected_key (if int_eq n (pos 0) then a.toucher else None))) ≡ Some (value.Key (detected_key o)))
-    × (Some (value.Str (detected_name (if int_eq n (pos 0) then a.toucher else None))) ≡ Some (value.Str (detected_name o)))
-    × (Some (value.Int (detected_link (if int_eq n (pos 0) then a.toucher else None))) ≡ Some (value.Int (detected_link o)))
+    × (Some (value.Str (detected_name (if int_eq n (pos 0) then a.toucher else None)))
+    ≡ Some (value.Str (detected_name o)))
+    × (Some (value.Int (detected_link (if int_eq n (pos 0) then a.toucher else None)))
+    ≡ Some (value.Int (detected_link o)))
 
 tells-of : (a : Asker) (n : ℤ) (o : Option Toucher) → (if int_eq n (pos 0) then a.toucher else None) ≡ o → TellsOf a n o
 tells-of a n o e = (

@@ -63,7 +63,8 @@ cons-same None xs ys e = e
 cons-same (Some x) xs ys e = cc
 
 -- the script of a seat, as one of its object
-seated-own : (seat : Seat) (place : ℕ) (home : IsHome seat) → seat.object ≡ place → parts_in_seat place seat ≡ Some home.0
+seated-own : (seat : Seat) (place : ℕ) (home : IsHome seat) → seat.object ≡ place → parts_in_seat place seat
+    ≡ Some home.0
 seated-own seat place home e =
     ap (λ (b : Bool). if b then option_map (with_unit seat.unit) seat.script else None) (eq-eqb seat.object place e)
     ∙ ap (λ (o : Option ScriptParts). option_map (with_unit seat.unit) o) home.1
@@ -132,7 +133,8 @@ module _ (g h : Contents) (fixed : fixed_of g ≡ fixed_of h) (parts : placed_in
       let d = placed_at g k in
       sym (get_or-map-range_with_len (placed_at g) 0 (length g.objects) k k d lt (omega arith))
       ∙ ap (λ (l : List Placed). get_or l k d) parts
-      ∙ get_or-map-range_with_len (placed_at h) 0 (length h.objects) k k d (omega (arith, lt, fixed-count g h fixed)) (omega arith)
+      ∙ get_or-map-range_with_len (placed_at h) 0 (length h.objects) k k d (omega (arith, lt, fixed-count g h fixed))
+      (omega arith)
 
   pub same-contents : AreHome g.seats → AreHome h.seats → AreWithin g → g ≡ h
   same-contents hg hh within =
@@ -176,7 +178,8 @@ module _ (codes : List Code) where
       → Stands codes None w.clock grid w
   thawed-stands grid w scripts fixed parts home within =
       let is : grid ≡ contents_of codes w =
-      same-contents grid (contents_of codes w) (sym fixed ∙ sym (fixed-is w)) (sym parts) home (members-home w.members) within
+      same-contents grid (contents_of codes w) (sym fixed ∙ sym (fixed-is w)) (sym parts) home (members-home w.members)
+      within
       in
       record {
         time = refl;

@@ -126,7 +126,8 @@ module _ (unit : Code) (live : Live) (kept : Kept) (mid new : ScriptParts) (outc
     closing_parts =
         closing.new_is ∙ ap (gone_parts unit going) closing.mid_is
         ∙ ap {A = Kept} {B = ScriptParts} (λ k. gone_parts unit going (keeping k live.parts)) closing.has
-        ∙ ap {A = Going} {B = ScriptParts} (λ g. gone_parts unit g (keeping live.machine.machine.kept live.parts)) goes_so
+        ∙ ap {A = Going} {B = ScriptParts} (λ g. gone_parts unit g (keeping live.machine.machine.kept live.parts))
+        goes_so
 
     pub closing_cleared : (cleared : Option ℕ) → cleared ≡ count_gone going mid.queue
         → cleared ≡ count_gone (going_after unit live.parts way) live.parts.queue

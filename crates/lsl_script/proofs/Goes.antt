@@ -59,7 +59,11 @@ module _ (unit : Code) (parts : ScriptParts) (kept : Kept) (idle : parts.rest �
         → has_handler unit.states parts.state event.StateExit ≡ true
         → FitsUnit unit (gone_parts unit (Leaves to) (left_parts parts kept))
     leaves_fits to there other exits = record {
-      states = record { stands = fits.stands; leaves = record { there = there; other = other; exit = exits }; waits = fits.waits };
+      states = record {
+        stands = fits.stands;
+        leaves = record { there = there; other = other; exit = exits };
+        waits = fits.waits;
+      };
       globals = kinds;
       least = least;
       limit = small;

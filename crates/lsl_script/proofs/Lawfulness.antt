@@ -18,7 +18,8 @@ forward_in (Some unit) = (sound unit).forward
 pub rules_are_lawful : RulesAreLawful
 rules_are_lawful codes = record {
   ticks = λ code routine kept args ticks more answers uncut.
-      ticks_change_nothing (bodies_in (slice_get codes code)) (forward_in (slice_get codes code)) routine kept args ticks
+      ticks_change_nothing (bodies_in (slice_get codes code)) (forward_in (slice_get codes code)) routine kept
+      args ticks
       more answers uncut;
   answers = λ code routine kept args ticks answers further silent.
       answers_change_nothing (bodies_in (slice_get codes code)) (forward_in (slice_get codes code)) routine kept args

@@ -24,7 +24,8 @@ use Rattle.lsl_top.proofs.Pieces.{begun-one, whole-one}
 use Rattle.lsl_top.proofs.Trips.{went-none}
 
 -- what keeps to some answers keeps to answers that these are
-pub keeps-as : (IsOne IsOther : Grade → Answer → Type 0) (status : Status) (trips : List Trip) (old new : Option (List ℕ))
+pub keeps-as : (IsOne IsOther : Grade → Answer → Type 0) (status : Status) (trips : List Trip)
+    (old new : Option (List ℕ))
     → ((grade : Grade) (answer : Answer) → IsOne grade answer → IsOther grade answer)
     → KeepsTo IsOne status trips old new → KeepsTo IsOther status trips old new
 keeps-as IsOne IsOther Ok trips old new f k = (k.0, f Written k.0 k.1, k.2, k.3)
@@ -325,7 +326,8 @@ serve-later gives IsFair OneFits Fits IsOne IsAnswer IsOneName IsName held later
       keeps = λ from fits honest.
           keeps-as (λ grade. IsOne grade from h.trips) (λ grade. IsAnswer grade from h.trips) status h.trips a.sunk
           new.log.sunk (λ grade. f grade from h.trips) (h.keeps from (fit from fits) honest);
-      answers = λ from trips own. let (answer, is, e) = h.answers from trips own in (answer, f Due from trips answer is, e);
+      answers = λ from trips own. let (answer, is, e) = h.answers from trips
+          own in (answer, f Due from trips answer is, e);
       nothing = h.nothing;
       read_fault = λ e. let (name, is, rose) = h.read_fault e in (
         name,

@@ -1,4 +1,5 @@
--- No step changes what an image isn't asked for: the objects' owners, their prims' keys, and of each script its prim, its
+-- No step changes what an image isn't asked for: the objects' owners, their prims' keys, and of each script its prim,
+-- its
 -- name and its code.
 use Rattle.std.proofs.Common.{◌≡◌, ℕ, zero, suc, ◌+◌, ◌-◌, Bool, true, false, List, [], ◌∷◌, length, get_or, refl, ap, ◌∙◌}
 use Rattle.std.specs.Prelude.{ℤ, Option, Some, None, if◌then◌else◌, not, ◌&&◌, map, max, min, pos, slice_get, slice_set}
@@ -214,7 +215,8 @@ answer-keeps r place id args w = go (slice_get w.members place) refl where
   go None e = refl
   go (Some m) e = home-keeps r place m w e (home_of id) id args
 
-asked-keeps : (r : Rules) (most place : ℕ) (f : Flight) (w : World) → fixed_in (asked r most place f w).value ≡ fixed_in w
+asked-keeps : (r : Rules) (most place : ℕ) (f : Flight) (w : World) → fixed_in (asked r most place f w).value
+    ≡ fixed_in w
 unfolding asked
 asked-keeps r zero place f w = refl
 asked-keeps r (suc most) place f w =
@@ -226,7 +228,8 @@ asked-keeps r (suc most) place f w =
         let x = (answer r place id args w).value in
         more (given x.1 f) x.0 ∙ answer-keeps r place id args w
     go more (Cut calls) = member-keeps place _ w (λ m. refl)
-    go more (Ends outcome kept) = member-keeps place _ w (λ m. gone-code r (place + 1) (record m.script { kept = kept }) _)
+    go more (Ends outcome kept) = member-keeps place _ w
+        (λ m. gone-code r (place + 1) (record m.script { kept = kept }) _)
     go more (Fails fault) = member-keeps place _ w (λ m. refl)
     go more Lost = refl
 
@@ -267,13 +270,15 @@ touch-keeps : (r : Rules) (object : ℕ) (prim : Option ℕ) (key name : List �
 touch-keeps r object None key name w = refl
 touch-keeps r object (Some prim) key name w = post-keeps r _ _ _ ∙ post-keeps r _ _ _ ∙ post-keeps r _ _ w
 
-arrive-keeps : (r : Rules) (place : ℕ) (region : List ℕ) (w : World) → fixed_in (arrive r place region w).value ≡ fixed_in w
+arrive-keeps : (r : Rules) (place : ℕ) (region : List ℕ) (w : World) → fixed_in (arrive r place region w).value
+    ≡ fixed_in w
 arrive-keeps r place region w =
     let there : Linkset = record (object_at w place) { region = region } in
     post-keeps r _ _ (with_object w place there)
     ∙ ap (with_objects w) (set-keeps lasting w.objects place there no_object refl)
 
-cross-keeps : (r : Rules) (place : ℕ) (region : List ℕ) (w : World) → fixed_in (cross r place region w).value ≡ fixed_in w
+cross-keeps : (r : Rules) (place : ℕ) (region : List ℕ) (w : World) → fixed_in (cross r place region w).value
+    ≡ fixed_in w
 cross-keeps r place region w = go (is_in_region w place region) where
   go : (b : Bool) → fixed_in (if b then quiet w else arrive r place region w).value ≡ fixed_in w
   go true = refl
@@ -292,7 +297,8 @@ next-keeps r (Run most) w = rounds-keep r most w
 next-keeps r (Pause gaps) w = refl
 next-keeps r (Cross object region) w = cross-keeps r (object - 1) region w
 
-go_on-keeps : (r : Rules) (step : Step) (trips : List Trip) (w : World) → fixed_in (go_on r step trips w).value ≡ fixed_in w
+go_on-keeps : (r : Rules) (step : Step) (trips : List Trip) (w : World) → fixed_in (go_on r step trips w).value
+    ≡ fixed_in w
 go_on-keeps r (Cross object region) trips w =
     go (not (is_in_region w (object - 1) region) && not (came_back trips))
   where

@@ -54,7 +54,8 @@ pub record HasFrozen (held : Option Files) (mode : Mode) (bytes : List ℕ) : Ty
   pub fits : (codes : List Code) (programs : List Program) (file : WorldFile) (cards : List Notecard) (from : World)
       → IsFromIn mode codes programs file cards text from → IsFromIn mode codes programs file cards bytes from
 
-thaw-fault : (codes : List Code) (file : WorldFile) (bytes text : List ℕ) (fault : ImageFault) → IsFrozenReadOf bytes text
+thaw-fault : (codes : List Code) (file : WorldFile) (bytes text : List ℕ) (fault : ImageFault)
+    → IsFrozenReadOf bytes text
     → IsThawFault codes file bytes fault → IsThawFault codes file text fault
 thaw-fault codes file bytes text fault of (inl (lacks, e)) = inl (of.none lacks, e)
 thaw-fault codes file bytes text fault of (inr (image, is, first)) = inr (image, of.given image is, first)

@@ -301,7 +301,8 @@ module _ (gives : List ℕ → Option (List ℕ) → Type 0) (codes : List Code)
           let next : suc (suc n) ≡ suc (length first + n) = omega arith in (
             length first + n,
             record {
-              begun = subst (λ (z : List Piece). IsBegunAt (length first + n) z (one.trips ++ others.trips) a.sunk c.sunk)
+              begun = subst (λ (z : List Piece). IsBegunAt (length first + n) z (one.trips ++ others.trips) a.sunk
+                  c.sunk)
                   (sym (pieces-then codes r regions stage step rest one.trips others.trips sent))
                   (begun-then first second one.trips others.trips a.sunk b.sunk c.sunk whole n s.begun);
               last = λ f.

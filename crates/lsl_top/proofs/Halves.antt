@@ -141,7 +141,8 @@ thawed-run from trips frozen codes programs file cards text image answer is stan
 
 -- ---- the two runs
 
-module _ (codes : List Code) (programs : List Program) (first second whole : WorldFile) (h : AreHalves first second whole)
+module _ (codes : List Code) (programs : List Program) (first second whole : WorldFile)
+    (h : AreHalves first second whole)
     (cards : List Notecard) (before behind : List Trip)
     (fits : Fits codes (rules_of programs) first.steps before (start (rules_of programs) first cards)) where
   abbrev r : Rules

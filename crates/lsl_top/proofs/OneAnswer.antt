@@ -52,7 +52,8 @@ texts-one files [] [] (b ∷ us) h k = absurd k
 texts-one files (name ∷ names) [] us h k = absurd h
 texts-one files (name ∷ names) (a ∷ ts) [] h k = absurd k
 
-pub programs-one : (texts : List (List ℕ)) (ps qs : List Program) → AreAccepted texts ps → AreAccepted texts qs → ps ≡ qs
+pub programs-one : (texts : List (List ℕ)) (ps qs : List Program) → AreAccepted texts ps → AreAccepted texts qs → ps
+    ≡ qs
 programs-one [] [] [] h k = refl
 programs-one (t ∷ texts) (p ∷ ps) (q ∷ qs) h k =
     ap₂ (λ x xs. x ∷ xs) (one_program t p q h.0 k.0) (programs-one texts ps qs h.1 k.1)
@@ -299,7 +300,8 @@ world-fault-one bytes f g e k = ap value (sym e ∙ k)
 -- what is answered to a world file is what is answered to its play
 pub replays-plays : (files : Files) (g : Grade) (from : World) (trips : List Trip) (mode : Mode) (name bytes : List ℕ)
     (file : WorldFile) (answer : Answer) → Holds (Some files) name bytes → IsWorld bytes file
-    → ReplaysFile g (Some files) from trips mode name answer → Plays g (Some files) from trips (play_of mode file) answer
+    → ReplaysFile g (Some files) from trips mode name answer
+    → Plays g (Some files) from trips (play_of mode file) answer
 replays-plays files g from trips mode name bytes file answer is good (other, k, q) =
     go (subst (λ (z : List ℕ). Replays g (Some files) from trips mode name z answer)
     (text-one files name other bytes k is) q)

@@ -67,7 +67,8 @@ untaken {T} codes file text refusal (inr (e, lacks)) fault is =
     value (Fault f) = f
     value WantsMemory = fault
 
-pub unthawed : {T : Type 0} (codes : List Code) (file : WorldFile) (text image : List ℕ) (result : Result T (Refusal ImageFault))
+pub unthawed : {T : Type 0} (codes : List Code) (file : WorldFile) (text image : List ℕ)
+    (result : Result T (Refusal ImageFault))
     → IsFrozen text image → IfErr result (IsRefusedBy (WorldFirst (shapes_of_file file) codes image))
     → (fault : ImageFault) → IsErrOf result (Fault fault) → IsThawFault codes file text fault
 unthawed codes file text image (Ok t) of first fault is = absurd (cc)

@@ -82,7 +82,8 @@ map-as {X} {Y} f g (x ∷ xs) e =
 
 -- all shapes, by what stays
 all-fixed : (grid : Contents) → AreHome grid.seats
-    → map placed_shape (placed_in grid) ≡ map (shape_in (fixed_of grid)) (range_with_len 0 (length (fixed_of grid).objects))
+    → map placed_shape (placed_in grid) ≡ map (shape_in (fixed_of grid))
+    (range_with_len 0 (length (fixed_of grid).objects))
 all-fixed grid home =
     map-twice placed_shape (placed_at grid) (range_with_len 0 (length grid.objects))
     ∙ map-as (λ k. placed_shape (placed_at grid k)) (shape_in (fixed_of grid)) (range_with_len 0 (length grid.objects))

@@ -158,7 +158,8 @@ module _ (number : ℕ) (held : Option Files) (is : held ≡ Some (made_files nu
       inr (refused answer BadWorld (world_refusal_of made_name fault) (λ f. cc) e)
 
   -- first ones of what the answer sends were sent, and nothing was written
-  summed-begun : (answer : Answer) (trips : List Trip) (told : Option (List ℕ)) → (answer.status ≡ Ok) ⊎ IsRefusal answer
+  summed-begun : (answer : Answer) (trips : List Trip) (told : Option (List ℕ))
+      → (answer.status ≡ Ok) ⊎ IsRefusal answer
       → Begins (sent_of trips) (sent_in answer.pieces) → IsBegun (summed number answer).pieces trips told told
   summed-begun answer trips told (inl e) sent =
       subst (λ (a : Answer). IsBegun a.pieces trips told told) (sym (summed-well number answer e))
@@ -197,7 +198,8 @@ module _ (number : ℕ) (held : Option Files) (is : held ≡ Some (made_files nu
     in-line : summed number report ≡ record { status = Ok; pieces = piece ∷ [] }
     in-line = summed-well number report whole.2
 
-    line-begun : GrewPartly a.sunk b.sunk (made_line number bytes) → IsBegun (summed number report).pieces trips a.sunk b.sunk
+    line-begun : GrewPartly a.sunk b.sunk (made_line number bytes)
+        → IsBegun (summed number report).pieces trips a.sunk b.sunk
     line-begun part = subst (λ (z : Answer). IsBegun z.pieces trips a.sunk b.sunk) (sym in-line) (
       0,
       begun-one piece (made_line number bytes) trips a.sunk b.sunk the-line
@@ -233,7 +235,8 @@ module _ (number : ℕ) (held : Option Files) (is : held ≡ Some (made_files nu
     Over bytes status =
         Serves gives (Honest IsIntact) Fits Replayed (IsNamedIn held Whole made_name)
         (record { held = held; read_faults = λ name. 0; log = record { sunk = Some []; faults = 0 }; wire = p })
-        (record { held = later; read_faults = λ name. 0; log = record { sunk = Some bytes; faults = 0 }; wire = q }) status
+        (record { held = later; read_faults = λ name. 0; log = record { sunk = Some bytes; faults = 0 }; wire = q })
+        status
 
     abbrev Concluded : Wire → Wire → Log → Log → Status → Type 0
     Concluded before after a b status =
@@ -244,13 +247,15 @@ module _ (number : ℕ) (held : Option Files) (is : held ≡ Some (made_files nu
     pub over-of : (bytes taken : List ℕ) (status ended : Status) → taken ≡ [] → ended ≡ status
         → Serves gives (Honest IsIntact) Fits Replayed (IsNamedIn held Whole made_name)
         (record { held = held; read_faults = λ name. 0; log = record { sunk = Some taken; faults = 0 }; wire = p })
-        (record { held = later; read_faults = λ name. 0; log = record { sunk = Some bytes; faults = 0 }; wire = q }) ended
+        (record { held = later; read_faults = λ name. 0; log = record { sunk = Some bytes; faults = 0 }; wire = q })
+        ended
         → Over bytes status
     over-of bytes taken status ended e f h =
         subst (λ (z : Status). Over bytes z) f
         (subst (λ (z : List ℕ). Serves gives (Honest IsIntact) Fits Replayed (IsNamedIn held Whole made_name)
         (record { held = held; read_faults = λ name. 0; log = record { sunk = Some z; faults = 0 }; wire = p })
-        (record { held = later; read_faults = λ name. 0; log = record { sunk = Some bytes; faults = 0 }; wire = q }) ended)
+        (record { held = later; read_faults = λ name. 0; log = record { sunk = Some bytes; faults = 0 }; wire = q })
+        ended)
         e h)
 
     -- the world was run, and its line was to be written
@@ -276,8 +281,12 @@ module _ (number : ℕ) (held : Option Files) (is : held ≡ Some (made_files nu
 
         found : {T : Type 0} (from : World) (trips : List Trip) → HasAnswer (Replayed Due from trips) Ok
             → (r : Result T Trouble) → IsOwn (status_after r Ok) → HasAnswer (Made Due from trips) (status_after r Ok)
-        found from trips (answer, of, e) (OkResult t) own =
-            (summed number answer, made-of Due from trips answer of, ap (λ (z : Answer). z.status) (summed-well number answer e))
+        found from trips (answer, of, e) (OkResult t) own = (
+          summed number answer,
+          made-of Due from trips answer of,
+          ap (λ (z : Answer). z.status)
+              (summed-well number answer e),
+        )
         found from trips answer (Err WriteTrouble) own = absurd own
         found from trips answer (Err MemoryTrouble) own = absurd own
 
@@ -344,9 +353,11 @@ module _ (number : ℕ) (held : Option Files) (is : held ≡ Some (made_files nu
           (went-then gives p.told q.told s.told h.trips k.trips h.went k.went);
       silent = k.silent;
       keeps = λ from fits honest.
-          keeps-as (λ grade. ReplaysFile grade later from k.trips Whole made_name) (λ grade. Made grade from k.trips) second
+          keeps-as (λ grade. ReplaysFile grade later from k.trips Whole made_name) (λ grade. Made grade from k.trips)
+          second
           k.trips a.sunk b.sunk (λ grade answer given. of grade from k.trips answer given)
-          (k.keeps from (subst (λ (z : Option Files). IsFromFile z Whole made_name from) (sym same) (made-fits from)) honest);
+          (k.keeps from (subst (λ (z : Option Files). IsFromFile z Whole made_name from) (sym same) (made-fits from))
+          honest);
       answers = λ from trips own.
           let (answer, given, e) = k.answers from trips own in (answer, of Due from trips answer given, e);
       counted = k.writes_counted;

@@ -41,7 +41,8 @@ tells-as (Err e) First Second old new a into told = told
 module _ {T E : Type 0} (codes : List Code) (r : Rules) (First Second : SourceWorld → Type 0)
     (into : (w : SourceWorld) → First w → Second w) (step : Step) (w : SourceWorld) (trips : List Trip)
     (before after : List Entry) (result : Result T E) where
-  pub does-as : Does codes r First step w trips before after result → Does codes r Second step w trips before after result
+  pub does-as : Does codes r First step w trips before after result
+      → Does codes r Second step w trips before after result
   does-as does = record {
     tells = λ honest. tells-as result First Second before after _ into (does.tells honest);
     sent = does.sent;

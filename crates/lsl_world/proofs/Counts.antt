@@ -30,7 +30,8 @@ outline w = (map without_names w.objects, length w.members)
 abbrev among : World → ℕ → List Linkset × ℕ
 among w scripts = (map without_names w.objects, scripts)
 
-member-keeps : (place : ℕ) (thing : Member → Told Script) (w : World) → outline (at_member place thing w).value ≡ outline w
+member-keeps : (place : ℕ) (thing : Member → Told Script) (w : World) → outline (at_member place thing w).value
+    ≡ outline w
 member-keeps place thing w = go (slice_get w.members place) where
   go : (o : Option Member) → outline (changed_at place thing w o).value ≡ outline w
   go None = refl

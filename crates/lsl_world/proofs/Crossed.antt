@@ -289,7 +289,8 @@ module _ (codes : List Code) (r : Rules) (regions : List (List ℕ)) (few_region
       cross-gone trips =
           ap (λ (o : Option (List (List Card))). goes_by o codes r regions step stage trips) ready.are
           ∙ ap (λ (b : Bool). if b
-          then departs_unless (depart_fault (card_at cards way.object way.from) way.from way.to) codes r regions step way
+          then departs_unless (depart_fault (card_at cards way.object way.from) way.from way.to) codes r regions
+          step way
           cards stage trips
           else goes_plainly codes r step stage trips) crossing
           ∙ ap (λ (f : Option DepartFault). departs_unless f codes r regions step way cards stage trips) fine
@@ -309,15 +310,18 @@ module _ (codes : List Code) (r : Rules) (regions : List (List ℕ)) (few_region
           → IsOpen (bytes_of stage.notes) trips
       opens-offer [] more begins = tt
       opens-offer (t ∷ trips) more begins =
-          let first = first-note (length homes) (length regions) (omega (arith, many, ready.few), few_regions) way parcel cards
-          ready.order.counts has (place_in regions homes) rest refl fine ready.order.fit trip-fits stage.notes ready.past 31
+          let first = first-note (length homes) (length regions) (omega (arith, many, ready.few), few_regions) way
+          parcel cards
+          ready.order.counts has (place_in regions homes) rest refl fine ready.order.fit trip-fits stage.notes
+          ready.past 31
           (omega arith) (t ∷ trips) in
           let sends = subst (λ (ns : List Note). Begins (sent_of (t ∷ trips)) (bytes_of ns ++ more)) first
           (begins-offer (t ∷ trips) more begins) in
           subst (λ (z : List ℕ). is_new_offer (bytes_of stage.notes) z ≡ true)
           (sym (begins-with t trips (note_bytes offer) _ sends).first)
           (offer-new (length homes) (length regions) (omega (arith, many, ready.few), few_regions) way parcel cards
-          ready.order.counts has (place_in regions homes) rest refl fine ready.order.fit trip-fits stage.notes ready.past)
+          ready.order.counts has (place_in regions homes) rest refl fine ready.order.fit trip-fits stage.notes
+          ready.past)
 
       -- by what came back
       module _ (trips : List Trip) (lands : Lands cards way parcel stage.notes (drive trips) trips) where
@@ -374,10 +378,12 @@ module _ (codes : List Code) (r : Rules) (regions : List (List ℕ)) (few_region
             → (card_at new way.object (if c then way.to else way.from)).trip ≡ next_trip cards way
             → AreInOrder regions new (homes_by c)
         order-by true rests after =
-            order-moved regions homes cards new way region ready.order counts-new one refl refl named lands.come.others rests
+            order-moved regions homes cards new way region ready.order counts-new one refl refl named
+            lands.come.others rests
             after trip-fits
         order-by false rests after =
-            order-stays regions homes cards new way region ready.order counts-new one refl refl named lands.come.others rests
+            order-stays regions homes cards new way region ready.order counts-new one refl refl named
+            lands.come.others rests
             after trip-fits
 
         count-by : (c : Bool) → length (homes_by c) ≡ length homes
@@ -408,7 +414,8 @@ module _ (codes : List Code) (r : Rules) (regions : List (List ℕ)) (few_region
         pub begins-on : (more : List (List ℕ)) → Begins (sent_of trips) (bytes_of d.notes ++ more)
             → Begins (sent_of d.behind) more
         begins-on more begins =
-            subst (λ (ts : List Trip). Begins (sent_of ts) more) (sym behind-is) (begins-behind d.notes trips more begins)
+            subst (λ (ts : List Trip). Begins (sent_of ts) more) (sym behind-is)
+            (begins-behind d.notes trips more begins)
 
         -- and the other steps
         module _ (steps : List Step) (more : List (List ℕ)) (fair : WereCarried (bytes_of stage.notes) trips)
@@ -512,5 +519,6 @@ module _ (codes : List Code) (r : Rules) (regions : List (List ℕ)) (few_region
             cross-kept =
                 ap (λ (gone : Gone). as_value (λ s. s.world)
                 (next_to gone.told (λ s. travel_from codes r regions steps gone.behind s))) (cross-gone trips ∙ told-is)
-                ∙ next-kept came (as_value (λ s. s.world) (travel_from codes r regions steps d.behind (stage_by came))) on
+                ∙ next-kept came (as_value (λ s. s.world) (travel_from codes r regions steps d.behind (stage_by came)))
+                on
                 ∙ ap (λ (ks : List Step). reference r ks w) (sym kept-is)

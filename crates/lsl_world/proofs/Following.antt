@@ -84,7 +84,8 @@ module _ (objects regions : ℕ) (Takes : Note → Type 0) (ranges : AreCounts o
     note-known : IsKnown objects regions ranges Takes note
     note-known =
         go
-        (asked-is objects regions ranges way parcel start counts has apart place rest fit trip trip_fits handed first m moves
+        (asked-is objects regions ranges way parcel start counts has apart place rest fit trip trip_fits handed first
+        m moves
         answers m.reply refl note asked)
       where
         go : IsBare note ⊎ (note ≡ offer_of way.object trip way.from way.to parcel)
@@ -93,7 +94,8 @@ module _ (objects regions : ℕ) (Takes : Note → Type 0) (ranges : AreCounts o
           is = record {
             object = (there objects regions ranges way parcel start counts has apart place rest fit trip trip_fits
                 note.object note.from held.from).0;
-            trip = trip-few objects regions ranges way parcel start counts has apart place rest fit trip trip_fits m.field
+            trip = trip-few objects regions ranges way parcel start counts has apart place rest fit trip trip_fits
+                m.field
                 first note held;
             from = (there objects regions ranges way parcel start counts has apart place rest fit trip trip_fits
                 note.object note.from held.from).1;
@@ -180,7 +182,8 @@ module _ (objects regions : ℕ) (Takes : Note → Type 0) (ranges : AreCounts o
     pub sent_is : sent_of trips ≡ bytes_of d.notes
     pub known : Known (handed ++ d.notes)
 
-  follows-last : (handed : List Note) (m last : Moment) (o : Option Note) (most : ℕ) → o ≡ None → m ≡ last → Known handed
+  follows-last : (handed : List Note) (m last : Moment) (o : Option Note) (most : ℕ) → o ≡ None → m ≡ last
+      → Known handed
       → Follows handed (by_asked way most handed m [] o) last []
   follows-last handed m last None most e same known = record {
     last_is = same;
@@ -200,7 +203,8 @@ module _ (objects regions : ℕ) (Takes : Note → Type 0) (ranges : AreCounts o
       (record {
         last_is = on.last_is;
         sent_is = ap₂ (λ (x : List ℕ) (xs : List (List ℕ)). x ∷ xs) sent on.sent_is;
-        known = subst Known (append_assoc handed (note ∷ []) (rest_by way most handed m (t ∷ trips) note).notes) on.known;
+        known = subst Known (append_assoc handed (note ∷ []) (rest_by way most handed m (t ∷ trips) note).notes)
+            on.known;
       })
 
   pub follows : (trips : List Trip) (most : ℕ) (handed : List Note) (first : First) (m last : Moment)
@@ -214,7 +218,8 @@ module _ (objects regions : ℕ) (Takes : Note → Type 0) (ranges : AreCounts o
       follows-last handed m last (asks way m) most (ap (asks way) drives ∙ none) drives known
   follows (t ∷ trips) zero handed first m last moves answers few known fair (note, back, asked, sent, is, more) none =
       absurd (omega (arith, few, some-left handed first m moves answers known note asked))
-  follows (t ∷ trips) (suc most) handed first m last moves answers few known fair (note, back, asked, sent, is, more) none =
+  follows (t ∷ trips) (suc most) handed first m last moves answers few known fair (note, back, asked, sent, is, more)
+      none =
       let all = more-known handed first m moves answers known note asked in
       let entries = entries-more handed note t.sent sent in
       let same : heard (handed ++ note ∷ []) t.back ≡ back =

@@ -73,7 +73,8 @@ module _ (names : List (List ℕ)) (object : ℕ) (here there : List ℕ) (named
   way_if same = if same then None else Some (record { object = object; from = first_number; to = last_number })
 
   between : way_between object (number_of names here) (number_of names there)
-      ≡ (if nat_eq first_number last_number then None else Some (record { object = object; from = first_number; to = last_number }))
+      ≡ (if nat_eq first_number last_number then None else Some
+      (record { object = object; from = first_number; to = last_number }))
   between =
       ap (λ (o : Option ℕ). way_between object o (number_of names there)) (named-number names here named_here)
       ∙ ap (λ (o : Option ℕ). way_between object (Some first_number) o) (named-number names there named_there)
@@ -91,11 +92,13 @@ module _ (names : List (List ℕ)) (object : ℕ) (here there : List ℕ) (named
   pub a-way : (way : Way) → way_between object (number_of names here) (number_of names there) ≡ Some way → IsWay way
   a-way way some = go (nat_eq first_number last_number) refl (sym between ∙ some) where
     go : (b : Bool) → nat_eq first_number last_number ≡ b
-        → (if b then None else Some (record { object = object; from = first_number; to = last_number })) ≡ Some way → IsWay way
+        → (if b then None else Some (record { object = object; from = first_number; to = last_number })) ≡ Some way
+        → IsWay way
     go true same e = absurd (cc)
     go false same e = record {
       way_is = cc;
-      apart = λ is. (let no : first_number ≢ last_number = eqb-false first_number last_number same in no (ap (number_in names) is));
+      apart = λ is. (let no : first_number ≢ last_number = eqb-false first_number last_number same in no
+          (ap (number_in names) is));
     }
 
 -- an object that is live doesn't depart to another region only on its last trip
@@ -136,7 +139,8 @@ module _ (programs : List Program) (world : World) (w : SourceWorld) (is : IsOf 
       ap (λ (b : Bool). if b then quiet w else arrive at_rules at_place region w)
       (bytes-differ (object_at w at_place).region region (λ e. apart (grid-at ∙ e)))
 
-  module _ (apart : region_in world.grid at_place ≢ region) (grid : Contents) (due : List (ℕ × ℕ)) (before after : List Entry) where
+  module _ (apart : region_in world.grid at_place ≢ region) (grid : Contents) (due : List (ℕ × ℕ))
+      (before after : List Entry) where
     pub comes-noted : {U F : Type 0} (result : Result U F)
         → Stands world.units None world.clock grid (arrive at_rules at_place region w).value
         → after ≡ before ++ (arrive at_rules at_place region w).entries → AreSeated world.units grid.seats
@@ -144,7 +148,8 @@ module _ (programs : List Program) (world : World) (w : SourceWorld) (is : IsOf 
         → IsIndexOf (timings_of v) due)
         → Tells result (λ v _. IsOf programs (with_due world grid due) v) before after (next at_rules at_step w)
     comes-noted (Ok u) stands told seated index =
-        subst (λ (a : Told SourceWorld). IsOf programs (with_due world grid due) a.value × (after ≡ before ++ a.entries))
+        subst (λ (a : Told SourceWorld). IsOf programs (with_due world grid due) a.value
+        × (after ≡ before ++ a.entries))
         (sym (next-arrives apart)) (
           record {
             runs = is.runs;
@@ -245,11 +250,13 @@ module _ (programs : List Program) (world : World) (w : SourceWorld) (is : IsOf 
         (later : AreAllPast (length w.objects) (length regions) new (entries_by entries trips))
         (few : (most : ℕ) → AreAtMost most old → AreAtMost (suc most) new)
         (sent : SendsNotes step result world.units regions w old new trips) where
-      pub hands-still : Hands world.units r (IsOf programs new_world) regions old new step w entries trips log log result
+      pub hands-still : Hands world.units r (IsOf programs new_world) regions old new step w entries trips log log
+          result
       hands-still = record {
         tells = subst (λ (a : Told SourceWorld). Tells result (λ v _. IsOf programs new_world v) log log a) (sym still)
             (tells-quiet result programs new_world w log now);
-        ordered = on-ok result (subst (λ (a : Told SourceWorld). AreInOrder regions new (regions_of a.value)) (sym still)
+        ordered = on-ok result (subst (λ (a : Told SourceWorld). AreInOrder regions new (regions_of a.value))
+            (sym still)
             ordered);
         past = on-ok result later;
         few = λ most are. on-ok result (few most are);
@@ -257,7 +264,8 @@ module _ (programs : List Program) (world : World) (w : SourceWorld) (is : IsOf 
       }
 
     -- it is told that the object comes
-    module _ {T E : Type 0} (new_world : World) (new : List (List Card)) (result : Result T E) (before after : List Entry)
+    module _ {T E : Type 0} (new_world : World) (new : List (List Card)) (result : Result T E)
+        (before after : List Entry)
         (moves : hand_on world.units r regions old step trips w ≡ next r step w)
         (crossing : is_crossing w step ≡ true)
         (told : Tells result (λ v _. IsOf programs new_world v) before after (next r step w))
@@ -270,8 +278,10 @@ module _ (programs : List Program) (world : World) (w : SourceWorld) (is : IsOf 
       hands-moved = record {
         tells = subst (λ (a : Told SourceWorld). Tells result (λ v _. IsOf programs new_world v) before after a)
             (sym moves) told;
-        ordered = on-ok result (subst (λ (a : Told SourceWorld). AreInOrder regions new (regions_of a.value)) (sym moves)
-            (subst (λ (hs : List (List ℕ)). AreInOrder regions new hs) (sym (regions-cross r step w crossing)) ordered));
+        ordered = on-ok result (subst (λ (a : Told SourceWorld). AreInOrder regions new (regions_of a.value))
+            (sym moves)
+            (subst (λ (hs : List (List ℕ)). AreInOrder regions new hs) (sym (regions-cross r step w crossing))
+            ordered));
         past = on-ok result later;
         few = λ most are. on-ok result (few most are);
         sent = sent;
@@ -354,14 +364,16 @@ module _ (programs : List Program) (world : World) (w : SourceWorld) (is : IsOf 
         (IsTaken (IsImageFrom world.units (contents_of world.units w) regions)) (way_to regions homes object region)
         (departure old (way_to regions homes object region) p) trips) image-is
         (subst (λ (x : Way). IsCut (length w.objects) (length regions)
-        (IsTaken (IsImageFrom world.units (contents_of world.units w) regions)) x (departure old x own_image) trips) way_is
+        (IsTaken (IsImageFrom world.units (contents_of world.units w) regions)) x (departure old x own_image) trips)
+        way_is
         (subst (λ (g : Contents). IsCut (length w.objects) (length regions)
         (IsTaken (IsImageFrom world.units g regions)) way (departure old way own_image) trips) grid-is
         (subst (λ (n : ℕ). IsCut n (length regions) (IsTaken (IsImageFrom world.units world.grid regions)) way
         (departure old way own_image) trips) many cut)))
 
     over-so : (new : List (List Card)) (trips : List Trip) (landed : Option Note)
-        → IsHandedOver (length world.grid.objects) (length regions) (IsTaken (IsImageFrom world.units world.grid regions))
+        → IsHandedOver (length world.grid.objects) (length regions)
+        (IsTaken (IsImageFrom world.units world.grid regions))
         way own_image trips old new landed
         → IsDriven world.units regions w (way_to regions homes object region) old new trips
     over-so new trips landed over = inl (
@@ -370,7 +382,8 @@ module _ (programs : List Program) (world : World) (w : SourceWorld) (is : IsOf 
           (IsTaken (IsImageFrom world.units (contents_of world.units w) regions)) (way_to regions homes object region) p
           trips old new landed) image-is
           (subst (λ (x : Way). IsHandedOver (length w.objects) (length regions)
-          (IsTaken (IsImageFrom world.units (contents_of world.units w) regions)) x own_image trips old new landed) way_is
+          (IsTaken (IsImageFrom world.units (contents_of world.units w) regions)) x own_image trips old new landed)
+          way_is
           (subst (λ (g : Contents). IsHandedOver (length w.objects) (length regions)
           (IsTaken (IsImageFrom world.units g regions)) way own_image trips old new landed) grid-is
           (subst (λ (n : ℕ). IsHandedOver n (length regions) (IsTaken (IsImageFrom world.units world.grid regions)) way
@@ -384,7 +397,8 @@ module _ (programs : List Program) (world : World) (w : SourceWorld) (is : IsOf 
         (departure old way own_image) trips
         → Hands world.units r (IsOf programs new_world) regions old new step w entries trips log log result
     hands-cut {T} {E} result e new_world new trips log err cut =
-        subst (λ (x : Result T E). Hands world.units r (IsOf programs new_world) regions old new step w entries trips log
+        subst (λ (x : Result T E). Hands world.units r (IsOf programs new_world) regions old new step w entries
+        trips log
         log x) (sym err)
         (record {
           tells = part-none log (hand_on world.units r regions old step trips w).entries;
@@ -419,13 +433,15 @@ module _ (programs : List Program) (world : World) (w : SourceWorld) (is : IsOf 
         own-offer : IsImageFrom world.units world.grid regions (next_offer old way own_image)
             (parts_of_object world.grid (way.object - 1))
         own-offer = record {
-          image = subst (λ (s : List ℕ). ObjectImage s (shape_of (parts_of_object world.grid (way.object - 1))) world.units
+          image = subst (λ (s : List ℕ). ObjectImage s (shape_of (parts_of_object world.grid (way.object - 1)))
+              world.units
               (parts_of_object world.grid (way.object - 1)) own_image) (sym own-region) sent_is;
           fits = own_fits;
         }
 
         may-rest : (trips : List Trip) → AreCarried (length w.objects) (length regions) entries trips
-            → MayRest (length world.grid.objects) (length regions) (IsTaken (IsImageFrom world.units world.grid regions))
+            → MayRest (length world.grid.objects) (length regions)
+            (IsTaken (IsImageFrom world.units world.grid regions))
             (place_in regions homes) old way own_image entries trips
         may-rest trips carried = record {
           rest = λ q there. order.rest q (subst (λ (n : ℕ). IsOneOf n q) order.counts.rows there);
@@ -469,7 +485,8 @@ module _ (programs : List Program) (world : World) (w : SourceWorld) (is : IsOf 
 
           few-more : (most : ℕ) → AreAtMost most old → AreAtMost (suc most) new
           few-more =
-              most-next regions homes old new way region order counts-new one-way home-way (sym to-is) named rests.others
+              most-next regions homes old new way region order counts-new one-way home-way (sym to-is) named
+              rests.others
               (if came then way.to else way.from) rests.rests rests.after
 
           pub not-given : given ≡ None → came ≡ false
@@ -480,16 +497,19 @@ module _ (programs : List Program) (world : World) (w : SourceWorld) (is : IsOf 
                 let some : landed ≡ Some (next_offer old way own_image) =
                 rests.landed_is ∙ ap (λ (b : Bool). if b then Some (next_offer old way own_image) else None) e in
                 absurd (subst (λ (x : Option Note). IsGivenOf (IsImageFrom world.units world.grid regions) x None) some
-                (subst (λ (x : Option ObjectParts). IsGivenOf (IsImageFrom world.units world.grid regions) landed x) none
+                (subst (λ (x : Option ObjectParts). IsGivenOf (IsImageFrom world.units world.grid regions) landed x)
+                none
                 given_of))
 
           pub given-own : (parts : ObjectParts) → given ≡ Some parts
               → (came ≡ true) × (parts ≡ parts_of_object world.grid (way.object - 1))
           given-own parts some = go came refl where
-            stands : (o : Option Note) → landed ≡ o → IsGivenOf (IsImageFrom world.units world.grid regions) o (Some parts)
+            stands : (o : Option Note) → landed ≡ o → IsGivenOf (IsImageFrom world.units world.grid regions) o
+                (Some parts)
             stands o e =
                 subst (λ (x : Option Note). IsGivenOf (IsImageFrom world.units world.grid regions) x (Some parts)) e
-                (subst (λ (x : Option ObjectParts). IsGivenOf (IsImageFrom world.units world.grid regions) landed x) some
+                (subst (λ (x : Option ObjectParts). IsGivenOf (IsImageFrom world.units world.grid regions) landed x)
+                some
                 given_of)
 
             go : (b : Bool) → came ≡ b
@@ -522,9 +542,11 @@ module _ (programs : List Program) (world : World) (w : SourceWorld) (is : IsOf 
           hands-stays result log none =
               let out = not-given none in
               hands-still trips world new result log (hand-struck trips crossing (sym (arrives-so trips) ∙ out)) is
-              (order-stays regions homes old new way region order counts-new one-way home-way (sym to-is) named rests.others
+              (order-stays regions homes old new way region order counts-new one-way home-way (sym to-is) named
+              rests.others
               (subst (λ (b : Bool). IsAtRest new way.object (if b then way.to else way.from)) out rests.rests)
-              (subst (λ (b : Bool). (card_at new way.object (if b then way.to else way.from)).trip ≡ next_trip old way) out
+              (subst (λ (b : Bool). (card_at new way.object (if b then way.to else way.from)).trip ≡ next_trip old way)
+              out
               rests.after) fits)
               later few-more (driven-sent result)
 
@@ -535,12 +557,15 @@ module _ (programs : List Program) (world : World) (w : SourceWorld) (is : IsOf 
               → Hands world.units r (IsOf programs new_world) regions old new step w entries trips before after result
           hands-comes result new_world before after parts some told =
               let yes = (given-own parts some).0 in
-              hands-moved trips new_world new result before after (hand-moved trips crossing (sym (arrives-so trips) ∙ yes))
+              hands-moved trips new_world new result before after
+              (hand-moved trips crossing (sym (arrives-so trips) ∙ yes))
               crossing told
               (subst (λ (o : ℕ). AreInOrder regions new (slice_set homes (o - 1) region)) own-object
-              (order-moved regions homes old new way region order counts-new one-way home-way (sym to-is) named rests.others
+              (order-moved regions homes old new way region order counts-new one-way home-way (sym to-is) named
+              rests.others
               (subst (λ (b : Bool). IsAtRest new way.object (if b then way.to else way.from)) yes rests.rests)
-              (subst (λ (b : Bool). (card_at new way.object (if b then way.to else way.from)).trip ≡ next_trip old way) yes
+              (subst (λ (b : Bool). (card_at new way.object (if b then way.to else way.from)).trip ≡ next_trip old way)
+              yes
               rests.after) fits))
               later few-more (driven-sent result)
 
@@ -549,7 +574,8 @@ module _ (programs : List Program) (world : World) (w : SourceWorld) (is : IsOf 
             (before after : List Entry) (carried : AreCarried (length w.objects) (length regions) entries trips)
             (new_counts : HasCounts (length world.grid.objects) (length regions) new) where
           abbrev IsHands : Type 0
-          IsHands = Hands world.units r (IsOf programs new_world) regions old new step w entries trips before after result
+          IsHands = Hands world.units r (IsOf programs new_world) regions old new step w entries trips before after
+              result
 
           abbrev Stayed : Option ObjectParts → Type 0
           Stayed given = given ≡ None → (new_world ≡ world) × (after ≡ before)
@@ -563,7 +589,8 @@ module _ (programs : List Program) (world : World) (w : SourceWorld) (is : IsOf 
               → Hands world.units r (IsOf programs world) regions old new step w entries trips before before result
               → IsHands
           still-hands same hands =
-              subst (λ (log : List Entry). Hands world.units r (IsOf programs new_world) regions old new step w entries trips
+              subst (λ (log : List Entry). Hands world.units r (IsOf programs new_world) regions old new step w
+              entries trips
               before log result) (sym same.1)
               (subst (λ (x : World). Hands world.units r (IsOf programs x) regions old new step w entries trips
               before before result) (sym same.0) hands)
@@ -577,13 +604,16 @@ module _ (programs : List Program) (world : World) (w : SourceWorld) (is : IsOf 
           by-given (Some parts) stayed came (inl (landed, over, given_of, rests)) =
               let all = rests (place_in regions homes) entries (may-rest trips carried) in
               let own = (given-own trips new landed (Some parts) over given_of all new_counts parts refl).1 in
-              hands-comes trips new landed (Some parts) over given_of all new_counts result new_world before after parts refl
+              hands-comes trips new landed (Some parts) over given_of all new_counts result new_world before after
+              parts refl
               (came (ap (λ (p : ObjectParts). Some p) own))
           by-given None stayed came (inr (fault, e, none, same, gone)) =
               still-hands (stayed refl)
-              (subst (λ (ts : List Trip). Hands world.units r (IsOf programs world) regions old new step w entries ts before
+              (subst (λ (ts : List Trip). Hands world.units r (IsOf programs world) regions old new step w entries ts
+              before
               before result) (sym none)
-              (subst (λ (cs : List (List Card)). Hands world.units r (IsOf programs world) regions old cs step w entries []
+              (subst (λ (cs : List (List Card)). Hands world.units r (IsOf programs world) regions old cs step w
+              entries []
               before before result) (sym same) (hands-last result before fault e)))
           by-given (Some parts) stayed came (inr (fault, e, none, same, gone)) = absurd (cc)
 
@@ -614,8 +644,10 @@ module _ (codes : List Code) (regions : List (List ℕ)) (grid : Contents) (way 
     pub cut-as : IsCut n m (IsTaken (IsImageFrom codes grid regions)) way (departure old way parcel) trips
         → IsCut k l (IsTaken (IsImageFrom codes grid regions)) way (departure old way image) trips
     cut-as cut =
-        subst (λ (p : List ℕ). IsCut k l (IsTaken (IsImageFrom codes grid regions)) way (departure old way p) trips) same
-        (subst (λ (q : ℕ). IsCut k q (IsTaken (IsImageFrom codes grid regions)) way (departure old way parcel) trips) count
+        subst (λ (p : List ℕ). IsCut k l (IsTaken (IsImageFrom codes grid regions)) way (departure old way p) trips)
+        same
+        (subst (λ (q : ℕ). IsCut k q (IsTaken (IsImageFrom codes grid regions)) way (departure old way parcel) trips)
+        count
         (subst (λ (o : ℕ). IsCut o m (IsTaken (IsImageFrom codes grid regions)) way (departure old way parcel) trips)
         objects cut))
 
@@ -629,7 +661,8 @@ own-image codes regions grid way parcel here same sent fits trip =
     let parts = parts_of_object grid (way.object - 1) in
     record {
       image = subst (λ (s : List ℕ). ObjectImage s (shape_of parts) codes parts parcel) (sym here)
-          (subst (λ (p : List ℕ). ObjectImage (region_in grid (way.object - 1)) (shape_of parts) codes parts p) (sym same)
+          (subst (λ (p : List ℕ). ObjectImage (region_in grid (way.object - 1)) (shape_of parts) codes parts p)
+          (sym same)
           sent);
       fits = fits;
     }

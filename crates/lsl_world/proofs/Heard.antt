@@ -47,7 +47,8 @@ among-found (first ∷ notes) bytes note e =
         let is : first ≡ note = cc in
         record {
           there = (0, omega arith, is);
-          bytes_are = subst (λ (n : Note). note_bytes n ≡ bytes) is ((bytes_eq-Decides (note_bytes first) bytes).0 same);
+          bytes_are = subst (λ (n : Note). note_bytes n ≡ bytes) is
+              ((bytes_eq-Decides (note_bytes first) bytes).0 same);
         }
     go false same f next = found-later first note notes bytes (next f)
 
@@ -107,7 +108,8 @@ module _ (objects regions : ℕ) (ranges : AreCounts objects regions) (Takes : N
       go (Some note) e None is = absurd (is note (of-note note (among-found notes bytes note e)))
       go (Some note) e (Some other) is =
           e ∙ ap (λ (n : Note). Some n)
-          (sym (written-is objects regions ranges.0 ranges.1 bytes is.0.fits note (of-note note (among-found notes bytes note e)).0)
+          (sym (written-is objects regions ranges.0 ranges.1 bytes is.0.fits note
+          (of-note note (among-found notes bytes note e)).0)
           ∙ written-is objects regions ranges.0 ranges.1 bytes is.0.fits other is.0)
 
 -- ---- what is heard was handed over

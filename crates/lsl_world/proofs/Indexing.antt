@@ -147,7 +147,8 @@ module _ (grid : Contents) (number : ℕ) (due : Option ℕ) (old new : List (�
   puts-due (Ok t) source puts = puts-one source puts
   puts-due (Err e) source puts = tt
 
-  pub numbered-after : {T E : Type 0} (r : Result T E) → AreNumbered (length grid.seats) old → OnOk r (Puts number due old new)
+  pub numbered-after : {T E : Type 0} (r : Result T E) → AreNumbered (length grid.seats) old
+      → OnOk r (Puts number due old new)
       → OnErr r (new ≡ old) → AreNumbered (length grid.seats) new
   numbered-after (Ok t) are puts same = numbered-put (length grid.seats) number due old new has are puts
   numbered-after (Err e) are puts same =

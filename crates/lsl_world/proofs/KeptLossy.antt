@@ -192,7 +192,8 @@ module _ (codes : List Code) (r : Rules) (regions : List (List ℕ)) (few_region
     kept-here : is_crossing w_now step ≡ false → IsKept step
     kept-here here =
         let v = (next r step w_now).value in
-        let on = more_keeps (here_behind codes r regions stage step here) cards most trips (here-so stage step here cards most ready)
+        let on = more_keeps (here_behind codes r regions stage step here) cards most trips
+        (here-so stage step here cards most ready)
         (omega (arith, room))
         (fine-rest step steps (length v.objects) (length w_now.objects)
         (same-count v w_now (here-regions codes r regions stage step here)) fine) fair
@@ -200,7 +201,8 @@ module _ (codes : List Code) (r : Rules) (regions : List (List ℕ)) (few_region
         (gone.sent ++ sent_from codes r regions steps gone.behind gone.told.value))
         (here-gone codes r regions stage step here trips) begins) in
         ap (λ (gone : Gone). as_value (λ x. x.world)
-        (next_to gone.told (λ s. travel_from codes r regions steps gone.behind s))) (here-gone codes r regions stage step here trips)
+        (next_to gone.told (λ s. travel_from codes r regions steps gone.behind s)))
+        (here-gone codes r regions stage step here trips)
         ∙ ap (λ (a : Told World). lead (next r step w_now).entries a)
         (on ∙ ap (λ (hs : List (List ℕ)). reference r (kept_lossy hs entries_now steps trips) v)
         (here-regions codes r regions stage step here))
@@ -233,24 +235,28 @@ module _ (codes : List Code) (r : Rules) (regions : List (List ℕ)) (few_region
       others = sent_from codes r regions steps gone_now.behind gone_now.told.value
 
       begun : Begins (sent_of trips) (bytes_of drive_now.notes ++ others)
-      begun = begins-offer codes r regions few_regions stage cards ready.ready object region ok.named ok.number crossing departs trips others sends
+      begun = begins-offer codes r regions few_regions stage cards ready.ready object region ok.named ok.number crossing
+          departs trips others sends
 
       few-homes : length homes_now < 2 ^ 32
       few-homes = omega (arith, ready.ready.few, length-map w_now.objects region_of)
 
       it : Lands cards way_now parcel_now stage.notes drive_now trips
       it =
-          lands (length homes_now) (length regions) (few-homes, few_regions) way_now parcel_now cards ready.ready.order.counts
+          lands (length homes_now) (length regions) (few-homes, few_regions) way_now parcel_now cards
+          ready.ready.order.counts
           (has codes r regions few_regions stage cards ready.ready object region ok.named ok.number crossing)
           (place_in regions homes_now)
           (rest codes r regions few_regions stage cards ready.ready object region ok.named ok.number crossing) refl
           departs ready.ready.order.fit
-          (trip-fits codes r regions few_regions stage cards ready.ready object region ok.named ok.number crossing departs) stage.notes ready.ready.past 31
+          (trip-fits codes r regions few_regions stage cards ready.ready object region ok.named ok.number crossing
+          departs) stage.notes ready.ready.past 31
           (omega arith) trips others fair begun
 
       abbrev there : Stage
       there =
-          stage_by codes r regions few_regions stage cards ready.ready object region ok.named ok.number crossing departs trips it
+          stage_by codes r regions few_regions stage cards ready.ready object region ok.named ok.number crossing departs
+          trips it
           (is_first it.first false)
 
       abbrev cards_behind : List (List Card)
@@ -258,9 +264,11 @@ module _ (codes : List Code) (r : Rules) (regions : List (List ℕ)) (few_region
 
       now-ready : IsReadyFor there cards_behind (suc most)
       now-ready = record {
-        ready = ready-behind codes r regions few_regions stage cards ready.ready object region ok.named ok.number crossing
+        ready = ready-behind codes r regions few_regions stage cards ready.ready object region ok.named ok.number
+            crossing
             departs trips it;
-        at_most = most-behind codes r regions few_regions stage cards ready.ready object region ok.named ok.number crossing
+        at_most = most-behind codes r regions few_regions stage cards ready.ready object region ok.named ok.number
+            crossing
             departs trips it most ready.at_most;
       }
 
@@ -271,32 +279,40 @@ module _ (codes : List Code) (r : Rules) (regions : List (List ℕ)) (few_region
         behind = drive_now.behind;
       }
       now-gone =
-          cross-gone codes r regions few_regions stage cards ready.ready object region ok.named ok.number crossing departs trips
-          ∙ told-is codes r regions few_regions stage cards ready.ready object region ok.named ok.number crossing departs trips it
+          cross-gone codes r regions few_regions stage cards ready.ready object region ok.named ok.number crossing
+          departs trips
+          ∙ told-is codes r regions few_regions stage cards ready.ready object region ok.named ok.number crossing
+          departs trips it
 
       now-fine : AreFine steps (length there.world.objects)
       now-fine =
           rest_fine (length there.world.objects)
-          (objects-same codes r regions few_regions stage cards ready.ready object region ok.named ok.number crossing departs trips it)
+          (objects-same codes r regions few_regions stage cards ready.ready object region ok.named ok.number crossing
+          departs trips it)
 
       now-begins : Begins (sent_of drive_now.behind) (sent_from codes r regions steps drive_now.behind there)
       now-begins =
           subst (λ (z : List (List ℕ)). Begins (sent_of drive_now.behind) z)
           (ap (λ (gone : Gone). sent_from codes r regions steps gone.behind gone.told.value) now-gone)
-          (begins-on codes r regions few_regions stage cards ready.ready object region ok.named ok.number crossing departs trips it others begun)
+          (begins-on codes r regions few_regions stage cards ready.ready object region ok.named ok.number crossing
+          departs trips it others begun)
 
       now-opens : IsOpen (bytes_of (stage.notes ++ drive_now.notes)) (drop (length drive_now.notes) trips)
       now-opens =
           subst (λ (ts : List Trip). IsOpen (bytes_of (stage.notes ++ drive_now.notes)) ts)
-          (behind-is codes r regions few_regions stage cards ready.ready object region ok.named ok.number crossing departs trips it)
-          (more_opens there cards_behind (suc most) drive_now.behind now-ready (omega (arith, room)) now-fine now-begins)
+          (behind-is codes r regions few_regions stage cards ready.ready object region ok.named ok.number crossing
+          departs trips it)
+          (more_opens there cards_behind (suc most) drive_now.behind now-ready (omega (arith, room)) now-fine
+          now-begins)
 
       kept-cross : IsKept (Cross object region)
       kept-cross =
-          cross-kept codes r regions few_regions stage cards ready.ready object region ok.named ok.number crossing departs trips it steps others fair
+          cross-kept codes r regions few_regions stage cards ready.ready object region ok.named ok.number crossing
+          departs trips it steps others fair
           begun now-opens
           (more_keeps there cards_behind (suc most) drive_now.behind now-ready (omega (arith, room)) now-fine
-          (fair-behind codes r regions few_regions stage cards ready.ready object region ok.named ok.number crossing departs trips it steps others fair
+          (fair-behind codes r regions few_regions stage cards ready.ready object region ok.named ok.number crossing
+          departs trips it steps others fair
           begun now-opens) now-begins)
 
     by-step : (s : Step) → step ≡ s → is_crossing w_now s ≡ true → IsKept s
@@ -320,7 +336,8 @@ module _ (codes : List Code) (r : Rules) (regions : List (List ℕ)) (few_region
       kept-step step steps (opens steps) (keeps steps) stage cards most trips ready room fine fair begins
 
 pub lossy-keeps : LossyRunsKeepSteps
-lossy-keeps codes r regions steps stage cards most size trips are order at_most room few_regions few named as_many there past
+lossy-keeps codes r regions steps stage cards most size trips are order at_most room few_regions few named as_many
+    there past
     fair begins =
     keeps codes r regions few_regions steps stage cards most trips
     (record { ready = record { are = are; order = order; few = few; past = past }; at_most = at_most }) room

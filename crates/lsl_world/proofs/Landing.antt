@@ -1,4 +1,5 @@
--- A drive by its trips: which of them are its own, and that its object lands exactly where its offer came, and not behind
+-- A drive by its trips: which of them are its own, and that its object lands exactly where its offer came, and not
+-- behind
 -- its cancel.
 use Rattle.std.proofs.Common.{◌≡◌, ◌≢◌, ◌∙◌, ◌<◌, ◌≤◌, ◌+◌, ◌^◌, ◌⊎◌, ◌==◌, ◌&&◌, inl, inr, refl, ap, ap₂, sym, subst, arith, ℕ, zero, suc, nat_eq, nat_lt, Bool, true, false, if◌then◌else◌, List, [], ◌∷◌, ◌++◌, append-nil, append_assoc, drop, get_or, length, take, Option, Some, None}
 use Rattle.std.specs.Prelude.{◌||◌, Contains, IfSome, not}
@@ -177,7 +178,8 @@ has-any x (y ∷ xs) e = go (bytes_eq x y) refl e (λ more. has-any x xs more) w
   go true same f next = (0, omega arith, sym ((bytes_eq-Decides x y).0 same))
   go false same f next = Contains-append_right (y ∷ []) xs x (next f)
 
-pub contains-bytes : (notes : List Note) (note : Note) → Contains notes note → Contains (bytes_of notes) (note_bytes note)
+pub contains-bytes : (notes : List Note) (note : Note) → Contains notes note
+    → Contains (bytes_of notes) (note_bytes note)
 contains-bytes [] note (k, lt, at) = absurd (omega (arith, lt))
 contains-bytes (n ∷ notes) note (zero, lt, at) = (0, omega arith, ap note_bytes at)
 contains-bytes (n ∷ notes) note (suc k, lt, at) =
@@ -218,7 +220,8 @@ by_asked way most handed m trips o =
 module _ (objects regions : ℕ) (ranges : AreCounts objects regions) (way : Way) (parcel : List ℕ)
     (start : List (List Card)) (counts : HasCounts objects regions start) (has : HasWay start way)
     (apart : way.from ≢ way.to) (place : ℕ → ℕ) (rest : AreAtRest start place)
-    (fit : (object region : ℕ) → (card_at start object region).trip < 2 ^ 64) (trip : ℕ) (trip_fits : trip < 2 ^ 64) where
+    (fit : (object region : ℕ) → (card_at start object region).trip < 2 ^ 64) (trip : ℕ)
+    (trip_fits : trip < 2 ^ 64) where
   abbrev pub offer : Note
   offer = offer_of way.object trip way.from way.to parcel
 
@@ -280,7 +283,8 @@ module _ (objects regions : ℕ) (ranges : AreCounts objects regions) (way : Way
     go false e = e
 
   -- a note that was handed over and came back
-  module _ (now : List (List Card)) (first : First) (note : Note) (held : IsHeld way trip parcel start now first note) where
+  module _ (now : List (List Card)) (first : First) (note : Note)
+      (held : IsHeld way trip parcel start now first note) where
     pub trip-few : note.trip < 2 ^ 64
     trip-few = go (cases_eq note.object way.object) where
       known : IsKnown way.from way.to trip parcel (card_at now way.object) first note → note.trip < 2 ^ 64
@@ -364,7 +368,8 @@ module _ (objects regions : ℕ) (ranges : AreCounts objects regions) (way : Way
             → IsTold (first_with way trip Neither (Some note))
         go (inl own) = by-known own (held.own own)
         go (inr other) =
-            tells-nothing (first-other way trip Neither note other) (λ like. other like.object) (λ like. other like.object)
+            tells-nothing (first-other way trip Neither note other) (λ like. other like.object)
+            (λ like. other like.object)
 
   -- what came back, where only notes that were handed over are heard
   module _ (now : List (List Card)) (first : First) (notes : List Note)
@@ -421,7 +426,8 @@ module _ (objects regions : ℕ) (ranges : AreCounts objects regions) (way : Way
     awaited-is note (Live held) from k = absurd (cc)
     awaited-is note (Leaving to held) from k =
         let it : offer_of way.object (card_at m.field way.object way.from).trip way.from to held ≡ note = cc in
-        let same : offer_of way.object (card_at m.field way.object way.from).trip way.from to held ≡ offer = λ i. record {
+        let same : offer_of way.object (card_at m.field way.object way.from).trip way.from to held ≡ offer =
+        λ i. record {
           kind = Offer;
           object = way.object;
           trip = moves.between.from_trip i;
@@ -654,11 +660,13 @@ module _ (objects regions : ℕ) (ranges : AreCounts objects regions) (way : Way
           told = all.told;
           come = all.come;
           on = all.on;
-          parts = λ opened. parts-more (bytes_of handed) t trips (take (length d.notes) trips) (drop (length d.notes) trips)
+          parts = λ opened. parts-more (bytes_of handed) t trips (take (length d.notes) trips)
+              (drop (length d.notes) trips)
               (subst (λ (z : List ℕ). is_new_offer (bytes_of handed) z ≡ false) (sym carries.first)
               (not-new (bytes_of handed) (contains-bytes handed offer old) note
               (asked-is handed first m moves answers m.reply refl note asked)))
-              (subst (λ (es : List (List ℕ)). Parts es trips (take (length d.notes) trips) (drop (length d.notes) trips))
+              (subst (λ (es : List (List ℕ)). Parts es trips (take (length d.notes) trips)
+              (drop (length d.notes) trips))
               (sym (entries-more handed note t.sent carries.first)) (all.parts opened));
         }
 
@@ -675,10 +683,12 @@ module _ (objects regions : ℕ) (ranges : AreCounts objects regions) (way : Way
     where
       go : (o : Option Note) → asks way m ≡ o
           → Begins (sent_of trips) (bytes_of (by_asked way most handed m trips o).notes ++ more)
-          → ((note : Note) → Ends most (handed ++ note ∷ [])) → Came first handed (by_asked way most handed m trips o) trips
+          → ((note : Note) → Ends most (handed ++ note ∷ []))
+          → Came first handed (by_asked way most handed m trips o) trips
       go None e begins on = came-last first handed m trips moves quiet e
       go (Some note) e begins on =
-          came-more most handed first m moves few note (Contains-append_left handed (note ∷ []) offer offered) e (on note)
+          came-more most handed first m moves few note (Contains-append_left handed (note ∷ []) offer offered) e
+          (on note)
           answers offered trips more fair begins
 
 -- ---- a whole drive
@@ -795,7 +805,8 @@ module _ (objects regions : ℕ) (ranges : AreCounts objects regions) (way : Way
   -- the offer wasn't handed over before
   pub offer-new : is_new_offer (bytes_of handed) (note_bytes own_offer) ≡ true
   offer-new =
-      ap (λ (b : Bool). b && not (list_any (bytes_eq (note_bytes own_offer)) (bytes_of handed))) (offer-byte own_offer refl)
+      ap (λ (b : Bool). b && not (list_any (bytes_eq (note_bytes own_offer)) (bytes_of handed)))
+      (offer-byte own_offer refl)
       ∙ ap not (never (list_any (bytes_eq (note_bytes own_offer)) (bytes_of handed)) refl)
     where
       never : (b : Bool) → list_any (bytes_eq (note_bytes own_offer)) (bytes_of handed) ≡ b → b ≡ false
@@ -820,7 +831,8 @@ module _ (objects regions : ℕ) (ranges : AreCounts objects regions) (way : Way
       lands-on : Begins (sent_of trips) (bytes_of (driven_on own_offer rest_of_drive).notes ++ more)
           → Lands start way parcel handed (driven_on own_offer rest_of_drive) trips
       lands-on begins =
-          let all = went objects regions ranges way parcel start counts has far place rest fit trip trip_fits most handed
+          let all = went objects regions ranges way parcel start counts has far place rest fit trip trip_fits most
+          handed
           Neither begin begins-so (omega (arith, most-trips, enough)) own_offer
           (Contains-append_right handed (own_offer ∷ []) own_offer (0, omega arith, refl)) asks-offer
           (drive-comes objects regions ranges way parcel start counts has far place rest fit trip trip_fits most
@@ -841,7 +853,8 @@ module _ (objects regions : ℕ) (ranges : AreCounts objects regions) (way : Way
               (drop (length rest_of_drive.notes) (drop 1 ts))
               → Parts (bytes_of (handed ++ own_offer ∷ [])) (drop 1 ts) (take (length rest_of_drive.notes) (drop 1 ts))
               (drop (length rest_of_drive.notes) (drop 1 ts)))
-              → IsOpen (bytes_of (handed ++ own_offer ∷ rest_of_drive.notes)) (drop (suc (length rest_of_drive.notes)) ts)
+              → IsOpen (bytes_of (handed ++ own_offer ∷ rest_of_drive.notes))
+              (drop (suc (length rest_of_drive.notes)) ts)
               → (own_trips (bytes_of handed) ts ≡ take (suc (length rest_of_drive.notes)) ts)
               × (trips_behind (bytes_of handed) ts ≡ drop (suc (length rest_of_drive.notes)) ts)
           own-parts [] begins parts opened = (refl, refl)

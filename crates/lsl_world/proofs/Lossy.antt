@@ -116,7 +116,8 @@ module _ (regions : List (List ℕ)) (objects : List Linkset) (named : AreInName
         subst (λ (region : List ℕ). IsNamed regions region)
         (sym (get_or-map region_of objects (object - 1) no_object [] few)) (named (object - 1) no_object few));
     rest = λ object one. subst (λ (n : ℕ). IsAtRest cards object n) (home-number object one)
-        (rests-start numbers (length regions) numbers-there object (subst (λ (n : ℕ). IsOneOf n object) (sym many) one));
+        (rests-start numbers (length regions) numbers-there object
+        (subst (λ (n : ℕ). IsOneOf n object) (sym many) one));
     fit = λ object region. omega (arith, trips-start numbers (length regions) numbers-there object region);
   }
 
@@ -148,7 +149,8 @@ pub sends-other : {T E : Type 0} (codes : List Code) (regions : List (List ℕ))
     → Sends result trips (images_of codes step w) → SendsOfStep codes regions grid step trips
 sends-other codes regions grid (Cross object region) here w trips result sent = absurd here
 sends-other codes regions grid step here w trips result sent =
-    no-trips result trips (subst (λ (images : List (List ℕ)). Sends result trips images) (images-here codes step here w) sent)
+    no-trips result trips (subst (λ (images : List (List ℕ)). Sends result trips images)
+    (images-here codes step here w) sent)
 
 pub here-unless : (step : Step) → ((object : ℕ) (region : List ℕ) → step ≡ Cross object region → ⊥) → IsHere step
 here-unless (Cross object region) not = absurd (not object region refl)

@@ -263,7 +263,8 @@ prim-fits : (key name : List ℕ) (files : ℕ) (from to : ObjectLine) → is_va
 prim-fits key name files from to valid e h =
     fit-ok (λ (o : ObjectLine). IsObjectOf files o × (scripts_of_prims o.prims ≡ scripts_of_prims from.prims + 0))
     (with_prim (new_prim key name) from) to e
-    (fit-fault_unless (λ (o : ObjectLine). IsObjectOf files o × (scripts_of_prims o.prims ≡ scripts_of_prims from.prims + 0))
+    (fit-fault_unless (λ (o : ObjectLine). IsObjectOf files o
+    × (scripts_of_prims o.prims ≡ scripts_of_prims from.prims + 0))
     (nat_lt (length from.prims) 255) TooMany (Ok (record from { prims = from.prims ++ new_prim key name ∷ [] }))
     (λ few. let lt = ltb-true (length from.prims) 255 few in
     let long = length-append from.prims (new_prim key name ∷ []) in (
@@ -335,7 +336,8 @@ script-fits script files from to there e h =
         let were : All P (c.front ++ c.from ∷ []) = subst (λ (ps : List PrimLine). All P ps) c.old h.files_there in
         let keyed : All HasKey (c.front ++ c.from ∷ [])
         = subst (λ (ps : List PrimLine). All HasKey ps) c.old h.keyed in
-        let (fits, count, same) = script_of_prim-fits script files c.from c.to there c.made (all-last P c.front c.from were)
+        let (fits, count, same) = script_of_prim-fits script files c.from c.to there c.made
+        (all-last P c.front c.from were)
         in
         let long : length prims ≡ length from.prims = omega (
           arith,
@@ -391,7 +393,8 @@ note-sound name file r s =
       objects_fit = s.objects_fit;
       few_notes = omega (arith, lt, length-append r.notes (note ∷ []));
       notes_fit = All-push (HasCard (length (file_added r.cards file))) r.notes note
-          (notes-later (length r.cards) (length (file_added r.cards file)) r.notes (files-grown r.cards file) s.notes_fit)
+          (notes-later (length r.cards) (length (file_added r.cards file)) r.notes (files-grown r.cards file)
+          s.notes_fit)
           (file-there r.cards file);
       few_steps = s.few_steps;
       steps_fit = s.steps_fit;

@@ -212,7 +212,8 @@ module _ (T E : Type 0) (programs : List Program) (old new : World) (units : new
             (λ (o : Option (List (List Card))).
             Tells result (λ s _. IsAt programs new s) before after (goes_by o codes r regions step stage trips).told)
             (sym none)
-            (tells-to result (λ v. IsOf programs new v) (λ s. IsAt programs new s) before after (λ v. with_world stage v)
+            (tells-to result (λ v. IsOf programs new v) (λ s. IsAt programs new s) before after
+            (λ v. with_world stage v)
             (go_on r step trips w)
             (λ of. record {
               of = of;
@@ -256,7 +257,8 @@ module _ (T E : Type 0) (programs : List Program) (old new : World) (units : new
       offers = λ n has. offers-kept codes regions v w keys scripts n.kind n (order.offers n has);
     }
 
-    pub at-here : (step : Step) (result : Result T E) → is_crossing w step ≡ false → trips ≡ [] → HandsFor step result []
+    pub at-here : (step : Step) (result : Result T E) → is_crossing w step ≡ false → trips ≡ []
+        → HandsFor step result []
         → IsDone step result
     at-here step result here none hands =
         let v = (next r step w).value in
@@ -341,7 +343,8 @@ module _ (T E : Type 0) (programs : List Program) (old new : World) (units : new
             record {
               tells = part-nothing before after (goes codes r regions step stage trips).told.entries
                   (subst (λ (a : Told SourceWorld). Part before after a.entries) silent it.tells);
-              sent = subst (λ (ts : List Trip). Begins (sent_of ts) (goes codes r regions step stage trips).sent) (sym none)
+              sent = subst (λ (ts : List Trip). Begins (sent_of ts) (goes codes r regions step stage trips).sent)
+                  (sym none)
                   (record { others = (goes codes r regions step stage trips).sent; whole = refl });
             }
         at-silent (Ok t) hands = go driven
@@ -353,11 +356,13 @@ module _ (T E : Type 0) (programs : List Program) (old new : World) (units : new
 
             driven : IsDriven codes regions w way cards later trips
             driven =
-                subst (λ (b : Bool). SendsIf {T = T} {E = E} b (Ok t) codes regions w way cards later trips) crossing it.sent
+                subst (λ (b : Bool). SendsIf {T = T} {E = E} b (Ok t) codes regions w way cards later trips) crossing
+                it.sent
 
             told : IsOf programs new w × (after ≡ before ++ [])
             told =
-                subst (λ (a : Told SourceWorld). IsOf programs new a.value × (after ≡ before ++ a.entries)) silent it.tells
+                subst (λ (a : Told SourceWorld). IsOf programs new a.value × (after ≡ before ++ a.entries)) silent
+                it.tells
 
             go : IsDriven codes regions w way cards later trips → IsDone step (Ok t)
             go (inl (landed, over)) =
@@ -450,16 +455,19 @@ module _ (T E : Type 0) (programs : List Program) (old new : World) (units : new
               Follows objects (length regions) Takes so.counts way parcel so.short cards counts has far_apart
               (place_in regions homes) at_rest order.order.fit (next_trip cards way) fits takes stage.notes d last trips
 
-          moves : Moves way (next_trip cards way) parcel cards (Contains stage.notes) Neither (departure cards way parcel)
+          moves : Moves way (next_trip cards way) parcel cards (Contains stage.notes) Neither
+              (departure cards way parcel)
           moves =
-              begins-so objects (length regions) so.counts way parcel cards counts has (place_in regions homes) at_rest refl
+              begins-so objects (length regions) so.counts way parcel cards counts has (place_in regions homes)
+              at_rest refl
               fine order.order.fit fits stage.notes order.past
 
           few-trips : left way (departure cards way parcel) ≤ 32
           few-trips =
               omega (
                 arith,
-                most-trips objects (length regions) so.counts way parcel cards counts has (place_in regions homes) at_rest
+                most-trips objects (length regions) so.counts way parcel cards counts has (place_in regions homes)
+                    at_rest
                     refl fine order.order.fit fits stage.notes order.past,
               )
 
@@ -468,19 +476,22 @@ module _ (T E : Type 0) (programs : List Program) (old new : World) (units : new
               → FollowsTo last
           followed last drives ends =
               follows objects (length regions) Takes so.counts way parcel so.short cards counts has far_apart
-              (place_in regions homes) at_rest order.order.fit (next_trip cards way) fits takes trips 32 stage.notes Neither
+              (place_in regions homes) at_rest order.order.fit (next_trip cards way) fits takes trips 32 stage.notes
+              Neither
               (departure cards way parcel) last moves tt few-trips known fair-so drives ends
 
           cut-off : IsCut objects (length regions) Takes way (departure cards way parcel) trips
               → Begins (sent_of trips) (bytes_of d.notes)
           cut-off cut =
               follows-cut objects (length regions) Takes so.counts way parcel so.short cards counts has far_apart
-              (place_in regions homes) at_rest order.order.fit (next_trip cards way) fits takes trips 32 stage.notes Neither
+              (place_in regions homes) at_rest order.order.fit (next_trip cards way) fits takes trips 32 stage.notes
+              Neither
               (departure cards way parcel) moves tt few-trips known fair-so cut
 
           landed : Begins (sent_of trips) (bytes_of d.notes) → Lands cards way parcel stage.notes d trips
           landed begins =
-              lands objects (length regions) so.counts way parcel cards counts has (place_in regions homes) at_rest refl fine
+              lands objects (length regions) so.counts way parcel cards counts has (place_in regions homes) at_rest
+              refl fine
               order.order.fit fits stage.notes order.past 31 (omega arith) trips [] fair-so
               (begins-nil (sent_of trips) (bytes_of d.notes) begins)
 
@@ -496,17 +507,25 @@ module _ (T E : Type 0) (programs : List Program) (old new : World) (units : new
             told = if has_come then next r step w else quiet w
 
             abbrev now : Stage
-            now = stage_by codes r regions few_regions stage cards ready object region named own-number crossing fine trips it has_come
+            now = stage_by codes r regions few_regions stage cards ready object region named own-number crossing fine
+                trips it has_come
 
             gone : goes codes r regions step stage trips ≡ record {
-              told = as_value (λ v. record { world = v; cards = Some (rested d.last.field way); notes = stage.notes ++ d.notes })
+              told = as_value (λ v. record {
+                world = v;
+                cards = Some (rested d.last.field way);
+                notes = stage.notes ++
+                    d.notes;
+              })
                   told;
               sent = bytes_of d.notes;
               behind = d.behind;
             }
             gone =
-                cross-gone codes r regions few_regions stage cards ready object region named own-number crossing fine trips
-                ∙ told-is codes r regions few_regions stage cards ready object region named own-number crossing fine trips it
+                cross-gone codes r regions few_regions stage cards ready object region named own-number crossing
+                fine trips
+                ∙ told-is codes r regions few_regions stage cards ready object region named own-number crossing fine
+                trips it
 
             arrives-so : arrives cards way parcel trips ≡ has_come
             arrives-so =
@@ -530,7 +549,8 @@ module _ (T E : Type 0) (programs : List Program) (old new : World) (units : new
 
             behind : IsReady regions now (rested d.last.field way)
             behind =
-                ready-behind codes r regions few_regions stage cards ready object region named own-number crossing fine trips
+                ready-behind codes r regions few_regions stage cards ready object region named own-number crossing
+                fine trips
                 it
 
             -- all that was handed over is known
@@ -540,7 +560,8 @@ module _ (T E : Type 0) (programs : List Program) (old new : World) (units : new
                 order = behind.order;
                 past = behind.past;
                 notes = λ n has-it. subst (λ (k : ℕ). IsNoteOf k (length regions) (note_bytes n) n)
-                    (sym (objects-same codes r regions few_regions stage cards ready object region named own-number crossing
+                    (sym (objects-same codes r regions few_regions stage cards ready object region named own-number
+                    crossing
                     fine trips it))
                     (record { is = (all n has-it).is; bytes_are = refl; fits = (all n has-it).short });
                 offers = λ n has-it. offers-kept codes regions told.value w (keys-same has_come) (units-same has_come)
@@ -550,7 +571,8 @@ module _ (T E : Type 0) (programs : List Program) (old new : World) (units : new
           at-driven : (result : Result T E) → HandsBy result → IsDone step result
           at-driven (Err e) hands =
               let h = hands (bytes_of stage.notes) entries-past carried in
-              let begins = cut-off (subst (λ (b : Bool). SendsIf {T = T} {E = E} b (Err e) codes regions w way cards later trips)
+              let begins = cut-off (subst (λ (b : Bool). SendsIf {T = T} {E = E} b (Err e) codes regions w way cards
+              later trips)
               crossing h.sent) in
               record {
                 tells = subst (λ (g : Gone). Part before after g.told.entries) (sym (gone begins))
@@ -579,7 +601,8 @@ module _ (T E : Type 0) (programs : List Program) (old new : World) (units : new
                     tells = subst (λ (g : Gone). IsAt programs new g.told.value × (after ≡ before ++ g.told.entries))
                         (sym (gone begins)) (
                           at-now (now begins) all.0 (ap (λ (cs : List (List Card)). Some cs) (sym cards_are))
-                              (subst (λ (cs : List (List Card)). IsOrderly codes regions cs (now begins)) (sym cards_are)
+                              (subst (λ (cs : List (List Card)). IsOrderly codes regions cs (now begins))
+                              (sym cards_are)
                               (orderly begins f.known)),
                           all.1,
                         );
@@ -637,7 +660,8 @@ module _ (T E : Type 0) (programs : List Program) (old new : World) (units : new
         → HandsAll step result → SendsOfStep codes regions old.grid step trips → is_crossing w step ≡ true
         → IsDone step result
     by-crossing (Cross object region) result named number hands sends crossing =
-        at-cross object region named (number object region refl) crossing result (λ entries. hands entries order.order) sends
+        at-cross object region named (number object region refl) crossing result
+        (λ entries. hands entries order.order) sends
     by-crossing step result named number hands sends crossing = absurd (cc)
 
     -- where the object is there already, nothing was carried

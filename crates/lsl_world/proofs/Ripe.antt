@@ -235,8 +235,11 @@ module _ (clock : ℕ) (e : ℕ × ℕ) (entries : List (ℕ × ℕ)) where
 
 due-listed : (clock : ℕ) (entries : List (ℕ × ℕ)) → AreDueIn clock entries (scripts_due clock entries)
 due-listed clock [] = tt
-due-listed clock (e ∷ entries) =
-    (entry-first clock e entries (is_entry_due clock e), entries-behind clock e entries entries (due-listed clock entries))
+due-listed clock (e ∷ entries) = (
+  entry-first clock e entries (is_entry_due clock e),
+  entries-behind clock e entries entries
+      (due-listed clock entries),
+)
 
 record HasEntry (entries : List (ℕ × ℕ)) (number : ℕ) : Type 0 where
   pub at : ℕ

@@ -1,4 +1,5 @@
--- No step changes what is known of an object before its image is read: its key, how many prims it has, and of which units
+-- No step changes what is known of an object before its image is read: its key, how many prims it has, and of which
+-- units
 -- its scripts are.
 use Rattle.std.proofs.Common.{◌≡◌, ℕ, ◌+◌, ◌-◌, Bool, true, false, List, [], ◌∷◌, length, map, get_or, nat_eq, refl, ap, ap₂, sym, subst, ◌∙◌}
 use Rattle.std.specs.Prelude.{Option, Some, None, filter_map, if◌then◌else◌, max, min, slice_get}
@@ -167,11 +168,13 @@ module _ (codes : List Code) (place : ℕ) where
   taken_if m own = if own then option_map (with_unit m.script.code) (Some (parts_of codes m.script)) else None
 
   seats-units : (ms : List Member)
-      → map unit_number (filter_map (parts_in_seat place) (map (seat_of codes false) ms)) ≡ units_at place (map unit_in ms)
+      → map unit_number (filter_map (parts_in_seat place) (map (seat_of codes false) ms))
+      ≡ units_at place (map unit_in ms)
   seats-units [] = refl
   seats-units (m ∷ ms) = go (nat_eq m.object place) (seats-units ms) where
     go : (b : Bool)
-        → map unit_number (filter_map (parts_in_seat place) (map (seat_of codes false) ms)) ≡ units_at place (map unit_in ms)
+        → map unit_number (filter_map (parts_in_seat place) (map (seat_of codes false) ms))
+        ≡ units_at place (map unit_in ms)
         → map unit_number
         (cons_option (taken_if m b) (filter_map (parts_in_seat place) (map (seat_of codes false) ms)))
         ≡ (if b then m.script.code ∷ units_at place (map unit_in ms) else units_at place (map unit_in ms))
@@ -201,7 +204,8 @@ pub same-shape : (codes : List Code) (place : ℕ) (v w : World) → keys_of v �
     → shape_of (parts_of_object (contents_of codes v) place) ≡ shape_of (parts_of_object (contents_of codes w) place)
 same-shape codes place v w keys units =
     shape-is codes place v
-    ∙ ap₂ (λ (ks : List (List (List ℕ))) (us : List (ℕ × ℕ)). shape_by (get_or ks place []) (units_at place us)) keys units
+    ∙ ap₂ (λ (ks : List (List (List ℕ))) (us : List (ℕ × ℕ)). shape_by (get_or ks place []) (units_at place us))
+    keys units
     ∙ sym (shape-is codes place w)
 
 -- which offers are taken

@@ -7,15 +7,18 @@ use Rattle.lsl_gen.specs.Statements.{action_code}
 use Rattle.lsl_gen.proofs.EmittedActions.{actions_step, block_code, of_block_code, of_block_jumps, if_code, if_jumps, then_behind, then_over, either_code, either_jumps, loop_code, do_step}
 use Rattle.lsl_gen.proofs.statements.+emit_action.Goals as goal
 
-pub emit_action-returns-in_ok-emit_block-in-Block-clause-code : goal.emit_action-returns-in_ok-emit_block-in-Block-clause-code
+pub emit_action-returns-in_ok-emit_block-in-Block-clause-code :
+    goal.emit_action-returns-in_ok-emit_block-in-Block-clause-code
 emit_action-returns-in_ok-emit_block-in-Block-clause-code t c =
     of_block_code _ _ _ _ _ c.in-Block.is c.deref.ensures.value c.in_ok-emit_block-in-Block.ensures.code
 
-pub emit_action-returns-in_ok-emit_block-in-Block-clause-jumps : goal.emit_action-returns-in_ok-emit_block-in-Block-clause-jumps
+pub emit_action-returns-in_ok-emit_block-in-Block-clause-jumps :
+    goal.emit_action-returns-in_ok-emit_block-in-Block-clause-jumps
 emit_action-returns-in_ok-emit_block-in-Block-clause-jumps t c =
     of_block_jumps _ _ _ _ _ _ c.in-Block.is c.deref.ensures.value c.in_ok-emit_block-in-Block.ensures.jumps
 
-pub emit_action-returns-in_ok-lead_behind-in-IfElse-clause-code : goal.emit_action-returns-in_ok-lead_behind-in-IfElse-clause-code
+pub emit_action-returns-in_ok-lead_behind-in-IfElse-clause-code :
+    goal.emit_action-returns-in_ok-lead_behind-in-IfElse-clause-code
 emit_action-returns-in_ok-lead_behind-in-IfElse-clause-code t c =
     let base = c.args.draft.now in
     let n = length base in
@@ -27,7 +30,8 @@ emit_action-returns-in_ok-lead_behind-in-IfElse-clause-code t c =
     c.deref-in-IfElse.ensures c.deref-in-IfElse-2.ensures
     ∙ ap (λ a. base ++ action_code (action_of a) [] n) (sym c.in-IfElse.is)
 
-pub emit_action-returns-in_ok-lead_behind-in-IfElse-clause-jumps : goal.emit_action-returns-in_ok-lead_behind-in-IfElse-clause-jumps
+pub emit_action-returns-in_ok-lead_behind-in-IfElse-clause-jumps :
+    goal.emit_action-returns-in_ok-lead_behind-in-IfElse-clause-jumps
 emit_action-returns-in_ok-lead_behind-in-IfElse-clause-jumps t c =
     let base = c.args.draft.now in
     let before = c.args.jumps.now.items in

@@ -18,7 +18,8 @@ returns-in_err-drive-clause-goes g c =
 pub notes-init : goal.notes-init
 notes-init g c = record {
   under = under-way-first g.L.Link.gives c.args.objects c.args.regions (g.P.Parcels.stands c.args.parcels.now)
-      c.args.way c.args.parcel c.args.field.now c.in_ok-drive.ensures.first c.requires.way (g.L.Link.trips c.args.link.now)
+      c.args.way c.args.parcel c.args.field.now c.in_ok-drive.ensures.first c.requires.way
+      (g.L.Link.trips c.args.link.now)
       (moment c.in_ok-drive.drive c.depart.new.field) c.in_ok-drive.ensures.ok.1;
   way = c.in_ok-drive.ensures.ok.0;
   departs = c.in_ok-drive.ensures.first;
@@ -41,7 +42,8 @@ carry-requires-clause-note g c =
     (Some c.in-Some.note) c.in_ok-note.ensures c.in-Some.is in
     (asked-note g.L.Link.gives c.args.objects c.args.regions (g.P.Parcels.stands c.args.parcels.now) c.args.way
     c.args.parcel c.args.field.now now.departs (g.L.Link.trips c.args.link.now) (g.L.Link.trips c.notes.link)
-    (moment c.notes.drive c.notes.field) c.notes.given now.under c.in-Some.note asked c.trip_fits.ensures c.requires.counts
+    (moment c.notes.drive c.notes.field) c.notes.given now.under c.in-Some.note asked c.trip_fits.ensures
+    c.requires.counts
     c.requires.way).0
 
 pub carry-requires-clause-own : goal.carry-requires-clause-own
@@ -53,7 +55,8 @@ carry-requires-clause-own g c offer =
     c.args.way c.args.parcel c.args.field.now now.departs (g.L.Link.trips c.args.link.now)
     (g.L.Link.trips c.notes.link) (moment c.notes.drive c.notes.field) c.notes.given now.under c.in-Some.note asked
     c.trip_fits.ensures c.requires.counts c.requires.way).1 in
-    subst (λ (n : Note). g.P.Parcels.is_own c.args.parcels.now n) (sym (known offer)) (c.requires.own c.in-Some.note.trip)
+    subst (λ (n : Note). g.P.Parcels.is_own c.args.parcels.now n) (sym (known offer))
+    (c.requires.own c.in-Some.note.trip)
 
 pub returns-in_err-back-clause-goes : goal.returns-in_err-back-clause-goes
 returns-in_err-back-clause-goes g c =
@@ -101,7 +104,8 @@ notes-preserved g c =
     (note_of c.in_ok-back.back) (moment c.hear.new.drive c.hear.new.field) c.in_ok-given.ensures.hears in
     record {
       under = under-way-on g.L.Link.gives c.args.objects c.args.regions (g.P.Parcels.stands c.args.parcels.now)
-          c.args.way c.args.parcel c.args.field.now now.departs (g.L.Link.trips c.args.link.now) (g.L.Link.trips c.notes.link)
+          c.args.way c.args.parcel c.args.field.now now.departs (g.L.Link.trips c.args.link.now)
+          (g.L.Link.trips c.notes.link)
           (moment c.notes.drive c.notes.field) c.notes.given now.under
           (g.L.Link.trips c.carry.new.link) c.in-Some.note asked c.in_ok-back.back c.in_ok-back.ensures.went
           c.requires.counts c.requires.way (moment c.hear.new.drive c.hear.new.field) heard c.in_ok-given.given

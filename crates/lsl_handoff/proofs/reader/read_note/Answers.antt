@@ -3,7 +3,8 @@ use Rattle.lsl_handoff.proofs.AnswerLemmas.{every-of, found-of}
 use Rattle.lsl_handoff.proofs.reader.read_note.Goals as goal
 
 pub returns-clause-found : goal.returns-clause-found
-returns-clause-found c = found-of c.args.objects c.args.regions c.args.bytes.now (λ i. omega (arith, c.type_inv.bytes i))
+returns-clause-found c = found-of c.args.objects c.args.regions c.args.bytes.now
+    (λ i. omega (arith, c.type_inv.bytes i))
     c.parse.result c.parse.ensures
 
 pub returns-clause-every : goal.returns-clause-every

@@ -12,4 +12,5 @@ returns-in-Ok c =
     ap (λ b. fault_unless b BadLine (Ok c.args.bytes.now)) valid ∙ ap (λ l. Ok l) (sym same)
 
 pub returns-in-Err : goal.returns-in-Err
-returns-in-Err c = ap (λ b. fault_unless b BadLine (Ok c.args.bytes.now)) (not_utf8 c.args.bytes.now c.in-Err.ensures.cases.0)
+returns-in-Err c = ap (λ b. fault_unless b BadLine (Ok c.args.bytes.now))
+    (not_utf8 c.args.bytes.now c.in-Err.ensures.cases.0)

@@ -14,5 +14,6 @@ returns-then-line-size-eq34-clause-word c =
     closed_words (take n line) (take (length line - (n + 1)) (drop (n + 1) line)) =
     verbatim_cut line n c.verbatim_length-size.ensures.count c.if-size-line.true c.if-line-size-eq34.true
     ∙ ap (closed_words (take n line)) (sym (take_rest line (n + 1))) in
-    subst (λ (words : Result (List Word) FileKind). GivesWord (λ (x : Word × Bor (List ℕ)). (x.0, x.1.now)) c.closed.result words)
+    subst (λ (words : Result (List Word) FileKind). GivesWord (λ (x : Word × Bor (List ℕ)). (x.0, x.1.now))
+    c.closed.result words)
     (sym cut) c.closed.ensures.word

@@ -12,9 +12,11 @@ steps-init c = record {
 
 pub steps-preserved : goal.steps-preserved
 steps-preserved c =
-    let at = c.number_after-x.ensures.value ∙ ap number_after c.steps.invariant.at ∙ sym (number_at-more _ _) in record {
+    let at = c.number_after-x.ensures.value ∙ ap number_after c.steps.invariant.at
+    ∙ sym (number_at-more _ _) in record {
       at = at;
-      text = steps_text-next _ c.steps.passed _ _ _ _ _ at c.of_number.ensures c.steps.invariant.text c.in_ok-push_line.ensures;
+      text = steps_text-next _ c.steps.passed _ _ _ _ _ at c.of_number.ensures c.steps.invariant.text
+          c.in_ok-push_line.ensures;
     }
 
 pub returns : goal.returns

@@ -39,6 +39,7 @@ loop-place-preserved c =
             end = known.end;
             few = omega (arith, w.met-is, known.few);
             told = λ channel. ap (λ (n : ℕ). has_channel (take n row) channel) w.met-is
-                ∙ told-idle list place listen c.listen-listen.ensures (take met row) known.told w.if-listen.false channel;
+                ∙ told-idle list place listen c.listen-listen.ensures (take met row) known.told w.if-listen.false
+                channel;
           }
     ]

@@ -49,7 +49,8 @@ loop-channel-preserved c =
             ordered = subst IsOrdered (sym table) known.ordered;
             told = λ channel. ap (λ (t : List ChannelEntry). is_heard t channel place) table ∙ known.told channel
                 ∙ kept-more row i x there at channel new (is_heard first channel place) (has ∙ w.if-not-has.false);
-            others = λ channel p n. ap (λ (t : List ChannelEntry). is_heard t channel p) table ∙ known.others channel p n;
+            others = λ channel p n. ap (λ (t : List ChannelEntry). is_heard t channel p) table
+                ∙ known.others channel p n;
             len = omega (arith, ap (λ (t : List ChannelEntry). length t) table);
             capacity = ap vec_capacity w.table-is ∙ known.capacity;
           }

@@ -49,7 +49,8 @@ loop-channel-preserved c =
             ordered = subst IsOrdered (sym table) known.ordered;
             told = λ channel. ap (λ (t : List ChannelEntry). is_heard t channel place) table ∙ known.told channel
                 ∙ known-more row i x there at channel old (is_heard first channel place) (has ∙ w.if-not-has.false);
-            others = λ channel p n. ap (λ (t : List ChannelEntry). is_heard t channel p) table ∙ known.others channel p n;
+            others = λ channel p n. ap (λ (t : List ChannelEntry). is_heard t channel p) table
+                ∙ known.others channel p n;
             len = omega (arith, ap (λ (t : List ChannelEntry). length t) table);
             capacity = omega (arith, ap vec_capacity w.table-is, known.capacity);
           }

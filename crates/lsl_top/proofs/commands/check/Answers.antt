@@ -46,17 +46,20 @@ returns-in-Err g c =
     let name = c.args.name.now in
     let read = c.in-Err.ensures in
     let Fits = IsFromOf held (Check name) in
-    let IsThis : Grade → World → List Trip → Answer → Type 0 = λ grade from trips. Answers grade held from trips (Check name) in
+    let IsThis : Grade → World → List Trip → Answer → Type 0 =
+    λ grade from trips. Answers grade held from trips (Check name) in
     subst (λ (status : Status). Serves (gives_by (Check name) g.L.Link.gives) (IsFairOf (Check name)) Fits IsThis
     (IsNamed held (Check name))
     (ports held (g.S.Shelf.faults c.args.shelf.now) (g.K.Sink.sunk c.args.sink.now) (g.K.Sink.faults c.args.sink.now)
     (g.L.Link.trips c.args.link.now) (g.L.Link.faults c.args.link.now))
-    (ports (g.S.Shelf.held c.read_script.new.shelf) (g.S.Shelf.faults c.read_script.new.shelf) (g.K.Sink.sunk c.args.sink.now)
+    (ports (g.S.Shelf.held c.read_script.new.shelf) (g.S.Shelf.faults c.read_script.new.shelf)
+    (g.K.Sink.sunk c.args.sink.now)
     (g.K.Sink.faults c.args.sink.now) (g.L.Link.trips c.args.link.now) (g.L.Link.faults c.args.link.now)) status)
     (sym c.unread.ensures)
     (serve-unread (gives_by (Check name) g.L.Link.gives) (IsFairOf (Check name)) Fits IsThis
     (IsNamed held (Check name)) held
-    (g.S.Shelf.held c.read_script.new.shelf) (g.S.Shelf.faults c.args.shelf.now) (g.S.Shelf.faults c.read_script.new.shelf)
+    (g.S.Shelf.held c.read_script.new.shelf) (g.S.Shelf.faults c.args.shelf.now)
+    (g.S.Shelf.faults c.read_script.new.shelf)
     read.unchanged read.counted (log (g.K.Sink.sunk c.args.sink.now) (g.K.Sink.faults c.args.sink.now))
     (wire (g.L.Link.trips c.args.link.now) (g.L.Link.faults c.args.link.now)) c.in-Err.fault
     (λ e. (name, refl, read.err (ap (λ r. Err r) e))))

@@ -35,7 +35,8 @@ returns-in-Ok g c =
     (log (g.K.Sink.sunk c.args.sink.now) (g.K.Sink.faults c.args.sink.now))
     (wire (g.L.Link.trips c.args.link.now) (g.L.Link.faults c.args.link.now))
     (ports (g.S.Shelf.held c.play.new.shelf) (g.S.Shelf.faults c.play.new.shelf) (g.K.Sink.sunk c.play.new.sink)
-    (g.K.Sink.faults c.play.new.sink) (g.L.Link.trips c.play.new.link) (g.L.Link.faults c.play.new.link)) c.play.result refl (λ n. omega arith)
+    (g.K.Sink.faults c.play.new.sink) (g.L.Link.trips c.play.new.link) (g.L.Link.faults c.play.new.link)) c.play.result
+    refl (λ n. omega arith)
     (λ from fits texts notes text are noted holds programs codes all has cards read. tt)
     (λ grade from trips answer h.
     subst (λ (w : WorldFile). Plays grade held from trips (played Whole (name ∷ []) [] w) answer) c.in-Ok.ensures h)

@@ -47,17 +47,21 @@ returns-in-Ok g c =
     let read = c.in-Ok.ensures in
     let (texts, are, of) = texts-read held names bytes read.ok in
     serve-later (gives_in mode g.L.Link.gives) (IsFairIn mode) (IsFromRead later play given) (IsFromPlay held play)
-    (λ grade from trips. PlaysRead grade later from trips play given) (λ grade from trips. Plays grade held from trips play)
+    (λ grade from trips. PlaysRead grade later from trips play given)
+    (λ grade from trips. Plays grade held from trips play)
     (IsNotedName mode cards) (IsPlayName mode names cards) held later (g.S.Shelf.faults c.args.shelf.now)
     (g.S.Shelf.faults c.read_scripts.new.shelf)
     (log (g.K.Sink.sunk c.args.sink.now) (g.K.Sink.faults c.args.sink.now))
     (wire (g.L.Link.trips c.args.link.now) (g.L.Link.faults c.args.link.now))
-    (ports (g.S.Shelf.held c.play_texts.new.shelf) (g.S.Shelf.faults c.play_texts.new.shelf) (g.K.Sink.sunk c.play_texts.new.sink)
-    (g.K.Sink.faults c.play_texts.new.sink) (g.L.Link.trips c.play_texts.new.link) (g.L.Link.faults c.play_texts.new.link))
+    (ports (g.S.Shelf.held c.play_texts.new.shelf) (g.S.Shelf.faults c.play_texts.new.shelf)
+    (g.K.Sink.sunk c.play_texts.new.sink)
+    (g.K.Sink.faults c.play_texts.new.sink) (g.L.Link.trips c.play_texts.new.link)
+    (g.L.Link.faults c.play_texts.new.link))
     c.play_texts.result read.unchanged read.counted
     (λ from fits.
     subst (λ (z : Option Files). IsFromRead z play given from) (sym read.unchanged)
-    (subst (λ (z : List (Vec ℕ Global)). IsFromRead held play (map (λ t. t.items) z) from) (sym c.as_slice.ensures.value)
+    (subst (λ (z : List (Vec ℕ Global)). IsFromRead held play (map (λ t. t.items) z) from)
+    (sym c.as_slice.ensures.value)
     (λ notes noted text holds. from-read play bytes texts notes text from of (fits texts notes text are noted holds))))
     (λ grade from trips answer h.
     let (notes, noted, (text, holds, p)) =
@@ -84,12 +88,14 @@ returns-in-Err g c =
     (IsPlayName mode names cards)
     (ports held (g.S.Shelf.faults c.args.shelf.now) (g.K.Sink.sunk c.args.sink.now) (g.K.Sink.faults c.args.sink.now)
     (g.L.Link.trips c.args.link.now) (g.L.Link.faults c.args.link.now))
-    (ports (g.S.Shelf.held c.read_scripts.new.shelf) (g.S.Shelf.faults c.read_scripts.new.shelf) (g.K.Sink.sunk c.args.sink.now)
+    (ports (g.S.Shelf.held c.read_scripts.new.shelf) (g.S.Shelf.faults c.read_scripts.new.shelf)
+    (g.K.Sink.sunk c.args.sink.now)
     (g.K.Sink.faults c.args.sink.now) (g.L.Link.trips c.args.link.now) (g.L.Link.faults c.args.link.now)) status)
     (sym c.unread.ensures)
     (serve-unread (gives_in mode g.L.Link.gives) (IsFairIn mode) (IsFromPlay held play) IsThis
     (IsPlayName mode names cards) held
-    (g.S.Shelf.held c.read_scripts.new.shelf) (g.S.Shelf.faults c.args.shelf.now) (g.S.Shelf.faults c.read_scripts.new.shelf)
+    (g.S.Shelf.held c.read_scripts.new.shelf) (g.S.Shelf.faults c.args.shelf.now)
+    (g.S.Shelf.faults c.read_scripts.new.shelf)
     read.unchanged read.counted (log (g.K.Sink.sunk c.args.sink.now) (g.K.Sink.faults c.args.sink.now))
     (wire (g.L.Link.trips c.args.link.now) (g.L.Link.faults c.args.link.now)) c.in-Err.fault
     (λ e. let (n, has, rose) = read.err (ap (λ r. Err r) e) in (n, inr (inl has), rose)))

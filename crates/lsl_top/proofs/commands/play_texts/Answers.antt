@@ -85,7 +85,8 @@ returns-in-Err g c =
     let play : Play = played mode names cards c.args.world.now in
     let read = c.in-Err.ensures in
     let texts = map (λ (t : Vec ℕ Global). t.items) c.args.texts.now in
-    let IsThis : Grade → World → List Trip → Answer → Type 0 = λ grade from trips. PlaysRead grade held from trips play texts in
+    let IsThis : Grade → World → List Trip → Answer → Type 0 =
+    λ grade from trips. PlaysRead grade held from trips play texts in
     subst (λ (status : Status). Serves (gives_in mode g.L.Link.gives) (IsFairIn mode)
     (IsFromRead held play texts) IsThis
     (IsNotedName mode cards)

@@ -57,7 +57,8 @@ returns-in-Ok-file_names g c =
     (log (g.K.Sink.sunk c.args.sink.now) (g.K.Sink.faults c.args.sink.now))
     (wire (g.L.Link.trips c.args.link.now) (g.L.Link.faults c.args.link.now))
     (ports (g.S.Shelf.held c.play.new.shelf) (g.S.Shelf.faults c.play.new.shelf) (g.K.Sink.sunk c.play.new.sink)
-    (g.K.Sink.faults c.play.new.sink) (g.L.Link.trips c.play.new.link) (g.L.Link.faults c.play.new.link)) c.play.result refl (λ n. omega arith)
+    (g.K.Sink.faults c.play.new.sink) (g.L.Link.trips c.play.new.link) (g.L.Link.faults c.play.new.link)) c.play.result
+    refl (λ n. omega arith)
     (λ from fits. subst (λ (p : Play). IsFromPlay held p from) (sym same) fits)
     (λ grade from trips answer h. subst (λ (p : Play). Plays grade held from trips p answer) same h)
     (λ n h. subst (λ (p : Play). IsPlayName mode p.names p.cards n) same h) c.play.ensures

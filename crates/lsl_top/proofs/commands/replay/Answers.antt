@@ -28,7 +28,8 @@ returns-in-Err g c =
     let mode = mode_of c.args.mode in
     let name = c.args.name.now in
     let read = c.in-Err.ensures in
-    let IsThis : Grade → World → List Trip → Answer → Type 0 = λ grade from trips. ReplaysFile grade held from trips mode name in
+    let IsThis : Grade → World → List Trip → Answer → Type 0 =
+    λ grade from trips. ReplaysFile grade held from trips mode name in
     subst (λ (status : Status). Serves (gives_in mode g.L.Link.gives) (IsFairIn mode) (IsFromFile held mode name) IsThis
     (IsNamedIn held mode name)
     (ports held (g.S.Shelf.faults c.args.shelf.now) (g.K.Sink.sunk c.args.sink.now) (g.K.Sink.faults c.args.sink.now)
@@ -63,8 +64,10 @@ returns-in-Ok-read_world g c =
     (g.S.Shelf.faults c.read_all.new.shelf)
     (log (g.K.Sink.sunk c.args.sink.now) (g.K.Sink.faults c.args.sink.now))
     (wire (g.L.Link.trips c.args.link.now) (g.L.Link.faults c.args.link.now))
-    (ports (g.S.Shelf.held c.play_world.new.shelf) (g.S.Shelf.faults c.play_world.new.shelf) (g.K.Sink.sunk c.play_world.new.sink)
-    (g.K.Sink.faults c.play_world.new.sink) (g.L.Link.trips c.play_world.new.link) (g.L.Link.faults c.play_world.new.link)) c.play_world.result read.unchanged read.counted
+    (ports (g.S.Shelf.held c.play_world.new.shelf) (g.S.Shelf.faults c.play_world.new.shelf)
+    (g.K.Sink.sunk c.play_world.new.sink)
+    (g.K.Sink.faults c.play_world.new.sink) (g.L.Link.trips c.play_world.new.link)
+    (g.L.Link.faults c.play_world.new.link)) c.play_world.result read.unchanged read.counted
     (λ from fits. subst (λ (z : Option Files). IsFromPlay z (play_of mode world) from) (sym read.unchanged)
     (fits file world is good))
     (λ grade from trips answer h. (

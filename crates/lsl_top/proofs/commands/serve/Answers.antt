@@ -67,8 +67,10 @@ returns-in-Freeze g c =
     (λ grade from trips. Answers grade held from trips command) (IsNamed held command)
     (ports held (g.S.Shelf.faults c.args.shelf.now) (g.K.Sink.sunk c.args.sink.now) (g.K.Sink.faults c.args.sink.now)
     (g.L.Link.trips c.args.link.now) (g.L.Link.faults c.args.link.now))
-    (ports (g.S.Shelf.held c.replay-in-Freeze.new.shelf) (g.S.Shelf.faults c.replay-in-Freeze.new.shelf) (g.K.Sink.sunk c.replay-in-Freeze.new.sink)
-    (g.K.Sink.faults c.replay-in-Freeze.new.sink) (g.L.Link.trips c.replay-in-Freeze.new.link) (g.L.Link.faults c.replay-in-Freeze.new.link))
+    (ports (g.S.Shelf.held c.replay-in-Freeze.new.shelf) (g.S.Shelf.faults c.replay-in-Freeze.new.shelf)
+    (g.K.Sink.sunk c.replay-in-Freeze.new.sink)
+    (g.K.Sink.faults c.replay-in-Freeze.new.sink) (g.L.Link.trips c.replay-in-Freeze.new.link)
+    (g.L.Link.faults c.replay-in-Freeze.new.link))
     c.replay-in-Freeze.result)
     (sym (ap asked_by c.in-Freeze.is)) c.replay-in-Freeze.ensures
 
@@ -79,8 +81,10 @@ returns-in-Thaw g c =
     (λ grade from trips. Answers grade held from trips command) (IsNamed held command)
     (ports held (g.S.Shelf.faults c.args.shelf.now) (g.K.Sink.sunk c.args.sink.now) (g.K.Sink.faults c.args.sink.now)
     (g.L.Link.trips c.args.link.now) (g.L.Link.faults c.args.link.now))
-    (ports (g.S.Shelf.held c.replay-in-Thaw.new.shelf) (g.S.Shelf.faults c.replay-in-Thaw.new.shelf) (g.K.Sink.sunk c.replay-in-Thaw.new.sink)
-    (g.K.Sink.faults c.replay-in-Thaw.new.sink) (g.L.Link.trips c.replay-in-Thaw.new.link) (g.L.Link.faults c.replay-in-Thaw.new.link))
+    (ports (g.S.Shelf.held c.replay-in-Thaw.new.shelf) (g.S.Shelf.faults c.replay-in-Thaw.new.shelf)
+    (g.K.Sink.sunk c.replay-in-Thaw.new.sink)
+    (g.K.Sink.faults c.replay-in-Thaw.new.sink) (g.L.Link.trips c.replay-in-Thaw.new.link)
+    (g.L.Link.faults c.replay-in-Thaw.new.link))
     c.replay-in-Thaw.result)
     (sym (ap asked_by c.in-Thaw.is)) c.replay-in-Thaw.ensures
 
@@ -110,7 +114,8 @@ returns-in-Make g c =
     (g.L.Link.trips c.make.new.link) (g.L.Link.faults c.make.new.link)) c.make.result)
     (sym (ap asked_by c.in-Make.is))
     (serve-concluded g.L.Link.gives (Honest IsIntact) (IsFromOf held (Make number))
-    (λ grade from trips. Answers grade held from trips (Make number)) (IsNamed held (Make number)) held held faults faults
+    (λ grade from trips. Answers grade held from trips (Make number)) (IsNamed held (Make number)) held held faults
+    faults
     refl (λ n. omega arith) (λ from. Unit {0}) (λ grade from trips. Makes grade from trips number)
     (log (g.K.Sink.sunk c.args.sink.now) (g.K.Sink.faults c.args.sink.now))
     (log (g.K.Sink.sunk c.make.new.sink) (g.K.Sink.faults c.make.new.sink))

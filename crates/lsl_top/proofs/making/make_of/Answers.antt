@@ -26,7 +26,8 @@ returns-in-Ok g c =
     subst (λ (status : Status). Concludes g.L.Link.gives (Honest IsIntact) (λ from. Unit {0})
     (λ grade from trips. Makes grade from trips number) a b old new status) (sym c.status_after.ensures)
     (concludes-line number held is g.L.Link.gives later old new bytes a b c.write_line.result
-    (over-of number held is g.L.Link.gives later old new bytes c.new-report.result Ok c.replay.result c.new-report.ensures
+    (over-of number held is g.L.Link.gives later old new bytes c.new-report.result Ok c.replay.result
+    c.new-report.ensures
     c.in-Ok.is c.replay.ensures) (c.write_line.ensures (made_line number bytes) c.made_line.ensures))
 
 pub returns-in-NoMemory : goal.returns-in-NoMemory
@@ -59,7 +60,8 @@ returns-in_default g c =
     concludes-refused number held is g.L.Link.gives later old new c.replay.new.sink c.replay.result again.result ended
     (log (g.K.Sink.sunk c.args.sink.now) (g.K.Sink.faults c.args.sink.now))
     (log (g.K.Sink.sunk again.new.sink) (g.K.Sink.faults again.new.sink))
-    (wire (g.L.Link.trips again.new.link) (g.L.Link.faults again.new.link)) c.replay.ensures.unchanged c.in_default.not-Ok
+    (wire (g.L.Link.trips again.new.link) (g.L.Link.faults again.new.link)) c.replay.ensures.unchanged
+    c.in_default.not-Ok
     c.in_default.not-NoMemory
     (over-of number held is g.L.Link.gives later old new c.replay.new.sink c.new-report.result c.replay.result
     c.replay.result c.new-report.ensures refl c.replay.ensures) again.ensures

@@ -29,7 +29,8 @@ write_run-requires-clause-sound g c = c.in-Ok.ensures.sound
 pub write_run-requires-clause-steps : goal.write_run-requires-clause-steps
 write_run-requires-clause-steps g c =
     subst (λ (size : Size). All (IsStepOf size) c.as_slice.result.now) (sym c.in-Ok.ensures.size)
-    (subst (λ (steps : List Step). All (IsStepOf (size_of_file c.args.file.now)) steps) (sym c.as_slice.ensures) c.requires.file.steps_fit)
+    (subst (λ (steps : List Step). All (IsStepOf (size_of_file c.args.file.now)) steps) (sym c.as_slice.ensures)
+    c.requires.file.steps_fit)
 
 pub write_run-requires-clause-carded : goal.write_run-requires-clause-carded
 write_run-requires-clause-carded g c = λ cards some. absurd (let no = sym c.in-Ok.ensures.plain ∙ some in cc)

@@ -5,7 +5,8 @@ use Rattle.lsl_top.proofs.running.thawed.Goals as goal
 
 pub returns-clause-found : goal.returns-clause-found
 returns-clause-found c =
-    thaw-found c.args.units c.args.file.now c.args.text.now c.in_ok-bytes.bytes.items c.as_slice.result.now c.thaw.result
+    thaw-found c.args.units c.args.file.now c.args.text.now c.in_ok-bytes.bytes.items c.as_slice.result.now
+    c.thaw.result
     c.in_ok-bytes.ensures.found c.as_slice.ensures.value c.thaw.ensures.found
 
 pub returns-clause-refused : goal.returns-clause-refused

@@ -9,7 +9,8 @@ new-requires c =
     let regions = c.args.regions.now in
     let objects = c.args.grid.now.objects in
     let over : length objects ≤ c.loop-place.place = omega (arith, c.objects-place-end.ensures.value) in
-    let homes = c.as_slice.ensures.value ∙ homes-numbered regions objects c.loop-place.homes.items c.loop-place.place over
+    let homes = c.as_slice.ensures.value ∙ homes-numbered regions objects c.loop-place.homes.items
+    c.loop-place.place over
     c.loop-place.invariant in
     subst (λ (n : ℕ). All (IsOneOf n) c.as_slice.result.now) (sym c.len.ensures.value)
     (subst (λ (hs : List ℕ). All (IsOneOf (length regions)) hs) (sym homes)

@@ -9,7 +9,8 @@ use Rattle.lsl_data.proofs.store.Store.delete.Goals as goal
 pub returns-then-is_empty-clause-answer : goal.returns-then-is_empty-clause-answer
 returns-then-is_empty-clause-answer c =
     delete-no-key c.args.self.now c.args.name.now
-    (emptied c.args.name.now c.bytes.result.now c.is_empty.result c.bytes.ensures.value c.is_empty.ensures c.if-is_empty.true)
+    (emptied c.args.name.now c.bytes.result.now c.is_empty.result c.bytes.ensures.value c.is_empty.ensures
+    c.if-is_empty.true)
 
 pub returns-then-is_empty-clause-after : goal.returns-then-is_empty-clause-after
 returns-then-is_empty-clause-after c =
@@ -31,7 +32,8 @@ returns-in-Some-clause-answer c =
     let there = stood (pair_at (values_of c.self.inside.pairs.entries) c.args.name.now) c.in-Some.gone
     (sym c.in-Some.is ∙ c.take.ensures.gone) in
     delete-deleted c.args.self.now c.args.name.now
-    (filled c.args.name.now c.bytes.result.now c.is_empty.result c.bytes.ensures.value c.is_empty.ensures c.if-is_empty.false)
+    (filled c.args.name.now c.bytes.result.now c.is_empty.result c.bytes.ensures.value c.is_empty.ensures
+    c.if-is_empty.false)
     there.0 (ap (λ ps. pair_at ps c.args.name.now) (sym c.self.view_is) ∙ there.1)
 
 pub returns-in-Some-clause-after : goal.returns-in-Some-clause-after
@@ -44,7 +46,8 @@ returns-in-None-clause-answer c =
     let none = none-stood (pair_at (values_of c.self.inside.pairs.entries) c.args.name.now)
     (sym c.in-None.is ∙ c.take.ensures.gone) in
     delete-not-found c.args.self.now c.args.name.now
-    (filled c.args.name.now c.bytes.result.now c.is_empty.result c.bytes.ensures.value c.is_empty.ensures c.if-is_empty.false)
+    (filled c.args.name.now c.bytes.result.now c.is_empty.result c.bytes.ensures.value c.is_empty.ensures
+    c.if-is_empty.false)
     (ap (λ ps. pair_at ps c.args.name.now) (sym c.self.view_is) ∙ none)
 
 pub returns-in-None-clause-after : goal.returns-in-None-clause-after

@@ -51,7 +51,8 @@ asks-preserved c =
       awake = c.in_ok-turn-in-Asks.ensures.awake;
       stands = c.in_ok-turn-in-Asks.ensures.stands;
       amid = λ m f most w start. amid-ok _ _ _ _ _ (c.asks.invariant.amid m f most w start)
-          (λ (x : InFlight). Paused codes unit c.args.clock c.args.place c.answer_and_go_on.new.self c.answer_and_go_on.new.live
+          (λ (x : InFlight). Paused codes unit c.args.clock c.args.place c.answer_and_go_on.new.self
+          c.answer_and_go_on.new.live
           c.in_ok-turn-in-Asks.turn x.flight x.most x.world)
           (still_asked m.rules c.args.place) (answering m.rules c.args.place call) _
           (λ x p. goes-asking codes unit c.args.clock c.args.place c.asks.self c.asks.live m call x (here x p))

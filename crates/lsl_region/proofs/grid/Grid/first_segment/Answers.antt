@@ -41,7 +41,8 @@ returns-clause-does c = λ m w st.
     let b = subst (λ (o : Option Live). IsOut o (λ live. Begins codes unit clock place grid live v)) c.in-Some.is d.0 in
     let most = begun_most codes unit clock place grid live v m b in
     let g = begun-goes codes unit clock place grid live v m b in
-    tells-lead c.go_on.result (λ u _. IsBehind codes unit clock place c.go_on.new.self c.go_on.new.live u) c.args.out.now
+    tells-lead c.go_on.result (λ u _. IsBehind codes unit clock place c.go_on.new.self c.go_on.new.live u)
+    c.args.out.now
     c.begin.new.out c.go_on.new.out (taken place w).entries (segment m.rules place w) rest refl d.1
     (subst (λ (a : Told World). Tells c.go_on.result
     (λ u _. IsBehind codes unit clock place c.go_on.new.self c.go_on.new.live u) c.begin.new.out c.go_on.new.out a)

@@ -38,5 +38,6 @@ returns c = λ parts image.
     (λ fault. ObjectFirst c.args.region.now c.in_ok-shape.shape codes c.args.bytes.now fault)) c.in-Err.is
     c.in_ok-parts.ensures in
     image-no_fault (object c.args.region.now c.in_ok-shape.shape codes) c.args.bytes.now parts c.in-Err.field-0
-    (subst (λ (s : Shape). ObjectImage c.args.region.now s codes parts c.args.bytes.now) (sym c.in_ok-shape.ensures) image)
+    (subst (λ (s : Shape). ObjectImage c.args.region.now s codes parts c.args.bytes.now) (sym c.in_ok-shape.ensures)
+    image)
     first

@@ -47,7 +47,8 @@ segments-preserved-then-stands c =
       seated = inv.seated;
       unit = inv.unit;
       held = made.held c.if-stands.true;
-      again = λ m w st. passed-came codes unit c.args.clock c.args.place c.segments.self m _ _ _ _ c.segments.spent n fits
+      again = λ m w st. passed-came codes unit c.args.clock c.args.place c.segments.self m _ _ _ _ c.segments.spent
+          n fits
           c.segments.live c.pass_ticks-passed.new.live p
           (λ v t. sym (c.is_ready_in_turn.ensures.source codes unit v t) ∙ c.if-not-is_ready_in_turn.false)
           (inv.again m w st);

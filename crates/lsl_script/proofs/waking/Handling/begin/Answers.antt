@@ -60,7 +60,8 @@ returns-clause-took c =
       fresh = refl;
       beside = ap {A = List Event} {B = ScriptParts} (λ q. record parts { queue = q }) c.next_event-event.ensures.queue
           ∙ emptied parts (queue_behind parts.leaving parts.queue) c.requires.idle;
-      begins = λ began. subst (λ (a : List Value). GoesOnAs (bodies_of unit) (run_of (bodies_of unit) handler kept a) 0 []
+      begins = λ began. subst (λ (a : List Value). GoesOnAs (bodies_of unit)
+          (run_of (bodies_of unit) handler kept a) 0 []
           c.in_ok-machine.machine) args
           (begun_goes unit handler kept c.in_ok-copy.field-0 c.in_ok-machine.machine c.in_ok-machine.ensures.runs);
       has = λ saved. absurd cc;

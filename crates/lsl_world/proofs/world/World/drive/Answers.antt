@@ -38,7 +38,12 @@ returns-in-Ok-clause-drives g c =
       inl (over-as c.args.self.now.units c.args.regions.now c.args.self.now.grid c.args.way c.args.field.now
           c.hand_over.new.field trips _ _ _ _ _ _ c.objects-objects.ensures.value c.len.ensures.value
           (c.from_vec.ensures ∙ c.in_ok-image.ensures.bytes) c.in-Ok.given over),
-      inr (record { short = omega arith; counts = (omega arith, c.len.ensures.within); sent = c.in_ok-image.ensures.image; fits = c.in_ok-image.ensures.own }),
+      inr (record {
+        short = omega arith;
+        counts = (omega arith, c.len.ensures.within);
+        sent = c.in_ok-image.ensures.image;
+        fits = c.in_ok-image.ensures.own;
+      }),
     )
 
 pub returns-in_err-image-clause-drives : goal.returns-in_err-image-clause-drives

@@ -50,7 +50,8 @@ returns-in_default-clause-goes g c = (
   λ programs w entries is order past carried.
       (let here = grid-here programs c.args.self.now w is c.args.regions.now c.args.field.now order c.args.object
       c.args.region.now c.requires.object c.requires.named entries past in
-      let none : way_between c.args.object (number_of c.args.regions.now _) (number_of c.args.regions.now c.args.region.now)
+      let none : way_between c.args.object (number_of c.args.regions.now _)
+      (number_of c.args.regions.now c.args.region.now)
       ≡ None = subst (λ (h : List ℕ). way_between c.args.object (number_of c.args.regions.now h)
       (number_of c.args.regions.now c.args.region.now) ≡ None) (c.region.ensures ∙ here)
       (sym c.way.ensures ∙ c.in_default.is) in

@@ -12,7 +12,8 @@ use Rattle.lsl_world.proofs.world.World.land.Goals as goal
 
 pub come-requires-clause-parts : goal.come-requires-clause-parts
 come-requires-clause-parts c =
-    subst (λ (o : Option ObjectParts). IfSome o (CanArrive c.args.self.now.units c.args.self.now.grid (c.args.object - 1)))
+    subst (λ (o : Option ObjectParts). IfSome o
+    (CanArrive c.args.self.now.units c.args.self.now.grid (c.args.object - 1)))
     c.in-Some.is c.requires.fits
 
 pub note_timers-requires : goal.note_timers-requires
@@ -28,7 +29,8 @@ returns-in_ok-come-in-Some-clause-comes c = λ programs w is own apart.
     (let e = sym c.in-Some.is ∙ own in cc) in
     let told = c.in_ok-come-in-Some.ensures.means (meant programs world.units is.runs) world.clock w is.stands same in
     comes-noted programs world w is c.args.object c.args.region.now apart c.come.new.self c.note_timers.new.due
-    c.args.out.now c.come.new.out c.note_timers.result told.0 told.1 c.in_ok-come-in-Some.ensures.seated c.note_timers.ensures.exact
+    c.args.out.now c.come.new.out c.note_timers.result told.0 told.1 c.in_ok-come-in-Some.ensures.seated
+    c.note_timers.ensures.exact
 
 pub returns-in_ok-come-in-Some-clause-size : goal.returns-in_ok-come-in-Some-clause-size
 returns-in_ok-come-in-Some-clause-size c =

@@ -17,8 +17,10 @@ returns-clause-order c = λ programs w is.
     let world = c.args.self in (
       c.in_ok-cards.cards,
       refl,
-      subst (λ (cs : List (List Card)). AreInOrder world.regions cs (map region_of w.objects)) (sym c.in_ok-cards.ensures)
-          (subst (λ (os : List Linkset). AreInOrder world.regions (cards_at_start world.regions world.grid.objects) (map region_of os)) is.stands.objects
+      subst (λ (cs : List (List Card)). AreInOrder world.regions cs (map region_of w.objects))
+          (sym c.in_ok-cards.ensures)
+          (subst (λ (os : List Linkset). AreInOrder world.regions (cards_at_start world.regions world.grid.objects)
+          (map region_of os)) is.stands.objects
           (order-start world.regions world.grid.objects c.requires.begun.named)),
       subst (λ (cs : List (List Card)). AreAtMost 0 cs) (sym c.in_ok-cards.ensures)
           (most-start world.regions world.grid.objects c.requires.begun.named),

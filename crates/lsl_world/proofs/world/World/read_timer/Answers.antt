@@ -30,7 +30,8 @@ returns-clause-tells c = λ programs w is.
     let world = c.args.self.now in
     let told = c.in_ok-read_timer.ensures.does (meant programs world.units is.runs) w is.stands in
     tells-last c.note_timer.result
-    (λ v t. IsOf programs (with_turn world c.read_timer.new.self world.pause c.note_timer.new.due) v) c.args.out.now c.read_timer.new.out
+    (λ v t. IsOf programs (with_turn world c.read_timer.new.self world.pause c.note_timer.new.due) v) c.args.out.now
+    c.read_timer.new.out
     (ring_at (rules_of programs) (c.args.script - 1) w) told.1 c.note_timer.ensures.puts
     (λ puts t. turned programs world w is c.read_timer.new.self world.pause c.note_timer.new.due c.args.script _
     c.requires.script.0 c.in_ok-read_timer.ensures.seated told.0

@@ -28,6 +28,7 @@ invariant-loop-place l = record {
       (turn_in (rules_of programs)) l.place l.place-end;
   saves : (programs : List Program) (w : SourceWorld) (t : Tally) → IsOf programs l.fn.self w
       → Counts l.fn.self.pause t
-      → Walk (LeftCounted programs l.self l.spare) (counted_round (rules_of programs) ((w, l.fn.left), t)) l.fn.out l.out
+      → Walk (LeftCounted programs l.self l.spare) (counted_round (rules_of programs) ((w, l.fn.left), t))
+      l.fn.out l.out
       (counted_turn_in (rules_of programs)) l.place l.place-end;
 }

@@ -63,7 +63,8 @@ returns-clause-at g c =
           at-any _ _ programs world behind c.step_by-outcome.ensures.units c.replace-regions.ensures.value trips out
           c.step_by-outcome.new.out stage is fair c.args.step.now result
           (λ none. c.step_by-outcome.ensures.plain (c.take-cards.ensures.value ∙ none))
-          (λ none. does-as world.units (rules_of programs) (IsOf programs new) (IsOf programs behind) into c.args.step.now
+          (λ none. does-as world.units (rules_of programs) (IsOf programs new) (IsOf programs behind) into
+          c.args.step.now
           stage.world trips out c.step_by-outcome.new.out result (plain none programs stage.world before))
           (λ old some.
           (let (later, there, hands, sends) = lossy old some in (

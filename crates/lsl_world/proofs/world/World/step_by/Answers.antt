@@ -30,11 +30,14 @@ returns-in_default-clause-goes g c =
         old,
         is,
         λ programs w entries of order past carried.
-            hands-does world.units (rules_of programs) (IsOf programs c.do_step-in_default.new.self) c.args.regions.now old
-            c.args.step.now (here-unless c.args.step.now (λ object region e. c.in_default.not-Cross object region e)) w entries trips c.args.out.now
+            hands-does world.units (rules_of programs) (IsOf programs c.do_step-in_default.new.self)
+            c.args.regions.now old
+            c.args.step.now (here-unless c.args.step.now (λ object region e. c.in_default.not-Cross object region e)) w
+            entries trips c.args.out.now
             c.do_step-in_default.new.out c.do_step-in_default.result order past (does programs w of),
         λ programs w of. sends-other world.units c.args.regions.now world.grid c.args.step.now
-            (here-unless c.args.step.now (λ object region e. c.in_default.not-Cross object region e)) w trips c.do_step-in_default.result
+            (here-unless c.args.step.now (λ object region e. c.in_default.not-Cross object region e)) w trips
+            c.do_step-in_default.result
             (does programs w of).sent,
       ),
     )
@@ -51,7 +54,8 @@ returns-in-Some-clause-goes g c =
         refl,
         λ programs w entries of order past carried.
             (let same : c.in-Some.field ≡ old = (let e = sym c.in-Some.is ∙ is in cc) in
-            subst (λ (s : Step). Hands world.units (rules_of programs) (IsOf programs c.hand.new.self) c.args.regions.now old
+            subst (λ (s : Step). Hands world.units (rules_of programs) (IsOf programs c.hand.new.self)
+            c.args.regions.now old
             c.hand.new.field s w entries trips c.args.out.now c.hand.new.out c.hand.result) (sym c.in-Cross.is)
             (subst (λ (cs : List (List Card)). Hands world.units (rules_of programs) (IsOf programs c.hand.new.self)
             c.args.regions.now cs c.hand.new.field (Cross c.in-Cross.object c.in-Cross.region) w entries trips
