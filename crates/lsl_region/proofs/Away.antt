@@ -99,16 +99,3 @@ elsewhere place to thing w n = go (slice_get w.members to) where
   go : (o : Option Member) → slice_get (changed_at to thing w o).value.members place ≡ slice_get w.members place
   go None = refl
   go (Some m) = slice_get-set_other w.members to place _ n
-
--- a change of another script
-pub lent-other : {T E : Type 0} (codes : List Code) (unit : Code) (clock place to : ℕ) (grid new : Contents)
-    (live : Live)
-    (id : BuiltinId) (f : Flight) (w : World) (thing : Member → Told Script) (r : Result T E) (old now : List Entry)
-    → place ≢ to → Lent codes unit clock place grid live id f w
-    → Tells r (λ v _. Stands codes (Some place) clock new v) old now (at_member to thing w)
-    → Tells r (λ v _. Lent codes unit clock place new live id f v) old now (at_member to thing w)
-lent-other codes unit clock place to grid new live id f w thing (Ok x) old now n lent d = (
-  record { stands = d.0; member = lent.member; at = elsewhere place to thing w n ∙ lent.at; waits = lent.waits },
-  d.1,
-)
-lent-other codes unit clock place to grid new live id f w thing (Err e) old now n lent d = d

@@ -14,6 +14,7 @@ pub mod Seats
 pub mod Posts
 pub mod Told
 pub mod Passing
+pub mod Around
 pub mod Away
 pub mod Calls
 pub mod Lending

@@ -1,5 +1,5 @@
 -- Segments that a script passes on integers and calls of functions alone.
-use Rattle.std.proofs.Common.{◌≡◌, ℕ, ◌+◌, ◌≤◌, Bool, true, false, List, ◌++◌, ap, sym, ◌∙◌, subst, arith}
+use Rattle.std.proofs.Common.{◌≡◌, ℕ, ◌+◌, ◌≤◌, Bool, true, false, List, ◌++◌, refl, ap, sym, ◌∙◌, subst, arith}
 use Rattle.std.specs.Prelude.{Option, Some, None, nat_le, not}
 use Rattle.lsl_code.specs.declared.woven_units.Woven.{Woven as Code}
 use Rattle.lsl_post.specs.declared.entries.Entry.{Entry}
@@ -29,6 +29,16 @@ ready-still stands unit n clock place seats None (Some b) p ready = absurd p
 ready-still stands unit n clock place seats (Some a) None p ready = absurd p
 ready-still stands unit n clock place seats (Some a) (Some b) p ready = tt
 
+none-passed : (unit : Code) (n : ℕ) (a b : Live) → n ≡ 0 → PassesSegments unit n a b → a ≡ b
+none-passed unit n a b e (NoSegment live) = refl
+none-passed unit n a b e (OneMore k old mid new before one) = absurd (omega (arith, e))
+
+one-passed : (unit : Code) (n : ℕ) (a b : Live) → n ≡ 1 → PassesSegments unit n a b → PassesSegment unit a b
+one-passed unit n a b e (NoSegment live) = absurd (omega (arith, e))
+one-passed unit n a b e (OneMore k old mid new before one) =
+    let none : k ≡ 0 = omega (arith, e) in
+    subst (λ (l : Live). PassesSegment unit l new) (sym (none-passed unit k old mid none before)) one
+
 module _ (codes : List Code) (unit : Code) (clock place : ℕ) (grid : Contents) where
   -- the script that is held is ready where its time has come
   held-ready : (live : Live) (w : World) → Held codes unit clock place grid live w
@@ -51,6 +61,24 @@ module _ (codes : List Code) (unit : Code) (clock place : ℕ) (grid : Contents)
       (tick-told codes unit clock place grid new h.flight most w m
       (goes-to codes unit clock place grid live new turn.AtTick h.flight most w g comes) out) in
       ((d.0, sym (held-flies codes unit clock place grid new _ d.0)), d.1)
+
+  -- it passes one segment, or a part of one
+  pub one-behind : (m : Meant codes) (n : ℕ) (old new : Option Live) (w : World) (out : List Entry) → n ≡ 1
+      → PassesAwake true unit n old new → InTurn codes unit clock place grid old w
+      → IsBehind codes unit clock place grid new (segment m.rules place w).value
+      × (out ≡ out ++ (segment m.rules place w).entries)
+  one-behind m n None None w out e p h = let no : true ≡ false = p.1 in absurd cc
+  one-behind m n None (Some b) w out e p h = absurd p
+  one-behind m n (Some a) None w out e p h = absurd p
+  one-behind m n (Some a) (Some b) w out e p h = tick-behind m a b w out h (one-passed unit n a b e p)
+
+  pub none-amid : (n : ℕ) (old new : Option Live) (w : World) → n ≡ 0 → PassesAwake false unit n old new
+      → InTurn codes unit clock place grid old w → IsAmid codes unit clock place grid new w
+  none-amid n None None w e p h = h
+  none-amid n None (Some b) w e p h = absurd p
+  none-amid n (Some a) None w e p h = absurd p
+  none-amid n (Some a) (Some b) w e p h =
+      (p.0, subst (λ (l : Live). Held codes unit clock place grid l w) (none-passed unit n a p.0 e p.1) h, p.2)
 
   abbrev came : Option Live → ℕ → World × ℕ → Type 0
   came live count x = CameTo codes unit clock place grid live x count

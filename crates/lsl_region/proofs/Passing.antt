@@ -1,12 +1,14 @@
 -- Places that are passed over, since no script there is one of those to whom an event is posted.
-use Rattle.std.proofs.Common.{◌≡◌, ℕ, zero, suc, ◌+◌, ◌-◌, ◌<◌, ◌≤◌, Bool, false, List, [], get_or, ℤ, refl, ap, sym, ◌∙◌, subst, arith}
+use Rattle.std.proofs.Common.{◌≡◌, ℕ, zero, suc, ◌+◌, ◌-◌, ◌<◌, ◌≤◌, Bool, false, List, [], ◌++◌, get_or, ℤ, refl, ap, sym, ◌∙◌, subst, arith}
 use Rattle.std.specs.Prelude.{if◌then◌else◌, Option, Some, None, slice_get}
 use Rattle.lsl_code.specs.declared.woven_units.Woven.{Woven as Code}
 use Rattle.lsl_post.specs.declared.entries.Entry.{Entry}
 use Rattle.lsl_post.specs.declared.events.Event.{Event}
 use Rattle.lsl_post.specs.declared.parts.ScriptParts.{ScriptParts}
 use Rattle.lsl_post.specs.Told.{Told, each, next_to, lead, quiet}
-use Rattle.lsl_post.proofs.Amid.{Walk}
+use Rattle.std.specs.declared.result.Result.{Result}
+use Rattle.lsl_post.specs.Journal.{Part, Tells}
+use Rattle.lsl_post.proofs.Amid.{Walk, amid-err, amid-last, amid-ok, amid-start, lead-lead}
 use Rattle.lsl_script.specs.Parts.{parts_of}
 use Rattle.lsl_script.specs.Rules.{Rules}
 use Rattle.lsl_script.specs.Scripts.{post_to}
@@ -16,7 +18,6 @@ use Rattle.lsl_region.specs.Grids.{Contents, Stands, is_out, seat_of}
 use Rattle.lsl_region.specs.Hearing.{ArePassed, HasRow, HaveRows, is_in_row, listens_on}
 use Rattle.lsl_region.specs.Posting.{admits, post_where}
 use Rattle.lsl_region.specs.Worlds.{Member, World, changed_at, prim_of}
-use Rattle.lsl_region.proofs.Away.{other-home}
 use Rattle.lsl_region.proofs.Placed.{seated-at}
 use Rattle.lsl_region.proofs.Posts.{post-none}
 
@@ -63,6 +64,68 @@ walk-later {X = X} Rel total old now thing from to end walk h l none =
       };
     }
 
+-- A walk over some numbers begins at the first of them.
+pub walk-from : {X : Type 0} (Rel : X → Type 0) (x : X) (old : List Entry) (thing : ℕ → X → Told X) (first end : ℕ)
+    → Rel x → first ≤ end → Walk Rel (each thing (end - first) first x) old old thing first end
+walk-from Rel x old thing first end r h = record {
+  left = end - first;
+  span = omega (arith, h);
+  amid = amid-start Rel x old (each thing (end - first) first) r;
+}
+
+-- so many things, and then others
+each-both : {X : Type 0} (thing : ℕ → X → Told X) (k n count first to : ℕ) (x : X) → count ≡ k + n → to ≡ first + k
+    → each thing count first x ≡ next_to (each thing k first x) (each thing n to)
+unfolding each
+each-both thing zero n count first to x e t =
+    let left : count ≡ n = omega (arith, e) in
+    let at : first ≡ to = omega (arith, t) in
+    ap (λ (z : ℕ). each thing z first x) left ∙ ap (λ (z : ℕ). each thing n z x) at
+each-both {X = X} thing (suc k) n count first to x e t =
+    let left : count ≡ suc (k + n) = omega (arith, e) in
+    let at : to ≡ (first + 1) + k = omega (arith, t) in
+    let a = thing first x in
+    let b = each thing k (first + 1) a.value in
+    each-one thing count (k + n) first left x
+    ∙ ap (λ (z : Told X). lead a.entries z) (each-both thing k n (k + n) (first + 1) to a.value refl at)
+    ∙ lead-lead a.entries b.entries (each thing n to b.value)
+
+module _ {X : Type 0} (Rel : X → Type 0) (total : Told X) (old now : List Entry) (thing : ℕ → X → Told X)
+    (first end : ℕ) (walk : Walk Rel total old now thing first end) where
+  each-left : (to : ℕ) (x : X) → first ≤ to → to ≤ end
+      → each thing walk.left first x ≡ next_to (each thing (to - first) first x) (each thing (end - to) to)
+  each-left to x h l =
+      let span : walk.left ≡ (to - first) + (end - to) = omega (arith, walk.span, h, l) in
+      let at : to ≡ first + (to - first) = omega (arith, h) in
+      each-both thing (to - first) (end - to) walk.left first to x span at
+
+  -- the things for the numbers up to a later one were done
+  pub walk-stretch : (Rel' : X → Type 0) (new : List Entry) (to : ℕ) → first ≤ to → to ≤ end
+      → ((x : X) → Rel x → Rel' (each thing (to - first) first x).value
+      × (new ≡ now ++ (each thing (to - first) first x).entries))
+      → Walk Rel' total old new thing to end
+  walk-stretch Rel' new to h l does = record {
+    left = end - to;
+    span = omega (arith, l);
+    amid = amid-ok Rel total old now (each thing walk.left first) walk.amid Rel' (each thing (end - to) to)
+        (each thing (to - first) first) new (λ x r. each-left to x h l) does;
+  }
+
+  -- memory lacked while they were done
+  pub walk-stops : (new : List Entry) (to : ℕ) → first ≤ to → to ≤ end
+      → ((x : X) → Rel x → Part now new (each thing (to - first) first x).entries) → Part old new total.entries
+  walk-stops new to h l does =
+      amid-err Rel total old now (each thing walk.left first) walk.amid (each thing (end - to) to)
+      (each thing (to - first) first) new (λ x r. each-left to x h l) does
+
+  -- those that are left are done as a whole
+  pub walk-last : {T E : Type 0} (r : Result T E) (Last : X → T → Type 0) (new : List Entry)
+      → ((x : X) → Rel x → Tells r Last now new (each thing (end - first) first x)) → Tells r Last old new total
+  walk-last r Last new does =
+      let left : end - first ≡ walk.left = omega (arith, walk.span) in
+      amid-last Rel total old now (each thing walk.left first) walk.amid r Last new
+      (λ x k. subst (λ (n : ℕ). Tells r Last now new (each thing n first x)) left (does x k))
+
 -- a script that isn't out listens on the channels of its row
 pub listening : (rows : List (List ℤ)) (seats : List Seat) (channel : ℤ) (place : ℕ) (seat : Seat) (parts : ScriptParts)
     → HaveRows rows seats → slice_get seats place ≡ Some seat → seat.script ≡ Some parts
@@ -86,9 +149,3 @@ module _ (codes : List Code) (away : Option ℕ) (clock : ℕ) (grid : Contents)
         = seated-at codes away clock grid w st place m k ∙ ap (λ (b : Bool). Some (seat_of codes b m)) home in
         sym (post-none r a e place w m k
         (passed place (seat_of codes false m) (parts_of codes m.script) h l at refl m.object m.prim (prim_of w m).key))
-
--- the place of the script that is out isn't passed over
-pub passed-home : (place from to n : ℕ) → (from ≤ place → to ≤ place) → from ≤ n → n < to
-    → is_out (Some place) n ≡ false
-passed-home place from to n own first last =
-    other-home place n (λ e. let k = own (omega (arith, first, e)) in omega (arith, k, last, e))

@@ -120,6 +120,10 @@ abbrev pub is_out : Option ℕ → ℕ → Bool
 is_out None place = false
 is_out (Some out) place = nat_eq out place
 
+-- none from one place up to another is
+abbrev pub AreHome : Option ℕ → (first end : ℕ) → Type 0
+AreHome out first end = (place : ℕ) → first ≤ place → place < end → is_out out place ≡ false
+
 abbrev pub parts_in : List Code → Bool → Script → Option ScriptParts
 parts_in codes true s = None
 parts_in codes false s = Some (parts_of codes s)

@@ -1,5 +1,5 @@
 -- Events that are posted to scripts, in the order of their numbers.
-use Rattle.std.specs.Prelude.{ℕ, ◌+◌, ℤ, Bool, not, ◌&&◌, nat_eq, if◌then◌else◌, List, [], ◌∷◌, length, None, refl}
+use Rattle.std.specs.Prelude.{ℕ, ◌+◌, ◌-◌, ℤ, Bool, not, ◌&&◌, nat_eq, if◌then◌else◌, List, [], ◌∷◌, length, None, refl}
 use Rattle.std.specs.Str.{bytes_eq}
 use Rattle.lsl_value.specs.declared.names.EventId.TheVariants as event
 use Rattle.lsl_value.specs.declared.tagged.Value.TheVariants as value
@@ -19,6 +19,10 @@ use Rattle.lsl_region.specs.Worlds.{Member, World, at_member, prim_of}
 abbrev pub post_where : Rules → (World → Member → Bool) → Event → ℕ → World → Told World
 post_where r test e place w =
     at_member place (λ m. if test w m then post_to r (place + 1) e m.script else quiet m.script) w
+
+-- to those scripts from one place up to another of which it holds
+abbrev pub post_between : Rules → (World → Member → Bool) → Event → (first end : ℕ) → World → Told World
+post_between r test e first end w = each (post_where r test e) (end - first) first w
 
 -- to all scripts of which it holds
 abbrev pub post_all : Rules → (World → Member → Bool) → Event → World → Told World

@@ -10,7 +10,6 @@ ghost use Rattle.lsl_script.specs.Fitting.{is_exit};
 ghost use Rattle.lsl_script.specs.Lives.{Waits};
 ghost use Rattle.lsl_script.specs.Scripts.{Flight, Script as Source, post_to};
 ghost use Rattle.lsl_region.specs.Grids.{AreSeated, Lent, outline_of};
-ghost use Rattle.lsl_region.specs.Hearing.{ArePassed};
 ghost use Rattle.lsl_region.specs.Posting.{admits, post_all, post_where};
 ghost use Rattle.lsl_region.specs.Worlds.{World};
 
@@ -83,57 +82,6 @@ impl Grid {
         post_live(self.alloc, live, number(place), event, unit, out)
     }
 
-    // Posts an event to the script at a place, where the one at another place is out.
-    fn post_with(
-        &mut self,
-        place: usize,
-        live: &mut Live,
-        to: usize,
-        audience: &Audience,
-        event: &Event,
-        library: &Library,
-        unit: &Woven,
-        out: &mut Entries,
-    ) -> Result<(), NoMemory>
-        requires place { place < length self.old.seats }
-        requires to { to < length self.old.seats }
-        requires seated { AreSeated library.now self.old.seats }
-        requires awake { IsAwake unit.now live.old }
-        requires other { is_exit event.now ≡ false }
-        ensures does { (clock : ℕ) (f : Flight) (id : BuiltinId) (w : World) →
-            Lent library.now unit.now clock place self.old live.old id f w →
-            Tells result (λ v _. Lent library.now unit.now clock place self.new live.new id f v) out.old out.new
-            (post_where (rules_of library.now) (admits audience.now) event.now to w) }
-        ensures seated { OnOk result (AreSeated library.now self.new.seats) }
-        ensures len { length self.new.seats ≡ length self.old.seats }
-        ensures outline { outline_of self.new ≡ outline_of self.old }
-        ensures objects { self.new.objects ≡ self.old.objects }
-        ensures awake { IsAwake unit.now live.new }
-        ensures machine { live.new.machine ≡ live.old.machine }
-    {
-        if to == place {
-            return self.post_own(place, live, audience, event, unit, out);
-        }
-        self.post_at(to, audience, event, library, out)
-    }
-
-    // The next place from this one on whose script may be one of them, where the one at a place is out, or the end.
-    fn next_with(&self, place: usize, audience: &Audience, from: usize) -> usize
-        requires place { place < length self.now.seats }
-        requires from { from ≤ length self.now.seats }
-        ensures onward { from ≤ result }
-        ensures within { result ≤ length self.now.seats }
-        ensures passed { ArePassed audience.now self.now.seats from result }
-        ensures own { from ≤ place → result ≤ place }
-    {
-        let next = self.next_of(audience, from);
-        if from <= place && place < next {
-            place
-        } else {
-            next
-        }
-    }
-
     /// Posts an event to all scripts that are among them, where the one at this place is out and waits for an answer.
     /// Of what is said only this one and the scripts with an active listen on its channel are asked, else all are.
     pub(crate) fn post_all_with(
@@ -162,11 +110,8 @@ impl Grid {
         ensures machine { live.new.machine ≡ live.old.machine }
     {
         let end = self.seats.len();
-        let mut to = self.next_with(place, audience, 0);
-        while to < end {
-            self.post_with(place, live, to, audience, event, library, unit, out)?;
-            to = self.next_with(place, audience, to + 1);
-        }
-        Ok(())
+        self.post_between(0, place, audience, event, library, out)?;
+        self.post_own(place, live, audience, event, unit, out)?;
+        self.post_between(place + 1, end, audience, event, library, out)
     }
 }

@@ -8,9 +8,9 @@ ghost use Rattle.lsl_script.specs.Codes.{HasUnit, Meant, rules_of};
 ghost use Rattle.lsl_script.specs.Fitting.{FitsUnit, is_exit};
 ghost use Rattle.lsl_script.specs.Parts.{parts_of};
 ghost use Rattle.lsl_script.specs.Scripts.{Script as Source, entries_of_posting, post_to};
-ghost use Rattle.lsl_region.specs.Grids.{AreSeated, FitsSeat, Stands, is_out, key_in, outline_of};
+ghost use Rattle.lsl_region.specs.Grids.{AreHome, AreSeated, FitsSeat, Stands, is_out, key_in, outline_of};
 ghost use Rattle.lsl_region.specs.Hearing.{ArePassed, HasRow, listens_on};
-ghost use Rattle.lsl_region.specs.Posting.{admits, is_admitted, post_all, post_where};
+ghost use Rattle.lsl_region.specs.Posting.{admits, is_admitted, post_all, post_between, post_where};
 ghost use Rattle.lsl_region.specs.Worlds.{Member, World};
 ghost use Rattle.lsl_region.specs.declared.grid.Seat.{Seat as Place};
 
@@ -146,30 +146,64 @@ impl Grid {
     }
 
     // The next place from this one on whose script listens on this channel, or is out, or the end.
-    fn next_hearer(&self, channel: i32, from: usize) -> usize
-        requires { from ≤ length self.now.seats }
+    fn next_hearer(&self, channel: i32, from: usize, end: usize) -> usize
+        requires order { from ≤ end }
+        requires within { end ≤ length self.now.seats }
         ensures onward { from ≤ result }
-        ensures within { result ≤ length self.now.seats }
+        ensures within { result ≤ end }
         ensures passed { (place : ℕ) (seat : Place) (parts : Parts) → from ≤ place → place < result →
             slice_get self.now.seats place ≡ Some seat → seat.script ≡ Some parts →
             listens_on channel parts.listens ≡ false }
-        ensures found { (seat : Place) (parts : Parts) → slice_get self.now.seats result ≡ Some seat →
+        ensures found { (seat : Place) (parts : Parts) → result < end → slice_get self.now.seats result ≡ Some seat →
             seat.script ≡ Some parts → listens_on channel parts.listens ≡ true }
     {
-        self.hearers.next(channel, from).min(self.seats.len())
+        self.hearers.next(channel, from).min(end)
     }
 
-    /// The next place from this one on whose script may be one of them, or the end. Takes no memory; asks no script.
-    pub(crate) fn next_of(&self, audience: &Audience, from: usize) -> usize
-        requires { from ≤ length self.now.seats }
+    // The next place from this one on whose script may be one of them, or the end. Takes no memory; asks no script.
+    fn next_of(&self, audience: &Audience, from: usize, end: usize) -> usize
+        requires order { from ≤ end }
+        requires within { end ≤ length self.now.seats }
         ensures onward { from ≤ result }
-        ensures within { result ≤ length self.now.seats }
+        ensures within { result ≤ end }
         ensures passed { ArePassed audience.now self.now.seats from result }
     {
         match audience {
-            Audience::Hearers(said) => self.next_hearer(said.channel, from),
+            Audience::Hearers(said) => self.next_hearer(said.channel, from, end),
             _ => from,
         }
+    }
+
+    /// Posts an event to the scripts from one place up to another that are among them; none of these is out. Of what is
+    /// said only the scripts with an active listen on its channel are asked, else all are.
+    pub(crate) fn post_between(
+        &mut self,
+        first: usize,
+        end: usize,
+        audience: &Audience,
+        event: &Event,
+        library: &Library,
+        out: &mut Entries,
+    ) -> Result<(), NoMemory>
+        requires order { first ≤ end }
+        requires within { end ≤ length self.old.seats }
+        requires seated { AreSeated library.now self.old.seats }
+        requires other { is_exit event.now ≡ false }
+        ensures does { (m : Meant library.now) (away : Option ℕ) (clock : ℕ) (w : World) →
+            Stands library.now away clock self.old w → AreHome away first end →
+            Tells result (λ v _. Stands library.now away clock self.new v) out.old out.new
+            (post_between m.rules (admits audience.now) event.now first end w) }
+        ensures seated { OnOk result (AreSeated library.now self.new.seats) }
+        ensures len { length self.new.seats ≡ length self.old.seats }
+        ensures outline { outline_of self.new ≡ outline_of self.old }
+        ensures objects { self.new.objects ≡ self.old.objects }
+    {
+        let mut place = self.next_of(audience, first, end);
+        while place < end {
+            self.post_at(place, audience, event, library, out)?;
+            place = self.next_of(audience, place + 1, end);
+        }
+        Ok(())
     }
 
     /// Posts an event to all scripts that are among them. Of what is said only the scripts with an active listen on its
@@ -192,11 +226,6 @@ impl Grid {
         ensures objects { self.new.objects ≡ self.old.objects }
     {
         let end = self.seats.len();
-        let mut place = self.next_of(audience, 0);
-        while place < end {
-            self.post_at(place, audience, event, library, out)?;
-            place = self.next_of(audience, place + 1);
-        }
-        Ok(())
+        self.post_between(0, end, audience, event, library, out)
     }
 }

@@ -210,16 +210,11 @@ impl Grid {
         ensures len { length self.new.seats ≡ length self.old.seats }
         ensures outline { outline_of self.new ≡ outline_of self.old }
     {
-        match live {
-            Some(awake) => {
-                if awake.pass_tick(unit) {
-                    return Ok(());
-                }
-                let turn = awake.go(unit);
-                self.go_on(place, live, turn, clock, library, unit, out)
-            }
-            None => self.first_segment(place, live, clock, library, unit, out),
+        let (_, stands) = pass_ticks(live, unit, 1);
+        if stands {
+            return Ok(());
         }
+        self.finish_segment(place, live, clock, library, unit, out)
     }
 
     // The rest of a segment of the script at this place, or all of it where the script isn't awake yet.

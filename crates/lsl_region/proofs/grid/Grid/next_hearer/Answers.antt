@@ -19,7 +19,7 @@ returns-clause-passed c = λ place seat parts first last at is.
     ∙ c.next.ensures.passed place first before
 
 pub returns-clause-found : goal.returns-clause-found
-returns-clause-found c = λ seat parts at is.
+returns-clause-found c = λ seat parts before at is.
     let channel = c.args.channel in
     let rows = c.self.inside.hearers in
     let seats = c.self.inside.seats.items in
@@ -27,7 +27,7 @@ returns-clause-found c = λ seat parts at is.
     = ap (λ (g : Contents). slice_get g.seats c.min.result) c.self.view_is ∙ at in
     let within : c.min.result < length seats = slice_get_within seats c.min.result seat there in
     let few : length seats ≤ 256 = c.self.invariant.0.few_seats in
-    let next : c.next.result ≡ c.min.result = omega (arith, within, c.min.ensures) in
+    let next : c.next.result ≡ c.min.result = omega (arith, before, c.min.ensures) in
     let found : IsFound rows channel c.next.result
     = subst (λ (z : ℤ). IsFound rows z c.next.result) (to_z-of_z w32 channel c.ranges.channel) c.next.ensures.found in
     listening rows seats channel c.min.result seat parts c.self.invariant.1 there is
