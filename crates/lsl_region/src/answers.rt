@@ -68,6 +68,7 @@ impl Grid {
     }
 
     /// Answers a host call of the script at this place, which is out of the grid and waits.
+    #[inline(always)]
     pub(crate) fn answer_at(
         &mut self,
         place: usize,
@@ -108,6 +109,7 @@ impl Grid {
     }
 
     // The script at this place, which is out of the grid and waits, says or sends something, or names its prim.
+    #[inline(always)]
     fn act(
         &mut self,
         place: usize,

@@ -1,6 +1,7 @@
 //! The arguments of a host call, from the first.
 
-ghost use Rattle.std.specs.Prelude.{◌≡◌, IfOk};
+ghost use Rattle.std.specs.Prelude.{◌≡◌, [], IfOk};
+ghost use Rattle.std.specs.Option.{option_copied, unwrap_or};
 ghost use Rattle.lsl_region.specs.Answers.{integer_at, text_at};
 
 use lsl_text::NoMemory;
@@ -20,8 +21,19 @@ pub(crate) fn integer_at(args: &Values, place: usize) -> i32
 pub(crate) fn text_at(args: &Values, place: usize) -> Result<Text, NoMemory>
     ensures { IfOk result (λ text. text ≡ text_at place args.now) }
 {
+    match text_in(args, place) {
+        Some(text) => text.copy(),
+        None => Ok(Text::new()),
+    }
+}
+
+/// The text at this place, where one stands there. Takes no memory.
+#[inline(always)]
+pub(crate) fn text_in(args: &Values, place: usize) -> Option<&Text>
+    ensures { text_at place args.now ≡ unwrap_or (option_copied result) [] }
+{
     match args.as_slice().get(place) {
-        Some(Value::Str(text) | Value::Key(text)) => text.copy(),
-        _ => Ok(Text::new()),
+        Some(Value::Str(text) | Value::Key(text)) => Some(text),
+        _ => None,
     }
 }

@@ -27,6 +27,7 @@ use std::alloc::AllocError;
 const SECOND: u64 = 1000;
 
 /// Does one of these calls, and answers it.
+#[inline(never)]
 pub(crate) fn mail(
     live: &mut Live,
     id: BuiltinId,

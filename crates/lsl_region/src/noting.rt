@@ -36,6 +36,7 @@ use lsl_value::{BuiltinId, Text, Value, Values};
 impl Grid {
     /// The script is told of a notecard of its prim: of a line, or how many there are. It is answered the query's key,
     /// or the key of zeros where there is no such notecard or line number.
+    #[inline(never)]
     pub(crate) fn answer_notecard(
         &self,
         place: usize,

@@ -64,7 +64,7 @@ impl Grid {
     }
 
     /// Goes on from a stop to the next tick or the handler's end, and answers all host calls on the way.
-    #[inline(never)]
+    #[inline(always)]
     pub(crate) fn go_on(
         &mut self,
         place: usize,
@@ -101,6 +101,7 @@ impl Grid {
     }
 
     // Answers all host calls up to the next tick or the handler's end.
+    #[inline(always)]
     fn answer_all(
         &mut self,
         place: usize,
@@ -141,6 +142,7 @@ impl Grid {
     }
 
     // Answers a host call, and lets the script go on.
+    #[inline(always)]
     fn answer_and_go_on(
         &mut self,
         place: usize,
@@ -181,6 +183,7 @@ impl Grid {
     }
 
     // Ends the handler of a script, which comes back into the grid.
+    #[inline(never)]
     fn finish(
         &mut self,
         place: usize,

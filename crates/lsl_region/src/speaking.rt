@@ -26,7 +26,7 @@ ghost use Rattle.lsl_region.specs.Texts.{cut_name, cut_speech};
 ghost use Rattle.lsl_region.specs.Worlds.{World, prim_of};
 ghost use Rattle.lsl_region.specs.declared.grid.Seat.{Seat as Place};
 
-use crate::arguments::{integer_at, text_at};
+use crate::arguments::{integer_at, text_at, text_in};
 use crate::audience::Audience;
 use crate::events::{listen_event, message_event};
 use crate::grid::Grid;
@@ -82,6 +82,7 @@ impl Grid {
     }
 
     /// The call is told something.
+    #[inline(never)]
     pub(crate) fn answer_query(
         &self,
         place: usize,
@@ -174,6 +175,7 @@ impl Grid {
     }
 
     /// The script's prim says the text at place 1 on the channel at place 0.
+    #[inline(never)]
     pub(crate) fn answer_say(
         &mut self,
         place: usize,
@@ -213,6 +215,7 @@ impl Grid {
     }
 
     /// The script's prim says the text at place 1 to the whole region, on the channel at place 0, unless that is 0.
+    #[inline(never)]
     pub(crate) fn answer_region_say(
         &mut self,
         place: usize,
@@ -243,6 +246,7 @@ impl Grid {
     }
 
     /// The text at place 0 is said to the owner.
+    #[inline(always)]
     pub(crate) fn answer_owner_say(
         &self,
         place: usize,
@@ -325,6 +329,7 @@ impl Grid {
     }
 
     /// A message goes to the scripts of the prims that the number at place 0 names.
+    #[inline(never)]
     pub(crate) fn answer_message_linked(
         &mut self,
         place: usize,
@@ -365,6 +370,7 @@ impl Grid {
     }
 
     /// The script's prim has the name at place 0, cut.
+    #[inline(never)]
     pub(crate) fn answer_set_object_name(
         &mut self,
         place: usize,
@@ -394,8 +400,12 @@ fn is_silent(args: &Values) -> bool
 }
 
 // The text at this place as it is said.
+#[inline(always)]
 fn spoken(alloc: Global, args: &Values, place: usize) -> Result<Text, NoMemory>
     ensures { IfOk result (λ text. text ≡ cut_speech (text_at place args.now)) }
 {
-    cut_speech(alloc, &text_at(args, place)?)
+    match text_in(args, place) {
+        Some(text) => cut_speech(alloc, text),
+        None => Ok(Text::new()),
+    }
 }

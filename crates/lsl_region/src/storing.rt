@@ -51,6 +51,7 @@ pub(crate) struct Change {
 impl Grid {
     /// The call changes the store of the script's object, and all scripts of the object are told of a change, the one
     /// that asks too.
+    #[inline(never)]
     pub(crate) fn answer_store(
         &mut self,
         place: usize,

@@ -15,6 +15,7 @@ const MOST_SPEECH_BYTES: usize = 1_024;
 const MOST_NAME_BYTES: usize = 63;
 
 /// The text as it is said: its first 1,024 bytes, without a character that would be split. A short one is shared.
+#[inline(always)]
 pub(crate) fn cut_speech(alloc: Global, text: &Text) -> Result<Text, NoMemory>
     ensures { IfOk result (λ cut. cut ≡ cut_speech text.now) }
 {
@@ -29,6 +30,7 @@ pub(crate) fn cut_name(alloc: Global, text: &Text) -> Result<Text, NoMemory>
 }
 
 // The first characters that have no more bytes than these.
+#[inline(always)]
 fn cut_to(alloc: Global, text: &Text, room: usize) -> Result<Text, NoMemory>
     requires { room ≤ 1024 }
     ensures { IfOk result (λ cut. cut ≡ cut_to room text.now) }
@@ -36,6 +38,15 @@ fn cut_to(alloc: Global, text: &Text, room: usize) -> Result<Text, NoMemory>
     if text.bytes().len() <= room {
         return text.copy();
     }
+    cut_anew(alloc, text, room)
+}
+
+// The same, as a text of its own. Walks the characters.
+#[inline(never)]
+fn cut_anew(alloc: Global, text: &Text, room: usize) -> Result<Text, NoMemory>
+    requires { room ≤ 1024 }
+    ensures { IfOk result (λ cut. cut ≡ cut_to room text.now) }
+{
     let length = cut_length(text.as_str(), room);
     match Text::from_utf8(alloc, &text.bytes()[..length])? {
         Some(cut) => Ok(cut),

@@ -1,10 +1,10 @@
-use Rattle.std.proofs.Common.{rules, ◌≡◌, ◌≢◌, ◌<◌, ◌≤◌, ◌+◌, ◌++◌, ℕ, arith, length, sym, subst}
+use Rattle.std.proofs.Common.{rules, ◌≡◌, ◌+◌, ◌++◌, ℕ, arith, length, sym, subst}
 use Rattle.std.specs.Prelude.{Some}
 use Rattle.std.proofs.lemmas.Result.{MatchResult-from_err}
 use Rattle.lsl_post.specs.Journal.{Part}
 use Rattle.lsl_post.specs.Told.{Told}
 use Rattle.lsl_post.proofs.Amid.{walk-ok, walk-err}
-use Rattle.lsl_region.specs.Grids.{AreHome, Lent}
+use Rattle.lsl_region.specs.Grids.{Lent}
 use Rattle.lsl_region.specs.Posting.{admits}
 use Rattle.lsl_region.specs.Worlds.{World}
 use Rattle.lsl_region.proofs.Around.{before, behind, home, lent-behind, lent-between, lent-start}

@@ -1,4 +1,4 @@
-use Rattle.std.proofs.Common.{◌≡◌, ◌≤◌, ◌+◌, ◌++◌, arith, refl, subst, ◌∙◌}
+use Rattle.std.proofs.Common.{◌≡◌, ◌+◌, ◌++◌, arith, refl, subst, ◌∙◌}
 use Rattle.std.proofs.lemmas.Result.{MatchResult-from_err}
 use Rattle.lsl_post.specs.Journal.{Part}
 use Rattle.lsl_post.specs.Told.{Told}

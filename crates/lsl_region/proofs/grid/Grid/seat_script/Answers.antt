@@ -1,5 +1,5 @@
 use Rattle.std.proofs.Common.{◌≡◌, ◌<◌, ◌∙◌, ap, length, refl, rules, subst, sym}
-use Rattle.std.specs.Prelude.{Option, Some, None, is_some, slice_get, slice_set, true, false}
+use Rattle.std.specs.Prelude.{Option, Some, is_some, slice_get, slice_set}
 use Rattle.std.proofs.lemmas.Bool.{false≢true}
 use Rattle.std.proofs.lemmas.Option.{slice_get_within}
 use Rattle.lsl_post.specs.declared.parts.ScriptParts.{ScriptParts}

@@ -1,4 +1,4 @@
-use Rattle.std.proofs.Common.{◌≡◌, ℕ, arith, subst}
+use Rattle.std.proofs.Common.{◌≡◌, arith, subst}
 use Rattle.std.specs.Prelude.{Bool}
 use Rattle.lsl_region.specs.Turning.{PassesAwake}
 use Rattle.lsl_region.proofs.ManyTicks.{none-amid, one-behind, ready-still}

@@ -1,4 +1,4 @@
-use Rattle.std.proofs.Common.{◌≡◌, ◌∙◌, length, ap, subst, true}
+use Rattle.std.proofs.Common.{◌∙◌, length, ap, subst, true}
 use Rattle.lsl_post.specs.Journal.{Tells}
 use Rattle.lsl_post.specs.Told.{Told}
 use Rattle.lsl_region.specs.declared.objects.Linkset.{Linkset}
