@@ -6,7 +6,8 @@ ghost use Rattle.lsl_text.specs.Quoted.{quoted};
 ghost use Rattle.lsl_lines.specs.Journal.{event_words, fault_text, joined, line_of, lines_of, text_word, voice_word, words_of};
 
 use crate::journal_words::{
-    push_argument_words, push_integer_word, push_number_word, push_quoted_word, push_word,
+    push_argument_words, push_byte, push_integer_word, push_number_word, push_quoted_word,
+    push_word,
 };
 use lsl_post::{Entry, Event, Voice};
 use lsl_running::Fault;
@@ -55,15 +56,16 @@ fn push_each(out: &mut Vec<u8>, entries: &[Entry]) -> Result<(), NoMemory>
     Ok(())
 }
 
+#[inline(always)]
 fn push_whole(out: &mut Vec<u8>, entry: &Entry) -> Result<(), NoMemory>
     ensures ok { OnOk result (out.new.items ≡ out.old.items ++ line_of entry.now) }
     ensures front { OnErr result (take (vec_len out.old) out.new.items ≡ out.old.items) }
 {
     push_words(out, entry)?;
-    out.push(b'\n')?;
-    Ok(())
+    push_byte(out, b'\n')
 }
 
+#[inline(always)]
 fn push_words(out: &mut Vec<u8>, entry: &Entry) -> Result<(), NoMemory>
     ensures ok { OnOk result (out.new.items ≡ out.old.items ++ joined (words_of entry.now)) }
     ensures front { OnErr result (take (vec_len out.old) out.new.items ≡ out.old.items) }
@@ -82,6 +84,7 @@ fn push_words(out: &mut Vec<u8>, entry: &Entry) -> Result<(), NoMemory>
     }
 }
 
+#[inline(always)]
 fn push_event(out: &mut Vec<u8>, word: &str, script: u32, event: &Event) -> Result<(), NoMemory>
     ensures ok { OnOk result
         (out.new.items ≡ out.old.items ++ joined (word.now ∷ decimal script ∷ event_words event.now)) }
@@ -92,6 +95,7 @@ fn push_event(out: &mut Vec<u8>, word: &str, script: u32, event: &Event) -> Resu
     push_argument_words(out, event.args.as_slice())
 }
 
+#[inline(always)]
 fn push_count(out: &mut Vec<u8>, word: &str, script: u32, count: u64) -> Result<(), NoMemory>
     ensures ok { OnOk result
         (out.new.items ≡ out.old.items ++ joined (word.now ∷ decimal script ∷ decimal count ∷ [])) }
@@ -101,6 +105,7 @@ fn push_count(out: &mut Vec<u8>, word: &str, script: u32, count: u64) -> Result<
     push_number_word(out, count)
 }
 
+#[inline(always)]
 fn push_chat(
     out: &mut Vec<u8>,
     script: u32,
@@ -118,6 +123,7 @@ fn push_chat(
     push_quoted_word(out, text.as_str())
 }
 
+#[inline(always)]
 fn push_text(out: &mut Vec<u8>, word: &str, number: u32, text: &str) -> Result<(), NoMemory>
     ensures ok { OnOk result
         (out.new.items ≡ out.old.items ++ joined (word.now ∷ decimal number ∷ quoted text.now ∷ [])) }
@@ -128,6 +134,7 @@ fn push_text(out: &mut Vec<u8>, word: &str, number: u32, text: &str) -> Result<(
 }
 
 // The first word, and the number of a script or an object.
+#[inline(always)]
 fn push_head(out: &mut Vec<u8>, word: &str, number: u32) -> Result<(), NoMemory>
     ensures ok { OnOk result (out.new.items ≡ out.old.items ++ joined (word.now ∷ decimal number ∷ [])) }
     ensures front { OnErr result (take (vec_len out.old) out.new.items ≡ out.old.items) }
