@@ -45,10 +45,11 @@ module _ (codes : List Code) (unit : Code) (clock place : ℕ) where
   pub lent-start : (grid : Contents) (live : Live) (id : BuiltinId) (f : Flight) (w : World) (r : Rules)
       (test : World → Member → Bool) (e : Event) (out : List Entry) (end : ℕ) → end ≡ length grid.seats
       → Lent codes unit clock place grid live id f w
-      → Walk (λ v. Lent codes unit clock place grid live id f v) (post_all r test e w) out out (post_where r test e) 0 end
+      → Walk (λ v. Lent codes unit clock place grid live id f v) (post_all r test e w) out out
+      (post_where r test e) 0 end
   lent-start grid live id f w r test e out end count lent =
-      walk-start (λ v. Lent codes unit clock place grid live id f v) w out (post_where r test e) (length w.members) end lent
-      (count ∙ stands-length codes (Some place) clock grid w lent.stands)
+      walk-start (λ v. Lent codes unit clock place grid live id f v) w out (post_where r test e) (length w.members) end
+      lent (count ∙ stands-length codes (Some place) clock grid w lent.stands)
 
   module _ (first end : ℕ) (grid new : Contents) (live : Live) (id : BuiltinId) (f : Flight) (w : World) (r : Rules)
       (test : World → Member → Bool) (e : Event) where

@@ -20,7 +20,8 @@ returns-in_err-post_between-clause-does c = λ m clock f id w lent.
     let start = lent-start c.args.library.now c.args.unit.now clock place c.args.self.now c.args.live.now id f w m.rules
     (admits c.args.audience.now) c.args.event.now c.args.out.now end (sym count) lent in
     MatchResult-from_err c.from_residual.result _ _ c.from_residual.ensures.0
-    (λ y. walk-stops _ _ _ _ _ _ _ start c.post_between.new.out place (omega arith) (omega (arith, c.requires.place, count))
+    (λ y. walk-stops _ _ _ _ _ _ _ start c.post_between.new.out place (omega arith)
+    (omega (arith, c.requires.place, count))
     (λ v k. c.in_err-post_between.ensures.does m (Some place) clock v k.stands (home place 0 place (before place))))
 
 pub returns-in_err-post_own-clause-does : goal.returns-in_err-post_own-clause-does
@@ -66,8 +67,8 @@ returns-clause-does c = λ m clock f id w lent.
     let others = walk-ok _ _ _ _ _ _ _ own
     (λ v. Lent codes unit clock place c.post_between.new.self c.post_own.new.live id f v) c.post_own.new.out
     (omega (arith, c.requires.place, count))
-    (λ v k. subst (λ (a : Told World). Lent codes unit clock place c.post_between.new.self c.post_own.new.live id f a.value
-    × (c.post_own.new.out ≡ c.post_between.new.out ++ a.entries))
+    (λ v k. subst (λ (a : Told World). Lent codes unit clock place c.post_between.new.self c.post_own.new.live id f
+    a.value × (c.post_own.new.out ≡ c.post_between.new.out ++ a.entries))
     (posts-same codes m (Some place) clock c.post_between.new.self v k.stands test c.args.event.now place)
     (c.in_ok-post_own.ensures.does codes clock f id v k)) in
     walk-last _ _ _ _ _ _ _ others c.post_between-2.result

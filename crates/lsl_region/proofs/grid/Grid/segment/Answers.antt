@@ -18,7 +18,8 @@ returns-then-stands-clause-does c = λ m w before.
 pub finish_segment-requires-clause-ready : goal.finish_segment-requires-clause-ready
 finish_segment-requires-clause-ready c =
     ready-still c.pass_ticks-stands.result.1 c.args.unit.now c.pass_ticks-stands.result.0 c.args.clock c.args.place
-    c.args.self.now.seats c.args.live.now c.pass_ticks-stands.new.live c.pass_ticks-stands.ensures.passed c.requires.ready
+    c.args.self.now.seats c.args.live.now c.pass_ticks-stands.new.live c.pass_ticks-stands.ensures.passed
+    c.requires.ready
 
 pub returns-clause-does : goal.returns-clause-does
 returns-clause-does c = λ m w before.
@@ -29,5 +30,5 @@ returns-clause-does c = λ m w before.
     c.finish_segment.ensures.does m w
     (none-amid c.args.library.now c.args.unit.now c.args.clock c.args.place c.args.self.now n c.args.live.now
     c.pass_ticks-stands.new.live w none
-    (subst (λ (b : Bool). PassesAwake b c.args.unit.now n c.args.live.now c.pass_ticks-stands.new.live) c.if-stands.false
-    made.passed) before)
+    (subst (λ (b : Bool). PassesAwake b c.args.unit.now n c.args.live.now c.pass_ticks-stands.new.live)
+    c.if-stands.false made.passed) before)
