@@ -79,6 +79,7 @@ impl Entries {
     }
 
     /// Adds an entry at the end.
+    #[inline(always)]
     pub fn push(&mut self, entry: Entry) -> Result<(), NoMemory>
         ensures ok { OnOk result (self.new ≡ self.old ++ entry ∷ []) }
         ensures unchanged { OnErr result (self.new ≡ self.old) }
@@ -99,6 +100,12 @@ impl Entries {
     pub fn truncate(&mut self, count: usize)
         ensures { self.new ≡ take count self.old }
     {
-        self.list.truncate(count);
+        'entries: while self.list.len() > count {
+            match self.list.pop() {
+                Some(Entry::Owner(_, _text)) => {}
+                None => {}
+                Some(_entry) => {}
+            }
+        }
     }
 }

@@ -158,6 +158,7 @@ pub trait BuiltinRow {
 impl BuiltinRow for BuiltinId {
     ghost id = { λ id. id };
 
+    #[inline(always)]
     fn row(self) -> Row
         ensures name { result.name.now ≡ name_of self }
         ensures params { result.params ≡ (row_of self).params }
