@@ -1,5 +1,6 @@
 pub mod Ahead
 pub mod Arguments
+pub mod CallRooms
 pub mod Charges
 pub mod Doing
 pub mod Parting

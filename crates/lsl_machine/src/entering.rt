@@ -56,6 +56,7 @@ pub fn enter(
         },
         callers: Vec::new(alloc),
         stack,
+        spare: None,
     };
     Ok((running, standing_within(charge, global_charge, limit)))
 }

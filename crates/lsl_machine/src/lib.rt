@@ -29,6 +29,7 @@ use std::alloc::Global;
 use std::marker::Model;
 
 mod appending;
+mod asking;
 mod calls;
 mod entering;
 mod entry_steps;
@@ -221,6 +222,14 @@ impl Machine {
         ensures ahead { (bodies : List Body) → asks_ahead bodies self.new ≤ asks_ahead bodies self.old }
     {
         self.standing = self.running.receive(value);
+    }
+
+    /// Keeps the room of a call that was asked for, for the next. Takes no memory.
+    #[inline(always)]
+    pub fn keep_room(&mut self, call: Call)
+        ensures { self.new ≡ self.old }
+    {
+        self.running.keep_room(call);
     }
 
     /// What the unit's own code saves the machine as, which stands at a tick: its calls as frames, and its globals with

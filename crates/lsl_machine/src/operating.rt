@@ -14,7 +14,7 @@ ghost use Rattle.lsl_machine.specs.Steps.{Able, Performs};
 use crate::running::{Running, Step};
 use lsl_ops::{OpFault, binary, cast, unary};
 use lsl_pure::{PureFault, call};
-use lsl_running::{Call, Fault};
+use lsl_running::Fault;
 use lsl_table::BuiltinRow;
 use lsl_text::NoMemory;
 use lsl_value::{Atom, BinaryOp, BuiltinId, Items, Kind, UnaryOp, Value, Values};
@@ -122,25 +122,6 @@ impl Running {
     {
         let free = self.free();
         self.give(number(free))
-    }
-
-    /// Pops the arguments of a call, and asks for it.
-    pub fn ask(&mut self, id: BuiltinId) -> Step
-        requires { Able (instrs.Host id) self.old }
-        ensures done { (bodies : List Body) → Performs (instrs.Host id) bodies self.old result self.new }
-        ensures room { KeepsRoom self.old self.new }
-    {
-        let Ok(args) = self.take_operands(id.row().params.as_slice().len()) else {
-            return Step::NoMemory;
-        };
-        match self.stack.reserve(1) {
-            Ok(()) => {
-                self.active.place += 1;
-                let args = Values::from_vec(args);
-                Step::Asks(Call { id, args })
-            }
-            Err(_) => Step::NoMemory,
-        }
     }
 }
 

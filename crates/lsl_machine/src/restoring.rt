@@ -240,6 +240,7 @@ impl Restorer {
             active: Activation { charge, ..active },
             callers,
             stack,
+            spare: None,
         }
     }
 }

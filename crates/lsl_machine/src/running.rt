@@ -25,6 +25,8 @@ pub struct Running {
     pub active: Activation,
     pub callers: Vec<Activation>,
     pub stack: Vec<Value>,
+    /// a call that was answered, whose room serves the next
+    pub spare: Option<Call>,
 }
 
 impl Running {
@@ -44,6 +46,7 @@ impl Running {
             },
             callers: Vec::new(alloc),
             stack: Vec::new(alloc),
+            spare: None,
         }
     }
 }

@@ -55,7 +55,7 @@ pub fn standing_at(halt: &Halt) -> Standing
     ensures { result ≡ standing_of halt.now }
 {
     match halt {
-        Halt::Asks(call) => Standing::Asking(call.id),
+        Halt::Asks(call) => Standing::Asking(call.id()),
         Halt::AtTick => Standing::AtTick,
         Halt::Ended(outcome) => Standing::Ended(*outcome),
         Halt::Faulted(_) | Halt::NoMemory => Standing::Lost,

@@ -3,7 +3,7 @@ use Rattle.std.proofs.Common.{◌≡◌, ℕ, zero, suc, ◌+◌, ◌-◌, ◌<�
 use Rattle.std.specs.Prelude.{Option, Some, slice_get}
 use Rattle.lsl_value.specs.declared.names.BuiltinId.{BuiltinId}
 use Rattle.lsl_running.specs.declared.ends.Fault.{Fault}
-use Rattle.lsl_running.specs.declared.host.Call.{Call}
+use Rattle.lsl_running.specs.Asking.{Call}
 use Rattle.lsl_running.specs.declared.host.Reply.{Reply}
 use Rattle.lsl_running.specs.Results as whole
 use Rattle.lsl_running.specs.Results.{Whole}

@@ -26,7 +26,7 @@ use lsl_running::{Call, Reply};
 use lsl_script::Live;
 use lsl_table::{BuiltinRow, Home};
 use lsl_text::NoMemory;
-use lsl_value::{BuiltinId, Values};
+use lsl_value::{BuiltinId, Value};
 
 impl Grid {
     /// Answers a host call of the script of this number, which is out of the grid and waits for the answer. The script
@@ -63,8 +63,7 @@ impl Grid {
     {
         let place = script as usize - 1;
         let unit = library.unit(self.seats[place].unit);
-        let Call { id, args } = call;
-        self.answer_at(place, live, id, &args, clock, library, unit, out)
+        self.answer_at(place, live, &call, clock, library, unit, out)
     }
 
     /// Answers a host call of the script at this place, which is out of the grid and waits.
@@ -73,8 +72,44 @@ impl Grid {
         &mut self,
         place: usize,
         live: &mut Live,
+        call: &Call,
+        clock: u64,
+        library: &Library,
+        unit: &Woven,
+        out: &mut Entries,
+    ) -> Result<Reply, NoMemory>
+        requires place { place < length self.old.seats }
+        requires clock { clock ≤ latest_clock }
+        requires seated { AreSeated library.now self.old.seats }
+        requires awake { IsAwake unit.now live.old }
+        requires host { is_asked (call_form call.now.id) ≡ true }
+        ensures does { (m : Meant library.now) (f : Flight) (of : Id) (w : World) →
+            (lent : Lent library.now unit.now clock place self.old live.old of f w) →
+            Tells result (λ x reply. Lent library.now unit.now clock place self.new live.new of f x.0 × (reply ≡ x.1))
+            out.old out.new (answer_of m.rules place lent.member call.now.id call.now.args w) }
+        ensures fits { IfOk result (Answers call.now.id) }
+        ensures stop { IfOk result
+            (λ reply. stop_of reply ≡ stop_for call.now.id call.now.args live.old.parts.listens) }
+        ensures seated { OnOk result (AreSeated library.now self.new.seats) }
+        ensures len { length self.new.seats ≡ length self.old.seats }
+        ensures outline { outline_of self.new ≡ outline_of self.old }
+        ensures awake { IsAwake unit.now live.new }
+        ensures machine { live.new.machine ≡ live.old.machine }
+    {
+        match call.id() {
+            BuiltinId::OwnerSay => self.answer_owner_say(place, call.args(), out),
+            id => self.answer_by_home(place, live, id, call.args(), clock, library, unit, out),
+        }
+    }
+
+    // The same of any call, by where it is done.
+    #[inline(never)]
+    fn answer_by_home(
+        &mut self,
+        place: usize,
+        live: &mut Live,
         id: BuiltinId,
-        args: &Values,
+        args: &[Value],
         clock: u64,
         library: &Library,
         unit: &Woven,
@@ -115,7 +150,7 @@ impl Grid {
         place: usize,
         live: &mut Live,
         id: BuiltinId,
-        args: &Values,
+        args: &[Value],
         library: &Library,
         unit: &Woven,
         out: &mut Entries,

@@ -20,7 +20,7 @@ use lsl_post::ListenFault;
 use lsl_running::{Fault, Reply};
 use lsl_script::Live;
 use lsl_text::NoMemory;
-use lsl_value::{BuiltinId, Value, Values};
+use lsl_value::{BuiltinId, Value};
 use std::alloc::AllocError;
 
 /// How many milliseconds a second has.
@@ -31,7 +31,7 @@ const SECOND: u64 = 1000;
 pub(crate) fn mail(
     live: &mut Live,
     id: BuiltinId,
-    args: &Values,
+    args: &[Value],
     clock: u64,
 ) -> Result<Reply, NoMemory>
     requires id { is_on_own_mailbox id ≡ true }
@@ -66,7 +66,7 @@ pub(crate) fn mail(
 }
 
 // Asks for a listen, and answers its number; the script stops where as many stand as can.
-fn listen(live: &mut Live, args: &Values) -> Result<Reply, NoMemory>
+fn listen(live: &mut Live, args: &[Value]) -> Result<Reply, NoMemory>
     ensures does { IfOk result (λ reply. (codes : List Code) (unit : Code) (s : Source) (f : Flight) (id : Id) →
         Waits codes unit s f id live.old →
         Waits codes unit (listened_script (listen_asked args.now s) s) f id live.new
@@ -84,7 +84,7 @@ fn listen(live: &mut Live, args: &Values) -> Result<Reply, NoMemory>
 }
 
 // Forgets a listen. Takes no memory.
-fn unlisten(live: &mut Live, args: &Values)
+fn unlisten(live: &mut Live, args: &[Value])
     ensures does { Becomes live.old live.new
         (λ s. listening (closed (integer_at 0 args.now) s.mailbox.listens) s) }
     ensures keeps { Keeps live.old live.new }
@@ -93,7 +93,7 @@ fn unlisten(live: &mut Live, args: &Values)
 }
 
 // Makes a listen active or not. Takes no memory.
-fn control(live: &mut Live, args: &Values)
+fn control(live: &mut Live, args: &[Value])
     ensures does { Becomes live.old live.new
         (λ s. listening (controlled (integer_at 0 args.now) (not (int_eq (integer_at 1 args.now) (pos 0)))
         s.mailbox.listens) s) }
@@ -103,14 +103,14 @@ fn control(live: &mut Live, args: &Values)
 }
 
 // Whether the integer at this place isn't 0.
-fn holds(args: &Values, place: usize) -> bool
+fn holds(args: &[Value], place: usize) -> bool
     ensures { result ≡ not (int_eq (integer_at place args.now) (pos 0)) }
 {
     integer_at(args, place) != 0
 }
 
 // Sets the timer. Takes no memory.
-fn set_timer(live: &mut Live, args: &Values, clock: u64)
+fn set_timer(live: &mut Live, args: &[Value], clock: u64)
     requires { clock ≤ latest_clock }
     ensures does { Becomes live.old live.new (λ s. ticking (timing_set (integer_at 0 args.now) clock) s) }
     ensures keeps { Keeps live.old live.new }
@@ -119,7 +119,7 @@ fn set_timer(live: &mut Live, args: &Values, clock: u64)
 }
 
 // The script sleeps. Takes no memory.
-fn sleep(live: &mut Live, args: &Values, clock: u64)
+fn sleep(live: &mut Live, args: &[Value], clock: u64)
     requires { clock ≤ latest_clock }
     ensures does { Becomes live.old live.new (λ s. napped (wake_after (integer_at 0 args.now) clock) s) }
     ensures keeps { Keeps live.old live.new }

@@ -31,7 +31,7 @@ use lsl_post::{Entries, Event};
 use lsl_running::Reply;
 use lsl_script::Live;
 use lsl_text::NoMemory;
-use lsl_value::{BuiltinId, Text, Value, Values};
+use lsl_value::{BuiltinId, Text, Value};
 
 impl Grid {
     /// The script is told of a notecard of its prim: of a line, or how many there are. It is answered the query's key,
@@ -42,7 +42,7 @@ impl Grid {
         place: usize,
         live: &mut Live,
         id: BuiltinId,
-        args: &Values,
+        args: &[Value],
         unit: &Woven,
         out: &mut Entries,
     ) -> Result<Reply, NoMemory>
@@ -181,7 +181,7 @@ impl Grid {
 }
 
 // Which line is asked for, none where the call asks how many there are; nothing where there is no such number.
-fn line_of(id: BuiltinId, args: &Values) -> Option<Option<u32>>
+fn line_of(id: BuiltinId, args: &[Value]) -> Option<Option<u32>>
     requires { home_of id ≡ homes.Note }
     ensures { result ≡ line_asked id args.now }
 {

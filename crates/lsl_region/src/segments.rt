@@ -172,9 +172,9 @@ impl Grid {
         ensures len { length self.new.seats ≡ length self.old.seats }
         ensures outline { outline_of self.new ≡ outline_of self.old }
     {
-        let Call { id, args } = call;
-        match self.answer_at(place, live, id, &args, clock, library, unit, out)? {
+        match self.answer_at(place, live, &call, clock, library, unit, out)? {
             Reply::Value(value) => {
+                live.keep_room(call);
                 live.answer(value);
                 Ok(live.go(unit))
             }

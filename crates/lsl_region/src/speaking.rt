@@ -40,7 +40,7 @@ use lsl_post::{Entries, Entry, Event, Filter, Voice};
 use lsl_running::Reply;
 use lsl_script::Live;
 use lsl_text::NoMemory;
-use lsl_value::{BuiltinId, Text, Values};
+use lsl_value::{BuiltinId, Text, Value};
 use std::alloc::Global;
 
 impl Grid {
@@ -88,7 +88,7 @@ impl Grid {
         place: usize,
         live: &Live,
         id: BuiltinId,
-        args: &Values,
+        args: &[Value],
         clock: u64,
     ) -> Result<Reply, NoMemory>
         requires place { place < length self.now.seats }
@@ -181,7 +181,7 @@ impl Grid {
         place: usize,
         live: &mut Live,
         voice: Voice,
-        args: &Values,
+        args: &[Value],
         library: &Library,
         unit: &Woven,
         out: &mut Entries,
@@ -220,7 +220,7 @@ impl Grid {
         &mut self,
         place: usize,
         live: &mut Live,
-        args: &Values,
+        args: &[Value],
         library: &Library,
         unit: &Woven,
         out: &mut Entries,
@@ -250,7 +250,7 @@ impl Grid {
     pub(crate) fn answer_owner_say(
         &self,
         place: usize,
-        args: &Values,
+        args: &[Value],
         out: &mut Entries,
     ) -> Result<Reply, NoMemory>
         requires { place < length self.now.seats }
@@ -264,7 +264,7 @@ impl Grid {
     }
 
     // The message of these arguments.
-    fn message(&self, place: usize, args: &Values) -> Result<Event, NoMemory>
+    fn message(&self, place: usize, args: &[Value]) -> Result<Event, NoMemory>
         requires { place < length self.now.seats }
         ensures value { (codes : List Code) (unit : Code) (clock : ℕ) (live : Awake) (of : Id) (f : Flight)
             (w : World) → (lent : Lent codes unit clock place self.now live of f w) →
@@ -285,7 +285,7 @@ impl Grid {
     }
 
     // To whom a message with these arguments goes.
-    fn linked(&self, place: usize, args: &Values) -> Audience
+    fn linked(&self, place: usize, args: &[Value]) -> Audience
         requires { place < length self.now.seats }
         ensures { (seat : Place) → slice_get self.now.seats place ≡ Some seat →
             result ≡ linked_to (length (object_in self.now.objects seat).prims) seat args.now }
@@ -304,7 +304,7 @@ impl Grid {
         &mut self,
         place: usize,
         live: &mut Live,
-        args: &Values,
+        args: &[Value],
         library: &Library,
         unit: &Woven,
         out: &mut Entries,
@@ -334,7 +334,7 @@ impl Grid {
         &mut self,
         place: usize,
         live: &mut Live,
-        args: &Values,
+        args: &[Value],
         library: &Library,
         unit: &Woven,
         out: &mut Entries,
@@ -374,7 +374,7 @@ impl Grid {
     pub(crate) fn answer_set_object_name(
         &mut self,
         place: usize,
-        args: &Values,
+        args: &[Value],
     ) -> Result<Reply, NoMemory>
         requires { place < length self.old.seats }
         ensures does { (codes : List Code) (unit : Code) (clock : ℕ) (live : Awake) (of : Id) (f : Flight) (w : World) →
@@ -393,7 +393,7 @@ impl Grid {
 }
 
 // Whether the channel at place 0 is the region's silent one.
-fn is_silent(args: &Values) -> bool
+fn is_silent(args: &[Value]) -> bool
     ensures { result ≡ int_eq (integer_at 0 args.now) (pos 0) }
 {
     integer_at(args, 0) == 0
@@ -401,7 +401,7 @@ fn is_silent(args: &Values) -> bool
 
 // The text at this place as it is said.
 #[inline(always)]
-fn spoken(alloc: Global, args: &Values, place: usize) -> Result<Text, NoMemory>
+fn spoken(alloc: Global, args: &[Value], place: usize) -> Result<Text, NoMemory>
     ensures { IfOk result (λ text. text ≡ cut_speech (text_at place args.now)) }
 {
     match text_in(args, place) {

@@ -30,7 +30,7 @@ use lsl_post::{Entries, Event};
 use lsl_running::Reply;
 use lsl_script::Live;
 use lsl_text::NoMemory;
-use lsl_value::{BuiltinId, Text, Value, Values};
+use lsl_value::{BuiltinId, Text, Value};
 use std::alloc::Global;
 
 /// What the scripts of an object are told of its store: that it was emptied, that a name was given a value, or that a
@@ -57,7 +57,7 @@ impl Grid {
         place: usize,
         live: &mut Live,
         id: BuiltinId,
-        args: &Values,
+        args: &[Value],
         library: &Library,
         unit: &Woven,
         out: &mut Entries,
@@ -122,7 +122,7 @@ impl Grid {
         &mut self,
         place: usize,
         id: BuiltinId,
-        args: &Values,
+        args: &[Value],
     ) -> Result<Change, NoMemory>
         requires place { place < length self.old.seats }
         requires storing { home_of id ≡ homes.Store }
@@ -156,7 +156,7 @@ fn changed(
     alloc: Global,
     store: &mut Store,
     id: BuiltinId,
-    args: &Values,
+    args: &[Value],
 ) -> Result<Change, NoMemory>
     requires { home_of id ≡ homes.Store }
     ensures change { IfOk result (λ change. change ≡ change_by id args.now store.old) }
@@ -174,7 +174,7 @@ fn changed(
 }
 
 // Gives the name at place 0 the value at place 1, or takes it out where that is empty.
-fn written(alloc: Global, store: &mut Store, args: &Values) -> Result<Change, NoMemory>
+fn written(alloc: Global, store: &mut Store, args: &[Value]) -> Result<Change, NoMemory>
     ensures change { IfOk result (λ change. change ≡ change_by ids.LinksetDataWrite args.now store.old) }
     ensures pairs { OnOk result (store.new ≡ pairs_by ids.LinksetDataWrite args.now store.old) }
     ensures kept { IsStore store.old → IsStore store.new }
@@ -188,7 +188,7 @@ fn written(alloc: Global, store: &mut Store, args: &Values) -> Result<Change, No
 }
 
 // Takes the name at place 0 out.
-fn deleted(alloc: Global, store: &mut Store, args: &Values) -> Result<Change, NoMemory>
+fn deleted(alloc: Global, store: &mut Store, args: &[Value]) -> Result<Change, NoMemory>
     ensures change { IfOk result (λ change. change ≡ change_by ids.LinksetDataDelete args.now store.old) }
     ensures pairs { OnOk result (store.new ≡ pairs_by ids.LinksetDataDelete args.now store.old) }
     ensures kept { IsStore store.old → IsStore store.new }

@@ -12,7 +12,7 @@ use crate::objects::{Linkset, null_key};
 use crate::storing::{read_in, room_in};
 use lsl_post::Toucher;
 use lsl_text::NoMemory;
-use lsl_value::{BuiltinId, Text, Value, Values};
+use lsl_value::{BuiltinId, Text, Value};
 use std::alloc::Global;
 
 /// What the call is told of this object, the script's prim and name, the clock, and who touched.
@@ -24,7 +24,7 @@ pub(crate) fn value_of_query(
     clock: u64,
     toucher: &Option<Toucher>,
     id: BuiltinId,
-    args: &Values,
+    args: &[Value],
 ) -> Result<Option<Value>, NoMemory>
     requires prim { prim < length object.now.prims }
     requires few { length object.now.prims ≤ 255 }
@@ -62,7 +62,7 @@ pub(crate) fn value_of_query(
 }
 
 // Who touched, where place 0 is asked for.
-fn detected<'a>(toucher: &'a Option<Toucher>, args: &Values) -> Option<&'a Toucher>
+fn detected<'a>(toucher: &'a Option<Toucher>, args: &[Value]) -> Option<&'a Toucher>
     ensures { option_copied result ≡ detected toucher.now args.now }
 {
     if integer_at(args, 0) == 0 {
@@ -72,7 +72,7 @@ fn detected<'a>(toucher: &'a Option<Toucher>, args: &Values) -> Option<&'a Touch
 }
 
 // The key of who touched, and that of zeros where nobody did.
-fn detected_key(alloc: Global, toucher: &Option<Toucher>, args: &Values) -> Result<Text, NoMemory>
+fn detected_key(alloc: Global, toucher: &Option<Toucher>, args: &[Value]) -> Result<Text, NoMemory>
     ensures { IfOk result (λ key. key ≡ detected_key (detected toucher.now args.now)) }
 {
     match detected(toucher, args) {
@@ -82,7 +82,7 @@ fn detected_key(alloc: Global, toucher: &Option<Toucher>, args: &Values) -> Resu
 }
 
 // The name of who touched, and none where nobody did.
-fn detected_name(toucher: &Option<Toucher>, args: &Values) -> Result<Text, NoMemory>
+fn detected_name(toucher: &Option<Toucher>, args: &[Value]) -> Result<Text, NoMemory>
     ensures { IfOk result (λ name. name ≡ detected_name (detected toucher.now args.now)) }
 {
     match detected(toucher, args) {
@@ -92,7 +92,7 @@ fn detected_name(toucher: &Option<Toucher>, args: &Values) -> Result<Text, NoMem
 }
 
 // The number of the touched prim, and 0 where nobody touched.
-fn detected_link(toucher: &Option<Toucher>, args: &Values) -> i32
+fn detected_link(toucher: &Option<Toucher>, args: &[Value]) -> i32
     ensures { result ≡ detected_link (detected toucher.now args.now) }
 {
     match detected(toucher, args) {

@@ -1,13 +1,96 @@
 //! Calls that the host answers.
 
-use crate::ends::Fault;
-use lsl_value::{BuiltinId, Value, Values};
+ghost use Rattle.std.specs.Option.{option_to_list};
+ghost use Rattle.std.specs.Prelude.{◌≡◌, [], IfOk, OnOk};
 
-/// A host call that is asked for.
+use crate::ends::Fault;
+use lsl_text::NoMemory;
+use lsl_value::{BuiltinId, Value};
+use std::alloc::Global;
+use std::marker::Model;
+
+/// A host call that is asked for. It is one pointer wide, so that it moves at little cost, and its room serves again.
 #[derive(Debug, Drop)]
 pub struct Call {
-    pub id: BuiltinId,
-    pub args: Values,
+    asked: Box<Asked>,
+}
+
+#[derive(Debug, Drop)]
+struct Asked {
+    id: BuiltinId,
+    args: Vec<Value>,
+}
+
+impl Model for Call {
+    ghost use Rattle.lsl_running.specs.Asking.{Call};
+
+    ghost Value = { Call };
+
+    ghost view = { λ c. record { id = c.asked.value.id; args = c.asked.value.args.items } };
+}
+
+impl Call {
+    /// A call with these arguments. Takes memory for its room.
+    pub fn new(alloc: Global, id: BuiltinId, args: Vec<Value>) -> Result<Call, NoMemory>
+        ensures id { IfOk result (λ call. call.id ≡ id) }
+        ensures args { IfOk result (λ call. call.args ≡ args.items) }
+    {
+        Ok(Call {
+            asked: Box::new(alloc, Asked { id, args })?,
+        })
+    }
+
+    /// The call that it is. Takes no memory.
+    #[inline(always)]
+    pub fn id(&self) -> BuiltinId
+        ensures { result ≡ self.now.id }
+    {
+        self.asked.id
+    }
+
+    /// Its arguments. Takes no memory.
+    #[inline(always)]
+    pub fn args(&self) -> &[Value]
+        ensures { result.now ≡ self.now.args }
+    {
+        self.asked.args.as_slice()
+    }
+
+    /// Becomes this call, with this argument if there is one. Takes memory only where its room was never so large.
+    #[inline(always)]
+    pub fn renew(&mut self, id: BuiltinId, arg: Option<Value>) -> Result<(), NoMemory>
+        ensures id { OnOk result (self.new.id ≡ id) }
+        ensures args { OnOk result (self.new.args ≡ option_to_list arg) }
+    {
+        self.clear();
+        if let Some(arg) = arg {
+            self.asked.args.push(arg)?;
+        }
+        self.asked.id = id;
+        Ok(())
+    }
+
+    /// Drops its arguments, and keeps their room. Takes no memory.
+    #[inline(always)]
+    pub fn clear(&mut self)
+        ensures id { self.new.id ≡ self.old.id }
+        ensures args { self.new.args ≡ [] }
+    {
+        drop_all(&mut self.asked.args);
+    }
+}
+
+// An integer takes no call.
+#[inline(always)]
+fn drop_all(values: &mut Vec<Value>)
+    ensures { values.new.items ≡ [] }
+{
+    'values: while values.len() > 0 {
+        match values.pop() {
+            Some(Value::Int(_)) | None => {}
+            Some(_value) => {}
+        }
+    }
 }
 
 /// What a host call is answered.

@@ -2,7 +2,7 @@
 use Rattle.std.proofs.Common.{◌≡◌, ◌≢◌, ◌<◌, ◌+◌, ℕ, List, [], ◌++◌, Bool, false, Some, refl, sym, ap, ◌∙◌, subst}
 use Rattle.lsl_running.specs.declared.ends.Fault.TheVariants.{TooManyListens}
 use Rattle.lsl_running.specs.declared.ends.Outcome.{Outcome}
-use Rattle.lsl_running.specs.declared.host.Call.{Call}
+use Rattle.lsl_running.specs.Asking.{Call}
 use Rattle.lsl_code.specs.Bodies.{Body}
 use Rattle.lsl_code.specs.declared.woven_units.Woven.{Woven as Code}
 use Rattle.lsl_machine.specs.declared.standing.Halt.{Halt as Answer}

@@ -3,7 +3,7 @@ use Rattle.std.specs.Prelude.{◌≡◌, ◌≢◌, ℕ, ◌+◌, ◌≤◌, Boo
 use Rattle.lsl_table.specs.Calls.{row_of}
 use Rattle.lsl_running.specs.declared.ends.Fault.TheVariants.{TooManyListens}
 use Rattle.lsl_running.specs.declared.ends.Outcome.{Outcome}
-use Rattle.lsl_running.specs.declared.host.Call.{Call}
+use Rattle.lsl_running.specs.Asking.{Call}
 use Rattle.lsl_running.specs.declared.host.Reply.{Reply}
 use Rattle.lsl_running.specs.declared.kept.Kept.{Kept}
 use Rattle.lsl_running.specs.Calling.{call_form}

@@ -270,6 +270,14 @@ impl Live {
         self.machine.answer(value);
     }
 
+    /// Keeps the room of a call that was asked for, for the next. Takes no memory.
+    #[inline(always)]
+    pub fn keep_room(&mut self, call: Call)
+        ensures { self.new ≡ self.old }
+    {
+        self.machine.keep_room(call);
+    }
+
     /// Posts an event, which isn't `state_exit`. Takes no memory; walks the state's handlers, and at a timer event the
     /// queue.
     pub fn post(&mut self, unit: &Woven, event: Event) -> Posted

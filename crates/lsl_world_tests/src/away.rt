@@ -133,7 +133,7 @@ fn told(rt: &impl Abort, alloc: Global, entry: &str) -> Result<String, NoMemory>
     match Script::new(alloc, 0, unit)?.wake(alloc, unit, 0) {
         Ok(live) => {
             let script = passed(alloc, &library, unit, &mut grid, live, &mut told)?;
-            write!(told, "; {}", first_of(&script.parts().globals))?;
+            write!(told, "; {}", first_of(script.parts().globals.as_slice()))?;
             Ok(told)
         }
         Err(_) => Err(AllocError),

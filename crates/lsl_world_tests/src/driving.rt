@@ -46,7 +46,7 @@ pub(crate) fn to_tick(
             Halt::AtTick => return Ok(Some(machine)),
             Halt::Asks(call) => {
                 told.push_str(format!(in alloc; "{call:?}\n")?.as_str())?;
-                machine.answer(empty(alloc, call.id));
+                machine.answer(empty(alloc, call.id()));
             }
             Halt::Ended(way) => {
                 let kept = machine.finish();

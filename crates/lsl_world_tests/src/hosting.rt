@@ -18,7 +18,7 @@ use lsl_running::{Call, Fault, Reply};
 use lsl_script::{Live, Script, Turn, WakeFault};
 use lsl_table::{BuiltinRow, event_name};
 use lsl_text::NoMemory;
-use lsl_value::{BuiltinId, Text, Value, Values};
+use lsl_value::{BuiltinId, Text, Value};
 use std::alloc::{AllocError, Global};
 use std::process::Abort;
 
@@ -139,6 +139,7 @@ fn answered(
     tell_call(&call, told)?;
     match perform(live, &call, clock)? {
         Reply::Value(value) => {
+            live.keep_room(call);
             live.answer(value);
             Ok(live.go(unit))
         }
@@ -148,8 +149,8 @@ fn answered(
 
 /// What is asked for, with its first argument.
 pub(crate) fn tell_call(call: &Call, told: &mut String) -> Result<(), NoMemory> {
-    told.push_str(call.id.row().name)?;
-    match call.args.as_slice().first() {
+    told.push_str(call.id().row().name)?;
+    match call.args().first() {
         Some(Value::Int(n)) => write!(told, " {n}, "),
         Some(Value::Str(text)) => write!(told, " {}, ", text.as_str()),
         _ => told.push_str(", "),
@@ -162,8 +163,8 @@ fn perform(live: &mut Live, call: &Call, clock: u64) -> Result<Reply, NoMemory>
     ensures keeps { OnOk result (Keeps live.old live.new) }
     ensures fits { IfOk result (Answers call.now.id) }
 {
-    let number = first_of(&call.args);
-    match call.id {
+    let number = first_of(call.args());
+    match call.id() {
         BuiltinId::Listen => listen(live, number),
         BuiltinId::OwnerSay => Ok(Reply::Value(None)),
         BuiltinId::Sleep => {
@@ -179,8 +180,8 @@ fn perform(live: &mut Live, call: &Call, clock: u64) -> Result<Reply, NoMemory>
 }
 
 /// The first of these values if it is an integer, and else 0.
-pub(crate) fn first_of(args: &Values) -> i32 {
-    match args.as_slice().first() {
+pub(crate) fn first_of(args: &[Value]) -> i32 {
+    match args.first() {
         Some(Value::Int(n)) => *n,
         _ => 0,
     }

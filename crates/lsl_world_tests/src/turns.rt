@@ -170,7 +170,7 @@ fn tell_parts(script: &Script, told: &mut String) -> Result<(), NoMemory> {
         told,
         " {} {}",
         rest_of(&parts.rest),
-        first_of(&parts.globals)
+        first_of(parts.globals.as_slice())
     )
 }
 

@@ -7,7 +7,7 @@ use Rattle.lsl_machine.specs.declared.running.Activation.{Activation}
 use Rattle.lsl_machine.specs.declared.running.Running.{Running}
 use Rattle.lsl_machine.specs.Entry.{Begins}
 use Rattle.lsl_machine.proofs.Beginning.{begins, bodies_same}
-use Rattle.std.proofs.Common.{min}
+use Rattle.std.proofs.Common.{min, None}
 use Rattle.lsl_machine.proofs.entering.enter.Goals as goal
 
 pub returns-clause-begun : goal.returns-clause-begun
@@ -33,6 +33,7 @@ returns-clause-begun c body there =
           };
       callers = c.new.result;
       stack = c.push_empties.new.stack;
+      spare = None;
     } in
     let kinds : c.behind-kinds.result.now ≡ drop (length fn.params) fn.slots = c.behind-kinds.ensures
     ∙ ap {A = ℕ} (λ k. drop k c.as_slice-2.result.now) c.len.ensures

@@ -6,7 +6,9 @@ use Rattle.lsl_running.specs.declared.host.Reply.TheVariants as reply
 use Rattle.lsl_post.specs.Journal.{Part}
 use Rattle.lsl_script.specs.declared.live.Turn.{Turn}
 use Rattle.lsl_script.specs.declared.live.Turn.TheVariants as turn
+use Rattle.lsl_script.specs.declared.live.Live.{Live}
 use Rattle.lsl_script.specs.Handlers.{given}
+use Rattle.lsl_script.specs.Lives.{Waits}
 use Rattle.lsl_region.specs.Answers.{Answered, answer_in}
 use Rattle.lsl_region.specs.Turning.{Paused}
 use Rattle.lsl_region.specs.Worlds.{Member}
@@ -47,15 +49,16 @@ returns-in-Value-clause-does c = λ m f most w p.
             member = l.member;
             at = l.at;
             turns = c.go.ensures.source codes l.member.script (given r f)
-                (c.answer.ensures.source codes unit l.member.script f call.id l.waits);
+                (c.answer.ensures.source codes unit l.member.script f call.id
+                (subst (λ (x : Live). Waits codes unit l.member.script f call.id x) (sym c.keep_room.ensures) l.waits));
             asks = asks-fewer codes unit p.member.script l.member.script f call.id call.id c.args.live.now
                 c.answer_at.new.live most r p.turns.1 l.waits c.in_ok-value.ensures.machine p.asks;
           }),
       d.1,
     )
 
-pub returns-clause-does : goal.returns-clause-does
-returns-clause-does c = λ m f most w p.
+pub returns-in-Stop-clause-does : goal.returns-in-Stop-clause-does
+returns-in-Stop-clause-does c = λ m f most w p.
     let codes = c.args.library.now in
     let unit = c.args.unit.now in
     let clock = c.args.clock in

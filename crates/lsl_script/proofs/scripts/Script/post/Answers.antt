@@ -1,5 +1,4 @@
 use Rattle.std.proofs.Common.{◌≡◌, ◌∙◌, sym, ap, subst}
-use Rattle.lsl_post.specs.declared.parts.ScriptParts.{ScriptParts}
 use Rattle.lsl_post.specs.Mailbox.{with_posted}
 use Rattle.lsl_script.specs.Fitting.{FitsUnit}
 use Rattle.lsl_script.proofs.Fits.{posted_fits_unit}
