@@ -1,5 +1,5 @@
-"""check_times.py PROGRAM: how long `check` takes for scripts of growing size, of functions, of globals and of local variables.
-Prints for each the bytes, the names and the shortest of three times in milliseconds."""
+"""check_times.py PROGRAM: how long `check` takes for scripts of growing size, of functions, of globals and of local
+variables. Prints for each the bytes, the names and the shortest of three times in milliseconds."""
 import os
 import subprocess
 import sys

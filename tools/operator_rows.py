@@ -48,15 +48,60 @@ RIGHT = {
 
 WRONG = {
     "ADD": [lambda a, b: saturate(a + b), lambda a, b: wrap(a - b), lambda a, b: a | b, lambda a, b: a ^ b],
-    "SUB": [lambda a, b: saturate(a - b), lambda a, b: wrap(b - a), lambda a, b: wrap(a + b), lambda a, b: a ^ b],
-    "MUL": [lambda a, b: saturate(a * b), lambda a, b: wrap(a + b), lambda a, b: wrap(abs(a) * abs(b)), lambda a, b: a & b],
-    "DIV": [lambda a, b: saturate(a // b), lambda a, b: wrap(a // b), lambda a, b: wrap(unsigned(a) // unsigned(b)), remainder],
-    "REM": [lambda a, b: a % b, lambda a, b: abs(remainder(a, b)), lambda a, b: wrap(unsigned(a) % unsigned(b)), quotient],
-    "SHL": [lambda a, b: wrap(a << (b & 63)), lambda a, b: wrap(a << min(abs(b), 32)), lambda a, b: a >> (b & 31), lambda a, b: wrap(a << (b & 15))],
-    "SHR": [lambda a, b: a >> (b & 63), lambda a, b: wrap(unsigned(a) >> (b & 31)), lambda a, b: a >> min(abs(b), 32), lambda a, b: quotient(a, 2 ** (b & 31))],
-    "BIT_AND": [lambda a, b: a | b, lambda a, b: a ^ b, lambda a, b: abs(a) & abs(b), lambda a, b: int(a != 0 and b != 0)],
-    "BIT_OR": [lambda a, b: a & b, lambda a, b: a ^ b, lambda a, b: wrap(a + b), lambda a, b: int(a != 0 or b != 0)],
-    "BIT_XOR": [lambda a, b: a & b, lambda a, b: a | b, lambda a, b: wrap(a + b), lambda a, b: int((a != 0) != (b != 0))],
+    "SUB": [
+        lambda a, b: saturate(a - b),
+        lambda a, b: wrap(b - a),
+        lambda a, b: wrap(a + b),
+        lambda a, b: a ^ b,
+    ],
+    "MUL": [
+        lambda a, b: saturate(a * b),
+        lambda a, b: wrap(a + b),
+        lambda a, b: wrap(abs(a) * abs(b)),
+        lambda a, b: a & b,
+    ],
+    "DIV": [
+        lambda a, b: saturate(a // b),
+        lambda a, b: wrap(a // b),
+        lambda a, b: wrap(unsigned(a) // unsigned(b)),
+        remainder,
+    ],
+    "REM": [
+        lambda a, b: a % b,
+        lambda a, b: abs(remainder(a, b)),
+        lambda a, b: wrap(unsigned(a) % unsigned(b)),
+        quotient,
+    ],
+    "SHL": [
+        lambda a, b: wrap(a << (b & 63)),
+        lambda a, b: wrap(a << min(abs(b), 32)),
+        lambda a, b: a >> (b & 31),
+        lambda a, b: wrap(a << (b & 15)),
+    ],
+    "SHR": [
+        lambda a, b: a >> (b & 63),
+        lambda a, b: wrap(unsigned(a) >> (b & 31)),
+        lambda a, b: a >> min(abs(b), 32),
+        lambda a, b: quotient(a, 2 ** (b & 31)),
+    ],
+    "BIT_AND": [
+        lambda a, b: a | b,
+        lambda a, b: a ^ b,
+        lambda a, b: abs(a) & abs(b),
+        lambda a, b: int(a != 0 and b != 0),
+    ],
+    "BIT_OR": [
+        lambda a, b: a & b,
+        lambda a, b: a ^ b,
+        lambda a, b: wrap(a + b),
+        lambda a, b: int(a != 0 or b != 0),
+    ],
+    "BIT_XOR": [
+        lambda a, b: a & b,
+        lambda a, b: a | b,
+        lambda a, b: wrap(a + b),
+        lambda a, b: int((a != 0) != (b != 0)),
+    ],
 }
 
 

@@ -1,5 +1,5 @@
-"""The lines that refuse a script, a world file, a notecard or a frozen world, said in words; the first two with the line and a
-caret, a notecard's with the line."""
+"""The lines that refuse a script, a world file, a notecard or a frozen world, said in words; the first two with the
+line and a caret, a notecard's with the line."""
 import hashlib
 import re
 
@@ -45,7 +45,7 @@ def image_hint(name, fault, details, scripts):
     if fault == 40:
         found, wanted = details
         short = int(found) < 46
-        return [f"it has {found} bytes, and the shortest has 46" if short else f"it has {found} bytes, and names {wanted}"]
+        return [f"it has {found} bytes, and {'the shortest has 46' if short else f'names {wanted}'}"]
     if fault == 42:
         return [f"it has version {details[0]}"]
     if fault == 43:

@@ -174,7 +174,7 @@ def hand_on(piece):
 
 
 def handed_name(command, room):
-    """The file that the program is to read: where one that it names is no regular file, a world in which it isn't there."""
+    """The file that the program is to read: where it names one that is no regular file, a world without that one."""
     if not command.is_world or program.are_plain(command.name, True):
         return command.name
     path = os.path.join(room, "world")

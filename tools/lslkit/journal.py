@@ -14,7 +14,7 @@ Entry = namedtuple("Entry", "word number rest")
 
 
 class Handler:
-    """A handler: its script, its event with the arguments, the entries at which it began and ended, and how it ended."""
+    """A handler: its script, its event and arguments, the entries at which it began and ended, and how it ended."""
 
     __slots__ = ("script", "event", "args", "begin", "end", "ending", "charge")
 

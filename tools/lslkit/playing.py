@@ -121,7 +121,8 @@ class Stage:
 
     def text(self):
         name = os.path.splitext(os.path.basename(self.file))[0]
-        lines = [f'object {PRIM % 1} {quoted(name)} {self.owner_key} "Here"', f"script {quoted(name)} {quoted(self.file)}"]
+        lines = [f'object {PRIM % 1} {quoted(name)} {self.owner_key} "Here"']
+        lines += [f"script {quoted(name)} {quoted(self.file)}"]
         lines += [f'prim {PRIM % link} "Link {link}"' for link in range(2, self.prims + 1)]
         return "\n".join([*lines, "", "begin", *self.steps, "end", ""])
 

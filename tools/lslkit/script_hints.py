@@ -177,7 +177,8 @@ def unknown_name(source):
     if name in tables.calls() or name in own:
         line = source.lines.line_of(source.tokens[own[name].at].place) if name in own else 0
         sort = SORTS[own[name].form] if name in own else "call"
-        yield f"the {sort} of line {line} isn't visible here, or no {sort} may stand here" if line else f"{name} is a call"
+        hidden = f"the {sort} of line {line} isn't visible here, or no {sort} may stand here"
+        yield hidden if line else f"{name} is a call"
         return
     near = tables.nearest(name, {*own, *tables.calls(), *tables.constants()})
     yield f"do you mean {near}?" if near else None

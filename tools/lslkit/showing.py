@@ -31,7 +31,7 @@ class Painter:
 
 
 def lines(entries, world, painter, observed=None, hidden=()):
-    """The readable lines, with the steps and states that were observed. Steps and lines of `hidden` words aren't shown."""
+    """The readable lines, with the steps and states that were observed. Those of `hidden` words aren't shown."""
     names, steps = telling.Names(world), observed.steps if observed else None
     states = observed.states if observed else {}
     clocks = telling.clocks(names.world)

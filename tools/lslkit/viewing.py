@@ -1,5 +1,5 @@
-"""Where the scripts of a frozen world stand, for a reader: the object and prim of each, the source lines of its calls, and
-the names of their slots."""
+"""Where the scripts of a frozen world stand, for a reader: the object and prim of each, the source lines of its calls,
+and the names of their slots."""
 import re
 from collections import namedtuple
 
@@ -35,7 +35,8 @@ def of_script(script, world, head):
     rest, queued = head[4], int(head[5])
     doing = {"idle": "idle", "dead": "stopped by a fault"}.get(rest, f"in {rest}")
     waits = "no event waits" if queued == 0 else "1 event waits" if queued == 1 else f"{queued} events wait"
-    return f'script {head[1]} "{script.name}" of object {prim.object} "{whole.name}"{part}: state {head[3]}, {doing}; {waits}'
+    who = f'script {head[1]} "{script.name}" of object {prim.object} "{whole.name}"{part}'
+    return f"{who}: state {head[3]}, {doing}; {waits}"
 
 
 def of_call(script, call, names):
