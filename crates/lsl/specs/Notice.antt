@@ -50,8 +50,8 @@ abbrev pub notice_of : Status → Option (List ℕ) → List ℕ
 notice_of Usage named = meaning_of Usage
 notice_of status named = named_notice named (meaning_of status)
 
--- the notes grew by the line of this status, a usage without the file's name and any other with it; a command that ended
--- well isn't spoken of
+-- the notes grew by the line of this status, a usage without the file's name and any other with it; a command that
+-- ended well isn't spoken of
 abbrev pub IsTold : Status → Option (List ℕ) → Option (List ℕ) → Option (List ℕ) → Type 0
 IsTold Ok named old new = new ≡ old
 IsTold status named old new = Grew old new (notice_of status named)

@@ -90,8 +90,8 @@ fn write_quoted<N: Sink>(text: &[u8], notes: &mut N) -> Result<(), Failed>
     write_all(notes, b"\"")
 }
 
-/// Writes the line of a status, with the file's name in front. The name is written byte by byte: it is short, and a line
-/// that is made first would take memory.
+/// Writes the line of a status, with the file's name in front. The name is written byte by byte: it is short, and a
+/// line that is made first would take memory.
 fn write_named<N: Sink>(status: Status, name: &str, notes: &mut N) -> Result<(), Failed>
     ensures ok { OnOk result (Grew (N.sunk notes.old) (N.sunk notes.new) (notice_of status (Some name.now))) }
     ensures err { OnErr result (Rose (N.faults notes.old) (N.faults notes.new)) }

@@ -15,8 +15,8 @@ use lsl_text::NoMemory;
 use lsl_value::{Atom, Value};
 use std::alloc::Global;
 
-/// Appends a value: the tag of its kind, and the number, the text, or the count of elements and these. Any value fits its
-/// field.
+/// Appends a value: the tag of its kind, and the number, the text, or the count of elements and these. Any value fits
+/// its field.
 pub fn push_value(out: &mut Vec<u8>, value: &Value) -> Result<(), NoMemory>
     ensures ok { OnOk result (out.new.items ≡ out.old.items ++ value_bytes value.now) }
     ensures unchanged { OnErr result (out.new.items ≡ out.old.items) }

@@ -214,8 +214,8 @@ impl Card {
 
     // The object was refused on this trip.
     fn was_refused(&mut self, trip: u64)
-        ensures { (if nat_eq self.old.trip trip then record self.old { phase = was_refused self.old.phase } else self.old)
-            ≡ self.new }
+        ensures { (if nat_eq self.old.trip trip then record self.old { phase = was_refused self.old.phase }
+            else self.old) ≡ self.new }
     {
         if trip != self.trip {
             return;

@@ -87,8 +87,8 @@ impl Drive {
             || (self.rounds < MOST_ROUNDS && field.awaits(self.way.from, self.way.object))
     }
 
-    /// This came back of the note that was carried: it is delivered. An offer that was carried often enough is called back
-    /// then. Takes memory for the parcel of an offer that makes the object live.
+    /// This came back of the note that was carried: it is delivered. An offer that was carried often enough is called
+    /// back then. Takes memory for the parcel of an offer that makes the object live.
     pub fn hears(&mut self, field: &mut Field, back: Option<Note>) -> Result<(), NoMemory>
         requires way { HasWay field.old self.old.way }
         requires asks { IsSome (asks self.old.way (moment self.old field.old)) }
@@ -151,8 +151,8 @@ impl Drive {
         }
     }
 
-    /// Nothing is asked any more. A cancel whose answer didn't come is delivered, and its answer, since both regions stand in
-    /// one process. Gives the offer that made the object live in the other region, if one did.
+    /// Nothing is asked any more. A cancel whose answer didn't come is delivered, and its answer, since both regions
+    /// stand in one process. Gives the offer that made the object live in the other region, if one did.
     pub fn rest(self, field: &mut Field) -> Result<Option<Note>, NoMemory>
         requires way { HasWay field.old self.way }
         requires there { IfSome (awaited_in field.old self.way) (λ note. HasCard field.old note.object note.to) }

@@ -59,8 +59,8 @@ pub struct Back<T: Drop> {
 /// The object departs as this parcel, and is driven over the link until it rests. Gives what the offer stands for that
 /// made it live in the other region, if one did and the object isn't live again where it was. What comes back and can't
 /// be read as a note is lost, and so is an offer whose parcel stands for nothing; a note that comes back as it was sent
-/// isn't read. At most 32 notes are carried. After want of memory the field is somewhere on the way; after another fault
-/// it is unchanged, and nothing was carried.
+/// isn't read. At most 32 notes are carried. After want of memory the field is somewhere on the way; after another
+/// fault it is unchanged, and nothing was carried.
 pub fn hand_over<L: Link, P: Parcels>(
     alloc: Global,
     field: &mut Field,

@@ -11,9 +11,9 @@ pub fn an_object_is_in_one_place()
     ensures { RunsKeepOnePlace }
 {}
 
-/// Each drive comes to rest, where each object was at rest, all earlier notes were past, and nothing came back that wasn't
-/// handed over: the object is live in the other region, as the parcel of its departure, exactly where its offer came and
-/// not behind its cancel, and else where it was; and all notes are past again.
+/// Each drive comes to rest, where each object was at rest, all earlier notes were past, and nothing came back that
+/// wasn't handed over: the object is live in the other region, as the parcel of its departure, exactly where its
+/// offer came and not behind its cancel, and else where it was; and all notes are past again.
 pub fn each_drive_comes_to_rest()
     ensures { DrivesComeToRest }
 {}

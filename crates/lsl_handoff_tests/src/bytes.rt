@@ -1,4 +1,5 @@
-//! Notes as bytes: their bytes as they were made outside, each front of them, each byte raised, and fields that can't be.
+//! Notes as bytes: their bytes as they were made outside, each front of them, each byte raised, and fields that can't
+//! be.
 
 use lsl_handoff::{Note, NoteKind, Parcel, read_note, write_note};
 use lsl_text::{NoMemory, Refusal};

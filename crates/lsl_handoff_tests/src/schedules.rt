@@ -1,4 +1,5 @@
-//! Each schedule of one crossing up to so many events: sends that are repeated, notes that are lost, late or come twice.
+//! Each schedule of one crossing up to so many events: sends that are repeated, notes that are lost, late or come
+//! twice.
 
 use lsl_handoff::{DepartFault, Field, Note, NoteKind, Parcel};
 use lsl_text::NoMemory;
@@ -139,8 +140,8 @@ fn in_one_place_whatever_happens(rt: HostRuntime) -> Result<(), Fail> {
     Ok(())
 }
 
-/// Some schedules, event by event: 0 is sent again, 1 is given up, 2 is the offer, and from 3 on are the notes that were
-/// sent behind it.
+/// Some schedules, event by event: 0 is sent again, 1 is given up, 2 is the offer, and from 3 on are the notes that
+/// were sent behind it.
 const ROWS: &str = "
 2 3 2 3 2 3 -> 222222 # a good handoff, and each note comes again
 0 0 0 0 2 3 -> ----22 # the offer is lost, and comes late

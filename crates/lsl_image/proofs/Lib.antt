@@ -13,6 +13,7 @@ pub mod KindedLemmas
 pub mod LayoutLemmas
 pub mod LeadingLemmas
 pub mod ListenLemmas
+pub mod Numbered
 pub mod OneCallLemmas
 pub mod OneEventLemmas
 pub mod OneImageLemmas

@@ -1,7 +1,6 @@
 -- What a script rests in, behind its number.
-use Rattle.std.proofs.Common.{◌≡◌, ◌≢◌, ◌∙◌, refl, subst, sym, arith, ℕ, zero, suc, ◌<◌, ◌≤◌, nat_le, List, Bool, true, false}
+use Rattle.std.proofs.Common.{◌≡◌, ◌≢◌, ◌∙◌, refl, subst, sym, ℕ, zero, suc, nat_le, List, Bool, true, false}
 use Rattle.lsl_value.specs.declared.tagged.Value.{Value}
-use Rattle.lsl_running.specs.declared.ends.Fault.TheVariants.{MathError, StackHeap, TooManyListens}
 use Rattle.lsl_code.specs.declared.frames.Frame.{Frame}
 use Rattle.lsl_code.specs.declared.woven_units.Woven.{Woven as Code}
 use Rattle.lsl_code.specs.Frames.{parked_charge}
@@ -10,27 +9,10 @@ use Rattle.lsl_post.specs.declared.parts.Rest.TheVariants.{Idle}
 use Rattle.lsl_image.specs.declared.faults.ImageFault.TheVariants.{Body}
 use Rattle.lsl_image.specs.Layout.{Layout, tested}
 use Rattle.lsl_image.specs.Reading.{Faults, Gives}
-use Rattle.lsl_image.specs.Rest.{dead_rest, fault_numbered, rest_of, saved_rest}
+use Rattle.lsl_image.specs.Rest.{dead_rest, rest_of, saved_rest}
 use Rattle.lsl_image.proofs.FieldLemmas.{test-fails, test-passes}
 use Rattle.lsl_image.specs.Leading.{Leads}
 use Rattle.lsl_image.proofs.LeadingLemmas.{leads-ends}
-
-pub fault_first : (n : ℕ) → n < 2 → fault_numbered n ≡ MathError
-fault_first zero few = refl
-fault_first (suc zero) few = refl
-fault_first (suc (suc n)) few = absurd (omega (arith, few))
-
-pub fault_second : (n : ℕ) → 2 ≤ n → n < 3 → fault_numbered n ≡ StackHeap
-fault_second zero least few = absurd (omega (arith, least))
-fault_second (suc zero) least few = absurd (omega (arith, least))
-fault_second (suc (suc zero)) least few = refl
-fault_second (suc (suc (suc n))) least few = absurd (omega (arith, few))
-
-pub fault_last : (n : ℕ) → 3 ≤ n → fault_numbered n ≡ TooManyListens
-fault_last zero least = absurd (omega (arith, least))
-fault_last (suc zero) least = absurd (omega (arith, least))
-fault_last (suc (suc zero)) least = absurd (omega (arith, least))
-fault_last (suc (suc (suc n))) least = refl
 
 module _ (bytes : List ℕ) (globals : List Value) (most place : ℕ) (frames shown : List Frame)
     (same : shown ≡ frames) (within : Bool) (own : within ≡ nat_le (parked_charge globals shown) most) (q : ℕ)

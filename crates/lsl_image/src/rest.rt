@@ -80,7 +80,7 @@ fn read_fault_number(bytes: &[u8], place: usize) -> Read<u8>
 }
 
 // The fault of this number, from 1.
-#[tactic(auto, using(crate::proofs::RestLemmas::fault_first, crate::proofs::RestLemmas::fault_second, crate::proofs::RestLemmas::fault_last))]
+#[tactic(auto, using(crate::proofs::Numbered::first, crate::proofs::Numbered::second, crate::proofs::Numbered::last))]
 fn fault_numbered(number: u8) -> Fault
     ensures { result ≡ fault_numbered number }
 {

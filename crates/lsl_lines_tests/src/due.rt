@@ -5,8 +5,8 @@ use lsl_text::NoMemory;
 use std::alloc::Global;
 use std::test::Fail;
 
-/// In each line: what is done, word by word, and what was read. `1@5000` makes script 1 due at 5000, `1@` at no time, and a
-/// number reads the clock.
+/// In each line: what is done, word by word, and what was read. `1@5000` makes script 1 due at 5000, `1@` at no time,
+/// and a number reads the clock.
 const COURSES: &str = "1@5000 2@3000 5000 -> [1, 2]
 1@5000 2@3000 4999 5000 -> [2][1, 2]
 1@5000 2@3000 2999 -> []

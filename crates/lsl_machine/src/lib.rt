@@ -171,9 +171,9 @@ impl Machine {
         at_tick
     }
 
-    /// Passes the tick before which the machine stands, and further ones, at most so many in all, while it meets nothing
-    /// but integers and calls of functions: how many were passed, and whether it stands before a tick again then. Else
-    /// it can run on from where it came to.
+    /// Passes the tick before which the machine stands, and further ones, at most so many in all, while it meets
+    /// nothing but integers and calls of functions: how many were passed, and whether it stands before a tick again
+    /// then. Else it can run on from where it came to.
     ///
     /// Takes memory only to enter a function, and where that is wanting it stops before it.
     pub fn pass_ticks(&mut self, unit: &Woven, ticks: u32) -> (u32, bool)
@@ -298,8 +298,8 @@ impl Machine {
         Ok(Machine { running, standing })
     }
 
-    /// Saves the calls by the unit's own code, and restores them in the room that they had. After `NoMemory` the machine
-    /// is lost.
+    /// Saves the calls by the unit's own code, and restores them in the room that they had. After `NoMemory` the
+    /// machine is lost.
     #[inline(never)]
     pub fn pause(&mut self, unit: &Woven, handler: u16) -> Result<(), NoMemory>
         requires stands { self.old.standing ≡ Standing.AtTick }

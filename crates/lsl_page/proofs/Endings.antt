@@ -84,7 +84,8 @@ module _ (files others : Files) (words : Option Command) (status : Status) (m n 
       (ap (λ (held : Option Files). unwrap_or held files) e.unchanged)
       (subst (λ (k : ℕ). Ends copies words (outside_of files 0 (m ∷ []) k) (after-files others) status) calm
       (subst (λ (xs : List ℕ). Ends copies words (outside_of files 0 (m ∷ xs) writes) (after-files others) status) empty
-      (subst (λ (k : ℕ). Ends copies words (outside_of files k (m ∷ start) writes) (after-files others) status) fresh e)))
+      (subst (λ (k : ℕ). Ends copies words (outside_of files k (m ∷ start) writes) (after-files others) status)
+      fresh e)))
 
   pub same-mark : n ≡ m
   same-mark = mark-of files words status m n output missed refused from-nothing from fits

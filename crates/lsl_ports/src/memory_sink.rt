@@ -50,8 +50,8 @@ impl MemorySink {
         MemorySink::with_most(alloc, room, usize::MAX, failing)
     }
 
-    /// A sink with room for that many bytes, whose calls with the numbers in `failing` fail, and of which one call takes
-    /// at most so many bytes, which are at least 1. It takes the memory for its room, and none afterwards.
+    /// A sink with room for that many bytes, whose calls with the numbers in `failing` fail, and of which one call
+    /// takes at most so many bytes, which are at least 1. It takes the memory for its room, and none afterwards.
     pub fn with_most(
         alloc: Global,
         room: usize,

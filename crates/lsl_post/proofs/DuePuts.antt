@@ -43,7 +43,8 @@ put-again script due was order mid new_order times same is_was apart come gone =
         kept e w =
             let stood : contains entry_cmp order (at, script) ≡ true =
             sym (come.2 (at, script) (is_at-apart (due, script) (at, script) (apart_by_time due at script e)))
-            ∙ (sym (gone.2 (at, script) (is_at-apart (was, script) (at, script) (apart_by_time was at script w))) ∙ h) in
+            ∙ (sym (gone.2 (at, script) (is_at-apart (was, script) (at, script) (apart_by_time was at script w)))
+            ∙ h) in
             let time = (same script at).1 stood in
             let equal : was ≡ at = cc in
             absurd (w equal)

@@ -68,7 +68,8 @@ puts-from script due order new_order put = record {
     λ h. (contains-iff new_order (at, script)).0 ((put.own at).1 h),
   );
   others = λ at other apart. (
-    λ h. (contains-iff order (at, other)).0 (sym (put.others at other apart) ∙ (contains-iff new_order (at, other)).1 h),
+    λ h. (contains-iff order (at, other)).0
+        (sym (put.others at other apart) ∙ (contains-iff new_order (at, other)).1 h),
     λ h. (contains-iff new_order (at, other)).0 (put.others at other apart ∙ (contains-iff order (at, other)).1 h),
   );
 }

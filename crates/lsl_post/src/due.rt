@@ -41,8 +41,8 @@ impl Due {
         }
     }
 
-    /// The script is due at this time, or at none, whenever it was before. Takes memory for the first time of a script, and
-    /// for a new one; its cost is the logarithm of all.
+    /// The script is due at this time, or at none, whenever it was before. Takes memory for the first time of a
+    /// script, and for a new one; its cost is the logarithm of all.
     pub fn put(&mut self, script: u32, due: Option<u64>) -> Result<(), NoMemory>
         ensures ok { OnOk result (Puts script due self.old self.new) }
         ensures unchanged { OnErr result (self.new ≡ self.old) }
@@ -57,8 +57,8 @@ impl Due {
         }
     }
 
-    /// The scripts that are due at or before the clock, in rising order. Takes memory for these. Its cost is that of sorting
-    /// them, and the logarithm of all.
+    /// The scripts that are due at or before the clock, in rising order. Takes memory for these. Its cost is that of
+    /// sorting them, and the logarithm of all.
     pub fn ripe(&self, alloc: Global, clock: u64) -> Result<Vec<u32>, NoMemory>
         ensures ok { IfOk result (λ scripts. IsRipe clock self.now scripts.items) }
         ensures index { IsIndex self.now }

@@ -48,7 +48,8 @@ PrimsAreNamed =
     → prim_of (answer_of r place m builtin.SetObjectName (value.Str text ∷ []) w).value.0 m
     ≡ record { key = prim.key; name = cut_name text }
 
--- a listen asks what is said: it is active, on the channel, and each of name, id and message is wild or the one that is said
+-- a listen asks what is said: it is active, on the channel, and each of name, id and message is wild or the one that
+-- is said
 pub record AsksWhatIsSaid (said : Filter) (l : Listen) : Type 0 where
   pub active : l.active ≡ true
   pub channel : l.channel ≡ said.channel

@@ -13,8 +13,8 @@ use Rattle.lsl_region.specs.Answers.{home_of, value_of_query}
 use Rattle.lsl_region.specs.LinkLaws.{HasNumber, link_this}
 use Rattle.lsl_region.specs.Links.{link_of}
 
--- who asks: a script of this name in the prim at a place of an object, at a reading of the clock, with a toucher in hand
--- or none
+-- who asks: a script of this name in the prim at a place of an object, at a reading of the clock, with a toucher in
+-- hand or none
 pub record Asker : Type 0 where
   pub object : Linkset
   pub place : ℕ

@@ -9,7 +9,8 @@ use crate::objects::Linkset;
 use lsl_text::NoMemory;
 
 impl Grid {
-    /// Adds an object behind the others, which are 63 at most. It has a root, and each of its prims a key. After want of memory all is as it was.
+    /// Adds an object behind the others, which are 63 at most. It has a root, and each of its prims a key. After want
+    /// of memory all is as it was.
     pub fn add(&mut self, object: Linkset) -> Result<(), NoMemory>
         requires room { length self.old.objects < 64 }
         requires formed { IsFormed object }

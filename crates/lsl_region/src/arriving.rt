@@ -301,7 +301,8 @@ impl Grid {
         requires events { All (λ e. e ≡ region_changed) events.old.items }
         requires there { (s : Place) → slice_get self.old.seats seat ≡ Some s → is_some (parts_in_seat place s) ≡ true →
             (0 < length events.old.items) × (at < length out.old) }
-        ensures seats { (s : Place) → slice_get self.old.seats seat ≡ Some s → self.new.seats ≡ slice_set self.old.seats seat
+        ensures seats { (s : Place) → slice_get self.old.seats seat ≡ Some s →
+            self.new.seats ≡ slice_set self.old.seats seat
             (post_in_seat library.now place region_changed (seat + 1) s).value }
         ensures entries { (s : Place) → slice_get self.old.seats seat ≡ Some s → take result out.new ≡
             take at out.old ++ (post_in_seat library.now place region_changed (seat + 1) s).entries }
@@ -337,7 +338,8 @@ impl Grid {
         requires seated { AreSeated library.now self.old.seats }
         requires other { is_exit event ≡ false }
         requires at { at < length out.old }
-        ensures seats { (s : Place) → slice_get self.old.seats seat ≡ Some s → self.new.seats ≡ slice_set self.old.seats seat
+        ensures seats { (s : Place) → slice_get self.old.seats seat ≡ Some s →
+            self.new.seats ≡ slice_set self.old.seats seat
             (post_in (states_in library.now s.unit) event (seat + 1) s s.script).value }
         ensures entries { (s : Place) → slice_get self.old.seats seat ≡ Some s → take result out.new ≡
             take at out.old ++ (post_in (states_in library.now s.unit) event (seat + 1) s s.script).entries }

@@ -67,7 +67,8 @@ impl Grid {
             × Begins (sent_of trips) (images_to library.now self.old (object - 1) region.now))
             × ((m : Meant library.now) (clock : ℕ) (w : World) → Stands library.now None clock self.old w →
             Travels library.now m.rules clock (object - 1) region.now w trips self.new out.old out.new result) }
-        ensures link { result ≡ OkResult (Crossed.Stayed StayedWhy.Link) → Rose (L.faults link.old) (L.faults link.new) }
+        ensures link { result ≡ OkResult (Crossed.Stayed StayedWhy.Link) →
+            Rose (L.faults link.old) (L.faults link.new) }
         ensures counted { L.faults link.old ≤ L.faults link.new }
         ensures seated { OnOk result (AreSeated library.now self.new.seats) }
         ensures objects { map (λ o. length o.prims) self.new.objects ≡ map (λ o. length o.prims) self.old.objects }
@@ -102,7 +103,8 @@ impl Grid {
             (λ _. Stays self.old self.new out.old (take (length out.old) out.new)
             × Begins (sent_of trips) (image_in library.now self.old (object - 1) ∷ [])) }
         ensures image { OnOk result (IsSent library.now self.old (object - 1)) }
-        ensures link { result ≡ OkResult (Crossed.Stayed StayedWhy.Link) → Rose (L.faults link.old) (L.faults link.new) }
+        ensures link { result ≡ OkResult (Crossed.Stayed StayedWhy.Link) →
+            Rose (L.faults link.old) (L.faults link.new) }
         ensures counted { L.faults link.old ≤ L.faults link.new }
         ensures seated { OnOk result (AreSeated library.now self.new.seats) }
         ensures objects { map (λ o. length o.prims) self.new.objects ≡ map (λ o. length o.prims) self.old.objects }
@@ -177,7 +179,8 @@ impl Grid {
         requires seated { AreSeated library.now self.now.seats }
         ensures bytes { IfOk result (λ image. image.items ≡ image_in library.now self.now (object - 1)) }
         ensures image { OnOk result (IsSent library.now self.now (object - 1)) }
-        ensures own { OnOk result (CanArrive library.now self.now (object - 1) (parts_of_object self.now (object - 1))) }
+        ensures own { OnOk result
+            (CanArrive library.now self.now (object - 1) (parts_of_object self.now (object - 1))) }
     {
         let parts = self.parts(object)?;
         write_object(self.alloc, &parts, self.region(object), library)

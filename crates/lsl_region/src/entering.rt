@@ -36,8 +36,8 @@ impl Grid {
         ensures { IfOk result (λ read. MatchOption read
             ((parts : AParts) → ObjectImage region.now (shape_of (parts_of_object self.now (object - 1))) library.now
             parts bytes.now → ⊥)
-            (λ parts. ObjectImage region.now (shape_of (parts_of_object self.now (object - 1))) library.now parts bytes.now
-            × CanArrive library.now self.now (object - 1) parts)) }
+            (λ parts. ObjectImage region.now (shape_of (parts_of_object self.now (object - 1))) library.now
+            parts bytes.now × CanArrive library.now self.now (object - 1) parts)) }
     {
         let shape = self.shape(object)?;
         match read_back(self.alloc, bytes, region, &shape, library)? {
@@ -82,8 +82,8 @@ impl Grid {
         }
     }
 
-    // The object of this number is in this region, with these parts. After want of memory there may be entries behind the
-    // others.
+    // The object of this number is in this region, with these parts. After want of memory there may be entries behind
+    // the others.
     fn come_behind(
         &mut self,
         object: u32,

@@ -18,8 +18,8 @@ use lsl_text::NoMemory;
 use lsl_value::Text;
 
 impl Grid {
-    /// The parts of all objects, each with its region, which can be written as an image. Walks the scripts once for each
-    /// object.
+    /// The parts of all objects, each with its region, which can be written as an image. Walks the scripts once for
+    /// each object.
     pub fn all_parts(&self) -> Result<Sequence<Placed>, NoMemory>
         ensures parts { IfOk result (λ objects. objects ≡ placed_in self.now) }
         ensures written { IfOk result (λ objects. (codes : List Code) → AreSeated codes self.now.seats →

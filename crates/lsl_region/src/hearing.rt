@@ -65,8 +65,8 @@ impl ChannelTable {
         *row = channels;
     }
 
-    /// The script at this place has these listens. Takes no memory; walks them. Each channel on which it began or ceased
-    /// to listen costs a binary search, and a move of what stands behind it.
+    /// The script at this place has these listens. Takes no memory; walks them. Each channel on which it began or
+    /// ceased to listen costs a binary search, and a move of what stands behind it.
     pub(crate) fn follow(&mut self, place: usize, listens: &Listens)
         requires { place < length self.old }
         ensures count { length self.new ≡ length self.old }

@@ -105,8 +105,8 @@ pub fn scripts_hear_by_their_listens()
     ensures { ScriptsHearByTheirListens }
 {}
 
-/// An object that crosses is in the other region, and then its scripts are told by `changed` with CHANGED_REGION. To the
-/// region in which it is, nothing happens.
+/// An object that crosses is in the other region, and then its scripts are told by `changed` with CHANGED_REGION. To
+/// the region in which it is, nothing happens.
 pub fn crossings_are_one_event()
     ensures elsewhere { CrossingsAreOneEvent }
     ensures here { CrossingsToTheSameRegionAreNone }

@@ -25,7 +25,8 @@ impl Model for Pause {
 
     ghost view = { λ p. record { gaps = p.gaps.items; next = p.next; count = p.count; saves = p.saves } };
 
-    ghost invariant = { λ p. IsCursor (record { gaps = p.gaps.items; next = p.next; count = p.count; saves = p.saves }) };
+    ghost invariant = { λ p.
+        IsCursor (record { gaps = p.gaps.items; next = p.next; count = p.count; saves = p.saves }) };
 }
 
 impl Pause {
@@ -41,7 +42,8 @@ impl Pause {
         }
     }
 
-    /// These gaps from the next segment on, each at least 1, or none, to pause no more. The saves stay. Takes no memory.
+    /// These gaps from the next segment on, each at least 1, or none, to pause no more. The saves stay. Takes no
+    /// memory.
     pub fn set(&mut self, gaps: Sequence<u32>)
         requires { AreGaps gaps }
         ensures { (t : Tally) → Counts self.old t → Counts self.new (with_gaps gaps t) }

@@ -1,5 +1,5 @@
-//! Tests of worlds whose steps are done by hand, by rows of text: how often scripts are saved, which no line of the journal
-//! shows, and worlds that are frozen and thawed.
+//! Tests of worlds whose steps are done by hand, by rows of text: how often scripts are saved, which no line of the
+//! journal shows, and worlds that are frozen and thawed.
 #![tactic(auto)]
 
 #[cfg(test)]

@@ -16,8 +16,8 @@ use lsl_world::World;
 use lsl_world::laws::good_files_are_in_range;
 use std::alloc::{AllocError, Global};
 
-/// How often the scripts of a world were saved in all of its steps, where the world is good and has one script file, which
-/// is accepted.
+/// How often the scripts of a world were saved in all of its steps, where the world is good and has one script file,
+/// which is accepted.
 pub(crate) fn saves_of(alloc: Global, world: &str, script: &str) -> Result<Option<u64>, NoMemory> {
     good_files_are_in_range();
     let Ok(file) = read_world(alloc, world.as_bytes()) else {

@@ -14,8 +14,8 @@ FlightsAskSoOften =
     → IsLawfulFlight (rules_of codes) code state f
     → AsksAtMost (rules_of codes) code state f ((rules_of codes).most code)
 
--- a handler that its code has, begun with globals of their kinds, comes to something with the answers that it asked for:
--- it is cut, asks, ends or stops, and is never lost
+-- a handler that its code has, begun with globals of their kinds, comes to something with the answers that it asked
+-- for: it is cut, asks, ends or stops, and is never lost
 abbrev pub FlightsAreNeverLost : Type 0
 FlightsAreNeverLost =
     (codes : List Code) (code : ℕ) (unit : Code) (state : ℕ) (f : Flight) (ticks : ℕ) (answers : List Reply)

@@ -38,8 +38,8 @@ impl Live {
         requires ended { HasEnded unit.now self }
         ensures fits { IfOk result (λ closed. FitsUnit unit.now closed.script) }
         ensures charge { IfOk result (λ closed. closed.charge ≡ resting_charge self.machine.machine.kept) }
-        ensures parts { (way : Outcome) → self.outcome ≡ Some way → IfOk result (λ closed. closed.script
-            ≡ gone_parts unit.now (going_after unit.now self.parts way) (keeping self.machine.machine.kept self.parts)) }
+        ensures parts { (way : Outcome) → self.outcome ≡ Some way → IfOk result (λ closed. closed.script ≡
+            gone_parts unit.now (going_after unit.now self.parts way) (keeping self.machine.machine.kept self.parts)) }
         ensures cleared { (way : Outcome) → self.outcome ≡ Some way → IfOk result (λ closed. closed.cleared
             ≡ count_gone (going_after unit.now self.parts way) self.parts.queue) }
         ensures source { (codes : List Code) (s : Source) (f : Flight) (number : ℕ) →

@@ -110,8 +110,8 @@ impl Live {
         }
     }
 
-    /// Passes the tick at which the script stands, and goes on while its machine meets nothing but integers and calls of
-    /// functions: whether it stands at a tick again then. Else it can go on from where it came to.
+    /// Passes the tick at which the script stands, and goes on while its machine meets nothing but integers and calls
+    /// of functions: whether it stands at a tick again then. Else it can go on from where it came to.
     ///
     /// Takes memory only to enter a function, and where that is wanting it stops before it.
     #[inline(always)]

@@ -49,8 +49,8 @@ impl Live {
         Ok(script)
     }
 
-    /// Saves the calls by the unit's own code, and restores them; the script is then as it was. After `NoMemory` it is only
-    /// to be dropped.
+    /// Saves the calls by the unit's own code, and restores them; the script is then as it was. After `NoMemory` it
+    /// is only to be dropped.
     pub fn pause(&mut self, unit: &Woven) -> Result<(), NoMemory>
         requires awake { IsAwake unit.now self.old }
         requires stands { self.old.machine.standing ≡ standings.AtTick }

@@ -180,8 +180,8 @@ impl Handling {
         requires weaves { Weaves unit.now }
         ensures awake { IfOk result (λ handling. IsAwake unit.now (awake_with parts.now handling)) }
         ensures able { IfOk result (λ handling. CanRun handling.machine.standing) }
-        ensures took { IfOk result (λ handling.
-            TakesNext unit.now (resting_parts parts.now kept (rests.Saved event sack)) (awake_with parts.now handling)) }
+        ensures took { IfOk result (λ handling. TakesNext unit.now
+            (resting_parts parts.now kept (rests.Saved event sack)) (awake_with parts.now handling)) }
         ensures source { (codes : _) (s : Source) → HasUnit codes s.code unit.now →
             resting_parts parts.now kept (rests.Saved event sack) ≡ parts_of codes s → Lawful (rules_of codes) s →
             IfOk result (λ handling. WakesAs codes unit.now s (awake_with parts.now handling)) }

@@ -19,8 +19,8 @@ use Rattle.lsl_top.specs.Promise.{Keeps}
 use Rattle.lsl_top.specs.Words.{Command}
 use Rattle.lsl_top.specs.declared.status.Status.{Status}
 
--- over files that are told, from a world that was frozen before, and with these trips, a command has one answer at most,
--- due or written
+-- over files that are told, from a world that was frozen before, and with these trips, a command has one answer at
+-- most, due or written
 abbrev pub AnswersAreOne : Type 0
 AnswersAreOne =
     (files : Files) (from : World) (trips : List Trip) (command : Command) (g h : Grade) (a b : Answer)

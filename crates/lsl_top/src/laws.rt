@@ -19,9 +19,9 @@ pub fn copies_keep()
     ensures { CopiesKeep }
 {}
 
-/// A run may be frozen and thawed between two steps: where `freeze` ends well on the first steps, and its output is a file
-/// of at most 2,147,483,647 bytes, then its journal and after that the output of `thaw` on the other steps are the report
-/// of `replay` on all; and the two hand to the link what that does.
+/// A run may be frozen and thawed between two steps: where `freeze` ends well on the first steps, and its output is a
+/// file of at most 2,147,483,647 bytes, then its journal and after that the output of `thaw` on the other steps are
+/// the report of `replay` on all; and the two hand to the link what that does.
 pub fn two_halves_are_one_run()
     ensures { TwoHalvesAreOneRun }
 {}

@@ -77,8 +77,8 @@ pub fn image_refusal(alloc: Global, file: &str, fault: &ImageFault) -> Result<Ve
     Ok(out)
 }
 
-/// The line of a number and the report of its world. It takes memory for the line, and answers want of memory also where
-/// the report has more lines than were counted.
+/// The line of a number and the report of its world. It takes memory for the line, and answers want of memory also
+/// where the report has more lines than were counted.
 pub fn made_line(alloc: Global, number: u32, report: DigestSink) -> Result<Vec<u8>, NoMemory>
     ensures { IfOk result (λ line. line.items ≡ made_line number report) }
 {
@@ -132,7 +132,8 @@ fn push_sizes(out: &mut Vec<u8>, found: u64, wanted: u64) -> Result<(), NoMemory
 }
 
 fn push_digests(out: &mut Vec<u8>, found: &[u8; 32], wanted: &[u8; 32]) -> Result<(), NoMemory>
-    ensures { OnOk result (out.new.items ≡ out.old.items ++ two_words (encode_lower found.now) (encode_lower wanted.now)) }
+    ensures { OnOk result (out.new.items ≡ out.old.items
+        ++ two_words (encode_lower found.now) (encode_lower wanted.now)) }
 {
     push_hex(out, found.as_slice())?;
     push_hex(out, wanted.as_slice())

@@ -58,8 +58,8 @@ impl Text {
         }
     }
 
-    /// This string as a text, walked once for its characters. Takes memory to share it, and copies nothing; none for the
-    /// empty one.
+    /// This string as a text, walked once for its characters. Takes memory to share it, and copies nothing; none for
+    /// the empty one.
     pub fn from_string(text: String) -> Result<Text, NoMemory>
         requires { length (string_bytes text) ≤ most_text_bytes }
         ensures { IfOk result (λ made. made ≡ chars (string_bytes text)) }

@@ -1,5 +1,5 @@
-//! Tests of texts, values, their bytes, operators, tables, pure calls, and of the outside in memory: what no clause says of
-//! them, by rows of text whose answers come from outside.
+//! Tests of texts, values, their bytes, operators, tables, pure calls, and of the outside in memory: what no clause
+//! says of them, by rows of text whose answers come from outside.
 #![tactic(auto)]
 
 #[cfg(test)]

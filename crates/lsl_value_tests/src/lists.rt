@@ -7,8 +7,8 @@ use lsl_value::{Items, MAX_ITEMS};
 use std::alloc::Global;
 use std::test::Fail;
 
-/// A list and its copy do these steps: `push` and `front` add an element, `copy` takes a copy, `append` puts it behind the
-/// list, and `keep` takes a copy for the end. All three are told.
+/// A list and its copy do these steps: `push` and `front` add an element, `copy` takes a copy, `append` puts it
+/// behind the list, and `keep` takes a copy for the end. All three are told.
 pub(crate) fn list(alloc: Global, steps: &str) -> Result<String, NoMemory> {
     let mut list = Items::new(alloc);
     let mut copied = Items::new(alloc);

@@ -1,5 +1,5 @@
-//! Values as words. A letter stands for the kind, and the value behind it: `I` an integer, `S` a string, `K` a key, `L` a
-//! list. A slash stands between a list's elements: `n` an integer, `t` a string, `y` a key.
+//! Values as words. A letter stands for the kind, and the value behind it: `I` an integer, `S` a string, `K` a key,
+//! `L` a list. A slash stands between a list's elements: `n` an integer, `t` a string, `y` a key.
 
 use lsl_text::NoMemory;
 use lsl_value::{Atom, Items, Kind, MAX_ITEMS, Text, Value, Values};
@@ -31,7 +31,8 @@ fn shown(meant: char) -> char {
     }
 }
 
-/// The characters that a word stands for. One that begins with `%` has so many letters `a`, and what stands behind a blank.
+/// The characters that a word stands for. One that begins with `%` has so many letters `a`, and what stands behind a
+/// blank.
 pub(crate) fn characters(alloc: Global, word: &str) -> Result<String, NoMemory> {
     match word.strip_prefix('%') {
         Some(letters) => repeated(alloc, letters),

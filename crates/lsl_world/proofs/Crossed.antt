@@ -501,7 +501,8 @@ module _ (codes : List Code) (r : Rules) (regions : List (List ℕ)) (few_region
 
           -- what is told of the others, from where this one leads
           module _ (on : as_value (λ s. s.world) (travel_from codes r regions steps d.behind (stage_by came))
-              ≡ reference r (kept_lossy (regions_of (told_by came).value) all steps d.behind) (told_by came).value) where
+              ≡ reference r (kept_lossy (regions_of (told_by came).value) all steps d.behind)
+              (told_by came).value) where
             next-kept : (c : Bool) (a : Told World)
                 → a ≡ reference r (kept_lossy (regions_of (told_by c).value) all steps d.behind) (told_by c).value
                 → lead (told_by c).entries a ≡ reference r (kept_so c) w

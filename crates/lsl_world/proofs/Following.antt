@@ -152,7 +152,8 @@ module _ (objects regions : ℕ) (Takes : Note → Type 0) (ranges : AreCounts o
       next-moves : Holding (handed ++ note ∷ []) (first_with way trip first back_of) next
       next-moves =
           let all = (trip-moves way trip parcel start has apart place rest (Contains handed) first m moves
-          (record { note = note; back = back_of }) asked (came-of back_of (heard-handed (handed ++ note ∷ []) bytes))).0 in
+          (record { note = note; back = back_of }) asked
+          (came-of back_of (heard-handed (handed ++ note ∷ []) bytes))).0 in
           record {
             long = all.long;
             others = all.others;

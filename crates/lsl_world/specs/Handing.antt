@@ -14,7 +14,8 @@ use Rattle.lsl_region.specs.ObjectParts.{parts_of_object}
 use Rattle.lsl_world.specs.Regions.{AreInNamed, LeadsToNamed, name_in}
 use Rattle.lsl_world.specs.declared.world.World.{World}
 
--- the parcel of an offer is an image of its object, written in the region from where it comes, and stands for these parts
+-- the parcel of an offer is an image of its object, written in the region from where it comes, and stands for these
+-- parts
 pub record IsImageFrom (codes : List Code) (grid : Contents) (regions : List (List ℕ)) (offer : Note)
     (parts : ObjectParts) : Type 0 where
   pub image : ObjectImage (name_in regions offer.from) (shape_of (parts_of_object grid (offer.object - 1))) codes parts

@@ -19,8 +19,8 @@ pub fn plain_runs_travel()
     ensures { PlainRunsTravel }
 {}
 
-/// A run in which objects are handed over by notes is the run of the steps without the crossings whose offer didn't come,
-/// or came behind its cancel, in which nothing is known of notes.
+/// A run in which objects are handed over by notes is the run of the steps without the crossings whose offer didn't
+/// come, or came behind its cancel, in which nothing is known of notes.
 pub fn lossy_runs_keep_steps()
     ensures { LossyRunsKeepSteps }
 {}

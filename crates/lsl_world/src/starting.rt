@@ -46,7 +46,8 @@ fn add_object(
 ) -> Result<(), NoMemory>
     requires few { length grid.old.objects < 64 }
     requires fits { IsObjectOf (length units.now) line.now }
-    requires room { length (grid.old.seats ++ seats_of_prims units.now (length grid.old.objects) 0 line.now.prims) ≤ 256 }
+    requires room { length
+        (grid.old.seats ++ seats_of_prims units.now (length grid.old.objects) 0 line.now.prims) ≤ 256 }
     requires seated { AreSeated units.now grid.old.seats }
     ensures objects { OnOk result (grid.new.objects ≡ grid.old.objects ++ object_of_line line.now ∷ []) }
     ensures seats { OnOk result (grid.new.seats

@@ -59,8 +59,8 @@ impl World {
             → AreInOrder self.old.regions old (regions_of w)
             → AreAllPast (length w.objects) (length self.old.regions) old entries
             → AreCarried (length w.objects) (length self.old.regions) entries trips
-            → Hands self.old.units (rules_of programs) (IsOf programs self.new) self.old.regions old new step.now w entries
-            trips out.old out.new result)) }
+            → Hands self.old.units (rules_of programs) (IsOf programs self.new) self.old.regions old new step.now
+            w entries trips out.old out.new result)) }
         ensures at { (trips : List Trip) × Went L.gives (L.trips link.old) (L.trips link.new) trips
             × ((programs : List Program) (stage : Stage) → IsAt programs self.old stage → IsFairFrom stage trips
             → DoesAt self.old.units (rules_of programs) self.old.regions (λ s. IsAt programs self.new s) step.now stage

@@ -37,9 +37,9 @@ use lsl_region::{Grid, Pause};
 use lsl_text::NoMemory;
 use std::alloc::Global;
 
-/// The reading of the clock, the objects of a world file, the units of its scripts' files, at which segments scripts are
-/// saved and restored, and when the timers that run are due; the regions that the file names, and where objects are
-/// handed over by notes the cards of all regions.
+/// The reading of the clock, the objects of a world file, the units of its scripts' files, at which segments scripts
+/// are saved and restored, and when the timers that run are due; the regions that the file names, and where objects
+/// are handed over by notes the cards of all regions.
 pub struct World {
     pub(crate) alloc: Global,
     pub(crate) clock: u64,
@@ -142,7 +142,8 @@ impl World {
     }
 
     /// How many times scripts were saved: at the end of each turn of at least one segment that left its script in
-    /// flight, and behind each pausing segment that left it in flight and ready. It stands still at the greatest number.
+    /// flight, and behind each pausing segment that left it in flight and ready. It stands still at the greatest
+    /// number.
     pub fn saves(&self) -> u64
         ensures { (t : Tally) → Counts self.now.pause t → result ≡ min t.saves most_saves }
     {

@@ -8,10 +8,10 @@ use lsl_text::NoMemory;
 use std::alloc::Global;
 use std::test::Fail;
 
-/// Each change: the image, and then the place, how many bytes are cut there, and the digits of what is put there, once or
-/// twice. What is told is the place of the fault, or another fault, or whether the image that is written then is the same
-/// (`back`), that of version 2 (`later`), or an `other` one. Digits behind `+` follow, those before `*N` so many times, and
-/// `listens=N` is a count of so many listens, and these. A line behind `#` is a remark.
+/// Each change: the image, and then the place, how many bytes are cut there, and the digits of what is put there,
+/// once or twice. What is told is the place of the fault, or another fault, or whether the image that is written then
+/// is the same (`back`), that of version 2 (`later`), or an `other` one. Digits behind `+` follow, those before `*N`
+/// so many times, and `listens=N` is a count of so many listens, and these. A line behind `#` is a remark.
 const CHANGES: &str = r"# objects and worlds as they are: their sizes, and whether they come back
 first -> 227 later
 second -> 238 back
@@ -315,7 +315,8 @@ pub(crate) fn told_of(
     }
 }
 
-/// What is told of an image that is changed, with its size and its digest mended. Of one that isn't, its size comes first.
+/// What is told of an image that is changed, with its size and its digest mended. Of one that isn't, its size comes
+/// first.
 fn told(alloc: Global, library: &Library, asked: &str) -> Result<String, NoMemory> {
     let (name, changes) = asked.split_once(' ').unwrap_or((asked, ""));
     let file = match name {

@@ -11,8 +11,8 @@ use lsl_text::NoMemory;
 use std::alloc::Global;
 use std::test::Fail;
 
-/// Tells what the handler of a touch asks for and how it ends, a line each, and gives how many ticks it passes. It is saved
-/// and restored `never`, `always`, or at the tick of this number.
+/// Tells what the handler of a touch asks for and how it ends, a line each, and gives how many ticks it passes. It is
+/// saved and restored `never`, `always`, or at the tick of this number.
 fn passed(alloc: Global, unit: &Woven, moves: &str, told: &mut String) -> Result<u32, NoMemory> {
     let Some((handler, begun)) = touched(alloc, unit)? else {
         return Ok(0);
@@ -96,8 +96,8 @@ default {
 state wide { touch_end(integer n) { llResetScript(); } }
 "#;
 
-/// What it says, worked by hand, and how many ticks it passes: the handler, four calls of twice, four of deep, one of shout and
-/// one of count; the loops go round 3, 4 and 4 times, and three jumps are taken; a sleep.
+/// What it says, worked by hand, and how many ticks it passes: the handler, four calls of twice, four of deep, one of
+/// shout and one of count; the loops go round 3, 4 and 4 times, and three jumps are taken; a sleep.
 const SAID: &str = "\
 x012!!!!14n\n\
 1, two, three, 0, 2, 1, a03\n\

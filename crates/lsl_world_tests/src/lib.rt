@@ -1,5 +1,5 @@
-//! Tests of woven code, machines, what waits for a script, scripts at rest and images: what no clause says of them, by rows of
-//! text whose answers come from outside.
+//! Tests of woven code, machines, what waits for a script, scripts at rest and images: what no clause says of them,
+//! by rows of text whose answers come from outside.
 #![tactic(auto)]
 
 #[cfg(test)]

@@ -11,8 +11,8 @@ use std::alloc::{AllocError, Global};
 use std::process::Abort;
 use std::test::Fail;
 
-/// Does what is asked: `add` a listen on a channel, `close` the listen of a number, or make it active by `open` and not by
-/// `shut`. The number of a listen, and 0 where there are too many or none is asked for.
+/// Does what is asked: `add` a listen on a channel, `close` the listen of a number, or make it active by `open` and
+/// not by `shut`. The number of a listen, and 0 where there are too many or none is asked for.
 fn asked(listens: &mut Listens, word: &str, number: i32) -> Result<i32, NoMemory> {
     match word {
         "add" => return add(listens, number),

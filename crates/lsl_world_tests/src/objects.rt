@@ -64,8 +64,8 @@ pub(crate) fn fault_told(alloc: Global, fault: ImageFault) -> Result<String, NoM
     }
 }
 
-/// The first script's limit, how many arguments its event has, how many frames there are, and the innermost one's function and
-/// point.
+/// The first script's limit, how many arguments its event has, how many frames there are, and the innermost one's
+/// function and point.
 fn calls_told(alloc: Global, parts: &ObjectParts) -> Result<String, NoMemory> {
     let mut told = String::new(alloc);
     if let Some(script) = parts.scripts.get(0)

@@ -8,14 +8,14 @@ use lsl_value::Values;
 use std::alloc::Global;
 use std::test::Fail;
 
-/// Two functions with a slot, each of which calls the first while an operand waits. Their first point is a tick with one
-/// integer, the second that call with two.
+/// Two functions with a slot, each of which calls the first while an operand waits. Their first point is a tick with
+/// one integer, the second that call with two.
 const CALLS: &str =
     "integer f(integer n) { return f(n) - 7; } integer g(integer n) { return f(n) - 7; } \
     default { touch_start(integer n) { } }";
 
-/// The limit, and a function, a point and values for each frame, the innermost first; what is wrong where function 0 is the
-/// handler, or `-`. A script is charged 1,024, a frame 32, and an integer 8.
+/// The limit, and a function, a point and values for each frame, the innermost first; what is wrong where function 0
+/// is the handler, or `-`. A script is charged 1,024, a frame 32, and an integer 8.
 const CASES: &str = r"# no frame
 1184: -> Frame(0)
 # one frame, with the greatest charge, and one more

@@ -28,8 +28,8 @@ pub(crate) fn moved(
     unparked(alloc, unit, handler, parked)
 }
 
-/// The values of each frame. Of more than nine frames it tells how many they are, how many values the first and the last have,
-/// and how many frames have two.
+/// The values of each frame. Of more than nine frames it tells how many they are, how many values the first and the
+/// last have, and how many frames have two.
 fn tell_frames(sack: &Sack, told: &mut String) -> Result<(), NoMemory> {
     let count = sack.len();
     if count < 10 {
@@ -50,8 +50,8 @@ fn with_two(sack: &Sack) -> u32 {
     count
 }
 
-/// Ticks that the handler of a touch passes, and how many instructions bring its frames back at most; the values of the frames
-/// there, the innermost first, and whether so few bring them back; and then the script.
+/// Ticks that the handler of a touch passes, and how many instructions bring its frames back at most; the values of
+/// the frames there, the innermost first, and whether so few bring them back; and then the script.
 const SAVED: &str = "\
 4 52 -> | 4 2 1 | 1 10, true\n\
 integer f(integer n) { integer i; integer s; for (i = 0; i < n; ++i) s += i; return s; } \
@@ -59,7 +59,8 @@ integer g(integer n) { return n * 10; } default { touch_start(integer n) { llOwn
 0 28 -> | 1, true\n\
 default { touch_start(integer n) { } }\n\n\
 3 72 -> | 0 | 1 7 | 2 7 | 1, true\n\
-integer f(integer n) { if (n == 0) return 5; return f(n - 1) - 7; } default { touch_start(integer n) { n = 9 - f(2); } }\n\n\
+integer f(integer n) { if (n == 0) return 5; return f(n - 1) - 7; } \
+default { touch_start(integer n) { n = 9 - f(2); } }\n\n\
 500 8024 -> 501 (1, 1) 499, true\n\
 integer d(integer n) { if (n == 0) return 0; return d(n - 1) + 1; } default { touch_start(integer t) { \
 llOwnerSay((string)d(500)); } }";

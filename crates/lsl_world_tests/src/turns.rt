@@ -36,7 +36,8 @@ pub(crate) fn plays(
 }
 
 /// The script after a step: `touches N` posts so many touches, `ring` a timer event, `go C` is one segment at this
-/// reading of the clock, `run C` segments at it while the script is ready, and `frames N` so many, with the frames then.
+/// reading of the clock, `run C` segments at it while the script is ready, and `frames N` so many, with the frames
+/// then.
 fn stepped(
     alloc: Global,
     unit: &Woven,
@@ -150,7 +151,8 @@ fn segments(
 }
 
 /// Tells a script's state, the one that it is leaving for, how many events wait, the number of its next listen and how
-/// many stand, its timer's period and due time, when it wakes, how it rests, and its first global if that is an integer.
+/// many stand, its timer's period and due time, when it wakes, how it rests, and its first global if that is an
+/// integer.
 fn tell_parts(script: &Script, told: &mut String) -> Result<(), NoMemory> {
     let parts = script.parts();
     write!(

@@ -8,8 +8,8 @@ use lsl_weave::weave_functions;
 use std::alloc::Global;
 use std::test::Fail;
 
-/// Each instruction, and how many operands a machine has before it while it runs, saves and restores, or `-` where it never
-/// stands there then.
+/// Each instruction, and how many operands a machine has before it while it runs, saves and restores, or `-` where it
+/// never stands there then.
 const WOVEN: &str = "\
 TestBack(13) 0 - 0\n\
 Tick(0) 0 - -\n\

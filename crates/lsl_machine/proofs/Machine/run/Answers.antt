@@ -43,7 +43,8 @@ pub returns-clause-chained : goal.returns-clause-chained
 returns-clause-chained c handler chain =
     let bodies = bodies_of c.args.unit.now in
     let old = subst (λ (s : State). IsChained bodies handler s) (sym c.self.view_is) chain in
-    subst (λ z. IsChainedAt bodies handler z (machine_of c.run_to_halt-halt.new.self)) (sym c.standing_at-self-inside.ensures)
+    subst (λ z. IsChainedAt bodies handler z (machine_of c.run_to_halt-halt.new.self))
+    (sym c.standing_at-self-inside.ensures)
     (c.run_to_halt-halt.ensures.chained handler old)
 
 pub returns-clause-of : goal.returns-clause-of
