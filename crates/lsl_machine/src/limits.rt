@@ -6,6 +6,7 @@ ghost use Rattle.lsl_machine.specs.Reservations.{KeepsRoom, Spares};
 ghost use Rattle.lsl_machine.specs.Steps.{Able, Performs};
 ghost use Rattle.std.specs.Prelude.{List};
 
+use crate::operands::drop_value;
 use crate::operating::{integer, number};
 use crate::running::{Running, Step};
 use lsl_running::granted_limit;
@@ -23,8 +24,10 @@ impl Running {
         let Some(value) = self.pop() else {
             return Step::Lost;
         };
+        let asked = integer(&value);
+        drop_value(value);
         let charge = self.active.charge + self.global_charge;
-        match granted_limit(integer(&value), charge) {
+        match granted_limit(asked, charge) {
             Some(limit) => {
                 self.limit = limit;
                 self.give(Value::Int(1))

@@ -5,17 +5,17 @@ use Rattle.lsl_machine.proofs.running.Running.jump_if.Goals as goal
 
 pub returns-clause-done : goal.returns-clause-done
 returns-clause-done c bodies g f place sl ops outer h =
-    let a = c.truth.ensures in
-    let b = c.if-truth.false in
+    let a = c.truth-holds.ensures in
+    let b = c.if-holds.false in
     let e : false ≡ truth_of c.in-Some.value = cc in
     with_top g f place sl ops outer _ _ _ _ _ (c.in-Some.ensures.popped g f place sl ops outer h)
     (λ rest k. branch_false (truth_of c.in-Some.value) _ _ g f place sl outer _ _ e
     (c.fall_through.ensures.done g f place sl rest outer k))
 
-pub returns-then-truth-clause-done : goal.returns-then-truth-clause-done
-returns-then-truth-clause-done c bodies g f place sl ops outer h =
-    let a = c.truth.ensures in
-    let b = c.if-truth.true in
+pub returns-then-holds-clause-done : goal.returns-then-holds-clause-done
+returns-then-holds-clause-done c bodies g f place sl ops outer h =
+    let a = c.truth-holds.ensures in
+    let b = c.if-holds.true in
     let e : true ≡ truth_of c.in-Some.value = cc in
     with_top g f place sl ops outer _ _ _ _ _ (c.in-Some.ensures.popped g f place sl ops outer h)
     (λ rest k. branch_true (truth_of c.in-Some.value) _ _ g f place sl outer _ _ e

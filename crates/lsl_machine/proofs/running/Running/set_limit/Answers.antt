@@ -19,8 +19,8 @@ give-requires-clause-held c =
     let k = c.in-Some.ensures.held in
     let r = c.pop.new.self in
     let limit = c.in-Some-granted_limit.limit in
-    let asked = to_z-of_z w32 c.integer.result (search rules) in
-    let told = granted_told c.integer.result (r.active.charge + r.global_charge) limit
+    let asked = to_z-of_z w32 c.integer-asked.result (search rules) in
+    let told = granted_told c.integer-asked.result (r.active.charge + r.global_charge) limit
     (ap (λ n. granted n (r.active.charge + r.global_charge)) (sym asked) ∙ sym c.in-Some-granted_limit.ensures) in
     let room : r.active.charge + r.global_charge + 8 ≤ limit = told.0 in
     let enough : r.active.charge + r.global_charge ≤ limit = omega arith in (
@@ -38,31 +38,31 @@ returns-in-Some-granted_limit-clause-done c bodies g f place sl ops outer h =
     let r = c.pop.new.self in
     let q = c.give.new.self in
     let limit = c.in-Some-granted_limit.limit in
-    let asked = to_z-of_z w32 c.integer.result (search rules) in
-    let got : granted c.integer.result (r.active.charge + r.global_charge) ≡ Some limit =
+    let asked = to_z-of_z w32 c.integer-asked.result (search rules) in
+    let got : granted c.integer-asked.result (r.active.charge + r.global_charge) ≡ Some limit =
     ap (λ n. granted n (r.active.charge + r.global_charge)) (sym asked) ∙ sym c.in-Some-granted_limit.ensures in
-    let told = granted_told c.integer.result (r.active.charge + r.global_charge) limit got in
+    let told = granted_told c.integer-asked.result (r.active.charge + r.global_charge) limit got in
     let room : r.active.charge + r.global_charge + 8 ≤ limit = told.0 in
     let enough : r.active.charge + r.global_charge ≤ limit = omega arith in
     with_top g f place sl ops outer _ _ _ _ _ (c.in-Some.ensures.popped g f place sl ops outer h)
     (λ rest k. subst (λ n. Does (gives_limit (granted n (used (hold_all (base outer) rest) sl g)) (base outer) sl
-    rest g) g f place sl outer c.give.result q) c.integer.ensures
-    (asked_limit r q g f place sl rest outer c.give.result c.integer.result (Some limit) k got
+    rest g) g f place sl outer c.give.result q) c.integer-asked.ensures
+    (asked_limit r q g f place sl rest outer c.give.result c.integer-asked.result (Some limit) k got
     (gives_same (record g { limit = limit }) g f place sl sl (grant_value (Some limit) ∷ rest) outer c.give.result q
     (c.give.ensures.done (record g { limit = limit }) f place sl rest outer
     (limited r g f place limit sl rest outer k enough told.1)))))
 
-pub returns-clause-done : goal.returns-clause-done
-returns-clause-done c bodies g f place sl ops outer h =
+pub returns-in-None-clause-done : goal.returns-in-None-clause-done
+returns-in-None-clause-done c bodies g f place sl ops outer h =
     let r = c.pop.new.self in
     let q = c.give-in-None.new.self in
-    let asked = to_z-of_z w32 c.integer.result (search rules) in
-    let got : granted c.integer.result (r.active.charge + r.global_charge) ≡ None =
+    let asked = to_z-of_z w32 c.integer-asked.result (search rules) in
+    let got : granted c.integer-asked.result (r.active.charge + r.global_charge) ≡ None =
     ap (λ n. granted n (r.active.charge + r.global_charge)) (sym asked) ∙ sym c.in-None.ensures in
     with_top g f place sl ops outer _ _ _ _ _ (c.in-Some.ensures.popped g f place sl ops outer h)
     (λ rest k. subst (λ n. Does (gives_limit (granted n (used (hold_all (base outer) rest) sl g)) (base outer) sl
-    rest g) g f place sl outer c.give-in-None.result q) c.integer.ensures
-    (asked_limit r q g f place sl rest outer c.give-in-None.result c.integer.result None k got
+    rest g) g f place sl outer c.give-in-None.result q) c.integer-asked.ensures
+    (asked_limit r q g f place sl rest outer c.give-in-None.result c.integer-asked.result None k got
     (c.give-in-None.ensures.done g f place sl rest outer k)))
 
 pub returns-in_default-clause-done : goal.returns-in_default-clause-done
