@@ -1,8 +1,8 @@
 // The heap of the module. No proof covers it.
 //
 // A block has a header of 16 bytes, which holds its class; every block is aligned to 16. Classes are 16 bytes apart up
-// to 1024, and from there on four to each doubling. A block that is given back is kept for its class. New blocks are cut
-// from pages that the memory grew by, one behind the other. Pages that somebody else grew are never touched.
+// to 1024, and from there on four to each doubling. A block that is given back is kept for its class. New blocks are
+// cut from pages that the memory grew by, one behind the other. Pages that somebody else grew are never touched.
 
 typedef unsigned long long u64;
 typedef unsigned char byte;

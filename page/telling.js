@@ -60,7 +60,7 @@ export class Names {
     if (!this.keys.has(key.toLowerCase())) this.keys.set(key.toLowerCase(), name);
   }
 
-  // For the line of each crossing the region that the object is to leave, and for each object where it is to be at last.
+  // For the line of each crossing the region that the object is to leave, and for each object where it is to end.
   followCrossings() {
     this.ways = new Map();
     this.homes = new Map(this.world.objects.map((it, at) => [at + 1, it.region]));

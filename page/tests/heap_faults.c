@@ -1,4 +1,5 @@
-// Takes, moves and gives blocks of the heap at random, beside pages that somebody else grows, and counts what went wrong.
+// Takes, moves and gives blocks of the heap at random, beside pages that somebody else grows, and counts what went
+// wrong.
 #include "../heap.c"
 
 #define BLOCKS 400
