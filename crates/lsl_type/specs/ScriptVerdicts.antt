@@ -7,7 +7,7 @@ use Rattle.lsl_tree.specs.Statements.{Items}
 use Rattle.lsl_tree.specs.Statements.{Items}
 use Rattle.lsl_tree.specs.Scripts as source
 use Rattle.lsl_tree.specs.Scripts.{Header, State, Tree}
-use Rattle.lsl_tree.specs.Program.{NamedRoutine, EventRoutine, ProgramState, Program}
+use Rattle.lsl_tree.specs.Program.{Initial, NamedRoutine, EventRoutine, ProgramState, Program}
 use Rattle.lsl_bodies.specs.declared.faults.TypeKind.TheVariants.{WrongHandler}
 use Rattle.lsl_bodies.specs.declared.frame.Home.TheVariants.{Handler, Function}
 use Rattle.lsl_bodies.specs.Scope.{ScopeView, spelled}
@@ -54,13 +54,23 @@ state_body_verdict known s before st = do
   routine ← program_state_verdict known s st
   Ok (before ++ routine ∷ [])
 
-abbrev pub bodies_verdict : HeadersView → List (List ℕ) → Tree → Verdict Program
-bodies_verdict headers states tree = do
-  functions ← each_verdict (function_body_verdict (known_from headers states) headers.scope) [] tree.headers
-  start ← each_verdict (handler_body_verdict (known_from headers states) headers.scope) [] tree.default
-  all ← each_verdict (state_body_verdict (known_from headers states) headers.scope)
+-- the program, once its globals and functions are known
+abbrev pub states_verdict : KnownView → ScopeView → List Initial → List NamedRoutine → Tree → Verdict Program
+states_verdict known s globals functions tree = do
+  start ← each_verdict (handler_body_verdict known s) [] tree.default
+  all ← each_verdict (state_body_verdict known s)
       (record { name = default_name; handlers = start } ∷ []) tree.states
-  Ok (record { globals = headers.globals; functions = functions; states = all })
+  Ok (record { globals = globals; functions = functions; states = all })
+
+-- the program, once its globals are known
+abbrev pub routines_verdict : KnownView → ScopeView → List Initial → Tree → Verdict Program
+routines_verdict known s globals tree = do
+  functions ← each_verdict (function_body_verdict known s) [] tree.headers
+  states_verdict known s globals functions tree
+
+abbrev pub bodies_verdict : HeadersView → List (List ℕ) → Tree → Verdict Program
+bodies_verdict headers states tree =
+    routines_verdict (known_from headers states) headers.scope headers.globals tree
 
 abbrev pub script_verdict : Tree → Verdict Program
 script_verdict tree = do
