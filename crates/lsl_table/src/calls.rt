@@ -1,6 +1,6 @@
 //! Built-in calls: one line for each, with its kinds and where it is done.
 
-ghost use Rattle.std.specs.Prelude.{◌≡◌};
+ghost use Rattle.std.specs.Prelude.{◌≡◌, ◌≤◌, length};
 ghost use Rattle.lsl_value.specs.declared.names.BuiltinId.{BuiltinId as Id};
 ghost use Rattle.lsl_table.specs.Calls.{builtin_named, name_of, row_of};
 ghost use Rattle.lsl_table.specs.Names.{Finds};
@@ -124,15 +124,34 @@ macro_rules! result {
     ($kind:ident) => { Some(Kind::$kind) };
 }
 
-macro_rules! match_row {
+macro_rules! match_name {
     ([$id:ident] $($variant:ident $name:literal $home:ident ($($kind:ident),*) $($result:ident)?;)*) => {
         match $id {
-            $(BuiltinId::$variant => Row {
-                name: $name,
-                params: Kinds::new(&[$(Kind::$kind),*]),
-                result: result!($($result)?),
-                home: Home::$home,
-            },)*
+            $(BuiltinId::$variant => $name,)*
+        }
+    };
+}
+
+macro_rules! match_params {
+    ([$id:ident] $($variant:ident $name:literal $home:ident ($($kind:ident),*) $($result:ident)?;)*) => {
+        match $id {
+            $(BuiltinId::$variant => &[$(Kind::$kind),*],)*
+        }
+    };
+}
+
+macro_rules! match_result {
+    ([$id:ident] $($variant:ident $name:literal $home:ident ($($kind:ident),*) $($result:ident)?;)*) => {
+        match $id {
+            $(BuiltinId::$variant => result!($($result)?),)*
+        }
+    };
+}
+
+macro_rules! match_home {
+    ([$id:ident] $($variant:ident $name:literal $home:ident ($($kind:ident),*) $($result:ident)?;)*) => {
+        match $id {
+            $(BuiltinId::$variant => Home::$home,)*
         }
     };
 }
@@ -165,9 +184,42 @@ impl BuiltinRow for BuiltinId {
         ensures result_kind { result.result ≡ (row_of self).result }
         ensures home { result.home ≡ (row_of self).home }
     {
-        let id = self;
-        builtins!(match_row id)
+        Row {
+            name: call_name(self),
+            params: Kinds::new(call_params(self)),
+            result: call_result(self),
+            home: call_home(self),
+        }
     }
+}
+
+#[inline(always)]
+fn call_name(id: BuiltinId) -> &'static str
+    ensures { result.now ≡ name_of id }
+{
+    builtins!(match_name id)
+}
+
+#[inline(always)]
+fn call_params(id: BuiltinId) -> &'static [Kind]
+    ensures value { result.now ≡ (row_of id).params }
+    ensures within { length result.now ≤ 4 }
+{
+    builtins!(match_params id)
+}
+
+#[inline(always)]
+fn call_result(id: BuiltinId) -> Option<Kind>
+    ensures { result ≡ (row_of id).result }
+{
+    builtins!(match_result id)
+}
+
+#[inline(always)]
+fn call_home(id: BuiltinId) -> Home
+    ensures { result ≡ (row_of id).home }
+{
+    builtins!(match_home id)
 }
 
 /// The calls by their names' hashes, as computed by `tools/name_slots.py`.
