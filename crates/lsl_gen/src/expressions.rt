@@ -80,39 +80,19 @@ fn emit_builtin(draft: &mut Draft, id: BuiltinId, line: u32) -> Result<(), NoMem
     ensures { OnOk result (draft.new ≡ draft.old ++ builtin_code (call_form id) id line) }
 {
     match id.row().home {
-        Home::Pure => {
-            draft.push(Instr::Pure(id))?;
-            Ok(())
-        }
-        Home::UsedMemory => {
-            draft.push(Instr::Used)?;
-            Ok(())
-        }
-        Home::FreeMemory => {
-            draft.push(Instr::Free)?;
-            Ok(())
-        }
-        Home::SetLimit => {
-            draft.push(Instr::SetLimit)?;
-            Ok(())
-        }
-        Home::GetLimit => {
-            draft.push(Instr::GetLimit)?;
-            Ok(())
-        }
-        Home::Query | Home::Mail | Home::Act | Home::Store | Home::Note => {
-            draft.push(Instr::Host(id))?;
-            Ok(())
-        }
+        Home::Pure => draft.push(Instr::Pure(id)),
+        Home::UsedMemory => draft.push(Instr::Used),
+        Home::FreeMemory => draft.push(Instr::Free),
+        Home::SetLimit => draft.push(Instr::SetLimit),
+        Home::GetLimit => draft.push(Instr::GetLimit),
+        Home::Query | Home::Mail | Home::Act | Home::Store | Home::Note => draft.push(Instr::Host(
+            id,
+        )),
         Home::Sleep => {
             draft.push(Instr::Host(id))?;
-            draft.push_tick(line)?;
-            Ok(())
+            draft.push_tick(line)
         }
-        Home::Reset => {
-            draft.push(Instr::Reset)?;
-            Ok(())
-        }
+        Home::Reset => draft.push(Instr::Reset),
     }
 }
 
@@ -123,13 +103,9 @@ fn emit_call(draft: &mut Draft, callee: Callee, line: u32) -> Result<(), NoMemor
     match callee {
         Callee::Function(n) => {
             let n = to_u16(n)?;
-            draft.push_call(n, line)?;
-            Ok(())
+            draft.push_call(n, line)
         }
-        Callee::Builtin(id) => {
-            emit_builtin(draft, id, line)?;
-            Ok(())
-        }
+        Callee::Builtin(id) => emit_builtin(draft, id, line),
     }
 }
 
@@ -142,8 +118,7 @@ fn emit_step(draft: &mut Draft, place: Place, op: StepOp) -> Result<(), NoMemory
     draft.push(load(place)?)?;
     draft.push(Instr::Binary(operator(op)))?;
     draft.push(store(place)?)?;
-    draft.push(Instr::Drop)?;
-    Ok(())
+    draft.push(Instr::Drop)
 }
 
 /// Adds the code of an expression.
@@ -152,23 +127,13 @@ pub fn emit_value(alloc: Global, draft: &mut Draft, node: &Node) -> Result<(), N
     ensures { OnOk result (draft.new ≡ draft.old ++ value_code (node_of node.now)) }
 {
     match node {
-        Node::Int { value } => {
-            draft.push(Instr::Int(*value))?;
-            Ok(())
-        }
+        Node::Int { value } => draft.push(Instr::Int(*value)),
         Node::Str { text } => {
             let text = copy_text(text)?;
-            draft.push(Instr::Str(text))?;
-            Ok(())
+            draft.push(Instr::Str(text))
         }
-        Node::Constant { id, .. } => {
-            draft.push(literal(alloc, *id)?)?;
-            Ok(())
-        }
-        Node::Variable { place, .. } => {
-            draft.push(load(*place)?)?;
-            Ok(())
-        }
+        Node::Constant { id, .. } => draft.push(literal(alloc, *id)?),
+        Node::Variable { place, .. } => draft.push(load(*place)?),
         Node::Call {
             callee,
             line,
@@ -187,13 +152,11 @@ pub fn emit_value(alloc: Global, draft: &mut Draft, node: &Node) -> Result<(), N
         }
         Node::Cast { kind, operand } => {
             emit_value(alloc, draft, operand)?;
-            draft.push(Instr::Cast(*kind))?;
-            Ok(())
+            draft.push(Instr::Cast(*kind))
         }
         Node::Unary { op, operand } => {
             emit_value(alloc, draft, operand)?;
-            draft.push(Instr::Unary(*op))?;
-            Ok(())
+            draft.push(Instr::Unary(*op))
         }
         Node::Binary {
             op,
@@ -203,18 +166,13 @@ pub fn emit_value(alloc: Global, draft: &mut Draft, node: &Node) -> Result<(), N
         } => {
             emit_value(alloc, draft, right)?;
             emit_value(alloc, draft, left)?;
-            draft.push(Instr::Binary(*op))?;
-            Ok(())
+            draft.push(Instr::Binary(*op))
         }
         Node::Assign { place, value, .. } => {
             emit_value(alloc, draft, value)?;
-            draft.push(store(*place)?)?;
-            Ok(())
+            draft.push(store(*place)?)
         }
-        Node::StepBehind { place, op } => {
-            emit_step(draft, *place, *op)?;
-            Ok(())
-        }
+        Node::StepBehind { place, op } => emit_step(draft, *place, *op),
     }
 }
 
@@ -236,8 +194,7 @@ pub fn emit_effect(alloc: Global, draft: &mut Draft, effect: &Effect) -> Result<
     match effect {
         Effect::Value { node } => {
             emit_value(alloc, draft, node)?;
-            draft.push(Instr::Drop)?;
-            Ok(())
+            draft.push(Instr::Drop)
         }
         Effect::Call {
             callee,
@@ -245,8 +202,7 @@ pub fn emit_effect(alloc: Global, draft: &mut Draft, effect: &Effect) -> Result<
             arguments,
         } => {
             emit_values(alloc, draft, arguments)?;
-            emit_call(draft, *callee, *line)?;
-            Ok(())
+            emit_call(draft, *callee, *line)
         }
     }
 }

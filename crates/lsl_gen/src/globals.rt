@@ -125,8 +125,7 @@ fn push_atoms(items: &mut Items, value: Value) -> Result<(), NoMemory>
             if other.len() > MAX_ITEMS - items.len() {
                 return Err(AllocError);
             }
-            items.append(other)?;
-            Ok(())
+            items.append(other)
         }
     }
 }
@@ -138,6 +137,5 @@ fn push_atom(items: &mut Items, atom: Atom) -> Result<(), NoMemory>
     if items.is_full() {
         return Err(AllocError);
     }
-    items.push(atom)?;
-    Ok(())
+    items.push(atom)
 }

@@ -38,19 +38,10 @@ pub fn emit_action(
             emit_block(alloc, draft, jumps, actions)?;
             Ok(())
         }
-        Action::Effect { effect } => {
-            emit_effect(alloc, draft, effect)?;
-            Ok(())
-        }
-        Action::Declare { slot, value } => {
-            emit_declaration(alloc, draft, *slot, value)?;
-            Ok(())
-        }
+        Action::Effect { effect } => emit_effect(alloc, draft, effect),
+        Action::Declare { slot, value } => emit_declaration(alloc, draft, *slot, value),
         Action::Label { .. } => Ok(()),
-        Action::If { test, then } => {
-            emit_if(alloc, draft, jumps, then, test)?;
-            Ok(())
-        }
+        Action::If { test, then } => emit_if(alloc, draft, jumps, then, test),
         Action::IfElse {
             test,
             then,
@@ -66,31 +57,17 @@ pub fn emit_action(
             test,
             steps,
             body,
-        } => {
-            emit_loop(alloc, draft, jumps, *line, body, test, steps)?;
-            Ok(())
-        }
-        Action::Do { line, body, test } => {
-            emit_do(alloc, draft, jumps, *line, body, test)?;
-            Ok(())
-        }
-        Action::Jump { line, label } => {
-            emit_jump(draft, jumps, *line, *label)?;
-            Ok(())
-        }
-        Action::Return => {
-            draft.push(Instr::Return)?;
-            Ok(())
-        }
+        } => emit_loop(alloc, draft, jumps, *line, body, test, steps),
+        Action::Do { line, body, test } => emit_do(alloc, draft, jumps, *line, body, test),
+        Action::Jump { line, label } => emit_jump(draft, jumps, *line, *label),
+        Action::Return => draft.push(Instr::Return),
         Action::ReturnValue { value } => {
             emit_value(alloc, draft, value)?;
-            draft.push(Instr::ReturnValue)?;
-            Ok(())
+            draft.push(Instr::ReturnValue)
         }
         Action::State { state } => {
             let state = to_u16(*state)?;
-            draft.push(Instr::GoState(state))?;
-            Ok(())
+            draft.push(Instr::GoState(state))
         }
     }
 }
@@ -107,8 +84,7 @@ fn emit_declaration(
 {
     emit_value(alloc, draft, value)?;
     let slot = to_u16(slot)?;
-    draft.push(Instr::Set(slot))?;
-    Ok(())
+    draft.push(Instr::Set(slot))
 }
 
 // Adds the code of a test, and a jump where it fails, whose place is the result. Its target isn't known yet.
