@@ -83,19 +83,51 @@ fn shapes_of(
     let mut stack = KindStack::new(alloc);
     let mut points = Sequence::new(alloc);
     let mut stacks = Sequence::new(alloc);
-    let mut most = 0;
-    for instr in code {
-        add_point(alloc, names, slots, instr, &stack, &mut points)?;
-        most = most.max(stack.len());
-        stacks.push(stack.listed(alloc)?)?;
-        step(names, slots, gives, instr, &mut stack)?;
-    }
-    let most = short_count(most)?;
+    let most = pass_over(
+        alloc,
+        names,
+        slots,
+        gives,
+        code,
+        &mut stack,
+        &mut points,
+        &mut stacks,
+    )?;
     Ok(Shapes {
         points,
         stacks,
         most,
     })
+}
+
+// The pass, which is lent what is to be found, so that it owns nothing where memory runs out. It gives the greatest
+// count of operands.
+fn pass_over(
+    alloc: Global,
+    names: &Names,
+    slots: &Sequence<Kind>,
+    gives: Option<Kind>,
+    code: &[Instr],
+    stack: &mut KindStack,
+    points: &mut Sequence<Point>,
+    stacks: &mut Sequence<Sequence<Kind>>,
+) -> Result<u32, NoMemory>
+    requires goes { IsTrue (is_some (runs (scope names.now slots.now gives) code.now [])) }
+    requires stack { stack.old ≡ [] }
+    requires points { points.old ≡ [] }
+    requires stacks { stacks.old ≡ [] }
+    ensures points { OnOk result (points.new ≡ maps (scope names.now slots.now gives) code.now []) }
+    ensures stacks { OnOk result (stacks.new ≡ scan (scope names.now slots.now gives) code.now []) }
+    ensures most { IfOk result (λ most. most ≡ most_of (scan (scope names.now slots.now gives) code.now [])) }
+{
+    let mut most = 0;
+    for instr in code {
+        add_point(alloc, names, slots, instr, stack, points)?;
+        most = most.max(stack.len());
+        stacks.push(stack.listed(alloc)?)?;
+        step(names, slots, gives, instr, stack)?;
+    }
+    short_count(most)
 }
 
 // Adds the point of an instruction, if it has one.

@@ -1,7 +1,7 @@
 use Rattle.std.proofs.Common.{drop}
 use Rattle.lsl_code.specs.Kinds.{scope}
 use Rattle.lsl_code.proofs.Passes.{Passed}
-use Rattle.lsl_code.proofs.finishing.shapes_of.Given as goal
+use Rattle.lsl_code.proofs.finishing.pass_over.Given as goal
 
 abbrev pub invariant-loop-instr : goal.invariant-loop-instr
 invariant-loop-instr l =

@@ -1,7 +1,7 @@
 use Rattle.std.proofs.Common.{rules, ◌≡◌, ◌<◌, length, arith}
 use Rattle.std.specs.Prelude.{max}
 use Rattle.lsl_code.proofs.Passes.{can_step, front, pass_step}
-use Rattle.lsl_code.proofs.finishing.shapes_of.Goals as goal
+use Rattle.lsl_code.proofs.finishing.pass_over.Goals as goal
 
 pub step-requires : goal.step-requires
 step-requires c =
