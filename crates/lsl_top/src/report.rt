@@ -61,6 +61,33 @@ fn write_part<K: Sink, L: Link>(
     Ok(left)
 }
 
+/// The same of a step that is left, which is dropped here.
+fn write_rest<K: Sink, L: Link>(
+    world: &mut World,
+    step: Step,
+    entries: &mut Entries,
+    lines: &mut Vec<u8>,
+    sink: &mut K,
+    link: &mut L,
+) -> Result<Option<Step>, Trouble>
+    requires sound { IsSound world.old }
+    requires step { IsStepOf (size_of world.old) step }
+    requires carded { AreCarded world.old }
+    requires named { CanHand world.old step }
+    ensures goes { GoesPart L.gives world.old.units world.old.regions world.old world.new step
+        (log (K.sunk sink.old) (K.faults sink.old)) (log (K.sunk sink.new) (K.faults sink.new))
+        (wire (L.trips link.old) (L.faults link.old)) (wire (L.trips link.new) (L.faults link.new)) result }
+    ensures rest { IfOk result (λ left. IfSome left (λ rest. IsRestOf step rest)) }
+    ensures units { world.new.units ≡ world.old.units }
+    ensures size { OnOk result (size_of world.new ≡ size_of world.old) }
+    ensures sound { OnOk result (IsSound world.new) }
+    ensures plain { world.old.cards ≡ None → world.new.cards ≡ None }
+    ensures carded { OnOk result (AreCarded world.new) }
+    ensures regions { world.new.regions ≡ world.old.regions }
+{
+    write_part(world, &step, entries, lines, sink, link)
+}
+
 /// Does a step, and writes the lines of each part of it before the next part. `entries` and `lines` are the room in
 /// which they are made.
 fn write_step<K: Sink, L: Link>(
@@ -88,7 +115,7 @@ fn write_step<K: Sink, L: Link>(
 {
     let mut left = write_part(world, step, entries, lines, sink, link)?;
     'parts: while let Some(rest) = left.take() {
-        left = write_part(world, &rest, entries, lines, sink, link)?;
+        left = write_rest(world, rest, entries, lines, sink, link)?;
     }
     Ok(())
 }

@@ -9,14 +9,14 @@ use Rattle.lsl_top.proofs.Goings.{goes-none, goes-of, goes-units}
 use Rattle.lsl_top.proofs.Parts.{is-rest, parts_left, rest-fewer, rests-more}
 use Rattle.lsl_top.proofs.report.write_step.Goals as goal
 
-pub write_part-requires-in-Some-clause-step : goal.write_part-requires-in-Some-clause-step
-write_part-requires-in-Some-clause-step g c =
+pub write_rest-requires-clause-step : goal.write_rest-requires-clause-step
+write_rest-requires-clause-step g c =
     let is = is-rest c.args.step.now c.in-Some.rest c.parts.left c.in-Some.ensures.value c.parts.invariant.rest in
     subst (λ (size : Size). IsStepOf size c.in-Some.rest) (sym c.parts.invariant.size)
     (rest-step (size_of c.args.world.now) c.args.step.now c.in-Some.rest is c.requires.step)
 
-pub write_part-requires-in-Some-clause-named : goal.write_part-requires-in-Some-clause-named
-write_part-requires-in-Some-clause-named g c =
+pub write_rest-requires-clause-named : goal.write_rest-requires-clause-named
+write_rest-requires-clause-named g c =
     rest-hands c.parts.world c.args.step.now c.in-Some.rest
     (is-rest c.args.step.now c.in-Some.rest c.parts.left c.in-Some.ensures.value c.parts.invariant.rest)
 
@@ -24,7 +24,7 @@ pub returns-in_err-left-2-clause-goes : goal.returns-in_err-left-2-clause-goes
 returns-in_err-left-2-clause-goes g c =
     let p = err_from_is_err_and c.from_residual-in_err-left-2.result c.from_residual-in_err-left-2.ensures.1 in
     rw (p.1, p.2)
-    (c.parts.invariant.goes c.write_part-in-Some.new.world _ _ _
+    (c.parts.invariant.goes c.write_rest.new.world _ _ _
     (goes-of g.L.Link.gives c.args.world.now.units c.args.world.now.regions (c.in-Some.rest ∷ [])
     (steps_left c.parts.left) _ _ _ _ _ _ _ (ap steps_left c.in-Some.ensures.value)
     (goes-units g.L.Link.gives c.parts.world.units c.args.world.now.units c.parts.world.regions
@@ -37,11 +37,11 @@ parts-preserved g c =
     let is = is-rest c.args.step.now c.in-Some.rest c.parts.left c.in-Some.ensures.value inv.rest in
     record {
       sound = c.in_ok-left-2.ensures.sound;
-      units = c.write_part-in-Some.ensures.units ∙ inv.units;
+      units = c.write_rest.ensures.units ∙ inv.units;
       size = c.in_ok-left-2.ensures.size ∙ inv.size;
       carded = c.in_ok-left-2.ensures.carded;
-      regions = c.write_part-in-Some.ensures.regions ∙ inv.regions;
-      still = λ none. c.write_part-in-Some.ensures.plain (inv.still none);
+      regions = c.write_rest.ensures.regions ∙ inv.regions;
+      still = λ none. c.write_rest.ensures.plain (inv.still none);
       rest = rests-more c.args.step.now c.in-Some.rest c.in_ok-left-2.left is c.in_ok-left-2.ensures.rest;
       goes = λ last end done r others.
           inv.goes last end done r
