@@ -1,6 +1,6 @@
 //! A good file, and all that it says.
 
-use lsl_lines::{Step, WorldFile, read_world};
+use lsl_lines::{ObjectLine, PrimLine, Step, WorldFile, read_world};
 use std::alloc::{AllocError, Global};
 use std::test::Fail;
 
@@ -51,38 +51,50 @@ run 0
 // What a file says, a line for each thing.
 fn told(alloc: Global, file: &WorldFile) -> Result<String, AllocError> {
     let mut out = String::new(alloc);
-    for object in file.objects.as_slice() {
-        let line = format!(in alloc;
-            "object {} {}\n",
-            object.owner.as_str(),
-            object.region.as_str()
-        )?;
-        out.push_str(line.as_str())?;
-        for prim in object.prims.as_slice() {
-            let line = format!(in alloc; "prim {} {}\n", prim.key.as_str(), prim.name.as_str())?;
-            out.push_str(line.as_str())?;
-            for script in prim.scripts.as_slice() {
-                let line = format!(in alloc; "script {} {}\n", script.name.as_str(), script.file)?;
-                out.push_str(line.as_str())?;
-            }
-        }
-    }
-    for name in file.files.as_slice() {
-        let line = format!(in alloc; "file {}\n", name.as_str())?;
-        out.push_str(line.as_str())?;
-    }
-    for step in file.steps.as_slice() {
-        let line = told_step(alloc, step)?;
-        out.push_str(line.as_str())?;
-    }
+    tell_file(&mut out, file)?;
     Ok(out)
 }
 
-fn told_step(alloc: Global, step: &Step) -> Result<String, AllocError> {
+fn tell_file(out: &mut String, file: &WorldFile) -> Result<(), AllocError> {
+    for object in file.objects.as_slice() {
+        tell_object(out, object)?;
+    }
+    for name in file.files.as_slice() {
+        write!(out, "file {}\n", name.as_str())?;
+    }
+    for step in file.steps.as_slice() {
+        tell_step(out, step)?;
+    }
+    Ok(())
+}
+
+fn tell_object(out: &mut String, object: &ObjectLine) -> Result<(), AllocError> {
+    write!(
+        out,
+        "object {} {}\n",
+        object.owner.as_str(),
+        object.region.as_str()
+    )?;
+    for prim in object.prims.as_slice() {
+        tell_prim(out, prim)?;
+    }
+    Ok(())
+}
+
+fn tell_prim(out: &mut String, prim: &PrimLine) -> Result<(), AllocError> {
+    write!(out, "prim {} {}\n", prim.key.as_str(), prim.name.as_str())?;
+    for script in prim.scripts.as_slice() {
+        write!(out, "script {} {}\n", script.name.as_str(), script.file)?;
+    }
+    Ok(())
+}
+
+fn tell_step(out: &mut String, step: &Step) -> Result<(), AllocError> {
     match step {
-        Step::Clock(time) => format!(in alloc; "clock {time}\n"),
+        Step::Clock(time) => write!(out, "clock {time}\n"),
         Step::Say(channel, name, key, text) => {
-            format!(in alloc;
+            write!(
+                out,
                 "say {channel} {} {} {}\n",
                 name.as_str(),
                 key.as_str(),
@@ -90,18 +102,19 @@ fn told_step(alloc: Global, step: &Step) -> Result<String, AllocError> {
             )
         }
         Step::Touch(object, link, key, name) => {
-            format!(in alloc;
+            write!(
+                out,
                 "touch {object} {link} {} {}\n",
                 key.as_str(),
                 name.as_str()
             )
         }
-        Step::Changed(object, flags) => format!(in alloc; "changed {object} {flags}\n"),
-        Step::Rez(object, start) => format!(in alloc; "rez {object} {start}\n"),
-        Step::Go(script, ticks) => format!(in alloc; "go {script} {ticks}\n"),
-        Step::Run(ticks) => format!(in alloc; "run {ticks}\n"),
-        Step::Pause(gaps) => format!(in alloc; "pause {}\n", gaps.len()),
-        Step::Cross(object, region) => format!(in alloc; "cross {object} {}\n", region.as_str()),
+        Step::Changed(object, flags) => write!(out, "changed {object} {flags}\n"),
+        Step::Rez(object, start) => write!(out, "rez {object} {start}\n"),
+        Step::Go(script, ticks) => write!(out, "go {script} {ticks}\n"),
+        Step::Run(ticks) => write!(out, "run {ticks}\n"),
+        Step::Pause(gaps) => write!(out, "pause {}\n", gaps.len()),
+        Step::Cross(object, region) => write!(out, "cross {object} {}\n", region.as_str()),
     }
 }
 

@@ -144,43 +144,72 @@ fn link_message(alloc: Global, row: &str) -> Result<Event, AllocError> {
     })
 }
 
+// The line of the entry that a row asks for, without the line feed behind it.
+fn line_of(alloc: Global, asked: &str) -> Result<String, Fail> {
+    let mut line = Vec::new(alloc);
+    push_owned(&mut line, entry(alloc, asked)?)?;
+    let line = std::str::from_utf8(&line)?;
+    Ok(String::from_str(alloc, line.strip_suffix('\n').unwrap_or(""))?)
+}
+
+// Adds the line of an entry, which is dropped here and nowhere else.
+fn push_owned(line: &mut Vec<u8>, entry: Entry) -> Result<(), AllocError> {
+    push_line(line, &entry)
+}
+
+// Whether a row's entry has the line that the row says.
+fn has_its_line(alloc: Global, row: &str) -> Result<bool, Fail> {
+    let row = spelled(alloc, row)?;
+    let (asked, want) = row
+        .as_str()
+        .split_once(" -> ")
+        .unwrap_or((row.as_str(), ""));
+    let line = line_of(alloc, asked)?;
+    Ok(line.as_str() == want)
+}
+
 #[test]
 fn each_entry_has_its_line(rt: HostRuntime) -> Result<(), Fail> {
-    let alloc = rt.alloc();
     for row in ENTRIES.split('\n') {
-        let row = spelled(alloc, row)?;
-        let (asked, want) = row
-            .as_str()
-            .split_once(" -> ")
-            .unwrap_or((row.as_str(), ""));
-        let mut line = Vec::new(alloc);
-        push_line(&mut line, &entry(alloc, asked)?)?;
-        assert_eq!(rt;
-            std::str::from_utf8(&line)?.strip_suffix('\n'),
-            Some(want),
-            "of {row}"
-        );
+        assert!(rt; has_its_line(rt.alloc(), row)?, "of {row}");
     }
+    Ok(())
+}
+
+// Adds the entry of a row, and its line to those that are wanted.
+fn add_row(alloc: Global, row: &str, entries: &mut Entries, want: &mut String) -> Result<(), Fail> {
+    let row = spelled(alloc, row)?;
+    let (asked, line) = row
+        .as_str()
+        .split_once(" -> ")
+        .unwrap_or((row.as_str(), ""));
+    entries.push(entry(alloc, asked)?)?;
+    want.push_str(line)?;
+    want.push_str("\n")?;
+    Ok(())
+}
+
+fn add_rows(alloc: Global, entries: &mut Entries, want: &mut String) -> Result<(), Fail> {
+    for row in ENTRIES.split('\n') {
+        add_row(alloc, row, entries, want)?;
+    }
+    Ok(())
+}
+
+// Adds the lines of all rows' entries, and what is wanted.
+fn push_rows(alloc: Global, out: &mut Vec<u8>, want: &mut String) -> Result<(), Fail> {
+    let mut entries = Entries::new(alloc);
+    add_rows(alloc, &mut entries, want)?;
+    push_lines(out, entries.as_slice())?;
     Ok(())
 }
 
 #[test]
 fn lines_stand_behind_one_another(rt: HostRuntime) -> Result<(), Fail> {
     let alloc = rt.alloc();
-    let mut entries = Entries::new(alloc);
     let mut want = String::from_str(alloc, "before\n")?;
-    for row in ENTRIES.split('\n') {
-        let row = spelled(alloc, row)?;
-        let (asked, line) = row
-            .as_str()
-            .split_once(" -> ")
-            .unwrap_or((row.as_str(), ""));
-        entries.push(entry(alloc, asked)?)?;
-        want.push_str(line)?;
-        want.push_str("\n")?;
-    }
     let mut out = Vec::from_slice(alloc, b"before\n")?;
-    push_lines(&mut out, entries.as_slice())?;
+    push_rows(alloc, &mut out, &mut want)?;
     assert_eq!(rt; std::str::from_utf8(&out)?, want.as_str());
     push_lines(&mut out, &[])?;
     assert_eq!(rt; std::str::from_utf8(&out)?, want.as_str());
