@@ -27,7 +27,7 @@ use Rattle.lsl_region.specs.Answers.{answer_at_home, answer_of, change_by, home_
 use Rattle.lsl_region.specs.Mailing.{stop_for}
 use Rattle.lsl_region.specs.Stores.{told_of}
 use Rattle.lsl_region.specs.Worlds.{Member, World}
-use Rattle.lsl_region.specs.declared.storing.Change.{Change}
+use Rattle.lsl_region.specs.declared.store_calls.Change.{Change}
 
 -- a call does what the calls of its home do
 pub at-home : (r : Rules) (place : ℕ) (m : Member) (args : List Value) (w : World) (id : BuiltinId) (h : Home)

@@ -96,8 +96,8 @@ note-fits GetNotecardLine key e = refl
 note-fits GetNumberOfNotecardLines key e = refl
 note-fits id key e = absurd cc
 
-module _ (codes : List Code) (unit : Code) (clock place : ℕ) (grid : Contents) (live : Live) (of : BuiltinId)
-    (f : Flight) (w : World) (lent : Lent codes unit clock place grid live of f w) where
+module _ {codes : List Code} {unit : Code} {clock place : ℕ} {grid : Contents} {live : Live} {of : BuiltinId}
+    {f : Flight} {w : World} (lent : Lent codes unit clock place grid live of f w) where
   pub card-same : (args : List Value) (name : List ℕ) (card : Option ℕ) → name ≡ text_at 0 args
       → card ≡ card_of grid.cards grid.objects (seat_of codes true lent.member).object
       (seat_of codes true lent.member).prim name
@@ -109,31 +109,28 @@ module _ (codes : List Code) (unit : Code) (clock place : ℕ) (grid : Contents)
       ∙ ap (λ (os : List Linkset). card_of w.cards os lent.member.object lent.member.prim name) lent.stands.objects
       ∙ ap (card_of w.cards w.objects lent.member.object lent.member.prim) named
 
-  module _ (m : Meant codes) (card : ℕ) (line : Option ℕ) (number : ℕ) (key text : List ℕ) (event : Event)
-      (numbered : number ≡ place + 1) (key_is : key ≡ query_of number card line)
-      (text_is : text ≡ data_told (card_at grid.cards card) line) (event_is : event ≡ data_event key text) where
-    pub key-same : key ≡ query_of (place + 1) card line
-    key-same = key_is ∙ ap (λ n. query_of n card line) numbered
-
+  module _ (m : Meant codes) (card : ℕ) (line : Option ℕ) (key : List ℕ) (event : Event)
+      (key_is : key ≡ query_of (place + 1) card line)
+      (event_is : event ≡ data_event key (data_told (card_at grid.cards card) line)) where
     abbrev told : Event
     told = data_event (query_of (place + 1) card line) (data_told (card_at w.cards card) line)
 
     event-same : event ≡ told
     event-same =
         event_is
-        ∙ ap₂ data_event key-same
-        (text_is ∙ ap (λ (cards : List Notecard). data_told (card_at cards card) line) lent.stands.cards)
+        ∙ ap₂ data_event key_is
+        (ap (λ (cards : List Notecard). data_told (card_at cards card) line) lent.stands.cards)
 
-    posted-same : post_to (rules_of codes) number event lent.member.script
+    posted-same : post_to (rules_of codes) (place + 1) event lent.member.script
         ≡ post_to m.rules (place + 1) told lent.member.script
     posted-same =
-        ap₂ (λ n e. post_to (rules_of codes) n e lent.member.script) numbered event-same
+        ap (λ e. post_to (rules_of codes) (place + 1) e lent.member.script) event-same
         ∙ to-same codes m (place + 1) told lent.member.script (lent.stands.scripts place lent.member lent.at).known
 
     -- the script was told
     pub lent-told : {T E : Type 0} (new : Live) (r : Result T E) (old now : List Entry)
         → Tells r (λ t _. Waits codes unit t f of new) old now
-        (post_to (rules_of codes) number event lent.member.script)
+        (post_to (rules_of codes) (place + 1) event lent.member.script)
         → Tells r (λ v _. Lent codes unit clock place grid new of f v) old now
         (at_member place (λ (k : Member). post_to m.rules (place + 1) told k.script) w)
     lent-told new r old now d =

@@ -41,8 +41,12 @@ one-unit codes seats place seat other unit found at has there e =
     let both : Some found ≡ Some unit = e ∙ ap (λ (z : Seat). slice_get codes z.unit) is ∙ has in
     cc
 
-module _ (codes : List Code) (unit : Code) (clock place : ℕ) (grid : Contents) (live : Live) (of : BuiltinId)
-    (f : Flight) (w : World) (lent : Lent codes unit clock place grid live of f w) where
+module _ {codes : List Code} {unit : Code} {clock place : ℕ} {grid : Contents} {live : Live} {of : BuiltinId}
+    {f : Flight} {w : World} (lent : Lent codes unit clock place grid live of f w) where
+  -- its seat, which is empty
+  pub lent-seat : slice_get grid.seats place ≡ Some (seat_of codes true lent.member)
+  lent-seat = away-seat codes clock place grid w lent.member lent.stands lent.at
+
   -- a call on its mailbox was done
   pub lent-mailed : (new : Live) (id : BuiltinId) (args : List Value)
       → Waits codes unit (mailed id args clock lent.member.script).0 f of new
@@ -111,7 +115,7 @@ module _ (codes : List Code) (unit : Code) (clock place : ℕ) (grid : Contents)
       → Some of_seat ≡ slice_get codes seat.unit → of_seat ≡ unit
   lent-unit seat of_seat at e =
       let same : Some seat ≡ Some (seat_of codes true lent.member)
-      = sym at ∙ away-seat codes clock place grid w lent.member lent.stands lent.at in
+      = sym at ∙ lent-seat in
       let is : seat ≡ seat_of codes true lent.member = cc in
       let both : Some of_seat ≡ Some unit
       = e ∙ ap (λ (z : Seat). slice_get codes z.unit) is ∙ lent.waits.carries.known in

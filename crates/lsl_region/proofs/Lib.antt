@@ -9,6 +9,7 @@ pub mod CutBytes
 pub mod Behind
 pub mod Placed
 pub mod Results
+pub mod Scenes
 pub mod Outlines
 pub mod Seats
 pub mod Posts

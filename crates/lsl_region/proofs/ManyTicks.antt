@@ -53,12 +53,12 @@ module _ (codes : List Code) (unit : Code) (clock place : ℕ) (grid : Contents)
       → IsBehind codes unit clock place grid (Some new) (segment m.rules place w).value
       × (out ≡ out ++ (segment m.rules place w).entries)
   tick-behind m live new w out h one =
-      let most = held_most codes unit clock place grid live w m h in
-      let g = held-goes codes unit clock place grid live w m h in
-      let comes = one.source codes g.member.script h.flight (held-rests codes unit clock place grid live w m h) in
+      let most = held_most m h in
+      let g = held-goes m h in
+      let comes = one.source codes g.member.script h.flight (held-rests m h) in
       let d = subst (λ (a : Told World). Held codes unit clock place grid new a.value × (out ≡ out ++ a.entries))
-      (sym (segment-held codes unit clock place grid live w m h))
-      (tick-told codes unit clock place grid new h.flight most w m
+      (sym (segment-held m h))
+      (tick-told m
       (goes-to codes unit clock place grid live new turn.AtTick h.flight most w g comes) out) in
       ((d.0, sym (held-flies codes unit clock place grid new _ d.0)), d.1)
 

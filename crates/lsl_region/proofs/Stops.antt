@@ -94,8 +94,8 @@ takes-next number s Resting = takes-due number s (event_due s.leaving s.mailbox)
 takes-next number s (Flying f) = record { code = refl; state = refl }
 takes-next number s (Stopped fault) = record { code = refl; state = refl }
 
-module _ (codes : List Code) (unit : Code) (clock place : ℕ) (grid : Contents) (live : Live) (f : Flight) (most : ℕ)
-    (w : World) (m : Meant codes) where
+module _ {codes : List Code} {unit : Code} {clock place : ℕ} {grid : Contents} {live : Live} {f : Flight} {most : ℕ}
+    {w : World} (m : Meant codes) where
   -- at a tick it stays out
   pub tick-told : (p : Paused codes unit clock place grid live turn.AtTick f most w) (out : List Entry)
       → Held codes unit clock place grid live (asked m.rules (most + 1) place f w).value
@@ -196,7 +196,7 @@ way-tick codes unit clock place grid live last m total old now e k =
     let x = k.there in
     let rest = asked m.rules (x.most + 1) place x.flight x.world in
     let p = subst (λ (t : Turn). Paused codes unit clock place grid live t x.flight x.most x.world) e k.at in
-    let d = tick-told codes unit clock place grid live x.flight x.most x.world m p now in (
+    let d = tick-told m p now in (
       subst (λ (a : Told World). Held codes unit clock place grid live a.value) (sym k.whole) d.0,
       d.1 ∙ ap (λ (es : List Entry). es ++ rest.entries) k.so_far ∙ append_assoc old k.done rest.entries
           ∙ ap (λ (a : Told World). old ++ a.entries) (sym k.whole),
@@ -222,7 +222,7 @@ flown-is : (r : Rules) (place : ℕ) (v : World) (u : Member) (f : Flight) → s
     → flown_in r place v (slice_get v.members place) ≡ asked r (r.most u.script.code + 1) place f v
 flown-is r place v u f at flies = ap (flown_in r place v) at ∙ ap (flown r place v u.script.code) flies
 
-module _ (codes : List Code) (unit : Code) (clock place : ℕ) (grid : Contents) (live : Live) (w : World)
+module _ {codes : List Code} {unit : Code} {clock place : ℕ} {grid : Contents} {live : Live} {w : World}
     (m : Meant codes) where
   -- a script that is held takes no event
   module _ (h : Held codes unit clock place grid live w) where

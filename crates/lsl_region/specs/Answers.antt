@@ -36,7 +36,7 @@ use Rattle.lsl_region.specs.Posting.{message_event, post_all, said_to_all}
 use Rattle.lsl_region.specs.Notes.{card_of, data_event, data_told}
 use Rattle.lsl_region.specs.Stores.{change_of, no_change, read_in, reset_change, room_in}
 use Rattle.lsl_region.specs.Texts.{cut_name, cut_speech}
-use Rattle.lsl_region.specs.declared.storing.Change.{Change}
+use Rattle.lsl_region.specs.declared.store_calls.Change.{Change}
 use Rattle.lsl_region.specs.declared.objects.Linkset.{Linkset}
 use Rattle.lsl_region.specs.declared.objects.Primitive.{Primitive}
 use Rattle.lsl_region.specs.Worlds.{Member, World, at_member, object_of, prim_at, prim_of, with_member, with_object}

@@ -24,6 +24,7 @@ pub mod TellingLaws
 pub mod TouchLaws
 pub mod Turning
 pub mod TurnEnds
+pub mod Scenes
 pub mod ObjectParts
 pub mod Crossings
 pub mod Journeys

@@ -8,7 +8,7 @@ use Rattle.lsl_image.specs.Object.{most_store_bytes}
 use Rattle.lsl_data.specs.declared.answers.Wrote.{Wrote}
 use Rattle.lsl_data.specs.declared.answers.Wrote.TheVariants.{Stored, Deleted, NoKey, NotFound, Same, Full}
 use Rattle.lsl_data.specs.Pairs.{bytes_of, value_at}
-use Rattle.lsl_region.specs.declared.storing.Change.{Change}
+use Rattle.lsl_region.specs.declared.store_calls.Change.{Change}
 
 -- scripts are told of a change by its number, a name and a value
 abbrev pub store_event : ℤ → List ℕ → List ℕ → Event

@@ -1,6 +1,6 @@
 //! What comes from outside: chat, touches, changes and rezzing.
 
-ghost use Rattle.std.specs.Prelude.{◌≡◌, ◌<◌, ◌≤◌, ◌-◌, ℕ, None, false, IfOk, OnOk};
+ghost use Rattle.std.specs.Prelude.{◌≡◌, ◌<◌, ◌-◌, ℕ, None, false, IfOk, OnOk};
 ghost use Rattle.lsl_value.specs.declared.names.EventId.TheVariants as events;
 ghost use Rattle.lsl_post.specs.Filters.{filter};
 ghost use Rattle.lsl_post.specs.Journal.{Tells};
@@ -15,6 +15,7 @@ ghost use Rattle.lsl_region.specs.Worlds.{World};
 use crate::audience::Audience;
 use crate::events::{changed_event, listen_event, rez_event};
 use crate::grid::Grid;
+use crate::notice::Notice;
 use crate::texts::cut_speech;
 use lsl_code::Library;
 use lsl_post::{Entries, Event, Filter};
@@ -62,7 +63,12 @@ impl Grid {
         ensures outline { outline_of self.new ≡ outline_of self.old }
     {
         let event = listen_event(self.alloc, &said)?;
-        self.post_all(&Audience::Hearers(said), &event, library, out)
+        let hearers = Audience::Hearers(said);
+        let notice = Notice {
+            audience: &hearers,
+            event: &event,
+        };
+        self.post_all(&notice, library, out)
     }
 
     /// Posts `changed` with these flags, or `on_rez` with this number, to all scripts of the object of this number.
@@ -92,7 +98,11 @@ impl Grid {
     {
         let event = object_event(self.alloc, id, n)?;
         let audience = Audience::Object(object as usize - 1);
-        self.post_all(&audience, &event, library, out)
+        let notice = Notice {
+            audience: &audience,
+            event: &event,
+        };
+        self.post_all(&notice, library, out)
     }
 }
 

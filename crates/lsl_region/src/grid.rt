@@ -1,12 +1,13 @@
 //! A grid: objects, and the scripts in their prims.
 
-ghost use Rattle.std.specs.Prelude.{◌≡◌, ◌<◌, ◌≤◌, ◌-◌, [], length, get_or, None};
+ghost use Rattle.std.specs.Prelude.{◌≡◌, ◌<◌, ◌≤◌, ◌-◌, [], length, get_or, slice_get, None, Some};
 ghost use Rattle.lsl_code.specs.declared.woven_units.Woven.{Woven as Code};
-ghost use Rattle.lsl_region.specs.Grids.{Stands};
+ghost use Rattle.lsl_region.specs.Grids.{Stands, object_in, prim_in};
 ghost use Rattle.lsl_region.specs.Worlds.{no_object, empty_world};
+ghost use Rattle.lsl_region.specs.declared.grid.Seat.{Seat as Place};
 
 use crate::hearing::ChannelTable;
-use crate::objects::Linkset;
+use crate::objects::{Linkset, Primitive};
 use lsl_notes::Cards;
 use lsl_script::Script;
 use lsl_value::Text;
@@ -78,5 +79,26 @@ impl Grid {
         ensures { result.now ≡ (get_or self.now.objects (object - 1) no_object).region }
     {
         &self.objects[object as usize - 1].region
+    }
+
+    /// The object of the script at this place.
+    pub(crate) fn object_of(&self, place: usize) -> &Linkset
+        requires { place < length self.now.seats }
+        ensures value { (seat : Place) → slice_get self.now.seats place ≡ Some seat →
+            result.now ≡ object_in self.now.objects seat }
+        ensures within { (seat : Place) → slice_get self.now.seats place ≡ Some seat →
+            seat.prim < length result.now.prims }
+        ensures few { length result.now.prims ≤ 255 }
+    {
+        &self.objects[self.seats[place].object]
+    }
+
+    /// The prim of the script at this place.
+    pub(crate) fn prim_of(&self, place: usize) -> &Primitive
+        requires { place < length self.now.seats }
+        ensures { (seat : Place) → slice_get self.now.seats place ≡ Some seat →
+            result.now ≡ prim_in self.now.objects seat }
+    {
+        self.object_of(place).prims.prim(self.seats[place].prim)
     }
 }

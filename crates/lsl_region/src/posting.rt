@@ -16,6 +16,7 @@ ghost use Rattle.lsl_region.specs.declared.grid.Seat.{Seat as Place};
 
 use crate::audience::Audience;
 use crate::grid::Grid;
+use crate::notice::Notice;
 use lsl_code::{Library, Woven};
 use lsl_post::{Entries, Entry, Event, Listens, Posted};
 use lsl_script::Script;
@@ -113,24 +114,22 @@ impl Grid {
     pub(crate) fn post_at(
         &mut self,
         place: usize,
-        audience: &Audience,
-        event: &Event,
+        notice: &Notice,
         library: &Library,
         out: &mut Entries,
     ) -> Result<(), NoMemory>
         requires place { place < length self.old.seats }
         requires seated { AreSeated library.now self.old.seats }
-        requires other { is_exit event.now ≡ false }
         ensures does { (away : Option ℕ) (clock : ℕ) (w : World) →
             Stands library.now away clock self.old w → is_out away place ≡ false →
             Tells result (λ v _. Stands library.now away clock self.new v) out.old out.new
-            (post_where (rules_of library.now) (admits audience.now) event.now place w) }
+            (post_where (rules_of library.now) (admits notice.now.audience.now) notice.now.event.now place w) }
         ensures seated { OnOk result (AreSeated library.now self.new.seats) }
         ensures len { length self.new.seats ≡ length self.old.seats }
         ensures outline { outline_of self.new ≡ outline_of self.old }
         ensures objects { self.new.objects ≡ self.old.objects }
     {
-        if !self.is_addressed(place, audience) {
+        if !self.is_addressed(place, notice.audience) {
             return Ok(());
         }
         let seat = &mut self.seats[place];
@@ -139,7 +138,7 @@ impl Grid {
             self.alloc,
             &mut seat.script,
             number(place),
-            event,
+            notice.event,
             unit,
             out,
         )
@@ -180,28 +179,26 @@ impl Grid {
         &mut self,
         first: usize,
         end: usize,
-        audience: &Audience,
-        event: &Event,
+        notice: &Notice,
         library: &Library,
         out: &mut Entries,
     ) -> Result<(), NoMemory>
         requires order { first ≤ end }
         requires within { end ≤ length self.old.seats }
         requires seated { AreSeated library.now self.old.seats }
-        requires other { is_exit event.now ≡ false }
         ensures does { (m : Meant library.now) (away : Option ℕ) (clock : ℕ) (w : World) →
             Stands library.now away clock self.old w → AreHome away first end →
             Tells result (λ v _. Stands library.now away clock self.new v) out.old out.new
-            (post_between m.rules (admits audience.now) event.now first end w) }
+            (post_between m.rules (admits notice.now.audience.now) notice.now.event.now first end w) }
         ensures seated { OnOk result (AreSeated library.now self.new.seats) }
         ensures len { length self.new.seats ≡ length self.old.seats }
         ensures outline { outline_of self.new ≡ outline_of self.old }
         ensures objects { self.new.objects ≡ self.old.objects }
     {
-        let mut place = self.next_of(audience, first, end);
+        let mut place = self.next_of(notice.audience, first, end);
         while place < end {
-            self.post_at(place, audience, event, library, out)?;
-            place = self.next_of(audience, place + 1, end);
+            self.post_at(place, notice, library, out)?;
+            place = self.next_of(notice.audience, place + 1, end);
         }
         Ok(())
     }
@@ -210,22 +207,20 @@ impl Grid {
     /// channel are asked, else all are.
     pub(crate) fn post_all(
         &mut self,
-        audience: &Audience,
-        event: &Event,
+        notice: &Notice,
         library: &Library,
         out: &mut Entries,
     ) -> Result<(), NoMemory>
         requires seated { AreSeated library.now self.old.seats }
-        requires other { is_exit event.now ≡ false }
         ensures does { (m : Meant library.now) (clock : ℕ) (w : World) → Stands library.now None clock self.old w →
             Tells result (λ v _. Stands library.now None clock self.new v) out.old out.new
-            (post_all m.rules (admits audience.now) event.now w) }
+            (post_all m.rules (admits notice.now.audience.now) notice.now.event.now w) }
         ensures seated { OnOk result (AreSeated library.now self.new.seats) }
         ensures len { length self.new.seats ≡ length self.old.seats }
         ensures outline { outline_of self.new ≡ outline_of self.old }
         ensures objects { self.new.objects ≡ self.old.objects }
     {
         let end = self.seats.len();
-        self.post_between(0, end, audience, event, library, out)
+        self.post_between(0, end, notice, library, out)
     }
 }

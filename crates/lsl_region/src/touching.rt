@@ -19,6 +19,7 @@ use crate::audience::Audience;
 use crate::events::{touch_end, touch_held, touch_start};
 use crate::grid::{Grid, Seat};
 use crate::links::{link_of, prim_numbered};
+use crate::notice::Notice;
 use lsl_code::{Library, Woven};
 use lsl_post::{Entries, Event, Toucher};
 use lsl_script::Script;
@@ -148,7 +149,11 @@ impl Grid {
         ensures seated { OnOk result (AreSeated library.now self.new.seats) }
         ensures outline { outline_of self.new ≡ outline_of self.old }
     {
-        self.post_all(audience, &event, library, out)
+        let notice = Notice {
+            audience,
+            event: &event,
+        };
+        self.post_all(&notice, library, out)
     }
 
     // The prim whose scripts a touch is for: the root where no script of the touched prim handles a touch.

@@ -1,4 +1,4 @@
-use Rattle.std.proofs.Common.{◌≡◌, ◌<◌, ◌∙◌, ◌-◌, ℕ, length, ap, rules, sym, subst}
+use Rattle.std.proofs.Common.{◌≡◌, ◌<◌, ◌∙◌, ◌-◌, ℕ, arith, length, ap, rules, sym, subst}
 use Rattle.std.specs.Prelude.{Option, Some, slice_get}
 use Rattle.std.proofs.lemmas.Option.{slice_get_within}
 use Rattle.lsl_code.specs.declared.woven_units.Woven.{Woven as Code}
@@ -24,9 +24,23 @@ pub answer_at-requires-clause-awake : goal.answer_at-requires-clause-awake
 answer_at-requires-clause-awake c =
     let place : ℕ = c.args.script - 1 in
     let h : place < length c.self.inside.seats.items = search (rules, c.requires.first, c.requires.last) in
-    c.requires.awake c.index.result.now c.unit-unit.result.now
-    (ap (λ (g : Contents). slice_get g.seats place) (sym c.self.view_is)
-    ∙ read-at c.self.inside.seats.items place _ h c.index.ensures) (sym c.unit-unit.ensures.unit)
+    let at = ap (λ (g : Contents). slice_get g.seats place) (sym c.self.view_is)
+    ∙ read-at c.self.inside.seats.items place _ h c.index.ensures in
+    record {
+      set = record {
+        place = search (rules, c.requires.first, c.requires.last);
+        number = omega (arith, h, c.self.invariant.0.few_seats);
+        clock = c.requires.clock;
+        seated = c.requires.seated;
+        unit = record {
+          seat = c.index.result.now;
+          at = at;
+          has = sym c.unit-unit.ensures.unit;
+          weaves = c.unit-unit.ensures.weaves;
+        };
+      };
+      awake = c.requires.awake c.index.result.now c.unit-unit.result.now at (sym c.unit-unit.ensures.unit);
+    }
 
 pub returns-clause-does : goal.returns-clause-does
 returns-clause-does c = λ m unit f w lent.
@@ -35,7 +49,7 @@ returns-clause-does c = λ m unit f w lent.
     let h : place < length c.self.inside.seats.items = search (rules, c.requires.first, c.requires.last) in
     let at = ap (λ (g : Contents). slice_get g.seats place) (sym c.self.view_is)
     ∙ read-at c.self.inside.seats.items place _ h c.index.ensures in
-    let e = lent-unit codes unit c.args.clock place c.args.self.now c.args.live.now c.args.call.id f w lent
+    let e = lent-unit lent
     c.index.result.now c.unit-unit.result.now at c.unit-unit.ensures.unit in
     subst (λ (a : Answered). Tells c.answer_at.result
     (λ x reply. Lent codes unit c.args.clock place c.answer_at.new.self c.answer_at.new.live c.args.call.id f x.0
@@ -56,4 +70,4 @@ returns-clause-awake c = λ seat unit at has.
     ∙ read-at c.self.inside.seats.items place _ h c.index.ensures in
     subst (λ (u : Code). IsAwake u c.answer_at.new.live)
     (one-unit c.args.library.now c.args.self.now.seats place seat c.index.result.now unit c.unit-unit.result.now at has
-    there c.unit-unit.ensures.unit) c.answer_at.ensures.awake
+    there c.unit-unit.ensures.unit) c.answer_at.ensures.live.awake

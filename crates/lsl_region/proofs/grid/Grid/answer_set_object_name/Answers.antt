@@ -16,4 +16,4 @@ returns-clause-does c = λ codes unit clock live of f w lent.
     subst (λ (name : List ℕ). Lent codes unit clock c.args.place c.set_name.new.self live of f
     (renamed w lent.member name)) n
     (subst (λ (g : Contents). Lent codes unit clock c.args.place g live of f (renamed w lent.member c.in_ok-name.name))
-    (sym e) (lent-renamed codes unit clock c.args.place c.args.self.now live of f w lent c.in_ok-name.name))
+    (sym e) (lent-renamed lent c.in_ok-name.name))

@@ -5,7 +5,7 @@ use Rattle.lsl_value.specs.declared.tagged.Value.TheVariants as value
 use Rattle.lsl_running.specs.declared.host.Reply.{Reply}
 use Rattle.lsl_notes.specs.Notecards.{IsListed, most_cards}
 use Rattle.lsl_region.specs.Answers.{gives}
-use Rattle.lsl_region.specs.Grids.{Lent}
+use Rattle.lsl_region.specs.Scenes.{Awaits}
 use Rattle.lsl_region.specs.Worlds.{World}
 use Rattle.lsl_region.proofs.Results.{IfOk-map, tells-quiet}
 use Rattle.lsl_region.proofs.grid.Grid.ask.Goals as goal
@@ -19,21 +19,21 @@ tell_card-requires-clause-within c =
     subst (λ (o : Option ℕ). IfSome o (λ number. number ≤ most_cards)) c.in-Some.is c.requires.within
 
 pub returns-in-Some-line-clause-does : goal.returns-in-Some-line-clause-does
-returns-in-Some-line-clause-does c = λ codes m clock f of w lent.
-    rw c.in-Some.is (rw c.in-Some-line.is (c.tell_card.ensures.does codes m clock f of w lent))
+returns-in-Some-line-clause-does c = λ m f of w lent.
+    rw c.in-Some.is (rw c.in-Some-line.is (c.tell_card.ensures.does m f of w lent))
 
 pub returns-in-None-line-clause-does : goal.returns-in-None-line-clause-does
-returns-in-None-line-clause-does c = λ codes m clock f of w lent.
+returns-in-None-line-clause-does c = λ m f of w lent.
     rw c.in-Some.is (rw c.in-None-line.is (tells-quiet c.null_key.result
-    (λ (x : World × Reply) key. Lent codes c.args.unit.now clock c.args.place c.args.self.now c.args.live.now of f x.0
+    (λ (x : World × Reply) key. Awaits c.args.scene.now c.args.self.now c.args.live.now of f x.0
     × (gives (value.Key key) ≡ x.1))
     (w, gives (value.Key null_key)) c.args.out.now
     (IfOk-map c.null_key.result _ _ (λ key is. (lent, ap (λ k. gives (value.Key k)) is)) c.null_key.ensures)))
 
 pub returns-in-None-clause-does : goal.returns-in-None-clause-does
-returns-in-None-clause-does c = λ codes m clock f of w lent.
+returns-in-None-clause-does c = λ m f of w lent.
     rw c.in-None.is (tells-quiet c.null_key-in-None.result
-    (λ (x : World × Reply) key. Lent codes c.args.unit.now clock c.args.place c.args.self.now c.args.live.now of f x.0
+    (λ (x : World × Reply) key. Awaits c.args.scene.now c.args.self.now c.args.live.now of f x.0
     × (gives (value.Key key) ≡ x.1))
     (w, gives (value.Key null_key)) c.args.out.now
     (IfOk-map c.null_key-in-None.result _ _ (λ key is. (lent, ap (λ k. gives (value.Key k)) is))

@@ -20,7 +20,7 @@ returns-clause-value c = λ codes unit clock live of f w lent.
     let link = s1 ∙ c.link.ensures (seat_of codes true lent.member)
     (away-seat codes clock c.args.place c.args.self.now w lent.member lent.stands lent.at)
     ∙ ap (λ (o : Linkset). pos (link_of (length o.prims) lent.member.prim))
-    (lent-object codes unit clock c.args.place c.args.self.now live of f w lent) in
+    (lent-object lent) in
     IfOk-map c.message_event.result _ _
     (λ e is. is ∙ (λ i. message_event (link i) ((s2 ∙ c.integer_at.ensures) i) (c.in_ok-text.ensures i)
     (c.in_ok-key.ensures i))) c.message_event.ensures

@@ -14,5 +14,5 @@ returns-clause-does c = λ m clock w st.
     let all : c.len-end.result - 0 ≡ length w.members = omega (arith, count, same) in
     subst (λ (n : ℕ). Tells c.post_between.result
     (λ v _. Stands c.args.library.now None clock c.post_between.new.self v) c.args.out.now c.post_between.new.out
-    (each (post_where m.rules (admits c.args.audience.now) c.args.event.now) n 0 w))
+    (each (post_where m.rules (admits c.args.notice.now.audience.now) c.args.notice.now.event.now) n 0 w))
     all (c.post_between.ensures.does m None clock w st (λ place first last. refl))

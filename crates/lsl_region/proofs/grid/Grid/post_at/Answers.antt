@@ -23,7 +23,7 @@ returns-then-not-is_addressed-clause-does c = λ away clock w st home.
     let codes = c.args.library.now in
     let grid = c.args.self.now in
     let place = c.args.place in
-    let audience = c.args.audience.now in
+    let audience = c.args.notice.now.audience.now in
     let seat : Seat = get_or grid.seats place no_seat in
     let at : slice_get grid.seats place ≡ Some seat = slice_get-get_or grid.seats place no_seat c.requires.place in
     let s = sits codes away clock grid w st place seat at in
@@ -32,7 +32,7 @@ returns-then-not-is_addressed-clause-does c = λ away clock w st home.
     let e = sym (admits-is codes away clock grid w audience seat s.member st is)
     ∙ sym (c.is_addressed.ensures seat (parts_of codes s.member.script) at script) ∙ c.if-not-is_addressed.true in
     subst (λ (a : Told World). Stands codes away clock grid a.value × (c.args.out.now ≡ c.args.out.now ++ a.entries))
-    (post-none (rules_of codes) audience c.args.event.now place w s.member s.at e)
+    (post-none (rules_of codes) audience c.args.notice.now.event.now place w s.member s.at e)
     (st, sym (append-nil c.args.out.now))
 
 pub unit-unit-requires : goal.unit-unit-requires
@@ -68,8 +68,8 @@ pub returns-clause-does : goal.returns-clause-does
 returns-clause-does c = λ away clock w old home.
     let codes = c.args.library.now in
     let place = c.args.place in
-    let audience = c.args.audience.now in
-    let e = c.args.event.now in
+    let audience = c.args.notice.now.audience.now in
+    let e = c.args.notice.now.event.now in
     let inside : Contents = record {
       objects = c.self.inside.objects.items;
       seats = c.self.inside.seats.items;

@@ -24,8 +24,9 @@ loop-place-init c =
           walk-later _ _ _ _ _ c.args.first next.result c.args.end
           (walk-from _ w _ _ c.args.first c.args.end st c.requires.order)
           next.ensures.onward next.ensures.within
-          (λ v k place first last. post-passed c.args.library.now away clock c.args.self.now v c.args.audience.now
-          c.args.first next.result k next.ensures.passed m.rules c.args.event.now place first last
+          (λ v k place first last. post-passed c.args.library.now away clock c.args.self.now v
+          c.args.notice.now.audience.now
+          c.args.first next.result k next.ensures.passed m.rules c.args.notice.now.event.now place first last
           (home place first (omega (arith, last, next.ensures.within))));
     }
 
@@ -34,8 +35,8 @@ returns-in_err-post_at-clause-does c = λ m away clock w st home.
     MatchResult-from_err c.from_residual.result _ _ c.from_residual.ensures.0
     (λ y. walk-err _ _ _ _ _ _ _ (c.loop-place.invariant.walk m away clock w st home) _ c.loop-place-test.true
     (λ v k. subst (λ (a : Told World). Part c.loop-place.out c.post_at.new.out a.entries)
-    (posts-same c.args.library.now m away clock c.loop-place.self v k (admits c.args.audience.now) c.args.event.now
-    c.loop-place.place) (c.in_err-post_at.ensures.does away clock v k
+    (posts-same c.args.library.now m away clock c.loop-place.self v k (admits c.args.notice.now.audience.now)
+    c.args.notice.now.event.now c.loop-place.place) (c.in_err-post_at.ensures.does away clock v k
     (home c.loop-place.place c.loop-place.invariant.from c.loop-place-test.true))))
 
 pub loop-place-preserved : goal.loop-place-preserved
@@ -55,12 +56,13 @@ loop-place-preserved c =
           (λ v. Stands c.args.library.now away clock c.post_at.new.self v) _ c.loop-place-test.true
           (λ v k. subst (λ (a : Told World). Stands c.args.library.now away clock c.post_at.new.self a.value
           × (c.post_at.new.out ≡ c.loop-place.out ++ a.entries))
-          (posts-same c.args.library.now m away clock c.loop-place.self v k (admits c.args.audience.now)
-          c.args.event.now c.loop-place.place) (c.in_ok-post_at.ensures.does away clock v k
+          (posts-same c.args.library.now m away clock c.loop-place.self v k (admits c.args.notice.now.audience.now)
+          c.args.notice.now.event.now c.loop-place.place) (c.in_ok-post_at.ensures.does away clock v k
           (home c.loop-place.place inv.from c.loop-place-test.true))))
           next.ensures.onward next.ensures.within
-          (λ v k place first last. post-passed c.args.library.now away clock c.post_at.new.self v c.args.audience.now
-          (c.loop-place.place + 1) next.result k next.ensures.passed m.rules c.args.event.now place first last
+          (λ v k place first last. post-passed c.args.library.now away clock c.post_at.new.self v
+          c.args.notice.now.audience.now
+          (c.loop-place.place + 1) next.result k next.ensures.passed m.rules c.args.notice.now.event.now place first last
           (home place (omega (arith, inv.from, first)) (omega (arith, last, next.ensures.within))));
     }
 

@@ -19,8 +19,8 @@ invariant-loop-place l =
       walk : (m : Meant l.library) (away : Option ℕ) (clock : ℕ) (w : World) → Stands l.library away clock l.fn.self w
           → AreHome away l.first l.end →
           Walk (λ v. Stands l.library away clock l.self v)
-          (post_between m.rules (admits l.audience) l.event l.first l.end w)
-          l.fn.out l.out (post_where m.rules (admits l.audience) l.event) l.place l.end;
+          (post_between m.rules (admits l.notice.audience.now) l.notice.event.now l.first l.end w)
+          l.fn.out l.out (post_where m.rules (admits l.notice.audience.now) l.notice.event.now) l.place l.end;
     }
 
 abbrev pub decreases-loop-place : goal.decreases-loop-place

@@ -1,0 +1,218 @@
+//! Segments of one script: from one tick to the next, or to its handler's end, with all host calls on the way.
+
+ghost use Rattle.std.specs.Prelude.{◌≡◌, ◌<◌, ◌-◌, ◌+◌, ℕ, None, false, IfOk, MatchResult, OnOk};
+ghost use Rattle.lsl_machine.specs.State.{CanRun};
+ghost use Rattle.lsl_machine.specs.declared.standing.Standing.TheVariants as standings;
+ghost use Rattle.lsl_post.specs.Journal.{Adds, Part, Tells};
+ghost use Rattle.lsl_script.specs.Awake.{IsAskedFor, IsAwake, taken_by};
+ghost use Rattle.lsl_script.specs.Codes.{Meant};
+ghost use Rattle.lsl_script.specs.Handlers.{given};
+ghost use Rattle.lsl_script.specs.Lives.{entries_of_closing, entries_of_taking};
+ghost use Rattle.lsl_script.specs.Scripts.{Flight};
+ghost use Rattle.lsl_script.specs.Waking.{StandsWoken};
+ghost use Rattle.lsl_region.specs.Answers.{answer};
+ghost use Rattle.lsl_region.specs.PausedTurns.{flies_at};
+ghost use Rattle.lsl_region.specs.Scenes.{IsBegun, IsBehindSegment, IsHome, IsAwakeIn, IsPaused, IsSet, KeepsSet};
+ghost use Rattle.lsl_region.specs.Segments.{asked, taken};
+ghost use Rattle.lsl_region.specs.Turning.{IsEnd, IsHeld, IsLast, IsOnWay, IsOut, IsReadyInTurn, StandsAt, asks_left};
+ghost use Rattle.lsl_region.specs.Worlds.{World};
+
+use crate::grid::Grid;
+use crate::posting::number;
+use crate::scene::Scene;
+use lsl_post::{Entries, Entry};
+use lsl_running::{Call, Reply};
+use lsl_script::{Closed, Live, Turn};
+use lsl_text::NoMemory;
+use std::alloc::{AllocError, Global};
+
+impl Grid {
+    /// Takes the script at this place out of the grid and wakes it in this room, and tells of the event that it takes.
+    pub(crate) fn begin(
+        &mut self,
+        scene: &Scene,
+        room: &mut Option<Live>,
+        out: &mut Entries,
+    ) -> Result<(), NoMemory>
+        requires set { IsSet scene.now self.old }
+        requires ready { IsReadyInTurn scene.now.clock self.old.seats scene.now.place None }
+        ensures does { (m : Meant scene.now.library.now) (w : World) → IsHome scene.now self.old w →
+            Tells result (λ v _. IsOut room.new (λ live. IsBegun scene.now self.new live v))
+            out.old out.new (taken scene.now.place w) }
+        ensures awake { OnOk result (IsOut room.new (IsAwake scene.now.unit.now)) }
+        ensures able { OnOk result (IsOut room.new (λ live. CanRun live.machine.standing)) }
+        ensures stands { OnOk result (IsOut room.new StandsWoken) }
+        ensures grid { KeepsSet scene.now result self.old self.new }
+    {
+        let alloc = self.alloc;
+        self.wake_at(scene.place, room, scene.unit)?;
+        let Some(live) = room else {
+            unreachable!();
+        };
+        tell_taken(number(scene.place), live, alloc, out)?;
+        Ok(())
+    }
+
+    /// Goes on from a stop to the next tick or the handler's end, and answers all host calls on the way.
+    #[inline(always)]
+    pub(crate) fn go_on(
+        &mut self,
+        scene: &Scene,
+        live: &mut Option<Live>,
+        turn: Turn,
+        out: &mut Entries,
+    ) -> Result<(), NoMemory>
+        requires set { IsSet scene.now self.old }
+        requires awake { IsOut live.old (IsAwake scene.now.unit.now) }
+        requires stands { IsOut live.old (StandsAt scene.now.unit.now turn) }
+        ensures does { (m : Meant scene.now.library.now) (f : Flight) (most : ℕ) (w : World) →
+            IsOut live.old (λ l. IsPaused scene.now self.old l turn f most w) →
+            Tells result (λ v _. IsBehindSegment scene.now self.new live.new v) out.old out.new
+            (asked m.rules (most + 1) scene.now.place f w) }
+        ensures grid { KeepsSet scene.now result self.old self.new }
+        ensures held { OnOk result (IsHeld scene.now.unit.now live.new) }
+    {
+        let Some(awake) = live else {
+            unreachable!();
+        };
+        match self.answer_all(scene, awake, turn, out)? {
+            Turn::AtTick => Ok(()),
+            last => self.finish(scene, live, last, out),
+        }
+    }
+
+    // Answers all host calls up to the next tick or the handler's end.
+    #[inline(always)]
+    fn answer_all(
+        &mut self,
+        scene: &Scene,
+        live: &mut Live,
+        turn: Turn,
+        out: &mut Entries,
+    ) -> Result<Turn, NoMemory>
+        requires awake { IsAwakeIn scene.now self.old live.old }
+        requires stands { StandsAt scene.now.unit.now turn live.old }
+        ensures does { (m : Meant scene.now.library.now) (f : Flight) (most : ℕ) (w : World) →
+            IsPaused scene.now self.old live.old turn f most w →
+            MatchResult result
+            (λ last. IsOnWay m.rules scene.now.place (asked m.rules (most + 1) scene.now.place f w) out.old out.new
+            (λ x. IsPaused scene.now self.new live.new last x.flight x.most x.world))
+            (λ _. Part out.old out.new (asked m.rules (most + 1) scene.now.place f w).entries) }
+        ensures awake { OnOk result (IsAwake scene.now.unit.now live.new) }
+        ensures stands { IfOk result (λ last. StandsAt scene.now.unit.now last live.new) }
+        ensures last { IfOk result IsLast }
+        ensures grid { KeepsSet scene.now result self.old self.new }
+    {
+        let mut turn = turn;
+        'asks: loop {
+            turn = match turn {
+                Turn::Asks(call) => self.answer_and_go_on(scene, live, call, out)?,
+                last => return Ok(last),
+            };
+        }
+    }
+
+    // Answers a host call, and lets the script go on.
+    #[inline(always)]
+    fn answer_and_go_on(
+        &mut self,
+        scene: &Scene,
+        live: &mut Live,
+        call: Call,
+        out: &mut Entries,
+    ) -> Result<Turn, NoMemory>
+        requires awake { IsAwakeIn scene.now self.old live.old }
+        requires asking { live.old.machine.standing ≡ standings.Asking call.id }
+        requires asked { IsAskedFor call }
+        ensures does { (m : Meant scene.now.library.now) (f : Flight) (most : ℕ) (w : World) →
+            IsPaused scene.now self.old live.old (Turn.Asks call) f most w →
+            Tells result
+            (λ x turn. IsPaused scene.now self.new live.new turn (given x.1 f) (most - 1) x.0)
+            out.old out.new (answer m.rules scene.now.place call.id call.args w) }
+        ensures awake { OnOk result (IsAwake scene.now.unit.now live.new) }
+        ensures stands { IfOk result (λ turn. StandsAt scene.now.unit.now turn live.new) }
+        ensures left { IfOk result (λ turn. asks_left scene.now.unit.now turn live.new
+            < asks_left scene.now.unit.now (Turn.Asks call) live.old) }
+        ensures grid { KeepsSet scene.now result self.old self.new }
+    {
+        match self.answer_at(scene, live, &call, out)? {
+            Reply::Value(value) => {
+                live.keep_room(call);
+                live.answer(value);
+                Ok(live.go(scene.unit))
+            }
+            Reply::Stop(fault) => Ok(Turn::Faulted(fault)),
+        }
+    }
+
+    // Ends the handler of a script, which comes back into the grid.
+    #[inline(never)]
+    fn finish(
+        &mut self,
+        scene: &Scene,
+        live: &mut Option<Live>,
+        end: Turn,
+        out: &mut Entries,
+    ) -> Result<(), NoMemory>
+        requires set { IsSet scene.now self.old }
+        requires awake { IsOut live.old (IsAwake scene.now.unit.now) }
+        requires stands { IsOut live.old (StandsAt scene.now.unit.now end) }
+        requires end { IsEnd end }
+        ensures does { (m : Meant scene.now.library.now) (f : Flight) (most : ℕ) (w : World) →
+            IsOut live.old (λ l. IsPaused scene.now self.old l end f most w) →
+            Tells result (λ v _. IsHome scene.now self.new v × (flies_at v scene.now.place ≡ false))
+            out.old out.new (asked m.rules (most + 1) scene.now.place f w) }
+        ensures none { live.new ≡ None }
+        ensures grid { KeepsSet scene.now result self.old self.new }
+    {
+        let Some(live) = live.take() else {
+            unreachable!();
+        };
+        match end {
+            Turn::Ended => {
+                let Closed {
+                    script,
+                    charge,
+                    cleared,
+                } = live.close(self.alloc, scene.unit)?;
+                tell_closing(number(scene.place), charge, cleared, out)?;
+                self.put_back(scene.place, script);
+                Ok(())
+            }
+            Turn::Faulted(fault) => {
+                let script = live.fail(self.alloc, scene.unit, fault)?;
+                out.push(Entry::Stopped(number(scene.place), fault))?;
+                self.put_back(scene.place, script);
+                Ok(())
+            }
+            Turn::NoMemory => Err(AllocError),
+            Turn::AtTick | Turn::Asks(_) => unreachable!(),
+        }
+    }
+}
+
+// Tells of the event that was taken, where one was.
+fn tell_taken(number: u32, live: &Live, alloc: Global, out: &mut Entries) -> Result<(), NoMemory>
+    ensures { Adds result out.old out.new (entries_of_taking number (taken_by live.now)) }
+{
+    match live.took() {
+        Some(event) => out.push(Entry::Took(number, event.copy(alloc)?)),
+        None => Ok(()),
+    }
+}
+
+// Tells of a handler's end: the charge, and how many events went.
+fn tell_closing(
+    number: u32,
+    charge: u64,
+    cleared: Option<u32>,
+    out: &mut Entries,
+) -> Result<(), NoMemory>
+    ensures { Adds result out.old out.new (entries_of_closing number charge cleared) }
+{
+    out.push(Entry::Done(number, charge))?;
+    match cleared {
+        Some(count) => out.push(Entry::Clear(number, count)),
+        None => Ok(()),
+    }
+}

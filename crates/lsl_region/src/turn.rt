@@ -1,0 +1,281 @@
+//! Turns of scripts: segment by segment, while they can run.
+
+ghost use Rattle.std.specs.Prelude.{◌≡◌, ◌<◌, ◌≤◌, ◌-◌, IsTrue, None, false, is_some, length, true, IfOk, OnOk};
+ghost use Rattle.lsl_post.specs.Journal.{Tells};
+ghost use Rattle.lsl_post.specs.Timing.{latest_clock};
+ghost use Rattle.lsl_script.specs.Codes.{Meant};
+ghost use Rattle.lsl_region.specs.Grids.{AreSeated, Stands, outline_of};
+ghost use Rattle.lsl_region.specs.PausedTurns.{counted_turn, paused_for};
+ghost use Rattle.lsl_region.specs.Pausing.{Counts, Tally, with_save};
+ghost use Rattle.lsl_region.specs.Scenes.{ComesTo, IsBehindSegment, IsHome, IsInTurn, IsSet, IsWithinSegment, KeepsSet};
+ghost use Rattle.lsl_region.specs.Segments.{is_ready_at, segment, turn};
+ghost use Rattle.lsl_region.specs.Turning.{IsAble, IsHeld, IsReadyInTurn, PassesAwake};
+ghost use Rattle.lsl_region.specs.Worlds.{World};
+
+use crate::grid::Grid;
+use crate::pause::Pause;
+use crate::scene::Scene;
+use lsl_code::{Library, Woven};
+use lsl_post::Entries;
+use lsl_script::Live;
+use lsl_text::NoMemory;
+
+impl Grid {
+    /// Segments of the script of this number while it is ready, at most so many, and how many they were. The script
+    /// stays awake from one to the next, and is saved at the end; behind a pausing segment it is saved and restored.
+    /// After want of memory the entries are the first of the call's, and the grid is only to be dropped.
+    pub fn turn(
+        &mut self,
+        script: u32,
+        ticks: u32,
+        clock: u64,
+        pause: &mut Pause,
+        library: &Library,
+        out: &mut Entries,
+    ) -> Result<u32, NoMemory>
+        requires first { 0 < script }
+        requires last { script ≤ length self.old.seats }
+        requires clock { clock ≤ latest_clock }
+        requires seated { AreSeated library.now self.old.seats }
+        ensures does { (m : Meant library.now) (w : World) → Stands library.now None clock self.old w →
+            Tells result (λ x n. Stands library.now None clock self.new x.0 × (n ≡ x.1)) out.old out.new
+            (turn m.rules ticks (script - 1) w) }
+        ensures counted { (m : Meant library.now) (w : World) (t : Tally) → Stands library.now None clock self.old w →
+            Counts pause.old t → OnOk result (Counts pause.new (counted_turn m.rules ticks (script - 1) w t)) }
+        ensures within { IfOk result (λ n. n ≤ ticks) }
+        ensures seated { OnOk result (AreSeated library.now self.new.seats) }
+        ensures outline { outline_of self.new ≡ outline_of self.old }
+        ensures gaps { pause.new.gaps ≡ pause.old.gaps }
+    {
+        let place = script as usize - 1;
+        let unit = library.unit(self.seats[place].unit);
+        let scene = Scene {
+            place,
+            clock,
+            library,
+            unit,
+        };
+        let mut live = None;
+        self.turn_with(&scene, &mut live, ticks, pause, out)
+    }
+
+    // A turn of the script, with room for it while it is awake.
+    #[inline(never)]
+    fn turn_with(
+        &mut self,
+        scene: &Scene,
+        live: &mut Option<Live>,
+        ticks: u32,
+        pause: &mut Pause,
+        out: &mut Entries,
+    ) -> Result<u32, NoMemory>
+        requires set { IsSet scene.now self.old }
+        requires none { live.old ≡ None }
+        ensures does { (m : Meant scene.now.library.now) (w : World) → IsHome scene.now self.old w →
+            Tells result (λ x n. IsHome scene.now self.new x.0 × (n ≡ x.1)) out.old out.new
+            (turn m.rules ticks scene.now.place w) }
+        ensures counted { (m : Meant scene.now.library.now) (w : World) (t : Tally) → IsHome scene.now self.old w →
+            Counts pause.old t → OnOk result (Counts pause.new (counted_turn m.rules ticks scene.now.place w t)) }
+        ensures within { IfOk result (λ n. n ≤ ticks) }
+        ensures grid { KeepsSet scene.now result self.old self.new }
+        ensures gaps { pause.new.gaps ≡ pause.old.gaps }
+    {
+        let spent = self.run(scene, live, ticks, pause, out)?;
+        self.settle(scene, live, pause)?;
+        Ok(spent)
+    }
+
+    // Segments while the script is ready, at most so many, and how many they were; it may be awake then.
+    fn run(
+        &mut self,
+        scene: &Scene,
+        live: &mut Option<Live>,
+        ticks: u32,
+        pause: &mut Pause,
+        out: &mut Entries,
+    ) -> Result<u32, NoMemory>
+        requires set { IsSet scene.now self.old }
+        requires none { live.old ≡ None }
+        ensures does { (m : Meant scene.now.library.now) (w : World) → IsHome scene.now self.old w →
+            Tells result (ComesTo scene.now self.new live.new) out.old out.new
+            (turn m.rules ticks scene.now.place w) }
+        ensures counted { (m : Meant scene.now.library.now) (w : World) (t : Tally) → IsHome scene.now self.old w →
+            Counts pause.old t →
+            OnOk result (Counts pause.new
+            (paused_for m.rules scene.now.place w (turn m.rules ticks scene.now.place w).value.1 t)) }
+        ensures within { IfOk result (λ n. n ≤ ticks) }
+        ensures grid { KeepsSet scene.now result self.old self.new }
+        ensures held { OnOk result (IsHeld scene.now.unit.now live.new) }
+        ensures gaps { pause.new.gaps ≡ pause.old.gaps }
+    {
+        if pause.is_on() {
+            self.paused_segments(scene, live, ticks, pause, out)
+        } else {
+            self.segments(scene, live, ticks, out)
+        }
+    }
+
+    // The segments of a turn of the script at this place, where no gaps are set.
+    fn segments(
+        &mut self,
+        scene: &Scene,
+        live: &mut Option<Live>,
+        ticks: u32,
+        out: &mut Entries,
+    ) -> Result<u32, NoMemory>
+        requires set { IsSet scene.now self.old }
+        requires none { live.old ≡ None }
+        ensures does { (m : Meant scene.now.library.now) (w : World) → IsHome scene.now self.old w →
+            Tells result (ComesTo scene.now self.new live.new) out.old out.new
+            (turn m.rules ticks scene.now.place w) }
+        ensures within { IfOk result (λ n. n ≤ ticks) }
+        ensures grid { KeepsSet scene.now result self.old self.new }
+        ensures held { OnOk result (IsHeld scene.now.unit.now live.new) }
+    {
+        let mut spent = 0;
+        'segments: while spent < ticks {
+            if !self.is_ready_in_turn(scene, live) {
+                return Ok(spent);
+            }
+            let (passed, stands) = pass_ticks(live, scene.unit, ticks - spent);
+            spent += passed;
+            if stands {
+                continue 'segments;
+            }
+            self.finish_segment(scene, live, out)?;
+            spent += 1;
+        }
+        Ok(spent)
+    }
+
+    // Whether the script, which may be awake at a tick, can run.
+    pub(crate) fn is_ready_in_turn(&self, scene: &Scene, live: &Option<Live>) -> bool
+        requires { IsSet scene.now self.now }
+        ensures source { (w : World) → IsInTurn scene.now self.now live.now w →
+            result ≡ is_ready_at w scene.now.place }
+        ensures ready { IsTrue result → IsReadyInTurn scene.now.clock self.now.seats scene.now.place live.now }
+    {
+        match live {
+            Some(live) => live.ready(scene.clock),
+            None => self.is_ready_at(scene.place, scene.clock),
+        }
+    }
+
+    // A segment of the script at this place, which can run. One that is awake at a tick stays where it is.
+    pub(crate) fn segment(
+        &mut self,
+        scene: &Scene,
+        live: &mut Option<Live>,
+        out: &mut Entries,
+    ) -> Result<(), NoMemory>
+        requires set { IsSet scene.now self.old }
+        requires held { IsHeld scene.now.unit.now live.old }
+        requires ready { IsReadyInTurn scene.now.clock self.old.seats scene.now.place live.old }
+        ensures does { (m : Meant scene.now.library.now) (w : World) →
+            IsInTurn scene.now self.old live.old w →
+            Tells result (λ v _. IsBehindSegment scene.now self.new live.new v) out.old out.new
+            (segment m.rules scene.now.place w) }
+        ensures grid { KeepsSet scene.now result self.old self.new }
+        ensures held { OnOk result (IsHeld scene.now.unit.now live.new) }
+    {
+        let (_, stands) = pass_ticks(live, scene.unit, 1);
+        if stands {
+            return Ok(());
+        }
+        self.finish_segment(scene, live, out)
+    }
+
+    // The rest of a segment of the script at this place, or all of it where the script isn't awake yet.
+    fn finish_segment(
+        &mut self,
+        scene: &Scene,
+        live: &mut Option<Live>,
+        out: &mut Entries,
+    ) -> Result<(), NoMemory>
+        requires set { IsSet scene.now self.old }
+        requires able { IsAble scene.now.unit.now live.old }
+        requires ready { IsReadyInTurn scene.now.clock self.old.seats scene.now.place live.old }
+        ensures does { (m : Meant scene.now.library.now) (w : World) →
+            IsWithinSegment scene.now self.old live.old w →
+            Tells result (λ v _. IsBehindSegment scene.now self.new live.new v) out.old out.new
+            (segment m.rules scene.now.place w) }
+        ensures grid { KeepsSet scene.now result self.old self.new }
+        ensures held { OnOk result (IsHeld scene.now.unit.now live.new) }
+    {
+        match live {
+            Some(awake) => {
+                let turn = awake.go(scene.unit);
+                self.go_on(scene, live, turn, out)
+            }
+            None => self.first_segment(scene, live, out),
+        }
+    }
+
+    // A segment of a script that isn't awake yet.
+    #[inline(never)]
+    fn first_segment(
+        &mut self,
+        scene: &Scene,
+        live: &mut Option<Live>,
+        out: &mut Entries,
+    ) -> Result<(), NoMemory>
+        requires set { IsSet scene.now self.old }
+        requires ready { IsReadyInTurn scene.now.clock self.old.seats scene.now.place None }
+        ensures does { (m : Meant scene.now.library.now) (w : World) → IsHome scene.now self.old w →
+            Tells result (λ v _. IsBehindSegment scene.now self.new live.new v) out.old out.new
+            (segment m.rules scene.now.place w) }
+        ensures grid { KeepsSet scene.now result self.old self.new }
+        ensures held { OnOk result (IsHeld scene.now.unit.now live.new) }
+    {
+        self.begin(scene, live, out)?;
+        let Some(awake) = live else {
+            unreachable!();
+        };
+        let turn = awake.start(scene.unit);
+        self.go_on(scene, live, turn, out)
+    }
+
+    // At a turn's end the script comes to rest, and back into the grid: it is saved.
+    #[inline(never)]
+    fn settle(
+        &mut self,
+        scene: &Scene,
+        live: &mut Option<Live>,
+        pause: &mut Pause,
+    ) -> Result<(), NoMemory>
+        requires set { IsSet scene.now self.old }
+        requires held { IsHeld scene.now.unit.now live.old }
+        ensures does { (w : World) → IsInTurn scene.now self.old live.old w →
+            OnOk result (IsHome scene.now self.new w) }
+        ensures counted { (t : Tally) → Counts pause.old t →
+            OnOk result (Counts pause.new (with_save (is_some live.old) t)) }
+        ensures grid { KeepsSet scene.now result self.old self.new }
+        ensures gaps { pause.new.gaps ≡ pause.old.gaps }
+    {
+        if let Some(live) = live.take() {
+            let script = live.rest(scene.unit)?;
+            self.put_back(scene.place, script);
+            pause.count();
+        }
+        Ok(())
+    }
+}
+
+// Segments of a script that is awake, at most so many, on integers and calls of functions alone: how many, and whether
+// it stands at a tick then. Else it is within the next one, or not awake.
+#[inline(always)]
+fn pass_ticks(live: &mut Option<Live>, unit: &Woven, most: u32) -> (u32, bool)
+    requires some { 0 < most }
+    requires held { IsHeld unit.now live.old }
+    ensures passed { PassesAwake result.1 unit.now result.0 live.old live.new }
+    ensures some { result.1 ≡ true → 0 < result.0 }
+    ensures most { result.0 ≤ most }
+    ensures left { result.1 ≡ false → result.0 < most }
+    ensures held { result.1 ≡ true → IsHeld unit.now live.new }
+    ensures able { IsAble unit.now live.new }
+{
+    match live {
+        Some(awake) => awake.pass_ticks(unit, most),
+        None => (0, false),
+    }
+}
