@@ -10,7 +10,7 @@ use crate::rows::Rows;
 use lsl_value::{BuiltinId, Kind};
 
 /// Where a call is done, and how.
-#[derive(Clone, Copy, Debug, PartialEq, Eq, Hash)]
+#[derive(Clone, Copy, PartialEq, Eq, Hash)]
 pub enum Home {
     /// by its arguments alone
     Pure,
@@ -39,7 +39,7 @@ pub enum Home {
 }
 
 /// What is known of a call. `result` is none where it gives no value.
-#[derive(Debug, Drop)]
+#[derive(Drop)]
 pub struct Row {
     pub name: &'static str,
     pub params: Kinds,

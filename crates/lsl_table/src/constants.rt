@@ -9,7 +9,7 @@ use crate::rows::Rows;
 use lsl_value::{ConstantId, Kind};
 
 /// The value of a constant.
-#[derive(Clone, Copy, Debug, PartialEq, Eq)]
+#[derive(Clone, Copy, PartialEq, Eq)]
 pub enum ConstantValue {
     Int(i32),
     Str(&'static str),

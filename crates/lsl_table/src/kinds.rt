@@ -6,7 +6,7 @@ use lsl_value::Kind;
 use std::marker::Model;
 
 /// A list of at most four kinds, held in place.
-#[derive(Debug, Drop)]
+#[derive(Drop)]
 pub struct Kinds {
     held: [Kind; 4],
     count: usize,
