@@ -12,7 +12,7 @@ use lsl_text::NoMemory;
 use std::mem::replace;
 
 /// Where an object stands as a region sees it.
-#[derive(Debug, Drop)]
+#[derive(Drop)]
 pub enum Phase {
     /// It isn't here.
     Away,
@@ -26,7 +26,7 @@ pub enum Phase {
 
 /// What a region knows of an object: the last trip that it heard of, whether it took the object on that trip, and where
 /// the object stands.
-#[derive(Debug, Drop)]
+#[derive(Drop)]
 pub struct Card {
     pub trip: u64,
     pub took: bool,

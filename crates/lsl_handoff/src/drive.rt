@@ -16,7 +16,7 @@ use lsl_text::NoMemory;
 const MOST_ROUNDS: u32 = 8;
 
 /// An object that goes, and its two regions.
-#[derive(Clone, Copy, Debug, PartialEq, Eq)]
+#[derive(Clone, Copy, PartialEq, Eq)]
 pub struct Way {
     pub object: u32,
     pub from: u32,
@@ -25,7 +25,7 @@ pub struct Way {
 
 /// A drive between two notes: how often the note that asks was carried, the answer that is to be carried, and the offer
 /// that made the object live in the other region.
-#[derive(Debug, Drop)]
+#[derive(Drop)]
 pub struct Drive {
     way: Way,
     rounds: u32,

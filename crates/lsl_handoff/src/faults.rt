@@ -7,7 +7,7 @@ ghost use Rattle.lsl_handoff.specs.declared.faults.NoteFault.TheVariants.{Body};
 use lsl_text::{NoMemory, Refusal};
 
 /// Why an object doesn't depart: the first that holds, in this order.
-#[derive(Clone, Copy, Debug, PartialEq, Eq)]
+#[derive(Clone, Copy, PartialEq, Eq)]
 pub enum DepartFault {
     /// It isn't live in the region.
     NotLive,

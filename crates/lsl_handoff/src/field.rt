@@ -14,7 +14,7 @@ use std::alloc::Global;
 use std::marker::Model;
 
 // The cards of one object.
-#[derive(Debug, Drop)]
+#[derive(Drop)]
 struct Cards {
     list: Vec<Card>,
 }
@@ -65,7 +65,7 @@ impl Cards {
 }
 
 /// The cards that all regions have of all objects.
-#[derive(Debug, Drop)]
+#[derive(Drop)]
 pub struct Field {
     objects: Vec<Cards>,
 }

@@ -20,7 +20,7 @@ pub enum NoteKind {
 
 /// A note about an object on one of its trips, from a region to another. Regions and objects are numbered from 1. The
 /// parcel is empty but in an offer.
-#[derive(Debug, Drop)]
+#[derive(Drop)]
 pub struct Note {
     pub kind: NoteKind,
     pub object: u32,

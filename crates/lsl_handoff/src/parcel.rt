@@ -6,7 +6,7 @@ use lsl_text::NoMemory;
 use std::marker::Model;
 
 /// A list of bytes. The empty one needs neither memory nor an allocator.
-#[derive(Debug, Drop)]
+#[derive(Drop)]
 pub struct Parcel {
     held: Option<Vec<u8>>,
 }

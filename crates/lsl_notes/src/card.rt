@@ -8,7 +8,7 @@ use std::marker::Model;
 use std::rc::Rc;
 
 /// The lines of a notecard, as texts: one more than 65,536 at most. Copies share them.
-#[derive(Debug, Drop)]
+#[derive(Drop)]
 pub struct Card {
     lines: Rc<Vec<Text>>,
 }

@@ -11,7 +11,7 @@ use std::alloc::Global;
 use std::marker::Model;
 
 /// A notecard: the number of its prim among all prims of the world, its name, and its lines.
-#[derive(Debug, Drop)]
+#[derive(Drop)]
 pub struct Notecard {
     pub prim: u32,
     pub name: Text,
@@ -28,7 +28,7 @@ impl Notecard {
 }
 
 /// At most 256 notecards, numbered from 1 on in the order in which they were added. Each is held once.
-#[derive(Debug, Drop)]
+#[derive(Drop)]
 pub struct Cards {
     list: Vec<Notecard>,
 }

@@ -1,7 +1,7 @@
 //! What can be wrong with a notecard.
 
 /// A fault of a notecard.
-#[derive(Clone, Copy, Debug, PartialEq, Eq, Drop)]
+#[derive(Clone, Copy, PartialEq, Eq, Drop)]
 pub enum CardFault {
     /// It has more than 65,536 bytes.
     TooLong,

@@ -12,7 +12,7 @@ use std::alloc::{AllocError, Global};
 use std::marker::Model;
 
 /// A trip of a link in memory: what was sent, and what came back, or none where that carrying failed.
-#[derive(Debug, Drop)]
+#[derive(Drop)]
 pub struct StoredTrip {
     sent: Vec<u8>,
     back: Option<Vec<u8>>,
@@ -67,7 +67,7 @@ impl StoredTrip {
 }
 
 /// A byte that is changed in what comes back of one call. Calls are counted from 1.
-#[derive(Debug, Drop)]
+#[derive(Drop)]
 pub struct Damage {
     call: u64,
     place: usize,
@@ -92,7 +92,7 @@ impl Damage {
 }
 
 /// What comes back of one call in place of what was sent. Calls are counted from 1.
-#[derive(Debug, Drop)]
+#[derive(Drop)]
 pub struct Replacement {
     call: u64,
     bytes: Vec<u8>,
@@ -161,7 +161,7 @@ fn apply_damages(damages: &[Damage], call: u64, bytes: &mut [u8])
 /// A link in memory, which tells its trips. Calls are counted from 1, and those whose numbers it was given fail: its
 /// count of faults rises at these. What comes back of the others is what was sent, or the first replacement with the
 /// call's number, with all damages of this number applied in order. A call that lacks memory isn't counted.
-#[derive(Debug, Drop)]
+#[derive(Drop)]
 pub struct MemoryLink {
     trips: Vec<StoredTrip>,
     failing: Vec<u64>,

@@ -10,7 +10,7 @@ use std::alloc::{AllocError, Global};
 use std::marker::Model;
 
 /// A file of a shelf in memory.
-#[derive(Debug, Drop)]
+#[derive(Drop)]
 pub struct StoredFile {
     name: String,
     bytes: Vec<u8>,
@@ -79,7 +79,7 @@ fn find_file(files: &[StoredFile], name: &str) -> usize
 /// piece, and those whose numbers it was given fail. It has one count of faults for each file and
 /// one for all other names together; they rise at the calls that fail and at a name that it
 /// doesn't hold. Of two files of one name the first counts.
-#[derive(Debug, Drop)]
+#[derive(Drop)]
 pub struct MemoryShelf {
     files: Vec<StoredFile>,
     faults: Vec<u64>,

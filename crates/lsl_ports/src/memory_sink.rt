@@ -12,7 +12,7 @@ use std::marker::Model;
 /// piece, and those whose numbers it was given fail. Its count of faults rises at these calls and
 /// at a piece that isn't empty and finds the room full. Otherwise it takes as much as fits, up to the
 /// greatest count that one call takes.
-#[derive(Debug, Drop)]
+#[derive(Drop)]
 pub struct MemorySink {
     taken: Vec<u8>,
     room: usize,
