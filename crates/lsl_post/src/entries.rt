@@ -11,7 +11,7 @@ use std::marker::Model;
 use std::mem;
 
 /// How a text is said.
-#[derive(Clone, Copy, Debug, PartialEq, Eq)]
+#[derive(Clone, Copy, PartialEq, Eq)]
 pub enum Voice {
     Say,
     Whisper,
@@ -20,7 +20,7 @@ pub enum Voice {
 }
 
 /// What happened. The first number is the script's, and in `Home` the object's.
-#[derive(Debug, Drop)]
+#[derive(Drop)]
 pub enum Entry {
     /// a handler of this event began
     Took(u32, Event),
@@ -41,7 +41,7 @@ pub enum Entry {
 }
 
 /// A list of entries.
-#[derive(Debug, Drop)]
+#[derive(Drop)]
 pub struct Entries {
     list: Vec<Entry>,
 }

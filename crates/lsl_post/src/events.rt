@@ -9,7 +9,7 @@ use lsl_value::{EventId, Text, Values};
 use std::alloc::Global;
 
 /// Who touched a prim: a key, a name, and the number of the touched prim.
-#[derive(Debug, Drop)]
+#[derive(Drop)]
 pub struct Toucher {
     pub key: Text,
     pub name: Text,
@@ -30,7 +30,7 @@ impl Toucher {
 }
 
 /// An event: which one, its arguments, which have the kinds of its parameters, and who touched.
-#[derive(Debug, Drop)]
+#[derive(Drop)]
 pub struct Event {
     pub id: EventId,
     pub args: Values,

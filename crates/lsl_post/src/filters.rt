@@ -12,7 +12,7 @@ use lsl_value::Text;
 use std::hash::{Hash, Hasher};
 
 /// The four values that a listen is asked for with, as they were handed in.
-#[derive(Debug, Drop)]
+#[derive(Drop)]
 pub struct Filter {
     pub channel: i32,
     pub name: Text,

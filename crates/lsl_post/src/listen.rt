@@ -14,7 +14,7 @@ const NULL_KEY: &str = "00000000-0000-0000-0000-000000000000";
 
 /// A listen: its number, whether it is active, and what it asks of a text that is said
 /// (<https://wiki.secondlife.com/wiki/LlListen>).
-#[derive(Debug, Drop)]
+#[derive(Drop)]
 pub struct Listen {
     pub number: i32,
     pub active: bool,
@@ -106,7 +106,7 @@ fn is_any_id(id: &Text) -> bool
 }
 
 /// Why a listen isn't added.
-#[derive(Clone, Copy, Debug, PartialEq, Eq)]
+#[derive(Clone, Copy, PartialEq, Eq)]
 pub enum ListenFault {
     /// 65 listens stand, none of them with these values
     TooMany,

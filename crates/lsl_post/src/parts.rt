@@ -15,14 +15,14 @@ use lsl_value::{Text, Values};
 use std::alloc::Global;
 
 /// A name with its value, as a store keeps it.
-#[derive(Debug, Drop)]
+#[derive(Drop)]
 pub struct Pair {
     pub name: Text,
     pub value: Text,
 }
 
 /// What a script does between turns.
-#[derive(Debug, Drop)]
+#[derive(Drop)]
 pub enum Rest {
     /// no handler is in flight
     Idle,
@@ -33,7 +33,7 @@ pub enum Rest {
 }
 
 /// What becomes of an event that is posted.
-#[derive(Debug, Drop)]
+#[derive(Drop)]
 pub enum Posted {
     Queued,
     /// 64 events wait already
