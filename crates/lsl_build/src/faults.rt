@@ -10,7 +10,7 @@ use lsl_type::TypeFault;
 
 /// Why a script isn't accepted: the fault's number, and where it stands. Lexical faults have the numbers
 /// 1 to 6, those of the grammar 10 to 14, and those of names and kinds 20 to 31.
-#[derive(Clone, Copy, Debug, PartialEq, Eq)]
+#[derive(Clone, Copy, PartialEq, Eq)]
 pub struct BuildFault {
     pub number: u8,
     pub span: Span,

@@ -1,7 +1,7 @@
 //! What a store answers.
 
 /// What becomes of a write or a delete. The store is changed after `Stored` and `Deleted` alone.
-#[derive(Clone, Copy, Debug, PartialEq, Eq, Drop)]
+#[derive(Clone, Copy, PartialEq, Eq, Drop)]
 pub enum Wrote {
     /// the name holds the value now
     Stored,

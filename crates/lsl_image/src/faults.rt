@@ -7,7 +7,7 @@ ghost use Rattle.lsl_image.specs.declared.faults.ImageFault.TheVariants.{Body};
 use lsl_text::Refusal;
 
 /// Why bytes are no image, the first fault in the order of the tests.
-#[derive(Clone, Copy, Debug, PartialEq, Eq)]
+#[derive(Clone, Copy, PartialEq, Eq)]
 pub enum ImageFault {
     /// There are this many bytes, and that many are wanted.
     Size { found: u64, wanted: u64 },

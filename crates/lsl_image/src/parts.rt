@@ -9,7 +9,7 @@ pub type Pairs = Sequence<Pair>;
 
 /// What is known of an object before its image is read: its key, how many prims it has, and the numbers of its
 /// scripts' units.
-#[derive(Debug, Drop)]
+#[derive(Drop)]
 pub struct Shape {
     pub key: Text,
     pub prims: u32,

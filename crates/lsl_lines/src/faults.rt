@@ -1,7 +1,7 @@
 //! What can be wrong with a world file.
 
 /// A fault of a world file.
-#[derive(Clone, Copy, Debug, PartialEq, Eq, Hash)]
+#[derive(Clone, Copy, PartialEq, Eq, Hash)]
 pub enum FileKind {
     /// The line has no form, or its form stands in the wrong part of the file.
     BadLine,
@@ -43,7 +43,7 @@ impl FileKind {
 }
 
 /// A fault of a world file, and its line: the first is 1, and a file that is too long has 0.
-#[derive(Clone, Copy, Debug, PartialEq, Eq)]
+#[derive(Clone, Copy, PartialEq, Eq)]
 pub struct FileFault {
     pub kind: FileKind,
     pub line: u32,

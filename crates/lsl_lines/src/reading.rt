@@ -22,7 +22,7 @@ const MAX_NOTES: usize = 256;
 const MAX_STEPS: usize = 100_000;
 
 /// The part of the file that a line stands in.
-#[derive(Clone, Copy, Debug, PartialEq, Eq)]
+#[derive(Clone, Copy, PartialEq, Eq)]
 pub enum Part {
     Objects,
     Steps,

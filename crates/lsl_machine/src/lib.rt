@@ -58,7 +58,7 @@ use crate::standing::{Standing, standing_at};
 pub use lsl_running::{Call, Fault, Kept, Outcome, Reply};
 
 /// A machine that was saved: its calls as frames, and its globals with the limit.
-#[derive(Debug, Drop)]
+#[derive(Drop)]
 pub struct Parked {
     pub sack: Sack,
     pub kept: Kept,

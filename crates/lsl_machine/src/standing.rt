@@ -26,7 +26,7 @@ pub enum Standing {
 }
 
 /// Why a run came to a halt.
-#[derive(Debug, Drop)]
+#[derive(Drop)]
 pub enum Halt {
     Asks(Call),
     AtTick,

@@ -1,14 +1,14 @@
 //! The steps of a made world.
 
 /// One of the two regions.
-#[derive(Clone, Copy, Debug, PartialEq, Eq)]
+#[derive(Clone, Copy, PartialEq, Eq)]
 pub enum Region {
     A,
     B,
 }
 
 /// A step of a made world. Objects and scripts have one number, since each object has one script.
-#[derive(Clone, Copy, Debug, PartialEq, Eq)]
+#[derive(Clone, Copy, PartialEq, Eq)]
 pub enum Step {
     /// the object is touched
     Touch(u32),

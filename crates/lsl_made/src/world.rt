@@ -19,7 +19,7 @@ const OBJECTS: u32 = 8;
 const STEPS: u32 = 4_000;
 
 /// A made world: the text of its world file, and of the one file that its scripts name, `walker`.
-#[derive(Debug, Drop)]
+#[derive(Drop)]
 pub struct Made {
     pub world: Text,
     pub script: Text,

@@ -25,7 +25,7 @@ use lsl_value::Text;
 use std::alloc::{AllocError, Global};
 
 /// Why an object stayed where it was.
-#[derive(Clone, Copy, Debug, PartialEq, Eq)]
+#[derive(Clone, Copy, PartialEq, Eq)]
 pub enum StayedWhy {
     /// The link failed, and counted it.
     Link,
@@ -34,7 +34,7 @@ pub enum StayedWhy {
 }
 
 /// What became of an object that was to cross.
-#[derive(Clone, Copy, Debug, PartialEq, Eq)]
+#[derive(Clone, Copy, PartialEq, Eq)]
 pub enum Crossed {
     /// It goes on in the other region, as what came back stands for.
     Moved,

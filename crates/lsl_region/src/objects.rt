@@ -15,14 +15,14 @@ use std::marker::Model;
 const NULL_KEY: &str = "00000000-0000-0000-0000-000000000000";
 
 /// A prim: its key and its name.
-#[derive(Debug, Drop)]
+#[derive(Drop)]
 pub struct Primitive {
     pub key: Text,
     pub name: Text,
 }
 
 /// The prims of an object, the root first.
-#[derive(Debug, Drop)]
+#[derive(Drop)]
 pub struct Prims {
     list: Vec<Primitive>,
 }

@@ -94,7 +94,7 @@ fn drop_all(values: &mut Vec<Value>)
 }
 
 /// What a host call is answered.
-#[derive(Debug, Drop)]
+#[derive(Drop)]
 pub enum Reply {
     /// the call's value, and none where it gives none
     Value(Option<Value>),

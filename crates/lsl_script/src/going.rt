@@ -6,7 +6,7 @@ ghost use Rattle.lsl_script.specs.Handlers.{going_from, going_of, going_on};
 use lsl_running::Outcome;
 
 /// Where a script goes whose handler ended.
-#[derive(Clone, Copy, Debug, PartialEq, Eq)]
+#[derive(Clone, Copy, PartialEq, Eq)]
 pub enum Going {
     /// It stays in its state.
     Stays,

@@ -49,7 +49,7 @@ pub struct Live {
 }
 
 /// How far a script came.
-#[derive(Debug, Drop)]
+#[derive(Drop)]
 pub enum Turn {
     /// to this host call, for whose answer it waits
     Asks(Call),

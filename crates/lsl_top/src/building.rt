@@ -14,7 +14,7 @@ use lsl_text::Refusal;
 use std::alloc::Global;
 
 /// The place of the first text that isn't accepted, and its fault.
-#[derive(Clone, Copy, Debug, PartialEq, Eq)]
+#[derive(Clone, Copy, PartialEq, Eq)]
 pub struct Refused {
     pub place: usize,
     pub fault: BuildFault,

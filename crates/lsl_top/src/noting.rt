@@ -12,7 +12,7 @@ use lsl_text::{NoMemory, Refusal};
 use std::alloc::Global;
 
 /// The place of the first text that is no notecard, and its fault.
-#[derive(Clone, Copy, Debug, PartialEq, Eq)]
+#[derive(Clone, Copy, PartialEq, Eq)]
 pub struct BadCard {
     pub place: usize,
     pub fault: CardFault,

@@ -12,7 +12,7 @@ use lsl_text::NoMemory;
 use std::alloc::AllocError;
 
 /// Why not all was written.
-#[derive(Clone, Copy, Debug, PartialEq, Eq)]
+#[derive(Clone, Copy, PartialEq, Eq)]
 pub enum Trouble {
     /// The sink failed.
     WriteFault,
