@@ -6,7 +6,7 @@ use lsl_value::{EventId, Kind, Text};
 
 /// A resume point: the kinds of its map, which are the slots and then the waiting operands from the first pushed,
 /// and at a call the called function.
-#[derive(Debug, Drop)]
+#[derive(Drop)]
 pub struct Point {
     pub kinds: Sequence<Kind>,
     pub calls: Option<u16>,
@@ -29,14 +29,14 @@ pub struct FunctionCode {
 }
 
 /// The function that handles an event.
-#[derive(Clone, Copy, Debug, PartialEq, Eq)]
+#[derive(Clone, Copy, PartialEq, Eq)]
 pub struct Handler {
     pub event: EventId,
     pub function: u16,
 }
 
 /// A state with its handlers.
-#[derive(Debug, Drop)]
+#[derive(Drop)]
 pub struct StateCode {
     pub name: Text,
     pub handlers: Sequence<Handler>,

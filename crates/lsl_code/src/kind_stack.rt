@@ -9,7 +9,7 @@ use std::alloc::Global;
 use std::marker::Model;
 
 /// A stack of kinds, which contracts see with the top first.
-#[derive(Debug, Drop)]
+#[derive(Drop)]
 pub struct KindStack {
     kinds: Vec<Kind>,
 }

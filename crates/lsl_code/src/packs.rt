@@ -12,7 +12,7 @@ use std::alloc::Global;
 use std::marker::Model;
 
 /// Saved calls, the innermost first, and behind them the values of one in hand.
-#[derive(Debug, Drop)]
+#[derive(Drop)]
 pub struct Pack {
     /// where the values of each call end
     pub(crate) marks: Vec<Mark>,

@@ -13,7 +13,7 @@ use std::alloc::Global;
 use std::marker::Model;
 
 /// The saved calls of a handler that was cut at a tick, as they lie on a stack.
-#[derive(Debug, Drop)]
+#[derive(Drop)]
 pub struct Sack {
     /// the innermost call, unless there is none
     top: Option<Top>,
@@ -24,7 +24,7 @@ pub struct Sack {
 }
 
 /// The innermost call: its function, and the point at which it stands.
-#[derive(Clone, Copy, Debug)]
+#[derive(Clone, Copy)]
 pub(crate) struct Top {
     pub(crate) function: u16,
     pub(crate) point: u16,
