@@ -1,5 +1,6 @@
 //! The bytes that the lines of a case stand for.
 
+use std::alloc::Global;
 use std::rt::Files;
 use std::{fs, io};
 
@@ -7,12 +8,17 @@ use std::{fs, io};
 /// the same with line feeds, `x` hexadecimal digits, `<` the bytes of a file. An empty line has none.
 pub fn bytes_of<R: Files + AllocGlobal>(rt: &R, lines: &str) -> io::Result<Vec<u8>> {
     let mut out = Vec::new(rt.alloc());
+    push_lines(rt, &mut out, lines)?;
+    Ok(out)
+}
+
+fn push_lines<R: Files + AllocGlobal>(rt: &R, out: &mut Vec<u8>, lines: &str) -> io::Result<()> {
     for line in lines.split('\n') {
         if let Some(sign) = line.chars().next() {
-            push_line(rt, &mut out, sign, line.strip_prefix(sign).unwrap_or(""))?;
+            push_line(rt, out, sign, line.strip_prefix(sign).unwrap_or(""))?;
         }
     }
-    Ok(out)
+    Ok(())
 }
 
 fn push_line<R: Files + AllocGlobal>(
@@ -22,18 +28,28 @@ fn push_line<R: Files + AllocGlobal>(
     text: &str,
 ) -> io::Result<()> {
     match sign {
-        '|' => push_many(out, 1, text, "\n")?,
-        '+' => push_many(out, 1, text, "")?,
-        '*' => push_counted(out, text, "")?,
-        '%' => push_counted(out, text, "\n")?,
-        'x' => match hex::decode(rt.alloc(), text.as_bytes()) {
-            Ok(bytes) => out.extend_from_slice(bytes.as_slice())?,
-            Err(_) => return Err(io::Error::from(io::ErrorKind::InvalidData)),
-        },
-        '<' => out.extend_from_slice(fs::read(rt, text)?.as_slice())?,
-        _ => return Err(io::Error::from(io::ErrorKind::InvalidData)),
+        '|' => push_many(out, 1, text, "\n"),
+        '+' => push_many(out, 1, text, ""),
+        '*' => push_counted(out, text, ""),
+        '%' => push_counted(out, text, "\n"),
+        'x' => push_digits(rt.alloc(), out, text),
+        '<' => push_file(rt, out, text),
+        _ => Err(io::Error::from(io::ErrorKind::InvalidData)),
     }
-    Ok(())
+}
+
+/// Appends the bytes of hexadecimal digits.
+fn push_digits(alloc: Global, out: &mut Vec<u8>, digits: &str) -> io::Result<()> {
+    match hex::decode(alloc, digits.as_bytes()) {
+        Ok(bytes) => Ok(out.extend_from_slice(bytes.as_slice())?),
+        Err(_) => Err(io::Error::from(io::ErrorKind::InvalidData)),
+    }
+}
+
+/// Appends the bytes of a file.
+fn push_file<R: Files + AllocGlobal>(rt: &R, out: &mut Vec<u8>, name: &str) -> io::Result<()> {
+    let bytes = fs::read(rt, name)?;
+    Ok(out.extend_from_slice(bytes.as_slice())?)
 }
 
 /// Appends a text so many times as the number before it says, each time with this end.

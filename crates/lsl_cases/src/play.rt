@@ -20,12 +20,24 @@ pub fn play_named<R: Env + Files + Print + AllocGlobal, P: Player<R>>(
     player: &P,
 ) -> io::Result<()> {
     for name in env::args(rt)?.skip(1) {
-        let text = fs::read_to_string(rt, name.as_str())?;
-        let text = text.as_str();
-        let held = play_all(rt, player, text.strip_suffix('\n').unwrap_or(text))?;
-        println!(rt; "{name}: {held} cases hold")?;
+        play_file(rt, player, name.as_str())?;
     }
     Ok(())
+}
+
+/// Plays the cases of a file, and tells how many hold.
+fn play_file<R: Files + Print + AllocGlobal, P: Player<R>>(
+    rt: &R,
+    player: &P,
+    name: &str,
+) -> io::Result<()> {
+    let text = fs::read_to_string(rt, name)?;
+    let held = play_all(rt, player, without_feed(text.as_str()))?;
+    println!(rt; "{name}: {held} cases hold")
+}
+
+fn without_feed(text: &str) -> &str {
+    text.strip_suffix('\n').unwrap_or(text)
 }
 
 /// Plays cases with an empty line between, and counts those that hold.
@@ -53,12 +65,21 @@ fn holds<R: Files + Print + AllocGlobal, P: Player<R>>(
         println!(rt; "not in the form of a case:\n{text}\n")?;
         return Ok(false);
     };
-    let wanted = match bytes_of(rt, case.lines) {
-        Ok(bytes) => bytes,
-        Err(error) => return tell_error(rt, case.name, error),
-    };
+    match bytes_of(rt, case.lines) {
+        Ok(wanted) => ends_so(rt, player, case, wanted.as_slice()),
+        Err(error) => tell_error(rt, case.name, error),
+    }
+}
+
+/// Whether the command of a case ends as it is to, with these bytes.
+fn ends_so<R: Files + Print + AllocGlobal, P: Player<R>>(
+    rt: &R,
+    player: &P,
+    case: Case<'_>,
+    wanted: &[u8],
+) -> io::Result<bool> {
     match player.ending(rt, case) {
-        Ok(ending) => tell(rt, case, &ending, wanted.as_slice()),
+        Ok(ending) => tell(rt, case, &ending, wanted),
         Err(error) => tell_error(rt, case.name, error),
     }
 }

@@ -34,15 +34,20 @@ fn tell_line<R: Print + AllocGlobal>(
 ) -> io::Result<()> {
     let came = String::from_utf8_lossy(rt.alloc(), came)?;
     let wanted = String::from_utf8_lossy(rt.alloc(), wanted)?;
+    let (number, line, other) = first_other(came.as_str(), wanted.as_str());
+    println!(rt; "{name}: line {number}\n  came:   {line}\n  wanted: {other}")
+}
+
+/// The first line that differs: its number, what came, and what was wanted.
+fn first_other<'a>(came: &'a str, wanted: &'a str) -> (u64, &'a str, &'a str) {
     let mut number = 1u64;
-    let mut wanted_lines = wanted.as_str().split('\n');
-    for line in came.as_str().split('\n') {
+    let mut wanted_lines = wanted.split('\n');
+    for line in came.split('\n') {
         let other = wanted_lines.next().unwrap_or("");
         if line != other {
-            return println!(rt; "{name}: line {number}\n  came:   {line}\n  wanted: {other}");
+            return (number, line, other);
         }
         number = number.saturating_add(1);
     }
-    let other = wanted_lines.next().unwrap_or("");
-    println!(rt; "{name}: line {number}\n  came:   nothing more\n  wanted: {other}")
+    (number, "nothing more", wanted_lines.next().unwrap_or(""))
 }
