@@ -121,12 +121,21 @@ pub fn tell(told: &mut Shown, events: &str) -> Result<(), AllocError> {
 fn tell_places(told: &mut Shown, schedule: usize) -> Result<(), AllocError> {
     let mut sent = Vec::new(told.alloc());
     let mut field = departed(told.alloc(), &mut sent)?;
+    tell_events(told, &mut field, &mut sent, schedule)
+}
+
+fn tell_events(
+    told: &mut Shown,
+    field: &mut Field,
+    sent: &mut Vec<Note>,
+    schedule: usize,
+) -> Result<(), AllocError> {
     let mut rest = schedule;
     for event in 0..EVENTS {
         let choices = CHOICES + event;
-        go_on(&mut field, &mut sent, rest % choices)?;
+        go_on(field, sent, rest % choices)?;
         rest /= choices;
-        told.add(place(&mut field)?);
+        told.add(place(field)?);
     }
     Ok(())
 }

@@ -46,7 +46,7 @@ pub fn tell(told: &mut Shown, asked: &str) -> Result<(), AllocError> {
     Ok(())
 }
 
-fn tell_signs(told: &mut Shown, line: &str) {
+pub fn tell_signs(told: &mut Shown, line: &str) {
     for character in line.chars() {
         told.put(&sign(character));
     }
@@ -57,13 +57,18 @@ fn push_owned(line: &mut Vec<u8>, entry: Entry) -> Result<(), AllocError> {
     push_line(line, &entry)
 }
 
-/// Shows the lines of all rows' entries after a line, and whether no entries add none.
+/// Shows the lines of all rows' entries after a line; false where no entries add one.
 pub fn show_all(shown: &mut Shown, rows: &str) -> Result<bool, AllocError> {
     let mut entries = Entries::new(shown.alloc());
-    for row in rows.lines() {
-        add_row(shown.alloc(), &mut entries, row)?;
-    }
+    add_rows(shown.alloc(), &mut entries, rows)?;
     show_lines(shown, entries)
+}
+
+fn add_rows(alloc: Global, entries: &mut Entries, rows: &str) -> Result<(), AllocError> {
+    for row in rows.lines() {
+        add_row(alloc, entries, row)?;
+    }
+    Ok(())
 }
 
 /// Adds the entry of a row.

@@ -1,6 +1,6 @@
 //! The line of a frozen world, written and read. In rows `^` is a line feed, `$` a carriage return and `%` a tab.
 
-use crate::lines::entries::spelled;
+use crate::lines::entries::{spelled, tell_signs};
 use crate::shown::Shown;
 use crate::words::{byte, parted};
 use lsl_image::ImageFault;
@@ -22,13 +22,16 @@ pub fn tell(told: &mut Shown, word: &str, rest: &str) -> Result<(), AllocError> 
 fn push(told: &mut Shown, asked: &str) -> Result<(), AllocError> {
     let (text, worlds) = parted(asked, "|");
     let mut out = spelled(told.alloc(), text)?.into_bytes();
+    let pushed = push_worlds(told.alloc(), &mut out, worlds);
+    tell_signs(told, std::str::from_utf8(&out).unwrap_or("no text"));
+    pushed
+}
+
+fn push_worlds(alloc: Global, out: &mut Vec<u8>, worlds: &str) -> Result<(), AllocError> {
     for world in worlds.split('|') {
-        let bytes = bytes_of(told.alloc(), world)?;
-        push_frozen(&mut out, bytes.as_slice())?;
+        let bytes = bytes_of(alloc, world)?;
+        push_frozen(out, bytes.as_slice())?;
     }
-    let text = std::str::from_utf8(&out).unwrap_or("no text");
-    let shown = text.replace(told.alloc(), "\n", "^")?;
-    told.add(shown.as_str());
     Ok(())
 }
 

@@ -86,10 +86,14 @@ fn cards_of(alloc: Global, card: Card) -> Result<Cards, AllocError> {
 /// What is told of each line, from 0 to the first after the last, with `/` between, and `end` for its three feeds.
 fn tell_lines(told: &mut Shown, card: Card) -> Result<(), AllocError> {
     let cards = cards_of(told.alloc(), card)?;
+    tell_each_line(told, &cards)
+}
+
+fn tell_each_line(told: &mut Shown, cards: &Cards) -> Result<(), AllocError> {
     told.put(&cards.count(1));
     told.add(": ");
     for line in 0..=cards.count(1) {
-        tell_line(told, &cards, line)?;
+        tell_line(told, cards, line)?;
     }
     Ok(())
 }
@@ -137,10 +141,14 @@ fn tell_length(told: &mut Shown, card: Card) -> Result<(), AllocError> {
 fn found(told: &mut Shown, asked: &str) -> Result<(), AllocError> {
     let (there, sought) = parted(asked, " : ");
     let cards = named_cards(told.alloc(), there)?;
+    tell_numbers(told, &cards, sought)
+}
+
+fn tell_numbers(told: &mut Shown, cards: &Cards, sought: &str) -> Result<(), AllocError> {
     for note in sought.split(", ") {
         let (prim, name) = parted(note, " ");
         let name = text(told.alloc(), name)?;
-        tell_number(told, &cards, number(prim), &name);
+        tell_number(told, cards, number(prim), &name);
     }
     Ok(())
 }
@@ -155,11 +163,16 @@ fn tell_number(told: &mut Shown, cards: &Cards, prim: u32, name: &Text) {
 
 fn named_cards(alloc: Global, notes: &str) -> Result<Cards, AllocError> {
     let mut cards = Cards::new(alloc);
+    add_all(alloc, &mut cards, notes)?;
+    Ok(cards)
+}
+
+fn add_all(alloc: Global, cards: &mut Cards, notes: &str) -> Result<(), AllocError> {
     for note in notes.split(", ") {
         let (prim, name) = parted(note, " ");
-        add(alloc, &mut cards, number(prim), text(alloc, name)?)?;
+        add(alloc, cards, number(prim), text(alloc, name)?)?;
     }
-    Ok(cards)
+    Ok(())
 }
 
 /// Adds a notecard, where there is room.

@@ -9,8 +9,12 @@ use std::alloc::{AllocError, Global};
 /// What a store answers to commands, one after another.
 pub fn tell(told: &mut Shown, commands: &str) -> Result<(), AllocError> {
     let mut store = Store::new(told.alloc());
+    answer_all(told, &mut store, commands)
+}
+
+fn answer_all(told: &mut Shown, store: &mut Store, commands: &str) -> Result<(), AllocError> {
     for command in commands.split(", ") {
-        answer(told, &mut store, command)?;
+        answer(told, store, command)?;
         told.add(" ");
     }
     Ok(())

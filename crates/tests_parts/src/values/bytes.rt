@@ -43,11 +43,16 @@ fn push(out: &mut Vec<u8>, kind: &str, number: &str) -> Result<(), AllocError> {
 /// The bytes of numbers, one after the other: `KIND NUMBER`, with commas between.
 fn tell_pushed(told: &mut Shown, numbers: &str) -> Result<(), AllocError> {
     let mut out = Vec::new(told.alloc());
+    push_all(&mut out, numbers)?;
+    told.debug(&out.as_slice());
+    Ok(())
+}
+
+fn push_all(out: &mut Vec<u8>, numbers: &str) -> Result<(), AllocError> {
     for number in numbers.split(", ") {
         let (kind, number) = parted(number, " ");
-        push(&mut out, kind, number)?;
+        push(out, kind, number)?;
     }
-    told.debug(&out.as_slice());
     Ok(())
 }
 
@@ -84,13 +89,18 @@ fn tell_taken(told: &mut Shown, bytes: &[u8], place: usize) -> Result<(), AllocE
 /// A value's bytes, what is read of them, with another byte after them too, and whether a prefix of them is a value.
 fn there_and_back(told: &mut Shown, word: &str) -> Result<(), AllocError> {
     let mut out = bytes_of(told.alloc(), word)?;
-    told.debug(&out.as_slice());
-    told.add(" = ");
-    tell_taken(told, out.as_slice(), 0)?;
-    tell_prefixes(told, out.as_slice())?;
+    tell_bytes(told, out.as_slice())?;
     out.push(9)?;
-    told.add(" = ");
     tell_taken(told, out.as_slice(), 0)
+}
+
+fn tell_bytes(told: &mut Shown, bytes: &[u8]) -> Result<(), AllocError> {
+    told.debug(&bytes);
+    told.add(" = ");
+    tell_taken(told, bytes, 0)?;
+    tell_prefixes(told, bytes)?;
+    told.add(" = ");
+    Ok(())
 }
 
 fn bytes_of(alloc: Global, word: &str) -> Result<Vec<u8>, AllocError> {
@@ -111,15 +121,24 @@ fn tell_prefixes(told: &mut Shown, bytes: &[u8]) -> Result<(), AllocError> {
 
 /// What is read of bytes at their start, and after their end.
 fn read(told: &mut Shown, numbers: &str) -> Result<(), AllocError> {
-    let mut bytes = Vec::new(told.alloc());
+    let bytes = numbered(told.alloc(), numbers)?;
+    told_twice(told, bytes.as_slice())
+}
+
+fn told_twice(told: &mut Shown, bytes: &[u8]) -> Result<(), AllocError> {
+    tell_taken(told, bytes, 0)?;
+    told.add(" ");
+    tell_taken(told, bytes, 99)
+}
+
+fn numbered(alloc: Global, numbers: &str) -> Result<Vec<u8>, AllocError> {
+    let mut bytes = Vec::new(alloc);
     for number in numbers.split(", ") {
         if !number.is_empty() {
             bytes.push(byte(number))?;
         }
     }
-    tell_taken(told, bytes.as_slice(), 0)?;
-    told.add(" ");
-    tell_taken(told, bytes.as_slice(), 99)
+    Ok(bytes)
 }
 
 /// Where a text of so many letters ends, and whether its bytes come back.

@@ -3,9 +3,9 @@
 use crate::shown::Shown;
 use crate::values::operators::operator;
 use crate::values::words;
-use crate::values::words::{headed, letter, letter_or_dash, tell_value, text};
+use crate::values::words::{headed, letter, letter_or_dash, tell_made, tell_value, text};
 use crate::words::parted;
-use lsl_value::{BinaryOp, Kind, Value, charge, copy, truth, valid_key};
+use lsl_value::{BinaryOp, Kind, Value, Values, charge, copy, truth, valid_key};
 use std::alloc::AllocError;
 
 pub fn tell(told: &mut Shown, word: &str, rest: &str) -> Result<(), AllocError> {
@@ -33,22 +33,30 @@ fn key(told: &mut Shown, characters: &str) -> Result<(), AllocError> {
 /// A value's kind, its charge, whether it holds, and its copy.
 fn value(told: &mut Shown, word: &str) -> Result<(), AllocError> {
     let value = words::value(told.alloc(), word)?;
+    tell_sort(told, &value);
+    tell_made(told, copy(&value));
+    Ok(())
+}
+
+fn tell_sort(told: &mut Shown, value: &Value) {
     told.add(letter(value.kind()));
     told.add(" ");
-    told.put(&charge(&value));
+    told.put(&charge(value));
     told.add(" ");
-    told.put(&truth(&value));
+    told.put(&truth(value));
     told.add(" ");
-    tell_value(told, &copy(&value)?);
-    Ok(())
 }
 
 /// How many values there are, and a copy of them.
 fn values(told: &mut Shown, word: &str) -> Result<(), AllocError> {
     let values = words::values(told.alloc(), word)?;
     told.put(&values.len());
-    let copied = values.copy(told.alloc())?;
-    for value in copied.as_slice() {
+    let copied = values.copy(told.alloc());
+    tell_copied(told, copied)
+}
+
+fn tell_copied(told: &mut Shown, copied: Result<Values, AllocError>) -> Result<(), AllocError> {
+    for value in copied?.as_slice() {
         told.add(" ");
         tell_value(told, value);
     }

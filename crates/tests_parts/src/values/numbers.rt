@@ -10,7 +10,7 @@ pub fn tell(told: &mut Shown, word: &str, rest: &str) -> Result<(), AllocError> 
     let text = characters(told.alloc(), rest)?;
     match word {
         "integer" => told.put(&leading_integer(text.as_bytes())),
-        "quoted" => quoted(told, text.as_str())?,
+        "quoted" => quoted(told, text.as_str()),
         "places" => places(told, text.as_bytes()),
         _ => told.add("no such row"),
     }
@@ -18,14 +18,18 @@ pub fn tell(told: &mut Shown, word: &str, rest: &str) -> Result<(), AllocError> 
 }
 
 /// Numbers and quoted texts, one after the other: `NUMBER TEXT`, with bars between.
-fn quoted(told: &mut Shown, pieces: &str) -> Result<(), AllocError> {
+fn quoted(told: &mut Shown, pieces: &str) {
     let mut out = Vec::new(told.alloc());
+    told.note(push_pieces(&mut out, pieces));
+    tell_characters(told, std::str::from_utf8(&out).unwrap_or(""));
+}
+
+fn push_pieces(out: &mut Vec<u8>, pieces: &str) -> Result<(), AllocError> {
     for piece in pieces.split('|') {
         let (number, text) = parted(piece, " ");
-        push_decimal(&mut out, number.parse::<i64>().unwrap_or(1))?;
-        push_quoted(&mut out, text.as_bytes())?;
+        push_decimal(out, number.parse::<i64>().unwrap_or(1))?;
+        push_quoted(out, text.as_bytes())?;
     }
-    tell_characters(told, std::str::from_utf8(&out).unwrap_or(""));
     Ok(())
 }
 

@@ -30,12 +30,17 @@ fn numbers(alloc: Global, words: &str) -> Result<Vec<u64>, AllocError> {
 
 /// A file `a` of so many letters, a file `b`, and another one of the name `a`.
 fn files(alloc: Global, size: usize) -> Result<Vec<StoredFile>, AllocError> {
-    let letters = vec![in alloc; b'x'; size]?;
     let mut files = Vec::new(alloc);
+    add_files(alloc, &mut files, size)?;
+    Ok(files)
+}
+
+fn add_files(alloc: Global, files: &mut Vec<StoredFile>, size: usize) -> Result<(), AllocError> {
+    let letters = vec![in alloc; b'x'; size]?;
     files.push(StoredFile::new(alloc, "a", letters.as_slice())?)?;
     files.push(StoredFile::new(alloc, "b", b"second")?)?;
     files.push(StoredFile::new(alloc, "a", b"hidden")?)?;
-    Ok(files)
+    Ok(())
 }
 
 /// Files are read, and then their faults are told: `SIZE FAILING: NAME LIMIT, NAME LIMIT`.
@@ -44,15 +49,24 @@ fn shelf(told: &mut Shown, asked: &str) -> Result<(), AllocError> {
     let (made, reads) = parted(asked, ": ");
     let (size, failing) = parted(made, " ");
     let mut shelf = MemoryShelf::new(alloc, files(alloc, short(size))?, numbers(alloc, failing)?)?;
+    let read = tell_reads(told, &mut shelf, reads);
+    tell_faults(told, &shelf);
+    read
+}
+
+fn tell_reads(told: &mut Shown, shelf: &mut MemoryShelf, reads: &str) -> Result<(), AllocError> {
     for read in reads.split(", ") {
-        tell_read(told, &mut shelf, read)?;
+        tell_read(told, shelf, read)?;
     }
+    Ok(())
+}
+
+fn tell_faults(told: &mut Shown, shelf: &MemoryShelf) {
     told.put(&shelf.fault_count("a"));
     told.add(" ");
     told.put(&shelf.fault_count("b"));
     told.add(" ");
     told.put(&shelf.fault_count("c"));
-    Ok(())
 }
 
 /// What is found of a file to a limit, or what a single read into no room answers: `NAME LIMIT` or `NAME @PLACE`.

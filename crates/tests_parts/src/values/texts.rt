@@ -24,18 +24,32 @@ fn grown(told: &mut Shown, asked: &str) -> Result<(), AllocError> {
     let tail = text(told.alloc(), tail)?;
     let mut grown = Text::new();
     let mut copied = Text::new();
-    for step in steps.split(' ') {
-        if step == "copy" {
-            copied = grown.copy()?;
-        } else {
-            grow(&mut grown, &tail)?;
-        }
-    }
+    told.note(take_steps(&mut grown, &mut copied, &tail, steps));
     told.add(grown.as_str());
     told.add(" ");
     told.add(copied.as_str());
     told.add(" ");
     told.add(tail.as_str());
+    Ok(())
+}
+
+fn take_steps(
+    grown: &mut Text,
+    copied: &mut Text,
+    tail: &Text,
+    steps: &str,
+) -> Result<(), AllocError> {
+    for step in steps.split(' ') {
+        match step {
+            "copy" => copy_to(copied, grown)?,
+            _ => grow(grown, tail)?,
+        }
+    }
+    Ok(())
+}
+
+fn copy_to(copied: &mut Text, grown: &Text) -> Result<(), AllocError> {
+    *copied = grown.copy()?;
     Ok(())
 }
 

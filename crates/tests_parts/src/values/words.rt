@@ -85,13 +85,17 @@ pub fn atom(alloc: Global, word: &str) -> Result<Atom, AllocError> {
 
 pub fn items(alloc: Global, words: &str) -> Result<Items, AllocError> {
     let mut items = Items::new(alloc);
-    if words.is_empty() {
-        return Ok(items);
-    }
-    for word in words.split('/') {
-        add(&mut items, atom(alloc, word)?)?;
+    if !words.is_empty() {
+        add_atoms(alloc, &mut items, words)?;
     }
     Ok(items)
+}
+
+fn add_atoms(alloc: Global, items: &mut Items, words: &str) -> Result<(), AllocError> {
+    for word in words.split('/') {
+        add(items, atom(alloc, word)?)?;
+    }
+    Ok(())
 }
 
 /// Adds an element where there is room for it.
@@ -115,10 +119,15 @@ pub fn value(alloc: Global, word: &str) -> Result<Value, AllocError> {
 /// Values between which a bar stands.
 pub fn values(alloc: Global, words: &str) -> Result<Values, AllocError> {
     let mut values = Values::new(alloc);
+    add_values(alloc, &mut values, words)?;
+    Ok(values)
+}
+
+fn add_values(alloc: Global, values: &mut Values, words: &str) -> Result<(), AllocError> {
     for word in words.split('|') {
         values.push(value(alloc, word)?)?;
     }
-    Ok(values)
+    Ok(())
 }
 
 fn tell_atom(told: &mut Shown, atom: &Atom) {
@@ -157,6 +166,14 @@ pub fn tell_value(told: &mut Shown, value: &Value) {
         Value::Str(text) => tell_text(told, "S", text),
         Value::Key(text) => tell_text(told, "K", text),
         Value::List(items) => tell_atoms(told, items.as_slice()),
+    }
+}
+
+/// Tells a value that nobody else needs, or notes that memory ended.
+pub fn tell_made(told: &mut Shown, made: Result<Value, AllocError>) {
+    match made {
+        Ok(value) => tell_value(told, &value),
+        Err(lack) => told.note(Err(lack)),
     }
 }
 
