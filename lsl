@@ -1,6 +1,6 @@
 #!/usr/bin/env python3
-"""Runs the program with the words of this call, in the caller's folder: see `lsl --help`. It is proved and built first
-where a source has changed. The last program that was built stands in out/, until a newer one does."""
+"""Runs the program with the words of this call, in the caller's folder: see `lsl --help`. It is the proved one
+where that was made of the sources as they are, and else one without proofs, compiled where a source has changed."""
 import os
 import sys
 

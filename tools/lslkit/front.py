@@ -1,6 +1,7 @@
 """The script `lsl`: reads its words, has the program made where need be, runs it, and says how it ended."""
 import errno
 import os
+import signal
 import subprocess
 import sys
 import tempfile
@@ -19,11 +20,13 @@ usage: lsl once FILE                runs a script, and prints its journal
        lsl make NUMBER              plays a world made of a number, and prints its report's lines and digest
        lsl check FILE               says that a script is accepted, or tells its first fault
        lsl play FILE ..             plays a script without a world file: 'lsl play --help'
-       lsl --try WORDS              the same words, by a program that isn't proved, after a minute at first
+       lsl --prove [WORDS]          proves the program, in about an hour, and then does the same with it
+       lsl --try WORDS              the same, by the program without its proofs also where there is a proved one
        lsl --help
 
-Write ./-x for a file whose name begins with '-'. The first call proves and builds the program, and says for how
-long: about an hour on four processors. Later calls start at once, until a source of the program changes.
+Write ./-x for a file whose name begins with '-'. The first call compiles the program without its proofs, in a
+minute or two: it keeps its checks, and stops where one fails. From 'lsl --prove' on the proved program is used, until
+a source of it changes.
 'tools/explain FILE' tells a script's first fault in words, as 'lsl check FILE' does on a terminal."""
 COMMANDS = ("once", "replay", "freeze", "thaw", "view", "check", "make")
 OF_WORLDS = ("replay", "freeze", "thaw", "view")
@@ -98,8 +101,10 @@ class Options:
 
 
 def main(words):
-    is_tried = words[:1] == ["--try"]
-    words = words[1:] if is_tried else words
+    if words == ["--prove"]:
+        return prove()
+    how = words[0] if words[:1] in (["--try"], ["--prove"]) else None
+    words = words[1:] if how else words
     if words[:1] in (["--help"], ["-h"]):
         print(USAGE)
         return 0
@@ -113,23 +118,28 @@ def main(words):
         return 1
     if words[0] == "play" and command.needs_no_program:
         return command.answer()
-    return with_program(command, is_tried)
+    return with_program(command, how)
 
 
-def with_program(command, is_tried):
+def prove():
+    """Proves the program, which is the one that runs from then on."""
+    if making.proved_program() is None:
+        return NOT_MADE
+    print("lsl: the program is proved", file=sys.stderr)
+    return 0
+
+
+def with_program(command, how):
     for name in command.files:
         # The last one is read first: where it can't be, nothing need be proved to know how that ends.
         said = program.unread(name)
         if said and (name == command.files[-1] or not program.is_plain(name)):
             print(f'lsl: "{name}" {said} (status 4)', file=sys.stderr)
             return READ_FAULT
-    binary = making.program(is_tried)
+    binary = making.proved_program() if how == "--prove" else making.program(how == "--try")
     if binary is None:
-        more = "" if is_tried else ". 'lsl --try WORDS' runs it unproved"
-        print(f"lsl: there is no new program{more}", file=sys.stderr)
+        print("lsl: there is no new program", file=sys.stderr)
         return NOT_MADE
-    if is_tried:
-        print("lsl: unproved: compiled without its proofs", file=sys.stderr, flush=True)
     if isinstance(command, playing.Play):
         return command.play(binary)
     return show(binary, command) if command.show or command.html else carry(binary, command)
@@ -197,7 +207,9 @@ def tell(command, status, first, notes):
     sys.stderr.flush()
     if status == READ_FAULT:
         program.tell_unread(command.name, command.is_world, command.frozen)
-    if status > program.SIGNALLED:
+    if status == program.SIGNALLED + signal.SIGILL:
+        print("lsl: a check failed in the program, which has no proofs; 'rt try' tells where", file=sys.stderr)
+    elif status > program.SIGNALLED:
         print(f"lsl: the program was ended by signal {status - program.SIGNALLED}", file=sys.stderr)
 
 

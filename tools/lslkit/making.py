@@ -1,21 +1,18 @@
-"""Makes the program: proved, or without its proofs. Both are kept in out/ until a source changes."""
+"""Makes the program: proved, or without its proofs and with checks. Both are kept in out/ until a source changes."""
 import os
 import re
 import shutil
 import subprocess
 import sys
 import tempfile
-import threading
 import time
 
-from . import sources
-from .places import in_top, write_text
+from . import kit, sources, unproved
+from .places import in_top
 
 PROGRAM = "lsl"
 PROVED = in_top("out", "lsl")
-TRIED = in_top("out", "lsl-tried")
-# A handler that stays for a moment, so that its program can be found while it runs.
-STAYING = "default { state_entry() { integer left = 40000; while (left) --left; } }\n"
+UNPROVED = in_top("out", "lsl-unproved")
 # The memory of a proof, in kilobytes.
 PROOF_NEEDS = 4000000
 # What proving the program takes at first, in processor minutes, and what no further processor makes shorter: the
@@ -107,57 +104,32 @@ def make_proved():
 # Without its proofs
 
 
-class Finder(threading.Thread):
-    """Finds the program that `rt try` runs in a folder of its own below this one, and keeps it."""
-
-    def __init__(self, room, kept):
-        super().__init__(daemon=True)
-        self.room, self.kept, self.ended = room, kept, threading.Event()
-
-    def run(self):
-        while not self.ended.wait(0.02):
-            for folder, _, names in os.walk(self.room):
-                if "program" in names and "stdout" in names and self.take(os.path.join(folder, "program")):
-                    return
-
-    def take(self, program):
-        try:
-            os.link(program, self.kept)
-        except OSError:
-            return False
-        return True
-
-
-def make_tried():
-    """Has `rt try` compile the program and run it on a small script, and keeps it. Whether it could."""
+def make_unproved():
+    """Compiles the program without its proofs, and says so. Whether it could."""
     if not has_rt():
         return False
-    say("compiling the program without its proofs, for about a minute; it is kept until a source changes")
-    os.makedirs(in_top("out"), exist_ok=True)
-    with tempfile.TemporaryDirectory(dir=in_top("out"), prefix="trying-") as room:
-        script, found = os.path.join(room, "staying.lsl"), os.path.join(room, "found")
-        write_text(script, STAYING)
-        finder = Finder(room, found)
-        finder.start()
-        words = ["rt", "try", "--data", f"staying.lsl={script}", "--", "once", "staying.lsl"]
-        how = {"cwd": in_top("crates", PROGRAM), "env": {**os.environ, "TMPDIR": room}, "stdin": subprocess.DEVNULL}
-        ran = subprocess.run(words, stdout=subprocess.PIPE, stderr=subprocess.PIPE, check=False, **how)
-        finder.ended.set()
-        finder.join()
-        if ran.returncode or not os.path.exists(found):
-            sys.stderr.buffer.write(ran.stderr[-4000:])
-            return False
-        os.chmod(found, 0o755)
-        keep(found, TRIED)
+    say("compiling the program without its proofs, in a minute or two; './lsl --prove' proves it, in about an hour")
+    try:
+        with tempfile.TemporaryDirectory(prefix="lsl-") as room:
+            binary = os.path.join(room, PROGRAM)
+            unproved.make(PROGRAM, binary)
+            keep(binary, UNPROVED)
+    except kit.NotMade as error:
+        say(error)
+        return False
     return True
 
 
 # Either
 
 
-def program(is_tried):
-    """The path of the program, made anew where a source changed; none where that can't be."""
-    binary, make = (TRIED, make_tried) if is_tried else (PROVED, make_proved)
+def is_proved():
+    """Whether the program was proved of the sources as they are."""
+    return sources.Stamp(PROGRAM, PROVED).is_fresh()
+
+
+def made(binary, make):
+    """The path of a program, made anew where a source changed; none where that can't be."""
     stamp = sources.Stamp(PROGRAM, binary)
     if not stamp.is_fresh():
         total, newest = sources.sum_of(PROGRAM), sources.newest_of(PROGRAM)
@@ -167,9 +139,19 @@ def program(is_tried):
     return binary
 
 
+def proved_program():
+    """The path of the proved program; none where it can't be made."""
+    return made(PROVED, make_proved)
+
+
+def program(is_tried=False):
+    """The path of the proved program where there is one, or else, or where it is asked for, of one without proofs."""
+    return PROVED if not is_tried and is_proved() else made(UNPROVED, make_unproved)
+
+
 def any_program():
     """The program that a tool is to use: the one that `lsl` hands on, the last proved one, or an unproved one."""
     handed = os.environ.get("LSL_PROGRAM")
     if handed:
         return handed
-    return PROVED if os.access(PROVED, os.X_OK) else program(is_tried=True)
+    return PROVED if os.access(PROVED, os.X_OK) else program()

@@ -1,19 +1,21 @@
 """Makes the module of the page in the browser: the crate `lsl_page` is proved and lowered as a static library for
 x86-64, and the same code is then compiled for WebAssembly, with the heap `page/heap.c`. docs/PAGE.md says what that
-rests on."""
-import functools
+rests on. While one works on the page it can be compiled without its proofs, as `unproved` says."""
 import hashlib
 import os
 import re
-import subprocess
+import shutil
 import sys
 import tempfile
 
-from . import sources
+from . import kit, sources, unproved
+from .kit import NotMade, run
 from .places import in_top, text_of, write_text
 
 CRATE = "lsl_page"
 EXPORT = "lsl_page_run"
+# The export's name where a program calls it.
+ROOT = f'"{CRATE}::{EXPORT}"'
 MODULE = in_top("out", "page", "lsl_page.wasm")
 # What the module is made of beside the crates.
 PARTS = (("page", "heap.c"), ("tools", "lslkit", "webmodule.py"))
@@ -28,34 +30,13 @@ SECTIONS = ("-ffunction-sections", "-fdata-sections", "-O3", "-c")
 # What the module says of the processor that it was lowered for.
 OF_PROCESSOR = re.compile(r' "(?:frame-pointer|probe-stack|stack-probe-size|target-cpu|target-features)"="[^"]*"')
 EMPTY_GROUP = re.compile(r"^(attributes #\d+ = \{)\s*\}")
-# A compiler that keeps the module it is given, and goes on.
-KEEPER = """#!/bin/sh
-for word in "$@"; do case "$word" in module.bc | */module.bc) cp "$word" '{kept}' ;; esac; done
-exec '{clang}' "$@"
+# A program that calls the export. Without proofs a crate is lowered where a program uses it.
+CALLER = """\
+fn main(rt: HostRuntime) {
+    let (mut page, mut written) = ([0], 0);
+    lsl_page::lsl_page_run(rt.alloc(), &[], &[], &[], &[], &mut page, &mut written);
+}
 """
-
-
-class NotMade(Exception):
-    """Why there is no module."""
-
-
-@functools.lru_cache(maxsize=None)
-def kit():
-    """The folder of the Rattle kit."""
-    try:
-        page = subprocess.run(["rt", "doc"], stdout=subprocess.PIPE, check=True).stdout.decode().strip()
-    except (OSError, subprocess.CalledProcessError):
-        raise NotMade("no 'rt' is on the PATH: docs/READING.md says where it comes from") from None
-    return os.path.dirname(page)
-
-
-def run(words, **how):
-    """Runs a command, whose output is said where it fails."""
-    ran = subprocess.run(words, stdout=subprocess.PIPE, stderr=subprocess.STDOUT, check=False, **how)
-    if ran.returncode:
-        print(ran.stdout.decode(errors="replace")[-4000:], file=sys.stderr)
-        raise NotMade(f"{os.path.basename(words[0])} ended with {ran.returncode}")
-    return ran.stdout.decode(errors="replace")
 
 
 # Freshness
@@ -67,37 +48,24 @@ def made_of():
     return f"{sources.sum_of(CRATE)} {parts}"
 
 
-def is_fresh(module=MODULE):
-    """Whether the module was made of the files as they are."""
+def made_as(module=MODULE):
+    """Whether the module was made of the files as they are: `proved` or `unproved`, or else nothing."""
     try:
         with open(f"{module}.sources", encoding="ascii") as file:
-            return os.path.isfile(module) and file.read() == made_of()
+            total, _, how = file.read().rpartition(" ")
     except OSError:
-        return False
+        return None
+    return how if os.path.isfile(module) and total == made_of() else None
 
 
 # From the crate to a module of LLVM
-
-
-def toolchain(folder, kept):
-    """A folder of links into the kit's toolchain, whose compiler keeps the module that it is given."""
-    real = os.path.join(kit(), "toolchain")
-    os.makedirs(os.path.join(folder, "bin"))
-    for name in os.listdir(os.path.join(real, "bin")):
-        if name != "clang":
-            os.symlink(os.path.join(real, "bin", name), os.path.join(folder, "bin", name))
-    os.symlink(os.path.join(real, "lib"), os.path.join(folder, "lib"))
-    clang = os.path.join(folder, "bin", "clang")
-    write_text(clang, KEEPER.format(kept=kept, clang=os.path.join(real, "bin", "clang")))
-    os.chmod(clang, 0o755)
-    return folder
 
 
 def libraries():
     """The words that name the libraries which the crate stands on."""
     named, below = sources.crates()[CRATE], sources.crates_of(CRATE)[:-1]
     folders = {it: in_top("crates", it, "out", "rlib") for it in below}
-    words = ["--extern", f"std={kit()}/rlibs/std.rlib", "-L", f"dependency={kit()}/rlibs"]
+    words = ["--extern", f"std={kit.path('rlibs')}/std.rlib", "-L", f"dependency={kit.path('rlibs')}"]
     for it in named:
         words += ["--extern", f"{it}={folders[it]}/{it}.rlib"]
     for it in below:
@@ -109,12 +77,28 @@ def lowered(room):
     """The module of LLVM to which the proved crate is lowered, as a file of a folder."""
     folder, kept = in_top("crates", CRATE), os.path.join(room, "kept.bc")
     print(run(["rt", "check"], cwd=folder).strip().split("\n")[-1], file=sys.stderr)
-    words = [f"{kit()}/bin/rattle", "build", "--crate-name", CRATE, "src/lib.rt", *libraries()]
-    words += ["--antt-project", f"{kit()}/rattle/logic/antt-project.json", "--logic-built", f"{kit()}/logic_built"]
+    words = [kit.path("bin", "rattle"), "build", "--crate-name", CRATE, "src/lib.rt", *libraries()]
+    words += ["--antt-project", kit.path("rattle", "logic", "antt-project.json")]
+    words += ["--logic-built", kit.path("logic_built")]
     words += ["--links", f"{CRATE}=", "--crate-type", "staticlib", "--incremental", "out/incremental"]
-    words += ["--toolchain", toolchain(os.path.join(room, "toolchain"), kept), "-o", os.path.join(room, "native.a")]
+    toolchain = os.path.join(kit.with_keeper(room, kept), "toolchain")
+    words += ["--toolchain", toolchain, "-o", os.path.join(room, "native.a")]
     print(run(words, cwd=folder).strip().split("\n")[-1], file=sys.stderr)
     return kept
+
+
+def tried(room):
+    """The module of LLVM of a program that calls the crate's export, without its proofs, as a file of a folder. The
+    program stands in a repository of its own, with the sources that it is made of."""
+    crates, name, below = os.path.join(room, "top", "crates"), f"{CRATE}_caller", sources.crates_of(CRATE)
+    for it in below:
+        shutil.copytree(in_top("crates", it, "src"), os.path.join(crates, it, "src"))
+    os.makedirs(os.path.join(crates, name, "src"))
+    write_text(os.path.join(crates, name, "src", "main.rt"), CALLER)
+    lines = [it.replace(" staticlib:", ":") for it in text_of("crates.txt").splitlines()]
+    lines = [it for it in lines if it.partition(":")[0] in below]
+    write_text(f"{crates}.txt", "\n".join([*lines, f"{name}: {CRATE}\n"]))
+    return unproved.lowered(os.path.join(crates, name), room)[0]
 
 
 # From there to a module of WebAssembly
@@ -140,27 +124,26 @@ def for_wasm(line, begins):
 
 def exported(line, name):
     """A line of a module, which exports the function of this name."""
+    line = line.replace(f"@{ROOT}(", f"@{EXPORT}(")
     if line.startswith("define ") and f"@{name}(" in line:
         return re.sub(r" (#\d+) \{", rf' \1 "wasm-export-name"="{name}" {{', line)
     return line
 
 
-def compiled(bitcode, room):
-    """The module of WebAssembly, as a file of a folder."""
-    clang = f"{kit()}/toolchain/bin/clang"
-    text, bare, made = (os.path.join(room, it) for it in ("native.ll", "bare.ll", "page.o"))
-    run([clang, "-S", "-emit-llvm", "-O0", "-Xclang", "-disable-llvm-passes", "-x", "ir", bitcode, "-o", text])
-    begins = heads(clang)
-    with open(text, encoding="utf-8") as source, open(bare, "w", encoding="utf-8") as target:
-        for line in source:
-            target.write(for_wasm(line, begins))
-    run([clang, *COMPILER, *LOWERING, *SECTIONS, "-x", "ir", bare, "-o", made])
-    return linked([made, of_c(in_top("page", "heap.c"), room)], room)
+def compiled(parts, room):
+    """The module of WebAssembly of a module's parts, as a file of a folder."""
+    begins = heads(kit.path("toolchain", "bin", "clang"))
+    for part in parts:
+        with open(part, encoding="utf-8") as file:
+            lines = [for_wasm(line, begins) for line in file]
+        write_text(part, "".join(lines))
+    objects = unproved.compiled(parts, [*COMPILER, *LOWERING, *SECTIONS, "-x", "ir", "module.bc", "-o", "module.o"])
+    return linked([*objects, of_c(in_top("page", "heap.c"), room)], room)
 
 
 def of_c(path, room, export=None):
     """A file in C, compiled for the module. By an attribute in C a function can't be exported without a table."""
-    clang, text, made = f"{kit()}/toolchain/bin/clang", os.path.join(room, "c.ll"), os.path.join(room, "c.o")
+    clang, text, made = kit.path("toolchain", "bin", "clang"), os.path.join(room, "c.ll"), os.path.join(room, "c.o")
     run([clang, *COMPILER, "-O2", "-S", "-emit-llvm", "-ffreestanding", "-nostdinc", "-x", "c", path, "-o", text])
     with open(text, encoding="utf-8") as file:
         lines = [exported(line, export) for line in file]
@@ -172,22 +155,27 @@ def of_c(path, room, export=None):
 def linked(objects, room):
     """The module of these objects, as a file of a folder. It asks its host for nothing."""
     archive, module = os.path.join(room, "page.a"), os.path.join(room, "module.wasm")
-    run([f"{kit()}/toolchain/bin/llvm-ar", "--format=gnu", "rcs", archive, *objects])
-    link = [f"{kit()}/bin/rattle-link", "--target", WASM, "--toolchain", f"{kit()}/toolchain", "--stack", str(STACK)]
-    said = run([*link, "-o", module, archive])
+    run([kit.path("toolchain", "bin", "llvm-ar"), "--format=gnu", "rcs", archive, *objects])
+    link = [kit.path("bin", "rattle-link"), "--target", WASM, "--toolchain", kit.path("toolchain")]
+    said = run([*link, "--stack", str(STACK), "-o", module, archive])
     if "imports=" in said:
         raise NotMade(f"the module asks its host for functions: {said.strip()}")
     return module
 
 
-def make():
-    """Proves the crate, and makes the module where its sources have changed."""
+def make(is_tried=False):
+    """Proves the crate where it isn't only tried, and makes the module."""
     total = made_of()
     with tempfile.TemporaryDirectory(prefix="lsl-page-") as room:
-        module = compiled(lowered(room), room)
+        if is_tried:
+            parts = unproved.parts_of(tried(room), room, ROOT)
+        else:
+            parts = [os.path.join(room, "native.ll")]
+            kit.write_as_text(lowered(room), parts[0])
+        module = compiled(parts, room)
         os.makedirs(os.path.dirname(MODULE), exist_ok=True)
         os.replace(copied(module, f"{MODULE}.new"), MODULE)
-    write_text(f"{MODULE}.sources", total)
+    write_text(f"{MODULE}.sources", f"{total} {'unproved' if is_tried else 'proved'}")
 
 
 def copied(path, to):
