@@ -6,7 +6,7 @@ import subprocess
 import sys
 import tempfile
 
-from . import faults, making, playing, program, showing, standing, worlds
+from . import about, faults, making, playing, program, showing, standing, worlds
 from .places import write_text
 
 USAGE = """\
@@ -101,9 +101,12 @@ class Options:
 
 
 def main(words):
+    how = words[0] if words[:1] in (["--try"], ["--prove"]) else None
+    if how and about.is_package():
+        print(f"lsl: this is a package, with one program: '{how}' needs a checkout of the sources", file=sys.stderr)
+        return NOT_MADE
     if words == ["--prove"]:
         return prove()
-    how = words[0] if words[:1] in (["--try"], ["--prove"]) else None
     words = words[1:] if how else words
     if words[:1] in (["--help"], ["-h"]):
         print(USAGE)

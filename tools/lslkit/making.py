@@ -7,7 +7,7 @@ import sys
 import tempfile
 import time
 
-from . import kit, sources, unproved
+from . import about, kit, sources, unproved
 from .places import in_top
 
 PROGRAM = "lsl"
@@ -144,8 +144,18 @@ def proved_program():
     return made(PROVED, make_proved)
 
 
+def packaged():
+    """The path of a package's program; none where it can't be run."""
+    if about.program() is None:
+        say(f"this package isn't whole: {about.PROGRAM} isn't a program")
+    return about.program()
+
+
 def program(is_tried=False):
-    """The path of the proved program where there is one, or else, or where it is asked for, of one without proofs."""
+    """The path of the proved program where there is one, or else, or where it is asked for, of one without proofs. A
+    package has one program, whatever is asked for."""
+    if about.is_package():
+        return packaged()
     return PROVED if not is_tried and is_proved() else made(UNPROVED, make_unproved)
 
 
@@ -154,4 +164,5 @@ def any_program():
     handed = os.environ.get("LSL_PROGRAM")
     if handed:
         return handed
-    return PROVED if os.access(PROVED, os.X_OK) else program()
+    is_kept = not about.is_package() and os.access(PROVED, os.X_OK)
+    return PROVED if is_kept else program()
