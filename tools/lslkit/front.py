@@ -6,7 +6,7 @@ import subprocess
 import sys
 import tempfile
 
-from . import about, faults, making, playing, program, showing, standing, worlds
+from . import about, faults, kit, making, playing, program, showing, standing, worlds
 from .places import write_text
 
 USAGE = """\
@@ -20,13 +20,14 @@ usage: lsl once FILE                runs a script, and prints its journal
        lsl make NUMBER              plays a world made of a number, and prints its report's lines and digest
        lsl check FILE               says that a script is accepted, or tells its first fault
        lsl play FILE ..             plays a script without a world file: 'lsl play --help'
-       lsl --prove [WORDS]          proves the program, in about an hour, and then does the same with it
-       lsl --try WORDS              the same, by the program without its proofs also where there is a proved one
+       lsl --prove [WORDS]          proves the program first, in about an hour
+       lsl --try WORDS              uses the program without its proofs, also where there is a proved one
+       lsl --version                which program runs: its version and commit, whether it is proved, its kit
        lsl --help
 
 Write ./-x for a file whose name begins with '-'. The first call compiles the program without its proofs, in a
-minute or two: it keeps its checks, and stops where one fails. From 'lsl --prove' on the proved program is used, until
-a source of it changes.
+minute or two: it checks itself as it runs, and stops where a check fails. After 'lsl --prove' the proved program is
+used, until a source of it changes.
 'tools/explain FILE' tells a script's first fault in words, as 'lsl check FILE' does on a terminal."""
 COMMANDS = ("once", "replay", "freeze", "thaw", "view", "check", "make")
 OF_WORLDS = ("replay", "freeze", "thaw", "view")
@@ -105,12 +106,19 @@ def main(words):
     if how and about.is_package():
         print(f"lsl: this is a package, with one program: '{how}' needs a checkout of the sources", file=sys.stderr)
         return NOT_MADE
-    if words == ["--prove"]:
-        return prove()
-    words = words[1:] if how else words
+    try:
+        return prove() if words == ["--prove"] else answer(words[1:] if how else words, how)
+    except kit.NotMade as error:
+        print(error.lines("lsl"), file=sys.stderr)
+        return NOT_MADE
+
+
+def answer(words, how):
     if words[:1] in (["--help"], ["-h"]):
         print(USAGE)
         return 0
+    if words == ["--version"]:
+        return tell_version(how)
     try:
         command = playing.Play(words[1:]) if words[:1] == ["play"] else Options(words) if words else None
     except (Bad, playing.Bad) as error:
@@ -126,9 +134,19 @@ def main(words):
 
 def prove():
     """Proves the program, which is the one that runs from then on."""
-    if making.proved_program() is None:
-        return NOT_MADE
+    making.proved_program()
     print("lsl: the program is proved", file=sys.stderr)
+    return 0
+
+
+def tell_version(how):
+    """Says which program would run; none is made for that but where it is to be proved."""
+    if how == "--prove":
+        making.proved_program()
+    said = making.told(how == "--try")
+    print(f"lsl {said['version']}")
+    for key in about.KEYS[1:]:
+        print(f"{key}: {said[key]}")
     return 0
 
 
@@ -140,9 +158,6 @@ def with_program(command, how):
             print(f'lsl: "{name}" {said} (status 4)', file=sys.stderr)
             return READ_FAULT
     binary = making.proved_program() if how == "--prove" else making.program(how == "--try")
-    if binary is None:
-        print("lsl: there is no new program", file=sys.stderr)
-        return NOT_MADE
     if isinstance(command, playing.Play):
         return command.play(binary)
     return show(binary, command) if command.show or command.html else carry(binary, command)
@@ -211,7 +226,7 @@ def tell(command, status, first, notes):
     if status == READ_FAULT:
         program.tell_unread(command.name, command.is_world, command.frozen)
     if status == program.SIGNALLED + signal.SIGILL:
-        print("lsl: a check failed in the program, which has no proofs; 'rt try' tells where", file=sys.stderr)
+        print("lsl: a check failed in the program, which isn't proved; 'rt try' says where", file=sys.stderr)
     elif status > program.SIGNALLED:
         print(f"lsl: the program was ended by signal {status - program.SIGNALLED}", file=sys.stderr)
 

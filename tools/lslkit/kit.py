@@ -1,9 +1,8 @@
-"""The Rattle kit, its commands, and a kit of links whose compiler keeps a module that it is given."""
+"""The Rattle kit: where it is, which one it is, and folders of links to it, with commands of ours in place of some."""
 import functools
 import os
 import shutil
 import subprocess
-import sys
 
 from .places import write_text
 
@@ -11,23 +10,62 @@ from .places import write_text
 # is wanted it ends there.
 KEEPER = """#!/bin/sh
 for word in "$@"; do case "$word" in module.bc | */module.bc) module=$word ;; esac; done
-case "${{module:+ $* }}" in *" {word}"*) cp "$module" '{kept}' && printf '%s\\n' "$@" > '{kept}.words'{end} ;; esac
+case "${{module:+ $* }}" in *" {word}"*) cp "$module" '{kept}' && printf '%s\\n' "$@" > '{kept}.new' &&
+    mv '{kept}.new' '{kept}.words'{end} ;; esac
 exec '{clang}' "$@"
 """
+MISSING = """\
+the program has to be built from its sources here, and the command for that, 'rt', isn't on the PATH.
+Get the package of Dishhollow for Linux, which has the program and needs nothing more; or ask whoever gave you these
+sources for the Rattle kit, of which 'rt' is a part, and put its folder bin/ on the PATH (docs/READING.md)."""
 
 
 class NotMade(Exception):
-    """Why something wasn't made."""
+    """Why something wasn't made, and what a command said of it."""
+
+    def __init__(self, why, said=""):
+        super().__init__(why)
+        self.said = said
+
+    def lines(self, tool):
+        """The words for standard error."""
+        return f"{self.said}{tool}: {self}"
+
+
+def said_by(*words):
+    """What a command prints."""
+    how = {"stdin": subprocess.DEVNULL, "stdout": subprocess.PIPE, "stderr": subprocess.STDOUT}
+    try:
+        ran = subprocess.run(words, check=True, **how)
+    except (OSError, subprocess.CalledProcessError):
+        raise NotMade(f"'{' '.join(words)}' doesn't work") from None
+    return ran.stdout.decode(errors="replace")
+
+
+def need():
+    """Fails where there is no kit."""
+    if shutil.which("rt") is None:
+        raise NotMade(MISSING)
 
 
 @functools.lru_cache(maxsize=None)
 def folder():
     """The folder of the kit."""
-    try:
-        page = subprocess.run(["rt", "doc"], stdout=subprocess.PIPE, check=True).stdout.decode().strip()
-    except (OSError, subprocess.CalledProcessError):
-        raise NotMade("no 'rt' is on the PATH: docs/READING.md says where it comes from") from None
-    return os.path.dirname(page)
+    need()
+    return os.path.dirname(said_by("rt", "doc").strip())
+
+
+@functools.lru_cache(maxsize=None)
+def version():
+    """The kit's name for itself."""
+    need()
+    return said_by("rt", "version").strip()
+
+
+@functools.lru_cache(maxsize=None)
+def keeps():
+    """Whether its gate keeps what it proved, for later runs on this machine."""
+    return "rt ci NAME.." in said_by("rt", "help")
 
 
 def path(*names):
@@ -35,19 +73,13 @@ def path(*names):
     return os.path.join(folder(), *names)
 
 
-def run(words, **how):
-    """Runs a command, whose output is said where it fails."""
-    ran = subprocess.run(words, stdout=subprocess.PIPE, stderr=subprocess.STDOUT, check=False, **how)
-    if ran.returncode:
-        print(ran.stdout.decode(errors="replace")[-4000:], file=sys.stderr)
-        raise NotMade(f"{os.path.basename(words[0])} ended with {ran.returncode}")
-    return ran.stdout.decode(errors="replace")
+def clang():
+    return path("toolchain", "bin", "clang")
 
 
-def write_as_text(bitcode, text):
-    """Writes a module of LLVM as text, as it is."""
-    words = ["-S", "-emit-llvm", "-O0", "-Xclang", "-disable-llvm-passes", "-x", "ir", bitcode, "-o", text]
-    run([path("toolchain", "bin", "clang"), *words])
+def as_text(bitcode, text):
+    """The command that writes a module of LLVM as text, as it is."""
+    return [clang(), "-S", "-emit-llvm", "-O0", "-Xclang", "-disable-llvm-passes", "-x", "ir", bitcode, "-o", text]
 
 
 def link(real, made, but=()):
@@ -58,18 +90,31 @@ def link(real, made, but=()):
             os.symlink(os.path.join(real, name), os.path.join(made, name))
 
 
-def with_keeper(room, kept, word="", is_last=False):
-    """A kit of links in a folder, whose compiler keeps the module of a call that has a word that begins so."""
-    made, clang = os.path.join(room, "kit"), os.path.join("toolchain", "bin", "clang")
-    # The commands look for their kit where they stand.
-    commands = ("rt", "rtlib.py")
-    link(path(), made, ("bin", "toolchain"))
-    link(path("bin"), os.path.join(made, "bin"), commands)
-    for it in commands:
+def write_command(path, text):
+    write_text(path, text)
+    os.chmod(path, 0o755)
+
+
+def with_commands(room, texts):
+    """A kit of links in a folder, with commands of these texts in place of its own."""
+    made = os.path.join(room, "kit")
+    # These look for their kit in the folder that they are in.
+    copied = ("rt", "rtlib.py")
+    link(path(), made, ("bin",))
+    link(path("bin"), os.path.join(made, "bin"), (*copied, *texts))
+    for it in copied:
         shutil.copy2(path("bin", it), os.path.join(made, "bin", it))
-    link(path("toolchain"), os.path.join(made, "toolchain"), ("bin",))
-    link(path("toolchain", "bin"), os.path.join(made, "toolchain", "bin"), ("clang",))
+    for name, text in texts.items():
+        write_command(os.path.join(made, "bin", name), text)
+    return made
+
+
+def with_keeper(room, kept, word="", is_last=False):
+    """A toolchain of links in a folder, whose compiler keeps the module of a call that has a word that begins so."""
+    made = os.path.join(room, "toolchain")
+    link(path("toolchain"), made, ("bin",))
+    link(path("toolchain", "bin"), os.path.join(made, "bin"), ("clang",))
     end = " && exit 1" if is_last else ""
-    write_text(os.path.join(made, clang), KEEPER.format(word=word, kept=kept, end=end, clang=path(clang)))
-    os.chmod(os.path.join(made, clang), 0o755)
+    keeper = KEEPER.format(word=word, kept=kept, end=end, clang=clang())
+    write_command(os.path.join(made, "bin", "clang"), keeper)
     return made

@@ -1,9 +1,10 @@
 """The files that the program is made of, and whether a program was made of them as they are."""
+import contextlib
 import hashlib
 import os
 import re
 
-from .places import in_top, text_of
+from .places import in_top, text_of, write_text
 
 # Folders of a crate from which no program is made.
 ASIDE = ("out", "must-fail", "data")
@@ -44,6 +45,12 @@ def files_of(program):
                     yield os.path.join(folder, name)
 
 
+def lines_of(names):
+    """The lines of the list of crates that these have."""
+    lines = text_of("crates.txt").splitlines(True)
+    return "".join(it for it in lines if re.match(r"\w*", it)[0] in names)
+
+
 def newest_of(program):
     """When the youngest of the program's files was written."""
     return max(os.stat(it).st_mtime_ns for it in files_of(program))
@@ -79,11 +86,17 @@ class Stamp:
         with open(self.path, encoding="ascii") as file:
             is_same = file.read() == sum_of(self.program)
         if is_same:
-            os.utime(self.path, ns=(newest, newest))
+            with contextlib.suppress(OSError):
+                os.utime(self.path, ns=(newest, newest))
         return is_same
+
+    def remove(self):
+        """Says that no program was made: another is about to be put in its place."""
+        with contextlib.suppress(FileNotFoundError):
+            os.remove(self.path)
 
     def write(self, total, newest):
         """Notes what the program was made of, as it was read before it was made."""
-        with open(self.path, "w", encoding="ascii") as file:
-            file.write(total)
-        os.utime(self.path, ns=(newest, newest))
+        write_text(f"{self.path}.new", total)
+        os.utime(f"{self.path}.new", ns=(newest, newest))
+        os.replace(f"{self.path}.new", self.path)

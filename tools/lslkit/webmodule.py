@@ -1,16 +1,16 @@
 """Makes the module of the page in the browser: the crate `lsl_page` is proved and lowered as a static library for
 x86-64, and the same code is then compiled for WebAssembly, with the heap `page/heap.c`. docs/PAGE.md says what that
-rests on. While one works on the page it can be compiled without its proofs, as `unproved` says."""
+rests on. It can be compiled without its proofs, as the program can."""
 import hashlib
 import os
 import re
 import shutil
-import sys
-import tempfile
 
-from . import kit, sources, unproved
-from .kit import NotMade, run
+from . import building, kit, lowering, sources, unproved
+from .jobs import run
+from .kit import NotMade
 from .places import in_top, text_of, write_text
+from .progress import Progress
 
 CRATE = "lsl_page"
 EXPORT = "lsl_page_run"
@@ -73,40 +73,42 @@ def libraries():
     return words
 
 
-def lowered(room):
-    """The module of LLVM to which the proved crate is lowered, as a file of a folder."""
-    folder, kept = in_top("crates", CRATE), os.path.join(room, "kept.bc")
-    print(run(["rt", "check"], cwd=folder).strip().split("\n")[-1], file=sys.stderr)
+def proved(room, progress):
+    """The module of LLVM to which the proved crate is lowered, as the only part."""
+    folder, kept, text = in_top("crates", CRATE), os.path.join(room, "kept.bc"), os.path.join(room, "whole.ll")
+    progress.tell("proving the crate and those below it")
+    run(["rt", "check"], progress.tick, cwd=folder)
     words = [kit.path("bin", "rattle"), "build", "--crate-name", CRATE, "src/lib.rt", *libraries()]
     words += ["--antt-project", kit.path("rattle", "logic", "antt-project.json")]
     words += ["--logic-built", kit.path("logic_built")]
     words += ["--links", f"{CRATE}=", "--crate-type", "staticlib", "--incremental", "out/incremental"]
-    toolchain = os.path.join(kit.with_keeper(room, kept), "toolchain")
-    words += ["--toolchain", toolchain, "-o", os.path.join(room, "native.a")]
-    print(run(words, cwd=folder).strip().split("\n")[-1], file=sys.stderr)
-    return kept
+    words += ["--toolchain", kit.with_keeper(room, kept), "-o", os.path.join(room, "native.a")]
+    run(words, progress.tick, cwd=folder)
+    run(kit.as_text(kept, text), progress.tick)
+    with open(text, encoding="utf-8") as file:
+        return [file.read()]
 
 
-def tried(room):
-    """The module of LLVM of a program that calls the crate's export, without its proofs, as a file of a folder. The
-    program stands in a repository of its own, with the sources that it is made of."""
+def tried(room, progress):
+    """The parts of the module of LLVM of a program that calls the crate's export, without its proofs. The program is in
+    a repository of its own, with the sources that it is made of."""
     crates, name, below = os.path.join(room, "top", "crates"), f"{CRATE}_caller", sources.crates_of(CRATE)
     for it in below:
         shutil.copytree(in_top("crates", it, "src"), os.path.join(crates, it, "src"))
     os.makedirs(os.path.join(crates, name, "src"))
     write_text(os.path.join(crates, name, "src", "main.rt"), CALLER)
-    lines = [it.replace(" staticlib:", ":") for it in text_of("crates.txt").splitlines()]
-    lines = [it for it in lines if it.partition(":")[0] in below]
-    write_text(f"{crates}.txt", "\n".join([*lines, f"{name}: {CRATE}\n"]))
-    return unproved.lowered(os.path.join(crates, name), room)[0]
+    lines = sources.lines_of(below).replace(" staticlib:", ":")
+    write_text(f"{crates}.txt", f"{lines}{name}: {CRATE}\n")
+    text, _ = lowering.lowered(os.path.join(crates, name), room, progress)
+    return unproved.parts_of(text, ROOT, below)
 
 
 # From there to a module of WebAssembly
 
 
-def heads(clang):
+def heads():
     """The lines with which a module for WebAssembly begins, by their second words."""
-    words = [clang, *COMPILER, "-S", "-emit-llvm", "-x", "c", "/dev/null", "-o", "-"]
+    words = [kit.clang(), *COMPILER, "-S", "-emit-llvm", "-x", "c", "/dev/null", "-o", "-"]
     return dict(re.findall(r"(?m)^(target (?:datalayout|triple)) = (.*)$", run(words)))
 
 
@@ -130,25 +132,23 @@ def exported(line, name):
     return line
 
 
-def compiled(parts, room):
-    """The module of WebAssembly of a module's parts, as a file of a folder."""
-    begins = heads(kit.path("toolchain", "bin", "clang"))
-    for part in parts:
-        with open(part, encoding="utf-8") as file:
-            lines = [for_wasm(line, begins) for line in file]
-        write_text(part, "".join(lines))
-    objects = unproved.compiled(parts, [*COMPILER, *LOWERING, *SECTIONS, "-x", "ir", "module.bc", "-o", "module.o"])
+def compiled(parts, room, progress):
+    """The module of WebAssembly of the parts of a module, as a file of a folder."""
+    begins = heads()
+    parts = ["".join(for_wasm(line, begins) for line in part.splitlines(True)) for part in parts]
+    words = [*COMPILER, *LOWERING, *SECTIONS, "-x", "ir", "module.bc", "-o", "module.o"]
+    objects = unproved.compiled(parts, words, room, in_top("out", "parts", CRATE), progress)
     return linked([*objects, of_c(in_top("page", "heap.c"), room)], room)
 
 
 def of_c(path, room, export=None):
     """A file in C, compiled for the module. By an attribute in C a function can't be exported without a table."""
-    clang, text, made = kit.path("toolchain", "bin", "clang"), os.path.join(room, "c.ll"), os.path.join(room, "c.o")
-    run([clang, *COMPILER, "-O2", "-S", "-emit-llvm", "-ffreestanding", "-nostdinc", "-x", "c", path, "-o", text])
+    text, made = os.path.join(room, "c.ll"), os.path.join(room, "c.o")
+    run([kit.clang(), *COMPILER, "-O2", "-S", "-emit-llvm", "-ffreestanding", "-nostdinc", "-x", "c", path, "-o", text])
     with open(text, encoding="utf-8") as file:
         lines = [exported(line, export) for line in file]
     write_text(text, "".join(lines))
-    run([clang, *COMPILER, *SECTIONS, "-x", "ir", text, "-o", made])
+    run([kit.clang(), *COMPILER, *SECTIONS, "-x", "ir", text, "-o", made])
     return made
 
 
@@ -164,21 +164,23 @@ def linked(objects, room):
 
 
 def make(is_tried=False):
-    """Proves the crate where it isn't only tried, and makes the module."""
-    total = made_of()
-    with tempfile.TemporaryDirectory(prefix="lsl-page-") as room:
-        if is_tried:
-            parts = unproved.parts_of(tried(room), room, ROOT)
-        else:
-            parts = [os.path.join(room, "native.ll")]
-            kit.write_as_text(lowered(room), parts[0])
-        module = compiled(parts, room)
-        os.makedirs(os.path.dirname(MODULE), exist_ok=True)
-        os.replace(copied(module, f"{MODULE}.new"), MODULE)
-    write_text(f"{MODULE}.sources", f"{total} {'unproved' if is_tried else 'proved'}")
+    """Makes the module where a source changed, and proves the crate where it isn't only tried."""
+    kit.need()
+    how, others = ("unproved", "without its proofs") if is_tried else ("proved", "after its proof")
+    with building.room("page", "page") as room:
+        if made_as() == how:
+            return
+        total = made_of()
+        with Progress("page", f"compiling the module {others}", f"compiling the module {others}") as progress:
+            parts = tried(room, progress) if is_tried else proved(room, progress)
+            put(compiled(parts, room, progress), f"{total} {how}")
+            progress.end(f"compiled the module {others}")
 
 
-def copied(path, to):
-    with open(path, "rb") as source, open(to, "wb") as target:
-        target.write(source.read())
-    return to
+def put(module, made_of_and_how):
+    """Puts a module in its place."""
+    os.makedirs(os.path.dirname(MODULE), exist_ok=True)
+    if os.path.exists(f"{MODULE}.sources"):
+        os.remove(f"{MODULE}.sources")
+    os.replace(module, MODULE)
+    write_text(f"{MODULE}.sources", made_of_and_how)

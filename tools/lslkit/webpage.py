@@ -3,6 +3,7 @@ from, the words of the faults, and what draws timelines."""
 import glob
 import json
 import os
+import shutil
 
 from . import faults, timeline, webmodule, worlds
 from .places import in_top, text_of, write_text
@@ -63,7 +64,7 @@ def make():
     os.makedirs(FOLDER, exist_ok=True)
     for path in glob.glob(in_top("page", "*.*")):
         if os.path.basename(path) not in ASIDE:
-            webmodule.copied(path, os.path.join(FOLDER, os.path.basename(path)))
+            shutil.copyfile(path, os.path.join(FOLDER, os.path.basename(path)))
     write("examples.json", json.dumps(examples()))
     write("faults.json", json.dumps(meanings()))
-    webmodule.copied(timeline.TEMPLATE, os.path.join(FOLDER, "timeline.html"))
+    shutil.copyfile(timeline.TEMPLATE, os.path.join(FOLDER, "timeline.html"))

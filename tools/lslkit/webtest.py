@@ -12,7 +12,7 @@ import sys
 import tempfile
 import threading
 
-from . import faults, journal, observing, places, playing, quoting, standing, timeline, webmodule, webpage, worlds
+from . import faults, journal, kit, observing, places, playing, quoting, standing, timeline, webmodule, webpage, worlds
 
 PROBE = "process.exit(WebAssembly.validate(new Uint8Array([0,97,115,109,1,0,0,0,5,3,1,4,0])) ? 0 : 1)"
 HEAP_ROUNDS = 300000
@@ -63,11 +63,11 @@ def node():
     """The words that begin a call of node: with a flag where it has 64-bit memories behind one."""
     found = shutil.which("node")
     if found is None:
-        raise webmodule.NotMade("there is no 'node' on the PATH, which plays the module")
+        raise kit.NotMade("there is no 'node' on the PATH, which plays the module")
     for flags in ([], [WITH_MEMORY64]):
         if subprocess.run([found, *flags, "-e", PROBE], stderr=subprocess.DEVNULL, check=False).returncode == 0:
             return [found, *flags]
-    raise webmodule.NotMade("this node has no 64-bit WebAssembly memories: take node 20 or newer")
+    raise kit.NotMade("this node has no 64-bit WebAssembly memories: take node 20 or newer")
 
 
 def encoded(content):

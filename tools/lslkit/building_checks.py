@@ -1,0 +1,198 @@
+"""The checks of how programs are built, in a small repository with a kit of scripts."""
+import os
+import pty
+import signal
+import time
+
+from . import about, kit
+from .checking import check, need
+from .stubs import MODULE, repository
+
+ONCE = "lsl: compiling the program without its proofs, in a minute or two; './lsl --prove' proves it, in about an hour\n"
+COMPILED = "compiled check a.lsl\n"
+PROVED = "proved check a.lsl\n"
+KEPT = ["lsl-unproved", "lsl-unproved.about", "lsl-unproved.lock", "lsl-unproved.sources", "parts"]
+
+
+def need_run(repo, words, wanted, notes="", **how):
+    came = repo.ran("lsl", *words, **how)
+    need(came == (0, wanted, notes), words, "ended with", came, "and not with", (0, wanted, notes))
+
+
+@check
+def a_program_is_compiled_once_with_one_line():
+    with repository() as repo:
+        need_run(repo, ["check", "a.lsl"], COMPILED, ONCE)
+        need_run(repo, ["check", "a.lsl"], COMPILED)
+        need_run(repo, ["--try", "check", "a.lsl"], COMPILED)
+        need(repo.calls("lowered") == 1, "it was lowered", repo.calls("lowered"), "times")
+        need(repo.built() == KEPT, "out/ has", repo.built())
+
+
+@check
+def parts_that_did_not_change_are_kept():
+    with repository() as repo:
+        need_run(repo, ["check", "a.lsl"], COMPILED, ONCE)
+        need(repo.calls("compiled") == 2, repo.calls("compiled"), "parts were compiled")
+        # What moves numbers and nothing else changes no part.
+        moved = MODULE.replace("static.0", "static.5").replace("site-7", "site-8").replace("FOLDER", "other")
+        for text, count in ((moved, 2), (moved.replace("i1 true", "i1 false"), 3)):
+            repo.write_in_kit("module", text)
+            repo.write("crates/low/src/lib.rt", f"fn low() {{}} // {count}\n")
+            need_run(repo, ["check", "a.lsl"], COMPILED, ONCE)
+            need(repo.calls("compiled") == count, repo.calls("compiled"), "parts were compiled, and not", count)
+        need(len(os.listdir(repo.at("out", "parts", "lsl"))) == 2, "old parts are kept")
+
+
+@check
+def a_module_of_another_form_is_refused():
+    with repository() as repo:
+        for text in (MODULE.replace("rattle-llvm-checks", "other"), MODULE.replace(" constant ", " global ")):
+            repo.write_in_kit("module", text)
+            status, output, notes = repo.ran("lsl", "check", "a.lsl")
+            need((status, output) == (125, "") and "this kit can't be used" in notes, "status", status, notes)
+            need("Traceback" not in notes, "said", notes)
+
+
+def until(holds):
+    while not holds():
+        time.sleep(0.02)
+
+
+@check
+def a_build_that_was_stopped_begins_again():
+    for number, wanted in ((signal.SIGINT, 130), (signal.SIGTERM, 143), (signal.SIGKILL, -signal.SIGKILL)):
+        with repository() as repo:
+            repo.write_in_kit("waits", "")
+            with repo.begin("lsl", "check", "a.lsl") as running:
+                until(lambda: repo.calls("lowered"))
+                running.send_signal(number)
+                _, notes = running.communicate()
+            need(running.returncode == wanted, number, "ended it with", running.returncode)
+            need("Traceback" not in notes.decode(), "said", notes)
+            left = [it for it in repo.built() if it != "lsl-unproved.lock"]
+            need(number == signal.SIGKILL or not left, number, "leaves", left)
+            os.remove(os.path.join(repo.kit, "waits"))
+            need_run(repo, ["check", "a.lsl"], COMPILED, ONCE)
+            need(repo.built() == KEPT, "out/ has", repo.built())
+
+
+@check
+def two_calls_at_once_build_once():
+    with repository() as repo:
+        repo.write_in_kit("waits", "")
+        with repo.begin("lsl", "check", "a.lsl") as first:
+            until(lambda: repo.calls("lowered"))
+            os.remove(os.path.join(repo.kit, "waits"))
+            with repo.begin("lsl", "check", "a.lsl") as second:
+                said = second.stderr.readline().decode()
+                need("another call is building" in said, "said", said)
+                first.send_signal(signal.SIGTERM)
+                output, _ = second.communicate()
+        need((second.returncode, output.decode()) == (0, COMPILED), "status", second.returncode, output)
+        need(repo.calls("lowered") == 2, "it was lowered", repo.calls("lowered"), "times")
+
+
+@check
+def progress_is_shown_on_a_terminal():
+    with repository() as repo:
+        reader, writer = pty.openpty()
+        how = {"stdout": writer, "stderr": writer}
+        with repo.begin("lsl", "check", "a.lsl", **how) as running:
+            running.wait()
+        said = os.read(reader, 65536).decode()
+        os.close(reader)
+        os.close(writer)
+    need(running.returncode == 0, "status", running.returncode, said)
+    for wanted in ("\rlsl: compiling the program without its proofs, 0 s: reading the sources", " in 0 s; './lsl --prove'"):
+        need(wanted in said.replace(" in 1 s", " in 0 s"), repr(wanted), "isn't in", repr(said))
+    need(said.count("\n") == 2, "said", repr(said))
+
+
+@check
+def a_missing_kit_is_told_in_words():
+    with repository() as repo:
+        for words in (["check", "a.lsl"], ["--try", "check", "a.lsl"], ["--prove"], ["--prove", "check", "a.lsl"]):
+            came = repo.ran("lsl", *words, path="/nowhere")
+            need(came == (125, "", f"lsl: {kit.MISSING}\n"), words, "ended with", came)
+        status, _, notes = repo.ran("tools/explain", "a.lsl", path="/nowhere")
+        need((status, notes) == (125, f"lsl: {kit.MISSING}\n"), "status", status, notes)
+        status, _, notes = repo.ran("tools/page", "build", "--try", path="/nowhere")
+        need((status, notes) == (125, f"page: {kit.MISSING}\n"), "status", status, notes)
+
+
+@check
+def an_out_folder_that_cannot_be_made_is_told():
+    with repository() as repo:
+        repo.write("out", "")
+        status, output, notes = repo.ran("lsl", "check", "a.lsl")
+        need((status, output) == (125, "") and notes.endswith("can't be written: File exists\n"), status, notes)
+
+
+@check
+def a_proved_program_is_used_from_then_on():
+    for names, wanted in (("rt ci NAME..\n", "rt ci"), ("rt check\n", "rt all check")):
+        with repository() as repo:
+            repo.write_in_kit("help", names)
+            need_run(repo, ["check", "a.lsl"], COMPILED, ONCE)
+            status, output, notes = repo.ran("lsl", "--prove", "check", "a.lsl")
+            need((status, output) == (0, PROVED) and notes.count("\n") == 1, "status", status, output, notes)
+            need(repo.calls(wanted) == 1, wanted, "was called", repo.calls(wanted), "times")
+            need_run(repo, ["check", "a.lsl"], PROVED)
+            need_run(repo, ["--try", "check", "a.lsl"], COMPILED)
+            repo.write("crates/low/src/lib.rt", "fn other() {}\n")
+            need_run(repo, ["check", "a.lsl"], COMPILED, ONCE)
+
+
+@check
+def a_failed_proof_makes_no_program():
+    with repository() as repo:
+        repo.write_in_kit("status", "1")
+        status, output, notes = repo.ran("lsl", "--prove", "check", "a.lsl")
+        need((status, output) == (125, "") and notes.endswith("\nlsl: rt ended with 1\n"), "status", status, notes)
+        need(repo.built() == ["lsl.lock"], "out/ has", repo.built())
+
+
+@check
+def a_version_says_which_program_runs():
+    with repository() as repo:
+        text = "lsl {}\ncommit: unknown\nproof: {}\nkit: stub kit\n"
+        need_run(repo, ["--version"], text.format("unversioned", about.UNBUILT))
+        repo.write("VERSION", "1.2.3\n")
+        repo.ran("lsl", "check", "a.lsl")
+        need_run(repo, ["--version"], text.format("1.2.3", about.UNPROVED))
+        repo.ran("lsl", "--prove")
+        need_run(repo, ["--version"], text.format("1.2.3", about.PROVED))
+        need_run(repo, ["--try", "--version"], text.format("1.2.3", about.UNPROVED))
+
+
+@check
+def a_package_builds_nothing():
+    with repository() as repo:
+        repo.write("ABOUT", "version: 1.2.3\ncommit: abc\nproof: proved\nkit: its kit\n")
+        status, output, notes = repo.ran("lsl", "check", "a.lsl")
+        need((status, output) == (125, "") and "this package isn't whole" in notes, "status", status, notes)
+        repo.write("libexec/lsl", '#!/bin/sh\necho "packaged $*"\n')
+        os.chmod(repo.at("libexec/lsl"), 0o755)
+        need_run(repo, ["check", "a.lsl"], "packaged check a.lsl\n")
+        need_run(repo, ["--version"], "lsl 1.2.3\ncommit: abc\nproof: proved\nkit: its kit\n")
+        for words in (["--prove"], ["--try", "check", "a.lsl"]):
+            status, _, notes = repo.ran("lsl", *words)
+            need(status == 125 and "needs a checkout" in notes and notes.count("\n") == 1, words, "said", notes)
+        need(not repo.calls("") and not repo.built(), "the kit was called")
+
+
+@check
+def a_check_counts_its_parts():
+    counts = "#!/bin/sh\necho '3 passed, 0 failed'\n"
+    with repository() as repo:
+        case = f"? a\n> check a.lsl\n@ a.lsl\n|default\n= 0\n|{COMPILED}"
+        for name, text in (("suite/a.cases", case), ("suite/examples.cases", case)):
+            repo.write(name, text)
+        for name in ("check_tools", "syntax", "example_cases"):
+            repo.write(f"tools/{name}", f"#!/bin/sh\ncat suite/examples.cases\n" if name == "example_cases" else counts)
+        status, output, notes = repo.ran("tools/check", "suite", "tools", "generated")
+        need(status == 0 and output.endswith("\n10 passed, 0 failed\n"), "status", status, output, notes)
+        repo.write("suite/a.cases", case.replace("compiled", "other"))
+        status, output, _ = repo.ran("tools/check", "suite")
+        need(status == 1 and "FAILED  suite: 1 passed, 1 failed" in output, "status", status, output)

@@ -1,0 +1,101 @@
+"""Proves the program and builds it, from what the gate proved on this machine where the kit keeps that."""
+import os
+import re
+import shutil
+
+from . import jobs, kit, sources
+from .places import in_top, text_of, write_text
+from .progress import Progress
+
+PROGRAM = "lsl"
+# The memory of a proof, in kilobytes.
+PROOF_NEEDS = 4000000
+# What proving the program takes at first, in processor minutes, and what no further processor makes shorter: the
+# crates that stand one on another.
+PROCESSOR_MINUTES = 120
+CHAIN_MINUTES = 60
+# What a build doesn't read of a crate.
+LEFT_OUT = shutil.ignore_patterns("out", "must-fail", "README.md")
+# The lines that say of a crate that it is done: of the gate, and of `rt all check`.
+DONE_BY_GATE = re.compile(r"rt: (\w+) (?:proved|is kept\b.*)")
+BEGUN = re.compile(r"== (\w+)")
+
+
+def make(room):
+    """Proves the crates that the program stands on, and builds it, as a file of a room."""
+    minutes = max(PROCESSOR_MINUTES // jobs.count(PROOF_NEEDS), CHAIN_MINUTES)
+    doing = "proving and building the program"
+    with Progress("lsl", f"{doing}, for some {minutes} minutes the first time, and later what changed", doing) as progress:
+        binary = by_gate(room, progress) if kit.keeps() else by_checks(room, progress)
+        progress.end("proved and built the program")
+    if not os.access(binary, os.X_OK):
+        raise kit.NotMade("all is proved, but there is no program: this kit can't be used")
+    return binary
+
+
+class Count:
+    """How many of the program's crates are proved."""
+
+    def __init__(self, progress):
+        self.progress, self.crates, self.done = progress, sources.crates_of(PROGRAM), set()
+        self.add()
+
+    def add(self, name=None):
+        if name in self.crates:
+            self.done.add(name)
+        self.progress.tell(f"proved {len(self.done)} of {len(self.crates)} crates")
+
+
+def follow(words, folder, count, done):
+    """Runs a command to its end, and counts each crate that a line of it says is done."""
+    with jobs.running(words, cwd=folder) as job:
+
+        def read():
+            for line in job.new_lines():
+                name = done(line)
+                if name:
+                    count.add(name)
+            count.progress.tick()
+
+        jobs.wait(job.has_ended, read)
+        job.need_success()
+
+
+def by_gate(room, progress):
+    """Has the gate prove and build a copy of the program's crates: it takes what it has kept of them."""
+    copy = copied(os.path.join(room, "copy"))
+
+    def done(line):
+        found = DONE_BY_GATE.fullmatch(line)
+        return found and found[1]
+
+    follow(["rt", "ci"], copy, Count(progress), done)
+    return os.path.join(copy, "crates", PROGRAM, "out", PROGRAM)
+
+
+def copied(top):
+    """A repository of the program's crates alone, without their edits that must fail."""
+    crates = sources.crates_of(PROGRAM)
+    for it in crates:
+        shutil.copytree(in_top("crates", it), os.path.join(top, "crates", it), ignore=LEFT_OUT)
+    # `rt ci` wants to be at the top of a repository, and takes this for one.
+    os.mkdir(os.path.join(top, ".git"))
+    write_text(os.path.join(top, "crates.txt"), sources.lines_of(crates))
+    write_text(os.path.join(top, "HANDLES"), text_of("HANDLES"))
+    return top
+
+
+def by_checks(room, progress):
+    """Has each crate checked in its place, and the program built there."""
+    folder, count, under_way = in_top("crates", PROGRAM), Count(progress), []
+
+    def done(line):
+        """The crate before the one that is begun here is done: one that was proved before says nothing more."""
+        begun = BEGUN.match(line)
+        if begun:
+            under_way.append(begun[1])
+        return under_way[-2] if begun and len(under_way) > 1 else None
+
+    follow(["rt", "all", "check", "--jobs", str(jobs.count(PROOF_NEEDS))], folder, count, done)
+    jobs.run(["rt", "run", "--", "check", "data/hello.lsl"], progress.tick, cwd=folder)
+    return shutil.copy2(os.path.join(folder, "out", PROGRAM), os.path.join(room, PROGRAM))
