@@ -29,5 +29,7 @@ def room(name, tool):
         os.mkdir(made)
         try:
             yield made
+        except OSError as error:
+            raise kit.NotMade(f"it can't be built: {error}") from None
         finally:
             shutil.rmtree(made, ignore_errors=True)

@@ -55,8 +55,20 @@ def a_module_of_another_form_is_refused():
 
 
 def until(holds):
-    while not holds():
+    """Waits until something is so, and not for ever."""
+    for _ in range(5000):
+        if holds():
+            return
         time.sleep(0.02)
+    need(False, "it never came to that")
+
+
+def waiting(repo):
+    """The process of the kit that waits, once it does."""
+    waits = os.path.join(repo.kit, "waits")
+    until(lambda: os.path.getsize(waits))
+    with open(waits, encoding="ascii") as file:
+        return int(file.read())
 
 
 @check
@@ -65,9 +77,10 @@ def a_build_that_was_stopped_begins_again():
         with repository() as repo:
             repo.write_in_kit("waits", "")
             with repo.begin("lsl", "check", "a.lsl") as running:
-                until(lambda: repo.calls("lowered"))
+                process = waiting(repo)
                 running.send_signal(number)
                 _, notes = running.communicate()
+            until(lambda: not os.path.exists(f"/proc/{process}"))
             need(running.returncode == wanted, number, "ended it with", running.returncode)
             need("Traceback" not in notes.decode(), "said", notes)
             left = [it for it in repo.built() if it != "lsl-unproved.lock"]
@@ -82,7 +95,7 @@ def two_calls_at_once_build_once():
     with repository() as repo:
         repo.write_in_kit("waits", "")
         with repo.begin("lsl", "check", "a.lsl") as first:
-            until(lambda: repo.calls("lowered"))
+            waiting(repo)
             os.remove(os.path.join(repo.kit, "waits"))
             with repo.begin("lsl", "check", "a.lsl") as second:
                 said = second.stderr.readline().decode()

@@ -54,10 +54,22 @@ def lines_of(binary, text, follower):
     with tempfile.TemporaryDirectory(prefix="lsl-standing-") as room:
         second = Second(text, room, with_probes=True, with_marks=False)
         ran = second.run(binary)
-    told_by = re.compile(rb'^owner (\d+) "%s(\d+)"\n' % re.escape(second.mark.encode()), re.M)
-    if ran.status or hashlib.sha256(told_by.sub(b"", ran.output)).digest() != follower.sum.digest():
+    mark, journal = second.mark.encode(), ran.output
+    found = {it: last_probe(ran.output, mark, it) for it in follower.running}
+    for script, probe in found.items():
+        # Most probes that were told are these. The others are looked for one by one.
+        journal = journal if probe is None else journal.replace(b'owner %d "%s%d"\n' % (script, mark, probe), b"")
+    journal = re.sub(rb'(?m)^owner \d+ "%s\d+"\n' % re.escape(mark), b"", journal)
+    if ran.status or hashlib.sha256(journal).digest() != follower.sum.digest():
         return {}
-    last = {int(it[1]): it for it in told_by.finditer(ran.output)}
-    begun = {it: ran.output.rfind(b"took %d " % it) for it in follower.running}
-    found = {it: second.probes[int(last[it][2])] for it in begun if it in last and last[it].start() > begun[it]}
-    return {it: probe.line for it, probe in found.items()}
+    return {it: second.probes[probe].line for it, probe in found.items() if probe is not None}
+
+
+def last_probe(output, mark, script):
+    """The number of the probe that a script told last in the handler in which it stands; none where it told none."""
+    sign = b'\nowner %d "%s' % (script, mark)
+    place = output.rfind(sign)
+    if place < output.rfind(b"took %d " % script):
+        return None
+    begin = place + len(sign)
+    return int(output[begin : output.index(b'"', begin)])
