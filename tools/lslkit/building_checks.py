@@ -83,11 +83,12 @@ def a_build_that_was_stopped_begins_again():
             until(lambda: not os.path.exists(f"/proc/{process}"))
             need(running.returncode == wanted, number, "ended it with", running.returncode)
             need("Traceback" not in notes.decode(), "said", notes)
-            left = [it for it in repo.built() if it != "lsl-unproved.lock"]
+            left = os.listdir(repo.rooms)
+            need(repo.built() == ["lsl-unproved.lock"], number, "leaves", repo.built())
             need(number == signal.SIGKILL or not left, number, "leaves", left)
             os.remove(os.path.join(repo.kit, "waits"))
             need_run(repo, ["check", "a.lsl"], COMPILED, ONCE)
-            need(repo.built() == KEPT, "out/ has", repo.built())
+            need(repo.built() == KEPT and not os.listdir(repo.rooms), "out/ has", repo.built(), left)
 
 
 @check

@@ -31,7 +31,7 @@ def made(binary, make, proof):
             new = make(room)
             stamp.remove()
             about.write(f"{binary}.about", said)
-            os.replace(new, binary)
+            building.keep(new, binary)
             stamp.write(total, newest)
     return binary
 

@@ -1,7 +1,10 @@
 """What is said while something is built: one line on standard error, on a terminal written anew with the seconds."""
-import shutil
+import os
 import sys
 import time
+
+# The width of a terminal that doesn't tell its own.
+COLUMNS = 80
 
 
 class Progress:
@@ -48,7 +51,7 @@ class Progress:
             sys.stderr.flush()
 
     def show(self, line):
-        line = line[: shutil.get_terminal_size().columns - 1]
+        line = line[: (os.get_terminal_size(sys.stderr.fileno()).columns or COLUMNS) - 1]
         if line != self.shown:
             sys.stderr.write("\r" + line.ljust(len(self.shown)))
             sys.stderr.flush()

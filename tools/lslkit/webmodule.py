@@ -179,8 +179,7 @@ def make(is_tried=False):
 
 def put(module, made_of_and_how):
     """Puts a module in its place."""
-    os.makedirs(os.path.dirname(MODULE), exist_ok=True)
     if os.path.exists(f"{MODULE}.sources"):
         os.remove(f"{MODULE}.sources")
-    os.replace(module, MODULE)
+    building.keep(module, MODULE)
     write_text(f"{MODULE}.sources", made_of_and_how)
