@@ -25,7 +25,8 @@ def make(room):
     """Proves the crates that the program stands on, and builds it, as a file of a room."""
     minutes = max(PROCESSOR_MINUTES // jobs.count(PROOF_NEEDS), CHAIN_MINUTES)
     doing = "proving and building the program"
-    with Progress("lsl", f"{doing}, for some {minutes} minutes the first time, and later what changed", doing) as progress:
+    hint = f"for some {minutes} minutes the first time, and later what changed"
+    with Progress("lsl", f"{doing}, {hint}", doing) as progress:
         binary = by_gate(room, progress) if kit.keeps() else by_checks(room, progress)
         progress.end("proved and built the program")
     if not os.access(binary, os.X_OK):
