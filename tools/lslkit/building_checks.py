@@ -5,7 +5,7 @@ import re
 import signal
 import time
 
-from . import about, kit
+from . import about, kit, places
 from .checking import check, need
 from .stubs import MODULE, repository
 
@@ -196,6 +196,22 @@ def a_package_builds_nothing():
             status, _, notes = repo.ran("lsl", *words)
             need(status == 125 and "needs a checkout" in notes and notes.count("\n") == 1, words, "said", notes)
         need(not repo.calls("") and not repo.built(), "the kit was called")
+
+
+@check
+def a_page_is_compiled_in_parts():
+    with repository() as repo:
+        repo.write("crates.txt", "low:\nlsl_page staticlib: low\nlsl: low\n")
+        for name in ("crates/lsl_page/src/lib.rt", "page/heap.c"):
+            repo.write(name, "")
+        repo.write("docs/FAULTS.md", places.text_of("docs", "FAULTS.md"))
+        repo.write_in_kit("module", MODULE.replace("@main", '@"lsl_page::lsl_page_run"'))
+        for lines in (["compiling the module without its proofs"], []):
+            status, output, notes = repo.ran("tools/page", "build", "--try")
+            wanted = [f"page: {it}" for it in [*lines, "the module was compiled without its proofs"]]
+            need((status, notes.splitlines()) == (0, wanted) and "out/page has the page" in output, status, notes)
+        need(repo.calls("lowered") == 1, "it was lowered", repo.calls("lowered"), "times")
+        need(len(os.listdir(repo.at("out", "parts", "lsl_page"))) == 2, "other parts are kept")
 
 
 @check
