@@ -4,8 +4,11 @@ import functools
 import re
 from collections import namedtuple
 
+from . import about
 from .places import text_of
 
+# Where the tables are. A package has no crates.
+FOLDER = ("tools", "tables") if about.is_package() else ("crates", "lsl_table", "src")
 KINDS = {"Int": "integer", "Str": "string", "Key": "key", "List": "list"}
 Call = namedtuple("Call", "name home params result")
 Event = namedtuple("Event", "name params")
@@ -14,7 +17,7 @@ Constant = namedtuple("Constant", "name kind value")
 
 def rows(table, form):
     """The rows of a table's macro."""
-    return re.findall(r"(?m)^ +\w+ " + form + ";$", text_of("crates", "lsl_table", "src", f"{table}.rt"))
+    return re.findall(r"(?m)^ +\w+ " + form + ";$", text_of(*FOLDER, f"{table}.rt"))
 
 
 def kinds_of(words):

@@ -1,0 +1,43 @@
+# Completion of lsl in bash: commands, options, and files by their endings.
+
+_lsl_files() {
+    # Folders, and the files with an ending, or all of them.
+    mapfile -t COMPREPLY < <(compgen -d -- "$2"; compgen -f -X "${1:+!*.$1}" -- "$2")
+    compopt -o filenames 2>/dev/null
+}
+
+_lsl_words() {
+    mapfile -t COMPREPLY < <(compgen -W "$1" -- "$2")
+}
+
+_lsl_options() {
+    case $1 in
+        once) echo --show --html ;;
+        replay) echo --lossy --show --html ;;
+        play)
+            echo --touch --say --after --changed --rez --run --link --channel --by \
+                --owner --world --journal --html --interactive --help
+            ;;
+    esac
+}
+
+_lsl() {
+    local word=${COMP_WORDS[COMP_CWORD]} last=${COMP_WORDS[COMP_CWORD - 1]} command=${COMP_WORDS[1]}
+    COMPREPLY=()
+    if ((COMP_CWORD == 1)); then
+        _lsl_words 'once check play replay freeze thaw view make --help --version' "$word"
+        return
+    fi
+    case $last in
+        --html) _lsl_files html "$word"; return ;;
+        --touch | --say | --after | --changed | --rez | --run | --link | --channel | --by | --owner) return ;;
+    esac
+    case $command:$word in
+        *:-*) _lsl_words "$(_lsl_options "$command")" "$word" ;;
+        once:* | check:* | play:*) _lsl_files lsl "$word" ;;
+        replay:* | freeze:*) _lsl_files world "$word" ;;
+        thaw:* | view:*) _lsl_files "$( ((COMP_CWORD > 2)) && echo world)" "$word" ;;
+    esac
+}
+
+complete -F _lsl lsl
