@@ -1,13 +1,19 @@
 # Completion of lsl in bash: commands, options, and files by their endings.
 
+_lsl_take() {
+    # Offers the lines of a text.
+    COMPREPLY=()
+    [[ -z $1 ]] || mapfile -t COMPREPLY <<<"$1"
+}
+
 _lsl_files() {
-    # Folders, and the files with an ending, or all of them.
-    mapfile -t COMPREPLY < <(compgen -d -- "$2"; compgen -f -X "${1:+!*.$1}" -- "$2")
+    # Offers folders, and the files with an ending, or all of them.
+    _lsl_take "$(compgen -d -- "$2"; compgen -f -X "${1:+!*.$1}" -- "$2")"
     compopt -o filenames 2>/dev/null
 }
 
 _lsl_words() {
-    mapfile -t COMPREPLY < <(compgen -W "$1" -- "$2")
+    _lsl_take "$(compgen -W "$1" -- "$2")"
 }
 
 _lsl_options() {
