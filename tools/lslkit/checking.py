@@ -8,6 +8,10 @@ class Failed(Exception):
     """What was wanted, and what came."""
 
 
+class Skipped(Exception):
+    """What a check needs that isn't there."""
+
+
 def check(function):
     """Adds a function to the checks. Its name says what it shows."""
     CHECKS.append(function)
@@ -21,7 +25,7 @@ def need(holds, *said):
 
 def run(words):
     """Runs the checks that have one of the words in their names. The status."""
-    failed = 0
+    failed = skipped = 0
     chosen = [it for it in CHECKS if not words or any(word in it.__name__ for word in words)]
     for it in chosen:
         name = it.__name__.replace("_", " ")
@@ -31,5 +35,10 @@ def run(words):
         except (Failed, SyntaxError, ValueError, syntax.Unexpected) as error:
             failed += 1
             print(f"FAILED  {name}: {error}", flush=True)
-    print(f"{len(chosen) - failed} passed, {failed} failed")
+        except Skipped as error:
+            skipped += 1
+            print(f"skipped {name}: {error}", flush=True)
+    if skipped:
+        print(f"{skipped} not run: what they need isn't here")
+    print(f"{len(chosen) - failed - skipped} passed, {failed} failed")
     return 1 if failed else 0

@@ -1,7 +1,7 @@
 """Syntax files for editors, from the tables and the list of names: what this language has, and what it hasn't."""
 import json
 
-from . import tables, tokens
+from . import about, tables, tokens
 
 MADE = "made by tools/syntax from the tables of the language: change those"
 NO_KINDS = ("float", "vector", "rotation", "quaternion")
@@ -73,9 +73,11 @@ def vim_syntax():
 
 
 VIM_DETECT = "autocmd BufNewFile,BufRead *.lsl setfiletype lsl\n"
-VIM_PLUGIN = r"""" :make says why the script isn't accepted. Set g:dishhollow to the folder of the repository.
-if exists("g:dishhollow")
-  let &l:makeprg = g:dishhollow . '/tools/explain %:S'
+VIM_PLUGIN = r"""" :make says why the script isn't accepted. g:dishhollow names the folder with tools/explain; it is found without it
+" where this file is in that folder, or is a link to it.
+let s:folder = get(g:, 'dishhollow', fnamemodify(resolve(expand('<sfile>:p')), ':h:h:h:h'))
+if executable(s:folder . '/tools/explain')
+  let &l:makeprg = s:folder . '/tools/explain %:S'
 endif
 setlocal errorformat=%f:%l:%c:\ error:\ %m,bad\ script\ \"%f\"\ %l:%c\ %m,%-G%.%#
 setlocal commentstring=//%s
@@ -133,7 +135,7 @@ def vscode_package():
         "name": "lsl-dishhollow",
         "displayName": "LSL (Dishhollow)",
         "description": "The Linden Scripting Language as Dishhollow has it; what it hasn't is marked",
-        "version": "0.1.0",
+        "version": about.version(),
         "publisher": "dishhollow",
         "license": "MIT",
         "engines": {"vscode": "^1.60.0"},
