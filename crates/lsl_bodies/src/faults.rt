@@ -9,7 +9,7 @@ use lsl_text::{Refusal, Span};
 use lsl_value::Kind;
 
 /// What is wrong with a name or a kind.
-#[derive(Clone, Copy, Debug, PartialEq, Eq)]
+#[derive(Clone, Copy, PartialEq, Eq)]
 pub enum TypeKind {
     /// There is no variable, function or state of this name.
     UnknownName,
@@ -64,7 +64,7 @@ impl TypeKind {
 }
 
 /// A fault and its place.
-#[derive(Clone, Copy, Debug, PartialEq, Eq)]
+#[derive(Clone, Copy, PartialEq, Eq)]
 pub struct TypeFault {
     pub kind: TypeKind,
     pub span: Span,

@@ -3,7 +3,7 @@
 #![tactic(auto)]
 
 /// Why a reader stopped at a token.
-#[derive(Clone, Copy, Debug, PartialEq, Eq, Hash)]
+#[derive(Clone, Copy, PartialEq, Eq, Hash)]
 pub enum Why {
     /// No text goes on with this token, nor with an operand in its place.
     Unexpected,

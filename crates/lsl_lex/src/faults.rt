@@ -20,7 +20,7 @@ pub enum LexKind {
 }
 
 /// A lexical fault and its place.
-#[derive(Clone, Copy, Debug, PartialEq, Eq)]
+#[derive(Clone, Copy, PartialEq, Eq)]
 pub struct LexFault {
     pub kind: LexKind,
     pub span: Span,

@@ -13,7 +13,7 @@ use std::alloc::Global;
 const PLACES: usize = 256;
 
 /// The last names that were read, each at the place that its bytes give.
-#[derive(Debug, Drop)]
+#[derive(Drop)]
 pub struct Names {
     held: Vec<Text>,
 }

@@ -23,7 +23,7 @@ use lsl_text::{NoMemory, Refusal};
 use std::alloc::Global;
 
 /// What the front of a text is: a blank or a comment gives nothing, a token its sort.
-#[derive(Debug, Drop)]
+#[derive(Drop)]
 pub struct Piece {
     pub gives: Option<Sort>,
     pub length: usize,

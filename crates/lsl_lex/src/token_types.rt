@@ -75,14 +75,14 @@ pub enum Sort {
 }
 
 /// A token and its place.
-#[derive(Debug, Drop)]
+#[derive(Drop)]
 pub struct Token {
     pub sort: Sort,
     pub span: Span,
 }
 
 /// A list of tokens.
-#[derive(Debug, Drop)]
+#[derive(Drop)]
 pub struct TokenList {
     list: Vec<Token>,
 }
@@ -113,7 +113,7 @@ impl TokenList {
 }
 
 /// The tokens of a text. `end` is the empty span behind the text's last byte.
-#[derive(Debug, Drop)]
+#[derive(Drop)]
 pub struct Tokens {
     pub list: TokenList,
     pub end: Span,

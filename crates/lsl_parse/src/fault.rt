@@ -6,7 +6,7 @@ ghost use Rattle.lsl_parse.specs.FaultNumbers.{number_of};
 use lsl_text::Span;
 
 /// A syntax fault.
-#[derive(Clone, Copy, Debug, PartialEq, Eq, Hash)]
+#[derive(Clone, Copy, PartialEq, Eq, Hash)]
 pub enum ParseKind {
     /// No script goes on with this token.
     Unexpected,
@@ -36,7 +36,7 @@ impl ParseKind {
 }
 
 /// A syntax fault and the place of its token, or the end of the text.
-#[derive(Clone, Copy, Debug, PartialEq, Eq)]
+#[derive(Clone, Copy, PartialEq, Eq)]
 pub struct ParseFault {
     pub kind: ParseKind,
     pub span: Span,

@@ -11,7 +11,7 @@ use crate::{next, take};
 use lsl_lex::Token;
 
 /// The sign that ends a list of expressions.
-#[derive(Clone, Copy, Debug, PartialEq, Eq)]
+#[derive(Clone, Copy, PartialEq, Eq)]
 pub enum Close {
     Parenthesis,
     Bracket,

@@ -11,14 +11,14 @@ pub struct Name {
 }
 
 /// `++` or `--`.
-#[derive(Clone, Copy, Debug, PartialEq, Eq, Hash)]
+#[derive(Clone, Copy, PartialEq, Eq, Hash)]
 pub enum StepOp {
     Increment,
     Decrement,
 }
 
 /// `=`, or an operator and `=`.
-#[derive(Clone, Copy, Debug, PartialEq, Eq, Hash)]
+#[derive(Clone, Copy, PartialEq, Eq, Hash)]
 pub enum AssignOp {
     Set,
     Add,

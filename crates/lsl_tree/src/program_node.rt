@@ -4,14 +4,14 @@ use crate::expression::StepOp;
 use lsl_value::{BinaryOp, BuiltinId, ConstantId, Kind, Text, UnaryOp};
 
 /// Where a variable's value is kept: among the globals, or among the slots of the function in hand.
-#[derive(Clone, Copy, Debug, PartialEq, Eq, Hash)]
+#[derive(Clone, Copy, PartialEq, Eq, Hash)]
 pub enum Place {
     Global(usize),
     Slot(usize),
 }
 
 /// What a call calls: the program's function of this number, or a built-in call.
-#[derive(Clone, Copy, Debug, PartialEq, Eq, Hash)]
+#[derive(Clone, Copy, PartialEq, Eq, Hash)]
 pub enum Callee {
     Function(usize),
     Builtin(BuiltinId),
