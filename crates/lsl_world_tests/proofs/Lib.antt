@@ -1,3 +1,0 @@
-pub mod AwayGrid
-pub mod Stopping
-pub mod Touching

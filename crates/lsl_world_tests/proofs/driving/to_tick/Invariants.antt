@@ -1,5 +1,0 @@
-use Rattle.lsl_world_tests.specs.Driven.{CanGoOn}
-use Rattle.lsl_world_tests.proofs.driving.to_tick.Given as goal
-
-abbrev pub invariant-loop-i : goal.invariant-loop-i
-invariant-loop-i l = CanGoOn l.unit l.fn.handler l.machine

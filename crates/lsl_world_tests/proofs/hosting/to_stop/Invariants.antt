@@ -1,5 +1,0 @@
-use Rattle.lsl_world_tests.specs.Stops.{IsAfter}
-use Rattle.lsl_world_tests.proofs.hosting.to_stop.Given as goal
-
-abbrev pub invariant-loop-at : goal.invariant-loop-at
-invariant-loop-at l = IsAfter l.unit l.turn l.live

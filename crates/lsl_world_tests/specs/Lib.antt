@@ -1,5 +1,0 @@
-pub mod Away
-pub mod Driven
-pub mod Exchanged
-pub mod Samples
-pub mod Stops

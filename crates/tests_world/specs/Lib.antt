@@ -1,0 +1,4 @@
+pub mod Driven
+pub mod Exchanged
+pub mod Samples
+pub mod Stops
