@@ -11,6 +11,8 @@ from .places import in_top, text_of, write_text
 FOLDER = os.path.dirname(webmodule.MODULE)
 # The files of page/ that are no part of the page that is served.
 ASIDE = ("heap.c", "package.json", "picture.png")
+# Where the page says whether its module is proved.
+PROVED = 'data-module="proved"'
 FAULTS = range(1, 58)
 # How a script is played that does nothing by itself.
 STEPS = "touch Ann\nwait 1s\ntouch Ben"
@@ -65,6 +67,8 @@ def make():
     for path in glob.glob(in_top("page", "*.*")):
         if os.path.basename(path) not in ASIDE:
             shutil.copyfile(path, os.path.join(FOLDER, os.path.basename(path)))
+    how = webmodule.made_as() or "unproved"
+    write("index.html", text_of("page", "index.html").replace(PROVED, PROVED.replace("proved", how)))
     write("examples.json", json.dumps(examples()))
     write("faults.json", json.dumps(meanings()))
     shutil.copyfile(timeline.TEMPLATE, os.path.join(FOLDER, "timeline.html"))
