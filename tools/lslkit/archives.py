@@ -1,4 +1,4 @@
-"""Writes files as an archive and as a Debian package. The same files give the same bytes: names are sorted, each time is
+"""Writes files as an archive and as a Debian package. The same files give the same bytes: names are sorted, times are
 the one that is given, and all belongs to root."""
 import gzip
 import io

@@ -12,8 +12,8 @@ from .places import bytes_of, in_top, text_of
 MAINTAINER = "Dishhollow maintainers <maintainers@users.noreply.dishhollow.example>"
 NAME = contents.NAME
 SHARE, DOC, VIM = f"usr/share/{NAME}", f"usr/share/doc/{NAME}", "usr/share/vim/vimfiles"
-# Where a package's files are: the first beginning of a name that fits counts. What has none stands in the files below in
-# other words.
+# Where a package's files are: the first beginning of a name that fits counts. A file that none fits has its content
+# in one of those that are made below.
 PLACES = (
     ("docs/FAULTS.md", f"{SHARE}/docs/FAULTS.md"),
     ("docs/", f"{DOC}/docs/"),

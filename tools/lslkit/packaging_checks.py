@@ -162,7 +162,8 @@ def the_manual_page_renders_and_is_whole():
 
 def options():
     """Each option of the script `lsl`."""
-    return {"--show", "--html", "--lossy", "--help", "--version", *(f"--{it}" for it in (*playing.TAKING, *playing.FLAGS))}
+    own = ("show", "html", "lossy", "help", "version")
+    return {f"--{it}" for it in (*own, *playing.TAKING, *playing.FLAGS)}
 
 
 @check
