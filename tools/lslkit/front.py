@@ -20,15 +20,19 @@ usage: lsl once FILE                runs a script, and prints its journal
        lsl make NUMBER              plays a world made of a number, and prints its report's lines and digest
        lsl check FILE               says that a script is accepted, or tells its first fault
        lsl play FILE ..             plays a script without a world file: 'lsl play --help'
-       lsl --prove [WORDS]          proves the program first, in about an hour
-       lsl --try WORDS              uses the program without its proofs, also where there is a proved one
-       lsl --version                which program runs: its version and commit, whether it is proved, its kit
+{of_checkout}       lsl --version                which program runs: its version and commit, whether it is proved, its kit
        lsl --help
 
-Write ./-x for a file whose name begins with '-'. The first call compiles the program without its proofs, in a
+Write ./-x for a file whose name begins with '-'.{built}
+'tools/explain FILE' prints a script's first fault in words, as 'lsl check FILE' does on a terminal."""
+# What a package has no use for: it builds nothing.
+OF_CHECKOUT = """\
+       lsl --prove [WORDS]          proves the program first, in about an hour
+       lsl --try WORDS              uses the program without its proofs, also where there is a proved one
+"""
+BUILT = """ The first call compiles the program without its proofs, in a
 minute or two: it checks itself as it runs, and stops where a check fails. After 'lsl --prove' the proved program is
-used, until a source of it changes.
-'tools/explain FILE' tells a script's first fault in words, as 'lsl check FILE' does on a terminal."""
+used, until a source of it changes."""
 COMMANDS = ("once", "replay", "freeze", "thaw", "view", "check", "make")
 OF_WORLDS = ("replay", "freeze", "thaw", "view")
 OF_FROZEN = ("thaw", "view")
@@ -113,9 +117,15 @@ def main(words):
         return NOT_MADE
 
 
+def usage():
+    """The commands that there are: a package can't build a program."""
+    is_package = about.is_package()
+    return USAGE.format(of_checkout="" if is_package else OF_CHECKOUT, built="" if is_package else BUILT)
+
+
 def answer(words, how):
     if words[:1] in (["--help"], ["-h"]):
-        print(USAGE)
+        print(usage())
         return 0
     if words == ["--version"]:
         return tell_version(how)
@@ -125,7 +135,7 @@ def answer(words, how):
         print(f"lsl: {error}", file=sys.stderr)
         command = None
     if command is None:
-        print(USAGE if words[:1] != ["play"] else playing.USAGE, file=sys.stderr)
+        print(usage() if words[:1] != ["play"] else playing.USAGE, file=sys.stderr)
         return 1
     if words[0] == "play" and command.needs_no_program:
         return command.answer()
