@@ -166,8 +166,8 @@ fn stays(alloc: Global, schedule: usize) -> Result<bool, AllocError> {
     Ok(!places.contains("!"))
 }
 
-/// The number of a schedule, event by event: 0 is sent again, 1 is given up, 2 is the offer, and from 3 on are the notes
-/// that were sent after it.
+/// The number of a schedule, event by event: 0 is sent again, 1 is given up, 2 is the offer, and from 3 on are the
+/// notes that were sent after it.
 fn numbered(events: &str) -> usize {
     let mut schedule = 0usize;
     let mut worth = 1usize;

@@ -76,7 +76,7 @@ fn tell_fault(told: &mut Shown, fault: CardFault) {
     told.put(&fault.line());
 }
 
-/// The notecard alone among those of a prim.
+/// The notecard alone among those of a prim, under the name `n`.
 fn cards_of(alloc: Global, card: Card) -> Result<Cards, AllocError> {
     let mut cards = Cards::new(alloc);
     cards.add(1, text(alloc, "n")?, card)?;
@@ -86,26 +86,27 @@ fn cards_of(alloc: Global, card: Card) -> Result<Cards, AllocError> {
 /// What is told of each line, from 0 to the first after the last, with `/` between, and `end` for its three feeds.
 fn tell_lines(told: &mut Shown, card: Card) -> Result<(), AllocError> {
     let cards = cards_of(told.alloc(), card)?;
-    tell_each_line(told, &cards)
+    let name = text(told.alloc(), "n")?;
+    tell_each_line(told, &cards, &name)
 }
 
-fn tell_each_line(told: &mut Shown, cards: &Cards) -> Result<(), AllocError> {
-    told.put(&cards.count(1));
-    told.add(": ");
-    for line in 0..=cards.count(1) {
-        tell_line(told, cards, line)?;
+fn tell_each_line(told: &mut Shown, cards: &Cards, name: &Text) -> Result<(), AllocError> {
+    if let Some(card) = cards.find(1, name) {
+        told.put(&cards.count(card));
+        told.add(": ");
+        for line in 0..=cards.count(card) {
+            tell_line(told, cards.line(card, line)?);
+        }
     }
     Ok(())
 }
 
-fn tell_line(told: &mut Shown, cards: &Cards, line: u32) -> Result<(), AllocError> {
-    let said = cards.line(1, line)?;
-    told.add(match said.as_str() {
+fn tell_line(told: &mut Shown, line: Text) {
+    told.add(match line.as_str() {
         "\n\n\n" => "end",
         line => line,
     });
     told.add("/");
-    Ok(())
 }
 
 /// How many lines a notecard of so many bytes has.
@@ -132,8 +133,15 @@ fn cut(told: &mut Shown, asked: &str) -> Result<(), AllocError> {
 
 fn tell_length(told: &mut Shown, card: Card) -> Result<(), AllocError> {
     let cards = cards_of(told.alloc(), card)?;
-    let line = cards.line(1, 0)?;
-    told.put(&line.bytes().len());
+    let name = text(told.alloc(), "n")?;
+    tell_first_length(told, &cards, &name)
+}
+
+fn tell_first_length(told: &mut Shown, cards: &Cards, name: &Text) -> Result<(), AllocError> {
+    if let Some(card) = cards.find(1, name) {
+        let line = cards.line(card, 0)?;
+        told.put(&line.bytes().len());
+    }
     Ok(())
 }
 

