@@ -3,5 +3,11 @@
 #![tactic(auto)]
 
 pub mod code;
+pub mod images;
+pub mod machines;
+pub mod mailbox;
 pub mod meaning;
 pub mod running;
+pub mod scripts;
+pub mod stores;
+pub mod weaving;
