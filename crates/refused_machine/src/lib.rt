@@ -3,6 +3,7 @@
 #![tactic(auto)]
 
 pub mod code;
+pub mod emitting;
 pub mod images;
 pub mod machines;
 pub mod mailbox;
