@@ -3,3 +3,5 @@
 #![tactic(auto)]
 
 pub mod handoff;
+pub mod lines;
+pub mod regions;
