@@ -122,9 +122,9 @@ def a_debian_package_works_for_anyone_and_leaves_nothing():
         return said_by(bare_root.words_of(words, is_root=True))
 
     as_root("dpkg", "--purge", contents.NAME)
-    before, deb = bare_root.paths(), os.path.join(bare_root.folder(), "tmp", "it.deb")
+    before, deb = bare_root.paths(), os.path.join(bare_root.folder(), "it.deb")
     shutil.copy(debian(), deb)
-    came = as_root("dpkg", "--install", "/tmp/it.deb")
+    came = as_root("dpkg", "--install", "/it.deb")
     try:
         need("Setting up dishhollow" in came and "error" not in came, "dpkg says", came)
         for line, wanted in INSTALLED:
