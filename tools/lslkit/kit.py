@@ -32,11 +32,11 @@ class NotMade(Exception):
         return f"{self.said}{tool}: {self}"
 
 
-def said_by(*words):
+def said_by(*words, must_succeed=True):
     """What a command prints."""
     how = {"stdin": subprocess.DEVNULL, "stdout": subprocess.PIPE, "stderr": subprocess.STDOUT}
     try:
-        ran = subprocess.run(words, check=True, **how)
+        ran = subprocess.run(words, check=must_succeed, **how)
     except (OSError, subprocess.CalledProcessError):
         raise NotMade(f"'{' '.join(words)}' doesn't work") from None
     return ran.stdout.decode(errors="replace")
@@ -65,7 +65,8 @@ def version():
 @functools.lru_cache(maxsize=None)
 def keeps():
     """Whether its gate keeps what it proved, for later runs on this machine."""
-    return "rt ci NAME.." in said_by("rt", "help")
+    # The help of `rt` ends with status 2.
+    return "rt ci NAME.." in said_by("rt", "help", must_succeed=False)
 
 
 def path(*names):
