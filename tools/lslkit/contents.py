@@ -16,7 +16,8 @@ PAGE = (".css", ".html", ".js", ".json", ".wasm")
 SCRIPTS = ("lsl", "tools/explain", "tools/show", "tools/suite")
 # Files and folders of the repository, and where they are in a package. The first that fits a path counts.
 PLACES = (
-    *((it, it) for it in ("CHANGELOG.md", "CONTRIBUTING.md", "LICENSE", "README.md", "docs/", "editors/")),
+    *((it, it) for it in ("CHANGELOG.md", "CONTRIBUTING.md", "LICENSE", "README.md")),
+    *((it, it) for it in ("docs/", "editors/", "tools/words/")),
     *((it, it) for it in ("page/picture.png", "tools/lsl_names.tsv", "tools/lslkit/timeline.html")),
     *((f"crates/lsl_table/src/{it}.rt", f"tools/tables/{it}.rt") for it in ("calls", "constants", "events")),
     ("crates/lsl_rows/data/examples/", "examples/"),

@@ -1,0 +1,11 @@
+"""The words that tools, editors and page share: each table is a file of tools/words/."""
+import functools
+import json
+
+from .places import text_of
+
+
+@functools.lru_cache(maxsize=None)
+def table(name):
+    """The table of this name, as its file has it."""
+    return json.loads(text_of("tools", "words", f"{name}.json"))
