@@ -1,0 +1,62 @@
+"""Checks of the documents: each link leads to a file and a heading, and each page that a file names is there."""
+import glob
+import os
+import re
+import subprocess
+
+from . import places
+from .checking import check, need
+
+PAGES = ("README.md", "CONTRIBUTING.md", "docs/*.md", "bench/README.md", "crates/*/README.md")
+CODE_BLOCK = re.compile(r"(?ms)^```.*?^```$")
+CODE = re.compile(r"`[^`\n]*`")
+LINK = re.compile(r"\]\(([^()\s]+)\)")
+HEADING = re.compile(r"(?m)^#{1,6} +(.*?) *$")
+NAMED_PAGE = re.compile(r"\bdocs/[A-Z]+\.md\b")
+
+
+def pages():
+    found = [it for pattern in PAGES for it in sorted(glob.glob(places.in_top(pattern)))]
+    return [os.path.relpath(it, places.TOP) for it in found]
+
+
+def prose(page):
+    return CODE_BLOCK.sub("", places.text_of(page))
+
+
+def anchor(heading):
+    """The anchor that GitHub gives a heading."""
+    text = re.sub(r"\[([^\]]*)\]\([^)]*\)", r"\1", heading)
+    return re.sub(r"[^\w\- ]", "", text.lower()).replace(" ", "-")
+
+
+def anchors(page):
+    return {anchor(it) for it in HEADING.findall(prose(page))}
+
+
+def broken(page, link):
+    """What is wrong with a link of a page, or None."""
+    path, _, wanted = link.partition("#")
+    target = os.path.normpath(os.path.join(os.path.dirname(page), path)) if path else page
+    if not os.path.exists(places.in_top(target)):
+        return f"{page} links to {link}, and there is no {target}"
+    if wanted and wanted not in anchors(target):
+        return f"{page} links to {link}, and {target} has no such heading"
+    return None
+
+
+@check
+def every_link_resolves():
+    for page in pages():
+        for link in LINK.findall(CODE.sub("", prose(page))):
+            fault = None if re.match(r"[a-z]+:", link) else broken(page, link)
+            need(fault is None, fault)
+
+
+@check
+def every_page_that_a_file_names_is_there():
+    tracked = subprocess.run(["git", "ls-files", "-z"], cwd=places.TOP, stdout=subprocess.PIPE, check=True).stdout
+    for name in filter(None, tracked.decode().split("\0")):
+        text = (places.bytes_of(places.in_top(name)) or b"").decode(errors="replace")
+        for page in NAMED_PAGE.findall(text):
+            need(os.path.exists(places.in_top(page)), name, "names", page, "which isn't there")
