@@ -1,4 +1,4 @@
-// A journal: its lines, and the handlers that they tell of (docs/JOURNAL.md).
+// A journal: its lines, and the handlers that they tell of (docs/WORLDS.md).
 import { unquoted } from "./quoting.js";
 
 const ENDS = ["done", "fault"];

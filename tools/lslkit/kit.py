@@ -17,7 +17,7 @@ exec '{clang}' "$@"
 MISSING = """\
 the program has to be built from its sources here, and the command for that, 'rt', isn't on the PATH.
 Get the package of Dishhollow for Linux, which has the program and needs nothing more; or ask whoever gave you these
-sources for the Rattle kit, of which 'rt' is a part, and put its folder bin/ on the PATH (docs/READING.md)."""
+sources for the Rattle kit, of which 'rt' is a part, and put its folder bin/ on the PATH (docs/ARCHITECTURE.md)."""
 
 
 class NotMade(Exception):
