@@ -60,3 +60,27 @@ def every_page_that_a_file_names_is_there():
         text = (places.bytes_of(places.in_top(name)) or b"").decode(errors="replace")
         for page in NAMED_PAGE.findall(text):
             need(os.path.exists(places.in_top(page)), name, "names", page, "which isn't there")
+
+
+def guards():
+    """What the table of rules in docs/PROOFS.md names as fixing a rule."""
+    table = places.text_of("docs", "PROOFS.md").partition("\n| rule |")[2].partition("\n\n")[0]
+    return {it for row in table.splitlines()[2:] for it in CODE.findall(row.split(" | ", 1)[1])}
+
+
+def names_in(pattern, form):
+    """The names of a form in all files of a pattern."""
+    files = glob.glob(places.in_top("crates", *pattern), recursive=True)
+    return {it for file in files for it in re.findall(form, places.text_of(file))}
+
+
+@check
+def each_guard_of_a_rule_exists():
+    cases = names_in(("*", "data", "*.cases"), r"(?m)^\? (\S+)$")
+    functions = names_in(("*", "src", "**", "*.rt"), r"\bfn (\w+)")
+    files = set(os.listdir(places.in_top("suite")))
+    for name in (it.strip("`") for it in guards()):
+        is_there = name in cases | functions | files
+        if name.endswith("*"):
+            is_there = any(it.startswith(name[:-1]) for it in cases)
+        need(is_there, "docs/PROOFS.md names", name, "and there is no such law, test, case or file")
