@@ -1,4 +1,5 @@
 """Checks of the documents: each link leads to a file and a heading, and each page that a file names is there."""
+import fnmatch
 import glob
 import os
 import re
@@ -60,6 +61,31 @@ def every_page_that_a_file_names_is_there():
         text = (places.bytes_of(places.in_top(name)) or b"").decode(errors="replace")
         for page in NAMED_PAGE.findall(text):
             need(os.path.exists(places.in_top(page)), name, "names", page, "which isn't there")
+
+
+def crates_below():
+    """Each crate, and the crates of this repository that it depends on."""
+    lines = [it.partition(":") for it in places.text_of("crates.txt").splitlines() if not it.startswith("#")]
+    needs = {head.split()[0]: set(words.split()) for head, _, words in lines if head}
+    return {it: low & set(needs) for it, low in needs.items()}
+
+
+def rows_of_the_map(crates):
+    """The crates of each row of the map in docs/ARCHITECTURE.md, from its top."""
+    table = places.text_of("docs", "ARCHITECTURE.md").partition("\n| crate |")[2].partition("\n\n")[0]
+    for row in table.splitlines()[2:]:
+        forms = re.findall(r"`([^`]+)`", row.split(" | ", 1)[0])
+        yield {it for form in forms for it in fnmatch.filter(crates, form)}
+
+
+@check
+def the_map_names_each_crate_after_those_below_it():
+    below, named = crates_below(), set()
+    for row in rows_of_the_map(below):
+        named |= row
+        late = {low for it in row for low in below[it]} - named
+        need(not late, "docs/ARCHITECTURE.md names", *sorted(row), "before", *sorted(late))
+    need(named == set(below), "docs/ARCHITECTURE.md doesn't name", *sorted(set(below) - named))
 
 
 def guards():
