@@ -1,16 +1,19 @@
-"""Checks of the documents: each link leads to a file and a heading, and each page that a file names is there."""
+"""Checks of the documents: their links, the commands in them with what these print, and names that must exist."""
 import fnmatch
 import glob
 import os
 import re
 import subprocess
+import tempfile
 
-from . import places
+from . import making, places
 from .checking import check, need
 
 PAGES = ("README.md", "CONTRIBUTING.md", "docs/*.md", "bench/README.md", "crates/*/README.md")
 CODE_BLOCK = re.compile(r"(?ms)^```.*?^```$")
 CODE = re.compile(r"`[^`\n]*`")
+SESSION = re.compile(r"(?ms)^```\n(\$ .*?)^```$")
+SPOKEN = re.compile(r"(?m)^\$ (.*)\n((?:(?!\$ ).*\n)*)")
 LINK = re.compile(r"\]\(([^()\s]+)\)")
 HEADING = re.compile(r"(?m)^#{1,6} +(.*?) *$")
 NAMED_PAGE = re.compile(r"\bdocs/[A-Z]+\.md\b")
@@ -61,6 +64,36 @@ def every_page_that_a_file_names_is_there():
         text = (places.bytes_of(places.in_top(name)) or b"").decode(errors="replace")
         for page in NAMED_PAGE.findall(text):
             need(os.path.exists(places.in_top(page)), name, "names", page, "which isn't there")
+
+
+def sessions():
+    """The pages with commands after a `$`, and these commands, each with what it prints there."""
+    for page in (it for it in pages() if not it.startswith("crates/")):
+        for session in SESSION.findall(places.text_of(page)):
+            yield page, SPOKEN.findall(session)
+
+
+def said_in(room, command):
+    """What a command that is typed at the top of the repository prints, in a folder of its own."""
+    typed = re.sub(r"^(\./lsl|tools/\w+)", lambda it: os.path.join(places.TOP, it[0]), command)
+    environment = {**os.environ, "LSL_PROGRAM": making.any_program()}
+    how = {"stdout": subprocess.PIPE, "cwd": room, "env": environment, "check": False}
+    return subprocess.run(["bash", "-c", typed], **how).stdout.decode()
+
+
+def form_of(shown):
+    """What a document shows, as a pattern: a line of points is any number of lines."""
+    return "".join("(?:.*\n)*" if set(it) == {"."} else re.escape(it) + "\n" for it in shown.splitlines())
+
+
+@check
+def each_command_of_the_documents_prints_what_they_say():
+    for page, session in sessions():
+        with tempfile.TemporaryDirectory() as room:
+            os.symlink(places.in_top("examples"), os.path.join(room, "examples"))
+            for command, shown in session:
+                said = said_in(room, command)
+                need(re.fullmatch(form_of(shown), said), page, "has", command, "which prints", said)
 
 
 def crates_below():
