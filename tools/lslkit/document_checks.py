@@ -1,4 +1,5 @@
 """Checks of the documents: their links, the commands in them with what these print, and names that must exist."""
+import contextlib
 import fnmatch
 import glob
 import os
@@ -13,6 +14,11 @@ PAGES = ("README.md", "CONTRIBUTING.md", "docs/*.md", "bench/README.md", "crates
 CODE_BLOCK = re.compile(r"(?ms)^```.*?^```$")
 CODE = re.compile(r"`[^`\n]*`")
 SESSION = re.compile(r"(?ms)^```\n(\$ .*?)^```$")
+BLOCK = re.compile(r"(?ms)^```\n(.*?)^```$")
+TYPED = re.compile(r"(?m)^((?:\./lsl|tools/\w+)\b[^#\n]*)")
+# A word in capitals is the reader's to replace. The slow ones take minutes, or need the kit.
+PLACEHOLDER = re.compile(r"\b[A-Z]{3,}\b")
+SLOW = ("./lsl --prove", "tools/check", "tools/gate", "tools/package", "tools/page")
 SPOKEN = re.compile(r"(?m)^\$ (.*)\n((?:(?!\$ ).*\n)*)")
 LINK = re.compile(r"\]\(([^()\s]+)\)")
 HEADING = re.compile(r"(?m)^#{1,6} +(.*?) *$")
@@ -73,12 +79,28 @@ def sessions():
             yield page, SPOKEN.findall(session)
 
 
-def said_in(room, command):
-    """What a command that is typed at the top of the repository prints, in a folder of its own."""
+def typed_commands():
+    """The pages with commands that are shown without their output, and these commands."""
+    for page in (it for it in pages() if not it.startswith("crates/")):
+        for block in BLOCK.findall(places.text_of(page)):
+            for command in TYPED.findall(block):
+                if not PLACEHOLDER.search(command) and not command.startswith(SLOW):
+                    yield page, command.strip()
+
+
+def run_in(room, command):
+    """Runs a command as it is typed at the top of the repository, in a folder that has the examples."""
     typed = re.sub(r"^(\./lsl|tools/\w+)", lambda it: os.path.join(places.TOP, it[0]), command)
     environment = {**os.environ, "LSL_PROGRAM": making.any_program()}
-    how = {"stdout": subprocess.PIPE, "cwd": room, "env": environment, "check": False}
-    return subprocess.run(["bash", "-c", typed], **how).stdout.decode()
+    how = {"stdin": subprocess.DEVNULL, "stdout": subprocess.PIPE, "cwd": room, "env": environment, "check": False}
+    return subprocess.run(["bash", "-c", typed], **how)
+
+
+@contextlib.contextmanager
+def room_with_examples():
+    with tempfile.TemporaryDirectory() as room:
+        os.symlink(places.in_top("examples"), os.path.join(room, "examples"))
+        yield room
 
 
 def form_of(shown):
@@ -89,11 +111,17 @@ def form_of(shown):
 @check
 def each_command_of_the_documents_prints_what_they_say():
     for page, session in sessions():
-        with tempfile.TemporaryDirectory() as room:
-            os.symlink(places.in_top("examples"), os.path.join(room, "examples"))
+        with room_with_examples() as room:
             for command, shown in session:
-                said = said_in(room, command)
+                said = run_in(room, command).stdout.decode()
                 need(re.fullmatch(form_of(shown), said), page, "has", command, "which prints", said)
+
+
+@check
+def each_command_of_the_documents_ends_well():
+    with room_with_examples() as room:
+        for page, command in typed_commands():
+            need(run_in(room, command).returncode == 0, page, "has", command, "which fails")
 
 
 def crates_below():
