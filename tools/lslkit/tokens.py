@@ -32,6 +32,27 @@ def cut(text):
         place = found.end()
 
 
+UNENDED = re.compile(rb'"(?:[^"\\\n]|\\[^\n])*|/\*.*|[0-9]*\.[0-9]*|.[\x80-\xbf]*', re.S)
+
+
+def cut_through(text):
+    """The tokens of a text, also behind its lexical faults, where each fault is a token of the sort `fault`."""
+    tokens, place = [], 0
+    while True:
+        place = SKIPPED.match(text, place).end()
+        found = TOKEN.match(text, place)
+        is_number = found and found.lastgroup == "integer"
+        if text.startswith(b"/*", place) or is_number and text.startswith(b".", found.end()):
+            found = None
+        if not found and place == len(text):
+            return [*tokens, Token("end", "", place, place)]
+        sort = found.lastgroup if found else "fault"
+        found = found or UNENDED.match(text, place)
+        word = found[0].decode(errors="replace")
+        tokens.append(Token("word" if word in WORDS else sort, word, place, found.end()))
+        place = found.end()
+
+
 class Lines:
     """Lines and columns of a text's bytes, counted from 1."""
 

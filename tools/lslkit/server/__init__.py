@@ -1,0 +1,1 @@
+"""A server of the Language Server Protocol for scripts and world files: tools/lsl-server runs it."""
