@@ -13,7 +13,7 @@ NAME = "dishhollow"
 LEFT_OUT = "left out"
 PAGE = (".css", ".html", ".js", ".json", ".wasm")
 # What needs Python alone.
-SCRIPTS = ("lsl", "tools/explain", "tools/show", "tools/suite")
+SCRIPTS = ("lsl", "tools/explain", "tools/lsl-server", "tools/show", "tools/suite")
 # Files and folders of the repository, and where they are in a package. The first that fits a path counts.
 PLACES = (
     *((it, it) for it in ("CHANGELOG.md", "CONTRIBUTING.md", "LICENSE", "README.md")),

@@ -161,7 +161,7 @@ def elements_of(text, cut):
     """The tokens and comments of a text, in its order."""
     found, last = [], 0
     for at, token in enumerate(cut):
-        if token.place - last > 1:
+        if token.place - last > 1 and b"/" in text[last : token.place]:
             found += [Element(it.start(), it.end(), None) for it in COMMENT.finditer(text, last, token.place)]
         found.append(Element(token.place, token.end, at))
         last = token.end
@@ -222,7 +222,8 @@ def edits(text, unit=b"    "):
     elements, layout = read(text)
     feed = b"\r\n" if text.count(b"\r\n") * 2 > text.count(b"\n") else b"\n"
     found = list(changed(text, layout, elements, (unit, feed)))
-    need_same(text, elements, applied(text, found))
+    if found:
+        need_same(text, elements, applied(text, found))
     return found
 
 

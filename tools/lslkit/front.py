@@ -7,7 +7,7 @@ import sys
 import tempfile
 
 from . import about, faults, kit, making, playing, program, showing, standing, worlds
-from .places import write_text
+from .places import in_top, write_text
 
 USAGE = """\
 usage: lsl once FILE                runs a script, and prints its journal
@@ -20,6 +20,7 @@ usage: lsl once FILE                runs a script, and prints its journal
        lsl make NUMBER              plays a world made of a number, and prints its report's lines and digest
        lsl check FILE               says that a script is accepted, or tells its first fault
        lsl play FILE ..             plays a script without a world file: 'lsl play --help'
+       lsl server                   answers an editor, by the Language Server Protocol
 {of_checkout}       lsl --version                which program runs: its version and commit, whether it is proved, its kit
        lsl --help
 
@@ -129,6 +130,8 @@ def answer(words, how):
         return 0
     if words == ["--version"]:
         return tell_version(how)
+    if words[:1] == ["server"]:
+        os.execv(sys.executable, [sys.executable, in_top("tools", "lsl-server"), *words[1:]])
     try:
         command = playing.Play(words[1:]) if words[:1] == ["play"] else Options(words) if words else None
     except (Bad, playing.Bad) as error:

@@ -18,39 +18,52 @@ TOKEN = re.compile(
 )
 
 
+ONE = re.compile(SKIPPED.pattern + b"(?:" + TOKEN.pattern + b")", re.S | re.A)
+# What begins no token: a string or comment without an end, a number with a point, a foreign character.
+UNENDED = re.compile(rb'"(?:[^"\\\n]|\\[^\n])*|/\*.*|[0-9]*\.[0-9]*|.[\x80-\xbf]*', re.S)
+
+
 def cut(text):
     """The tokens of a text up to its first lexical fault, and a last one of the sort `end`."""
-    tokens, place = [], 0
-    while True:
-        place = SKIPPED.match(text, place).end()
-        found = TOKEN.match(text, place)
-        if not found:
-            return [*tokens, Token("end", "", place, place)]
-        word = found[0].decode(errors="replace")
-        sort = "word" if word in WORDS else found.lastgroup
-        tokens.append(Token(sort, word, place, found.end()))
-        place = found.end()
+    tokens = []
+    place = SKIPPED.match(text, cut_from(text, 0, tokens)).end()
+    return [*tokens, Token("end", "", place, place)]
 
 
-UNENDED = re.compile(rb'"(?:[^"\\\n]|\\[^\n])*|/\*.*|[0-9]*\.[0-9]*|.[\x80-\xbf]*', re.S)
+def cut_from(text, place, tokens):
+    """Adds the tokens from a place on up to the next lexical fault. The place behind the last."""
+    for found in ONE.finditer(text, place):
+        if found.start() != place:
+            break
+        sort = found.lastgroup
+        first, place = found.span(sort)
+        word = text[first:place].decode(errors="replace")
+        tokens.append(Token("word" if word in WORDS else sort, word, first, place))
+    return place
 
 
 def cut_through(text):
     """The tokens of a text, also behind its lexical faults, where each fault is a token of the sort `fault`."""
     tokens, place = [], 0
     while True:
-        place = SKIPPED.match(text, place).end()
-        found = TOKEN.match(text, place)
-        is_number = found and found.lastgroup == "integer"
-        if text.startswith(b"/*", place) or is_number and text.startswith(b".", found.end()):
-            found = None
-        if not found and place == len(text):
+        place = SKIPPED.match(text, cut_to_fault(text, place, tokens)).end()
+        if place == len(text):
             return [*tokens, Token("end", "", place, place)]
-        sort = found.lastgroup if found else "fault"
-        found = found or UNENDED.match(text, place)
-        word = found[0].decode(errors="replace")
-        tokens.append(Token("word" if word in WORDS else sort, word, place, found.end()))
+        found = UNENDED.match(text, place)
+        tokens.append(Token("fault", found[0].decode(errors="replace"), place, found.end()))
         place = found.end()
+
+
+def cut_to_fault(text, place, tokens):
+    """The same as `cut_from`, where a number with a point and an open comment are faults too."""
+    known, place = len(tokens), cut_from(text, place, tokens)
+    for number in range(known, len(tokens)):
+        it = tokens[number]
+        is_open = it.text == "/" and text.startswith(b"/*", it.place)
+        if is_open or it.sort == "integer" and text.startswith(b".", it.end):
+            del tokens[number:]
+            return it.place
+    return place
 
 
 class Lines:

@@ -1,7 +1,7 @@
 """Semantic tokens: what each name is, which colours by words can't know."""
 from ..tokens import TYPES
 from .outlining import COMMENT
-from .positions import units
+from .positions import Lines, units
 
 TYPE_NAMES = (
     "keyword", "type", "function", "event", "variable", "parameter", "enumMember", "namespace", "label", "string",
@@ -21,17 +21,36 @@ OF_SORT = {"integer": "number", "string": "string"}
 
 
 def semantic_tokens(document, params):
-    lines, found = document.lines, []
-    first, last = 0, len(document.text)
+    lines, script = document.lines, document.script
+    first, last = 0, len(document.text) + 1
     if "range" in params:
         first, last = (lines.place(params["range"][key]) for key in ("start", "end"))
-    script = document.script
-    for number, piece in enumerate(script.pieces):
-        start = script.starts[number]
-        if start < last and start + len(piece.text) > first:
-            marked = [(start + begin, start + end, *it) for begin, end, *it in marks_of(script, number)]
-            found += [it for it in marked if first <= it[0] < last]
-    return {"data": encoded(document, found)}
+    data, before = [], (0, 0)
+    for number, start in enumerate(script.starts):
+        if start < last and start + len(script.pieces[number].text) > first:
+            marked, end = encoded(script, number)
+            if marked:
+                place = lines.position(start)
+                before = joined(data, marked, (place["line"], place["character"]), before, end)
+    return {"data": data}
+
+
+def joined(data, marked, start, before, end):
+    """Adds the numbers of a piece that starts at a position. `before` is where the last mark was; it gives that of the
+    piece's last one."""
+    line, character = start[0] + marked[0], marked[1] + (0 if marked[0] else start[1])
+    data += [line - before[0], character - before[1] if line == before[0] else character]
+    data += marked[2:]
+    return start[0] + end[0], end[1] + (0 if end[0] else start[1])
+
+
+def encoded(script, number):
+    """The marks of a piece as five numbers each, the first one's place from the piece's start, and the last one's
+    place. They are kept while the script has the same globals, functions and states."""
+    piece, own = script.pieces[number], script.own_names
+    if getattr(piece, "marked", (None,))[0] != own:
+        piece.marked = (own, *encoded_marks(Lines(piece.text), marks_of(script, number)))
+    return piece.marked[1:]
 
 
 def marks_of(script, number):
@@ -69,15 +88,15 @@ def names_of(script, number):
     return found
 
 
-def encoded(document, marks):
-    """The marks as five numbers each, those over several lines one a line."""
+def encoded_marks(lines, marks):
+    """Marks as five numbers each, those over several lines one a line, and the place of the last."""
     data, line, character = [], 0, 0
     for start, end, sort, modifiers in marks:
         bits = sum(1 << MODIFIERS.index(it) for it in modifiers)
-        for row, column, length in parts(document.lines, start, end):
+        for row, column, length in parts(lines, start, end):
             data += [row - line, column if row > line else column - character, length, TYPE_NAMES.index(sort), bits]
             line, character = row, column
-    return data
+    return data, (line, character)
 
 
 def parts(lines, start, end):

@@ -1,6 +1,7 @@
 """Symbols, folding and growing selections."""
 import re
-from bisect import bisect_right
+
+from .positions import Lines
 
 FUNCTION, VARIABLE, NAMESPACE, EVENT = 12, 13, 3, 24
 COMMENT = re.compile(rb"//[^\n]*|/\*.*?(?:\*/|\Z)", re.S)
@@ -50,37 +51,53 @@ def last_end(piece):
 
 
 def folding(document, _):
-    lines, found = document.lines, []
-    opened = []
-    for number, piece in enumerate(document.script.pieces):
-        start = document.script.starts[number]
-        for token in piece.tokens:
-            if token.sort == "sign" and token.text in "{[(":
-                opened.append((token.text, lines.line_of(start + token.place)))
-            elif token.sort == "sign" and token.text in "}])" and opened:
-                first, last = opened.pop()[1], lines.line_of(start + token.place) - 1
-                found += [{"startLine": first, "endLine": last}] if first < last else []
-        found += comments_of(document, start, piece)
+    script, found = document.script, []
+    rows = [document.lines.line_of(it) for it in script.starts]
+    for row, piece in zip(rows, script.pieces):
+        if not hasattr(piece, "folds"):
+            piece.folds = folds_of(piece)
+        found += [fold(row + first, row + last, kind) for first, last, kind in piece.folds]
+    for number, inside in script.states():
+        last = inside[-1] if len(inside) else number
+        first = document.lines.line_of(script.starts[number] + last_end(script.pieces[number]))
+        end = document.lines.line_of(script.starts[last] + last_end(script.pieces[last])) - 1
+        found += [fold(first, end, None)] if first < end else []
     return found
 
 
-def comments_of(document, start, piece):
+def fold(first, last, kind):
+    return {"startLine": first, "endLine": last, **({"kind": kind} if kind else {})}
+
+
+def folds_of(piece):
+    """What folds within a piece: lines from its start, and the kind."""
+    lines, opened, found = Lines(piece.text), [], []
+    for token in piece.tokens:
+        if token.sort == "sign" and token.text in "{[(":
+            opened.append(lines.line_of(token.place))
+        elif token.sort == "sign" and token.text in "}])" and opened:
+            first, last = opened.pop(), lines.line_of(token.place) - 1
+            found += [(first, last, None)] if first < last else []
+    return found + comments_of(lines, piece)
+
+
+def comments_of(lines, piece):
     """The comments of a piece that take several lines, and several that follow one another, a line each."""
     found, run, last = [], [], 0
     for token in piece.tokens:
         for it in COMMENT.finditer(piece.text, last, token.place):
-            first, end = (document.lines.line_of(start + place) for place in (it.start(), it.end() - 1))
+            first, end = lines.line_of(it.start()), lines.line_of(it.end() - 1)
             if run and first != run[-1] + 1:
                 found += folded(run)
                 run = []
-            run += [first, end] if end > first or not run else [end]
+            run += [first, end]
         found += folded(run)
         run, last = [], token.end
     return found
 
 
 def folded(run):
-    return [{"startLine": run[0], "endLine": run[-1], "kind": "comment"}] if run and run[-1] > run[0] else []
+    return [(run[0], run[-1], "comment")] if run and run[-1] > run[0] else []
 
 
 # Growing selections

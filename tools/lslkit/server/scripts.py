@@ -33,6 +33,11 @@ class Script:
                 found[declared.sort].setdefault(declared.name, number)
         return found
 
+    @functools.cached_property
+    def own_names(self):
+        """The own names of each sort."""
+        return tuple(tuple(self.own[it]) for it in OWN)
+
     @staticmethod
     def declared_by(piece):
         """What a piece itself is."""

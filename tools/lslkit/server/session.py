@@ -185,6 +185,9 @@ class Session:
         if method == "textDocument/didOpen":
             document = self.documents.add(params["textDocument"])
             self.diagnosing.want(document.uri, 0)
+            if not document.is_world:
+                # The whole text is read once, before the first question.
+                bool(document.script.own)
         elif method == "textDocument/didChange":
             document = self.documents.change(params["textDocument"], params["contentChanges"])
             if document:

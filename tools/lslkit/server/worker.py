@@ -1,13 +1,13 @@
 """A process beside the server that finds what is wrong with a document, so that the server itself can always answer.
 
 It reads requests from standard input and writes replies to standard output, both pickled."""
+import contextlib
 import os
 import pickle
 import re
 import signal
 import subprocess
 import sys
-import tempfile
 
 from .. import diagnostics, faults, kit, making, program, quoting, worlds, world_hints
 from ..diagnostics import Diagnostic
@@ -46,7 +46,8 @@ class Worker:
         """The program's first fault of a text, as its line, column and number."""
         if not self.binary:
             return None
-        said = said_by([self.binary, "check", "/dev/stdin"], text)
+        with held(text) as (name, number):
+            said = said_by([self.binary, "check", name], number)
         found = CHECKED.match(said.decode(errors="surrogateescape"))
         return tuple(map(int, found.groups())) if found else None
 
@@ -67,13 +68,10 @@ class Worker:
 
     def refusal(self, request):
         """The program's first fault of a world: the line, the fault, and what it says of a file that the line names."""
-        with tempfile.TemporaryDirectory(prefix="lsl-") as room:
-            name = os.path.join(room, "world")
-            with open(name, "wb") as file:
-                file.write(request["text"])
+        with held(request["text"]) as (name, number):
             if not program.are_plain(name, True):
                 return None
-            line = first_line([self.binary, "replay", name], request["folder"])
+            line = first_line([self.binary, "replay", name], number, request["folder"])
         refused = REFUSED.match(line)
         if not refused:
             return unread(request)
@@ -111,19 +109,28 @@ def of_line(text, lines, number, fault, place):
     return Diagnostic("error", str(fault or "unread"), start, end, words, hints, [], [], True)
 
 
-def said_by(command, text):
-    """What a command says of a text on standard input, within some seconds."""
-    how = {"stdout": subprocess.PIPE, "stderr": subprocess.DEVNULL}
+@contextlib.contextmanager
+def held(text):
+    """A file in memory with a text: its name for a process that gets its number too."""
+    with open(os.memfd_create("script"), "wb") as file:
+        file.write(text)
+        file.flush()
+        yield f"/proc/self/fd/{file.fileno()}", file.fileno()
+
+
+def said_by(command, number):
+    """What a command says, within some seconds."""
+    how = {"stdin": subprocess.DEVNULL, "stdout": subprocess.PIPE, "stderr": subprocess.DEVNULL, "pass_fds": [number]}
     try:
-        return subprocess.run(command, input=text, timeout=SECONDS, check=False, **how).stdout
+        return subprocess.run(command, timeout=SECONDS, check=False, **how).stdout
     except subprocess.TimeoutExpired:
         return b""
 
 
-def first_line(command, folder):
+def first_line(command, number, folder):
     """The first line that a command prints, which is ended then."""
-    how = {"stdin": subprocess.DEVNULL, "stdout": subprocess.PIPE, "stderr": subprocess.DEVNULL, "cwd": folder}
-    with subprocess.Popen(command, **how) as running:
+    how = {"stdin": subprocess.DEVNULL, "stdout": subprocess.PIPE, "stderr": subprocess.DEVNULL, "pass_fds": [number]}
+    with subprocess.Popen(command, cwd=folder, **how) as running:
         line = running.stdout.readline()
         running.kill()
     return line.decode(errors="surrogateescape").rstrip("\n")
