@@ -125,10 +125,15 @@ def matcher(name, regexp, **places):
     return {"name": name, "owner": "lsl", "fileLocation": where, "severity": "error", "pattern": pattern}
 
 
+FOLDER = "The folder of Dishhollow. Left empty, it is the one in which this extension is."
+
+
 def vscode_package():
-    """The extension: the language, its grammar, and the matchers for `lsl check` and `tools/explain`."""
+    """The extension: the languages, the grammar, what starts the server, and the matchers for `lsl check`."""
     language = {"id": "lsl", "aliases": ["LSL"], "extensions": [".lsl"]}
     language["configuration"] = "./language-configuration.json"
+    world = {"id": "lsl-world", "aliases": ["LSL world"], "extensions": [".world"]}
+    folder = {"type": "string", "default": "", "description": FOLDER}
     grammar = {"language": "lsl", "scopeName": "source.lsl", "path": "./syntaxes/lsl.tmLanguage.json"}
     places = {"file": 1, "line": 2, "column": 3, "message": 4}
     return {
@@ -140,13 +145,16 @@ def vscode_package():
         "license": "MIT",
         "engines": {"vscode": "^1.60.0"},
         "categories": ["Programming Languages"],
+        "main": "./extension.js",
+        "activationEvents": ["onLanguage:lsl", "onLanguage:lsl-world"],
         "contributes": {
-            "languages": [language],
+            "languages": [language, world],
             "grammars": [grammar],
             "problemMatchers": [
                 matcher("lsl", r"^(.+):(\d+):(\d+): error: (.*)$", **places),
                 matcher("lsl-line", r'^bad script "(.+)" (\d+):(\d+) (fault \d+)$', **places),
             ],
+            "configuration": {"title": "LSL", "properties": {"lsl.folder": folder}},
         },
     }
 
