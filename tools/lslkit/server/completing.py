@@ -150,7 +150,7 @@ class Completer:
             yield self.item(name, CONSTANT, phrases.signature("constant", name), does=phrases.does("constant", name))
 
     def of_language(self):
-        for name in tables.calls():
+        for name in (it for it in tables.calls() if it not in self.script.own["function"]):
             snippet = self.call(name, phrases.entry_of("call", name).get("params", []))
             yield self.item(name, FUNCTION, phrases.signature("call", name), snippet, phrases.does("call", name))
         yield from self.constants()

@@ -118,9 +118,11 @@ def selection(document, place):
         around |= {(start + first, start + last) for first, last in brackets(tokens)}
         spot = script.spot(place)
         around |= {(spot.start, spot.end)} if spot else set()
-    made = None
+    made, outer = None, (0, len(document.text))
     for first, last in sorted((it for it in around if it[0] <= place <= it[1]), key=lambda it: it[0] - it[1]):
-        made = {"range": document.lines.range(first, last), **({"parent": made} if made else {})}
+        if outer[0] <= first and last <= outer[1]:
+            made = {"range": document.lines.range(first, last), **({"parent": made} if made else {})}
+            outer = first, last
     return made
 
 
