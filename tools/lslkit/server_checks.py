@@ -1,8 +1,95 @@
-"""The checks of the language server, and of the words that it shares with the page."""
-from . import tables, words
-from .checking import check, need
+"""The checks of the language server, of the formatter, and of the words that they share with the page."""
+import ast
+import glob
+import os
+import re
+import shutil
+import signal
+import subprocess
+import tempfile
+
+from . import formatting, making, places, random_scripts, server_fuzz, syntax, tables, tokens, words
+from .checking import Skipped, check, need
+from .server_client import Client
 
 TABLES = {"calls": tables.calls, "events": tables.events, "constants": tables.constants}
+URI = "file:///trial/a.lsl"
+TRIALS = places.in_top("tools", "editor_tests")
+# A script with a mark where the cursor is, the request, and a part of what it is answered.
+ANSWERS = (
+    ("default { timer() { llOwner|Say(1); } }", "hover", "llOwnerSay(string msg)"),
+    ("default { ti|mer() { } }", "hover", "The period that llSetTimerEvent set has passed."),
+    ("default { timer() { integer x = TR|UE; } }", "hover", "integer TRUE = 1"),
+    ("default { timer() { llOwnerSay(NULL_|KEY); } }", "hover", "It is charged 52."),
+    ("default { timer() { ll|Sin(1); } }", "hover", "LSL has the call `llSin`"),
+    ("default { timer() { llOwnerSay(\"é|x\"); } }", "hover", "2 characters, 3 bytes. It is charged 19."),
+    ("default { timer() { x = 0x1|F; } }", "hover", "`31`, `0x1F`"),
+    ("list l = |[1, \"ab\", NULL_KEY]; default { timer() { } }", "hover", "It is charged 118."),
+    ("// Counts.\ninteger c|ount = 1; default { timer() { count = 2;\n++count; } }", "hover", "Counts."),
+    ("integer c|ount = 1; default { timer() { count = 2;\n++count; } }", "hover", "Set in lines 1, 2."),
+    ("// Twice n.\ninteger f(integer n) { return n * 2; } default { timer() { |f(1); } }", "hover", "Twice n."),
+    ("default { timer() { string s; { integer s; |s = 1; } } }", "hover", "integer s"),
+    ("default { timer() { state o|pen; } } state open { timer() { } }", "hover", "state open"),
+    ("integer a; integer f(integer n) { llO| } default { timer() { } }", "completion", "'label': 'llOwnerSay'"),
+    ("integer a; f(integer n) { | } default { timer() { } }", "completion", "'label': 'n'"),
+    ("integer a; f(integer n) { | } default { timer() { } }", "completion", "'label': 'a'"),
+    ("default { | }", "completion", "touch_start(integer num_detected) {\\n\\t$0\\n}"),
+    ("default { timer() { state | } } state open { timer() { } }", "completion", "'label': 'open'"),
+    ("default { timer() { jump o|; @out; } }", "completion", "'label': 'out'"),
+    ("default { timer() { llSay(1, |) } }", "signatureHelp", "'activeParameter': 1"),
+    ("default { timer() { llSay(f(1, 2), [1, 2, |]) } }", "signatureHelp", "llSay(integer channel, string msg)"),
+    ("f(integer a, key b) { } default { timer() { f(|) } }", "signatureHelp", "f(integer a, key b)"),
+    ("integer a; default { timer() { |a = 1; } }", "definition", "'character': 8}"),
+    ("default { timer() { { jump x|; } @x; } }", "definition", "'character': 34}"),
+    ("integer a; default { timer() { integer a = |a; } }", "definition", "'character': 8}"),
+)
+# A script with the cursor, a new name, and the script afterwards, or why it isn't renamed.
+RENAMES = (
+    ("integer |a; default { timer() { a = a + 1; } }", "b", "integer b; default { timer() { b = b + 1; } }"),
+    ("f() { } default { timer() { integer f; |f(); f = 1; } }", "g", "g() { } default { timer() { integer f; g(); f = 1; } }"),
+    ("default { timer() { @x; { @x; jump |x; } jump x; } }", "y", "default { timer() { @x; { @y; jump y; } jump x; } }"),
+    ("default { timer() { state |b; } } state b { timer() { } }", "timer",
+     "default { timer() { state timer; } } state timer { timer() { } }"),
+    ("integer |a; default { timer() { integer b; a = b; } }", "b", "b would mean something else"),
+    ("integer |a; integer b; default { timer() { a = b; } }", "b", "b is taken there already"),
+    ("integer |a; default { timer() { } }", "llSay", "llSay is a call of the language"),
+    ("integer |a; default { timer() { } }", "if", "if is a word of the language"),
+    ("integer |a; default { timer() { } }", "1a", "'1a' is no name"),
+    ("default { timer() { ll|Say(0, \"\"); } }", "x", "llSay is a call of the language, and keeps its name"),
+    ("|default { timer() { } }", "x", "the state default keeps its name"),
+    ("integer |a; default { timer() { a = ; } }", "b", "mend the script's syntax first"),
+)  # fmt: skip
+
+
+def binary():
+    return os.environ.get("LSL_PROGRAM") or making.last_program()
+
+
+def texts(*pattern):
+    """The texts of files, by their names."""
+    names = sorted(glob.glob(places.in_top(*pattern), recursive=True))
+    found = {}
+    for name in names:
+        with open(name, encoding="utf-8", errors="replace", newline="") as file:
+            found[name] = file.read()
+    return found
+
+
+def scripts_of_suite():
+    """The scripts of the suite that are written line by line."""
+    for text in texts("suite", "*.cases").values():
+        for found in re.finditer(r"(?m)^@ \S+\.lsl\n((?:[|+].*\n)+)", text):
+            yield "".join(f"{line[1:]}\n" if line[0] == "|" else line[1:] for line in found[1].splitlines())
+
+
+def marked(text):
+    """A text without the mark of the cursor, and its position."""
+    before, _, behind = text.partition("|")
+    line = before.count("\n")
+    return before + behind, line, len(before.rpartition("\n")[2].encode("utf-16-le")) // 2
+
+
+# Words
 
 
 @check
@@ -17,3 +104,346 @@ def words_fit_the_tables():
             need(set(entry) == wanted, word, "has the fields", set(entry))
             need(len(entry.get("params", ())) == len(getattr(row, "params", ())), word, "has other parameters")
             need(len(set(entry.get("params", ()))) == len(entry.get("params", ())), word, "has a parameter twice")
+
+
+# The formatter
+
+
+def need_formatted(text, name):
+    """Whether a text, as bytes, can be formatted, and stays as it is then."""
+    made = formatting.formatted(text)
+    cut = [[(it.sort, it.text) for it in tokens.cut(each)] for each in (text, made)]
+    need(cut[0] == cut[1], name, "has other tokens")
+    need(formatting.formatted(made) == made, name, "is formatted otherwise a second time")
+    return made
+
+
+@check
+def examples_are_formatted_as_they_are():
+    for name, text in texts("examples", "**", "*.lsl").items():
+        if "/bad/" not in name:
+            need(need_formatted(text.encode(), name) == text.encode(), name, "is formatted otherwise")
+
+
+@check
+def scripts_of_the_suite_are_formatted():
+    count = 0
+    for text in scripts_of_suite():
+        try:
+            need_formatted(text.encode(), text)
+            count += 1
+        except formatting.Unformatted as error:
+            is_read = True
+            try:
+                syntax.read(tokens.cut(text.encode()))
+            except syntax.Unexpected:
+                is_read = False
+            is_whole = tokens.cut(text.encode())[-1].place == len(text.encode())
+            need(not (is_read and is_whole), "not formatted:", error, text)
+    need(count > 300, "only", count, "scripts of the suite were formatted")
+
+
+@check
+def random_scripts_are_formatted():
+    for seed in range(int(os.environ.get("LSL_SCRIPTS", "60"))):
+        need_formatted(random_scripts.script(seed).encode(), f"random script {seed}")
+
+
+@check
+def layouts_are_as_shown():
+    before, after = (places.text_of("tools", "editor_tests", f"layout.{it}") for it in ("before", "after"))
+    made = formatting.formatted(before.encode()).decode()
+    need(made == after, "formatted as", made)
+    for text in ("default {", 'integer a = "', "f(] ) default { }", "default { timer() { ) } }"):
+        try:
+            formatting.formatted(text.encode())
+        except formatting.Unformatted:
+            continue
+        need(False, text, "is formatted")
+
+
+# The server
+
+
+@check
+def the_server_answers():
+    with Client(binary()) as client:
+        client.open(URI, "")
+        for text, method, wanted in ANSWERS:
+            plain, line, character = marked(text)
+            client.change(URI, plain)
+            answer = client.at(method, URI, line, character)
+            need(wanted in str(answer), method, "of", text, "is", answer)
+        for text, new, wanted in RENAMES:
+            plain, line, character = marked(text)
+            client.change(URI, plain)
+            answer = client.at("rename", URI, line, character, newName=new)
+            said = answer["message"] if "message" in answer else edited(plain, answer["changes"][URI])
+            need(wanted in said, "the rename of", text, "is", said)
+
+
+def edited(text, edits):
+    """A text of one line with edits made."""
+    for it in sorted(edits, key=lambda it: -it["range"]["start"]["character"]):
+        start, end = (it["range"][key]["character"] for key in ("start", "end"))
+        text = text[:start] + it["newText"] + text[end:]
+    return text
+
+
+@check
+def what_fits_nowhere_is_not_completed():
+    with Client(binary()) as client:
+        client.open(URI, "")
+        for text in ('default { timer() { llSay(0, "ll|"); } }', "// ll|\ndefault { timer() { } }", "/* | */", "integer |"):
+            plain, line, character = marked(text)
+            client.change(URI, plain)
+            found = client.at("completion", URI, line, character)["items"]
+            need(not found, text, "is completed by", found[:3])
+        plain, line, character = marked("default { timer() { integer a; } touch(integer b) { | } }")
+        client.change(URI, plain)
+        labels = [it["label"] for it in client.at("completion", URI, line, character)["items"]]
+        need("a" not in labels and "b" in labels and "timer" not in labels, "completed by", labels)
+
+
+@check
+def every_answer_keeps_the_protocol():
+    with Client(binary(), places.TOP) as client:
+        for name, text in {**texts("examples", "**", "*.lsl"), **texts("examples", "**", "*.world")}.items():
+            uri = f"file://{name}"
+            client.open(uri, text, "lsl-world" if name.endswith(".world") else "lsl")
+            for line, row in enumerate(text.split("\n")):
+                for character in range(0, len(row), 7):
+                    for method in server_fuzz.AT[:5]:
+                        client.at(method, uri, line, character)
+            for method in server_fuzz.OF:
+                client.of(method, uri)
+            client.of("formatting", uri, options={"tabSize": 4, "insertSpaces": True})
+            client.close(uri)
+
+
+@check
+def faults_are_published():
+    with Client(binary(), places.TOP) as client:
+        for name, text in texts("examples", "bad", "*.lsl").items():
+            said = places.text_of(os.path.splitext(name)[0] + ".out")
+            line, fault = re.match(r"[^:]+:(\d+):", said)[1], re.search(r"\(fault (\d+)\)", said)[1]
+            uri = f"file://{name}"
+            client.open(uri, text)
+            found = client.diagnostics(uri)
+            codes = [(it["range"]["start"]["line"] + 1, it["code"]) for it in found]
+            need((int(line), fault) in codes, name, "has", codes, "and not", line, fault)
+            client.close(uri)
+        for name, text in texts("examples", "*", "*.world").items():
+            uri = f"file://{name}"
+            client.open(uri, text, "lsl-world")
+            need(client.diagnostics(uri) == [], name, "has", client.diagnostics(uri))
+            client.open(uri, text.replace("run ", "ran ", 1), "lsl-world")
+            client.close(uri)
+
+
+@check
+def worlds_name_their_files():
+    name = places.in_top("examples", "door", "door.world")
+    text, uri = places.text_of(name), f"file://{name}"
+    with Client(binary(), places.TOP) as client:
+        client.open(uri, text, "lsl-world")
+        line = next(number for number, it in enumerate(text.split("\n")) if it.startswith("script"))
+        goal = client.at("definition", uri, line, 20)
+        need(goal["uri"].endswith("/examples/door/door.lsl"), "the definition is", goal)
+        need(len(client.of("documentLink", uri)) == 3, "links", client.of("documentLink", uri))
+        client.change(uri, text.replace("door.lsl", "none.lsl"))
+        found = client.diagnostics(uri)
+        need(len(found) == 1 and found[0]["range"]["start"]["line"] == line, "found", found)
+        client.change(uri, text.replace("run 100", "run x").replace("clock 11000", "clack 1"))
+        need(len(client.diagnostics(uri)) == text.count("run 100") + 1, "found", client.diagnostics(uri))
+
+
+@check
+def positions_count_units_of_utf_16():
+    text = 'string s = "\U0001f600é"; string t = "\U0001f600"; default { timer() { t = s; } }'
+    with Client(binary()) as client:
+        client.open(URI, text)
+        column = len(text[: text.index("t = \"")].encode("utf-16-le")) // 2
+        found = client.at("documentHighlight", URI, 0, column)
+        need(len(found) == 2 and found[0]["range"]["start"]["character"] == column, "found", found)
+        changes = [{"range": {"start": {"line": 0, "character": 12}, "end": {"line": 0, "character": 14}}, "text": "x"}]
+        document = {"uri": URI, "version": 2}
+        client.texts[URI] = 2, text.replace("\U0001f600", "x", 1)
+        client.notify("textDocument/didChange", {"textDocument": document, "contentChanges": changes})
+        found = client.at("documentHighlight", URI, 0, column - 1)
+        need(len(found) == 2 and found[0]["range"]["start"]["character"] == column - 1, "found", found)
+
+
+@check
+def changes_are_followed():
+    """A document that is changed piece by piece is the one that is sent whole."""
+    fuzz = server_fuzz.Fuzz(3, list(texts("examples", "door", "*.lsl").values()))
+    with Client(binary()) as client:
+        client.open(URI, fuzz.scripts[0])
+        for number in range(60):
+            text = fuzz.edit(client, URI)
+            if number % 6 == 0:
+                other = f"file:///trial/{number}.lsl"
+                client.open(other, text)
+                for method in ("documentSymbol", "semanticTokens/full", "foldingRange"):
+                    need(client.of(method, URI) == client.of(method, other), method, "differs for", text)
+                client.close(other)
+
+
+@check
+def sessions_begin_and_end():
+    client = Client(binary())
+    need(client.ask("initialize", {}).get("code") == -32600, "a second initialize is answered")
+    client.open(URI, "default { timer() { } }")
+    blocked = [client.send("textDocument/documentSymbol", {"textDocument": {"uri": URI}}) for _ in range(40)]
+    client.notify("$/cancelRequest", {"id": blocked[-1]})
+    answered = {}
+    while len(answered) < len(blocked):
+        message = client.next()
+        if "id" in message:
+            need(message["id"] not in answered, "a request is answered twice")
+            answered[message["id"]] = message
+    client.ask("shutdown", None)
+    need(client.ask("textDocument/hover", {}).get("code") == -32600, "it answers after shutdown")
+    client.notify("exit", None)
+    need(client.process.wait(20) == 0, "the server ended with", client.process.returncode)
+    for end, wanted in ((lambda it: it.process.stdin.close(), 1), (lambda it: it.process.send_signal(signal.SIGINT), 130)):
+        client = Client(binary())
+        client.open(URI, "default { timer() { } }")
+        client.diagnostics(URI)
+        end(client)
+        need(client.process.wait(20) == wanted, "the server ended with", client.process.returncode)
+        need(not children_of(client.process.pid), "a process is left")
+        need(b"Traceback" not in client.said, client.said)
+
+
+def children_of(number):
+    found = []
+    for name in glob.glob("/proc/[0-9]*/stat"):
+        try:
+            with open(name, encoding="utf-8", errors="replace") as file:
+                row = file.read().rpartition(")")[2].split()
+        except OSError:
+            continue
+        found += [name] if row[1] == str(number) else []
+    return found
+
+
+@check
+def scripts_are_played_from_the_editor():
+    with Client(binary()) as client:
+        client.open(URI, 'default { state_entry() { llOwnerSay("é"); } }')
+        lens = client.of("codeLens", URI)[0]["command"]
+        said = client.ask("workspace/executeCommand", {"command": lens["command"], "arguments": lens["arguments"]})
+        need('"é"' in said and "/tmp" not in said, "played as", said)
+
+
+@check
+def broken_scripts_and_messages_are_answered():
+    server_fuzz.run(binary(), list(texts("examples", "**", "*.lsl").values()), int(os.environ.get("LSL_BROKEN", "60")))
+    server_fuzz.cut_streams(2)
+
+
+@check
+def the_servers_modules_are_of_python_3_8():
+    for name, text in {**texts("tools", "lslkit", "server", "*.py"), **texts("tools", "lsl-server")}.items():
+        ast.parse(text, name, feature_version=(3, 8))
+        need(text.count("\n") <= 500, name, "is too long")
+
+
+# Editors
+
+
+def block(language, mark):
+    """The first block of a language in docs/EDITORS.md that has a word, for this repository."""
+    found = re.findall(r"(?s)```%s\n(.*?)```" % language, places.text_of("docs", "EDITORS.md"))
+    text = next(it for it in found if mark in it)
+    return text.replace("DISHHOLLOW", places.TOP)
+
+
+def tried(command, room, **more):
+    """What an editor says that does a trial in a folder of its own."""
+    for name in ("trial.lsl", "trial.world"):
+        shutil.copy(os.path.join(TRIALS, name), room)
+    environment = {**os.environ, "LSL_PROGRAM": binary(), "HOME": room, **more}
+    how = {"stdin": subprocess.DEVNULL, "stdout": subprocess.PIPE, "stderr": subprocess.STDOUT}
+    ran = subprocess.run(command, cwd=room, env=environment, timeout=300, check=False, **how)
+    return ran.stdout.decode(errors="replace")
+
+
+def need_lines(said, *wanted):
+    for it in wanted:
+        need(it in said, it, "isn't in", said)
+
+
+def need_editor(name):
+    if shutil.which(name) is None:
+        raise Skipped(f"there is no {name}")
+
+
+FAULT = "no such variable, function or state"
+HOVER = "Says msg to the owner alone"
+
+
+@check
+def neovim_uses_the_server():
+    need_editor("nvim")
+    with tempfile.TemporaryDirectory() as room:
+        config = os.path.join(room, "init.lua")
+        places.write_text(config, block("lua", "vim.lsp"))
+        said = tried(["nvim", "--headless", "-u", config, "-S", os.path.join(TRIALS, "neovim.lua")], room)
+    faults = ["fault true", "fault 10 8 13 20", "mended true", "accepted true", "world true", "world 3 "]
+    need_lines(said, *faults, HOVER, "definition true", "rename true", "completion llMessageLinked", "formatted true")
+    need_lines(said, "signature says llSay(integer channel, string msg)")
+
+
+def emacs(config, trial):
+    start = "/usr/share/emacs/site-lisp/debian-startup.el"
+    quiet = "(setq make-backup-files nil create-lockfiles nil load-prefer-newer t)"
+    with tempfile.TemporaryDirectory() as room:
+        places.write_text(os.path.join(room, "init.el"), config)
+        words_ = ["emacs", "--batch", "--eval", quiet, *(["-l", start] if os.path.exists(start) else [])]
+        words_ += ["--eval", "(package-initialize)", "-l", "init.el", "-l", os.path.join(TRIALS, trial)]
+        said = tried(words_, room)
+    if "Cannot open load file" in said:
+        raise Skipped("Emacs has no package for the protocol")
+    return said
+
+
+@check
+def emacs_uses_the_server_by_eglot():
+    need_editor("emacs")
+    said = emacs(block("elisp", "eglot"), "eglot.el")
+    need_lines(said, "fault true", f"fault 11 lsl [20]: {FAULT}", "mended true", HOVER, "definition 4", "rename t")
+    need_lines(said, "formatted         llOwnerSay(words(count));", "completion         llMessageLinked", "ended")
+
+
+@check
+def emacs_uses_the_server_by_lsp_mode():
+    need_editor("emacs")
+    said = emacs(block("elisp", "lsp-mode"), "lsp_mode.el")
+    need_lines(said, "fault true", f"fault 10 {FAULT}", HOVER, "rename t", "ended")
+
+
+@check
+def vim_uses_the_server_by_ale():
+    need_editor("vim")
+    with tempfile.TemporaryDirectory() as room:
+        config, said = os.path.join(room, "vimrc"), os.path.join(room, "said")
+        places.write_text(config, "set nocompatible\n" + block("vim", "ale#linter"))
+        output = tried(["vim", "-Nu", config, "-es", "-S", os.path.join(TRIALS, "ale.vim")], room, SAID=said)
+        if "ale" in output and not os.path.exists(said):
+            raise Skipped("Vim has no ALE")
+        said = places.text_of(said)
+    need_lines(said, "fault true", f"fault 11 9 20: {FAULT}", "mended true", "hover true", "definition true")
+
+
+@check
+def the_extension_for_vs_code_uses_the_server():
+    need_editor("node")
+    with tempfile.TemporaryDirectory() as room:
+        said = tried(["node", os.path.join(TRIALS, "vscode.cjs"), places.TOP, room], room)
+    need_lines(said, "fault true", "fault 10 8 13 20 0", "mended true", HOVER, "signature 1", "definition 3")
+    need_lines(said, "references 3", "completion llSay(${1:channel}, ${2:msg})$0", "rename string words(integer number) {")
+    need_lines(said, "refused llSay is a call of the language", "symbols count words default", "tokens 0", "ended")
+    need_lines(said, "played lsl play trial.lsl", 'formatted "        llOwnerSay(words(count));"')

@@ -103,7 +103,8 @@ def of_line(text, lines, number, fault, place):
         words = f"{place}: {faults.meaning(fault)}" if fault else place
     else:
         column, hints = world_hints.hint(fault, text, number)
-        words = faults.meaning(fault)
+        # Where a fault has several meanings, the hints say which one it is.
+        words = re.split("[;:]", faults.meaning(fault))[0] if hints else faults.meaning(fault)
     start = min(lines.place_of(number, column), len(text.encode(errors="surrogateescape")))
     end = max(start, lines.place_of(number, len(row.rstrip().encode(errors="surrogateescape")) + 1))
     return Diagnostic("error", str(fault or "unread"), start, end, words, hints, [], [], True)
