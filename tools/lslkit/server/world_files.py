@@ -10,36 +10,19 @@ from .positions import to_bytes, to_text
 KEYWORD, FILE, VALUE = 14, 17, 12
 OBJECT, PRIM, SCRIPT, NOTE, STEP = 19, 8, 2, 20, 24
 SNIPPET = 2
-# What a line does, where the shared words have none.
-DOES = {
-    "object": "An object and its root prim: the prim's key and name, the owner's key, and the region.",
-    "prim": "A child prim of the last object.",
-    "script": "A script of the last prim, and the file of its text.",
-    "note": "A notecard of the last prim, and the file of its text.",
-    "begin": "The objects are complete; the steps follow.",
-    "end": "The end of the file.",
-    "clock": "The clock becomes MS, in milliseconds. Each timer that is due posts a timer event.",
-    "say": "Someone of that name and key says TEXT on CHANNEL.",
-    "touch": "Someone touches the prim of that link number.",
-    "changed": "changed(FLAGS) goes to all scripts of the object.",
-    "rez": "on_rez(N) goes to all scripts of the object.",
-    "go": "That script runs while it can, for at most TICKS segments.",
-    "run": "All scripts run in turn while they can, for at most TICKS segments.",
-    "pause": "From here on scripts are also saved and restored after so many segments. `pause 0` ends that.",
-    "cross": "The object crosses into that region.",
-}
 QUOTED = ("NAME", "REGION", "FILE", "TEXT")
 KEY = re.compile(rb"[0-9a-fA-F]{8}(?:-[0-9a-fA-F]{4}){3}-[0-9a-fA-F]{12}")
 
 
 def does(word):
-    """What a line does, in the shared words if they have it."""
+    """What a line does, in the words that tools share, or nothing where they aren't there."""
     try:
-        said = table("steps").get(word)
+        said = table("steps")
     except OSError:
-        said = None
-    said = said.get("does") if isinstance(said, dict) else said
-    return said if isinstance(said, str) else DOES[word]
+        return ""
+    row = said["declarations"].get(word) or said["steps"].get(word) or {}
+    words = row.get("does", "")
+    return f"{words[:1].upper()}{words[1:]}." if words else ""
 
 
 class Line:
