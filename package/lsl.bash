@@ -31,7 +31,7 @@ _lsl() {
     local word=${COMP_WORDS[COMP_CWORD]} last=${COMP_WORDS[COMP_CWORD - 1]} command=${COMP_WORDS[1]}
     COMPREPLY=()
     if ((COMP_CWORD == 1)); then
-        _lsl_words 'once check play replay freeze thaw view make --help --version' "$word"
+        _lsl_words 'once check play replay freeze thaw view make server --help --version' "$word"
         return
     fi
     case $last in

@@ -199,7 +199,8 @@ class Client:
         how = {"stdin": subprocess.PIPE, "stdout": subprocess.PIPE, "stderr": subprocess.PIPE, "env": environment}
         self.process = subprocess.Popen([sys.executable, in_top("tools", "lsl-server")], **how)
         self.came, self.texts, self.number = queue.Queue(), {}, 0
-        self.notices, self.slowest, self.asked = [], (0, ""), {}
+        # The slowest answer by the clock, and the one that took most of the processor.
+        self.notices, self.slowest, self.most, self.asked = [], (0, ""), (0, ""), {}
         threading.Thread(target=self.read, daemon=True).start()
         threading.Thread(target=self.drain, daemon=True).start()
         self.said = b""
@@ -221,6 +222,14 @@ class Client:
     def drain(self):
         for line in self.process.stderr:
             self.said += line
+
+    def processor(self):
+        """The seconds of the processor that the server's own thread has taken."""
+        try:
+            with open(f"/proc/{self.process.pid}/schedstat", encoding="ascii") as file:
+                return int(file.read().split()[0]) / 1e9
+        except OSError:
+            return 0.0
 
     # Messages
 
@@ -268,13 +277,15 @@ class Client:
 
     def ask(self, method, params):
         """The result of a request; an error as it is."""
-        begun, number = time.monotonic(), self.send(method, params)
+        used, begun = self.processor(), time.monotonic()
+        number = self.send(method, params)
         while True:
             message = self.next()
             if message.get("id") == number and "method" not in message:
                 break
         if method != "initialize":
             self.slowest = max(self.slowest, (time.monotonic() - begun, method))
+            self.most = max(self.most, (self.processor() - used, method))
         if "error" in message:
             return message["error"]
         self.check_result(method, params, message["result"])

@@ -120,10 +120,10 @@ class Fuzz:
 
 
 def run(binary, scripts, count, seed=1):
-    """The slowest answer, as its seconds and method."""
+    """The slowest answer, and the one that took most of the processor: seconds and methods."""
     with Client(binary) as client:
         Fuzz(seed, scripts).run(client, count)
-        slowest = client.slowest
+        slowest = client.slowest, client.most
         need(client.ask("textDocument/hover", {}).get("code") == -32602, "it answers no more")
     said = client.said.decode(errors="replace")
     need("Traceback" not in said, said)

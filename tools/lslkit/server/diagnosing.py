@@ -11,13 +11,16 @@ from ..places import in_top
 
 # Seconds without a key after which a document is looked at.
 DELAY = 0.15
+# Seconds after which the worker is ended that still looks at an old text.
+PATIENCE = 2.0
 
 
 class Diagnosing:
     def __init__(self, tell):
         """`tell` is called in another thread with each reply."""
         self.tell, self.process, self.is_busy = tell, None, False
-        self.due = {}
+        # When each document is to be looked at, which one the worker has, and since when.
+        self.due, self.given, self.since = {}, None, 0.0
 
     def start(self):
         environment = {**os.environ, "PYTHONPATH": in_top("tools")}
@@ -29,10 +32,22 @@ class Diagnosing:
         """Hands the replies on; at their end the worker has ended."""
         while True:
             try:
-                self.tell(pickle.load(process.stdout))
-            except (EOFError, pickle.UnpicklingError, OSError):
-                self.tell(None)
+                reply = pickle.load(process.stdout)
+            except (EOFError, pickle.UnpicklingError, OSError, ValueError):
+                reply = None
+            self.tell((process, reply))
+            if reply is None:
                 return
+
+    def take(self, told):
+        """A worker's reply; none where that was ended meanwhile."""
+        process, reply = told
+        if process is not self.process:
+            return None
+        if reply is None:
+            self.ended()
+        self.is_busy = False
+        return reply
 
     def want(self, uri, delay=DELAY):
         self.due[uri] = time.monotonic() + delay
@@ -42,17 +57,19 @@ class Diagnosing:
 
     def seconds(self):
         """How long there is nothing to give to the worker; none where nothing is due."""
-        if self.is_busy or not self.due:
+        if not self.due or self.is_busy and self.given not in self.due:
             return None
-        return max(0.0, min(self.due.values()) - time.monotonic())
+        when = self.due[self.given] if self.is_busy else min(self.due.values())
+        when = max(when, self.since + PATIENCE) if self.is_busy else when
+        return max(0.0, when - time.monotonic())
 
     def next(self):
         """The document that is due, or none."""
-        if self.is_busy or not self.due:
+        if not self.due or self.seconds() is None or self.seconds() > 0:
             return None
+        if self.is_busy:
+            self.ended()
         uri = min(self.due, key=self.due.get)
-        if self.due[uri] > time.monotonic():
-            return None
         del self.due[uri]
         return uri
 
@@ -64,7 +81,7 @@ class Diagnosing:
         try:
             pickle.dump(request, self.process.stdin)
             self.process.stdin.flush()
-            self.is_busy = True
+            self.is_busy, self.given, self.since = True, document.uri, time.monotonic()
         except OSError:
             self.ended()
 

@@ -71,10 +71,7 @@ class Session:
         try:
             sort, what = self.waiting.get(timeout=self.diagnosing.seconds())
         except queue.Empty:
-            uri = self.diagnosing.next()
-            document = self.documents.get(uri) if uri else None
-            if document:
-                self.diagnosing.give(document, self.folder_of(document))
+            self.diagnose()
             return
         if sort == "end":
             self.state = "ended"
@@ -84,6 +81,13 @@ class Session:
             self.reply(*what)
         else:
             self.message(what)
+
+    def diagnose(self):
+        """Gives the worker the next document."""
+        uri = self.diagnosing.next()
+        document = self.documents.get(uri) if uri else None
+        if document:
+            self.diagnosing.give(document, self.folder_of(document))
 
     def message(self, message):
         if message is None:
@@ -212,11 +216,10 @@ class Session:
 
     # What is wrong with documents
 
-    def take_diagnosed(self, reply):
+    def take_diagnosed(self, told):
+        reply = self.diagnosing.take(told)
         if reply is None:
-            self.diagnosing.ended()
             return
-        self.diagnosing.is_busy = False
         if reply["why"] and not self.has_warned:
             self.has_warned = True
             words = f"Scripts aren't checked: {reply['why']}"
