@@ -18,7 +18,8 @@ function workspaceEdit({ changes }) {
 
 function symbol(it) {
   // The protocol counts kinds from 1, and VS Code from 0.
-  const made = new vscode.DocumentSymbol(it.name, it.detail ?? '', it.kind - 1, range(it.range), range(it.selectionRange));
+  const places = [range(it.range), range(it.selectionRange)];
+  const made = new vscode.DocumentSymbol(it.name, it.detail ?? '', it.kind - 1, ...places);
   made.children = (it.children ?? []).map(symbol);
   return made;
 }
@@ -105,7 +106,8 @@ class Providers {
 
   register(context, languages) {
     const { languages: all } = vscode;
-    const [selector, list, at] = [languages.map((language) => ({ language })), this.list.bind(this), this.at.bind(this)];
+    const selector = languages.map((language) => ({ language }));
+    const [list, at] = [this.list.bind(this), this.at.bind(this)];
     const references = (document, where, context_) => list(location, 'references', document, {
       position: position(where), context: { includeDeclaration: context_.includeDeclaration },
     });
@@ -135,7 +137,8 @@ class Providers {
         provideFoldingRanges: (it) => list(fold, 'foldingRange', it, {}),
       }),
       all.registerSelectionRangeProvider(selector, {
-        provideSelectionRanges: (it, places) => list(selection, 'selectionRange', it, { positions: places.map(position) }),
+        provideSelectionRanges: (it, places) =>
+          list(selection, 'selectionRange', it, { positions: places.map(position) }),
       }),
       all.registerDocumentFormattingEditProvider(selector, {
         provideDocumentFormattingEdits: (it, options) => list(edit, 'formatting', it, { options }),
@@ -156,7 +159,8 @@ class Providers {
       all.registerCodeLensProvider(selector, { provideCodeLenses: (it) => list(lens, 'codeLens', it, {}) }),
       all.registerDocumentLinkProvider(selector, { provideDocumentLinks: (it) => list(link, 'documentLink', it, {}) }),
       all.registerDocumentSemanticTokensProvider(selector, {
-        provideDocumentSemanticTokens: async (it) => tokens(await this.ask('semanticTokens/full', it, {}) ?? { data: [] }),
+        provideDocumentSemanticTokens: async (it) =>
+          tokens(await this.ask('semanticTokens/full', it, {}) ?? { data: [] }),
       }, new vscode.SemanticTokensLegend(kinds.tokenTypes, kinds.tokenModifiers)),
     ];
     if (all.registerInlayHintsProvider) {

@@ -18,6 +18,12 @@ function s:faults()
   return getloclist(0)
 endfunction
 
+" Whether a window or a message has some words.
+function s:shows(words)
+  let l:texts = map(getwininfo(), {_, it -> join(getbufline(it.bufnr, 1, '$'))})
+  return join(l:texts + [execute('messages')]) =~ a:words
+endfunction
+
 edit trial.lsl
 call s:say('filetype', &filetype)
 call ale#Queue(0)
@@ -30,7 +36,7 @@ call ale#Queue(0)
 call s:wait('mended', {-> empty(s:faults())})
 call cursor(12, 10)
 ALEHover
-call s:wait('hover', {-> !empty(filter(map(getwininfo(), {_, it -> getbufline(it.bufnr, 1, '$')}), {_, it -> join(it) =~ 'owner alone'})) || execute('messages') =~ 'owner alone'})
+call s:wait('hover', {-> s:shows('owner alone')})
 call cursor(12, 21)
 ALEGoToDefinition
 call s:wait('definition', {-> line('.') == 4})

@@ -1,4 +1,5 @@
--- Types, waits and reads in Neovim with the configuration of docs/EDITORS.md. It writes a line for each thing that it saw.
+-- Types, waits and reads in Neovim with the configuration of docs/EDITORS.md. It writes a line for each thing that it
+-- saw.
 local function say(...)
   io.stdout:write(table.concat(vim.tbl_map(tostring, { ... }), ' '), '\n')
 end
@@ -8,7 +9,8 @@ local function wait(what, holds)
 end
 
 local function floats()
-  return vim.tbl_filter(function(it) return vim.api.nvim_win_get_config(it).relative ~= '' end, vim.api.nvim_list_wins())
+  local function is_float(window) return vim.api.nvim_win_get_config(window).relative ~= '' end
+  return vim.tbl_filter(is_float, vim.api.nvim_list_wins())
 end
 
 local function float(what)
@@ -55,7 +57,6 @@ for _, it in pairs(found) do
     if item.label == 'llMessageLinked' then say('completion', item.insertText or item.label) end
   end
 end
--- The line is typed, and completed by keys.
 vim.api.nvim_buf_set_lines(0, 12, 13, false, {})
 vim.lsp.buf.formatting_sync(nil, 30000)
 say('formatted', line(12) == '        llOwnerSay(words(count));')

@@ -1,5 +1,5 @@
-// Starts the extension of editors/vscode in node with a small stand-in for the module `vscode`, and plays the editor. It
-// writes a line for each thing that it saw. The words are the repository's folder and a folder for the trial's files.
+// Starts the extension of editors/vscode in node with a small stand-in for the module `vscode`, and plays the editor.
+// It writes a line for each thing that it saw. The words are the repository's folder and a folder for the trial's files.
 'use strict';
 const fs = require('fs');
 const path = require('path');
@@ -99,7 +99,8 @@ async function play() {
   await extension.activate({ subscriptions: [] });
   await until('fault', () => found.get(uri)?.length > 0);
   const [fault] = found.get(uri);
-  say('fault', fault.range.start.line, fault.range.start.character, fault.range.end.character, fault.code, fault.severity);
+  const { start, end } = fault.range;
+  say('fault', start.line, start.character, end.character, fault.code, fault.severity);
   document.apply([new TextEdit(new Range(at(10, 8), at(10, 13)), 'llSay')]);
   await until('mended', () => found.get(uri)?.length === 0);
   say('hover', (await providers.provideHover(document, at(11, 9))).contents.value.replace(/\n/g, ' / '));

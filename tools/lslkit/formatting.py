@@ -1,5 +1,5 @@
-"""A script's layout: the blanks between its tokens and comments, and nothing else. Its lines end where their author ended
-them; a line's indentation and the blanks within it follow the nesting and the signs."""
+"""A script's layout: the blanks between its tokens and comments, and nothing else. Its lines end where their author
+ended them; a line's indentation and the blanks within it follow the nesting and the signs."""
 import re
 from collections import namedtuple
 

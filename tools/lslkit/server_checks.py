@@ -46,7 +46,8 @@ ANSWERS = (
 # A script with the cursor, a new name, and the script afterwards, or why it isn't renamed.
 RENAMES = (
     ("integer |a; default { timer() { a = a + 1; } }", "b", "integer b; default { timer() { b = b + 1; } }"),
-    ("f() { } default { timer() { integer f; |f(); f = 1; } }", "g", "g() { } default { timer() { integer f; g(); f = 1; } }"),
+    ("f() { } default { timer() { integer f; |f(); f = 1; } }", "g",
+     "g() { } default { timer() { integer f; g(); f = 1; } }"),
     ("default { timer() { @x; { @x; jump |x; } jump x; } }", "y", "default { timer() { @x; { @y; jump y; } jump x; } }"),
     ("default { timer() { state |b; } } state b { timer() { } }", "timer",
      "default { timer() { state timer; } } state timer { timer() { } }"),
@@ -194,7 +195,8 @@ def edited(text, edits):
 def what_fits_nowhere_is_not_completed():
     with Client(binary()) as client:
         client.open(URI, "")
-        for text in ('default { timer() { llSay(0, "ll|"); } }', "// ll|\ndefault { timer() { } }", "/* | */", "integer |"):
+        in_text = 'default { timer() { llSay(0, "ll|"); } }'
+        for text in (in_text, "// ll|\ndefault { timer() { } }", "/* | */", "integer |"):
             plain, line, character = marked(text)
             client.change(URI, plain)
             found = client.at("completion", URI, line, character)["items"]
@@ -307,7 +309,8 @@ def sessions_begin_and_end():
     need(client.ask("textDocument/hover", {}).get("code") == -32600, "it answers after shutdown")
     client.notify("exit", None)
     need(client.process.wait(20) == 0, "the server ended with", client.process.returncode)
-    for end, wanted in ((lambda it: it.process.stdin.close(), 1), (lambda it: it.process.send_signal(signal.SIGINT), 130)):
+    ends = (lambda it: it.process.stdin.close(), 1), (lambda it: it.process.send_signal(signal.SIGINT), 130)
+    for end, wanted in ends:
         client = Client(binary())
         client.open(URI, "default { timer() { } }")
         client.diagnostics(URI)
@@ -444,6 +447,7 @@ def the_extension_for_vs_code_uses_the_server():
     with tempfile.TemporaryDirectory() as room:
         said = tried(["node", os.path.join(TRIALS, "vscode.cjs"), places.TOP, room], room)
     need_lines(said, "fault true", "fault 10 8 13 20 0", "mended true", HOVER, "signature 1", "definition 3")
-    need_lines(said, "references 3", "completion llSay(${1:channel}, ${2:msg})$0", "rename string words(integer number) {")
+    need_lines(said, "references 3", "completion llSay(${1:channel}, ${2:msg})$0")
+    need_lines(said, "rename string words(integer number) {")
     need_lines(said, "refused llSay is a call of the language", "symbols count words default", "tokens 0", "ended")
     need_lines(said, "played lsl play trial.lsl", 'formatted "        llOwnerSay(words(count));"')

@@ -312,8 +312,8 @@ class Client:
         """Changes a document to a whole new text."""
         version = self.texts[uri][0] + 1
         self.texts[uri] = version, text
-        changes = [{"text": text}]
-        self.notify("textDocument/didChange", {"textDocument": {"uri": uri, "version": version}, "contentChanges": changes})
+        document = {"uri": uri, "version": version}
+        self.notify("textDocument/didChange", {"textDocument": document, "contentChanges": [{"text": text}]})
 
     def close(self, uri):
         self.texts.pop(uri, None)

@@ -7,7 +7,9 @@ from .server import framing
 from .server_client import Client
 
 URI, WORLD = "file:///fuzz/a.lsl", "file:///fuzz/a.world"
-AT = ("hover", "completion", "signatureHelp", "definition", "documentHighlight", "prepareRename", "prepareCallHierarchy")
+AT = (
+    "hover", "completion", "signatureHelp", "definition", "documentHighlight", "prepareRename", "prepareCallHierarchy",
+)  # fmt: skip
 OF = ("documentSymbol", "foldingRange", "semanticTokens/full", "codeLens", "documentLink")
 OPTIONS = {"options": {"tabSize": 4, "insertSpaces": True}}
 START = (
@@ -21,10 +23,11 @@ WRONG = (
     b"[1, 2]", b"null", b"{", b"\xff\xfe", b'"x"', b"{}", b'{"method": 7}', b'{"id": {}, "method": "a"}', b"[" * 5000,
     b'{"jsonrpc": "2.0", "id": 90001, "method": "textDocument/hover"}',
     b'{"jsonrpc": "2.0", "id": 90002, "method": "textDocument/hover", "params": {"textDocument": 3}}',
-    b'{"jsonrpc": "2.0", "id": 90003, "method": "textDocument/hover", "params": {"textDocument": {"uri": "file:///fuzz/a.lsl"}}}',
-    b'{"jsonrpc": "2.0", "id": 90004, "method": "textDocument/hover", "params": {"textDocument": {"uri": "file:///fuzz/a.lsl"}, "position": {"line": "a"}}}',
+    b'{"id": 90003, "method": "textDocument/hover", "params": {"textDocument": {"uri": "file:///fuzz/a.lsl"}}}',
+    b'{"id": 90004, "method": "textDocument/hover", "params": {"textDocument": {"uri": "file:///fuzz/a.lsl"}, '
+    b'"position": {"line": "a"}}}',
     b'{"jsonrpc": "2.0", "id": 90005, "method": "nothing/here", "params": {}}',
-    b'{"jsonrpc": "2.0", "method": "textDocument/didChange", "params": {"textDocument": {"uri": "file:///fuzz/a.lsl"}}}',
+    b'{"method": "textDocument/didChange", "params": {"textDocument": {"uri": "file:///fuzz/a.lsl"}}}',
     b'{"jsonrpc": "2.0", "method": "textDocument/didOpen", "params": []}',
     b'{"jsonrpc": "2.0", "method": "$/cancelRequest", "params": {"id": 123456}}',
     b'{"jsonrpc": "2.0", "method": "workspace/didChangeConfiguration", "params": null}',
@@ -81,7 +84,8 @@ class Fuzz:
         first, last = sorted(self.random.randrange(len(lines[line]) + 1) for _ in range(2))
         new = self.random.choice(("x", "", " ", "{", "}", ";", "llSay(", "\n", '"', "é"))
         lines[line] = lines[line][:first] + new + lines[line][last:]
-        units = [len(text_.encode("utf-16-le", "surrogatepass")) // 2 for text_ in (text.split("\n")[line][:first], text.split("\n")[line][:last])]
+        row = text.split("\n")[line]
+        units = [len(it.encode("utf-16-le", "surrogatepass")) // 2 for it in (row[:first], row[:last])]
         place = {"start": {"line": line, "character": units[0]}, "end": {"line": line, "character": units[1]}}
         client.texts[uri] = version + 1, "\n".join(lines)
         changes = [{"range": place, "text": new}]

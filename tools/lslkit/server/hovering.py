@@ -118,7 +118,9 @@ def places_of(document, meaning, declared):
     found = [it for it in document.script.places(meaning) if not it.is_declaration]
     if declared.sort in ("global", "variable", "parameter"):
         written = [it for it in found if it.is_written]
-        return f"Set in {lines_of(document, written)}." if written else "It is never set again." if found else "Not used."
+        if written:
+            return f"Set in {lines_of(document, written)}."
+        return "It keeps its first value." if found else "It isn't used."
     verb = {"state": "Entered from", "label": "Jumped to from", "function": "Called in"}[declared.sort]
     return f"{verb} {lines_of(document, found)}." if found else ""
 

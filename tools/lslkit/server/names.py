@@ -144,8 +144,8 @@ class Reader:
         elif behind == "(":
             self.use("call", at)
         else:
-            is_written = behind in ASSIGNS or behind in ("++", "--") or before in ("++", "--") and not self.is_name(at - 2)
-            self.use("variable", at, self.visible(self.tokens[at].text), is_written)
+            is_stepped = behind in ("++", "--") or before in ("++", "--") and not self.is_name(at - 2)
+            self.use("variable", at, self.visible(self.tokens[at].text), is_stepped or behind in ASSIGNS)
 
     def end_of_declaration(self, at):
         while at < len(self.tokens) - 1 and self.text(at) not in (";", "{", "}"):

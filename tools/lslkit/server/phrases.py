@@ -1,7 +1,12 @@
 """Signatures and descriptions of names, from the tables of the language and the words that tools share."""
 from .. import tables, words
 
-TABLES = {"call": (tables.calls, "calls"), "event": (tables.events, "events"), "constant": (tables.constants, "constants")}
+# For each sort of names of the language their table, and that of their words.
+TABLES = {
+    "call": (tables.calls, "calls"),
+    "event": (tables.events, "events"),
+    "constant": (tables.constants, "constants"),
+}
 KINDS = {
     "integer": "A whole number of 32 bits. It is charged 8.",
     "string": "A text. It is charged 16 and its bytes in UTF-8.",
@@ -10,7 +15,7 @@ KINDS = {
 }
 STATEMENTS = {
     "jump": "`jump NAME;` continues after the label `@NAME;` of the nearest block around that has it.",
-    "state": "`state NAME;` ends the handler and changes to another state: `state_exit` here, then `state_entry` there.",
+    "state": "`state NAME;` ends the handler and changes to another state: `state_exit`, and then its `state_entry`.",
     "default": "The state in which a script starts.",
     "return": "Ends the handler or function; a function with a kind returns a value.",
     "for": "`for (starts; condition; steps) statement`. The condition isn't optional.",

@@ -6,14 +6,15 @@ from collections import namedtuple
 from .. import tables
 from . import pieces
 
-# What a name means: `local` with the numbers of its piece and declaration; `global`, `function` or `state` of the script;
-# `call`, `constant` or `event` of the language; or `unknown`.
+# What a name means: `local` with the numbers of its piece and declaration; `global`, `function` or `state` of the
+# script; `call`, `constant` or `event` of the language; or `unknown`.
 Meaning = namedtuple("Meaning", "sort name piece declared")
 # A place at which a name is, in bytes of the whole text.
 Place = namedtuple("Place", "start end is_declaration is_written")
 # A token of the script: its piece, its number there, and its bytes in the whole text.
 Spot = namedtuple("Spot", "piece at token start end")
 OWN = ("global", "function", "state")
+WORDS = ("name", "word", "integer", "string")
 
 
 class Script:
@@ -62,7 +63,7 @@ class Script:
         return max(0, bisect_right(self.starts, place) - 1)
 
     def spot(self, place):
-        """The token at a byte, or directly before it where none begins there; nothing between tokens."""
+        """The token at a byte, or the word that ends there; nothing between tokens."""
         number = self.piece_at(place)
         found = self.spot_in(number, place)
         if found is None and number and place == self.starts[number]:
@@ -72,16 +73,13 @@ class Script:
     def spot_in(self, number, place):
         if number >= len(self.pieces):
             return None
-        start, tokens = self.starts[number], self.pieces[number].tokens
-        at = bisect_right([it.place for it in tokens], place - start) - 1
-        for it in (at, at - 1):
-            if 0 <= it < len(tokens) and tokens[it].place <= place - start <= tokens[it].end and tokens[it].sort != "end":
-                is_word = tokens[it].sort in ("name", "word", "integer", "string")
-                if is_word or it == at - 1 or tokens[at].place == place - start or place - start < tokens[it].end:
-                    if not is_word and at > 0 and tokens[at - 1].end == place - start and tokens[at - 1].sort == "name":
-                        it = at - 1
-                    return self.spot_of(number, it)
-        return None
+        tokens, rel = self.pieces[number].tokens, place - self.starts[number]
+        last = bisect_right([it.place for it in tokens], rel) - 1
+        touching = [at for at in (last, last - 1) if at >= 0 and rel <= tokens[at].end and tokens[at].sort != "end"]
+        # A word counts up to its end, also where a sign follows it directly.
+        words = [at for at in touching if tokens[at].sort in WORDS]
+        found = words or [at for at in touching if rel < tokens[at].end]
+        return self.spot_of(number, found[0]) if found else None
 
     def spot_of(self, number, at):
         token = self.pieces[number].tokens[at]
