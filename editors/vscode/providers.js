@@ -47,6 +47,12 @@ function selection(it) {
   return new vscode.SelectionRange(range(it.range), it.parent && selection(it.parent));
 }
 
+function callItem(it) {
+  const places = [range(it.range), range(it.selectionRange)];
+  const made = new vscode.CallHierarchyItem(it.kind - 1, it.name, '', vscode.Uri.parse(it.uri), ...places);
+  return Object.assign(made, { asked: it });
+}
+
 class Providers {
   constructor(extension) {
     this.extension = extension;
@@ -71,6 +77,13 @@ class Providers {
       const answer = await this.ask(method, document, { position: position(where) }, token);
       return answer === null ? null : make(answer);
     };
+  }
+
+  // The calls of a function, from it or to it.
+  async calls(method, end, { asked }) {
+    const found = await this.extension.connection.ask(`callHierarchy/${method}`, { item: asked }).catch(() => []);
+    const made = end === 'from' ? vscode.CallHierarchyIncomingCall : vscode.CallHierarchyOutgoingCall;
+    return found.map((it) => new made(callItem(it[end]), it.fromRanges.map(range)));
   }
 
   diagnostic(it) {
@@ -146,6 +159,15 @@ class Providers {
       all.registerDocumentRangeFormattingEditProvider(selector, {
         provideDocumentRangeFormattingEdits: (it, part, options) =>
           list(edit, 'rangeFormatting', it, { range: plain(part), options }),
+      }),
+      all.registerOnTypeFormattingEditProvider(selector, {
+        provideOnTypeFormattingEdits: (it, where, ch, options) =>
+          list(edit, 'onTypeFormatting', it, { position: position(where), ch, options }),
+      }, '}'),
+      all.registerCallHierarchyProvider(selector, {
+        prepareCallHierarchy: at('prepareCallHierarchy', (it) => it.map(callItem)),
+        provideCallHierarchyIncomingCalls: (it) => this.calls('incomingCalls', 'from', it),
+        provideCallHierarchyOutgoingCalls: (it) => this.calls('outgoingCalls', 'to', it),
       }),
       all.registerRenameProvider(selector, {
         prepareRename: (it, where) => this.prepareRename(it, where),

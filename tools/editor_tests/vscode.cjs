@@ -120,6 +120,13 @@ async function play() {
   say('folds', (await providers.provideFoldingRanges(document)).length);
   say('tokens', (await providers.provideDocumentSemanticTokens(document)).given[0].length % 5);
   say('hints', (await providers.provideInlayHints(document, new Range(at(0, 0), at(14, 0)))).map((it) => it.given[1]));
+  const [called] = await providers.prepareCallHierarchy(document, at(3, 9));
+  const calls = await providers.provideCallHierarchyIncomingCalls(called);
+  say('calls', calls.map((it) => it.given[0].given[1]).join(' '), calls[0].given[1].length);
+  document.apply([new TextEdit(new Range(at(12, 0), at(12, 4)), '')]);
+  const options = { tabSize: 4, insertSpaces: true };
+  const typed = await providers.provideOnTypeFormattingEdits(document, at(12, 1), '}', options);
+  say('typed', JSON.stringify(typed[0].newText));
   const [lens] = await providers.provideCodeLenses(document);
   await handlers[lens.given[1].command](...lens.given[1].arguments);
   say('played', path.basename(shown[0].shellPath), shown[0].shellArgs[0], path.basename(shown[0].shellArgs[1]));

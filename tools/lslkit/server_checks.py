@@ -1,6 +1,7 @@
 """The checks of the language server, of the formatter, and of the words that they share with the page."""
 import ast
 import glob
+import io
 import os
 import re
 import shutil
@@ -10,6 +11,8 @@ import tempfile
 
 from . import formatting, making, places, random_scripts, server_fuzz, syntax, tables, tokens, words
 from .checking import Skipped, check, need
+from .server import framing
+from .server.session import Session
 from .server_client import Client
 
 TABLES = {"calls": tables.calls, "events": tables.events, "constants": tables.constants}
@@ -320,6 +323,24 @@ def sessions_begin_and_end():
         need(b"Traceback" not in client.said, client.said)
 
 
+@check
+def cancelled_requests_are_dropped():
+    """All messages are there before the first is answered, as from a client that is quick."""
+    asked = [("initialize", 1, {}), *(("textDocument/hover", it, {}) for it in (2, 3, 4)), ("shutdown", 5, None)]
+    messages = [{"id": number, "method": method, "params": params} for method, number, params in asked]
+    messages += [{"method": "$/cancelRequest", "params": {"id": it}} for it in (3, 4, 3, 99)] + [{"method": "exit"}]
+    sink = io.BytesIO()
+    session = Session(io.BytesIO(b"".join(framing.framed({"jsonrpc": "2.0", **it}) for it in messages)), sink)
+    session.read()
+    while session.state != "ended":
+        session.step()
+    sink.seek(0)
+    answers = [framing.parsed(it) for it in iter(lambda: framing.read(sink), None)]
+    codes = {it["id"]: it.get("error", {}).get("code") for it in answers}
+    need(codes == {1: None, 2: -32602, 3: -32800, 4: -32800, 5: None} and len(answers) == 5, "answered", answers)
+    need(not session.asked and not session.cancelled, "kept", session.asked, session.cancelled)
+
+
 def children_of(number):
     found = []
     for name in glob.glob("/proc/[0-9]*/stat"):
@@ -448,6 +469,6 @@ def the_extension_for_vs_code_uses_the_server():
         said = tried(["node", os.path.join(TRIALS, "vscode.cjs"), places.TOP, room], room)
     need_lines(said, "fault true", "fault 10 8 13 20 0", "mended true", HOVER, "signature 1", "definition 3")
     need_lines(said, "references 3", "completion llSay(${1:channel}, ${2:msg})$0")
-    need_lines(said, "rename string words(integer number) {")
+    need_lines(said, "rename string words(integer number) {", "calls touch_start 2", 'typed "\\n    "')
     need_lines(said, "refused llSay is a call of the language", "symbols count words default", "tokens 0", "ended")
     need_lines(said, "played lsl play trial.lsl", 'formatted "        llOwnerSay(words(count));"')
