@@ -126,7 +126,7 @@ async function play() {
   document.apply([new TextEdit(new Range(at(12, 0), at(12, 4)), '')]);
   const options = { tabSize: 4, insertSpaces: true };
   const typed = await providers.provideOnTypeFormattingEdits(document, at(12, 1), '}', options);
-  say('typed', JSON.stringify(typed[0].newText));
+  say('typed', typed[0].range.start.line, JSON.stringify(typed[0].newText));
   const [lens] = await providers.provideCodeLenses(document);
   await handlers[lens.given[1].command](...lens.given[1].arguments);
   say('played', path.basename(shown[0].shellPath), shown[0].shellArgs[0], path.basename(shown[0].shellArgs[1]));

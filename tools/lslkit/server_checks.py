@@ -45,6 +45,8 @@ ANSWERS = (
     ("integer a; default { timer() { |a = 1; } }", "definition", "'character': 8}"),
     ("default { timer() { { jump x|; } @x; } }", "definition", "'character': 34}"),
     ("integer a; default { timer() { integer a = |a; } }", "definition", "'character': 8}"),
+    ("default {\n    timer() {\n        ;\n  }|\n}", "onTypeFormatting", "'newText': '    '"),
+    ("f() {\n    if (1) {\n        ;\n            }|\n}", "onTypeFormatting", "'newText': '    '"),
 )
 # A script with the cursor, a new name, and the script afterwards, or why it isn't renamed.
 RENAMES = (
@@ -469,6 +471,6 @@ def the_extension_for_vs_code_uses_the_server():
         said = tried(["node", os.path.join(TRIALS, "vscode.cjs"), places.TOP, room], room)
     need_lines(said, "fault true", "fault 10 8 13 20 0", "mended true", HOVER, "signature 1", "definition 3")
     need_lines(said, "references 3", "completion llSay(${1:channel}, ${2:msg})$0")
-    need_lines(said, "rename string words(integer number) {", "calls touch_start 2", 'typed "\\n    "')
+    need_lines(said, "rename string words(integer number) {", "calls touch_start 2", 'typed 12 "    "')
     need_lines(said, "refused llSay is a call of the language", "symbols count words default", "tokens 0", "ended")
     need_lines(said, "played lsl play trial.lsl", 'formatted "        llOwnerSay(words(count));"')

@@ -2,6 +2,9 @@
 from .. import formatting
 from .errors import Refused
 
+# What is around a piece that isn't whole by itself.
+AROUND = {"handler": (b"default {", b"}"), "close": (b"default {", b"")}
+
 
 def unit_of(options):
     size = options.get("tabSize", 4)
@@ -32,11 +35,20 @@ def part(document, params):
 
 
 def as_typed(document, params):
-    """The indentation of the line on which a `}` or a `;` was written; nothing where the text isn't whole."""
-    line = params["position"]["line"]
+    """The indentation of the line on which a `}` was written; nothing where its piece isn't whole. Only the piece is
+    laid out: a handler within a state of its own."""
+    script, place = document.script, document.lines.place(params["position"])
+    line = document.lines.line_of(place)
+    number = script.piece_at(max(0, place - 1))
+    piece, start = script.pieces[number], script.starts[number]
+    before, behind = AROUND.get(piece.sort, (b"", b""))
     try:
-        found = edits(document, params)
-    except Refused:
+        found = formatting.edits(before + piece.text + behind, unit_of(params.get("options", {})))
+    except formatting.Unformatted:
         return []
-    is_indent = [it for it in found if it["range"]["end"]["line"] == line and "\n" in it["newText"]]
-    return [it for it in is_indent if it["range"]["start"]["line"] == line - 1]
+    moved = [it._replace(start=it.start + start - len(before), end=it.end + start - len(before)) for it in found]
+    # A line's indentation begins behind the feed before it.
+    first = document.lines.starts[line]
+    kept = [it for it in moved if it.start < first <= it.end <= place and b"\n" in it.text]
+    indents = [formatting.Edit(first, it.end, it.text.rpartition(b"\n")[2]) for it in kept]
+    return [as_message(document, it) for it in indents]
