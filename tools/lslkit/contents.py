@@ -14,6 +14,8 @@ LEFT_OUT = "left out"
 PAGE = (".css", ".html", ".js", ".json", ".wasm")
 # What needs Python alone.
 SCRIPTS = ("lsl", "tools/explain", "tools/lsl-server", "tools/show", "tools/suite")
+# Modules that are run as processes of their own.
+STARTED = ("lslkit.server.worker", "lslkit.server.player")
 # Files and folders of the repository, and where they are in a package. The first that fits a path counts.
 PLACES = (
     *((it, it) for it in ("CHANGELOG.md", "CONTRIBUTING.md", "LICENSE", "README.md")),
@@ -106,6 +108,8 @@ def scripts():
     for it in SCRIPTS:
         finder.run_script(in_top(it))
         yield of_repository(it, it)
+    for it in STARTED:
+        finder.import_hook(it)
     for name, module in finder.modules.items():
         if name.startswith("lslkit"):
             path = os.path.relpath(module.__file__, TOP)

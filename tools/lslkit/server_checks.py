@@ -9,11 +9,12 @@ import signal
 import subprocess
 import tempfile
 
-from . import formatting, making, places, random_scripts, server_fuzz, syntax, tables, tokens, words
-from .checking import Skipped, check, need
-from .server import framing
+from . import diagnostics, formatting, making, places, random_scripts, server_fuzz, syntax, tables, tokens, words
+from .checking import Failed, Skipped, check, need
+from .server import framing, mending
+from .server.documents import Document
 from .server.session import Session
-from .server_client import Client
+from .server_client import Client, Rules
 
 TABLES = {"calls": tables.calls, "events": tables.events, "constants": tables.constants}
 URI = "file:///trial/a.lsl"
@@ -249,6 +250,26 @@ def faults_are_published():
 
 
 @check
+def fixes_are_edits_of_the_text():
+    text = 'default { timer() { llOwnerSay("é" + count); } }'
+    document = Document(URI, "lsl", 1, text.encode())
+    start = document.text.index(b"count")
+    fix = diagnostics.Fix("Write (string)", [(start, start, b"(string)")])
+    place = diagnostics.Related(0, 7, "here")
+    found = diagnostics.Diagnostic("warning", "w", start, start + 5, "words", ["hint"], [place], [fix], False)
+    rules, params = Rules(text), {"range": document.lines.range(start, start)}
+    rules.diagnostics([mending.as_message(document, found)])
+    made = mending.actions(document, params, [found])
+    rules.actions(made)
+    (edit,) = made[0]["edit"]["changes"][URI]
+    column = text.index("count")
+    need(edit["range"]["start"] == {"line": 0, "character": column} and edit["newText"] == "(string)", "made", edit)
+    need(mending.actions(document, {"range": document.lines.range(0, 3)}, [found]) == [], "a fix is given elsewhere")
+    only = {**params, "context": {"only": ["refactor"]}}
+    need(mending.actions(document, only, [found]) == [], "a fix is given as something else")
+
+
+@check
 def worlds_name_their_files():
     name = places.in_top("examples", "door", "door.world")
     text, uri = places.text_of(name), f"file://{name}"
@@ -357,11 +378,16 @@ def children_of(number):
 
 @check
 def scripts_are_played_from_the_editor():
-    with Client(binary()) as client:
+    with Client(binary(), places.TOP) as client:
         client.open(URI, 'default { state_entry() { llOwnerSay("é"); } }')
         lens = client.of("codeLens", URI)[0]["command"]
         said = client.ask("workspace/executeCommand", {"command": lens["command"], "arguments": lens["arguments"]})
         need('"é"' in said and "/tmp" not in said, "played as", said)
+        name = places.in_top("examples", "counter", "counter.world")
+        client.open(f"file://{name}", places.text_of(name), "lsl-world")
+        lens = client.of("codeLens", f"file://{name}")[0]["command"]
+        said = client.ask("workspace/executeCommand", {"command": lens["command"], "arguments": lens["arguments"]})
+        need("touches" in said, "played as", said)
 
 
 @check
@@ -387,13 +413,20 @@ def block(language, mark):
     return text.replace("DISHHOLLOW", places.TOP)
 
 
+# After which an editor that doesn't end by itself is ended.
+SECONDS = 300
+
+
 def tried(command, room, **more):
     """What an editor says that does a trial in a folder of its own."""
     for name in ("trial.lsl", "trial.world"):
         shutil.copy(os.path.join(TRIALS, name), room)
     environment = {**os.environ, "LSL_PROGRAM": binary(), "HOME": room, **more}
     how = {"stdin": subprocess.DEVNULL, "stdout": subprocess.PIPE, "stderr": subprocess.STDOUT}
-    ran = subprocess.run(command, cwd=room, env=environment, timeout=300, check=False, **how)
+    try:
+        ran = subprocess.run(command, cwd=room, env=environment, timeout=SECONDS, check=False, **how)
+    except subprocess.TimeoutExpired as error:
+        raise Failed(f"{command[0]} doesn't end: {(error.stdout or b'').decode(errors='replace')}") from None
     return ran.stdout.decode(errors="replace")
 
 
@@ -417,7 +450,7 @@ def neovim_uses_the_server():
     with tempfile.TemporaryDirectory() as room:
         config = os.path.join(room, "init.lua")
         places.write_text(config, block("lua", "vim.lsp"))
-        said = tried(["nvim", "--headless", "-u", config, "-S", os.path.join(TRIALS, "neovim.lua")], room)
+        said = tried(["nvim", "--headless", "-u", config, "-S", os.path.join(TRIALS, "neovim.lua"), "+qa!"], room)
     faults = ["fault true", "fault 10 8 13 20", "mended true", "accepted true", "world true", "world 3 "]
     need_lines(said, *faults, HOVER, "definition true", "rename true", "completion llMessageLinked", "formatted true")
     need_lines(said, "signature says llSay(integer channel, string msg)")

@@ -40,9 +40,10 @@ def play(document, folder):
         with open(name, "wb") as file:
             file.write(document.text)
         words = ["replay", name, "--show"] if document.is_world else ["play", name, "--after", "0s"]
-        how = {"stdin": subprocess.DEVNULL, "stdout": subprocess.PIPE, "stderr": subprocess.STDOUT}
-        command = [sys.executable, in_top("lsl"), *words]
-        with subprocess.Popen(command, cwd=folder, start_new_session=True, **how) as playing:
+        how = {"stdin": subprocess.DEVNULL, "stdout": subprocess.PIPE, "stderr": subprocess.STDOUT, "cwd": folder}
+        environment = {**os.environ, "PYTHONPATH": in_top("tools")}
+        command = [sys.executable, "-m", "lslkit.server.player", *words]
+        with subprocess.Popen(command, env=environment, start_new_session=True, **how) as playing:
             said = said_by(playing)
         return said.decode(errors="replace").replace(f"{room}/", "")
 
