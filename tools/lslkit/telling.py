@@ -1,11 +1,21 @@
-"""A journal's lines and a world's steps in plain words, with names in place of numbers and keys."""
-from . import journal, worlds
+"""A journal's lines and a world's steps in plain words, with names in place of numbers and keys. The phrases are data
+(tools/words), which page/telling.js fills the same way."""
+from . import journal, words, worlds
 from .quoting import quoted
 
 MOST_SHOWN = 240
 # What is shown for a region whose name is empty.
-NO_NAME = '""'
-VOICES = {"say": "says", "whisper": "whispers", "shout": "shouts", "region": "says in the region"}
+NO_NAME = words.table("journal")["no name"]
+
+
+def said(phrase, **fields):
+    """A phrase of a journal's line."""
+    return words.filled(words.table("journal")[phrase], fields)
+
+
+def step_said(phrase, **fields):
+    """A phrase of a step."""
+    return words.filled(words.table("steps")["says"][phrase], fields)
 
 
 def cut(text):
@@ -14,7 +24,7 @@ def cut(text):
 
 
 def segments(count):
-    return f"{count} segment" + ("" if count == "1" else "s")
+    return step_said("segment" if count == "1" else "segments", count=count)
 
 
 def seconds(milliseconds):
@@ -36,9 +46,10 @@ def ways(world):
 def pauses(gaps):
     """What a `pause` step asks for."""
     if gaps == ["0"]:
-        return "no pauses from now on"
-    each = f"each {segments(gaps[0])}" if len(gaps) == 1 else f"by gaps of {', '.join(gaps)} segments"
-    return f"pauses from now on, {each}"
+        return step_said("pause end")
+    if len(gaps) == 1:
+        return step_said("pause", segments=segments(gaps[0]))
+    return step_said("pause gaps", gaps=", ".join(gaps))
 
 
 class Names:
@@ -58,16 +69,17 @@ class Names:
         self.ways, self.homes = ways(self.world)
 
     def script(self, number):
-        return self.scripts[number - 1] if 0 < number <= len(self.scripts) else f"script {number}"
+        return self.scripts[number - 1] if 0 < number <= len(self.scripts) else said("script", number=number)
 
     def object_name(self, number):
         objects = self.world.objects
-        return objects[number - 1].prims[0].name if 0 < number <= len(objects) else f"object {number}"
+        known = 0 < number <= len(objects)
+        return objects[number - 1].prims[0].name if known else said("object", number=number)
 
     def prim_name(self, number, link):
         objects = self.world.objects
         prims = objects[number - 1].prims if 0 < number <= len(objects) else []
-        return prims[max(link, 1) - 1].name if link <= len(prims) else f"prim {link}"
+        return prims[max(link, 1) - 1].name if link <= len(prims) else said("prim", number=link)
 
     def value(self, text, is_quoted):
         """A value as it is shown: known keys by their names."""
@@ -87,69 +99,73 @@ class Names:
 
     def entry(self, entry, state=None):
         """A line of the journal, without its script's name. `state` is the one of a `clear`, where it is known."""
-        if state:
-            return f"in the state {state}{self.gone(entry)}"
         tell = getattr(self, f"tell_{entry.word}", None)
-        return tell(entry) if tell else f"{entry.word} {entry.rest}"
+        if tell is None:
+            return f"{entry.word} {entry.rest}"
+        return tell(entry, state) if entry.word == "clear" else tell(entry)
 
     def tell_took(self, entry):
-        return self.event(entry)
+        return said("took", event=self.event(entry))
 
     def tell_drop(self, entry):
-        return f"loses {self.event(entry)}: 64 events wait"
-
-    def tell_clear(self, entry):
-        return f"in a new state, or reset{self.gone(entry)}"
+        return said("drop", event=self.event(entry))
 
     @staticmethod
-    def gone(entry):
-        return "" if entry.rest == "0" else f"; waiting events that are gone: {entry.rest}"
+    def tell_clear(entry, state=None):
+        text = said("clear in", state=state) if state else said("clear")
+        return text if entry.rest == "0" else said("clear gone", said=text, count=entry.rest)
 
     def tell_chat(self, entry):
         (voice, _), (channel, _), (text, _) = journal.fields(entry.rest)
-        return f"{VOICES.get(voice, voice)} on {channel}: {self.value(text, True)}"
+        name = f"chat {voice}" if f"chat {voice}" in words.table("journal") else "chat"
+        return said(name, voice=voice, channel=channel, text=self.value(text, True))
 
     def tell_owner(self, entry):
-        return f"to its owner: {self.value(journal.fields(entry.rest)[0][0], True)}"
+        return said("owner", text=self.value(journal.fields(entry.rest)[0][0], True))
 
-    def tell_done(self, entry):
-        return f"done, {int(entry.rest):,} bytes"
+    @staticmethod
+    def tell_done(entry):
+        return said("done", charge=f"{int(entry.rest):,}")
 
-    def tell_fault(self, entry):
-        return f"stops for good: {journal.fields(entry.rest)[0][0]}"
+    @staticmethod
+    def tell_fault(entry):
+        return said("fault", reason=journal.fields(entry.rest)[0][0])
 
     def tell_home(self, entry):
         region, wanted = journal.fields(entry.rest)[0][0], self.homes.get(entry.number)
-        more = "" if wanted in (region, None) else f", and didn't get to {wanted or NO_NAME}"
-        return f"{self.object_name(entry.number)} is in {region or NO_NAME}{more}"
+        fields = {"object": self.object_name(entry.number), "region": region or NO_NAME, "wanted": wanted or NO_NAME}
+        return said("home" if wanted in (region, None) else "home missed", **fields)
 
     def crossing(self, number, region, left):
         """A crossing to a region, from the one that it leaves."""
-        where = region or NO_NAME
-        if left == region:
-            return f"{self.object_name(number)} stays in {where}, where it is already"
-        return f"{self.object_name(number)} crosses {'' if left is None else f'from {left or NO_NAME} '}to {where}"
+        name = "cross stays" if left == region else "cross" if left is None else "cross from"
+        return step_said(name, object=self.object_name(number), region=region or NO_NAME, left=left or NO_NAME)
 
     def step(self, step):
         """A step of the world file."""
         fields = step.fields
         if step.word == "say":
-            return f"{fields[1] or 'someone'} says on {fields[0]}: {quoted(cut(fields[3]))}"
+            name = fields[1] or said("someone")
+            return step_said("say", name=name, channel=fields[0], text=quoted(cut(fields[3])))
         if step.word == "touch":
-            number, link = int(fields[0]), int(fields[1])
-            more = f", prim {link} ({self.prim_name(number, link)})" if link > 1 else ""
-            return f"{fields[3] or 'someone'} touches {self.object_name(number)}{more}"
+            return self.touch(int(fields[0]), int(fields[1]), fields[3] or said("someone"))
         if step.word == "clock":
-            return f"the clock goes to {seconds(int(fields[0]))} s"
+            return step_said("clock", seconds=seconds(int(fields[0])))
         if step.word == "cross":
             return self.crossing(int(fields[0]), fields[1], self.ways.get(step.line))
         if step.word == "pause":
             return pauses(fields)
         if step.word in ("changed", "rez"):
-            return f"{self.object_name(int(fields[0]))}: {step.word} {fields[1]}"
+            return step_said(step.word, object=self.object_name(int(fields[0])), number=fields[1])
         if step.word == "go":
-            return f"{self.script(int(fields[0]))} runs, at most {segments(fields[1])}"
-        return f"all run, at most {segments(fields[0])}" if step.word == "run" else " ".join([step.word, *fields])
+            return step_said("go", script=self.script(int(fields[0])), segments=segments(fields[1]))
+        return step_said("run", segments=segments(fields[0])) if step.word == "run" else " ".join([step.word, *fields])
+
+    def touch(self, number, link, name):
+        fields = {"name": name, "object": self.object_name(number), "link": link}
+        if link < 2:
+            return step_said("touch", **fields)
+        return step_said("touch prim", prim=self.prim_name(number, link), **fields)
 
 
 def clocks(world):

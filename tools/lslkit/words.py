@@ -1,6 +1,7 @@
 """The words that tools, editors and page share: each table is a file of tools/words/."""
 import functools
 import json
+import re
 
 from .places import text_of
 
@@ -9,3 +10,8 @@ from .places import text_of
 def table(name):
     """The table of this name, as its file has it."""
     return json.loads(text_of("tools", "words", f"{name}.json"))
+
+
+def filled(phrase, fields):
+    """A phrase with its fields. page/words.js does the same."""
+    return re.sub(r"\{(\w+)\}", lambda it: str(fields.get(it[1], it[0])), phrase)
