@@ -3,7 +3,7 @@ import { unquoted } from "./quoting.js";
 
 const REFUSAL = /^bad (\w+) "((?:[^"\\]|\\.)*)" (?:line (\d+)|(\d+):(\d+)) fault (\d+)$/;
 
-// Where a byte of a line stands among the signs of its text. Columns count bytes, and a page's texts count UTF-16.
+// Where a byte of a line is among the signs of its text. Columns count bytes, and a page's texts count UTF-16.
 function signAt(line, column) {
   let bytes = 1;
   let at = 0;
@@ -15,8 +15,15 @@ function signAt(line, column) {
   return at;
 }
 
+// What is known of the word at a place: that LSL has no such word, or what takes the place of a name.
+function hintsOf(text, place, { habits, substitutes }) {
+  const word = /^\w+/.exec(text.slice(place))?.[0];
+  const known = (table, key) => (table && key !== undefined && Object.hasOwn(table, key) ? table[key] : undefined);
+  return [known(habits?.words, word), known(substitutes?.names, word)?.write].filter(it => it !== undefined);
+}
+
 // Why a file was refused: its name, the line, counted from 1, the place within it, counted from 0, and the words;
-// nothing where the output refuses none. `words` are the faults' meanings by their numbers.
+// nothing where the output refuses none. `words` are the tables of tools/words.
 export function explained(output, files, words) {
   const found = REFUSAL.exec(output.split("\n")[0]);
   if (!found) return null;
@@ -26,7 +33,10 @@ export function explained(output, files, words) {
   const text = new Map(files).get(name)?.split("\n")[line - 1] ?? "";
   const place = column === undefined ? 0 : signAt(text, Number(column));
   const where = column === undefined ? `${name}:${line}` : `${name}:${line}:${column}`;
-  const said = `${where}: error: ${words[fault] ?? "a fault without words"} (fault ${fault})`;
+  const says = words.faults[fault]?.says ?? "a fault without words";
+  const hints = hintsOf(text, place, words);
+  const said = `${where}: error: ${says} (fault ${fault})`;
   const blanks = text.slice(0, place).replace(/[^\t]/g, " ");
-  return { name, line, place, said: `${said}\n${text}${column === undefined ? "" : `\n${blanks}^`}` };
+  const short = `${says}, at ${where.replace(/^.*\//, "")}`;
+  return { name, line, place, fault, says, short, hints, said: `${said}\n${text}${column === undefined ? "" : `\n${blanks}^`}` };
 }

@@ -1,16 +1,77 @@
-// A journal: its lines, and the handlers that they tell of (docs/WORLDS.md).
+// A journal: its text, and where its lines are (docs/WORLDS.md). It is read at once into arrays of numbers, and a line
+// is cut out of the text when it is wanted.
 import { unquoted } from "./quoting.js";
 
-const ENDS = ["done", "fault"];
+export const KINDS = ["took", "drop", "clear", "chat", "owner", "done", "fault", "home", "frozen"];
+export const [TOOK, DROP, CLEAR, CHAT, OWNER, DONE, FAULT, HOME, FROZEN] = KINDS.keys();
+// The kinds by their first two letters.
+const BY_LETTERS = new Map(KINDS.map((word, kind) => [word.charCodeAt(0) * 256 + word.charCodeAt(1), kind]));
 
-// The entry of a line: its first word, the number of its script or object, and what stands behind that.
-function entryOf(line) {
-  const [, word, number, rest] = /^([^ ]*) ?([0-9]*) ?(.*)$/s.exec(line);
-  return { word, number: Number(number), rest };
+function countOf(text) {
+  let count = 0;
+  for (let at = text.indexOf("\n"); at >= 0; at = text.indexOf("\n", at + 1)) count++;
+  return count;
 }
 
-export function readJournal(text) {
-  return text.split("\n").slice(0, -1).map(entryOf);
+// The number that is a line's second word.
+function numberAt(text, start) {
+  let at = text.indexOf(" ", start) + 1;
+  let number = 0;
+  for (let digit = text.charCodeAt(at) - 48; digit >= 0 && digit < 10; digit = text.charCodeAt(++at) - 48) {
+    number = number * 10 + digit;
+  }
+  return number;
+}
+
+export class Journal {
+  constructor({ text, ends, kinds, numbers }) {
+    Object.assign(this, { text, ends, kinds, numbers, count: ends.length });
+  }
+
+  static read(text) {
+    const count = countOf(text);
+    const [ends, kinds, numbers] = [new Uint32Array(count), new Uint8Array(count), new Uint32Array(count)];
+    let start = 0;
+    for (let line = 0; line < count; line++) {
+      const end = text.indexOf("\n", start);
+      ends[line] = end;
+      const kind = BY_LETTERS.get(text.charCodeAt(start) * 256 + text.charCodeAt(start + 1)) ?? FROZEN;
+      kinds[line] = kind;
+      numbers[line] = kind === FROZEN ? 0 : numberAt(text, start);
+      start = end + 1;
+    }
+    return new Journal({ text, ends, kinds, numbers });
+  }
+
+  // What a message holds of it: a journal is made of that again.
+  get parts() {
+    const { text, ends, kinds, numbers } = this;
+    return { text, ends, kinds, numbers };
+  }
+
+  line(at) {
+    return this.text.slice(at ? this.ends[at - 1] + 1 : 0, this.ends[at]);
+  }
+
+  word(at) {
+    return KINDS[this.kinds[at]];
+  }
+
+  // What follows the first word and the number.
+  rest(at) {
+    const line = this.line(at);
+    const first = line.indexOf(" ");
+    if (this.kinds[at] === FROZEN) return line.slice(first + 1);
+    const second = line.indexOf(" ", first + 1);
+    return second < 0 ? "" : line.slice(second + 1);
+  }
+
+  // The event of a `took` or `drop` line, and its arguments.
+  event(at) {
+    const rest = this.rest(at);
+    const end = rest.indexOf(" ");
+    return end < 0 ? [rest, ""] : [rest.slice(0, end), rest.slice(end + 1)];
+  }
 }
 
 // The words of a line, each as its text and whether it was quoted.
@@ -20,26 +81,5 @@ export function fields(rest) {
   );
 }
 
-// The event of a `took` or `drop` line, and its arguments.
-export function eventOf(entry) {
-  const end = entry.rest.indexOf(" ");
-  return end < 0 ? [entry.rest, ""] : [entry.rest.slice(0, end), entry.rest.slice(end + 1)];
-}
-
-// All handlers in the order in which they began: the script, the entries at which it began and ended, and how it ended.
-// One that was cut has no end.
-export function handlersOf(entries) {
-  const found = [];
-  const running = new Map();
-  entries.forEach((entry, at) => {
-    if (entry.word === "took") {
-      const handler = { script: entry.number, event: eventOf(entry)[0], begin: at, end: null, ending: null };
-      running.set(entry.number, handler);
-      found.push(handler);
-    } else if (ENDS.includes(entry.word) && running.has(entry.number)) {
-      Object.assign(running.get(entry.number), { end: at, ending: entry.word });
-      running.delete(entry.number);
-    }
-  });
-  return found;
-}
+// The words of a line as they are written.
+export const rawFields = rest => rest.match(/"(?:[^"\\]|\\.)*"|[^ ]+/gs) ?? [];

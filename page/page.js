@@ -1,167 +1,181 @@
-// The page: its files, how they are run, and what came of it.
-import { explained } from "./faults.js";
-import { Files } from "./files.js";
-import { MEANINGS, NEEDS, hasMemory64 } from "./lsl.js";
-import { readJournal } from "./journal.js";
-import { Runner } from "./runner.js";
-import { packed, unpacked } from "./share.js";
-import { BadStep, STEPS_HELP, stagedWorld } from "./stage.js";
-import { linesOf, timelineOf, timelinePage } from "./timeline.js";
-import { markedWorld, readWorld, withoutMarks, worldOfOnce } from "./worlds.js";
+// The page: what is played, where it is edited, and what came of it.
+import { Builder } from "./builder.js";
+import { Choices } from "./choices.js";
+import { Editor } from "./editor.js";
+import { FilePanel } from "./filepanel.js";
+import { Grammar, PLAIN, WorldGrammar } from "./highlight.js";
+import { Hints } from "./hints.js";
+import { Keeper } from "./keeping.js";
+import { Lookup } from "./lookup.js";
+import { NEEDS, hasMemory64 } from "./lsl.js";
+import { Panels } from "./panels.js";
+import { Problems } from "./problems.js";
+import { Running } from "./running.js";
+import { BadLink, packed, unpacked } from "./share.js";
+import { BadStep, stagedWorld, stepsHelp } from "./stage.js";
+import { Play, isWorld } from "./state.js";
 
 const at = id => document.getElementById(id);
 const made = async name => (await fetch(name)).json();
-const STAGED = "steps.world";
-const MOST_DRAWN = 20000000;
-const MOST_SHOWN = 1000000;
-const REFUSED = [2, 3, 8];
 
-const files = new Files(() => offer());
-let runner, examples, words, template;
-let isRunning = false;
-let wanted = "timeline";
+class Page {
+  constructor(examples, words) {
+    Object.assign(this, { examples, words, play: new Play(), runs: 0 });
+    const [script, world] = [new Grammar(words.grammar), new WorldGrammar(words.steps)];
+    const grammarOf = name => (isWorld(name) ? world : /\.lsl$/.test(name) || !/\.\w+$/.test(name) ? script : PLAIN);
+    const lookup = new Lookup(words.names, words.steps);
+    this.editor = new Editor(this.play, grammarOf);
+    this.panels = new Panels(words, (name, line, place) => this.go(name, line, place));
+    this.problems = new Problems(this.play, this.editor, (name, line, place) => this.go(name, line, place));
+    this.filePanel = new FilePanel(this.play, this.editor);
+    this.builder = new Builder(this.play, this.editor, words.steps);
+    this.choices = new Choices(this.editor, this.play, lookup);
+    this.hints = new Hints(this.editor, this.play, lookup);
+    this.choices.said = it => this.hints.show(it);
+    this.keeper = new Keeper(this.play, said => this.panels.status({ text: said, sort: "bad" }, ""));
+  }
 
-const how = () => document.querySelector("input[name=how]:checked").value;
+  // Goes to a line of a file, counted from 1.
+  go(name, line, place = 0) {
+    const found = this.play.names.indexOf(name);
+    if (found < 0) return;
+    if (found !== this.play.chosen) {
+      this.play.chosen = found;
+      this.play.tell("chosen");
+    }
+    this.editor.go(line - 1, place);
+  }
 
-// The files that may be run in the way that is chosen.
-function offer() {
-  const isWorld = how() === "replay";
-  const names = files.names.filter(it => it.endsWith(".world") === isWorld);
-  const options = (names.length ? names : files.names).map(it => new Option(it, it));
-  const before = at("file").value;
-  at("file").replaceChildren(...options);
-  if (options.some(it => it.value === before)) at("file").value = before;
-  at("staging").hidden = how() !== "play";
-}
+  run(isAsked = true) {
+    if (!this.running) return;
+    this.panels.isAsked = isAsked;
+    try {
+      this.running.run();
+    } catch (error) {
+      if (!(error instanceof BadStep)) throw error;
+      this.panels.status({ text: error.message, sort: "bad" }, "");
+    }
+  }
 
-function show({ files: all, how: way, file, steps }) {
-  document.querySelector(`input[name=how][value=${CSS.escape(way)}]`).checked = true;
-  at("steps").value = steps;
-  files.show(all);
-  at("file").value = file;
-  const chosen = files.names.indexOf(file);
-  files.choose(Math.max(chosen, 0));
-}
+  // What shows a run.
+  get seen() {
+    const { panels } = this;
+    return {
+      begin: () => {
+        panels.begin();
+        this.runs += 1;
+        at("stop").disabled = false;
+        panels.status({ text: "running ...", sort: "" }, "");
+      },
+      end: () => {
+        // The focus isn't lost with the button: Run is next to it.
+        if (document.activeElement === at("stop")) at("run").focus();
+        at("stop").disabled = true;
+        panels.end();
+        at("result").dataset.runs = this.runs;
+      },
+      status: (status, more) => panels.status(status, more),
+      fault: fault => this.showFault(fault),
+      draw: (...drawn) => panels.draw(...drawn),
+      save: (file, asked) => panels.save(file, asked),
+    };
+  }
 
-function view(name) {
-  for (const tab of at("views").children) {
-    tab.ariaSelected = `${tab.dataset.view === name}`;
-    at(tab.dataset.view).hidden = tab.dataset.view !== name;
+  // The fault's file is shown; the caret goes to it where the run was asked for in the editor or by the button.
+  showFault(fault) {
+    this.problems.show(fault);
+    if (!fault || !this.panels.isAsked) return;
+    this.problems.visit(fault);
+  }
+
+  listen() {
+    this.play.listen(what => {
+      if (what === "text") {
+        this.panels.old(this.runs > 0);
+        this.problems.forget();
+      }
+      if (what === "files" || what === "chosen") this.problems.mark();
+    });
+    at("run").addEventListener("click", () => this.run());
+    at("stop").addEventListener("click", () => this.running.stop());
+    at("save").addEventListener("click", () => this.running.save());
+    at("share").addEventListener("click", () => this.share());
+    at("examples").addEventListener("change", () => this.chooseExample(Number(at("examples").value)));
+    at("world").addEventListener("click", () => this.makeWorld());
+    addEventListener("hashchange", () => this.openLink());
+    addEventListener("keydown", event => event.key === "Enter" && (event.ctrlKey || event.metaKey) && this.run());
+  }
+
+  chooseExample(number) {
+    const { title } = this.examples[number];
+    this.play.replace(this.examples[number], this.isEdited() ? `The files were replaced by the example ${title}.` : null);
+    this.example = JSON.stringify(this.play.parts);
+    this.run();
+  }
+
+  // Whether there is work in the files: they are no example as it came.
+  isEdited() {
+    return this.play.files.length > 0 && JSON.stringify(this.play.parts) !== this.example;
+  }
+
+  makeWorld() {
+    try {
+      const name = this.play.put("steps.world", stagedWorld(this.play.file, this.play.steps, this.words.steps));
+      this.play.setWay("replay", name);
+    } catch (error) {
+      if (!(error instanceof BadStep)) throw error;
+      this.panels.status({ text: error.message, sort: "bad" }, "");
+    }
+  }
+
+  async share() {
+    try {
+      const link = await packed(this.play.parts);
+      history.replaceState(null, "", `#${link}`);
+      await navigator.clipboard.writeText(location.href);
+      at("shared").textContent = "the link is copied";
+    } catch (error) {
+      const isLong = error instanceof BadLink;
+      at("shared").textContent = isLong ? `there is no link: ${error.message}` : "the link is in the address";
+    }
+  }
+
+  // Takes what the address holds. A bad link changes nothing; whether it was good, or nothing where there is none.
+  async openLink() {
+    try {
+      const play = await unpacked(location.hash.slice(1));
+      if (!play) return null;
+      this.play.replace(play, this.isEdited() ? "The files were replaced by those of the link." : null);
+      this.example = JSON.stringify(this.play.parts);
+      at("examples").selectedIndex = -1;
+      this.run(false);
+      return true;
+    } catch (error) {
+      if (!(error instanceof BadLink)) throw error;
+      this.panels.status({ text: `the link is bad: ${error.message}`, sort: "bad" }, "");
+      return false;
+    }
+  }
+
+  // Begins with what was kept, or with the first example; then a link takes their place.
+  async begin() {
+    const kept = this.keeper.kept();
+    this.play.replace(kept ?? this.examples[0]);
+    const found = this.examples.findIndex(({ files, how, file, steps }) =>
+      JSON.stringify({ files, how, file, steps }) === JSON.stringify(this.play.parts));
+    if (found >= 0) this.example = JSON.stringify(this.play.parts);
+    at("examples").selectedIndex = found;
+    if (this.play.before) this.play.tell("before");
+    this.listen();
+    if (!hasMemory64()) return this.panels.status({ text: NEEDS, sort: "bad" }, "");
+    this.running = new Running(this.play, this.words, this.seen);
+    at("run").disabled = at("share").disabled = false;
+    if ((await this.openLink()) === null) this.run(false);
+    return undefined;
   }
 }
 
-// What is shown of each journal from now on.
-function want(name) {
-  wanted = name;
-  view(name);
-}
-
-function tell(said, isBad = false) {
-  at("status").textContent = said;
-  at("status").classList.toggle("bad", isBad);
-}
-
-// What is run, as the words of a command, and the world that it plays, if it plays one.
-function request() {
-  const file = at("file").value;
-  if (how() === "once") return { word: "once", file, all: files.files, world: worldOfOnce(file) };
-  if (how() === "check") return { word: "check", file, all: files.files };
-  if (how() === "replay") return { word: "replay", file, all: files.files, world: files.textOf(file) };
-  const world = stagedWorld(file, at("steps").value);
-  const name = files.freeName(STAGED);
-  return { word: "replay", file: name, all: [...files.files, [name, world]], world };
-}
-
-async function run() {
-  if (isRunning || at("run").disabled) return;
-  setRunning(true);
-  try {
-    await play(request());
-  } catch (error) {
-    if (!(error instanceof BadStep)) throw error;
-    tell(error.message, true);
-  } finally {
-    setRunning(false);
-  }
-}
-
-function setRunning(running) {
-  isRunning = running;
-  at("run").disabled = running;
-  at("stop").disabled = !running;
-  if (running) tell("running ..");
-}
-
-async function play(asked) {
-  const ran = await runner.run(asked.word, asked.file, asked.all);
-  if (ran.error) return tell(ran.error, true);
-  const output = new TextDecoder().decode(ran.output);
-  const count = output.split("\n").length - 1;
-  const lines = `${count} line${count === 1 ? "" : "s"} in ${ran.milliseconds.toFixed(1)} ms`;
-  tell(`status ${ran.status}: ${MEANINGS[ran.status]}; ${lines}`, ran.status !== 0);
-  showOutput(output);
-  showFault(REFUSED.includes(ran.status) ? explained(output, asked.all, words) : null);
-  await draw(asked, ran.status === 0 && asked.world !== undefined ? output : "");
-}
-
-function showOutput(output) {
-  const more = output.length > MOST_SHOWN ? `\n.. and ${output.length - MOST_SHOWN} more characters` : "";
-  at("journal").textContent = output.slice(0, MOST_SHOWN) + more;
-}
-
-function showFault(fault) {
-  at("fault").hidden = fault === null;
-  at("fault").textContent = fault?.said ?? "";
-  if (fault) files.mark(fault.name, fault.line, fault.place);
-}
-
-// Draws a journal, with its steps where a second world tells them.
-async function draw(asked, output) {
-  const isDrawn = output !== "" && output.length < MOST_DRAWN;
-  at("told").textContent = "";
-  if (!isDrawn) {
-    await frame("");
-    return view("journal");
-  }
-  const world = readWorld(asked.world);
-  const entries = readJournal(output);
-  const data = timelineOf(entries, world, await stepsOf(asked, world, output));
-  const title = world.objects.map(it => it.name).filter(it => it).slice(0, 4).join(", ");
-  await frame(timelinePage(template, title || "Journal", data));
-  at("told").textContent = linesOf(data).join("\n").slice(0, MOST_SHOWN);
-  view(wanted);
-}
-
-// Shows a page in the frame of the timeline.
-function frame(text) {
-  return new Promise(resolve => {
-    at("timeline").addEventListener("load", resolve, { once: true });
-    at("timeline").srcdoc = text;
-  });
-}
-
-async function stepsOf(asked, world, output) {
-  const marked = markedWorld(asked.world);
-  if (!marked) return null;
-  const name = files.freeName("marked.world");
-  const ran = await runner.run("replay", name, [...asked.all, [name, marked.text], marked.file]);
-  if (ran.status !== 0) return null;
-  const { kept, steps } = withoutMarks(readJournal(new TextDecoder().decode(ran.output)), world, marked.stride);
-  return JSON.stringify(kept) === JSON.stringify(readJournal(output)) ? steps : null;
-}
-
-async function share() {
-  const play = { files: files.files, how: how(), file: at("file").value, steps: at("steps").value };
-  history.replaceState(null, "", `#${await packed(play)}`);
-  try {
-    await navigator.clipboard.writeText(location.href);
-    at("shared").textContent = "the link is copied";
-  } catch {
-    at("shared").textContent = "the link stands in the address";
-  }
-}
-
-function listExamples() {
+function listExamples(examples) {
   const groups = new Map();
   examples.forEach(({ group, title }, place) => {
     if (!groups.has(group)) groups.set(group, Object.assign(document.createElement("optgroup"), { label: group }));
@@ -170,53 +184,7 @@ function listExamples() {
   at("examples").replaceChildren(...groups.values());
 }
 
-// What the fragment holds, or else the first example.
-async function open() {
-  let play = null;
-  try {
-    play = await unpacked(location.hash.slice(1));
-  } catch (error) {
-    tell(`the link can't be read: ${error.message}`, true);
-  }
-  show(play ?? examples[0]);
-  at("examples").selectedIndex = play ? -1 : 0;
-}
-
-function listen() {
-  at("run").addEventListener("click", run);
-  at("stop").addEventListener("click", () => runner.stop());
-  at("share").addEventListener("click", share);
-  at("examples").addEventListener("change", () => {
-    show(examples[Number(at("examples").value)]);
-    run();
-  });
-  at("hows").addEventListener("change", event => event.target.name === "how" && offer());
-  at("world").addEventListener("click", makeWorld);
-  for (const tab of at("views").children) tab.addEventListener("click", () => want(tab.dataset.view));
-  addEventListener("hashchange", () => open().then(run));
-  addEventListener("keydown", event => event.key === "Enter" && (event.ctrlKey || event.metaKey) && run());
-}
-
-function makeWorld() {
-  const name = files.put(STAGED, stagedWorld(at("file").value, at("steps").value));
-  document.querySelector("input[name=how][value=replay]").checked = true;
-  offer();
-  at("file").value = name;
-}
-
-async function begin() {
-  at("help").textContent = STEPS_HELP;
-  view(wanted);
-  [examples, words] = await Promise.all([made("examples.json"), made("faults.json")]);
-  template = await (await fetch("timeline.html")).text();
-  listExamples();
-  listen();
-  document.querySelector("input[name=how]").checked = true;
-  await open();
-  if (!hasMemory64()) return tell(NEEDS, true);
-  runner = new Runner();
-  at("run").disabled = at("share").disabled = false;
-  await run();
-}
-
-begin();
+const [examples, words] = await Promise.all([made("examples.json"), made("words.json")]);
+at("help").textContent = stepsHelp(words.steps);
+listExamples(examples);
+await new Page(examples, words).begin();

@@ -1,33 +1,68 @@
-// Hands requests to a worker, one at a time, and ends the worker where one is to be stopped.
+// Hands requests to two workers: one runs a request and reads its journal, and the other runs the same world again for its
+// steps and lines. Both are ended where a run is stopped.
+
+async function compiled() {
+  const answer = await fetch("lsl_page.wasm");
+  if (!answer.ok) throw new Error(`lsl_page.wasm isn't there (${answer.status}): make it by tools/page build`);
+  return WebAssembly.compile(await answer.arrayBuffer());
+}
 
 export class Runner {
-  constructor() {
-    this.number = 0;
+  // `heard` is called with each answer that belongs to the last run.
+  constructor(heard) {
+    Object.assign(this, { number: 0, heard });
+    this.module = compiled();
     this.start();
   }
 
   start() {
-    this.worker = new Worker("worker.js", { type: "module" });
-    this.worker.addEventListener("message", ({ data }) => {
-      if (data.number === this.number && this.answer) this.answer(data);
+    [this.first, this.second] = [0, 1].map(() => {
+      const worker = new Worker("worker.js", { type: "module" });
+      worker.addEventListener("message", ({ data }) => data.number === this.number && this.hear(data));
+      worker.addEventListener("error", ({ message }) => this.fail(message || "the worker didn't start"));
+      this.module.then(module => worker.postMessage({ module }), error => this.fail(error.message));
+      return worker;
     });
-    const failed = ({ message }) => this.answer?.({ error: message || "the worker didn't start" });
-    this.worker.addEventListener("error", failed);
   }
 
-  // What came of a request: `status`, `output` as bytes and `milliseconds`, or an `error`.
-  run(word, file, files) {
+  fail(error) {
+    this.hear({ kind: "failed", error });
+  }
+
+  hear(answer) {
+    if (answer.kind === "marked") {
+      const { text, steps } = answer;
+      this.first.postMessage({ number: this.number, task: "addSteps", text, steps }, [steps.buffer]);
+    } else {
+      this.heard(answer);
+    }
+  }
+
+  // Runs `{word, file, files, world}`.
+  async run(asked) {
     this.number += 1;
-    return new Promise(resolve => {
-      this.answer = resolve;
-      this.worker.postMessage({ number: this.number, word, file, files });
-    });
+    const { number } = this;
+    await this.module.catch(() => null);
+    if (number !== this.number) return;
+    this.first.postMessage({ number, task: "run", ...asked });
+    if (asked.world !== undefined && asked.word !== "freeze") {
+      this.second.postMessage({ number, task: "mark", files: asked.files, world: asked.world });
+    }
+  }
+
+  // Asks for the lines at which scripts stopped or were cut.
+  locate(asked) {
+    this.second.postMessage({ number: this.number, task: "locate", ...asked });
+  }
+
+  save() {
+    this.first.postMessage({ number: this.number, task: "save" });
   }
 
   stop() {
-    this.worker.terminate();
+    this.number += 1;
+    this.first.terminate();
+    this.second.terminate();
     this.start();
-    this.answer?.({ error: "stopped" });
-    this.answer = undefined;
   }
 }

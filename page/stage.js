@@ -1,19 +1,23 @@
-// A world that is made of steps, which are written line by line as for `lsl play`.
+// A world that is made of steps, which are written line by line as for `lsl play`. Their forms and the ranges of their
+// numbers are data (tools/words/steps.json).
 import { quoted } from "./quoting.js";
-
-export const STEPS_HELP = `touch [NAME] [LINK]    say [CHANNEL] TEXT    by NAME: who touches and says from now on
-wait [TIME]: 10s, 2m, 500ms    changed FLAGS    rez N    run TICKS`;
 
 const UNITS = { ms: 1, s: 1000, "": 1000, m: 60000, h: 3600000 };
 const MOST_CLOCK = 2147483647999;
-const MOST_LINK = 255;
+const WIDTH = 24;
 
 const padded = number => number.toString(16).padStart(12, "0");
-const person = number => `00000000-0000-4000-8000-${padded(number)}`;
-const prim = number => `00000000-0000-4000-9000-${padded(number)}`;
+export const person = number => `00000000-0000-4000-8000-${padded(number)}`;
+export const prim = number => `00000000-0000-4000-9000-${padded(number)}`;
 
 // A line that is no step.
 export class BadStep extends Error {}
+
+// The forms of the lines, two in each line of the help.
+export function stepsHelp({ lines }) {
+  const forms = Object.values(lines).map(({ form, does }) => `${form.padEnd(WIDTH)}${does}`);
+  return forms.join("\n");
+}
 
 function milliseconds(text) {
   const found = /^([0-9]+(?:\.[0-9]+)?)(ms|s|m|h|)$/.exec(text);
@@ -21,17 +25,9 @@ function milliseconds(text) {
   return Math.floor(Number(found[1]) * UNITS[found[2]] + 0.5);
 }
 
-function number(text, name) {
-  const value = Number(text);
-  if (!/^-?[0-9]{1,10}$/.test(text) || value < -(2 ** 31) || value >= 2 ** 31) {
-    throw new BadStep(`'${text}' is no number for ${name}`);
-  }
-  return value;
-}
-
 class Stage {
-  constructor(file) {
-    Object.assign(this, { file, steps: [], ticks: 10000, clock: 0, prims: 1, people: new Map(), by: null });
+  constructor(file, words) {
+    Object.assign(this, { file, words, steps: [], ticks: 10000, clock: 0, prims: 1, people: new Map(), by: null });
     this.owner = this.keyOf("Owner");
     this.run();
   }
@@ -40,6 +36,13 @@ class Stage {
   keyOf(name) {
     if (!this.people.has(name)) this.people.set(name, person(this.people.size + 1));
     return this.people.get(name);
+  }
+
+  number(text, name) {
+    const [least, greatest] = this.words["line ranges"][name];
+    const value = Number(text);
+    if (/^-?[0-9]{1,10}$/.test(text) && value >= least && value <= greatest) return value;
+    throw new BadStep(`'${text}' is no number for ${name}: ${least} to ${greatest}`);
   }
 
   run() {
@@ -51,7 +54,7 @@ class Stage {
     const [, word, rest] = /^(\S*)\s*(.*?)$/s.exec(line.trim());
     if (word === "" || word.startsWith("#")) return;
     if (word === "by") this.by = rest || null;
-    else if (word === "run") this.ticks = number(rest, "run");
+    else if (word === "run") this.ticks = this.number(rest, "run");
     else {
       this.steps.push(this.step(word, rest));
       this.run();
@@ -65,14 +68,13 @@ class Stage {
       this.clock = Math.min(this.clock + milliseconds(rest || "1s"), MOST_CLOCK);
       return `clock ${this.clock}`;
     }
-    if (word === "changed" || word === "rez") return `${word} 1 ${number(rest, word)}`;
+    if (word === "changed" || word === "rez") return `${word} 1 ${this.number(rest, word)}`;
     throw new BadStep(`'${word}' is no step`);
   }
 
   touch(rest) {
     const [, said, digits] = /^(.*?)\s*([0-9]*)$/s.exec(rest);
-    const link = digits ? number(digits, "link") : 1;
-    if (link < 1 || link > MOST_LINK) throw new BadStep(`a link number is 1 to ${MOST_LINK}`);
+    const link = digits ? this.number(digits, "link") : 1;
     const name = said || this.by || "Someone";
     this.by = name;
     this.prims = Math.max(this.prims, link);
@@ -81,7 +83,7 @@ class Stage {
 
   say(rest) {
     const [, digits, text] = /^(?:(-?[0-9]+)\s+(?=\S))?(.*)$/s.exec(rest);
-    const channel = digits ? number(digits, "channel") : 0;
+    const channel = digits ? this.number(digits, "channel") : 0;
     const name = this.by || "Someone";
     return `say ${channel} ${quoted(name)} ${this.keyOf(name)} ${quoted(text)}`;
   }
@@ -95,9 +97,16 @@ class Stage {
   }
 }
 
-// The world file in which one script goes through these steps.
-export function stagedWorld(file, lines) {
-  const stage = new Stage(file);
-  for (const line of lines.split("\n")) stage.read(line);
+// The world file in which one script goes through these steps. `words` is the table of steps.
+export function stagedWorld(file, lines, words) {
+  const stage = new Stage(file, words);
+  for (const [at, line] of lines.split("\n").entries()) {
+    try {
+      stage.read(line);
+    } catch (error) {
+      if (error instanceof BadStep) error.message = `step ${at + 1}: ${error.message}`;
+      throw error;
+    }
+  }
   return stage.text();
 }

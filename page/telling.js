@@ -1,29 +1,28 @@
-// A journal's lines and a world's steps in plain words, with names in place of numbers and keys.
-import { eventOf, fields } from "./journal.js";
+// A journal's lines and a world's steps in plain words, with names in place of numbers and keys. The phrases are data
+// (tools/words), which tools/lslkit/telling.py fills the same way.
+import { CHAT, CLEAR, DONE, DROP, FAULT, HOME, OWNER, TOOK, fields } from "./journal.js";
 import { quoted } from "./quoting.js";
+import { filled } from "./words.js";
 import { KEY } from "./worlds.js";
 
 const MOST_SHOWN = 240;
-const VOICES = { say: "says", whisper: "whispers", shout: "shouts", region: "says in the region" };
-const GONE = "; waiting events that are gone:";
 const WHOLE_KEY = new RegExp(`^${KEY.source}$`);
 const EACH_KEY = new RegExp(KEY.source, "g");
 
 // A text that is shown in a line of its own, or its front.
 function cut(text) {
+  if (text.length <= MOST_SHOWN) return text;
   const signs = Array.from(text);
   return signs.length <= MOST_SHOWN ? text : signs.slice(0, MOST_SHOWN).join("") + "..";
 }
 
-const segments = count => `${count} segment${count === "1" ? "" : "s"}`;
 const grouped = number => number.replace(/\B(?=(\d{3})+$)/g, ",");
-const regionName = region => region || '""';
 
 export function seconds(milliseconds) {
   return `${Math.floor(milliseconds / 1000)}.${String(milliseconds % 1000).padStart(3, "0")}`;
 }
 
-// The clock behind each step, in milliseconds.
+// The clock after each step, in milliseconds.
 export function clocksOf(world) {
   let clock = 0;
   return world.steps.map(step => {
@@ -32,26 +31,26 @@ export function clocksOf(world) {
   });
 }
 
-// What a `pause` step asks for.
-function pauses(gaps) {
-  if (gaps.length === 1 && gaps[0] === "0") return "no pauses from now on";
-  const each = gaps.length === 1 ? `each ${segments(gaps[0])}` : `by gaps of ${gaps.join(", ")} segments`;
-  return `pauses from now on, ${each}`;
-}
-
-// The names of a world's scripts and objects, and of those whose keys come up in it.
+// The names of a world's scripts and objects, and of those whose keys come up in it. `words` are the tables of
+// tools/words, and `known` what was found before in the world's steps.
 export class Names {
-  constructor(world) {
-    this.world = world;
-    const names = world.scripts.map(it => it.name);
-    const isAlone = name => name !== "" && names.indexOf(name) === names.lastIndexOf(name);
-    this.scripts = names.map((name, at) => (isAlone(name) ? name : `${name} (${at + 1})`));
+  constructor(world, words, known) {
+    Object.assign(this, { world, words });
+    const counts = new Map();
+    for (const { name } of world.scripts) counts.set(name, (counts.get(name) ?? 0) + 1);
+    const isAlone = name => name !== "" && counts.get(name) === 1;
+    this.scripts = world.scripts.map(({ name }, at) => (isAlone(name) ? name : `${name} (${at + 1})`));
+    if (known) Object.assign(this, known);
+    else this.readSteps();
+  }
+
+  readSteps() {
     this.keys = new Map();
-    const prims = world.objects.flatMap(it => it.prims);
+    const prims = this.world.objects.flatMap(it => it.prims);
     for (const { key, name } of prims) if (name) this.keys.set(key, name);
-    for (const { word, fields: words } of world.steps) {
-      if (word === "say") this.addKey(words[2], words[1]);
-      if (word === "touch") this.addKey(words[2], words[3]);
+    for (const { word, fields: said } of this.world.steps) {
+      if (word === "say") this.addKey(said[2], said[1]);
+      if (word === "touch") this.addKey(said[2], said[3]);
     }
     this.followCrossings();
   }
@@ -64,23 +63,35 @@ export class Names {
   followCrossings() {
     this.ways = new Map();
     this.homes = new Map(this.world.objects.map((it, at) => [at + 1, it.region]));
-    for (const { line, word, fields: words } of this.world.steps) {
+    for (const { line, word, fields: said } of this.world.steps) {
       if (word !== "cross") continue;
-      this.ways.set(line, this.homes.get(Number(words[0])));
-      this.homes.set(Number(words[0]), words[1]);
+      this.ways.set(line, this.homes.get(Number(said[0])));
+      this.homes.set(Number(said[0]), said[1]);
     }
   }
 
+  say(name, values) {
+    return filled(this.words.journal[name], values ?? {});
+  }
+
+  sayStep(name, values) {
+    return filled(this.words.steps.says[name], values);
+  }
+
   script(number) {
-    return this.scripts[number - 1] ?? `script ${number}`;
+    return this.scripts[number - 1] ?? this.say("script", { number });
   }
 
-  objectName(number) {
-    return this.world.objects[number - 1]?.prims[0].name ?? `object ${number}`;
+  object(number) {
+    return this.world.objects[number - 1]?.prims[0].name ?? this.say("object", { number });
   }
 
-  primName(number, link) {
-    return this.world.objects[number - 1]?.prims[Math.max(link, 1) - 1]?.name ?? `prim ${link}`;
+  prim(number, link) {
+    return this.world.objects[number - 1]?.prims[Math.max(link, 1) - 1]?.name ?? this.say("prim", { number: link });
+  }
+
+  region(name) {
+    return name || this.say("no name");
   }
 
   // A value as it is shown: known keys by their names.
@@ -96,54 +107,80 @@ export class Names {
     return name === undefined ? key : `<${name}>`;
   }
 
-  event(entry) {
-    const [event, args] = eventOf(entry);
+  event(journal, line) {
+    const [event, args] = journal.event(line);
     return `${event}(${fields(args).map(it => this.value(...it)).join(", ")})`;
   }
 
-  // A line of the journal, without its script's name.
-  entry(entry) {
-    const { word, rest } = entry;
+  // A line of the journal, without its script's name. `state` is the one of a `clear`, where it is known.
+  entry(journal, line, state) {
+    const rest = journal.rest(line);
     const words = () => fields(rest).map(it => it[0]);
-    if (word === "took") return this.event(entry);
-    if (word === "drop") return `loses ${this.event(entry)}: 64 events wait`;
-    if (word === "clear") return "in a new state, or reset" + (rest === "0" ? "" : `${GONE} ${rest}`);
-    if (word === "chat") {
-      const [voice, channel, text] = words();
-      return `${VOICES[voice] ?? voice} on ${channel}: ${this.value(text, true)}`;
+    switch (journal.kinds[line]) {
+      case TOOK: return this.say("took", { event: this.event(journal, line) });
+      case DROP: return this.say("drop", { event: this.event(journal, line) });
+      case CLEAR: return this.clear(rest, state);
+      case CHAT: return this.chat(...words());
+      case OWNER: return this.say("owner", { text: this.value(words()[0], true) });
+      case DONE: return this.say("done", { charge: grouped(rest) });
+      case FAULT: return this.say("fault", { reason: words()[0] });
+      case HOME: return this.home(journal.numbers[line], words()[0]);
+      default: return `${journal.word(line)} ${cut(rest)}`;
     }
-    if (word === "owner") return `to its owner: ${this.value(words()[0], true)}`;
-    if (word === "done") return `done, ${grouped(rest)} bytes`;
-    if (word === "fault") return `stops for good: ${words()[0]}`;
-    if (word === "home") return this.home(entry.number, words()[0]);
-    return `${word} ${rest}`;
+  }
+
+  clear(count, state) {
+    const said = state ? this.say("clear in", { state }) : this.say("clear");
+    return count === "0" ? said : this.say("clear gone", { said, count });
+  }
+
+  chat(voice, channel, text) {
+    const name = `chat ${voice}` in this.words.journal ? `chat ${voice}` : "chat";
+    return this.say(name, { voice, channel, text: this.value(text, true) });
   }
 
   home(number, region) {
     const wanted = this.homes.get(number);
-    const more = wanted === undefined || wanted === region ? "" : `, and didn't get to ${regionName(wanted)}`;
-    return `${this.objectName(number)} is in ${regionName(region)}${more}`;
+    const values = { object: this.object(number), region: this.region(region), wanted: this.region(wanted) };
+    return this.say(wanted === undefined || wanted === region ? "home" : "home missed", values);
   }
 
   crossing(number, region, left) {
-    if (left === region) return `${this.objectName(number)} stays in ${regionName(region)}, where it is already`;
-    const from = left === undefined ? "" : `from ${regionName(left)} `;
-    return `${this.objectName(number)} crosses ${from}to ${regionName(region)}`;
+    const name = left === region ? "cross stays" : left === undefined ? "cross" : "cross from";
+    const values = { object: this.object(number), region: this.region(region), left: this.region(left) };
+    return this.sayStep(name, values);
+  }
+
+  segments(count) {
+    return this.sayStep(count === "1" ? "segment" : "segments", { count });
+  }
+
+  pauses(gaps) {
+    if (gaps.length === 1 && gaps[0] === "0") return this.sayStep("pause end", {});
+    if (gaps.length === 1) return this.sayStep("pause", { segments: this.segments(gaps[0]) });
+    return this.sayStep("pause gaps", { gaps: gaps.join(", ") });
+  }
+
+  touch(number, link, name) {
+    const values = { name, object: this.object(number), link };
+    return link > 1 ? this.sayStep("touch prim", { ...values, prim: this.prim(number, link) })
+      : this.sayStep("touch", values);
   }
 
   // A step of the world file.
-  step({ line, word, fields: words }) {
-    if (word === "say") return `${words[1] || "someone"} says on ${words[0]}: ${quoted(cut(words[3]))}`;
-    if (word === "touch") {
-      const [number, link] = [Number(words[0]), Number(words[1])];
-      const more = link > 1 ? `, prim ${link} (${this.primName(number, link)})` : "";
-      return `${words[3] || "someone"} touches ${this.objectName(number)}${more}`;
+  step({ line, word, fields: said }) {
+    const someone = name => name || this.say("someone");
+    switch (word) {
+      case "say": return this.sayStep("say", { name: someone(said[1]), channel: said[0], text: quoted(cut(said[3])) });
+      case "touch": return this.touch(Number(said[0]), Number(said[1]), someone(said[3]));
+      case "clock": return this.sayStep("clock", { seconds: seconds(Number(said[0])) });
+      case "cross": return this.crossing(Number(said[0]), said[1], this.ways.get(line));
+      case "pause": return this.pauses(said);
+      case "changed":
+      case "rez": return this.sayStep(word, { object: this.object(Number(said[0])), number: said[1] });
+      case "go": return this.sayStep("go", { script: this.script(Number(said[0])), segments: this.segments(said[1]) });
+      case "run": return this.sayStep("run", { segments: this.segments(said[0]) });
+      default: return [word, ...said].join(" ");
     }
-    if (word === "clock") return `the clock goes to ${seconds(Number(words[0]))} s`;
-    if (word === "cross") return this.crossing(Number(words[0]), words[1], this.ways.get(line));
-    if (word === "pause") return pauses(words);
-    if (word === "changed" || word === "rez") return `${this.objectName(Number(words[0]))}: ${word} ${words[1]}`;
-    if (word === "go") return `${this.script(Number(words[0]))} runs, at most ${segments(words[1])}`;
-    return word === "run" ? `all run, at most ${segments(words[0])}` : [word, ...words].join(" ");
   }
 }

@@ -1,11 +1,11 @@
 """The folder out/page, which any server of files can serve: the page in the browser, its module, the examples to choose
-from, the words of the faults, and what draws timelines."""
+from, and the words that it shares with the tools."""
 import glob
 import json
 import os
 import shutil
 
-from . import faults, timeline, webmodule, worlds
+from . import faults, highlighting, tables, webmodule, words, worlds
 from .places import in_top, text_of, write_text
 
 FOLDER = os.path.dirname(webmodule.MODULE)
@@ -57,6 +57,38 @@ def meanings():
     return {number: words for number, words in found.items() if words != faults.meaning(0)}
 
 
+def named_words():
+    """For each call, event and constant its sort, its signature and a line of what it does."""
+    found = {}
+    for sort, table in (("call", tables.calls()), ("event", tables.events()), ("constant", tables.constants())):
+        said = words.table_or_none(f"{sort}s") or {}
+        for name, row in table.items():
+            known = said.get(name, {})
+            signature = f"{row.kind} {name} = {row.value}" if sort == "constant" else call_of(row, known.get("params"))
+            found[name] = {"sort": sort, "signature": signature, "does": known.get("does", "")}
+    return found
+
+
+def call_of(row, names):
+    """A call or an event with the kinds and the names of its parameters."""
+    names = names if names and len(names) == len(row.params) else [""] * len(row.params)
+    params = ", ".join(f"{kind} {name}".rstrip() for kind, name in zip(row.params, names))
+    result = getattr(row, "result", None)
+    return f"{result + ' ' if result else ''}{row.name}({params})"
+
+
+def shared_words():
+    """The tables that the page reads: phrases, steps, faults, names, and the grammar for their colours."""
+    said = {number: {"says": it} for number, it in meanings().items()}
+    shared = {name: words.table_or_none(name) for name in ("journal", "steps", "habits", "substitutes")}
+    return {
+        **{name: it for name, it in shared.items() if it},
+        "faults": words.table_or_none("faults") or said,
+        "names": named_words(),
+        "grammar": highlighting.textmate(),
+    }
+
+
 def write(path, text):
     write_text(os.path.join(FOLDER, path), text)
 
@@ -64,11 +96,13 @@ def write(path, text):
 def make():
     """Writes all files of the folder but the module."""
     os.makedirs(FOLDER, exist_ok=True)
+    for path in glob.glob(os.path.join(FOLDER, "*.*")):
+        if not os.path.basename(path).startswith(os.path.basename(webmodule.MODULE)):
+            os.remove(path)
     for path in glob.glob(in_top("page", "*.*")):
         if os.path.basename(path) not in ASIDE:
             shutil.copyfile(path, os.path.join(FOLDER, os.path.basename(path)))
     how = webmodule.made_as() or "unproved"
     write("index.html", text_of("page", "index.html").replace(PROVED, PROVED.replace("proved", how)))
     write("examples.json", json.dumps(examples()))
-    write("faults.json", json.dumps(meanings()))
-    shutil.copyfile(timeline.TEMPLATE, os.path.join(FOLDER, "timeline.html"))
+    write("words.json", json.dumps(shared_words()))

@@ -12,6 +12,14 @@ def table(name):
     return json.loads(text_of("tools", "words", f"{name}.json"))
 
 
+def table_or_none(name):
+    """The table of this name, where there is one."""
+    try:
+        return table(name)
+    except OSError:
+        return None
+
+
 def filled(phrase, fields):
     """A phrase with its fields. page/words.js does the same."""
     return re.sub(r"\{(\w+)\}", lambda it: str(fields.get(it[1], it[0])), phrase)

@@ -1,0 +1,232 @@
+// Draws a chart on its canvas.
+import { CUT, STOPPED } from "./handlers.js";
+import { LANE, MARKS, TOP, lowest } from "./chart.js";
+
+const COLOURS = ["ground", "band", "line", "text", "faint", "done", "fault", "cut", "said", "step", "mark", "on"];
+const MOST_ARROWS = 500;
+const CHARACTER = 6.5;
+const FONT = "12px system-ui, sans-serif";
+
+function fitting(text, room) {
+  if (room < 14) return "";
+  const most = Math.floor(room / CHARACTER);
+  return text.length > most ? text.slice(0, Math.max(1, most - 1)) + "\u2026" : text;
+}
+
+export class Drawing {
+  constructor(chart) {
+    const { canvas } = chart;
+    Object.assign(this, { chart, canvas, pen: canvas.getContext("2d"), colours: {} });
+  }
+
+  draw() {
+    const { chart, canvas, pen } = this;
+    const ratio = devicePixelRatio || 1;
+    const [width, height] = [Math.round(chart.width * ratio), Math.round(chart.height * ratio)];
+    if (canvas.width !== width || canvas.height !== height) Object.assign(canvas, { width, height });
+    const style = getComputedStyle(document.documentElement);
+    for (const name of COLOURS) this.colours[name] = style.getPropertyValue(`--${name}`).trim();
+    pen.setTransform(ratio, 0, 0, ratio, 0, 0);
+    pen.fillStyle = this.colours.ground;
+    pen.fillRect(0, 0, chart.width, chart.height);
+    pen.font = FONT;
+    pen.textBaseline = "middle";
+    this.drawLanes();
+    this.drawSteps();
+    for (const [top, draw] of [[TOP, "drawHandlers"], [22, "drawArrows"], [TOP, "drawMarks"], [TOP, "drawCrossings"]]) {
+      pen.save();
+      pen.beginPath();
+      pen.rect(chart.left, top, chart.width, chart.height);
+      pen.clip();
+      this[draw]();
+      pen.restore();
+    }
+    this.drawNames();
+  }
+
+  drawLine(x, y, toX, toY) {
+    this.pen.beginPath();
+    this.pen.moveTo(x, y);
+    this.pen.lineTo(toX, toY);
+    this.pen.stroke();
+  }
+
+  isSeen(y) {
+    return y >= TOP - LANE && y <= this.chart.height;
+  }
+
+  drawLanes() {
+    const { chart, pen } = this;
+    pen.fillStyle = this.colours.band;
+    for (let script = 1; script <= chart.lanes.length; script += 2) {
+      const y = chart.laneY(script);
+      if (this.isSeen(y)) pen.fillRect(chart.left, Math.max(y, TOP), chart.width, LANE);
+    }
+  }
+
+  drawSteps() {
+    const { chart } = this;
+    let [right, drawn] = [chart.left, -Infinity];
+    for (let at = Math.max(0, chart.groupAt(Math.ceil(chart.from) - 1)); at < chart.groups.length; at++) {
+      const x = Math.max(chart.xOf(chart.groupPlace(at)), chart.left);
+      if (x > chart.width) break;
+      const [mark, hasText] = [chart.groupMarks[at], x >= right];
+      if (x - drawn < 6 && !mark && !hasText) continue;
+      drawn = x;
+      this.drawStepLine(x, mark, hasText);
+      if (hasText) right = this.drawStepText(at, x, mark);
+    }
+  }
+
+  drawStepLine(x, mark, hasText) {
+    const head = mark ? 0 : hasText ? 22 : TOP;
+    for (const [top, low, isMark] of [[head, TOP, mark > 0], [TOP, this.chart.height, mark > 1]]) {
+      this.pen.strokeStyle = isMark ? this.colours.mark : this.colours.line;
+      this.drawLine(x, top, x, low);
+    }
+  }
+
+  // Draws the texts of a group, and answers up to where they go.
+  drawStepText(at, x, mark) {
+    const { chart, pen } = this;
+    const isLast = at + 1 >= chart.groups.length;
+    const room = Math.max((isLast ? chart.width : chart.xOf(chart.groupPlace(at + 1))) - x, 60);
+    const said = fitting(chart.groupTexts(at).join("; "), Math.min(room, 320) - 8);
+    pen.fillStyle = mark ? this.colours.mark : this.colours.step;
+    pen.fillText(said, x + 3, 30);
+    pen.fillStyle = this.colours.faint;
+    pen.fillText(chart.groupClock(at), x + 3, 12);
+    return Math.min(x + Math.max(60, pen.measureText(said).width + 12), x + room);
+  }
+
+  drawHandlers() {
+    const { chart } = this;
+    const last = chart.lineAt(chart.width);
+    const { begins } = chart.scene.handlers;
+    chart.lanes.forEach((lane, number) => {
+      const y = chart.laneY(number + 1);
+      if (!this.isSeen(y)) return;
+      let drawn = -1;
+      const first = Math.max(0, lowest(lane.length, chart.from, it => begins[lane[it]]) - 1);
+      for (let at = first; at < lane.length && begins[lane[at]] <= last; at++) {
+        const x = chart.xOf(begins[lane[at]]);
+        const right = Math.max(chart.xOf(chart.endOf(lane[at])) - 1, x + 1);
+        if (right - drawn < 1 && chart.scene.handlers.endings[lane[at]] === 0) continue;
+        drawn = right;
+        this.drawHandler(lane[at], x, right, y);
+      }
+    });
+  }
+
+  drawHandler(handler, x, right, y) {
+    const { chart, pen } = this;
+    const { begins, endings } = chart.scene.handlers;
+    const ending = { [STOPPED]: "fault", [CUT]: "cut" }[endings[handler]] ?? "done";
+    pen.fillStyle = this.colours[ending];
+    pen.fillRect(x, y + 6, right - x, LANE - 12);
+    if (begins[handler] === chart.picked) {
+      pen.strokeStyle = this.colours.text;
+      pen.lineWidth = 2;
+      pen.strokeRect(x, y + 5, right - x, LANE - 10);
+      pen.lineWidth = 1;
+    }
+    if (right - x <= 26) return;
+    pen.fillStyle = ending === "done" ? this.colours.on : this.colours.ground;
+    const left = Math.max(x, chart.left);
+    pen.fillText(fitting(chart.scene.entry(begins[handler]), right - left - 8), left + 4, y + LANE / 2);
+  }
+
+  // Arrows are drawn where there are few enough of them to be seen.
+  drawArrows() {
+    const { chart } = this;
+    const { arrows } = chart.scene;
+    const last = chart.lineAt(chart.width);
+    const seen = [];
+    for (let at = 0; at < arrows.length; at += 2) {
+      const start = arrows[at] < 0 ? -arrows[at] - 1 : arrows[at];
+      if (arrows[at + 1] < chart.from || start > last) continue;
+      seen.push(at);
+      if (seen.length > MOST_ARROWS) return;
+    }
+    this.pen.strokeStyle = this.pen.fillStyle = this.colours.said;
+    for (const at of seen) this.drawArrow(arrows[at], arrows[at + 1]);
+  }
+
+  drawArrow(source, target) {
+    const { chart, pen } = this;
+    const { numbers } = chart.scene.journal;
+    const x = chart.xOf(source < 0 ? -source - 1 : source + 0.5);
+    const y = source < 0 ? 36 : chart.laneY(numbers[source]) + LANE / 2;
+    const [right, below] = [chart.xOf(target), chart.laneY(numbers[target]) + LANE / 2];
+    const bend = Math.max(10, (right - x) / 2);
+    pen.beginPath();
+    pen.moveTo(x, y);
+    pen.bezierCurveTo(x + bend, y, right - bend, below, right, below);
+    pen.stroke();
+    pen.beginPath();
+    pen.moveTo(right, below);
+    pen.lineTo(right - 6, below - 4);
+    pen.lineTo(right - 6, below + 4);
+    pen.fill();
+  }
+
+  drawMarks() {
+    const { chart, pen } = this;
+    const { kinds, numbers } = chart.scene.journal;
+    const last = Math.min(chart.total, Math.ceil(chart.lineAt(chart.width)));
+    const isClose = chart.scale > 5;
+    pen.textAlign = "center";
+    for (let line = Math.max(0, Math.floor(chart.from)); line < last; line++) {
+      const mark = MARKS.get(kinds[line]);
+      if (!mark || !(isClose || mark[0] === "fault" || mark[0] === "cut")) continue;
+      pen.fillStyle = this.colours[mark[0]];
+      pen.fillText(mark[1], chart.xOf(line + 0.5), chart.laneY(numbers[line]) + (mark[0] === "said" ? 4 : LANE / 2));
+    }
+  }
+
+  // A crossing is drawn in the lanes of its object's scripts.
+  drawCrossings() {
+    const { chart, pen } = this;
+    pen.textAlign = "center";
+    pen.fillStyle = this.colours.mark;
+    pen.font = "bold 17px system-ui, sans-serif";
+    const last = chart.lineAt(chart.width);
+    const first = lowest(chart.crossings.length, chart.from, at => chart.crossings[at].place);
+    for (const { place, object } of chart.crossings.slice(first)) {
+      if (place > last) break;
+      chart.scene.scripts.forEach((script, at) => {
+        if (script.prim.object !== object) return;
+        pen.fillRect(chart.xOf(place) - 1, chart.laneY(at + 1) + 2, 2, LANE - 4);
+        pen.fillText("\u27a1", chart.xOf(place), chart.laneY(at + 1) + LANE / 2);
+      });
+    }
+  }
+
+  drawNames() {
+    const { chart, pen } = this;
+    pen.fillStyle = this.colours.ground;
+    pen.fillRect(0, 0, chart.left, chart.height);
+    pen.strokeStyle = this.colours.line;
+    this.drawLine(chart.left, 0, chart.left, chart.height);
+    this.drawLine(0, TOP, chart.width, TOP);
+    pen.fillStyle = this.colours.faint;
+    pen.fillText(fitting("clock and steps", chart.left - 12), 10, 22);
+    for (let script = 1; script <= chart.lanes.length; script++) {
+      const y = chart.laneY(script);
+      if (y >= TOP - 4 && y <= chart.height) this.drawName(script, y);
+    }
+  }
+
+  drawName(script, y) {
+    const { chart, pen } = this;
+    const owner = chart.scene.owner(script);
+    pen.fillStyle = this.colours.text;
+    const name = `${script} ${chart.scene.names.script(script)}`;
+    pen.fillText(fitting(name, chart.left - 14), 10, y + (owner ? 10 : LANE / 2));
+    if (!owner) return;
+    pen.fillStyle = this.colours.faint;
+    pen.font = "10px system-ui, sans-serif";
+    pen.fillText(fitting(owner, chart.left - 4), 20, y + 22);
+    pen.font = FONT;
+  }
+}

@@ -1,0 +1,80 @@
+// The output: what was said, by whom, and what stopped, in the order in which it happened.
+import { CHAT, DROP, FAULT, HOME, OWNER } from "./journal.js";
+import { Rows, rowOf } from "./rows.js";
+import { placeOf } from "./status.js";
+
+const SORTS = new Map([[FAULT, "fault"], [DROP, "cut"]]);
+
+// The lines that are shown, of a scene.
+function linesOf({ journal, names }) {
+  const found = [];
+  const { kinds, count } = journal;
+  for (let line = 0; line < count; line++) {
+    const kind = kinds[line];
+    const isMissed = kind === HOME && names.homes.get(journal.numbers[line]) !== undefined
+      && journal.rest(line) !== `"${names.homes.get(journal.numbers[line])}"`;
+    if (kind === CHAT || kind === OWNER || kind === FAULT || kind === DROP || isMissed) found.push(line);
+  }
+  return found;
+}
+
+export class Output {
+  // `go` is called with a file's name and a line of it.
+  constructor(element, go) {
+    Object.assign(this, { element, go, lines: [], ends: [] });
+    this.rows = new Rows(element, row => this.row(row));
+    element.addEventListener("click", event => {
+      const { file, line } = event.target.closest("[data-line]")?.dataset ?? {};
+      if (file) this.go(file, Number(line));
+    });
+    element.addEventListener("keydown", event => event.key === "Enter" && this.goFirst());
+  }
+
+  clear() {
+    Object.assign(this, { lines: [], ends: [], scene: null });
+    this.rows.show(0);
+  }
+
+  // Shows a scene. `answer` and `asked` are those of its run.
+  show(scene, answer, asked, isSame) {
+    Object.assign(this, { scene, answer, asked });
+    if (!isSame) this.lines = linesOf(scene);
+    this.ends = answer.outcome.cut;
+    this.rows.show(Math.max(this.lines.length + this.ends.length, 1), !isSame);
+  }
+
+  // The line of the file at which the script of a fault stopped, or one that was cut is.
+  sourceOf(place) {
+    return this.answer.lines?.[place];
+  }
+
+  row(number) {
+    if (number < this.lines.length) return this.lineRow(this.lines[number]);
+    const cut = this.ends[number - this.lines.length];
+    if (!cut) return rowOf("faint", ["nothing was said"]);
+    const source = this.sourceOf(this.answer.outcome.faults.length + number - this.lines.length);
+    const text = `is still in ${cut.event} at ${placeOf(cut.script, this.asked.scripts, source)}`;
+    return this.linked(rowOf("cut", [`${this.scene.names.script(cut.script)} `], [text]), cut.script, source);
+  }
+
+  lineRow(line) {
+    const { scene } = this;
+    const { kinds, numbers } = scene.journal;
+    const who = scene.who(line);
+    const row = [who ? [`${who} `, "who"] : ["", ""], [scene.entry(line), ""]];
+    if (kinds[line] !== FAULT) return rowOf(SORTS.get(kinds[line]) ?? "", ...row);
+    const source = this.sourceOf(this.answer.outcome.faults.findIndex(it => it.line === line));
+    row.push([`, in ${placeOf(numbers[line], this.asked.scripts, source)}`, ""]);
+    return this.linked(rowOf("fault", ...row), numbers[line], source);
+  }
+
+  linked(row, script, source) {
+    if (source !== undefined) Object.assign(row.dataset, { file: this.asked.scripts[script - 1], line: source });
+    return row;
+  }
+
+  goFirst() {
+    const row = this.element.querySelector("[data-line]");
+    if (row) this.go(row.dataset.file, Number(row.dataset.line));
+  }
+}

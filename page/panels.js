@@ -1,0 +1,100 @@
+// What came of a run, on the page: its status, the output, and the views of the journal.
+import { Output } from "./output.js";
+import { Rows, rowOf } from "./rows.js";
+import { TabList } from "./tablist.js";
+
+const at = id => document.getElementById(id);
+// The views: another one, as a debugger, is another row here with its panel in index.html.
+const VIEWS = [["timeline", "Timeline"], ["told", "In words"], ["journal", "Journal"]];
+const NARROW = "(max-width: 900px)";
+
+export class Panels {
+  constructor(words, go) {
+    Object.assign(this, { words, run: 0, wanted: 0 });
+    this.output = new Output(at("output"), go);
+    this.told = new Rows(at("told"), row => this.toldRow(row));
+    this.journal = new Rows(at("journal"), line => rowOf("", [this.journalLine(line), ""]));
+    this.tabs = new TabList(at("views"), view => this.want(view));
+    this.ready = new Promise(resolve => (this.isReady = resolve));
+    addEventListener("message", ({ source, origin, data }) => {
+      if (source !== at("timeline").contentWindow || origin !== location.origin) return;
+      if (data.isReady) this.isReady();
+      if (data.isDrawn) at("result").dataset.drawn = data.run;
+    });
+    // The frame may have been ready before this page listened: it is asked to say so by loading it again.
+    at("timeline").src = "timeline.html";
+    this.want(0);
+  }
+
+  want(view) {
+    this.wanted = view;
+    const tabs = VIEWS.map(([id, name]) => ({ name, panel: id, id: `view-${id}` }));
+    this.tabs.show(tabs, view);
+    VIEWS.forEach(([id], place) => (at(id).hidden = place !== view));
+    at(VIEWS[view][0]).setAttribute("aria-labelledby", `view-${VIEWS[view][0]}`);
+    for (const rows of [this.told, this.journal]) rows.follow(true);
+  }
+
+  begin() {
+    this.run += 1;
+    at("result").setAttribute("aria-busy", "true");
+    this.old(false);
+  }
+
+  // Brings the outcome into view where the page is as narrow as a phone.
+  end() {
+    at("result").setAttribute("aria-busy", "false");
+    if (!matchMedia(NARROW).matches || !this.isAsked) return;
+    at("result").scrollIntoView({ block: "start" });
+  }
+
+  status({ text, sort }, more) {
+    at("status").textContent = text;
+    at("status").className = sort;
+    at("more").textContent = more;
+  }
+
+  old(isOld) {
+    at("old").hidden = !isOld;
+    at("result").classList.toggle("old", isOld);
+  }
+
+  // Shows a scene, or that there is none. `isSame` where it is the last one with more known of it.
+  draw(drawn, answer, asked, isSame) {
+    const { scene, parts } = drawn ?? {};
+    this.answer = answer;
+    this.scene = scene;
+    at("save").disabled = false;
+    at("save").textContent = asked.word === "freeze" ? "Save the frozen world" : "Save the journal";
+    if (scene) this.output.show(scene, answer, asked, isSame);
+    else this.output.clear();
+    this.told.show(scene?.rowCount ?? 0, !isSame);
+    this.lines = scene ? null : answer.head.split("\n").slice(0, -1);
+    this.journal.show(scene?.journal.count ?? this.lines.length, !isSame);
+    const { run } = this;
+    const said = { scene: parts, words: this.words, isSame, run };
+    if (parts) this.ready.then(() => this.run === run && this.post(said));
+    at("timeline").classList.toggle("empty", !scene);
+  }
+
+  post(said) {
+    at("timeline").contentWindow.postMessage(said, location.origin);
+  }
+
+  journalLine(line) {
+    return this.scene ? this.scene.journal.line(line) : this.lines[line];
+  }
+
+  toldRow(row) {
+    const { step, line } = this.scene.rowAt(row);
+    const kind = step === undefined ? this.scene.journal.word(line) : "step";
+    return rowOf({ step: "step", fault: "fault", drop: "cut", done: "faint" }[kind] ?? "", [this.scene.rowText(row), ""]);
+  }
+
+  save(file, { word }) {
+    const link = Object.assign(document.createElement("a"), { href: URL.createObjectURL(file) });
+    link.download = word === "freeze" ? "world.frozen" : "journal.out";
+    link.click();
+    setTimeout(() => URL.revokeObjectURL(link.href), 60000);
+  }
+}

@@ -1,0 +1,121 @@
+// Runs what is chosen, and keeps what came of it until another run.
+import { explained } from "./faults.js";
+import { Runner } from "./runner.js";
+import { Scene } from "./scene.js";
+import { stagedWorld } from "./stage.js";
+import { sizeOf, statusOf } from "./status.js";
+import { readWorld, worldOfOnce } from "./worlds.js";
+
+const STAGED = "steps.world";
+const MOST_LOCATED = 40000000;
+const MOST_SECONDS = 4;
+
+// What is run, as the words of a command, its files, and the world that it plays, if it plays one.
+export function requestOf(play, words) {
+  const { files, file, how, steps } = play.parts;
+  if (how === "once") return { word: "once", file, files, world: worldOfOnce(file) };
+  if (how === "check") return { word: "check", file, files };
+  if (how === "replay" || how === "freeze") return { word: how, file, files, world: play.textOf(file) ?? "" };
+  const world = stagedWorld(file, steps, words.steps);
+  const name = play.freeName(STAGED);
+  return { word: "replay", file: name, files: [...files, [name, world]], world };
+}
+
+// What a request's world says of its scripts, and how many segments run at its last step.
+function readRequest(asked) {
+  if (asked.world === undefined) return { ...asked, scripts: [], named: [], segments: 0 };
+  const { scripts, notes, steps } = readWorld(asked.world);
+  const runs = steps.filter(it => it.word === "run" || it.word === "go");
+  const segments = Number(runs.at(-1)?.fields.at(-1) ?? 0);
+  return { ...asked, scripts: scripts.map(it => it.file), named: [...scripts, ...notes], segments };
+}
+
+export class Running {
+  // `seen` has `begin`, `end`, `status`, `fault`, `draw` and `save`, which show what came.
+  constructor(play, words, seen) {
+    Object.assign(this, { play, words, seen, isRunning: false, answer: null, scene: null });
+    this.runner = new Runner(answer => this.hear(answer));
+  }
+
+  // Begins a run. One that is under way is ended.
+  run() {
+    const asked = readRequest(requestOf(this.play, this.words));
+    if (this.isRunning) this.runner.stop();
+    Object.assign(this, { isRunning: true, asked, answer: null, scene: null });
+    this.seen.begin();
+    const { word, file, files, world } = asked;
+    this.runner.run({ word, file, files, world });
+  }
+
+  stop() {
+    if (!this.isRunning) return;
+    this.runner.stop();
+    this.isRunning = false;
+    this.seen.end();
+    this.seen.status({ text: "stopped by you", sort: "open" }, "");
+  }
+
+  hear(answer) {
+    const act = {
+      ran: () => this.ran(answer), drawn: () => this.drawn(answer.scene), located: () => this.located(answer.lines),
+      saved: () => this.seen.save(answer.file, this.asked), failed: () => this.failed(answer.error),
+    }[answer.kind];
+    act?.();
+  }
+
+  failed(error) {
+    this.isRunning = false;
+    this.seen.end();
+    this.seen.status({ text: error, sort: "bad" }, "");
+  }
+
+  ran(answer) {
+    this.answer = answer;
+    this.fault = explained(answer.head, this.asked.files, this.words);
+    this.tell();
+    this.seen.fault(this.fault);
+    const isDrawn = this.asked.world !== undefined && ![2, 3, 8].includes(answer.status);
+    if (!isDrawn) {
+      this.isRunning = false;
+      this.seen.draw(null, answer, this.asked, false);
+      this.seen.end();
+    }
+  }
+
+  tell() {
+    const shown = this.scene?.journal.count;
+    this.seen.status(statusOf(this.answer, this.asked, this.fault), sizeOf(this.answer, shown));
+  }
+
+  // Shows a scene: first without the steps, and then with them.
+  drawn(parts) {
+    const isSame = this.scene !== null;
+    this.scene = new Scene(parts, this.words);
+    this.seen.draw({ scene: this.scene, parts }, this.answer, this.asked, isSame);
+    this.tell();
+    if (isSame) return;
+    this.isRunning = false;
+    this.seen.end();
+    this.locate();
+  }
+
+  // Asks for the lines of scripts that stopped, and of those that were cut.
+  locate() {
+    const { outcome, size, milliseconds } = this.answer;
+    const isLong = size > MOST_LOCATED || milliseconds > MOST_SECONDS * 1000;
+    const asked = [...outcome.faults, ...outcome.cut.map(it => ({ ...it, line: outcome.lines }))];
+    if (!asked.length || isLong || this.scene.journal.count < outcome.lines || this.asked.word === "freeze") return;
+    const { files, world } = this.asked;
+    this.runner.locate({ files, world, front: this.scene.journal.text, asked });
+  }
+
+  located(lines) {
+    this.answer.lines = lines;
+    this.tell();
+    this.seen.draw({ scene: this.scene }, this.answer, this.asked, true);
+  }
+
+  save() {
+    this.runner.save();
+  }
+}

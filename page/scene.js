@@ -1,0 +1,122 @@
+// What is shown of a journal: its lines, its handlers, where the steps of its world are, and arrows. A worker makes it;
+// what a message holds of it are texts and arrays of numbers, so that handing it over takes no time.
+import { Arrows } from "./arrows.js";
+import { Handlers } from "./handlers.js";
+import { HOME, Journal } from "./journal.js";
+import { Names, clocksOf, seconds } from "./telling.js";
+import { readStep, readWorld } from "./worlds.js";
+
+export const STEP_WORDS = ["run", "go", "clock", "say", "touch", "changed", "rez", "pause", "cross"];
+const HEADED = ["took", "drop", "clear"];
+const LEAST_WIDTH = 8;
+const TITLED = 4;
+
+// For each step the first line that isn't before it. `steps` has for each line the step from which it comes.
+function placesOf(count, steps) {
+  let place = 0;
+  return Uint32Array.from({ length: count }, (_, number) => {
+    while (place < steps.length && steps[place] < number) place++;
+    return place;
+  });
+}
+
+function titleOf(world) {
+  const names = world.objects.map(it => it.name).filter(it => it !== "");
+  return names.slice(0, TITLED).join(", ") || "Journal";
+}
+
+// The parts of a scene. `steps` is nothing where it isn't known from which steps the lines come; `states` has the state
+// of each `clear` whose state is known.
+export function sceneOf(text, worldText, steps, states = {}) {
+  const [journal, world] = [Journal.read(text), readWorld(worldText)];
+  const { keys, ways, homes } = new Names(world, null);
+  const places = steps?.length ? placesOf(world.steps.length, steps) : new Uint32Array(0);
+  return {
+    journal: journal.parts, worldText, objects: world.objects, scripts: world.scripts, known: { keys, ways, homes },
+    stepLines: Uint32Array.from(world.steps, it => it.line),
+    stepStarts: Uint32Array.from(world.steps, it => it.start),
+    stepWords: Uint8Array.from(world.steps, it => STEP_WORDS.indexOf(it.word)),
+    clocks: Float64Array.from(clocksOf(world)),
+    handlers: Handlers.of(journal).parts, places, arrows: new Arrows(journal, world).all(places), states,
+    title: titleOf(world),
+  };
+}
+
+export class Scene {
+  constructor(parts, words) {
+    Object.assign(this, parts);
+    this.journal = new Journal(parts.journal);
+    this.handlers = new Handlers(parts.handlers);
+    this.names = new Names({ objects: parts.objects, scripts: parts.scripts, steps: [] }, words, parts.known);
+    this.scriptCount = this.countScripts();
+    const names = Array.from({ length: this.scriptCount }, (_, at) => this.names.script(at + 1));
+    this.width = names.reduce((most, it) => Math.max(most, it.length), LEAST_WIDTH);
+  }
+
+  countScripts() {
+    const { kinds, numbers, count } = this.journal;
+    let most = this.scripts.length;
+    for (let line = 0; line < count; line++) if (kinds[line] !== HOME && numbers[line] > most) most = numbers[line];
+    return most;
+  }
+
+  // The words of a line.
+  entry(line) {
+    return this.names.entry(this.journal, line, this.states[line]);
+  }
+
+  // Who a line is of.
+  who(line) {
+    return this.journal.kinds[line] === HOME ? "" : this.names.script(this.journal.numbers[line]);
+  }
+
+  step(number) {
+    const step = readStep(this.worldText, this.stepStarts[number], this.stepLines[number]);
+    return this.names.step(step);
+  }
+
+  clock(step) {
+    return `${seconds(this.clocks[step] ?? 0)} s`;
+  }
+
+  owner(script) {
+    const prim = this.scripts[script - 1]?.prim;
+    return prim ? this.names.object(prim.object) + (prim.link > 1 ? `, ${prim.name}` : "") : "";
+  }
+
+  // Where objects cross: the line, the step, and the object. One that stays in its region crosses nowhere.
+  get crossings() {
+    const found = [];
+    this.places.forEach((place, step) => {
+      if (STEP_WORDS[this.stepWords[step]] !== "cross") return;
+      const { line, fields } = readStep(this.worldText, this.stepStarts[step], this.stepLines[step]);
+      if (this.names.ways.get(line) !== fields[1]) found.push({ place, step, object: Number(fields[0]) });
+    });
+    return found;
+  }
+
+  // The rows of the lines in plain words, with the steps between them.
+  get rowCount() {
+    return this.journal.count + this.places.length;
+  }
+
+  // What a row is: a step or a line.
+  rowAt(row) {
+    let [low, high] = [0, this.places.length];
+    while (low < high) {
+      const middle = (low + high) >> 1;
+      if (this.places[middle] + middle <= row) low = middle + 1;
+      else high = middle;
+    }
+    const isStep = low > 0 && this.places[low - 1] + low - 1 === row;
+    return isStep ? { step: low - 1 } : { line: row - low };
+  }
+
+  rowText(row) {
+    const { step, line } = this.rowAt(row);
+    if (step !== undefined) return `[${seconds(this.clocks[step])}] ${this.step(step)}`;
+    if (this.journal.kinds[line] === HOME) return this.entry(line);
+    const indent = HEADED.includes(this.journal.word(line)) ? "  " : "    ";
+    return `${this.who(line).padStart(this.width)} ${indent}${this.entry(line)}`;
+  }
+}
