@@ -3,4 +3,4 @@ import { sceneOf } from "./scene.js";
 import { View } from "./view.js";
 
 const { journal, world, steps, states, words } = JSON.parse(document.getElementById("data").textContent);
-new View().show(sceneOf(journal, world, steps, states), words, false);
+new View().show(sceneOf(journal, world, steps, states), words);

@@ -2,14 +2,14 @@
 
 const OPEN = "([{";
 const SHUT = ")]}";
-const MOST_LINES = 2000;
+const MOST_LINES = 1000;
 const isAside = className => /^c-(string|comment)/.test(className);
 
 // The brackets of a line, with their places.
 function bracketsOf(lines, line) {
   const found = [];
   let place = 0;
-  for (const [text, className] of lines.pieces(line)) {
+  for (const [text, className] of lines.asides(line)) {
     for (let at = 0; at < text.length && !isAside(className); at++) {
       if (OPEN.includes(text[at]) || SHUT.includes(text[at])) found.push({ sign: text[at], line, place: place + at });
     }

@@ -25,22 +25,13 @@ export function lowest(count, value, read) {
   return low;
 }
 
-// The numbers of the handlers of each script, in the order in which they began.
-function lanesOf({ handlers, scriptCount }) {
-  const counts = new Uint32Array(scriptCount);
-  for (const script of handlers.scripts) counts[script - 1]++;
-  const lanes = Array.from(counts, count => new Uint32Array(count));
-  counts.fill(0);
-  handlers.scripts.forEach((script, at) => (lanes[script - 1][counts[script - 1]++] = at));
-  return lanes;
-}
-
 export class Chart {
   constructor(scene, canvas) {
     Object.assign(this, { scene, canvas, from: 0, scale: 0, down: 0, picked: -1, total: scene.journal.count });
-    this.lanes = lanesOf(scene);
+    this.lanes = scene.lanes;
     this.crossings = scene.crossings;
     this.group();
+    this.measure();
   }
 
   // Steps that begin at one line are one group: the first of its steps, and 2 for a pause, 1 for a crossing.
@@ -64,9 +55,11 @@ export class Chart {
     Object.assign(this, { from, scale, down, picked });
   }
 
-  get width() { return this.canvas.clientWidth; }
-  get height() { return this.canvas.clientHeight; }
-  get left() { return Math.min(WIDEST, this.width * 0.3); }
+  // Reads the canvas's size. Each later reading would lay out the page anew.
+  measure() {
+    const { clientWidth: width, clientHeight: height } = this.canvas;
+    Object.assign(this, { width, height, left: Math.min(WIDEST, width * 0.3) });
+  }
 
   laneY(script) { return TOP + (script - 1) * LANE - this.down; }
   xOf(line) { return this.left + (line - this.from) * this.scale; }

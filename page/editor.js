@@ -1,18 +1,20 @@
 // The editor: a text area for each file, so that each keeps its own undo, over a painting of the lines that are seen.
 import { bracketsAt } from "./brackets.js";
 import { Lines } from "./lines.js";
+import { PaintedRows } from "./painting.js";
 import { newLine, put, shut, tab } from "./typing.js";
 
 const at = id => document.getElementById(id);
 const HEIGHT = 18;
 const PAD = 6;
-const BEYOND = 30;
+const BEYOND = 15;
 
 export class Editor {
   // `grammarOf` answers the grammar of a file's name.
   constructor(play, grammarOf) {
     Object.assign(this, { play, grammarOf, areas: new WeakMap(), lines: new Lines(), marks: [], heard: [] });
     this.element = at("editor");
+    this.rows = new PaintedRows(at("paint"));
     this.element.addEventListener("scroll", () => this.paint());
     new ResizeObserver(() => this.measure()).observe(this.element);
     document.addEventListener("selectionchange", () => this.area === document.activeElement && this.move());
@@ -88,8 +90,10 @@ export class Editor {
   characterWidth() {
     const probe = document.createElement("span");
     probe.textContent = "0".repeat(100);
-    at("paint").replaceChildren(probe);
-    return probe.getBoundingClientRect().width / 100 || 7;
+    at("paint").append(probe);
+    const width = probe.getBoundingClientRect().width / 100 || 7;
+    probe.remove();
+    return width;
   }
 
   // Paints the lines that are seen, and some beyond them.
@@ -103,39 +107,16 @@ export class Editor {
     this.painted = { from, to };
     const numbers = Array.from({ length: to - from }, (_, line) => from + line + 1).join("\n");
     if (at("numbers").textContent !== numbers) at("numbers").textContent = numbers;
-    at("paint").replaceChildren(...Array.from({ length: to - from }, (_, line) => this.row(from + line)));
+    const rows = Array.from({ length: to - from }, (_, line) => this.row(from + line));
+    this.rows.paint(rows, from);
     for (const it of [at("numbers"), at("paint")]) it.style.transform = `translateY(${from * HEIGHT}px)`;
   }
 
+  // What a line is painted with: its pieces, and the words beside it.
   row(line) {
-    const row = document.createElement("div");
     const mark = this.marks.find(it => it.line === line);
-    if (mark) row.className = `marked ${mark.sort}`;
-    let place = 0;
-    for (const [text, className] of this.lines.pieces(line)) {
-      for (const [part, isPair] of this.paired(line, place, text)) {
-        const piece = document.createElement("span");
-        piece.className = isPair ? `${className} pair` : className;
-        piece.textContent = part;
-        row.append(piece);
-      }
-      place += text.length;
-    }
-    if (mark) row.append(Object.assign(document.createElement("span"), { className: "beside", textContent: mark.text }));
-    if (!row.hasChildNodes()) row.append("\u200b");
-    return row;
-  }
-
-  // A piece of a line, cut around the brackets that belong together.
-  paired(line, start, text) {
-    const cuts = (this.pair ?? []).filter(it => it.line === line && it.place >= start && it.place < start + text.length);
-    const parts = [];
-    let from = 0;
-    for (const { place } of cuts.sort((one, other) => one.place - other.place)) {
-      parts.push([text.slice(from, place - start), false], [text[place - start], true]);
-      from = place - start + 1;
-    }
-    return [...parts, [text.slice(from), false]].filter(([part]) => part !== "");
+    const pairs = (this.pair ?? []).filter(it => it.line === line).map(it => it.place);
+    return { text: this.lines.lines[line], state: this.lines.state(line), mark, pairs, lines: this.lines, line };
   }
 
   // Where the caret is.

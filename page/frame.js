@@ -1,11 +1,24 @@
-// The timeline in a frame of the page, which hands scenes to it.
+// The timeline in a frame of the page. The page hands the words to it, and a port on which it hears the worker.
+import { Receiver } from "./pieces.js";
 import { View } from "./view.js";
 
 const view = new View();
+let words;
+
+function listen(port) {
+  const receiver = new Receiver();
+  port.addEventListener("message", ({ data }) => {
+    const parts = receiver.take(data);
+    if (parts) view.show(parts, words);
+    if (data.kind === "stepped") view.step(data);
+    if (parts) requestAnimationFrame(() => parent.postMessage({ isDrawn: true, number: data.number }, location.origin));
+  });
+  port.start();
+}
 
 addEventListener("message", ({ source, origin, data }) => {
-  if (source !== parent || origin !== location.origin || !data.scene) return;
-  view.show(data.scene, data.words, data.isSame);
-  requestAnimationFrame(() => parent.postMessage({ isDrawn: true, run: data.run }, location.origin));
+  if (source !== parent || origin !== location.origin) return;
+  words = data.words ?? words;
+  if (data.port) listen(data.port);
 });
 parent.postMessage({ isReady: true }, location.origin);

@@ -64,6 +64,13 @@ export class Grammar {
     return this.pass(line, state, this.quick, () => {});
   }
 
+  // Its pieces, of which only texts and comments have classes.
+  asides(line, state) {
+    const found = [];
+    this.pass(line, state, this.quick, (text, className) => text && found.push([text, className]));
+    return found;
+  }
+
   pieces(line, state) {
     const found = [];
     this.pass(line, state, this.all, (text, className) => text && found.push([text, className]));
@@ -79,6 +86,10 @@ export class WorldGrammar {
 
   after() {
     return null;
+  }
+
+  asides(line) {
+    return this.pieces(line);
   }
 
   pieces(line) {
@@ -97,4 +108,5 @@ export class WorldGrammar {
 }
 
 // A text that isn't coloured: a notecard's.
-export const PLAIN = { after: () => null, pieces: line => [[line, ""]] };
+const whole = line => [[line, ""]];
+export const PLAIN = { after: () => null, pieces: whole, asides: whole };

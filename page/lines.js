@@ -30,6 +30,10 @@ export class Lines {
     return this.grammar.pieces(this.lines[line], this.state(line));
   }
 
+  asides(line) {
+    return this.grammar.asides(this.lines[line], this.state(line));
+  }
+
   // The line and the place in it of a place of the text.
   at(place) {
     let line = 0;

@@ -1,22 +1,9 @@
 // The output: what was said, by whom, and what stopped, in the order in which it happened.
-import { CHAT, DROP, FAULT, HOME, OWNER } from "./journal.js";
+import { DROP, FAULT } from "./journal.js";
 import { Rows, rowOf } from "./rows.js";
 import { placeOf } from "./status.js";
 
 const SORTS = new Map([[FAULT, "fault"], [DROP, "cut"]]);
-
-// The lines that are shown, of a scene.
-function linesOf({ journal, names }) {
-  const found = [];
-  const { kinds, count } = journal;
-  for (let line = 0; line < count; line++) {
-    const kind = kinds[line];
-    const isMissed = kind === HOME && names.homes.get(journal.numbers[line]) !== undefined
-      && journal.rest(line) !== `"${names.homes.get(journal.numbers[line])}"`;
-    if (kind === CHAT || kind === OWNER || kind === FAULT || kind === DROP || isMissed) found.push(line);
-  }
-  return found;
-}
 
 export class Output {
   // `go` is called with a file's name and a line of it.
@@ -38,7 +25,7 @@ export class Output {
   // Shows a scene. `answer` and `asked` are those of its run.
   show(scene, answer, asked, isSame) {
     Object.assign(this, { scene, answer, asked });
-    if (!isSame) this.lines = linesOf(scene);
+    this.lines = scene.spoken;
     this.ends = answer.outcome.cut;
     this.rows.show(Math.max(this.lines.length + this.ends.length, 1), !isSame);
   }

@@ -61,9 +61,10 @@ class Page {
   get seen() {
     const { panels } = this;
     return {
-      begin: () => {
+      wire: panels.wire,
+      begin: number => {
         panels.begin();
-        this.runs += 1;
+        this.runs = number;
         at("stop").disabled = false;
         panels.status({ text: "running ...", sort: "" }, "");
       },

@@ -10,20 +10,28 @@ const NARROW = "(max-width: 900px)";
 
 export class Panels {
   constructor(words, go) {
-    Object.assign(this, { words, run: 0, wanted: 0 });
+    Object.assign(this, { wanted: 0 });
     this.output = new Output(at("output"), go);
     this.told = new Rows(at("told"), row => this.toldRow(row));
     this.journal = new Rows(at("journal"), line => rowOf("", [this.journalLine(line), ""]));
     this.tabs = new TabList(at("views"), view => this.want(view));
-    this.ready = new Promise(resolve => (this.isReady = resolve));
-    addEventListener("message", ({ source, origin, data }) => {
-      if (source !== at("timeline").contentWindow || origin !== location.origin) return;
-      if (data.isReady) this.isReady();
-      if (data.isDrawn) at("result").dataset.drawn = data.run;
-    });
-    // The frame may have been ready before this page listened: it is asked to say so by loading it again.
+    const ready = new Promise(resolve => (this.isReady = resolve));
+    // Hands the frame the port on which it hears the worker.
+    this.wire = port => ready.then(() => this.frame.postMessage({ words, port }, location.origin, [port]));
+    addEventListener("message", event => this.hear(event));
     at("timeline").src = "timeline.html";
     this.want(0);
+  }
+
+  get frame() {
+    return at("timeline").contentWindow;
+  }
+
+  // What the frame says: that it is ready, and that it has drawn.
+  hear({ source, origin, data }) {
+    if (source !== this.frame || origin !== location.origin) return;
+    if (data.isReady) this.isReady();
+    if (data.isDrawn) at("result").dataset.drawn = data.number;
   }
 
   want(view) {
@@ -36,7 +44,6 @@ export class Panels {
   }
 
   begin() {
-    this.run += 1;
     at("result").setAttribute("aria-busy", "true");
     this.old(false);
   }
@@ -60,9 +67,7 @@ export class Panels {
   }
 
   // Shows a scene, or that there is none. `isSame` where it is the last one with more known of it.
-  draw(drawn, answer, asked, isSame) {
-    const { scene, parts } = drawn ?? {};
-    this.answer = answer;
+  draw(scene, answer, asked, isSame) {
     this.scene = scene;
     at("save").disabled = false;
     at("save").textContent = asked.word === "freeze" ? "Save the frozen world" : "Save the journal";
@@ -71,14 +76,7 @@ export class Panels {
     this.told.show(scene?.rowCount ?? 0, !isSame);
     this.lines = scene ? null : answer.head.split("\n").slice(0, -1);
     this.journal.show(scene?.journal.count ?? this.lines.length, !isSame);
-    const { run } = this;
-    const said = { scene: parts, words: this.words, isSame, run };
-    if (parts) this.ready.then(() => this.run === run && this.post(said));
     at("timeline").classList.toggle("empty", !scene);
-  }
-
-  post(said) {
-    at("timeline").contentWindow.postMessage(said, location.origin);
   }
 
   journalLine(line) {

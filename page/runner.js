@@ -8,40 +8,50 @@ async function compiled() {
 }
 
 export class Runner {
-  // `heard` is called with each answer that belongs to the last run.
-  constructor(heard) {
-    Object.assign(this, { number: 0, heard });
+  // `heard` is called with each answer that belongs to the last run. `wire` gets a port, on which the frame of the timeline
+  // hears the worker.
+  constructor(heard, wire) {
+    Object.assign(this, { number: 0, heard, wire });
     this.module = compiled();
     this.start();
   }
 
   start() {
-    [this.first, this.second] = [0, 1].map(() => {
-      const worker = new Worker("worker.js", { type: "module" });
-      worker.addEventListener("message", ({ data }) => data.number === this.number && this.hear(data));
-      worker.addEventListener("error", ({ message }) => this.fail(message || "the worker didn't start"));
-      this.module.then(module => worker.postMessage({ module }), error => this.fail(error.message));
-      return worker;
-    });
+    [this.first, this.second] = [this.worker(), this.worker()];
+    const { port1, port2 } = new MessageChannel();
+    this.first.postMessage({ port: port1 }, [port1]);
+    this.wire(port2);
+  }
+
+  worker() {
+    const worker = new Worker("worker.js", { type: "module" });
+    worker.addEventListener("message", ({ data }) => data.number === this.number && this.hear(data));
+    worker.addEventListener("error", ({ message }) => this.fail(message || "the worker didn't start"));
+    this.module.then(module => worker.postMessage({ module }), error => this.fail(error.message));
+    return worker;
   }
 
   fail(error) {
-    this.hear({ kind: "failed", error });
+    this.heard({ kind: "failed", error });
   }
 
   hear(answer) {
-    if (answer.kind === "marked") {
-      const { text, steps } = answer;
-      this.first.postMessage({ number: this.number, task: "addSteps", text, steps }, [steps.buffer]);
-    } else {
+    if (answer.kind !== "marked") {
       this.heard(answer);
+      return;
     }
+    const { text, steps } = answer;
+    this.first.postMessage({ number: this.number, task: "addSteps", text, steps }, [steps.buffer]);
   }
 
-  // Runs `{word, file, files, world}`.
-  async run(asked) {
+  // Runs `{word, file, files, world}`. What it answers has the number that this gives.
+  run(asked) {
     this.number += 1;
-    const { number } = this;
+    this.begin(this.number, asked);
+    return this.number;
+  }
+
+  async begin(number, asked) {
     await this.module.catch(() => null);
     if (number !== this.number) return;
     this.first.postMessage({ number, task: "run", ...asked });

@@ -1,5 +1,6 @@
 // Runs what is chosen, and keeps what came of it until another run.
 import { explained } from "./faults.js";
+import { Receiver } from "./pieces.js";
 import { Runner } from "./runner.js";
 import { Scene } from "./scene.js";
 import { stagedWorld } from "./stage.js";
@@ -34,7 +35,8 @@ export class Running {
   // `seen` has `begin`, `end`, `status`, `fault`, `draw` and `save`, which show what came.
   constructor(play, words, seen) {
     Object.assign(this, { play, words, seen, isRunning: false, answer: null, scene: null });
-    this.runner = new Runner(answer => this.hear(answer));
+    this.receiver = new Receiver();
+    this.runner = new Runner(answer => this.hear(answer), seen.wire);
   }
 
   // Begins a run. One that is under way is ended.
@@ -42,9 +44,9 @@ export class Running {
     const asked = readRequest(requestOf(this.play, this.words));
     if (this.isRunning) this.runner.stop();
     Object.assign(this, { isRunning: true, asked, answer: null, scene: null });
-    this.seen.begin();
+    this.receiver = new Receiver();
     const { word, file, files, world } = asked;
-    this.runner.run({ word, file, files, world });
+    this.seen.begin(this.runner.run({ word, file, files, world }));
   }
 
   stop() {
@@ -57,7 +59,9 @@ export class Running {
 
   hear(answer) {
     const act = {
-      ran: () => this.ran(answer), drawn: () => this.drawn(answer.scene), located: () => this.located(answer.lines),
+      ran: () => this.ran(answer), stepped: () => this.show(this.scene.with(answer), true),
+      piece: () => this.receiver.take(answer), drawn: () => this.drawn(this.receiver.take(answer)),
+      located: () => this.located(answer.lines),
       saved: () => this.seen.save(answer.file, this.asked), failed: () => this.failed(answer.error),
     }[answer.kind];
     act?.();
@@ -87,16 +91,18 @@ export class Running {
     this.seen.status(statusOf(this.answer, this.asked, this.fault), sizeOf(this.answer, shown));
   }
 
-  // Shows a scene: first without the steps, and then with them.
   drawn(parts) {
-    const isSame = this.scene !== null;
-    this.scene = new Scene(parts, this.words);
-    this.seen.draw({ scene: this.scene, parts }, this.answer, this.asked, isSame);
-    this.tell();
-    if (isSame) return;
+    this.show(new Scene(parts, this.words), false);
     this.isRunning = false;
     this.seen.end();
     this.locate();
+  }
+
+  // Shows a scene: first without the steps, and then with them.
+  show(scene, isSame) {
+    this.scene = scene;
+    this.seen.draw(scene, this.answer, this.asked, isSame);
+    this.tell();
   }
 
   // Asks for the lines of scripts that stopped, and of those that were cut.
@@ -111,8 +117,7 @@ export class Running {
 
   located(lines) {
     this.answer.lines = lines;
-    this.tell();
-    this.seen.draw({ scene: this.scene }, this.answer, this.asked, true);
+    this.show(this.scene, true);
   }
 
   save() {

@@ -2,7 +2,8 @@
 // what a message holds of it are texts and arrays of numbers, so that handing it over takes no time.
 import { Arrows } from "./arrows.js";
 import { Handlers } from "./handlers.js";
-import { HOME, Journal } from "./journal.js";
+import { CHAT, DROP, FAULT, HOME, Journal, OWNER } from "./journal.js";
+import { quoted } from "./quoting.js";
 import { Names, clocksOf, seconds } from "./telling.js";
 import { readStep, readWorld } from "./worlds.js";
 
@@ -25,20 +26,58 @@ function titleOf(world) {
   return names.slice(0, TITLED).join(", ") || "Journal";
 }
 
-// The parts of a scene. `steps` is nothing where it isn't known from which steps the lines come; `states` has the state
-// of each `clear` whose state is known.
+// The lines of what was said, of what stopped, and of what was lost; and of objects that didn't get to where they were to.
+function spokenOf(journal, { homes }) {
+  const { kinds, numbers, count } = journal;
+  const isMissed = line => {
+    const wanted = homes.get(numbers[line]);
+    return wanted !== undefined && journal.rest(line) !== quoted(wanted);
+  };
+  const found = [];
+  for (let line = 0; line < count; line++) {
+    const kind = kinds[line];
+    const isSpoken = kind === CHAT || kind === OWNER || kind === FAULT || kind === DROP;
+    if (isSpoken || (kind === HOME && isMissed(line))) found.push(line);
+  }
+  return Uint32Array.from(found);
+}
+
+// The numbers of the handlers of each script, in the order in which they began.
+function lanesOf(handlers, scriptCount) {
+  const counts = new Uint32Array(scriptCount);
+  for (const script of handlers.scripts) counts[script - 1]++;
+  const lanes = Array.from(counts, count => new Uint32Array(count));
+  counts.fill(0);
+  handlers.scripts.forEach((script, at) => (lanes[script - 1][counts[script - 1]++] = at));
+  return lanes;
+}
+
+function scriptCountOf({ kinds, numbers, count }, world) {
+  let most = world.scripts.length;
+  for (let line = 0; line < count; line++) if (kinds[line] !== HOME && numbers[line] > most) most = numbers[line];
+  return most;
+}
+
+// Where the steps of a scene are, and its arrows. `steps` is nothing where it isn't known from which the lines come.
+export function stepsOf(text, worldText, steps) {
+  const [journal, world] = [Journal.read(text), readWorld(worldText)];
+  const places = steps?.length ? placesOf(world.steps.length, steps) : new Uint32Array(0);
+  return { places, arrows: new Arrows(journal, world).all(places) };
+}
+
+// The parts of a scene. `states` has the state of each `clear` whose state is known.
 export function sceneOf(text, worldText, steps, states = {}) {
   const [journal, world] = [Journal.read(text), readWorld(worldText)];
-  const { keys, ways, homes } = new Names(world, null);
-  const places = steps?.length ? placesOf(world.steps.length, steps) : new Uint32Array(0);
+  const known = (({ keys, ways, homes }) => ({ keys, ways, homes }))(new Names(world, null));
+  const [handlers, scriptCount] = [Handlers.of(journal), scriptCountOf(journal, world)];
   return {
-    journal: journal.parts, worldText, objects: world.objects, scripts: world.scripts, known: { keys, ways, homes },
+    journal: journal.parts, worldText, objects: world.objects, scripts: world.scripts, known, scriptCount,
     stepLines: Uint32Array.from(world.steps, it => it.line),
     stepStarts: Uint32Array.from(world.steps, it => it.start),
     stepWords: Uint8Array.from(world.steps, it => STEP_WORDS.indexOf(it.word)),
     clocks: Float64Array.from(clocksOf(world)),
-    handlers: Handlers.of(journal).parts, places, arrows: new Arrows(journal, world).all(places), states,
-    title: titleOf(world),
+    handlers: handlers.parts, lanes: lanesOf(handlers, scriptCount), spoken: spokenOf(journal, known), states,
+    title: titleOf(world), ...stepsOf(text, worldText, steps),
   };
 }
 
@@ -48,16 +87,13 @@ export class Scene {
     this.journal = new Journal(parts.journal);
     this.handlers = new Handlers(parts.handlers);
     this.names = new Names({ objects: parts.objects, scripts: parts.scripts, steps: [] }, words, parts.known);
-    this.scriptCount = this.countScripts();
     const names = Array.from({ length: this.scriptCount }, (_, at) => this.names.script(at + 1));
     this.width = names.reduce((most, it) => Math.max(most, it.length), LEAST_WIDTH);
   }
 
-  countScripts() {
-    const { kinds, numbers, count } = this.journal;
-    let most = this.scripts.length;
-    for (let line = 0; line < count; line++) if (kinds[line] !== HOME && numbers[line] > most) most = numbers[line];
-    return most;
+  // The same scene with where its steps are.
+  with({ places, arrows }) {
+    return Object.assign(Object.create(Object.getPrototypeOf(this)), this, { places, arrows });
   }
 
   // The words of a line.

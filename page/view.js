@@ -24,19 +24,29 @@ export class View {
     matchMedia("(prefers-color-scheme: dark)").addEventListener("change", () => this.again());
   }
 
-  // Shows a scene. Where it is of the same run as the last one, what is seen stays.
-  show(parts, words, isSame) {
-    const before = this.chart;
-    this.scene = new Scene(parts, words);
-    this.chart = new Chart(this.scene, this.canvas);
-    if (isSame && before) this.chart.follow(before);
-    this.drawing = new Drawing(this.chart);
+  show(parts, words) {
+    this.use(new Scene(parts, words));
     const { scriptCount, handlers, journal, title } = this.scene;
     at("title").textContent = document.title = title;
     const counts = [counted(scriptCount, "script"), counted(handlers.count, "handler"), counted(journal.count, "line")];
     at("count").textContent = counts.join(", ");
-    if (!isSame) this.pick({ first: 0, last: Math.min(journal.count, FOUND), text: "" }, true, -1);
+    this.pick({ first: 0, last: Math.min(journal.count, FOUND), text: "" }, true, -1);
+  }
+
+  // Adds what is known later: where the steps are. What is seen stays.
+  step(steps) {
+    if (!this.chart) return;
+    const before = this.chart;
+    this.use(this.scene.with(steps));
+    this.chart.follow(before);
+    this.showPicked();
     this.again();
+  }
+
+  use(scene) {
+    this.scene = scene;
+    this.chart = new Chart(scene, this.canvas);
+    this.drawing = new Drawing(this.chart);
   }
 
   again() {
@@ -44,6 +54,7 @@ export class View {
     this.isWaiting = true;
     requestAnimationFrame(() => {
       this.isWaiting = false;
+      this.chart.measure();
       if (!this.chart.width || !this.chart.height) return;
       this.chart.clamp();
       this.drawing.draw();

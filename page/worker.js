@@ -1,49 +1,54 @@
 // Runs requests apart from the page, which stays usable meanwhile and may end this worker. It reads the journals too, and
-// hands over what is shown of them.
+// hands over what is shown of them: to the page, and through a port to the frame of the timeline.
 import { Lsl } from "./lsl.js";
 import { withoutMarks, markedWorld } from "./marks.js";
 import { frontOf, outcomeOf } from "./outcome.js";
+import { handOver } from "./pieces.js";
 import { linesOf, probedFiles } from "./probes.js";
-import { sceneOf } from "./scene.js";
+import { sceneOf, stepsOf } from "./scene.js";
 import { readWorld } from "./worlds.js";
 
 const MOST_LINES = 500000;
 const MOST_BYTES = 32000000;
+const HEAD = 2000;
 const SECOND_WORLD = "\u0000world";
-let lsl;
+const UNDRAWN = [2, 3, 8];
+let lsl, frame;
 // What ran last: its output as bytes, and the front of it that is shown.
 let last = {};
 
 const textOf = bytes => new TextDecoder().decode(bytes);
 
 // Runs a request, and says what became of it; then hands over the front of its journal.
-function run({ word, file, files, world }, answer) {
+function run({ word, file, files, world }, answer, tell) {
   const start = performance.now();
   const { status, output } = lsl.run(word, file, files);
   last = { output, world, front: frontOf(output, MOST_LINES, MOST_BYTES) };
-  const outcome = outcomeOf(output);
-  answer({ kind: "ran", status, outcome, size: output.length, milliseconds: performance.now() - start,
-    head: last.front.slice(0, 2000) });
-  if (world !== undefined && status !== 2 && status !== 3 && status !== 8) {
-    answer({ kind: "drawn", scene: sceneOf(last.front, world, null) });
-  }
+  const [outcome, milliseconds] = [outcomeOf(output), performance.now() - start];
+  answer({ kind: "ran", status, outcome, size: output.length, milliseconds, head: last.front.slice(0, HEAD) });
+  if (world === undefined || UNDRAWN.includes(status)) return;
+  const scene = sceneOf(last.front, world, null);
+  handOver(structuredClone(scene), tell);
+  handOver(scene, answer);
 }
 
 // The second run of a world, and from which step each of its lines comes.
 function mark({ files, world }, answer) {
   const marked = markedWorld(world);
-  if (!marked) return answer({ kind: "unmarked" });
+  if (!marked) return;
   const ran = lsl.run("replay", SECOND_WORLD, [...files, [SECOND_WORLD, marked.text], marked.file]);
-  if (ran.status !== 0) return answer({ kind: "unmarked" });
+  if (ran.status !== 0) return;
   const text = frontOf(ran.output, 2 * MOST_LINES, 2 * MOST_BYTES);
-  return answer({ kind: "marked", ...withoutMarks(text, readWorld(world), marked.stride) });
+  answer({ kind: "marked", ...withoutMarks(text, readWorld(world), marked.stride) });
 }
 
 // Adds the steps to what was handed over, where the second run did the same.
-function addSteps({ text, steps }, answer) {
-  const count = Math.min(steps.length, MOST_LINES);
-  const isSame = text === last.front || (text.startsWith(last.front) && last.output.length > last.front.length);
-  if (isSame) answer({ kind: "drawn", scene: sceneOf(last.front, last.world, steps.subarray(0, count)) });
+function addSteps({ text, steps }, answer, tell) {
+  const isCut = last.output.length > MOST_BYTES || steps.length > MOST_LINES;
+  if (isCut ? !text.startsWith(last.front) : text !== last.front) return;
+  const added = stepsOf(last.front, last.world, steps.subarray(0, MOST_LINES));
+  tell({ kind: "stepped", ...structuredClone(added) });
+  answer({ kind: "stepped", ...added });
 }
 
 // The lines of the scripts at which they stopped or were cut.
@@ -60,14 +65,14 @@ function save(_, answer) {
 
 const TASKS = { run, mark, addSteps, locate, save };
 
-// Answers a message `{number, task, ..}` with its number and what came of it. The first one has the module.
-addEventListener("message", ({ data: { number, task, module, ...asked } }) => {
-  if (module) {
-    lsl = new Lsl(module);
-    return;
-  }
+// Answers a message `{number, task, ..}` with its number and what came of it. The first one has the module, and the port.
+addEventListener("message", ({ data: { number, task, module, port, ...asked } }) => {
+  if (port) frame = port;
+  if (module) lsl = new Lsl(module);
+  if (!task) return;
   try {
-    TASKS[task](asked, answer => postMessage({ number, ...answer }));
+    const to = target => (answer, moved = []) => target?.postMessage({ number, ...answer }, moved);
+    TASKS[task](asked, to(self), to(frame));
   } catch (error) {
     postMessage({ number, kind: "failed", error: `${error.message ?? error}` });
   }
