@@ -18,14 +18,15 @@ export class Runner {
 
   start() {
     [this.first, this.second] = [this.worker(), this.worker()];
-    const { port1, port2 } = new MessageChannel();
-    this.first.postMessage({ port: port1 }, [port1]);
-    this.wire(port2);
+    const [frame, peers] = [new MessageChannel(), new MessageChannel()];
+    this.first.postMessage({ toFrame: frame.port1, toPeer: peers.port1 }, [frame.port1, peers.port1]);
+    this.second.postMessage({ toPeer: peers.port2 }, [peers.port2]);
+    this.wire(frame.port2);
   }
 
   worker() {
     const worker = new Worker("worker.js", { type: "module" });
-    worker.addEventListener("message", ({ data }) => data.number === this.number && this.hear(data));
+    worker.addEventListener("message", ({ data }) => data.number === this.number && this.heard(data));
     worker.addEventListener("error", ({ message }) => this.fail(message || "the worker didn't start"));
     this.module.then(module => worker.postMessage({ module }), error => this.fail(error.message));
     return worker;
@@ -33,15 +34,6 @@ export class Runner {
 
   fail(error) {
     this.heard({ kind: "failed", error });
-  }
-
-  hear(answer) {
-    if (answer.kind !== "marked") {
-      this.heard(answer);
-      return;
-    }
-    const { text, steps } = answer;
-    this.first.postMessage({ number: this.number, task: "addSteps", text, steps }, [steps.buffer]);
   }
 
   // Runs `{word, file, files, world}`. What it answers has the number that this gives.
@@ -62,7 +54,7 @@ export class Runner {
 
   // Asks for the lines at which scripts stopped or were cut.
   locate(asked) {
-    this.second.postMessage({ number: this.number, task: "locate", ...asked });
+    this.first.postMessage({ number: this.number, task: "find", asked });
   }
 
   save() {

@@ -111,8 +111,7 @@ export class Running {
     const isLong = size > MOST_LOCATED || milliseconds > MOST_SECONDS * 1000;
     const asked = [...outcome.faults, ...outcome.cut.map(it => ({ ...it, line: outcome.lines }))];
     if (!asked.length || isLong || this.scene.journal.count < outcome.lines || this.asked.word === "freeze") return;
-    const { files, world } = this.asked;
-    this.runner.locate({ files, world, front: this.scene.journal.text, asked });
+    this.runner.locate(asked);
   }
 
   located(lines) {

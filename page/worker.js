@@ -1,5 +1,6 @@
 // Runs requests apart from the page, which stays usable meanwhile and may end this worker. It reads the journals too, and
-// hands over what is shown of them: to the page, and through a port to the frame of the timeline.
+// hands over what is shown of them: to the page, and through a port to the frame of the timeline. Two such workers share a
+// world's runs, and hear one another through a port.
 import { Lsl } from "./lsl.js";
 import { withoutMarks, markedWorld } from "./marks.js";
 import { frontOf, outcomeOf } from "./outcome.js";
@@ -13,17 +14,17 @@ const MOST_BYTES = 32000000;
 const HEAD = 2000;
 const SECOND_WORLD = "\u0000world";
 const UNDRAWN = [2, 3, 8];
-let lsl, frame;
+let lsl, frame, peer;
 // What ran last: its output as bytes, and the front of it that is shown.
 let last = {};
 
 const textOf = bytes => new TextDecoder().decode(bytes);
 
 // Runs a request, and says what became of it; then hands over the front of its journal.
-function run({ word, file, files, world }, answer, tell) {
+function run({ number, word, file, files, world }, answer, tell) {
   const start = performance.now();
   const { status, output } = lsl.run(word, file, files);
-  last = { output, world, front: frontOf(output, MOST_LINES, MOST_BYTES) };
+  last = { number, output, files, world, front: frontOf(output, MOST_LINES, MOST_BYTES) };
   const [outcome, milliseconds] = [outcomeOf(output), performance.now() - start];
   answer({ kind: "ran", status, outcome, size: output.length, milliseconds, head: last.front.slice(0, HEAD) });
   if (world === undefined || UNDRAWN.includes(status)) return;
@@ -33,17 +34,19 @@ function run({ word, file, files, world }, answer, tell) {
 }
 
 // The second run of a world, and from which step each of its lines comes.
-function mark({ files, world }, answer) {
+function mark({ number, files, world }) {
   const marked = markedWorld(world);
   if (!marked) return;
   const ran = lsl.run("replay", SECOND_WORLD, [...files, [SECOND_WORLD, marked.text], marked.file]);
   if (ran.status !== 0) return;
   const text = frontOf(ran.output, 2 * MOST_LINES, 2 * MOST_BYTES);
-  answer({ kind: "marked", ...withoutMarks(text, readWorld(world), marked.stride) });
+  const marks = withoutMarks(text, readWorld(world), marked.stride);
+  peer.postMessage({ number, task: "addSteps", ...marks }, [marks.steps.buffer]);
 }
 
 // Adds the steps to what was handed over, where the second run did the same.
-function addSteps({ text, steps }, answer, tell) {
+function addSteps({ number, text, steps }, answer, tell) {
+  if (number !== last.number) return;
   const isCut = last.output.length > MOST_BYTES || steps.length > MOST_LINES;
   if (isCut ? !text.startsWith(last.front) : text !== last.front) return;
   const added = stepsOf(last.front, last.world, steps.subarray(0, MOST_LINES));
@@ -51,7 +54,12 @@ function addSteps({ text, steps }, answer, tell) {
   answer({ kind: "stepped", ...added });
 }
 
-// The lines of the scripts at which they stopped or were cut.
+// Has the other worker look for the lines of the scripts at which they stopped or were cut.
+function find({ number, asked }) {
+  const { files, world, front } = last;
+  if (number === last.number) peer.postMessage({ number, task: "locate", files, world, front, asked });
+}
+
 function locate({ files, world, front, asked }, answer) {
   const copies = probedFiles(files, new Set(readWorld(world).scripts.map(it => it.file)));
   const ran = lsl.run("replay", SECOND_WORLD, [...copies.files, [SECOND_WORLD, world]]);
@@ -63,17 +71,25 @@ function save(_, answer) {
   answer({ kind: "saved", file: new Blob([last.output ?? ""], { type: "text/plain" }) });
 }
 
-const TASKS = { run, mark, addSteps, locate, save };
+const TASKS = { run, mark, addSteps, find, locate, save };
 
-// Answers a message `{number, task, ..}` with its number and what came of it. The first one has the module, and the port.
-addEventListener("message", ({ data: { number, task, module, port, ...asked } }) => {
-  if (port) frame = port;
-  if (module) lsl = new Lsl(module);
-  if (!task) return;
+// Does a task, and answers with its number and what came of it.
+function take({ data: { number, task, ...asked } }) {
   try {
     const to = target => (answer, moved = []) => target?.postMessage({ number, ...answer }, moved);
-    TASKS[task](asked, to(self), to(frame));
+    TASKS[task]({ number, ...asked }, to(self), to(frame));
   } catch (error) {
     postMessage({ number, kind: "failed", error: `${error.message ?? error}` });
   }
+}
+
+// A message has a task, or else the module or ports, which come first.
+addEventListener("message", message => {
+  const { module, toFrame, toPeer, task } = message.data;
+  if (task) take(message);
+  if (module) lsl = new Lsl(module);
+  frame = toFrame ?? frame;
+  if (!toPeer) return;
+  peer = toPeer;
+  peer.onmessage = take;
 });
