@@ -98,7 +98,7 @@ def show(binary, text, world_text, html=None, is_shown=True, is_coloured=None, h
         print("show: the steps are left out: the world wasn't played again to this journal", file=sys.stderr)
     if html:
         names = [it.prims[0].name for it in world.objects if it.prims[0].name] if world else []
-        write_text(html, timeline.page(entries, world, observed, ", ".join(names[:4]) or "Journal"))
+        write_text(html, timeline.page(text, world_text, observed, ", ".join(names[:4]) or "Journal"))
         print(f"show: {html} is written", file=sys.stderr)
     if is_shown or not html:
         painter = Painter(sys.stdout.isatty() if is_coloured is None else is_coloured)
