@@ -4,7 +4,7 @@
 // and answers the status. What is handed to it lies in pages that this code grew; the module's heap keeps off them.
 
 const PAGE_BYTES = 65536;
-const FIRST_ROOM = 1 << 25;
+const FIRST_ROOM = 1 << 23;
 const MOST_ROOM = 1 << 28;
 const PLACE_BYTES = 24;
 const OUTPUT_FULL = 5;

@@ -1,15 +1,20 @@
-// node drive.js MODULE: does the tasks of standard input, a JSON array of pairs of a name and a value, and prints what
-// comes of each, as a JSON array. Bytes are in base64.
+// node drive.js MODULE WORDS: does the tasks of standard input, a JSON array of pairs of a name and a value, and prints
+// what comes of each, as a JSON array. Bytes are in base64. WORDS is the file of the page's words.
 import fs from "node:fs";
 import { explained } from "../faults.js";
-import { readJournal } from "../journal.js";
+import { Grammar } from "../highlight.js";
+import { Lines } from "../lines.js";
 import { Lsl } from "../lsl.js";
+import { markedWorld, withoutMarks } from "../marks.js";
+import { outcomeOf } from "../outcome.js";
+import { linesOf, probedFiles } from "../probes.js";
+import { Scene, sceneOf } from "../scene.js";
 import { packed, unpacked } from "../share.js";
 import { stagedWorld } from "../stage.js";
-import { timelineOf } from "../timeline.js";
-import { markedWorld, readWorld, withoutMarks, worldOfOnce } from "../worlds.js";
+import { readWorld, worldOfOnce } from "../worlds.js";
 
 const lsl = new Lsl(new WebAssembly.Module(fs.readFileSync(process.argv[2])));
+const words = JSON.parse(fs.readFileSync(process.argv[3], "utf8"));
 const bytesOf = files => files.map(([name, text]) => [name, Buffer.from(text, "base64")]);
 const textOf = bytes => new TextDecoder().decode(bytes);
 
@@ -22,22 +27,52 @@ function run({ word, file, files, room }) {
   return { status: ran.status, output, milliseconds: performance.now() - start, memory: ran.memory };
 }
 
-// What the page draws of a run.
-function timeline({ word, file, files }) {
-  const all = bytesOf(files);
-  const text = word === "once" ? worldOfOnce(file) : textOf(all.find(it => it[0] === file)[1]);
-  const [world, marked] = [readWorld(text), markedWorld(text)];
-  const entries = readJournal(textOf(lsl.run(word, file, all).output));
+const worldText = ({ word, file, files }) =>
+  word === "once" ? worldOfOnce(file) : textOf(bytesOf(files).find(it => it[0] === file)[1]);
+
+// The rows of a run's lines in words, with the steps between them, and its arrows.
+function told(task) {
+  const all = bytesOf(task.files);
+  const text = worldText(task);
+  const marked = markedWorld(text);
+  const journal = textOf(lsl.run(task.word, task.file, all).output);
   const ran = marked ? lsl.run("replay", "\u0000world", [...all, ["\u0000world", marked.text], marked.file]) : null;
-  const seen = ran?.status === 0 ? withoutMarks(readJournal(textOf(ran.output)), world, marked.stride) : null;
-  return timelineOf(entries, world, JSON.stringify(seen?.kept) === JSON.stringify(entries) ? seen.steps : null);
+  const seen = ran?.status === 0 ? withoutMarks(textOf(ran.output), readWorld(text), marked.stride) : null;
+  const scene = new Scene(sceneOf(journal, text, seen?.text === journal ? seen.steps : null), words);
+  return { rows: Array.from({ length: scene.rowCount }, (_, row) => scene.rowText(row)), arrows: [...scene.arrows] };
+}
+
+// What became of a run, with the lines of faults and of handlers that were cut.
+function outcome(task) {
+  const files = bytesOf(task.files).map(([name, text]) => [name, textOf(text)]);
+  const text = worldText(task);
+  const { output } = lsl.run(task.word, task.file, files);
+  const found = outcomeOf(output);
+  const asked = [...found.faults, ...found.cut.map(it => ({ ...it, line: found.lines }))];
+  const copies = probedFiles(files, new Set(readWorld(text).scripts.map(it => it.file)));
+  const ran = lsl.run("replay", "\u0000world", [...copies.files, ["\u0000world", text]]);
+  return { ...found, located: linesOf(textOf(ran.output), textOf(output), copies, asked) };
+}
+
+// The pieces of a text's lines with their colours.
+function coloured({ text }) {
+  const lines = new Lines();
+  lines.set(text, new Grammar(words.grammar));
+  return lines.lines.map((_, line) => lines.pieces(line));
+}
+
+async function link(fragment) {
+  try {
+    return { play: await unpacked(fragment) };
+  } catch (error) {
+    return { error: error.message };
+  }
 }
 
 const TASKS = {
-  run,
-  timeline,
-  stage: ({ file, lines }) => stagedWorld(file, lines),
-  fault: ({ output, files, words }) => explained(output, files, words),
+  run, told, outcome, coloured, link,
+  stage: ({ file, lines }) => stagedWorld(file, lines, words.steps),
+  fault: ({ output, files }) => explained(output, files, words),
   share: async play => unpacked(await packed(play)),
 };
 

@@ -9,12 +9,11 @@ import signal
 import subprocess
 import tempfile
 import time
+import urllib.request
 
 from . import kit
 from .sockets import Closed, Socket
 
-CHROMIUM = ("chromium", "chromium-browser", "google-chrome")
-FIREFOX = ("firefox-esr", "firefox")
 SECONDS = 60
 SIZE = (1280, 800)
 CHROMIUM_FLAGS = ("--headless=new", "--no-sandbox", "--disable-gpu", "--remote-debugging-port=0", "--no-first-run")
@@ -78,10 +77,11 @@ class Tab:
 class Chromium(Tab):
     """A tab of Chromium."""
 
+    names = ("chromium", "chromium-browser", "google-chrome")
+
     def __init__(self, profile):
         port = first_line(os.path.join(profile, "DevToolsActivePort"))
-        with no_proxy_open(f"http://127.0.0.1:{port}/json") as answer:
-            tabs = answer
+        tabs = read_json(f"http://127.0.0.1:{port}/json")
         self.socket = Socket(next(it for it in tabs if it["type"] == "page")["webSocketDebuggerUrl"])
         self.count, self.said, self.requests = 0, [], []
         for it in ("Page.enable", "Runtime.enable", "Log.enable", "Network.enable"):
@@ -162,6 +162,8 @@ class Chromium(Tab):
 class Firefox(Tab):
     """A tab of Firefox."""
 
+    names = ("firefox-esr", "firefox")
+
     def __init__(self, profile):
         port = first_line(os.path.join(profile, "WebDriverBiDiServer.json"), '"ws_port":')
         self.socket = Socket(f"ws://127.0.0.1:{port}/session")
@@ -189,7 +191,7 @@ class Firefox(Tab):
         if came["type"] == "exception":
             raise Faulty(came["exceptionDetails"]["text"])
         text = came["result"].get("value")
-        return None if text is None else kit_json(text)
+        return None if text is None else json.loads(text)
 
     def open(self, url):
         self.call("browsingContext.navigate", context=self.context, url="about:blank", wait="complete")
@@ -228,20 +230,11 @@ class Firefox(Tab):
             self.call("browser.close")
 
 
-def kit_json(text):
-    import json
-
-    return json.loads(text)
-
-
-@contextlib.contextmanager
-def no_proxy_open(url):
-    import json
-    import urllib.request
-
+def read_json(url):
+    """What a browser on this machine answers, without a proxy."""
     opener = urllib.request.build_opener(urllib.request.ProxyHandler({}))
     with opener.open(url, timeout=SECONDS) as answer:
-        yield json.load(answer)
+        return json.load(answer)
 
 
 def first_line(path, after=None):
@@ -263,7 +256,7 @@ def first_line(path, after=None):
 @contextlib.contextmanager
 def opened(sort):
     """A tab of a browser, `Chromium` or `Firefox`, which ends with all its processes."""
-    program = path_of(CHROMIUM if sort is Chromium else FIREFOX)
+    program = path_of(sort.names)
     if program is None:
         raise kit.NotMade(f"there is no {sort.__name__}")
     profile = tempfile.mkdtemp(prefix="lsl-page-")

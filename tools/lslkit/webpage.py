@@ -9,6 +9,7 @@ from . import faults, highlighting, tables, webmodule, words, worlds
 from .places import in_top, text_of, write_text
 
 FOLDER = os.path.dirname(webmodule.MODULE)
+WORDS = os.path.join(FOLDER, "words.json")
 # The files of page/ that are no part of the page that is served.
 ASIDE = ("heap.c", "package.json", "picture.png")
 # Where the page says whether its module is proved.

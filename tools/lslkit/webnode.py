@@ -1,0 +1,263 @@
+"""The tests of the page's module and of what the page makes of journals, in node, beside what lslkit makes of them."""
+import base64
+import functools
+import importlib.machinery
+import importlib.util
+import json
+import os
+import shutil
+import subprocess
+import tempfile
+
+from . import faults, journal, kit, observing, places, playing, quoting, showing, standing, webmodule, webpage, worlds
+from .webtesting import need, test
+
+PROBE = "process.exit(WebAssembly.validate(new Uint8Array([0,97,115,109,1,0,0,0,5,3,1,4,0])) ? 0 : 1)"
+HEAP_ROUNDS = 300000
+HEAP_RUN = """const [path, rounds] = process.argv.slice(1);
+const module = new WebAssembly.Module(require("fs").readFileSync(path));
+process.stdout.write(`${new WebAssembly.Instance(module).exports.faults(BigInt(rounds))}`);"""
+WITH_MEMORY64 = "--experimental-wasm-memory64"
+STAGED = (
+    "touch Ann\nwait 10s\nsay 5 open\nby Ben\nsay hello\nsay -3 4",
+    "touch 3\ntouch Ann 2\nchanged 256\nrez 0\nwait\nrun 5\nwait 1.5s",
+    'by "A" \\ B\ntouch\nsay  a "b" \\n\n\nafter 500ms\nwait 2m',
+)
+
+
+@functools.lru_cache(maxsize=None)
+def suite():
+    """The tool that reads the suite."""
+    loader = importlib.machinery.SourceFileLoader("suite", places.in_top("tools", "suite"))
+    module = importlib.util.module_from_spec(importlib.util.spec_from_loader("suite", loader))
+    loader.exec_module(module)
+    return module
+
+
+# In node
+
+
+@functools.lru_cache(maxsize=None)
+def node():
+    """The words that begin a call of node: with a flag where it has 64-bit memories behind one."""
+    found = shutil.which("node")
+    if found is None:
+        raise kit.NotMade("there is no 'node' on the PATH, which plays the module")
+    for flags in ([], [WITH_MEMORY64]):
+        if subprocess.run([found, *flags, "-e", PROBE], stderr=subprocess.DEVNULL, check=False).returncode == 0:
+            return [found, *flags]
+    raise kit.NotMade("this node has no 64-bit WebAssembly memories: take node 20 or newer")
+
+
+def encoded(content):
+    return base64.b64encode(content).decode()
+
+
+def run_of(word, file, files, room=None):
+    """The task of a run."""
+    texts = [[name, encoded(content)] for name, content in files]
+    return ["run", {"word": word, "file": file, "files": texts, "room": room}]
+
+
+def driven(tasks):
+    """What comes of tasks."""
+    words = [*node(), places.in_top("page", "tests", "drive.js"), webmodule.MODULE, webpage.WORDS]
+    ran = subprocess.run(words, input=json.dumps(tasks).encode(), stdout=subprocess.PIPE, check=False)
+    need(ran.returncode == 0, "node ended with", ran.returncode)
+    return json.loads(ran.stdout)
+
+
+def output_of(answer):
+    return base64.b64decode(answer["output"])
+
+
+def room_of(case):
+    """The room of a case that makes nothing fail but the output for its room; nothing of another."""
+    words = case.outside.split(" ")
+    return int(words[2]) if len(words) == 3 and words[:2] == ["0", "0"] else None
+
+
+@functools.lru_cache(maxsize=None)
+def cases():
+    """The cases of the suite that the module can play: with two words, and without a shelf that fails."""
+    found = [it for it in suite().chosen([]) if it and len(it.words) == 2]
+    return [it for it in found if not it.fails or room_of(it) is not None]
+
+
+def compare(found, tasks):
+    """Plays cases, and compares the status and the output of each."""
+    answers = driven(tasks)
+    for case, answer in zip(found, answers):
+        came = (answer["status"], output_of(answer))
+        need(came == (case.status, case.written), case.name, "came to", came, "and not to", (case.status, case.written))
+    most = max(answers, key=lambda it: it["milliseconds"])
+    return f"{len(found)} equal runs; the longest took {most['milliseconds']:.0f} ms"
+
+
+@test
+def cases_of_the_suite_come_to_the_same():
+    found = [it for it in cases() if not it.fails]
+    return compare(found, [run_of(*it.words, it.files) for it in found])
+
+
+@test
+def outputs_that_are_too_long_are_cut_at_the_room():
+    found = [it for it in cases() if it.fails]
+    return compare(found, [run_of(*it.words, it.files, room_of(it)) for it in found])
+
+
+@test
+def examples_come_to_the_same():
+    found = [it for it in webpage.examples() if it["group"] in ("Worlds", "Scripts") and it["how"] != "play"]
+    tasks = [run_of(it["how"], it["file"], [(name, text.encode()) for name, text in it["files"]]) for it in found]
+    for it, answer in zip(found, driven(tasks)):
+        wanted = places.text_of(os.path.splitext(it["file"])[0] + ".out").encode()
+        need((answer["status"], output_of(answer)) == (0, wanted), it["file"], "came to", answer["status"])
+    return f"{len(found)} equal runs"
+
+
+@test
+def the_heap_keeps_its_blocks():
+    with tempfile.TemporaryDirectory(prefix="lsl-page-") as room:
+        made = webmodule.of_c(places.in_top("page", "tests", "heap_faults.c"), room, "faults")
+        words = [*node(), "-e", HEAP_RUN, webmodule.linked([made], room), str(HEAP_ROUNDS)]
+        ran = subprocess.run(words, stdout=subprocess.PIPE, check=False)
+    need(ran.returncode == 0 and ran.stdout == b"0", "faults:", ran.stdout)
+    return f"{HEAP_ROUNDS:,} blocks were taken, moved or given"
+
+
+# What the page shows, beside what lslkit shows
+
+
+def observed_in(room, text, task, entries):
+    """The second run of a world as lslkit makes it, as a task, and how its journal is read."""
+    second = observing.Second(text, room, with_probes=False)
+    marker = [(os.path.join(room, "marker.lsl"), observing.MARKER.encode())] if second.stride else []
+    files = [(name, base64.b64decode(content)) for name, content in task["files"]]
+    return second, run_of("replay", "\0second", [*files, ("\0second", second.text.encode()), *marker])
+
+
+def told_by_tools(text, entries, second, answer):
+    """The lines that tools/show shows of a journal."""
+    observed = None
+    if answer["status"] == 0 and second.stride:
+        kept, seen = second.observe(journal.read(output_of(answer).decode()))
+        observed = seen if kept == entries else None
+    return list(showing.lines(entries, worlds.read(text), showing.Painter(False), observed))
+
+
+def world_of(task):
+    if task["word"] == "once":
+        return standing.world_of_once(task["file"])
+    return base64.b64decode(dict(task["files"])[task["file"]]).decode()
+
+
+@test
+def words_are_those_of_tools_show():
+    found = [it for it in cases() if it.status == 0 and it.words[0] in ("once", "replay") and not it.fails]
+    found = [it for it in found if all(is_text(text) for _, text in it.files)]
+    tasks = [run_of(*it.words, it.files)[1] for it in found]
+    journals = [journal.read(it.written.decode()) for it in found]
+    with tempfile.TemporaryDirectory(prefix="lsl-page-") as room:
+        seconds = [observed_in(room, world_of(task), task, it) for task, it in zip(tasks, journals)]
+        answers = driven([it[1] for it in seconds])
+    came = driven([["told", task] for task in tasks])
+    rows = 0
+    for case, task, entries, (second, _), answer, told in zip(found, tasks, journals, seconds, answers, came):
+        wanted = told_by_tools(world_of(task), entries, second, answer)
+        steps = [it for it in wanted if it.startswith("[")]
+        differing = [(one, other) for one, other in zip(wanted, told["rows"]) if one != other]
+        # Steps after the last line are left out by neither.
+        need(not differing and len(wanted) == len(told["rows"]), case.name, "differs in", differing[:1] or (len(wanted), len(told["rows"]), len(steps)))
+        rows += len(wanted)
+    return f"{len(found)} cases, {rows:,} equal lines"
+
+
+@test
+def steps_are_played_in_the_same_world():
+    script = "examples/door/door.lsl"
+    came = driven([["stage", {"file": script, "lines": lines}] for lines in STAGED])
+    for lines, text in zip(STAGED, came):
+        talk = playing.Talk(None, playing.Stage(script))
+        for line in lines.split("\n"):
+            word, _, rest = line.strip().partition(" ")
+            if word in ("by", "run"):
+                getattr(talk, "by" if word == "by" else "set_run")(rest.strip())
+            elif word:
+                talk.step(word, rest.strip())
+        need(text == talk.stage.text(), lines, "came to", text, "and not to", talk.stage.text())
+    return f"{len(STAGED)} equal worlds"
+
+
+def told_by_lslkit(case):
+    """How lslkit tells the fault of a script, without hints: its place, the line and a caret."""
+    _, name, _, row, column, fault, _ = faults.REFUSAL.fullmatch(case.written.decode().rstrip("\n")).groups()
+    name = quoting.unquoted(name)
+    return faults.with_line(name, dict(case.files)[name], int(row), int(column), int(fault), [])
+
+
+@test
+def faults_are_told_as_by_lslkit():
+    found = [it for it in cases() if it.status == 3 and not it.fails and all(is_text(text) for _, text in it.files)]
+    tasks = []
+    for it in found:
+        files = [[name, text.decode()] for name, text in it.files]
+        tasks.append(["fault", {"output": it.written.decode(), "files": files}])
+    for case, came in zip(found, driven(tasks)):
+        wanted = told_by_lslkit(case)
+        # lslkit shows a part of a long line, and no carriage return.
+        if ".. " not in wanted and max(map(len, wanted.split("\n"))) < 110 and "\r" not in came["said"]:
+            need(came["said"] == wanted, case.name, "came to", came["said"], "and not to", wanted)
+    return f"{len(found)} faults"
+
+
+OUTCOMES = {
+    # A script, its reason or nothing, and the line at which it stops or is cut.
+    "integer a;\ndefault { state_entry() {\n  a = 0;\n  integer b = 10 / a;\n} }": ("Math Error", 4),
+    "integer f(integer a) {\n  return 1;\n}\ndefault { state_entry() {\n  integer b = f(1) / 0;\n} }": ("Math Error", 5),
+    "default { state_entry() {\n  if (TRUE)\n    llSay(0, \"/\");\n  else\n    llSay(0, \"\");\n  1 % 0;\n} }": ("Math Error", 6),
+    "default { state_entry() {\n  do {\n    1 / 0;\n  } while (TRUE);\n} }": ("Math Error", 3),
+    "default { state_entry() {\n  while (TRUE) ;\n} }": (None, 2),
+    "default { state_entry() {\n  integer n;\n  @again;\n  ++n;\n  jump again;\n} }": (None, 5),
+}
+
+
+@test
+def lines_of_faults_are_found():
+    tasks = [["outcome", run_of("once", "a.lsl", [("a.lsl", text.encode())])[1]] for text in OUTCOMES]
+    for (text, (reason, line)), came in zip(OUTCOMES.items(), driven(tasks)):
+        reasons = [it["reason"] for it in came["faults"]]
+        need(reasons == ([reason] if reason else []), text, "came to", reasons)
+        need(came["located"][:1] == [line], text, "stops at", came["located"])
+    return f"{len(OUTCOMES)} scripts"
+
+
+@test
+def colours_are_those_of_the_grammar():
+    text = 'integer a = 1; // x\n/* default\n "b */ state_entry() { llSay(PUBLIC, "c\n\\"d"); float'
+    rows = driven([["coloured", {"text": text}]])[0]
+    need("".join("".join(it[0] for it in row) + "\n" for row in rows) == text + "\n", "the text is another one", rows)
+    seen = {piece: sort for row in rows for piece, sort in row}
+    wanted = {"integer": "c-storage-type", "// x": "c-comment-line", "/* default": "c-comment-block", ' "b */': "c-comment-block"}
+    wanted.update({"state_entry": "c-entity-name-function-event", "llSay": "c-support-function", '"c': "c-string-quoted-double"})
+    wanted.update({'\\"d"': "c-string-quoted-double", "float": "c-invalid-illegal-missing"})
+    for piece, sort in wanted.items():
+        need(seen.get(piece) == sort, repr(piece), "has", seen.get(piece), "in", rows)
+    return f"{len(wanted)} pieces"
+
+
+def is_text(content):
+    """Whether a file can be shown as it is."""
+    try:
+        content.decode()
+    except UnicodeDecodeError:
+        return False
+    return True
+
+
+@test
+def links_hold_what_is_played():
+    plays = [{key: it[key] for key in ("files", "how", "file", "steps")} for it in webpage.examples()]
+    for play, came in zip(plays, driven([["share", it] for it in plays])):
+        need(came == play, play["file"], "came back as", came)
+    return f"{len(plays)} links"

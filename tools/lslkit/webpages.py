@@ -1,0 +1,101 @@
+"""The page in a browser, as the tests use it."""
+import json
+
+from . import webpage
+
+# A run has ended, and what there is of it is drawn.
+ENDED = """(() => { const it = document.getElementById("result");
+  return it.dataset.runs !== undefined && it.getAttribute("aria-busy") === "false" && document.getElementById("stop").disabled
+    && (document.getElementById("timeline").className === "empty" || it.dataset.drawn === it.dataset.runs); })()"""
+
+
+class Page:
+    """The page in a tab."""
+
+    def __init__(self, tab, url):
+        self.tab, self.url = tab, url
+
+    def fresh(self, fragment="", ready=ENDED):
+        """Opens the page as for the first time."""
+        self.tab.open(self.url)
+        self.tab.until("document.readyState === 'complete'")
+        self.tab.value("(localStorage.clear(), onpagehide = null, true)")
+        self.tab.open("about:blank")
+        self.tab.value("true")
+        self.tab.said.clear()
+        self.open(fragment, ready)
+
+    def open(self, fragment="", ready=ENDED):
+        self.tab.open(self.url + (f"#{fragment}" if fragment else ""))
+        self.tab.until(ready)
+
+    def value(self, expression):
+        return self.tab.value(expression)
+
+    def text(self, name):
+        return self.value(f"document.getElementById({json.dumps(name)}).innerText")
+
+    @property
+    def status(self):
+        return self.value("document.getElementById('status').textContent")
+
+    @property
+    def source(self):
+        """The text in the editor."""
+        return self.value("document.querySelector('#sheet textarea').value")
+
+    @property
+    def tabs(self):
+        return self.value("[...document.querySelectorAll('#tabs button')].map(it => it.textContent)")
+
+    @property
+    def focus(self):
+        """The id of the element that has the focus, or its tag."""
+        return self.value("document.activeElement.id || document.activeElement.tagName")
+
+    def run(self, act):
+        """Does what begins a run, and waits for its end."""
+        before = self.value("Number(document.getElementById('result').dataset.runs ?? 0)")
+        act()
+        self.tab.until(f"Number(document.getElementById('result').dataset.runs) > {before} && {ENDED}")
+
+    def click_run(self):
+        self.run(lambda: self.tab.click("#run"))
+
+    def example(self, title):
+        """Chooses an example."""
+        number = [it["title"] for it in webpage.examples()].index(title)
+        self.run(lambda: self.value(f"""(() => {{ const list = document.getElementById("examples");
+          list.value = {number}; list.dispatchEvent(new Event("change")); return true; }})()"""))
+
+    def edit(self, text):
+        """Types a text in place of the one in the editor."""
+        self.focus_editor()
+        self.tab.press("a", "Control")
+        self.tab.insert(text)
+
+    def focus_editor(self, place=None):
+        self.value("(document.querySelector('#sheet textarea').focus(), true)")
+        if place is not None:
+            self.select(place, place)
+
+    def select(self, start, end):
+        self.value(f"(document.querySelector('#sheet textarea').setSelectionRange({start}, {end}), true)")
+
+    @property
+    def selection(self):
+        return self.value("(it => [it.selectionStart, it.selectionEnd])(document.querySelector('#sheet textarea'))")
+
+    def link(self, play):
+        """The fragment of a link."""
+        return self.value(f"import('./share.js').then(it => it.packed({json.dumps(play)}))")
+
+    def follow(self, play):
+        """Follows a link in the open page."""
+        link = self.link(play)
+        self.run(lambda: self.value(f"(location.hash = {json.dumps(link)}, true)"))
+
+
+def script(text, how="once", name="calc.lsl", steps=""):
+    """A play of one script."""
+    return {"files": [[name, text]], "how": how, "file": name, "steps": steps}
