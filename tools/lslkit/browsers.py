@@ -2,7 +2,7 @@
 have a profile of their own, which is removed when they have ended."""
 import base64
 import contextlib
-import glob
+import json
 import os
 import shutil
 import signal

@@ -17,11 +17,9 @@ class Page:
 
     def fresh(self, fragment="", ready=ENDED):
         """Opens the page as for the first time."""
-        self.tab.open(self.url)
-        self.tab.until("document.readyState === 'complete'")
-        self.tab.value("(localStorage.clear(), onpagehide = null, true)")
-        self.tab.open("about:blank")
-        self.tab.value("true")
+        # The page itself would keep its files once more when it is left.
+        self.tab.open(self.url + "words.json")
+        self.tab.until("location.pathname === '/words.json' && (localStorage.clear(), true)")
         self.tab.said.clear()
         self.open(fragment, ready)
 

@@ -48,7 +48,7 @@ def main(words):
     passed = sum(ran(it, it.__name__) for it in chosen if not is_of_browser(it))
     count = sum(not is_of_browser(it) for it in chosen)
     for sort in SORTS:
-        tests = [it for it in chosen if is_of_browser(it) and sort in getattr(it, "browsers", SORTS[:1])]
+        tests = [it for it in chosen if is_of_browser(it) and (sort is SORTS[0] or hasattr(it, "is_in_both"))]
         if not browsers.path_of(sort.names):
             print(f"page: there is no {sort.__name__}, so nothing is shown in it")
             continue

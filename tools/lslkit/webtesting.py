@@ -17,3 +17,9 @@ def test(function):
 def need(holds, *said):
     if not holds:
         raise Failed(" ".join(map(str, said)))
+
+
+def in_both(function):
+    """Has a test be run in each browser, and not in Chromium alone."""
+    function.is_in_both = True
+    return test(function)
