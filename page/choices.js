@@ -7,14 +7,16 @@ const WIDTH = 360;
 
 export class Choices {
   constructor(editor, play, lookup) {
-    Object.assign(this, { editor, play, lookup, found: [], chosen: 0, isTyping: false });
+    Object.assign(this, { editor, play, lookup, found: [], chosen: 0, caret: -1 });
     editor.taken = event => this.key(event);
     at("sheet").addEventListener("input", event => {
-      this.isTyping = event.inputType === "insertText" && /\w/.test(event.data ?? "");
-      this.offer(LEAST);
+      const isTyping = event.inputType === "insertText" && /\w/.test(event.data ?? "");
+      if (isTyping) this.offer(LEAST);
+      else this.shut();
     });
     at("sheet").addEventListener("focusout", () => this.shut());
-    editor.listen(() => !this.isTyping && this.shut());
+    // A caret that went elsewhere shuts the list.
+    editor.listen(() => this.isOpen && editor.area.selectionEnd !== this.caret && this.shut());
     at("choices").addEventListener("pointerdown", event => {
       event.preventDefault();
       const item = event.target.closest("li");
@@ -41,8 +43,8 @@ export class Choices {
     if (start.length >= least && isWorld(this.play.shown.name)) this.found = isFirst ? this.lookup.worldChoices(start) : [];
     else if (start.length >= least && isName) this.found = this.lookup.choices(start, this.editor.lines.text);
     this.chosen = 0;
+    this.caret = this.editor.area.selectionEnd;
     this.draw();
-    this.isTyping = false;
   }
 
   // Whether a place is in no text and no comment.

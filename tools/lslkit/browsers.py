@@ -123,7 +123,8 @@ class Chromium(Tab):
 
     def press(self, key, *held):
         bits = sum(HELD[it][0] for it in held)
-        code, _ = KEYS.get(key, (ord(key.upper()) if len(key) == 1 else 0, ""))
+        is_sign = len(key) == 1 and key.isalnum()
+        code = KEYS[key][0] if key in KEYS else ord(key.upper()) if is_sign else 0
         text = "\r" if key == "Enter" else key if len(key) == 1 and not bits & 3 else ""
         said = {"key": key, "windowsVirtualKeyCode": code, "modifiers": bits}
         said["code"] = f"Key{key.upper()}" if key.isalpha() and len(key) == 1 else "Space" if key == " " else key

@@ -18,8 +18,8 @@ class Page:
     def fresh(self, fragment="", ready=ENDED):
         """Opens the page as for the first time."""
         # The page itself would keep its files once more when it is left.
-        self.tab.open(self.url + "words.json")
-        self.tab.until("location.pathname === '/words.json' && (localStorage.clear(), true)")
+        self.tab.open(self.url + "style.css")
+        self.tab.until("location.pathname === '/style.css' && (localStorage.clear(), true)")
         self.tab.said.clear()
         self.open(fragment, ready)
 
@@ -62,7 +62,9 @@ class Page:
 
     def example(self, title):
         """Chooses an example."""
-        number = [it["title"] for it in webpage.examples()].index(title)
+        self.example_at([it["title"] for it in webpage.examples()].index(title))
+
+    def example_at(self, number):
         self.run(lambda: self.value(f"""(() => {{ const list = document.getElementById("examples");
           list.value = {number}; list.dispatchEvent(new Event("change")); return true; }})()"""))
 

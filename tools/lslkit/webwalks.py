@@ -36,9 +36,9 @@ def outcomes_come_first(page):
 @test
 def examples_come_to_their_journals(page):
     page.fresh()
-    for it in webpage.examples():
-        page.example(it["title"])
-        page.tab.click("#view-journal")
+    page.tab.click("#view-journal")
+    for number, it in enumerate(webpage.examples()):
+        page.example_at(number)
         shown = page.value("[...document.querySelectorAll('#journal .row')].map(it => it.textContent).join('\\n')")
         wanted = places.text_of(it["file"].rpartition(".")[0] + ".out")
         if it["group"].startswith("Broken"):
@@ -229,7 +229,7 @@ def worlds_are_built_by_forms(page):
     pressed(page, "Script")
     pressed(page, "Step")
     chosen(page, "step-kind", "say")
-    filled(page, {"step-person": "Ben", "step-text": "hi"})
+    filled(page, {"step-name": "Ben", "step-text": "hi"})
     pressed(page, "Step")
     chosen(page, "step-kind", "cross")
     filled(page, {"step-region": "South"})
@@ -310,8 +310,8 @@ def framed(page, expression):
 def the_timeline_has_keys_and_buttons(page):
     page.fresh()
     page.example("door")
-    framed(page, "(it.getElementById('canvas').focus(), true)")
     page.value("(document.getElementById('timeline').focus(), true)")
+    framed(page, "(it.defaultView.focus(), it.getElementById('canvas').focus(), true)")
     for key, wanted in (("ArrowRight", "door: "), ("ArrowRight", "door: "), ("ArrowDown", "lamp: "), ("ArrowDown", "log: ")):
         page.tab.press(key)
         said = framed(page, "it.getElementById('spot').textContent")
