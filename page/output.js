@@ -17,9 +17,10 @@ export class Output {
     element.addEventListener("keydown", event => event.key === "Enter" && this.goFirst());
   }
 
-  clear() {
-    Object.assign(this, { lines: [], ends: [], scene: null });
-    this.rows.show(0);
+  // Shows why nothing ran: the lines of a fault, or none.
+  refuse(fault) {
+    Object.assign(this, { lines: [], ends: [], scene: null, fault, said: fault?.said.split("\n") ?? [] });
+    this.rows.show(this.said.length);
   }
 
   // Shows a scene. `answer` and `asked` are those of its run.
@@ -36,12 +37,19 @@ export class Output {
   }
 
   row(number) {
+    if (!this.scene) return this.faultRow(this.said[number]);
     if (number < this.lines.length) return this.lineRow(this.lines[number]);
     const cut = this.ends[number - this.lines.length];
     if (!cut) return rowOf("faint", ["nothing was said"]);
     const source = this.sourceOf(this.answer.outcome.faults.length + number - this.lines.length);
     const text = `is still in ${cut.event} at ${placeOf(cut.script, this.asked.scripts, source)}`;
     return this.linked(rowOf("cut", [`${this.scene.names.script(cut.script)} `], [text]), cut.script, source);
+  }
+
+  faultRow(text) {
+    const row = rowOf("fault", [text]);
+    Object.assign(row.dataset, { file: this.fault.name, line: this.fault.line });
+    return row;
   }
 
   lineRow(line) {

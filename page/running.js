@@ -81,7 +81,7 @@ export class Running {
     const isDrawn = this.asked.world !== undefined && ![2, 3, 8].includes(answer.status);
     if (!isDrawn) {
       this.isRunning = false;
-      this.seen.draw(null, answer, this.asked, false);
+      this.seen.draw(null, answer, this.asked, false, this.fault);
       this.seen.end();
     }
   }

@@ -143,6 +143,7 @@ def faults_are_shown_in_the_editor(page):
     page.edit(BROKEN)
     page.click_run()
     need(page.status.startswith("not accepted: ") and "calc.lsl:3:23" in page.status, "it says", page.status)
+    need("llOwnerSay(\"a\";" in page.text("output"), "the output has", page.text("output"))
     beside = page.value("document.querySelector('#paint .marked .beside')?.textContent")
     need(beside and beside in page.status, "beside the line is", beside)
     need(page.value("document.activeElement.tagName") == "TEXTAREA", "the focus is at", page.focus)
