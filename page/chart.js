@@ -58,6 +58,7 @@ export class Chart {
   // Reads the canvas's size. Each later reading would lay out the page anew.
   measure() {
     const { clientWidth: width, clientHeight: height } = this.canvas;
+    if (this.isWhole && width !== this.width) this.scale = 0;
     Object.assign(this, { width, height, left: Math.min(WIDEST, width * 0.3) });
   }
 
@@ -100,7 +101,9 @@ export class Chart {
   // Keeps what is seen within the journal.
   clamp() {
     const room = this.width - this.left;
-    this.scale = Math.min(MOST_SCALE, Math.max(this.scale, (room / Math.max(this.total, 1)) * 0.98));
+    const least = (room / Math.max(this.total, 1)) * 0.98;
+    this.isWhole = this.scale <= least;
+    this.scale = Math.min(MOST_SCALE, Math.max(this.scale, least));
     this.from = Math.max(0, Math.min(this.from, this.total - (room / this.scale) * 0.9));
     this.down = Math.max(0, Math.min(this.down, this.lanes.length * LANE - (this.height - TOP) + 10));
   }

@@ -49,9 +49,11 @@ export class Editor {
     if (this.area) this.area.remove();
     if (area.value !== file.text) area.value = file.text;
     this.area = area;
-    at("sheet").append(area);
+    // The sheet gets its size before it has the text area, which is laid out once then.
     this.element.scrollTo(0, 0);
-    return this.set();
+    this.set();
+    at("sheet").append(area);
+    return undefined;
   }
 
   set() {
@@ -81,6 +83,7 @@ export class Editor {
     const width = Math.max(clientWidth, this.margin + (this.lines.widest + 2) * this.character + 2 * PAD);
     const height = Math.max(clientHeight, count * HEIGHT + 2 * PAD);
     Object.assign(at("sheet").style, { width: `${Math.ceil(width)}px`, height: `${height}px` });
+    Object.assign(this.area.style, { width: `${Math.ceil(width) - this.margin}px`, height: `${height}px` });
     at("gutter").style.width = `${this.margin}px`;
     for (const it of [this.area, at("paint")]) it.style.left = `${this.margin}px`;
     this.painted = null;

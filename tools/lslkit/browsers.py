@@ -209,8 +209,7 @@ class Firefox(Tab):
         self.act("key", down + [{"type": "keyUp", "value": it} for it in [value, *reversed(signs)]])
 
     def insert(self, text):
-        signs = ["\ue007" if it == "\n" else it for it in text]
-        self.act("key", [{"type": sort, "value": it} for it in signs for sort in ("keyDown", "keyUp")])
+        self.value(f"document.execCommand('insertText', false, {json.dumps(text)})")
 
     def point(self, x, y, count=1):
         move = {"type": "pointerMove", "x": int(x), "y": int(y)}

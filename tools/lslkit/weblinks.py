@@ -1,8 +1,13 @@
 """Tests of links and of names in a browser: bad ones change nothing, and hostile ones do nothing."""
 import base64
+import http.client
 import json
+import os
+import subprocess
+import threading
 import zlib
 
+from . import places, webserver
 from .webpages import script
 from .webtesting import need, test
 
@@ -109,6 +114,40 @@ def nothing_is_asked_of_another_origin(page):
       document.body.append(it); return window.bad ?? "refused"; })()"""
     need(page.value(made) == "refused", "a script in the page ran")
     return "the page's policy holds"
+
+
+def answered(port, path, host):
+    asked = http.client.HTTPConnection(webserver.HOST, port)
+    asked.request("GET", path, headers={"Host": host})
+    answer = asked.getresponse()
+    answer.read()
+    return answer.status, answer.headers
+
+
+def serving(port):
+    """What `tools/page serve` says at a port that it can't take."""
+    words = [places.in_top("tools", "page"), "serve", str(port)]
+    done = subprocess.run(words, stdout=subprocess.PIPE, stderr=subprocess.PIPE, cwd=os.sep, check=False)
+    return done.returncode, done.stderr.decode().splitlines()[-1]
+
+
+@test
+def serving_is_for_this_machine_alone():
+    with webserver.opened(0) as server:
+        port = server.server_port
+        threading.Thread(target=server.serve_forever, daemon=True).start()
+        own = f"localhost:{port}"
+        status, headers = answered(port, "/", own)
+        need(status == 200 and headers["Content-Security-Policy"] == webserver.policy(), "the page is", status, headers)
+        for path, host, wanted in (("/%00", own, 404), ("/../../etc/passwd", own, 404), ("/", "evil.example", 403)):
+            status, _ = answered(port, path, host)
+            need(status == wanted, path, "of", host, "is", status)
+        said = serving(port)
+        server.shutdown()
+    need(said == (125, f"page: port {port} can't be taken: Address already in use; name another one"), "it says", said)
+    said = serving(99999)
+    need(said == (125, "page: a port is a number from 0 to 65535, and not 99999"), "it says", said)
+    return "three requests, and two ports"
 
 
 @test
