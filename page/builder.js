@@ -1,6 +1,6 @@
 // Forms that write a world file: objects, prims, scripts, notecards and steps.
-import { NEW_WORLD, clockOf, difference, keyOfPerson, peopleOf, regionsOf, withNote, withObject, withPrim, withScript, withStep }
-  from "./building.js";
+import { NEW_WORLD, clockOf, difference, keyOfPerson, peopleOf, regionsOf, withNote, withObject, withPrim, withScript,
+  withStep } from "./building.js";
 import { field, fieldsOf, form, select } from "./formfields.js";
 import { quoted } from "./quoting.js";
 import { baseOf, isWorld } from "./state.js";
@@ -138,7 +138,8 @@ export class Builder {
 
   input(name, objects, scripts, regions) {
     const people = [...peopleOf(this.world).keys()];
-    const links = Array.from({ length: Math.max(...objects.map(it => it.prims.length)) }, (_, link) => [link + 1, link + 1]);
+    const most = Math.max(...objects.map(it => it.prims.length));
+    const links = Array.from({ length: most }, (_, link) => [link + 1, link + 1]);
     const made = {
       OBJECT: () => this.objects("step-object"),
       SCRIPT: () => select("step-script", "script", scripts.map((it, at) => [at + 1, `${at + 1} ${it.name}`])),

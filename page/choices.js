@@ -40,7 +40,8 @@ export class Choices {
     const isFirst = this.editor.lines.lines[line].slice(0, place - start.length).trim() === "";
     const isName = this.isPlain(line, place);
     this.found = [];
-    if (start.length >= least && isWorld(this.play.shown.name)) this.found = isFirst ? this.lookup.worldChoices(start) : [];
+    const isInWorld = isWorld(this.play.shown.name);
+    if (start.length >= least && isInWorld) this.found = isFirst ? this.lookup.worldChoices(start) : [];
     else if (start.length >= least && isName) this.found = this.lookup.choices(start, this.editor.lines.text);
     this.chosen = 0;
     this.caret = this.editor.area.selectionEnd;
@@ -68,7 +69,8 @@ export class Choices {
     list.replaceChildren(...this.found.map((it, place) => this.item(it, place)));
     const caret = this.editor.caret;
     const point = this.editor.pointOf({ line: caret.line, place: caret.place - this.start.length });
-    const left = Math.max(0, Math.min(point.x, this.editor.element.scrollLeft + this.editor.element.clientWidth - WIDTH));
+    const { scrollLeft, clientWidth } = this.editor.element;
+    const left = Math.max(0, Math.min(point.x, scrollLeft + clientWidth - WIDTH));
     Object.assign(list.style, { left: `${left}px`, top: `${point.y + point.height}px`, maxWidth: `${WIDTH}px` });
     area.setAttribute("aria-controls", "choices");
     area.setAttribute("aria-activedescendant", `choice-${this.chosen}`);

@@ -1,22 +1,17 @@
 // Draws a chart on its canvas.
 import { CUT, STOPPED } from "./handlers.js";
 import { LANE, MARKS, TOP, lowest } from "./chart.js";
+import { Steps, fitting } from "./stepdrawing.js";
 
 const COLOURS = ["ground", "band", "line", "text", "faint", "done", "fault", "cut", "said", "step", "mark", "on"];
 const MOST_ARROWS = 500;
-const CHARACTER = 6.5;
 const FONT = "12px system-ui, sans-serif";
-
-function fitting(text, room) {
-  if (room < 14) return "";
-  const most = Math.floor(room / CHARACTER);
-  return text.length > most ? text.slice(0, Math.max(1, most - 1)) + "\u2026" : text;
-}
 
 export class Drawing {
   constructor(chart) {
     const { canvas } = chart;
     Object.assign(this, { chart, canvas, pen: canvas.getContext("2d"), colours: {} });
+    this.steps = new Steps(this);
   }
 
   draw() {
@@ -32,7 +27,7 @@ export class Drawing {
     pen.font = FONT;
     pen.textBaseline = "middle";
     this.drawLanes();
-    this.drawSteps();
+    this.steps.draw();
     for (const [top, draw] of [[TOP, "drawHandlers"], [22, "drawArrows"], [TOP, "drawMarks"], [TOP, "drawCrossings"]]) {
       pen.save();
       pen.beginPath();
@@ -62,41 +57,6 @@ export class Drawing {
       const y = chart.laneY(script);
       if (this.isSeen(y)) pen.fillRect(chart.left, Math.max(y, TOP), chart.width, LANE);
     }
-  }
-
-  drawSteps() {
-    const { chart } = this;
-    let [right, drawn] = [chart.left, -Infinity];
-    for (let at = Math.max(0, chart.groupAt(Math.ceil(chart.from) - 1)); at < chart.groups.length; at++) {
-      const x = Math.max(chart.xOf(chart.groupPlace(at)), chart.left);
-      if (x > chart.width) break;
-      const [mark, hasText] = [chart.groupMarks[at], x >= right];
-      if (x - drawn < 6 && !mark && !hasText) continue;
-      drawn = x;
-      this.drawStepLine(x, mark, hasText);
-      if (hasText) right = this.drawStepText(at, x, mark);
-    }
-  }
-
-  drawStepLine(x, mark, hasText) {
-    const head = mark ? 0 : hasText ? 22 : TOP;
-    for (const [top, low, isMark] of [[head, TOP, mark > 0], [TOP, this.chart.height, mark > 1]]) {
-      this.pen.strokeStyle = isMark ? this.colours.mark : this.colours.line;
-      this.drawLine(x, top, x, low);
-    }
-  }
-
-  // Draws the texts of a group, and answers up to where they go.
-  drawStepText(at, x, mark) {
-    const { chart, pen } = this;
-    const isLast = at + 1 >= chart.groups.length;
-    const room = Math.max((isLast ? chart.width : chart.xOf(chart.groupPlace(at + 1))) - x, 60);
-    const said = fitting(chart.groupTexts(at).join("; "), Math.min(room, 320) - 8);
-    pen.fillStyle = mark ? this.colours.mark : this.colours.step;
-    pen.fillText(said, x + 3, 30);
-    pen.fillStyle = this.colours.faint;
-    pen.fillText(chart.groupClock(at), x + 3, 12);
-    return Math.min(x + Math.max(60, pen.measureText(said).width + 12), x + room);
   }
 
   drawHandlers() {

@@ -38,5 +38,6 @@ export function explained(output, files, words) {
   const said = `${where}: error: ${says} (fault ${fault})`;
   const blanks = text.slice(0, place).replace(/[^\t]/g, " ");
   const short = `${says}, at ${where.replace(/^.*\//, "")}`;
-  return { name, line, place, fault, says, short, hints, said: `${said}\n${text}${column === undefined ? "" : `\n${blanks}^`}` };
+  const shown = `${said}\n${text}${column === undefined ? "" : `\n${blanks}^`}`;
+  return { name, line, place, fault, says, short, hints, said: shown };
 }

@@ -1,8 +1,12 @@
-// Colours of a text's lines, by the grammar that Vim and VS Code have too (tools/lslkit/highlighting.py): patterns with a
-// name, which are tried one after another, and some that go from a beginning to an end over several lines.
+// Colours of a text's lines, by the grammar of the files for VS Code (tools/lslkit/highlighting.py): patterns with a name,
+// which are tried one after another, and some that go from a beginning to an end over several lines.
 
 const classOf = name => `c-${name.replace(/\.lsl$/, "").replaceAll(".", "-")}`;
-const WORLD = /(?<comment>^[ \t]*#.*)|(?<string>"(?:[^"\\]|\\.)*")|(?<invalid>".*)|(?<constant>[0-9a-fA-F]{8}(?:-[0-9a-fA-F]{4}){3}-[0-9a-fA-F]{12}|-?\b[0-9]+\b)|(?<word>[^ \t"]+)/g;
+const WORLD_PIECES = {
+  comment: /^[ \t]*#.*/, string: /"(?:[^"\\]|\\.)*"/, invalid: /".*/,
+  constant: /[0-9a-fA-F]{8}(?:-[0-9a-fA-F]{4}){3}-[0-9a-fA-F]{12}|-?\b[0-9]+\b/, word: /[^ \t"]+/,
+};
+const WORLD = new RegExp(Object.entries(WORLD_PIECES).map(([name, it]) => `(?<${name}>${it.source})`).join("|"), "g");
 
 export class Grammar {
   constructor({ patterns }) {

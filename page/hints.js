@@ -27,7 +27,8 @@ export class Hints {
 
   hover(event) {
     const tip = at("tip");
-    const place = event.pointerType === "mouse" && event.buttons === 0 && this.editor.placeUnder(event.clientX, event.clientY);
+    const isFree = event.pointerType === "mouse" && event.buttons === 0;
+    const place = isFree && this.editor.placeUnder(event.clientX, event.clientY);
     const mark = place && this.editor.marks.find(it => it.line === place.line);
     const found = place && (mark ? { signature: mark.text, does: "" } : this.of(place));
     const isOnName = found && (mark || /\w/.test(this.editor.lines.lines[place.line][place.place] ?? ""));

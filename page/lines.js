@@ -38,7 +38,9 @@ export class Lines {
   at(place) {
     let line = 0;
     let start = 0;
-    while (line < this.lines.length - 1 && start + this.lines[line].length < place) start += this.lines[line++].length + 1;
+    while (line < this.lines.length - 1 && start + this.lines[line].length < place) {
+      start += this.lines[line++].length + 1;
+    }
     return { line, place: place - start, start };
   }
 

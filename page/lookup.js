@@ -53,13 +53,15 @@ export class Lookup {
     const own = [...new Set(text.match(NAME))].filter(it => it !== start && !Object.hasOwn(this.names, it));
     const fits = name => name.toLowerCase().startsWith(low) || name.toLowerCase().startsWith(`ll${low}`);
     const known = Object.keys(this.names).filter(fits).map(name => ({ name, ...this.names[name] }));
-    const others = own.filter(it => it.toLowerCase().startsWith(low)).map(name => ({ name, signature: name, does: "" }));
+    const fitting = own.filter(it => it.toLowerCase().startsWith(low));
+    const others = fitting.map(name => ({ name, signature: name, does: "" }));
     return [...known, ...others].filter(it => it.name !== start).slice(0, MOST);
   }
 
   // The first words of a world file's lines.
   worldChoices(start) {
     const found = Object.keys(this.forms).filter(it => it.startsWith(start) && it !== start);
-    return found.map(name => ({ name, signature: [name, ...this.forms[name].fields].join(" "), does: this.forms[name].does }));
+    const signature = name => [name, ...this.forms[name].fields].join(" ");
+    return found.map(name => ({ name, signature: signature(name), does: this.forms[name].does }));
   }
 }

@@ -1,5 +1,5 @@
-// What became of a run: how many lines it wrote, which scripts stopped, and which were still in a handler at its end. The
-// whole output is followed, however long it is, as bytes.
+// What became of a run: how many lines it wrote, which scripts stopped, and which were still in a handler at its end.
+// The whole output is followed, however long it is, as bytes.
 
 const LINE_END = 10;
 const SPACE = 32;

@@ -109,7 +109,8 @@ class Page {
 
   chooseExample(number) {
     const { title } = this.examples[number];
-    this.play.replace(this.examples[number], this.isEdited() ? `The files were replaced by the example ${title}.` : null);
+    const said = this.isEdited() ? `The files were replaced by the example ${title}.` : null;
+    this.play.replace(this.examples[number], said);
     this.example = JSON.stringify(this.play.parts);
     this.run();
   }

@@ -1,7 +1,8 @@
 // The painted lines of the editor. A line that is as it was keeps its element.
 
 const isSame = (one, other) =>
-  one.text === other.text && one.state === other.state && one.mark === other.mark && `${one.pairs}` === `${other.pairs}`;
+  one.text === other.text && one.state === other.state && one.mark === other.mark
+  && `${one.pairs}` === `${other.pairs}`;
 
 // A piece of a line, cut around the brackets that belong together.
 function cut(text, start, pairs) {
@@ -25,7 +26,9 @@ function made({ lines, line, mark, pairs }) {
   if (mark) row.className = `marked ${mark.sort}`;
   let place = 0;
   for (const [text, className] of lines.pieces(line)) {
-    for (const [part, isPair] of cut(text, place, pairs)) row.append(piece(part, isPair ? `${className} pair` : className));
+    for (const [part, isPair] of cut(text, place, pairs)) {
+      row.append(piece(part, isPair ? `${className} pair` : className));
+    }
     place += text.length;
   }
   if (mark) row.append(piece(mark.text, "beside"));

@@ -86,7 +86,8 @@ export class Panels {
   toldRow(row) {
     const { step, line } = this.scene.rowAt(row);
     const kind = step === undefined ? this.scene.journal.word(line) : "step";
-    return rowOf({ step: "step", fault: "fault", drop: "cut", done: "faint" }[kind] ?? "", [this.scene.rowText(row), ""]);
+    const sort = { step: "step", fault: "fault", drop: "cut", done: "faint" }[kind] ?? "";
+    return rowOf(sort, [this.scene.rowText(row), ""]);
   }
 
   save(file, { word }) {

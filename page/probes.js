@@ -1,5 +1,5 @@
-// Copies of scripts that say where they are, for the lines of faults and of handlers that were cut: before each statement
-// of a block stands a call of llOwnerSay. Nothing is taken from a run of copies whose journal is another one.
+// Copies of scripts that say where they are, for the lines of faults and of handlers that were cut: before each
+// statement of a block is a call of llOwnerSay. Nothing is taken from a run of copies whose journal is another one.
 
 const TOKEN = /"(?:[^"\\]|\\.)*"|\/\/[^\n]*|\/\*[^]*?\*\/|[A-Za-z_]\w*|\s+|[^]/g;
 const NOT_FIRST = ["}", "else", "@", ")"];

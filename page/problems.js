@@ -36,8 +36,8 @@ export class Problems {
   // Marks the lines of the file that is shown.
   mark() {
     const here = this.found.filter(it => it.name === this.play.shown.name);
-    const marks = here.map(({ line, says, hints }) => ({ line: line - 1, text: [says, ...hints].join("; "), sort: "" }));
-    this.editor.mark(marks);
+    const words = ({ says, hints }) => [says, ...hints].join("; ");
+    this.editor.mark(here.map(it => ({ line: it.line - 1, text: words(it), sort: "" })));
   }
 
   // Forgets the fault of a file that has changed.

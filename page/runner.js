@@ -1,5 +1,5 @@
-// Hands requests to two workers: one runs a request and reads its journal, and the other runs the same world again for its
-// steps and lines. Both are ended where a run is stopped.
+// Hands requests to two workers: one runs a request and reads its journal, and the other runs the same world again for
+// its steps and lines. Both are ended where a run is stopped.
 
 async function compiled() {
   const answer = await fetch("lsl_page.wasm");
@@ -8,8 +8,8 @@ async function compiled() {
 }
 
 export class Runner {
-  // `heard` is called with each answer that belongs to the last run. `wire` gets a port, on which the frame of the timeline
-  // hears the worker.
+  // `heard` is called with each answer that belongs to the last run. `wire` gets a port, on which the frame of the
+  // timeline hears the worker.
   constructor(heard, wire) {
     Object.assign(this, { number: 0, heard, wire });
     this.module = compiled();

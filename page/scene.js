@@ -26,7 +26,7 @@ function titleOf(world) {
   return names.slice(0, TITLED).join(", ") || "Journal";
 }
 
-// The lines of what was said, of what stopped, and of what was lost; and of objects that didn't get to where they were to.
+// The lines of what was said, of what stopped, and of what was lost; and of objects that didn't get to their regions.
 function spokenOf(journal, { homes }) {
   const { kinds, numbers, count } = journal;
   const isMissed = line => {

@@ -53,7 +53,8 @@ export function checked(value) {
   const { files, how, file, steps } = value;
   need(Array.isArray(files), "its files are no list");
   need(files.length > 0, "it has no file");
-  need(files.length <= MOST_FILES, `it has ${files.length.toLocaleString("en")} files, and at most ${MOST_FILES} are taken`);
+  const count = files.length.toLocaleString("en");
+  need(files.length <= MOST_FILES, `it has ${count} files, and at most ${MOST_FILES} are taken`);
   const names = new Set();
   for (const it of files) checkFile(it, names);
   const size = files.reduce((sum, [, text]) => sum + text.length, 0);

@@ -45,6 +45,6 @@ function missing({ files, named, file }) {
 export function sizeOf({ outcome, milliseconds, size }, shown) {
   const lost = outcome.drops ? `; ${counted(outcome.drops, "event")} lost` : "";
   const part = shown !== undefined && shown < outcome.lines
-    ? `; the first ${shown.toLocaleString("en")} are shown, and all ${size.toLocaleString("en")} bytes can be saved` : "";
+    ? `; the first ${shown.toLocaleString("en")} are shown, all ${size.toLocaleString("en")} bytes can be saved` : "";
   return `${counted(outcome.lines, "line")} in ${milliseconds.toFixed(1)} ms${lost}${part}`;
 }

@@ -16,7 +16,8 @@ export class TabList {
 
   made({ name, title, panel, id }, at, isChosen) {
     const tab = document.createElement("button");
-    Object.assign(tab, { textContent: name, role: "tab", id, ariaSelected: `${isChosen}`, tabIndex: isChosen ? 0 : -1 });
+    Object.assign(tab, { textContent: name, role: "tab", id, ariaSelected: `${isChosen}` });
+    tab.tabIndex = isChosen ? 0 : -1;
     if (title) tab.title = title;
     tab.setAttribute("aria-controls", panel);
     tab.addEventListener("click", () => this.choose(at));

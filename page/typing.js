@@ -28,8 +28,9 @@ function changeLines(area, change) {
   const after = before.split("\n").map(change).join("\n");
   if (after === before) return;
   put(area, start, end, after);
-  const first = selectionStart === selectionEnd ? Math.max(start, selectionStart + after.length - before.length) : start;
-  area.setSelectionRange(first, selectionStart === selectionEnd ? first : start + after.length);
+  const isCaret = selectionStart === selectionEnd;
+  const first = isCaret ? Math.max(start, selectionStart + after.length - before.length) : start;
+  area.setSelectionRange(first, isCaret ? first : start + after.length);
 }
 
 const indented = line => (line === "" ? line : INDENT + line);

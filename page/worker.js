@@ -1,6 +1,6 @@
-// Runs requests apart from the page, which stays usable meanwhile and may end this worker. It reads the journals too, and
-// hands over what is shown of them: to the page, and through a port to the frame of the timeline. Two such workers share a
-// world's runs, and hear one another through a port.
+// Runs requests apart from the page, which stays usable meanwhile and may end this worker. It reads the journals too,
+// and hands over what is shown of them: to the page, and through a port to the frame of the timeline. Two such workers
+// share a world's runs, and hear one another through a port.
 import { Lsl } from "./lsl.js";
 import { withoutMarks, markedWorld } from "./marks.js";
 import { frontOf, outcomeOf } from "./outcome.js";

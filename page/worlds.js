@@ -1,5 +1,5 @@
-// Reads a world file: its objects, prims, scripts, notecards and steps (docs/WORLDS.md). Lines that have too few words are
-// passed over: the program refuses them.
+// Reads a world file: its objects, prims, scripts, notecards and steps (docs/WORLDS.md). Lines that have too few words
+// are passed over: the program refuses them.
 import { quoted, unquoted } from "./quoting.js";
 
 export const KEY = /[0-9a-fA-F]{8}(-[0-9a-fA-F]{4}){3}-[0-9a-fA-F]{12}/;
@@ -32,8 +32,8 @@ export function readStep(text, start, line) {
 
 const cleared = line => (line.endsWith("\r") ? line.slice(0, -1) : line);
 
-// The world of a file's text. A script is its name, its file, its prim and the line that names it; a step its line, where
-// that begins, its first word and its other words.
+// The world of a file's text. A script is its name, its file, its prim and the line that names it; a step its line,
+// where that begins, its first word and its other words.
 export function readWorld(text) {
   const world = { objects: [], scripts: [], notes: [], steps: [], begin: 0 };
   let start = 0;

@@ -13,6 +13,7 @@ HOST, PORT, MOST_PORT = "127.0.0.1", 8000, 65535
 OWN_NAMES = ("localhost", "127.0.0.1", "[::1]")
 
 
+@functools.lru_cache(maxsize=None)
 def policy():
     """What the page may load, as it says itself."""
     return re.search(r'http-equiv="Content-Security-Policy" content="(.*?)"', text_of("page", "index.html"))[1]
@@ -26,7 +27,6 @@ class Handler(http.server.SimpleHTTPRequestHandler):
         ".js": "text/javascript",
         ".wasm": "application/wasm",
     }
-    policy = policy()
 
     def send_head(self):
         host = re.sub(r":\d+$", "", self.headers.get("Host", ""))
@@ -40,7 +40,7 @@ class Handler(http.server.SimpleHTTPRequestHandler):
 
     def end_headers(self):
         self.send_header("Cache-Control", "no-store")
-        self.send_header("Content-Security-Policy", self.policy)
+        self.send_header("Content-Security-Policy", policy())
         self.send_header("X-Content-Type-Options", "nosniff")
         super().end_headers()
 
