@@ -197,6 +197,8 @@ class Firefox(Tab):
     def open(self, url):
         self.call("browsingContext.navigate", context=self.context, url="about:blank", wait="complete")
         self.call("browsingContext.navigate", context=self.context, url=url, wait="complete")
+        # Keys press buttons in the window that has the focus.
+        self.call("browsingContext.activate", context=self.context)
 
     def act(self, sort, actions, **more):
         acted = [{"type": sort, "id": sort, "actions": actions, **more}]

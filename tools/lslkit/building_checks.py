@@ -1,4 +1,5 @@
 """The checks of how programs are built, in a small repository with a kit of scripts."""
+import glob
 import os
 import pty
 import re
@@ -204,7 +205,10 @@ def a_page_is_compiled_in_parts():
         repo.write("crates.txt", "low:\nlsl_page staticlib: low\nlsl: low\n")
         for name in ("crates/lsl_page/src/lib.rt", "page/heap.c"):
             repo.write(name, "")
-        repo.write("docs/FAULTS.md", places.text_of("docs", "FAULTS.md"))
+        tables = (f"crates/lsl_table/src/{it}.rt" for it in ("calls", "constants", "events"))
+        words = (os.path.relpath(it, places.TOP) for it in glob.glob(places.in_top("tools", "words", "*.json")))
+        for name in ("docs/FAULTS.md", "page/index.html", "tools/lsl_names.tsv", *tables, *words):
+            repo.write(name, places.text_of(name))
         repo.write_in_kit("module", MODULE.replace("@main", '@"lsl_page::lsl_page_run"'))
         for lines in (["compiling the module without its proofs"], []):
             status, output, notes = repo.ran("tools/page", "build", "--try")
