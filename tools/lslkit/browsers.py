@@ -12,12 +12,18 @@ import time
 import urllib.request
 
 from . import kit
+from .places import write_text
 from .sockets import Closed, Socket
 
 SECONDS = 60
 SIZE = (1280, 800)
 CHROMIUM_FLAGS = ("--headless=new", "--no-sandbox", "--disable-gpu", "--remote-debugging-port=0", "--no-first-run")
 CHROMIUM_FLAGS += ("--remote-allow-origins=*", "--hide-scrollbars")
+# What Firefox is to do otherwise: nothing is sent to its maker.
+PREFERENCES = """user_pref("datareporting.policy.dataSubmissionEnabled", false);
+user_pref("browser.shell.checkDefaultBrowser", false);
+user_pref("app.normandy.enabled", false);
+"""
 # Keys that have names: what a browser is told of each. The code is Windows', the sign that of WebDriver.
 KEYS = {
     "Tab": (9, "\ue004"),
@@ -78,6 +84,7 @@ class Chromium(Tab):
     """A tab of Chromium."""
 
     names = ("chromium", "chromium-browser", "google-chrome")
+    keys_press_buttons = True
 
     def __init__(self, profile):
         port = first_line(os.path.join(profile, "DevToolsActivePort"))
@@ -129,7 +136,8 @@ class Chromium(Tab):
         said = {"key": key, "windowsVirtualKeyCode": code, "modifiers": bits}
         said["code"] = f"Key{key.upper()}" if key.isalpha() and len(key) == 1 else "Space" if key == " " else key
         commands = {"z": ["undo"], "a": ["selectAll"]}.get(key, []) if "Control" in held else []
-        self.call("Input.dispatchKeyEvent", type="keyDown" if text else "rawKeyDown", text=text, commands=commands, **said)
+        sort = "keyDown" if text else "rawKeyDown"
+        self.call("Input.dispatchKeyEvent", type=sort, text=text, commands=commands, **said)
         self.call("Input.dispatchKeyEvent", type="keyUp", **said)
 
     def insert(self, text):
@@ -164,6 +172,8 @@ class Firefox(Tab):
     """A tab of Firefox."""
 
     names = ("firefox-esr", "firefox")
+    # Its window has no focus without a screen, and keys press no button there.
+    keys_press_buttons = False
 
     def __init__(self, profile):
         port = first_line(os.path.join(profile, "WebDriverBiDiServer.json"), '"ws_port":')
@@ -197,8 +207,6 @@ class Firefox(Tab):
     def open(self, url):
         self.call("browsingContext.navigate", context=self.context, url="about:blank", wait="complete")
         self.call("browsingContext.navigate", context=self.context, url=url, wait="complete")
-        # Keys press buttons in the window that has the focus.
-        self.call("browsingContext.activate", context=self.context)
 
     def act(self, sort, actions, **more):
         acted = [{"type": sort, "id": sort, "actions": actions, **more}]
@@ -265,6 +273,7 @@ def opened(sort):
     if sort is Chromium:
         words = [program, *CHROMIUM_FLAGS, f"--user-data-dir={profile}", "about:blank"]
     else:
+        write_text(os.path.join(profile, "user.js"), PREFERENCES)
         words = [program, "--headless", "--no-remote", "--profile", profile, "--remote-debugging-port=0"]
     environment = {**os.environ, "HOME": profile}
     silent = {"stdin": subprocess.DEVNULL, "stdout": subprocess.DEVNULL, "stderr": subprocess.DEVNULL}

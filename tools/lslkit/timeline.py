@@ -64,10 +64,12 @@ def page(text, world, observed, title):
         "words": {name: words.table(name) for name in ("journal", "steps")},
     }
     head, _, body = text_of("page", TEMPLATE).partition("</head>\n")
-    head = re.sub(r"(?s)<meta http-equiv.*?>\n", f'<meta http-equiv="Content-Security-Policy" content="{POLICY}">\n', head)
+    policy = f'<meta http-equiv="Content-Security-Policy" content="{POLICY}">\n'
+    head = re.sub(r"(?s)<meta http-equiv.*?>\n", policy, head)
     head = re.sub(r"<title>.*?</title>", lambda _: f"<title>{escape(title)}</title>", head)
     head = re.sub(r'<link rel="stylesheet".*?>\n', lambda _: f"<style>\n{text_of('page', STYLE)}</style>\n", head)
     head = re.sub(r"<script.*?</script>\n", "", head)
     said = in_script(json.dumps(data, separators=(",", ":")))
-    scripts = f'<script type="application/json" id="data">{said}</script>\n<script type="module">\n{script()}</script>\n'
+    scripts = f'<script type="application/json" id="data">{said}</script>\n'
+    scripts += f'<script type="module">\n{script()}</script>\n'
     return f"{head}</head>\n{body.replace('</body>', scripts + '</body>')}"

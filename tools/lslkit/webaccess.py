@@ -1,4 +1,4 @@
-"""Tests of accessibility in a browser, by the rules of page/tests/access.js: names, roles and contrast; and pictures."""
+"""Tests of accessibility in a browser, by the rules of page/tests/access.js: names, roles, contrast; and pictures."""
 import os
 
 from . import places, webpage

@@ -5,7 +5,8 @@ from . import webpage
 
 # A run has ended, and what there is of it is drawn.
 ENDED = """(() => { const it = document.getElementById("result");
-  return it.dataset.runs !== undefined && it.getAttribute("aria-busy") === "false" && document.getElementById("stop").disabled
+  return it.dataset.runs !== undefined && it.getAttribute("aria-busy") === "false"
+    && document.getElementById("stop").disabled
     && (document.getElementById("timeline").className === "empty" || it.dataset.drawn === it.dataset.runs); })()"""
 
 
@@ -56,6 +57,11 @@ class Page:
         before = self.value("Number(document.getElementById('result').dataset.runs ?? 0)")
         act()
         self.tab.until(f"Number(document.getElementById('result').dataset.runs) > {before} && {ENDED}")
+
+    def press_run(self):
+        """Presses the button Run by a key, where the browser can."""
+        self.value("(document.getElementById('run').focus(), true)")
+        self.run(lambda: self.tab.press("Enter", *([] if self.tab.keys_press_buttons else ["Control"])))
 
     def click_run(self):
         self.run(lambda: self.tab.click("#run"))

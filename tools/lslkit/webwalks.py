@@ -16,7 +16,8 @@ BROKEN = 'default {\n    state_entry() {\n        llOwnerSay("a";\n    }\n}\n'
 def outcomes_come_first(page):
     page.fresh()
     page.follow(script(HELLO))
-    need(page.status == "finished" and '"Hello, Avatar!"' in page.text("output"), "hello is shown as", page.text("output"))
+    need(page.status == "finished", "hello is", page.status)
+    need('"Hello, Avatar!"' in page.text("output"), "hello is shown as", page.text("output"))
     page.follow(script(DIVIDES))
     page.tab.until("document.getElementById('status').textContent === 'stopped: Math Error in calc.lsl:4'")
     need(page.text("output").endswith("in calc.lsl:4"), "the output has", page.text("output"))
@@ -44,7 +45,8 @@ def examples_come_to_their_journals(page):
         if it["group"].startswith("Broken"):
             need(page.status.startswith("not accepted: "), it["file"], "is", page.status)
             need(wanted.split(" error: ")[0].split(":")[1] in page.status, it["file"], "is", page.status)
-            need(page.value("document.querySelectorAll('#paint .marked').length") == 1, it["file"], "has no marked line")
+            marked = page.value("document.querySelectorAll('#paint .marked').length")
+            need(marked == 1, it["file"], "has no marked line")
         elif it["how"] != "play":
             need(wanted.startswith(shown) and shown, it["file"], "wrote", shown)
     need(not page.tab.said, "the page says", page.tab.said)
@@ -125,8 +127,9 @@ def run_runs_what_is_seen(page):
 @in_both
 def runs_are_stopped_and_followed_by_another(page):
     page.fresh()
-    page.value(f"import('./share.js').then(async it => (location.hash = await it.packed({json.dumps(script(ENDLESS, 'play', steps=LONG))}), true))")
-    page.tab.until("!document.getElementById('stop').disabled && document.getElementById('status').textContent.startsWith('run')")
+    link = page.link(script(ENDLESS, "play", steps=LONG))
+    page.value(f"(location.hash = {json.dumps(link)}, true)")
+    page.tab.until("!document.getElementById('stop').disabled && document.getElementById('old').hidden")
     page.tab.click("#stop")
     page.tab.until("document.getElementById('status').textContent === 'stopped by you'")
     page.tab.click("#run")
@@ -181,7 +184,8 @@ def names_are_completed_and_explained(page):
     page.tab.press("Escape")
     need(page.value("document.getElementById('choices').hidden"), "Escape leaves the choices")
     need(page.focus == "TEXTAREA", "Escape leaves the editor at once, for", page.focus)
-    coloured = page.value("[...document.querySelectorAll('#paint .c-support-function')].map(it => it.textContent)")
+    calls = "document.querySelectorAll('#paint .c-support-function')"
+    coloured = page.value(f"[...{calls}].map(it => it.textContent)")
     need(coloured == ["llOwnerSay"], "the calls are", coloured)
     return "completion, hints, brackets and colours"
 
@@ -190,7 +194,8 @@ def names_are_completed_and_explained(page):
 def the_pointer_explains(page):
     page.fresh()
     page.follow(script(HELLO))
-    x, y = page.value("""(() => { const it = document.querySelector("#paint .c-support-function").getBoundingClientRect();
+    x, y = page.value("""(() => {
+      const it = document.querySelector("#paint .c-support-function").getBoundingClientRect();
       return [it.x + 20, it.y + 9]; })()""")
     page.tab.hover(x, y)
     page.tab.until("!document.getElementById('tip').hidden")
@@ -257,7 +262,8 @@ def a_world_is_frozen(page):
     page.click_run()
     need(page.status == "finished" and page.text("save") == "Save the frozen world", "it is", page.status)
     page.tab.click("#view-journal")
-    need(page.value("document.querySelector('#journal .row:last-child').textContent.startsWith('frozen ')"), "no image")
+    last = page.value("document.querySelector('#journal .row:last-child').textContent")
+    need(last.startswith("frozen "), "the last line is", last[:40])
     return "a frozen world"
 
 
@@ -271,22 +277,24 @@ def the_keyboard_is_enough(page):
         page.tab.press("Tab")
     need(page.value("document.activeElement.tagName") == "TEXTAREA", "Tab comes to", page.focus)
     page.tab.press("a", "Control")
-    page.tab.type('default{state_entry(){llSay(0,"keys");')
+    page.tab.type('default{state_entry(){llSay(0,"keys");}}')
     page.tab.press("Escape")
-    page.tab.press("End")
-    page.value("true")
-    need(page.focus in ("run", "TEXTAREA"), "Escape goes to", page.focus)
-    page.value("(document.getElementById('run').focus(), true)")
-    page.run(lambda: page.tab.press("Enter"))
+    need(page.focus == "run", "Escape goes to", page.focus)
+    page.tab.press("Tab", "Shift")
+    need(page.focus == "file", "Shift and Tab go to", page.focus)
+    page.press_run()
+    need(page.status == "finished" and '"keys"' in page.text("output"), "it is", page.status)
     page.value("(document.getElementById('view-timeline').focus(), true)")
     page.tab.press("ArrowRight")
-    need(page.focus == "view-told" and page.value("!document.getElementById('told').hidden"), "an arrow goes to", page.focus)
+    need(page.focus == "view-told", "an arrow goes to", page.focus)
+    need(page.value("!document.getElementById('told').hidden"), "the words are hidden")
     page.tab.press("End")
     need(page.focus == "view-journal", "End goes to", page.focus)
     page.tab.press("Home")
     page.value("(document.getElementById('tab-0').focus(), true)")
     page.tab.press("ArrowRight")
-    need(page.value("document.activeElement.getAttribute('aria-selected')") == "true", "the tabs have no arrows")
+    is_chosen = page.value("document.activeElement.getAttribute('aria-selected')")
+    need(is_chosen == "true", "the tabs have no arrows")
     return "Tab, Escape, Enter and arrows"
 
 
@@ -294,17 +302,18 @@ def the_keyboard_is_enough(page):
 def the_focus_stays_at_run(page):
     page.fresh()
     page.follow(script(HELLO))
-    page.value("(document.getElementById('run').focus(), true)")
-    page.run(lambda: page.tab.press("Enter"))
+    page.press_run()
     need(page.focus == "run", "after a run the focus is at", page.focus)
     page.focus_editor(3)
     page.run(lambda: page.tab.press("Enter", "Control"))
-    need(page.value("document.activeElement.tagName") == "TEXTAREA" and page.selection == [3, 3], "it is at", page.focus)
+    is_in_editor = page.value("document.activeElement.tagName") == "TEXTAREA"
+    need(is_in_editor and page.selection == [3, 3], "it is at", page.focus)
     return "Run by its key, and by Ctrl and Enter"
 
 
 def framed(page, expression):
-    return page.value(f"(() => {{ const it = document.getElementById('timeline').contentDocument; return {expression}; }})()")
+    document = "document.getElementById('timeline').contentDocument"
+    return page.value(f"(() => {{ const it = {document}; return {expression}; }})()")
 
 
 @in_both
@@ -313,8 +322,8 @@ def the_timeline_has_keys_and_buttons(page):
     page.example("door")
     page.value("(document.getElementById('timeline').focus(), true)")
     framed(page, "(it.defaultView.focus(), it.getElementById('canvas').focus(), true)")
-    for key, wanted in (("ArrowRight", "door: "), ("ArrowRight", "door: "), ("ArrowDown", "lamp: "), ("ArrowDown", "log: ")):
-        page.tab.press(key)
+    for key, wanted in (("Right", "door: "), ("Right", "door: "), ("Down", "lamp: "), ("Down", "log: ")):
+        page.tab.press(f"Arrow{key}")
         said = framed(page, "it.getElementById('spot').textContent")
         need(said.startswith(wanted), key, "says", said)
     page.tab.press("Enter")
@@ -323,7 +332,8 @@ def the_timeline_has_keys_and_buttons(page):
     for name in ("closer", "on", "back", "wider", "fit"):
         framed(page, f"(it.getElementById('{name}').click(), true)")
     framed(page, "(it.getElementById('find').value = 'lamp off', it.getElementById('next').click(), true)")
-    page.tab.until("document.getElementById('timeline').contentDocument.getElementById('spot').textContent.includes('lamp off')")
+    spot = "document.getElementById('timeline').contentDocument.getElementById('spot')"
+    page.tab.until(f"{spot}.textContent.includes('lamp off')")
     need(not page.tab.said, "the page says", page.tab.said)
     return "arrows, Enter, buttons and a search"
 
@@ -334,7 +344,8 @@ def the_timeline_is_pinched(page):
     page.example("door")
     scale = """(() => { const canvas = document.getElementById("timeline").contentDocument.getElementById("canvas");
       const fire = (type, pointerId, x) => canvas.dispatchEvent(new PointerEvent(type, { pointerId, bubbles: true,
-        clientX: canvas.getBoundingClientRect().x + x, clientY: canvas.getBoundingClientRect().y + 80, pointerType: "touch" }));
+        clientX: canvas.getBoundingClientRect().x + x, clientY: canvas.getBoundingClientRect().y + 80,
+        pointerType: "touch" }));
       canvas.setPointerCapture = () => {};
       const before = canvas.toDataURL();
       fire("pointerdown", 1, 300); fire("pointerdown", 2, 340);
