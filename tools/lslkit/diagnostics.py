@@ -1,5 +1,5 @@
-"""What is wrong with a script's text, for editors: each fault with the bytes that it covers, its words and hints."""
-import re
+"""What is wrong with a script's text, for editors, the page and the terminal: each fault and each warning with the
+bytes that it covers, its words, hints and fixes. The words are those of tools/words."""
 from collections import namedtuple
 
 from . import faults, script_hints
@@ -25,6 +25,4 @@ def first_fault(text, line, column, fault):
     token = source.tokens[source.at]
     start = min(source.place, len(text))
     end = token.end if token.place == start and token.end > start else min(start + 1, len(text))
-    means = faults.meaning(fault)
-    means = re.split("[;:]", means)[0] if hints else means
-    return Diagnostic("error", str(fault), start, end, means, hints, [], [], True)
+    return Diagnostic("error", str(fault), start, end, faults.meaning_with(fault, hints), hints, [], [], True)

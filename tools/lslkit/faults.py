@@ -3,16 +3,21 @@ line and a caret, a notecard's with the line."""
 import hashlib
 import re
 
-from . import places, script_hints, world_hints, worlds
+from . import places, script_hints, words, world_hints, worlds
 from .quoting import unquoted, window
 
 REFUSAL = re.compile(r'bad (\w+) "((?:[^"\\]|\\.)*)" (?:line (\d+) |(\d+):(\d+) )?fault (\d+)(.*)')
 
 
 def meaning(fault):
-    """What a fault means: the second column of its row in docs/FAULTS.md."""
-    row = re.search(r"(?m)^\| %d \| (.*?) \|" % fault, places.text_of("docs", "FAULTS.md"))
-    return row[1] if row else "a fault without words"
+    """What a fault means, which is also the second column of its row in docs/FAULTS.md."""
+    row = words.table("faults").get(str(fault))
+    return row["says"] if row else "a fault without words"
+
+
+def meaning_with(fault, hints):
+    """The same beside hints: where a fault has several meanings, they say which one it is."""
+    return re.split("[;:]", meaning(fault))[0] if hints else meaning(fault)
 
 
 def explained(line, scripts=()):
@@ -87,8 +92,6 @@ def script_hint(fault, text, row, column):
 
 def with_line(name, text, row, column, fault, hints):
     """The words in the form that editors read, the line of the file, and a caret below."""
-    # Where a fault has several meanings, the hints say which one it is.
-    means = re.split("[;:]", meaning(fault))[0] if hints else meaning(fault)
-    said = f"{name}:{max(row, 1)}:{column}: error: {'; '.join([means, *hints])} (fault {fault})"
+    said = f"{name}:{max(row, 1)}:{column}: error: {'; '.join([meaning_with(fault, hints), *hints])} (fault {fault})"
     lines = [] if text is None else text.split(b"\n")
     return f"{said}\n{window(lines[row - 1], column)}" if 0 < row <= len(lines) else said
