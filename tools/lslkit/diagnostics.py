@@ -2,7 +2,7 @@
 bytes that it covers, its words, hints and fixes. The words are those of tools/words."""
 from collections import namedtuple
 
-from . import faults, script_hints
+from . import findings, lacking, reporting
 
 # Edits are tuples: the first byte, the one after the last, and the new text as bytes.
 Fix = namedtuple("Fix", "title edits")
@@ -15,14 +15,25 @@ Diagnostic = namedtuple("Diagnostic", "severity code start end words hints relat
 def of(text, check):
     """All faults in the order of their places, then the warnings. `check(text)` gives the program's first fault of a
     text as its line, its column and its number, or nothing."""
-    found = check(text)
-    return [] if found is None else [first_fault(text, *found)]
+    found = [diagnostic for it in findings.of(text, check) for diagnostic in of_finding(it, text)]
+    return sorted(found, key=lambda it: (it.start, it.end))
 
 
-def first_fault(text, line, column, fault):
-    source = script_hints.source_of(text, line, column)
-    hints = [] if fault in (1, 6) else script_hints.hint(fault, source)
-    token = source.tokens[source.at]
-    start = min(source.place, len(text))
-    end = token.end if token.place == start and token.end > start else min(start + 1, len(text))
-    return Diagnostic("error", str(fault), start, end, faults.meaning_with(fault, hints), hints, [], [], True)
+def of_finding(finding, text):
+    """A fault at each of its places."""
+    words, *hints = reporting.words_of(finding, text)
+    places = dict.fromkeys([(finding.start, finding.end), *((start, end) for start, end, _ in finding.more)])
+    related = [Related(start, end, "here too") for start, end in list(places)[1:]]
+    for at, (start, end) in enumerate(places):
+        is_first = finding.is_first and at == 0
+        fixes = fixes_of(finding, text) if at == 0 else []
+        yield Diagnostic("error", str(finding.fault), start, end, words, hints, [] if at else related, fixes, is_first)
+
+
+def fixes_of(finding, text):
+    fixes = [Fix(*finding.fix)] if finding.fix else []
+    pasted = lacking.pasted(finding)
+    if pasted:
+        place = lacking.before_states(text)
+        fixes.append(Fix(f"Add {finding.name} to the script", [(place, place, ("\n".join(pasted) + "\n\n").encode())]))
+    return fixes

@@ -3,26 +3,17 @@ line and a caret, a notecard's with the line."""
 import hashlib
 import re
 
-from . import places, script_hints, words, world_hints, worlds
-from .quoting import unquoted, window
+from . import places, reporting, world_hints, worlds
+from .quoting import unquoted
+from .reporting import meaning, meaning_with, said_at, with_window
 
 REFUSAL = re.compile(r'bad (\w+) "((?:[^"\\]|\\.)*)" (?:line (\d+) |(\d+):(\d+) )?fault (\d+)(.*)')
 
 
-def meaning(fault):
-    """What a fault means, which is also the second column of its row in docs/FAULTS.md."""
-    row = words.table("faults").get(str(fault))
-    return row["says"] if row else "a fault without words"
-
-
-def meaning_with(fault, hints):
-    """The same beside hints: where a fault has several meanings, they say which one it is."""
-    return re.split("[;:]", meaning(fault))[0] if hints else meaning(fault)
-
-
-def explained(line, scripts=()):
+def explained(line, scripts=(), check=None):
     """The words for a line that refuses a file; nothing for any other line. `scripts` are the files of the scripts of
-    the world over which a frozen one was to be thawed."""
+    the world over which a frozen one was to be thawed. With `check`, which gives a text's first fault, all faults of a
+    script are said."""
     refusal = REFUSAL.fullmatch(line)
     if not refusal:
         return None
@@ -36,8 +27,7 @@ def explained(line, scripts=()):
         return f"{name}:1:1: error: {meaning(fault)}{more} (fault {fault})"
     text = places.bytes_of(name)
     if sort == "script":
-        row, column = int(row), int(column)
-        return with_line(name, text, row, column, fault, script_hint(fault, text, row, column))
+        return of_script(name, text, (int(row), int(column), fault), check)
     if sort == "note":
         return with_line(name, text, int(number), 1, fault, [])
     world = (text or b"").decode(errors="surrogateescape")
@@ -84,14 +74,15 @@ def digest_of(name):
     return hashlib.sha256(places.bytes_of(name) or b"").hexdigest()
 
 
-def script_hint(fault, text, row, column):
-    if text is None or fault in (1, 6):
-        return []
-    return script_hints.hint(fault, script_hints.source_of(text, row, column))
+def of_script(name, text, first, check):
+    """The words for a script whose first fault is known, and with `check` for all its faults."""
+    if text is None:
+        return said_at(name, *first[:2], f"{meaning(first[2])} (fault {first[2]})")
+    is_same = check is not None and check(text) == first
+    return reporting.report(name, text, check) if is_same else reporting.report_first(name, text, *first)
 
 
 def with_line(name, text, row, column, fault, hints):
     """The words in the form that editors read, the line of the file, and a caret below."""
-    said = f"{name}:{max(row, 1)}:{column}: error: {'; '.join([meaning_with(fault, hints), *hints])} (fault {fault})"
-    lines = [] if text is None else text.split(b"\n")
-    return f"{said}\n{window(lines[row - 1], column)}" if 0 < row <= len(lines) else said
+    said = said_at(name, row, column, f"{'; '.join([meaning_with(fault, hints), *hints])} (fault {fault})")
+    return said if text is None else with_window(said, text, row, column)

@@ -57,6 +57,7 @@ class Options:
 
     def __init__(self, words):
         self.command, self.show, self.html, self.is_lossy, names = words[0], False, None, False, []
+        self.is_explained = bool(os.environ.get("LSL_EXPLAIN"))
         if self.command not in COMMANDS:
             raise Bad(f"'{self.command}' is no command")
         rest = iter(words[1:])
@@ -69,6 +70,8 @@ class Options:
                     raise Bad("'--html' takes the name of the page that is to be written")
             elif word == "--lossy" and self.command == "replay" and not self.is_lossy:
                 self.is_lossy = True
+            elif word == "--explain":
+                self.is_explained = True
             elif word.startswith("-"):
                 raise Bad(f"'{word}' is no option of it")
             else:
@@ -191,7 +194,7 @@ def carry(binary, command):
                     break
         notes.seek(0)
         status, said = program.status_of(running.returncode), as_given(notes.read(), handed, command.name)
-    tell(command, status, first, said)
+    tell(command, binary, status, first, said)
     if status == 0 and follower.running and command.command in SHOWN:
         tell_standing(binary, command, follower)
     return status
@@ -227,11 +230,13 @@ def handed_name(command, room):
     return path
 
 
-def tell(command, status, first, notes):
-    """Says on standard error how the run ended; on a terminal a refusal in words."""
+def tell(command, binary, status, first, notes):
+    """Says on standard error how the run ended; on a terminal, or where it is asked for, a refusal in words."""
     line = first.decode(errors="surrogateescape").split("\n")[0]
-    said = faults.explained(line, command.scripts) if status in (2, 3, 6, 8) else None
-    if said and sys.stderr.isatty():
+    is_asked = command.is_explained or sys.stderr.isatty()
+    is_refused = is_asked and status in (2, 3, 6, 8)
+    said = faults.explained(line, command.scripts, program.checker(binary)) if is_refused else None
+    if said:
         print(said, file=sys.stderr)
         return
     sys.stderr.buffer.write(notes)
@@ -256,7 +261,7 @@ def show(binary, command):
     ran = program.run(binary, [*command.words, command.name])
     if ran.status:
         hand_on(ran.output)
-        tell(command, ran.status, ran.output, ran.notes)
+        tell(command, binary, ran.status, ran.output, ran.notes)
         return ran.status
     text = ran.output.decode(errors="surrogateescape")
     return showing.show(binary, text, command.world(), command.html, command.show)

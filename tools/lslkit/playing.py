@@ -196,7 +196,7 @@ class Play:
             return Talk(binary, self.stage).run()
         ran = replayed(binary, self.stage.text())
         if ran.status:
-            return refused(ran)
+            return refused(binary, ran)
         self.stage.tell_unheard()
         text = ran.output.decode(errors="surrogateescape")
         if "journal" in self.flags:
@@ -220,10 +220,10 @@ def replayed(binary, text):
         return program.run(binary, ["replay", path])
 
 
-def refused(ran):
+def refused(binary, ran):
     """Says why a script isn't played."""
     lines = program.lines_of(ran.output)
-    said = explained(lines[0]) if lines else None
+    said = explained(lines[0], check=program.checker(binary)) if lines else None
     print(said or ran.notes.decode(errors="replace"), file=sys.stderr, end="\n" if said else "")
     return ran.status
 
@@ -301,7 +301,7 @@ class Talk:
         """Shows what is new, and answers the program's status."""
         ran = replayed(self.binary, self.stage.text())
         if ran.status:
-            return refused(ran)
+            return refused(self.binary, ran)
         text = self.stage.text()
         everything = journal.read(ran.output.decode(errors="surrogateescape"))
         observed = observing.observe(self.binary, text, everything)

@@ -1,8 +1,10 @@
 """Runs the program, and says what it leaves unsaid: which file couldn't be read, and why one was refused."""
 import os
+import re
 import stat
 import subprocess
 import sys
+import tempfile
 from collections import namedtuple
 
 from . import worlds
@@ -17,6 +19,24 @@ def run(program, words):
     """A whole run."""
     ran = subprocess.run([program, *words], stdout=subprocess.PIPE, stderr=subprocess.PIPE, check=False)
     return Run(status_of(ran.returncode), ran.stdout, ran.stderr)
+
+
+FIRST_FAULT = re.compile(rb' (\d+):(\d+) fault (\d+)\n\Z')
+
+
+def checker(binary):
+    """What gives the program's first fault of a text, as its line, its column and its number; nothing where the text is
+    accepted."""
+
+    def check(text):
+        with tempfile.TemporaryDirectory(prefix="lsl-check-") as room:
+            path = os.path.join(room, "s.lsl")
+            with open(path, "wb") as file:
+                file.write(text)
+            found = FIRST_FAULT.search(run(binary, ["check", path]).output)
+        return tuple(map(int, found.groups())) if found else None
+
+    return check
 
 
 def status_of(returned):

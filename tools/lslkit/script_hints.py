@@ -3,7 +3,7 @@ import re
 import unicodedata
 from collections import namedtuple
 
-from . import kinds, syntax, tables, tokens
+from . import habits, kinds, syntax, tables, tokens
 
 # The text, its tokens, its lines, its tree or what was unexpected, and the fault's place and token.
 Source = namedtuple("Source", "text tokens lines script unexpected place at")
@@ -51,6 +51,9 @@ def word_at(source):
 
 def hint(fault, source):
     """The hints for a fault, in the order in which they are said."""
+    habit = habits.of(fault, source)
+    if habit:
+        return [habit[0]]
     rule = HINTS.get(fault)
     if rule is None or (fault >= 20 and source.script is None):
         return []
@@ -60,16 +63,45 @@ def hint(fault, source):
 # Lexical faults
 
 
+def whole_number(source):
+    """The whole number that is meant by the number with a point here: 0 stays 0, and a time is at least 1."""
+    written = re.match(rb"[0-9]*\.?[0-9]*(?:[eE][+-]?[0-9]+)?", source.text[source.place :])[0].decode()
+    try:
+        meant = float(written)
+    except ValueError:
+        return None
+    least = 1 if meant > 0 and is_time(source) else 0
+    return max(least, int(min(meant, 2147483647) + 0.5))
+
+
+def is_time(source):
+    """Whether the fault is in the argument of a call that takes seconds."""
+    before = [it.text for it in source.tokens if it.end <= source.place]
+    return before[-1:] == ["("] and before[-2:-1] and before[-2] in WHOLE_SECONDS
+
+
 def number_with_point(source):
     """What a whole number in its place is."""
-    written = re.match(rb"[0-9]*\.?[0-9]*", source.text[source.place :])[0].decode()
-    try:
-        whole = max(1, int(float(written) + 0.5))
-    except ValueError:
-        return
-    before = [it for it in source.tokens if it.end <= source.place]
-    calls = [it for it in before[-2:] if it.text in WHOLE_SECONDS]
-    yield f"write whole seconds: {whole}" if calls else f"only whole numbers are in the language, as {whole}"
+    whole = whole_number(source)
+    if whole is not None:
+        yield f"write whole seconds: {whole}" if is_time(source) else f"only whole numbers are in the language, as {whole}"
+
+
+def open_string(source):
+    place = odd_quote(source)
+    if place != source.place:
+        yield habits.said("quotes", source.lines.line_of(place))
+
+
+def odd_quote(source):
+    """Where the first text begins that isn't closed in its line."""
+    over = (it for it in source.tokens if it.sort == "string" and "\n" in it.text)
+    return next((it.place for it in over), source.place)
+
+
+def not_utf8(source):
+    is_utf16 = source.text[:2] in (b"\xff\xfe", b"\xfe\xff") or b"\0" in source.text[:200]
+    yield habits.said("utf16" if is_utf16 else "latin1")
 
 
 def foreign_character(source):
@@ -102,9 +134,20 @@ def unexpected_token(source):
 
 
 def missing_sign(source):
-    """The sign that is missing before the unexpected token, and whether the script goes on with it to its end."""
+    """The sign that is missing before the unexpected token, in words, and whether the script goes on with it to its
+    end."""
+    sign, is_all = sign_missing(source)
+    if sign is None:
+        return None, False
     at = source.unexpected.at
-    for sign in (";", ")", "]", "{", "(") if at else ():
+    before, here = (source.lines.line_of(it) for it in (source.tokens[at - 1].end, source.tokens[at].place))
+    return f"perhaps a `{sign}` is missing {f'after line {before}' if before < here else 'before it'}", is_all
+
+
+def sign_missing(source):
+    """The sign with which the script goes on, and whether it does to its end."""
+    at = source.unexpected.at if source.unexpected else 0
+    for sign in (";", ")", "]", "{", "(", ",") if at else ():
         token = tokens.Token("sign", sign, 0, 0)
         try:
             reached = len(source.tokens) + 1
@@ -112,20 +155,28 @@ def missing_sign(source):
         except syntax.Unexpected as fault:
             reached = fault.at
         if reached > at + 1:
-            before, here = (source.lines.line_of(it) for it in (source.tokens[at - 1].end, source.tokens[at].place))
-            where = f"behind line {before}" if before < here else "before it"
-            return f"perhaps a `{sign}` is missing {where}", reached > len(source.tokens)
+            return sign, reached > len(source.tokens)
     return None, False
 
 
 def misplaced_brace(source, until):
-    """Which `}` may have closed another block than was meant: it stands further left than the line of its `{`."""
+    """Which `}` may have closed another block than was meant, in words."""
+    closing = brace_misplaced(source, until)
+    if closing is None:
+        return None
+    opening = next(it for it, end in pairs(source) if end.place == closing)
+    lines = [source.lines.line_of(it) for it in (opening.place, closing)]
+    return f"perhaps the `{{` of line {lines[0]} isn't closed: the `}}` of line {lines[1]} is further left"
+
+
+def brace_misplaced(source, until):
+    """Where the first `}` is that is further left than the line of its `{`."""
     for opening, closing in pairs(source):
         lines = [source.lines.line_of(it.place) for it in (opening, closing)]
         begins = source.text[source.lines.starts[lines[1] - 1] : closing.place].strip() == b""
         is_left = len(indent_of(source, closing.place)) < len(indent_of(source, opening.place))
         if closing.text == "}" and closing.place < until and lines[0] < lines[1] and begins and is_left:
-            return f"perhaps the `{{` of line {lines[0]} isn't closed: the `}}` of line {lines[1]} stands further left"
+            return closing.place
     return None
 
 
@@ -187,11 +238,17 @@ def unknown_name(source):
 def own_names(source):
     """The names that the script declares, with their nodes."""
     nodes = [it for root in syntax.roots(source.script) for it in syntax.walk(root)]
-    return {it.text: it for it in nodes if it.form in SORTS}
+    states = [it for it in nodes if it.form == "state" and it.parts]
+    return {it.text: it for it in [*states, *nodes] if it.form in SORTS and it.form != "state" or it in states}
 
 
 def taken_name(source):
     name = word_at(source)
+    for state in source.script.states:
+        same = [it for it in state.parts if it.text == name]
+        if source.at in [it.at for it in same[1:]]:
+            yield f"line {source.lines.line_of(source.tokens[same[0].at].place)} has a handler of {name} already"
+            return
     for sort, table in (("call", tables.calls()), ("event", tables.events()), ("constant", tables.constants())):
         if name in table:
             yield f"it is the name of a built-in {sort}"
@@ -335,6 +392,8 @@ def wrong_event(source):
 
 
 HINTS = {
+    1: not_utf8,
+    2: open_string,
     4: number_with_point,
     5: foreign_character,
     10: unexpected_token,

@@ -21,5 +21,6 @@ def table_or_none(name):
 
 
 def filled(phrase, fields):
-    """A phrase with its fields. page/words.js does the same."""
+    """A phrase with these texts in the places of its fields `{name}`; any other brace is itself. page/words.js does the
+    same."""
     return re.sub(r"\{(\w+)\}", lambda it: str(fields.get(it[1], it[0])), phrase)
