@@ -1,12 +1,13 @@
 """The script `lsl`: reads its words, has the program made where need be, runs it, and says how it ended."""
 import errno
 import os
+import re
 import signal
 import subprocess
 import sys
 import tempfile
 
-from . import about, faults, kit, making, playing, program, showing, standing, worlds
+from . import about, faults, kit, making, playing, program, showing, standing, streams, worlds
 from .places import in_top, write_text
 
 USAGE = """\
@@ -40,6 +41,8 @@ OF_FROZEN = ("thaw", "view")
 SHOWN = ("once", "replay")
 TAKEN = {"thaw": "two files", "view": "two files", "make": "one number"}
 READ_FAULT = 4
+# What a script and a world file have.
+SCRIPT, OBJECT = re.compile(r"(?m)^\s*default\b|\{"), re.compile(r"(?m)^[ \t]*object[ \t]")
 NOT_MADE = 125
 
 
@@ -110,6 +113,8 @@ class Options:
 
 
 def main(words):
+    if words[:1] not in (["--try"], ["--prove"]) and "--try" in words[1:]:
+        words = ["--try", *(it for it in words if it != "--try")]
     how = words[0] if words[:1] in (["--try"], ["--prove"]) else None
     if how and about.is_package():
         print(f"lsl: this is a package, with one program: '{how}' needs a checkout of the sources", file=sys.stderr)
@@ -128,7 +133,7 @@ def usage():
 
 
 def answer(words, how):
-    if words[:1] in (["--help"], ["-h"]):
+    if words[:1] in (["--help"], ["-h"], ["help"]):
         print(usage())
         return 0
     if words == ["--version"]:
@@ -186,14 +191,22 @@ def carry(binary, command):
         handed = handed_name(command, room)
         words = [*command.words, *([command.frozen] if command.frozen is not None else []), handed]
         with subprocess.Popen([binary, *words], stdout=subprocess.PIPE, stderr=notes) as running:
-            for piece in iter(lambda: os.read(running.stdout.fileno(), 65536), b""):
-                first = (first + piece)[:4096]
-                follower.feed(piece)
-                if not hand_on(as_given(piece, handed, command.name)):
-                    running.stdout.close()
-                    break
+            is_taken = True
+            try:
+                for piece in iter(lambda: os.read(running.stdout.fileno(), 65536), b""):
+                    first = (first + piece)[:4096]
+                    follower.feed(piece)
+                    is_taken = hand_on(as_given(piece, handed, command.name))
+                    if not is_taken:
+                        break
+            except BaseException:
+                running.kill()
+                raise
+            running.stdout.close()
         notes.seek(0)
         status, said = program.status_of(running.returncode), as_given(notes.read(), handed, command.name)
+    if not is_taken:
+        return streams.said("lsl", "standard output took no more, and is cut short", streams.CUT_SHORT)
     tell(command, binary, status, first, said)
     if status == 0 and follower.running and command.command in SHOWN:
         tell_standing(binary, command, follower)
@@ -243,10 +256,24 @@ def tell(command, binary, status, first, notes):
     sys.stderr.flush()
     if status == READ_FAULT:
         program.tell_unread(command.name, command.is_world, command.frozen)
+    if status in (2, 3):
+        tell_other_sort(command)
     if status == program.SIGNALLED + signal.SIGILL:
         print("lsl: a check failed in the program, which isn't proved; 'rt try' says where", file=sys.stderr)
     elif status > program.SIGNALLED:
         print(f"lsl: the program was ended by signal {status - program.SIGNALLED}", file=sys.stderr)
+
+
+def tell_other_sort(command):
+    """Says what to write, where a script was given in the place of a world file, or the other way round."""
+    text = program.world_of(command.name)
+    if command.is_world and not worlds.is_world(text) and SCRIPT.search(text):
+        other = f"is a script and no world file: write 'lsl once {command.name}' or 'lsl play {command.name}'"
+    elif not command.is_world and worlds.is_world(text) and OBJECT.search(text):
+        other = f"is a world file and no script: write 'lsl replay {command.name}' or 'lsl play {command.name}'"
+    else:
+        return
+    print(f'lsl: "{command.name}" {other}', file=sys.stderr)
 
 
 def tell_standing(binary, command, follower):
@@ -260,7 +287,8 @@ def show(binary, command):
     """Runs a command, and shows its journal readably or as a page."""
     ran = program.run(binary, [*command.words, command.name])
     if ran.status:
-        hand_on(ran.output)
+        if not hand_on(ran.output):
+            return streams.said("lsl", "standard output took no more, and is cut short", streams.CUT_SHORT)
         tell(command, binary, ran.status, ran.output, ran.notes)
         return ran.status
     text = ran.output.decode(errors="surrogateescape")

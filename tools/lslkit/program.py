@@ -91,17 +91,30 @@ def unread_files(name, is_world, frozen=None):
 
 
 def unread_named(world, it):
-    """The words for a script or notecard that can't be read; where it is, if it stands there from another folder."""
+    """The words for a script or notecard that can't be read; where it is, if it is there from another folder."""
     sort = "script" if isinstance(it, worlds.Script) else "notecard"
     said = f'"{it.file}", which line {it.line} of "{world}" names as {sort} "{it.name}", {unread(it.file)}'
+    folder = folder_of(world, it)
+    return f"{said}; {ELSEWHERE} {folder}: go there" if folder else said
+
+
+ELSEWHERE = "files are read from the folder in which lsl was started, and this one is there from"
+
+
+def folder_of(world, it):
+    """The folder from which a named file is there: the world file's own, or one around it; none where there is none."""
     folder = os.path.dirname(os.path.abspath(world))
     while not os.path.isfile(os.path.join(folder, it.file)):
         if folder == os.path.dirname(folder):
-            return said
+            return None
         folder = os.path.dirname(folder)
-    return f"{said}; it is read from the folder in which the program was started, and stands there from {folder}"
+    return folder
 
 
 def tell_unread(name, is_world, frozen=None):
-    for it in unread_files(name, is_world, frozen):
-        print(f"lsl: {it}", file=sys.stderr)
+    """Says what can't be read: of several files that one folder has, the first and how many there are."""
+    said = unread_files(name, is_world, frozen)
+    moved = [it for it in said if ELSEWHERE in it]
+    more = f"; so are {len(moved) - 1} more" if len(moved) > 1 else ""
+    for it in [it for it in said if it not in moved[1:]]:
+        print(f"lsl: {it}{more if it in moved else ''}", file=sys.stderr)
