@@ -2,7 +2,7 @@
 bytes that it covers, its words, hints and fixes. The words are those of tools/words."""
 from collections import namedtuple
 
-from . import findings, lacking, reporting
+from . import findings, lacking, reporting, warned
 
 # Edits are tuples: the first byte, the one after the last, and the new text as bytes.
 Fix = namedtuple("Fix", "title edits")
@@ -13,10 +13,16 @@ Diagnostic = namedtuple("Diagnostic", "severity code start end words hints relat
 
 
 def of(text, check):
-    """All faults in the order of their places, then the warnings. `check(text)` gives the program's first fault of a
+    """All faults in the order of their places, or else the warnings. `check(text)` gives the program's first fault of a
     text as its line, its column and its number, or nothing."""
     found = [diagnostic for it in findings.of(text, check) for diagnostic in of_finding(it, text)]
-    return sorted(found, key=lambda it: (it.start, it.end))
+    return sorted(found, key=lambda it: (it.start, it.end)) or [of_warning(it) for it in warned.of(text)]
+
+
+def of_warning(warning):
+    said, hint = warned.words_of(warning)
+    related = [Related(start, end, "this one") for start, end in warning.related]
+    return Diagnostic("warning", warning.name, warning.start, warning.end, said, [hint], related, [], False)
 
 
 def of_finding(finding, text):

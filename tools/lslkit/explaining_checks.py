@@ -1,9 +1,10 @@
 """Checks of what the tools explain: faults, warnings, and why a play does nothing."""
+import glob
 import os
 import re
 import tempfile
 
-from . import findings, making, places, program, tables, words
+from . import diagnostics, findings, making, places, program, reporting, tables, warned, words
 from .checking import check, need
 from .quoting import unquoted
 
@@ -68,3 +69,72 @@ default {
     wanted += [(10, "integer", False), (5, "'", False), (20, "break", False), (20, "cuont", False), (23, "+", False)]
     wanted += [(30, "sensor", False), (20, "llKey2Name", False), (20, "llWhat", False)]
     need(found == wanted, "found", found)
+
+
+# It shows what becomes of a script whose memory runs out, so that its loop has no other end.
+WARNED_EXAMPLES = {"examples/overflow.lsl": ["constant-condition"]}
+
+
+def names_in(*pattern):
+    found = sorted(glob.glob(os.path.join(places.TOP, *pattern)))
+    need(found, "no file is called", pattern)
+    return [os.path.relpath(it, places.TOP) for it in found]
+
+
+def text_in(name):
+    return places.bytes_of(places.in_top(name))
+
+
+@check
+def each_warning_has_an_example():
+    names = {os.path.basename(it)[:-4]: it for it in names_in("examples", "warned", "*.lsl")}
+    need(set(names) == set(words.table("warnings")), "the examples are", sorted(names))
+    for warning, name in names.items():
+        need([it.name for it in warned.of(text_in(name))] == [warning], name, "has", warned.of(text_in(name)))
+        need(reporting.report_warnings(name, text_in(name)) + "\n" == text_in(name[:-4] + ".out").decode(), name)
+
+
+@check
+def no_other_example_is_warned_of():
+    others = [it for it in names_in("examples", "*.lsl") + names_in("examples", "*", "*.lsl")]
+    for name in [it for it in others if not it.startswith(("examples/warned/", "examples/bad/"))]:
+        found = [it.name for it in warned.of(text_in(name))]
+        need(found == WARNED_EXAMPLES.get(name, []), name, "has", found)
+
+
+@check
+def warnings_are_diagnostics():
+    for name in names_in("examples", "warned", "*.lsl"):
+        found = diagnostics.of(text_in(name), check_of_program())
+        need([it.severity for it in found] == ["warning"] and found[0].code in name, name, "has", found)
+
+
+HABITS = {
+    b"#define N 5\ndefault { timer() { llSleep(N); } }": "write `integer N = 5;`",
+    b"default { timer() { llOwnerSay('x'); } }": 'write "x"',
+    b"default { timer() { for (integer i = 0; i < 3; i++) llSleep(i); } }": "`integer i;`",
+    b"default { timer() { integer x; switch (x) { case 1: llSleep(1); break; } } }": "LSL has no switch",
+    b"default { timer() { while (TRUE) { break; } } }": "jump out;",
+    b"default { timer() { while (TRUE) { continue; } } }": "jump next;",
+    b"default { timer() { if (1) llSleep(1); llSleep(2); else llSleep(3); } }": "put { } around several",
+    b"default { timer() { integer x; x =+ 2; } }": "write `+=`",
+    b"default { timer() { llSetTimerEvent(0.0); } }": "write whole seconds: 0",
+    b"default { timer() { llSetTimerEvent(0.4); } }": "write whole seconds: 1",
+    b"\xff\xfed\0e\0f\0": "save it as UTF-8",
+    b'default { timer() { llOwnerSay("caf\xe9"); } }': "Latin-1",
+    b"void f() { } default { timer() { f(); } }": "leave void out",
+    b"integer a, b; default { timer() { } }": "`integer a; integer b;`",
+    b"integer a = 2 * 3; default { timer() { } }": "no expression",
+    b"default { timer() { integer x; x = x ? 1 : 2; } }": "`if (..) x = a; else x = b;`",
+    b"default { timer() { list l = [1]; llSleep(l[0]); } }": "llList2Integer(l, 0)",
+    b"string llToLower(string s) { return s; } default { timer() { llOwnerSay(llToLower(\"A\")); } }": "",
+    b"default { timer() { llOwnerSay(llToUpper(\"a\")); } }": "add this function",
+}
+
+
+@check
+def habits_of_other_languages_are_explained():
+    for text, wanted in HABITS.items():
+        said = reporting.report("s.lsl", text, check_of_program())
+        need((wanted in said) if wanted else said == "", text, "is explained as", said)
+        need(said.count("error:") <= (wanted != ""), text, "has more faults than one:", said)

@@ -2,7 +2,7 @@
 and said first."""
 import re
 
-from . import findings, lacking, tokens, words
+from . import findings, lacking, tokens, warned, words
 from .quoting import window
 
 
@@ -56,15 +56,30 @@ def report(name, text, check):
     return "\n".join(of_finding(name, text, it) for it in ordered(findings.of(text, check)))
 
 
+def report_warnings(name, text):
+    """The lines for the warnings of a text."""
+    return "\n".join(of_warning(name, text, it) for it in warned.of(text))
+
+
+def of_warning(name, text, warning):
+    row, column = place_of(text, warning.start)
+    said = f"{'; '.join(warned.words_of(warning))} ({warning.name})"
+    return with_window(said_at(name, row, column, said, "warning"), text, row, column)
+
+
+def place_of(text, place):
+    lines = tokens.Lines(text)
+    row = lines.line_of(place)
+    return row, place - lines.starts[row - 1] + 1
+
+
 def report_first(name, text, line, column, fault):
     """The lines for the first fault of a text."""
     return of_finding(name, text, findings.single(text, line, column, fault))
 
 
 def of_finding(name, text, finding):
-    lines = tokens.Lines(text)
-    row = lines.line_of(finding.start)
-    column = finding.start - lines.starts[row - 1] + 1
+    row, column = place_of(text, finding.start)
     rest = "" if finding.is_first else " of the rest"
     said = f"{'; '.join(words_of(finding, text))} (fault {finding.fault}{rest})"
     shown = with_window(said_at(name, row, column, said), text, row, column)
