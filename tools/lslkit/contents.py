@@ -20,7 +20,7 @@ STARTED = ("lslkit.server.worker", "lslkit.server.player")
 PLACES = (
     *((it, it) for it in ("CHANGELOG.md", "CONTRIBUTING.md", "LICENSE", "README.md")),
     *((it, it) for it in ("docs/", "editors/", "tools/words/")),
-    *((it, it) for it in ("page/picture.png", "tools/lsl_names.tsv")),
+    *((it, it) for it in ("page/picture.png", "tools/lsl_names.tsv", "tools/lslkit/sender.lsl")),
     *((it, it) for it in (f"page/{name}" for name in timeline.files())),
     *((f"crates/lsl_table/src/{it}.rt", f"tools/tables/{it}.rt") for it in ("calls", "constants", "events")),
     ("crates/lsl_rows/data/examples/", "examples/"),

@@ -7,7 +7,7 @@ import subprocess
 import sys
 import tempfile
 
-from . import about, faults, kit, making, playing, program, showing, standing, streams, worlds
+from . import about, faults, kit, making, playing, program, showing, stage, standing, streams, worlds
 from .places import in_top, write_text
 
 USAGE = """\
@@ -142,7 +142,7 @@ def answer(words, how):
         os.execv(sys.executable, [sys.executable, in_top("tools", "lsl-server"), *words[1:]])
     try:
         command = playing.Play(words[1:]) if words[:1] == ["play"] else Options(words) if words else None
-    except (Bad, playing.Bad) as error:
+    except (Bad, stage.Bad) as error:
         print(f"lsl: {error}", file=sys.stderr)
         command = None
     if command is None:
@@ -175,12 +175,17 @@ def with_program(command, how):
     for name in command.files:
         # The last one is read first: where it can't be, nothing need be proved to know how that ends.
         said = program.unread(name)
-        if said and (name == command.files[-1] or not program.is_plain(name)):
+        is_play = isinstance(command, playing.Play)
+        if said and (is_play or name == command.files[-1] or not program.is_plain(name)):
             print(f'lsl: "{name}" {said} (status 4)', file=sys.stderr)
             return READ_FAULT
     binary = making.proved_program() if how == "--prove" else making.program(how == "--try")
     if isinstance(command, playing.Play):
-        return command.play(binary)
+        try:
+            return command.play(binary)
+        except stage.Bad as error:
+            print(f"lsl: {error}", file=sys.stderr)
+            return 1
     return show(binary, command) if command.show or command.html else carry(binary, command)
 
 

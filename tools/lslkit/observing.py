@@ -13,6 +13,8 @@ from .quoting import quoted
 MARKER = "default { touch_start(integer n) { } }\n"
 MAX_STEPS = 100000
 MAX_BYTES = 1000000
+
+
 class Observation:
     """Of a journal each line's step, as its place in the world's list, what each probe told before which line, and for
     each `clear` the state in which its script stands then."""
@@ -51,8 +53,8 @@ def states_of(entries, probes):
 class Second:
     """The second world of a world file's text, and how its journal is read."""
 
-    def __init__(self, text, room, with_probes, with_marks=True):
-        self.world, self.room = worlds.read(text), room
+    def __init__(self, text, room, with_probes, with_marks=True, is_full=False):
+        self.world, self.room, self.is_full = worlds.read(text), room, is_full
         self.scripts, notes = ([self.text_of(it) for it in sort] for sort in (self.world.scripts, self.world.notes))
         self.mark, self.probes = probe.mark_of([*self.scripts, *notes]), []
         files = self.probed_files() if with_probes else {}
@@ -73,7 +75,7 @@ class Second:
             if script.file not in files:
                 files[script.file] = os.path.join(self.room, f"{len(files)}.lsl")
                 with open(files[script.file], "wb") as file:
-                    file.write(probe.probed(text, self.mark, self.probes))
+                    file.write(probe.probed(text, self.mark, self.probes, self.is_full))
         return files
 
     def stride_of(self, text):

@@ -1,147 +1,77 @@
-"""Plays a script without a world file: touches, says and waits are given as words, or line by line."""
+"""Plays scripts without a world file, or goes on with one: steps are given as words, or line by line (`talking`)."""
 import os
-import re
 import sys
-import tempfile
 
-from . import journal, listening, observing, program, showing, telling, worlds
+from . import program, showing, talking, worlds
 from .faults import explained
-from .places import bytes_of, write_text
-from .quoting import quoted
+from .stage import Bad, Stage, number
 
 USAGE = """\
-usage: lsl play FILE [STEP..] [--world] [--journal] [--html PAGE]
+usage: lsl play FILE.. [STEP..] [--world] [--journal] [--html PAGE] [--freeze FROZEN]
 
-Plays a script in an object of its own, without a world file, and shows its journal readably. The steps follow one
-another as they are given, and behind each the script runs while it can:
+Plays scripts in an object, without a world file, and shows their journal readably; or goes on where a world file ends.
+The steps follow one another as they are given, and after each the scripts run while they can:
 
   --touch NAME       someone of this name touches the object; its key is made up for the name
   --say TEXT         someone says the text on channel 0
-  --after TIME       the clock goes on: 10s, 2m, 1h, 500ms
-  --changed FLAGS    the object changed; --rez N: it was rezzed
-  --run TICKS        how many segments run behind each later step (at first 10000)
+  --after TIME       the clock goes on, from one timer to the next: 10s, 2m, 1h, 500ms
+  --changed FLAGS    the object changed: a number, or names as CHANGED_OWNER; --rez N: it was rezzed
+  --cross REGION     the object goes to another region
+  --message WORDS    its scripts get link_message: a number, and a text: '100 on'
+  --run TICKS        how many segments run after each later step (at first 10000)
 
-What describes a touch or a say stands behind it; before the first of them it is meant for all:
+What describes a step comes after it; before the first step it is meant for all:
 
+  --on NAME          the object or the prim of this name (at first the first one)
   --link N           the touched prim's link number; the object gets as many prims
   --channel N        the channel on which it is said
   --by NAME          who says or touches it (at first who was named last, or Someone)
 
-  --owner NAME       who owns the object: what it tells its owner is said to this one
+What there is, in this order; a script is in the prim that was named last:
+
+  --object NAME      a further object, or the name of the first; --region NAME: where it is
+  --prim NAME        a further prim of the object
+  --note FILE        a notecard of the prim, named as the file; or --note NAME=FILE
+  --owner NAME       who owns the objects: what a script says to its owner is said to this one
+
   --world            prints the world file of these steps, and plays nothing
   --journal          prints the journal as the program writes it
   --html PAGE        writes the journal as a page with a timeline
+  --freeze FROZEN    writes what 'lsl freeze' prints of the steps
   --interactive      reads steps line by line, as it does without a step; 'help' lists them
 
-  lsl play door.lsl --touch Ann --say open --channel 5 --after 10s"""
-HELP = """\
-touch [NAME] [LINK]     say [CHANNEL] TEXT      by NAME: who touches and says from now on
-wait [TIME]             the clock goes on: 10s, 2m, 500ms; 'wait' alone: to 1s
-changed FLAGS           rez N                   run TICKS
-state                   in which state the script is, and what it last did
-world                   prints the world file so far; save FILE writes it
-quit"""
-UNITS = {"ms": 1, "s": 1000, "": 1000, "m": 60000, "h": 3600000}
-PERSON, PRIM = "00000000-0000-4000-8000-%012x", "00000000-0000-4000-9000-%012x"
-MOST_CLOCK = 2147483647999
-STEPS = ("touch", "say", "after", "changed", "rez")
+  lsl play door.lsl --touch Ann --say open --channel 5 --after 10s
+  lsl play door.lsl --prim Lamp lamp.lsl --object Log log.lsl --touch Ann --on Lamp
+  lsl play examples/door/door.world"""
+STEPS = ("touch", "say", "after", "changed", "rez", "cross", "message")
 # What describes a step, and which.
-DETAILS = {"link": ("touch",), "channel": ("say",), "by": ("say", "touch")}
-# The steps and lines that stand in every play.
+DETAILS = {"link": ("touch",), "channel": ("say",), "by": ("say", "touch"), "on": ("touch", "changed", "rez", "cross", "message")}
+PARTS = ("object", "prim", "note", "region")
+# The steps and lines that are in every play.
 HIDDEN = ("run", "home")
 FLAGS = ("world", "journal", "interactive")
-NUMBERS = ("link", "channel", "changed", "rez", "run")
-# The words that take another one, and the least and the greatest number of those that don't take every one.
-TAKING = (*STEPS, *DETAILS, "run", "owner", "html")
-RANGES = {"link": (0, 255), "run": (0, 1000000)}
-
-
-class Bad(Exception):
-    """Words that are no step."""
-
-
-def milliseconds(text):
-    found = re.fullmatch(r"([0-9]+(?:\.[0-9]+)?)(ms|s|m|h|)", text)
-    if not found:
-        raise Bad(f"'{text}' is no time: write 10s, 2m, 1h or 500ms")
-    return int(float(found[1]) * UNITS[found[2]] + 0.5)
-
-
-def number(text, name):
-    least, greatest = RANGES.get(name, (-(2**31), 2**31 - 1))
-    if not re.fullmatch(r"-?[0-9]{1,10}", text) or not least <= int(text) <= greatest:
-        raise Bad(f"'{text}' is no number for {name}: {least} to {greatest}")
-    return int(text)
-
-
-class Stage:
-    """The world in which a script is played, as lines of its file."""
-
-    def __init__(self, file, owner="Owner"):
-        self.file, self.steps, self.ticks, self.clock, self.prims = file, [], 10000, 0, 1
-        self.people = {}
-        self.owner_key = self.key_of(owner)
-        self.details = {"link": 1, "channel": 0, "by": None}
-        self.run()
-
-    def key_of(self, name):
-        """The key that is made up for a person."""
-        self.people.setdefault(name, PERSON % (len(self.people) + 1))
-        return self.people[name]
-
-    def run(self):
-        self.steps.append(f"run {self.ticks}")
-
-    def act(self, word, value, details):
-        """A step, and the run behind it. `details` are those that stand behind it."""
-        details = {**self.details, **details}
-        if word == "touch":
-            name = value or details["by"] or "Someone"
-            self.details["by"] = name
-            self.prims = max(self.prims, details["link"])
-            self.steps.append(f"touch 1 {details['link']} {self.key_of(name)} {quoted(name)}")
-        elif word == "say":
-            name = details["by"] or "Someone"
-            self.steps.append(f"say {details['channel']} {quoted(name)} {self.key_of(name)} {quoted(value)}")
-        elif word == "after":
-            self.clock = min(self.clock + milliseconds(value), MOST_CLOCK)
-            self.steps.append(f"clock {self.clock}")
-        else:
-            self.steps.append(f"{word} 1 {number(value, word)}")
-        self.run()
-
-    def tell_unheard(self):
-        """Says where something was said on a channel on which the script doesn't listen."""
-        channels = listening.channels_of(bytes_of(self.file) or b"")
-        used = {int(it.split(" ")[1]) for it in self.steps if it.startswith("say ")}
-        for channel in sorted(used - channels if channels is not None else ()):
-            heard = ", ".join(map(str, sorted(channels)))
-            more = f"the script listens on {heard}" if channels else "the script doesn't listen"
-            print(f"lsl: nobody hears what is said on channel {channel}: {more}", file=sys.stderr)
-
-    def text(self):
-        name = os.path.splitext(os.path.basename(self.file))[0]
-        lines = [f'object {PRIM % 1} {quoted(name)} {self.owner_key} "Here"']
-        lines += [f"script {quoted(name)} {quoted(self.file)}"]
-        lines += [f'prim {PRIM % link} "Link {link}"' for link in range(2, self.prims + 1)]
-        return "\n".join([*lines, "", "begin", *self.steps, "end", ""])
+NUMBERS = ("link", "channel", "run")
+# The words that take another one.
+TAKING = (*STEPS, *DETAILS, *PARTS, "run", "owner", "html", "freeze")
 
 
 class Play:
     """The words of a play."""
 
     def __init__(self, words):
-        self.is_asked = words[:1] in (["--help"], ["-h"])
-        self.given, self.flags, self.html, self.owner = [], set(), None, "Owner"
-        self.file = None if self.is_asked else self.read(iter(words))
-        self.stage = None if self.is_asked else self.staged()
+        self.is_asked = words[:1] in (["--help"], ["-h"], ["help"])
+        self.given, self.flags, self.html, self.freeze, self.owner = [], set(), None, None, "Owner"
+        # What there is: the sort of each part and its name.
+        self.parts = []
+        if not self.is_asked:
+            self.read(iter(words))
+        self.stage = None
 
     def read(self, words):
-        names = []
         for word in words:
             name = word[2:]
             if not word.startswith("-"):
-                names.append(word)
+                self.parts.append(("file", word))
             elif word[:2] == "--" and name in FLAGS:
                 self.flags.add(name)
             elif word[:2] == "--" and name in TAKING:
@@ -151,186 +81,111 @@ class Play:
                 self.give(name, value)
             else:
                 raise Bad(f"'{word}' is no word of play")
-        if len(names) != 1:
-            raise Bad("play takes one script")
-        return names[0]
+        if not self.scripts:
+            raise Bad("play takes a script, or a world file")
 
     def give(self, name, value):
-        if name in ("owner", "html"):
+        if name in ("owner", "html", "freeze"):
             setattr(self, name, value)
             return
-        value = number(value, name) if name in NUMBERS and name not in STEPS else value
+        if name in PARTS:
+            self.parts.append((name, value))
+            return
+        value = number(value, name) if name in NUMBERS else value
         described = [it for it in self.given if it[0] in DETAILS.get(name, ())]
         if described:
             described[-1][2][name] = value
         else:
             self.given.append((name, value, {}))
 
-    def staged(self):
-        stage = Stage(self.file, self.owner)
+    @property
+    def scripts(self):
+        return [name for sort, name in self.parts if sort == "file"]
+
+    @property
+    def files(self):
+        """The files that its words name."""
+        return self.scripts + [it.partition("=")[2] or it for sort, it in self.parts if sort == "note"]
+
+    @property
+    def needs_no_program(self):
+        return self.is_asked or ("world" in self.flags and not any(it[0] == "after" for it in self.given))
+
+    def answer(self):
+        print(USAGE if self.is_asked else self.staged(None).text(), end="\n" if self.is_asked else "")
+        return 0
+
+    def set_up(self):
+        """The stage with all that there is, and no step."""
+        stage = Stage(self.owner)
+        for sort, name in self.parts:
+            add_part(stage, sort, name)
+        if not stage.steps:
+            stage.run()
+        return stage
+
+    def staged(self, binary):
+        """The stage with the steps of the words."""
+        self.stage = stage = self.set_up()
         for name, value, details in self.given:
             if name == "run":
                 stage.ticks = value
             elif name in DETAILS:
                 stage.details[name] = value
+            elif name == "after":
+                talking.wait(binary, stage, value)
             else:
                 stage.act(name, value, details)
         return stage
 
-    @property
-    def files(self):
-        """The files that its words name."""
-        return [self.file]
-
-    @property
-    def needs_no_program(self):
-        return self.is_asked or "world" in self.flags
-
-    def answer(self):
-        print(USAGE if self.is_asked else self.stage.text(), end="\n" if self.is_asked else "")
-        return 0
-
     def play(self, binary):
         """Plays, and answers the program's status."""
+        stage = self.staged(binary)
+        if "world" in self.flags:
+            print(stage.text(), end="")
+            return 0
         if "interactive" in self.flags or not self.given:
-            return Talk(binary, self.stage).run()
-        ran = replayed(binary, self.stage.text())
+            return talking.Talk(binary, stage).run()
+        ran = talking.replayed(binary, stage.text())
         if ran.status:
             return refused(binary, ran)
-        self.stage.tell_unheard()
         text = ran.output.decode(errors="surrogateescape")
+        if self.freeze:
+            talking.write_frozen(binary, stage.text(), self.freeze)
         if "journal" in self.flags:
             print(text, end="")
             return 0
-        return showing.show(binary, text, self.stage.text(), self.html, not self.html, hidden=HIDDEN)
+        status = showing.show(binary, text, stage.text(), self.html, not self.html, hidden=HIDDEN)
+        talking.tell_causes(binary, stage.text())
+        return status
 
 
-def with_history():
-    """Has the terminal keep the lines that were typed, where Python can."""
-    try:
-        import readline
-    except ImportError:
-        pass
+def add_part(stage, sort, name):
+    """A script, an object, a prim or a notecard; or all that a world file has."""
+    if sort == "file" and worlds.is_world(program.world_of(name)):
+        stage.load(program.world_of(name), lambda it: found_file(name, it.file))
+    elif sort == "file":
+        stage.add_script(name)
+    elif sort == "object":
+        stage.add_object(name)
+    elif sort == "prim":
+        stage.add_prim(name)
+    elif sort == "note":
+        title, _, file = name.rpartition("=")
+        stage.add_note(file, title)
+    else:
+        stage.bodies[-1].region = name
 
 
-def replayed(binary, text):
-    with tempfile.TemporaryDirectory(prefix="lsl-play-") as room:
-        path = os.path.join(room, "world")
-        write_text(path, text)
-        return program.run(binary, ["replay", path])
+def found_file(world, file):
+    """A file that a world file names: from here, or else from the world file's folder."""
+    beside = os.path.join(os.path.dirname(world), file)
+    return beside if not os.path.exists(file) and os.path.exists(beside) else file
 
 
 def refused(binary, ran):
-    """Says why a script isn't played."""
+    """Says why scripts aren't played."""
     lines = program.lines_of(ran.output)
     said = explained(lines[0], check=program.checker(binary)) if lines else None
     print(said or ran.notes.decode(errors="replace"), file=sys.stderr, end="\n" if said else "")
     return ran.status
-
-
-class Talk:
-    """Reads steps line by line. The whole world is played at each, and what is new of its journal is shown."""
-
-    def __init__(self, binary, stage):
-        self.binary, self.stage, self.shown = binary, stage, 0
-
-    def run(self):
-        is_terminal = sys.stdin.isatty()
-        if is_terminal:
-            with_history()
-            print("touch, say, wait, state, world, help, quit", file=sys.stderr)
-        status = self.show()
-        while status == 0:
-            try:
-                line = input("> " if is_terminal else "")
-            except EOFError:
-                return 0
-            word, _, rest = line.strip().partition(" ")
-            if word in ("quit", "exit"):
-                return 0
-            try:
-                status = self.do(word, rest.strip())
-            except Bad as error:
-                print(f"lsl: {error}")
-        return status
-
-    def do(self, word, rest):
-        if word == "":
-            return 0
-        if word in ("help", "state", "world", "save", "by", "run"):
-            getattr(self, word if word != "run" else "set_run")(rest)
-            return 0
-        self.step(word, rest)
-        if word == "say":
-            self.stage.tell_unheard()
-        return self.show()
-
-    def step(self, word, rest):
-        if word == "touch":
-            name, link = re.fullmatch(r"(.*?)\s*([0-9]*)", rest).groups()
-            self.stage.act("touch", name, {"link": number(link, "link")} if link else {})
-        elif word == "say":
-            channel, text = re.fullmatch(r"(?:(-?[0-9]+)\s+(?=\S))?(.*)", rest).groups()
-            self.stage.act("say", text, {"channel": number(channel, "channel")} if channel else {})
-        elif word in ("wait", "after"):
-            self.stage.act("after", rest or "1s", {})
-        elif word in ("changed", "rez"):
-            self.stage.act(word, rest, {})
-        else:
-            raise Bad(f"'{word}' is no step: 'help' lists them")
-
-    def help(self, _):
-        print(HELP)
-
-    def world(self, _):
-        print(self.stage.text(), end="")
-
-    def save(self, name):
-        if not name:
-            raise Bad("save takes a file's name")
-        write_text(name, self.stage.text())
-        print(f"{name} is written")
-
-    def by(self, name):
-        self.stage.details["by"] = name or None
-
-    def set_run(self, ticks):
-        self.stage.ticks = number(ticks, "run")
-
-    def show(self):
-        """Shows what is new, and answers the program's status."""
-        ran = replayed(self.binary, self.stage.text())
-        if ran.status:
-            return refused(self.binary, ran)
-        text = self.stage.text()
-        everything = journal.read(ran.output.decode(errors="surrogateescape"))
-        observed = observing.observe(self.binary, text, everything)
-        painter = showing.Painter(sys.stdout.isatty())
-        shown = showing.lines(everything, worlds.read(text), painter, observed, ("home", *worlds.FORMS))
-        new = list(shown)[self.shown :]
-        print("\n".join(new or [painter.paint("name", "(nothing happens)")]))
-        self.shown += len(new)
-        sys.stdout.flush()
-        return 0
-
-    def state(self, _):
-        """In which state the script stands, as copies with probes tell it."""
-        text = self.stage.text()
-        everything = journal.read(replayed(self.binary, text).output.decode(errors="surrogateescape"))
-        observed = observing.observe(self.binary, text, everything)
-        names = telling.Names(worlds.read(text))
-        running = [it for it in journal.handlers(everything) if it.end is None]
-        print(f"the clock is at {telling.seconds(self.stage.clock)} s")
-        if observed and observed.probes:
-            print(f"in the state {observed.state_now()}")
-        faults = [it for it in everything if it.word == "fault"]
-        if faults:
-            print(names.entry(faults[-1]))
-        elif running:
-            place, _, told = observed.probes[-1] if observed and observed.probes else (-1, 0, None)
-            line = f", line {told.line}" if told and place > running[-1].begin else ""
-            print(f"stands in {running[-1].event}{line}")
-        else:
-            charges = [it for it in everything if it.word == "done"]
-            charged = f"; charged {int(charges[-1].rest):,} bytes of 65,536" if charges else ""
-            print(f"waits for an event{charged}")

@@ -8,7 +8,7 @@ from collections import namedtuple
 from . import syntax, tokens
 
 # What a probe tells: `state` the state in which a handler stands, `to` the one that it goes to, `reset` that it resets
-# its script, `line` where it is; and the line of that place.
+# its script, `line` where it is, with the name of the function or the event; and the line of that place.
 Probe = namedtuple("Probe", "sort name line")
 LOOPS = ("while", "do", "for")
 OWN_WAITS = {"llSleep", "llResetScript"}
@@ -17,8 +17,8 @@ OWN_WAITS = {"llSleep", "llResetScript"}
 class Prober:
     """Puts probes into one script's text."""
 
-    def __init__(self, text, mark, probes):
-        self.text, self.mark, self.probes = text, mark, probes
+    def __init__(self, text, mark, probes, is_full=False):
+        self.text, self.mark, self.probes, self.is_full, self.routine = text, mark, probes, is_full, ""
         self.tokens, self.lines = tokens.cut(text), tokens.Lines(text)
         self.script = syntax.read(self.tokens)
         self.functions = {it.text for it in self.script.functions}
@@ -26,9 +26,11 @@ class Prober:
 
     def probed(self):
         for function in self.script.functions:
+            self.routine = function.text
             self.statement(function.parts[-1])
         for state in self.script.states:
             for handler in state.parts:
+                self.routine = handler.text
                 self.insert(self.tokens[handler.parts[-1].first].end, 1, self.probe("state", state.text, handler.at))
                 self.statement(handler.parts[-1])
         text, last = b"", 0
@@ -41,7 +43,7 @@ class Prober:
         self.inserts.append((place, order, piece.encode()))
 
     def probe(self, sort, name, at):
-        self.probes.append(Probe(sort, name, self.lines.line_of(self.tokens[at].place)))
+        self.probes.append(Probe(sort, name or self.routine, self.lines.line_of(self.tokens[at].place)))
         return f'llOwnerSay("{self.mark}{len(self.probes) - 1}");'
 
     def waits(self, value):
@@ -58,7 +60,7 @@ class Prober:
             return self.probe("to", node.text, node.first)
         if node.form == "value" and node.parts[0].form == "call" and node.parts[0].text == "llResetScript":
             return self.probe("reset", "", node.first)
-        is_told = node.form in (*LOOPS, "jump") or any(map(self.waits, self.own_values(node)))
+        is_told = (self.is_full and node.form not in ("label", "empty", "block")) or node.form in (*LOOPS, "jump") or any(map(self.waits, self.own_values(node)))
         return self.probe("line", "", node.first) if is_told else ""
 
     def statement(self, node):
@@ -90,11 +92,12 @@ def mark_of(texts):
     return "probe " + hashlib.sha256(b"\0".join(texts)).hexdigest()[:16] + " "
 
 
-def probed(text, mark, probes):
-    """The copy of a script's text with probes, which are added to `probes`; the text itself where it can't be read."""
+def probed(text, mark, probes, is_full=False):
+    """The copy of a script's text with probes, which are added to `probes`; the text itself where it can't be read. They
+    are before each statement where it is full, and else where a tick may pass."""
     known = len(probes)
     try:
-        return Prober(text, mark, probes).probed()
+        return Prober(text, mark, probes, is_full).probed()
     except (syntax.Unexpected, RecursionError):
         del probes[known:]
         return text

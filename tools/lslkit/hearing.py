@@ -1,0 +1,227 @@
+"""Why nobody heard what was said, took a touch, or did anything when the clock went on: from the state of each script at
+that step. The words are in tools/words/causes.json."""
+from . import snapshot, stating, syntax, telling, tokens, worlds
+from .past import RUNS
+from .places import bytes_of
+from .quoting import quoted
+from .words import filled, table
+
+TOUCHES = ("touch_start", "touch", "touch_end")
+NO_KEY = "00000000-0000-0000-0000-000000000000"
+
+
+def said(cause, **fields):
+    return filled(table("causes")[cause], fields)
+
+
+def handlers_of(file):
+    """For each state of a script the events that it handles."""
+    try:
+        script = syntax.read(tokens.cut(bytes_of(file) or b""))
+    except (syntax.Unexpected, RecursionError):
+        return {}
+    return {it.text: [handler.text for handler in it.parts] for it in script.states}
+
+
+class Hearing:
+    """The causes in one world's past."""
+
+    def __init__(self, past, faults=None):
+        self.past, self.world = past, past.world
+        self.names = stating.names_of(self.world)
+        self.handled = [handlers_of(it.file) for it in self.world.scripts]
+        self.faults = faults or {}
+
+    def scripts(self, count):
+        moment = self.past.after(count)
+        return snapshot.scripts(moment.state) if moment and moment.state else []
+
+    def name(self, at):
+        return self.names.script(at + 1)
+
+    def handles(self, at, script, event):
+        return event in self.handled[at].get(script.state, (event,))
+
+    def causes(self, step):
+        """Why a step had no effect, as lines; none where it had one."""
+        it = self.world.steps[step]
+        rule = {"say": self.of_say, "touch": self.of_touch, "clock": self.of_clock, "changed": self.of_changed, "rez": self.of_rez}
+        return list(dict.fromkeys(rule[it.word](step, it))) if it.word in rule else []
+
+    # What stops a script
+
+    def halted(self, at, count):
+        """Why a script takes nothing at a moment: it is dead, asleep, or its handler goes on."""
+        script = self.scripts(count)[at]
+        if script.rest == "dead":
+            return said("dead", script=self.name(at), fault=script.fault, where=self.where_of_fault(at))
+        if script.rest != "running":
+            return None
+        if script.wakes > self.past.after(count).state.clock:
+            return said("asleep", script=self.name(at), event=script.event.name, until=telling.seconds(script.wakes))
+        line = f", line {script.calls[0].line}" if script.calls else ""
+        return said("running", script=self.name(at), event=script.event.name, line=line)
+
+    def where_of_fault(self, at):
+        return f" {self.faults[at]}" if at in self.faults else self.step_of_fault(at)
+
+    def step_of_fault(self, at):
+        """At which step a script stopped."""
+        for step in range(len(self.world.steps)):
+            if any(it.word == "fault" and it.number == at + 1 for it in self.past.new_at(step)):
+                return f" {self.past.label(step)}"
+        return ""
+
+    def still_running(self, count):
+        """The scripts whose handlers go on, and don't sleep."""
+        clock = self.past.after(count).state.clock if self.scripts(count) else 0
+        places = [at for at, it in enumerate(self.scripts(count)) if it.rest == "running" and it.wakes <= clock]
+        return [self.halted(at, count) for at in places]
+
+    # What is said
+
+    def of_say(self, step, it):
+        channel, who, key, text = int(it.fields[0]), it.fields[1], it.fields[2].lower(), it.fields[3]
+        return self.of_text(step, channel, who, key, text, None)
+
+    def of_text(self, step, channel, who, key, text, speaker):
+        """The causes for each script that doesn't take a text that was said at a step; of those that listen on another
+        channel only where nobody takes it."""
+        near, far = [], []
+        for at, script in enumerate(self.scripts(step)):
+            cause = self.deaf(at, script, step, channel, who, key, text, speaker)
+            if cause is None:
+                near += self.waiting(at, step, "listen")
+                continue
+            (near if cause[0] else far).append(cause[1])
+        is_heard = any(self.takes(at, step, "listen") for at in range(len(self.world.scripts)))
+        return near if is_heard else [*near, *far]
+
+    def takes(self, at, step, event):
+        """Whether a script takes an event of this name at a step or before the next one of another sort."""
+        last = step + 1
+        while last < len(self.world.steps) and self.world.steps[last].word in RUNS:
+            last += 1
+        taken = [it for one in range(step, last) for it in self.past.new_at(one)]
+        return any(it.word == "took" and it.number == at + 1 and it.rest.split(" ")[0] == event for it in taken)
+
+    def deaf(self, at, script, step, channel, who, key, text, speaker):
+        """Whether a script is one that listens on the channel, and why it doesn't hear a text; none where it does."""
+        name, on = self.name(at), [it for it in script.listens if it.channel == channel]
+        if script.rest == "dead":
+            return True, self.halted(at, step)
+        if speaker is not None and self.world.scripts[at].prim == self.world.scripts[speaker].prim:
+            return (True, said("own-prim", script=name)) if on else (False, self.no_listen(at, script, step, channel))
+        if not on:
+            gone = self.gone_listen(at, step, channel)
+            return (True, gone) if gone else (False, self.no_listen(at, script, step, channel))
+        reasons = [self.filtered(it, name, who, key, text) for it in on]
+        if None not in reasons:
+            return True, reasons[0]
+        if not self.handles(at, script, "listen"):
+            return True, said("no-handler", script=name, event="listen", state=script.state)
+        return (True, self.full(at, step)) if len(script.queue) >= 64 else None
+
+    def full(self, at, step):
+        """That a script's queue takes no more, and why."""
+        halted = self.halted(at, step)
+        return said("full", script=self.name(at)) + (f"; {halted}" if halted else "")
+
+    def no_listen(self, at, script, _, channel):
+        channels = sorted({it.channel for it in script.listens})
+        if not channels:
+            return said("no-listen", script=self.name(at))
+        return said("other-channels", script=self.name(at), channels=", ".join(map(str, channels)), channel=channel)
+
+    def filtered(self, listen, name, who, key, text):
+        """Which part of a listen doesn't fit; none where all fit."""
+        if not listen.is_active:
+            return said("off", script=name, channel=listen.channel)
+        if listen.name and listen.name != who:
+            return said("name", script=name, channel=listen.channel, wanted=quoted(listen.name), who=who or "someone")
+        is_asked = worlds.KEY.fullmatch(listen.id) and listen.id != NO_KEY
+        if is_asked and listen.id != key:
+            wanted = self.names.value(listen.id, True)
+            return said("id", script=name, channel=listen.channel, wanted=wanted, who=who or "someone")
+        if listen.message and listen.message != text:
+            return said("text", script=name, channel=listen.channel, wanted=quoted(listen.message))
+        return None
+
+    def gone_listen(self, at, step, channel):
+        """How a listen on a channel went that a script had at an earlier step; none where it had none."""
+        for earlier in range(step - 1, -1, -1):
+            had = [it for it in self.scripts(earlier)[at].listens if it.channel == channel]
+            if had:
+                return self.how_it_went(at, earlier, channel)
+        return None
+
+    def how_it_went(self, at, step, channel):
+        cleared = any(it.word == "clear" and it.number == at + 1 for it in self.past.new_at(step))
+        state, before = self.scripts(step + 1)[at].state, self.scripts(step)[at].state
+        fields = {"script": self.name(at), "channel": channel, "step": self.past.label(step), "state": state}
+        if not cleared:
+            return said("listen-removed", **fields)
+        return said("listen-went-reset" if state == before else "listen-went-state", **fields)
+
+    def waiting(self, at, step, event):
+        """Why an event that a script has got isn't taken yet."""
+        halted = None if self.takes(at, step, event) else self.halted(at, step)
+        return [halted] if halted else []
+
+    # Touches, changes and the clock
+
+    def of_touch(self, step, it):
+        number, link = int(it.fields[0]), max(1, int(it.fields[1]))
+        places = [at for at, one in enumerate(self.world.scripts) if one.prim.object == number]
+        own = [at for at in places if self.world.scripts[at].prim.link == link]
+        takers = [at for at in own if self.has_touch(at, step)] or [at for at in places if self.world.scripts[at].prim.link == 1]
+        if not takers and not own:
+            return [said("no-script")]
+        return [cause for at in dict.fromkeys([*takers, *own]) for cause in self.untouched(at, step)]
+
+    def has_touch(self, at, step):
+        script = self.scripts(step)[at]
+        return any(self.handles(at, script, it) for it in TOUCHES)
+
+    def untouched(self, at, step):
+        script = self.scripts(step)[at]
+        if script.rest == "dead":
+            return [self.halted(at, step)]
+        if not self.has_touch(at, step):
+            return [said("no-handler", script=self.name(at), event="touch_start", state=script.state)]
+        if any(self.takes(at, step, it) for it in TOUCHES):
+            return []
+        return self.waiting(at, step, "touch_start") or self.lost(at, step)
+
+    def lost(self, at, step):
+        """Events that a script has got and lost again at a step, or that its full queue didn't take."""
+        if len(self.scripts(step)[at].queue) >= 64:
+            return [self.full(at, step)]
+        return []
+
+    def of_changed(self, step, it):
+        return self.of_event(step, int(it.fields[0]), "changed")
+
+    def of_rez(self, step, it):
+        return self.of_event(step, int(it.fields[0]), "on_rez")
+
+    def of_event(self, step, number, event):
+        for at, one in enumerate(self.world.scripts):
+            if one.prim.object == number and not self.takes(at, step, event):
+                script = self.scripts(step)[at]
+                halted = self.halted(at, step)
+                missing = said("no-handler", script=self.name(at), event=event, state=script.state)
+                yield halted or (missing if not self.handles(at, script, event) else self.full(at, step))
+
+    def of_clock(self, step, _):
+        if self.past.new_at(step) or (step + 1 < len(self.world.steps) and self.past.new_at(step + 1)):
+            return
+        moment = self.past.after(step + 1)
+        for at, script in enumerate(self.scripts(step + 1)):
+            halted = self.halted(at, step + 1)
+            if halted:
+                yield halted
+            elif script.timer[0] and not self.handles(at, script, "timer"):
+                yield said("no-timer-handler", script=self.name(at), state=script.state)
+        if not any(it.timer[0] or it.wakes > moment.state.clock or it.rest != "idle" for it in self.scripts(step + 1)):
+            yield said("no-timer")
