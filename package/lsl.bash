@@ -18,11 +18,12 @@ _lsl_words() {
 
 _lsl_options() {
     case $1 in
-        once) echo --show --html ;;
-        replay) echo --lossy --show --html ;;
+        once) echo --show --html --explain ;;
+        check | freeze | thaw | view) echo --explain ;;
+        replay) echo --lossy --show --html --explain ;;
         play)
-            echo --touch --say --after --changed --rez --run --link --channel --by \
-                --owner --world --journal --html --interactive --help
+            echo --touch --say --after --changed --rez --cross --message --run --on --link --channel --by \
+                --object --prim --note --region --owner --world --journal --html --freeze --interactive --help
             ;;
     esac
 }
@@ -36,7 +37,9 @@ _lsl() {
     fi
     case $last in
         --html) _lsl_files html "$word"; return ;;
-        --touch | --say | --after | --changed | --rez | --run | --link | --channel | --by | --owner) return ;;
+        --note | --freeze) _lsl_files "" "$word"; return ;;
+        --touch | --say | --after | --changed | --rez | --cross | --message | --run) return ;;
+        --on | --link | --channel | --by | --object | --prim | --region | --owner) return ;;
     esac
     case $command:$word in
         *:-*) _lsl_words "$(_lsl_options "$command")" "$word" ;;

@@ -16,19 +16,9 @@ MOST_SPENT = 5
 MEMORY = "Stack-Heap Collision"
 
 
-def has_stopped(entries, number):
-    return any(it.word == "fault" and it.number == number for it in entries)
-
-
-def step_of(history, number):
-    """The step at which a script stopped; none where it didn't."""
-    steps = range(len(history.world.steps))
-    return next((it for it in steps if has_stopped(history.new_at(it), number)), None)
-
-
 def find(history, number):
     """Where the script of this number stopped; none where it didn't, or can't be followed."""
-    step = step_of(history, number)
+    step = history.step_of_fault(number)
     if step is None:
         return None
     it = history.world.steps[step]
@@ -37,7 +27,19 @@ def find(history, number):
     fault = next(it for it in history.new_at(step) if it.word == "fault" and it.number == number)
     file = history.world.scripts[number - 1].file
     line, routine = line_of(history, step, number) or line_of_call(script)
-    return Place(journal.fields(fault.rest)[0][0], file, line, routine, variables(script, file, routine), script)
+    known = variables(script, file, routine)
+    if script is not None and not any(it.name == routine for it in script.calls):
+        known = [*arguments(history, number, file, script.state, routine), *script.globals]
+    return Place(journal.fields(fault.rest)[0][0], file, line, routine, known, script)
+
+
+def arguments(history, number, file, state, routine):
+    """The arguments of the event in which a script stopped before its first tick, by the line that it was taken."""
+    taken = [it for it in history.end().entries if it.word == "took" and it.number == number]
+    event, args = journal.event_of(taken[-1]) if taken else ("", "")
+    values = [text if is_quoted else int(text) for text, is_quoted in journal.fields(args)]
+    names = viewing.slots_of(viewing.routines_of(places.bytes_of(file) or b""), state, routine)
+    return zip(names, values) if event == routine else ()
 
 
 def before_fault(history, step, number):
@@ -48,7 +50,7 @@ def before_fault(history, step, number):
         found = past.moment(history.binary, past.cut(history.text, step, middle))
         if found is None:
             return None
-        low, high = (low, middle) if has_stopped(found.entries, number) else (middle, high)
+        low, high = (low, middle) if past.has_stopped(found, number) else (middle, high)
     return past.moment(history.binary, past.cut(history.text, step, low))
 
 

@@ -7,7 +7,7 @@ import subprocess
 import sys
 import tempfile
 
-from . import about, faults, kit, making, playing, program, showing, stage, standing, streams, worlds
+from . import about, faults, kit, making, playing, program, showing, stage, standing, streams, talking, worlds
 from .places import in_top, write_text
 
 USAGE = """\
@@ -297,4 +297,6 @@ def show(binary, command):
         tell(command, binary, ran.status, ran.output, ran.notes)
         return ran.status
     text = ran.output.decode(errors="surrogateescape")
-    return showing.show(binary, text, command.world(), command.html, command.show)
+    status = showing.show(binary, text, command.world(), command.html, command.show)
+    talking.tell_causes(binary, command.world())
+    return status

@@ -67,10 +67,8 @@ class Hearing:
 
     def step_of_fault(self, at):
         """At which step a script stopped."""
-        for step in range(len(self.world.steps)):
-            if any(it.word == "fault" and it.number == at + 1 for it in self.past.new_at(step)):
-                return f" {self.past.label(step)}"
-        return ""
+        step = self.past.step_of_fault(at + 1)
+        return "" if step is None else f" {self.past.label(step)}"
 
     def still_running(self, count):
         """The scripts whose handlers go on, and don't sleep."""
@@ -87,14 +85,14 @@ class Hearing:
     def of_text(self, step, channel, who, key, text, speaker):
         """The causes for each script that doesn't take a text that was said at a step; of those that listen on another
         channel only where nobody takes it."""
-        near, far = [], []
+        near, far, is_heard = [], [], False
         for at, script in enumerate(self.scripts(step)):
             cause = self.deaf(at, script, step, channel, who, key, text, speaker)
             if cause is None:
+                is_heard = True
                 near += self.waiting(at, step, "listen")
-                continue
-            (near if cause[0] else far).append(cause[1])
-        is_heard = any(self.takes(at, step, "listen") for at in range(len(self.world.scripts)))
+            else:
+                (near if cause[0] else far).append(cause[1])
         return near if is_heard else [*near, *far]
 
     def takes(self, at, step, event):
@@ -166,7 +164,11 @@ class Hearing:
     def waiting(self, at, step, event):
         """Why an event that a script has got isn't taken yet."""
         halted = None if self.takes(at, step, event) else self.halted(at, step)
-        return [halted] if halted else []
+        return [halted] if halted and self.is_run(step) else []
+
+    def is_run(self, step):
+        """Whether scripts run after a step, before the next one."""
+        return step + 1 < len(self.world.steps) and self.world.steps[step + 1].word in RUNS
 
     # Touches, changes and the clock
 
@@ -189,7 +191,7 @@ class Hearing:
             return [self.halted(at, step)]
         if not self.has_touch(at, step):
             return [said("no-handler", script=self.name(at), event="touch_start", state=script.state)]
-        if any(self.takes(at, step, it) for it in TOUCHES):
+        if any(self.takes(at, step, it) for it in TOUCHES) or not self.is_run(step):
             return []
         return self.waiting(at, step, "touch_start") or self.lost(at, step)
 
@@ -207,14 +209,24 @@ class Hearing:
 
     def of_event(self, step, number, event):
         for at, one in enumerate(self.world.scripts):
-            if one.prim.object == number and not self.takes(at, step, event):
+            if one.prim.object == number and self.is_run(step) and not self.takes(at, step, event):
                 script = self.scripts(step)[at]
                 halted = self.halted(at, step)
                 missing = said("no-handler", script=self.name(at), event=event, state=script.state)
                 yield halted or (missing if not self.handles(at, script, event) else self.full(at, step))
 
+    def has_news(self, step):
+        """Whether anything came of a reading of the clock, or of those just before it."""
+        first, last = step, step + 1
+        while first > 0 and self.world.steps[first - 1].word in (*RUNS, "clock"):
+            first -= 1
+        while last < len(self.world.steps) and self.world.steps[last].word in RUNS:
+            last += 1
+        first += first == 0
+        return self.past.count_after(last) > self.past.count_after(min(first, step))
+
     def of_clock(self, step, _):
-        if self.past.new_at(step) or (step + 1 < len(self.world.steps) and self.past.new_at(step + 1)):
+        if self.has_news(step):
             return
         moment = self.past.after(step + 1)
         for at, script in enumerate(self.scripts(step + 1)):

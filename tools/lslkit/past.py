@@ -31,6 +31,10 @@ def cut(text, step, ticks):
     return "\n".join(lines)
 
 
+def has_stopped(moment, number):
+    return moment is not None and any(it.word == "fault" and it.number == number for it in moment.entries)
+
+
 class Past:
     """The moments of a world file's text."""
 
@@ -50,6 +54,21 @@ class Past:
         if not acts:
             return "at the start"
         return f"at step {len(acts)}, {telling.Names(self.world).step(self.world.steps[acts[-1]])}"
+
+    def count_after(self, count):
+        """How many entries there are after as many steps."""
+        found = self.after(count)
+        return len(found.entries) if found else 0
+
+    def step_of_fault(self, number):
+        """The step at which a script stopped for good; none where it didn't."""
+        low, high = -1, len(self.world.steps)
+        if not has_stopped(self.end(), number):
+            return None
+        while low < high - 1:
+            middle = (low + high) // 2
+            low, high = (low, middle) if has_stopped(self.after(middle), number) else (middle, high)
+        return max(0, high - 1)
 
     def end(self):
         return self.after(len(self.world.steps))

@@ -4,7 +4,7 @@ import sys
 
 from . import program, showing, talking, worlds
 from .faults import explained
-from .stage import Bad, Stage, number
+from .stage import Bad, Stage, milliseconds, number
 
 USAGE = """\
 usage: lsl play FILE.. [STEP..] [--world] [--journal] [--html PAGE] [--freeze FROZEN]
@@ -50,7 +50,7 @@ PARTS = ("object", "prim", "note", "region")
 # The steps and lines that are in every play.
 HIDDEN = ("run", "home")
 FLAGS = ("world", "journal", "interactive")
-NUMBERS = ("link", "channel", "run")
+NUMBERS = ("link", "channel", "run", "changed", "rez")
 # The words that take another one.
 TAKING = (*STEPS, *DETAILS, *PARTS, "run", "owner", "html", "freeze")
 
@@ -91,6 +91,8 @@ class Play:
         if name in PARTS:
             self.parts.append((name, value))
             return
+        if name == "after":
+            milliseconds(value)
         value = number(value, name) if name in NUMBERS else value
         described = [it for it in self.given if it[0] in DETAILS.get(name, ())]
         if described:
@@ -163,7 +165,7 @@ class Play:
 def add_part(stage, sort, name):
     """A script, an object, a prim or a notecard; or all that a world file has."""
     if sort == "file" and worlds.is_world(program.world_of(name)):
-        stage.load(program.world_of(name), lambda it: found_file(name, it.file))
+        stage.load(program.world_of(name), lambda it: found_file(name, it))
     elif sort == "file":
         stage.add_script(name)
     elif sort == "object":
@@ -177,10 +179,10 @@ def add_part(stage, sort, name):
         stage.bodies[-1].region = name
 
 
-def found_file(world, file):
-    """A file that a world file names: from here, or else from the world file's folder."""
-    beside = os.path.join(os.path.dirname(world), file)
-    return beside if not os.path.exists(file) and os.path.exists(beside) else file
+def found_file(world, it):
+    """A file that a world file names: from here, or else from the world file's folder or one around it."""
+    folder = None if os.path.exists(it.file) else program.folder_of(world, it)
+    return it.file if folder is None else os.path.join(folder, it.file)
 
 
 def refused(binary, ran):

@@ -11,9 +11,6 @@ INVISIBLE = ("Zs", "Cf", "Cc")
 QUOTES = ("\u201c", "\u201d", "\u201e", "\u00ab", "\u00bb")
 FOREIGN = ("float", "vector", "rotation", "quaternion")
 OPERAND = ("name", "integer", "string")
-# The events that may take the place of one that isn't here, each with parameters of made-up names.
-PLACES = {name: ", ".join(f"{kind} given_{at}" for at, kind in enumerate(row.params)) for name, row in
-          tables.events().items()}
 
 
 def of(fault, source):
@@ -229,9 +226,14 @@ def wrong_event(source):
     start, end = span(source, handler)
     opening = source.tokens[handler.parts[-1].first].end
     declared = "".join(f" {it.kind} {it.text};" for it in handler.parts[:-1])
-    free = [it for it in PLACES if it not in used]
-    edits = [[(start, opening, f"{it}({PLACES[it]}) {{{declared}".encode())] for it in free[:1]]
+    free = [row for name, row in tables.events().items() if name not in used]
+    edits = [[(start, opening, f"{it.name}({made_up(it.params)}) {{{declared}".encode())] for it in free[:1]]
     return [*edits, [(start, end, b"")]]
+
+
+def made_up(params):
+    """Parameters of these kinds, of made-up names."""
+    return ", ".join(f"{kind} given_{at}" for at, kind in enumerate(params))
 
 
 RULES = {

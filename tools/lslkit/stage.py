@@ -31,6 +31,8 @@ def milliseconds(text):
 
 def number(text, name):
     """A number, or names of constants with `|` between them."""
+    if isinstance(text, int):
+        return text
     words = [it.strip() for it in text.split("|")]
     values = [constant(it) for it in words]
     if None not in values and words != [""]:
@@ -179,8 +181,10 @@ class Stage:
 
     def send(self, value, details):
         """A message to all prims of an object, which a script of a prim of its own sends."""
-        found = re.fullmatch(r"(\S+)(?:\s+(.*?))?(?:\s+from\s+(\S.*))?", value)
-        num, text, who = number(found[1], "message"), unquoted_word(found[2] or ""), found[3]
+        said = re.fullmatch(r"(.*?)\s+from\s+(\S.*)", value)
+        what, who = said.groups() if said else (value, None)
+        word, _, text = what.partition(" ")
+        num, text = number(word, "message"), unquoted_word(text.strip())
         number_ = self.target(details)[0]
         prims = self.bodies[number_ - 1].prims
         if not any(it.name == SENDERS_PRIM for it in prims):
@@ -188,8 +192,10 @@ class Stage:
             prims[-1].lines.append(f'script "sender" {quoted(SENDER)}')
         link = next(at for at, it in enumerate(prims, 1) if it.name == SENDERS_PRIM)
         key = self.key_of(who) if who else NO_KEY
-        payload = "\t".join([str(num), text, key])
-        self.steps.append(f"touch {number_} {link} {NO_KEY} {quoted(payload)}")
+        payload = f"{num}|{text}|{key}"
+        if len(payload.encode()) > 255:
+            raise Bad("a message's text has at most 200 bytes here")
+        self.steps.append(f"touch {number_} {link} {self.key_of('a message')} {quoted(payload)}")
 
     def go_to(self, clock):
         self.clock = min(max(clock, self.clock), MOST_CLOCK)

@@ -22,7 +22,7 @@ why                     why the last step had no effect, or who else heard nothi
 world                   prints the world file so far; save FILE and freeze FILE write it
 quit"""
 WORDS = ("touch", "say", "wait", "state", "why", "world", "help", "quit")
-MOST_WAITS, MOST_LINES, LAST_LINES = 1000, 60, 10
+MOST_WAITS, MOST_STEPS, MOST_LINES, LAST_LINES = 1000, 400, 60, 10
 ACTS = ("say", "touch", "clock", "changed", "rez")
 
 
@@ -60,15 +60,20 @@ def wait(binary, stage, text):
 
 
 def tell_causes(binary, text):
-    """Says on standard error why steps of a play had no effect, and where scripts stopped."""
-    history = past.Past(binary, text)
-    found = hearing.Hearing(history)
-    for step, it in enumerate(history.world.steps):
-        said = found.causes(step) if it.word in ACTS else []
-        if said:
-            print(f"lsl: {telling.Names(history.world).step(it)}: {'; '.join(said)}", file=sys.stderr)
-    for line in [*found.still_running(len(history.world.steps)), *fault_lines(history)]:
+    """Says on standard error why steps of a play had no effect, and where scripts stopped or go on."""
+    for line in cause_lines(past.Past(binary, text)):
         print(f"lsl: {line}", file=sys.stderr)
+
+
+def cause_lines(history):
+    found = hearing.Hearing(history)
+    acts = [(step, it) for step, it in enumerate(history.world.steps) if it.word in ACTS]
+    for step, it in acts if len(history.world.steps) <= MOST_STEPS else ():
+        said = found.causes(step)
+        if said:
+            yield f"{found.names.step(it)}: {'; '.join(said)}"
+    yield from found.still_running(len(history.world.steps))
+    yield from fault_lines(history)
 
 
 def fault_lines(history, after=0):
@@ -253,7 +258,14 @@ class Talk:
         found = hearing.Hearing(history)
         causes = [it for step in steps[-3:] for it in found.causes(step)]
         running = found.still_running(len(history.world.steps))
-        return list(dict.fromkeys([*causes, *running, *fault_lines(history, self.entries)]))
+        return list(dict.fromkeys([*causes, *running, *fault_lines(history, self.entries), *self.homes(history)]))
+
+    def homes(self, history):
+        """Where an object is that the last step sent to another region."""
+        last = [it for it in history.world.steps[self.first :] if it.word == "cross"]
+        state = history.end().state if history.end() else None
+        numbers = [int(it.fields[0]) for it in last] if state else []
+        return [f"{telling.Names(history.world).object_name(it)} is in {state.objects[it - 1].region}" for it in numbers]
 
     def why(self, _):
         history = self.history()

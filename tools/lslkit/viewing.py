@@ -13,12 +13,15 @@ VALUE = re.compile(rf' (-?\d+|{QUOTED}|\[(?:[^"\]]|{QUOTED})*\])')
 Routine = namedtuple("Routine", "state name slots")
 
 
-def lines(shown, world):
-    """The lines for a reader of what `view` wrote of a frozen world of this world file."""
-    script, state, routines, text = None, None, [], []
+def lines(shown, world, held=()):
+    """The lines for a reader of what `view` wrote of a frozen world of this world file. `held` has for each script
+    further lines, of what it holds and waits for."""
+    script, state, routines, text, behind = None, None, [], [], []
     for line in shown:
         head, call = SCRIPT.fullmatch(line), CALL.fullmatch(line)
         if head:
+            yield from behind
+            behind = held[int(head[1]) - 1] if held else []
             script, state = world.scripts[int(head[1]) - 1], head[3]
             source = places.bytes_of(script.file) or b""
             routines, text = routines_of(source), source.split(b"\n")
@@ -26,6 +29,7 @@ def lines(shown, world):
         elif call:
             yield of_call(script, call, slots_of(routines, state, call[1]))
             yield source_line(text, int(call[2]))
+    yield from behind
 
 
 def of_script(script, world, head):
