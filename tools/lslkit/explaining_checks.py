@@ -1,10 +1,13 @@
 """Checks of what the tools explain: faults, warnings, and why a play does nothing."""
+import contextlib
 import glob
+import io
+import json
 import os
 import re
 import tempfile
 
-from . import diagnostics, findings, making, places, program, reporting, tables, warned, words
+from . import diagnostics, findings, making, places, playing, program, reporting, tables, talking, warned, words
 from .checking import check, need
 from .quoting import unquoted
 
@@ -138,3 +141,33 @@ def habits_of_other_languages_are_explained():
         said = reporting.report("s.lsl", text, check_of_program())
         need((wanted in said) if wanted else said == "", text, "is explained as", said)
         need(said.count("error:") <= (wanted != ""), text, "has more faults than one:", said)
+
+
+def played(play, room):
+    """What a play says of the last of its lines."""
+    texts = {"s.lsl": play["script"], **play.get("others", {})}
+    for name, text in texts.items():
+        places.write_text(os.path.join(room, name), text)
+    words_of_play = playing.Play([os.path.join(room, it) for it in texts])
+    binary = making.any_program()
+    talk = talking.Talk(binary, words_of_play.staged(binary))
+    said = io.StringIO()
+    with contextlib.redirect_stdout(said):
+        talk.show()
+    for line in play["play"]:
+        said = io.StringIO()
+        word, _, rest = line.partition(" ")
+        with contextlib.redirect_stdout(said):
+            # What is shown at the last line alone counts.
+            talk.do(word, rest) if line is play["play"][-1] or word in ("by", "prim") else talk.step(word, rest)
+    return said.getvalue()
+
+
+@check
+def plays_without_effect_have_their_cause():
+    plays = json.loads(places.text_of("tools", "lslkit", "puzzles.json"))["plays"]
+    need(len(plays) >= 40, "there are", len(plays))
+    for play in plays:
+        with tempfile.TemporaryDirectory() as room:
+            said = played(play, room)
+        need(play["says"] in said, play["name"], "says", said)

@@ -47,10 +47,8 @@ def before_fault(history, step, number):
     low, high = 0, int(history.world.steps[step].fields[-1])
     while low < high - 1:
         middle = (low + high) // 2
-        found = past.moment(history.binary, past.cut(history.text, step, middle))
-        if found is None:
-            return None
-        low, high = (low, middle) if past.has_stopped(found, number) else (middle, high)
+        is_over = past.stops(history.binary, past.cut(history.text, step, middle), number)
+        low, high = (low, middle) if is_over else (middle, high)
     return past.moment(history.binary, past.cut(history.text, step, low))
 
 

@@ -1,9 +1,10 @@
 """Why nobody heard what was said, took a touch, or did anything when the clock went on: from the state of each script at
 that step. The words are in tools/words/causes.json."""
-from . import snapshot, stating, syntax, telling, tokens, worlds
+from . import journal, snapshot, stating, syntax, telling, tokens, worlds
 from .past import RUNS
 from .places import bytes_of
 from .quoting import quoted
+from .stage import SENDERS_PRIM
 from .words import filled, table
 
 TOUCHES = ("touch_start", "touch", "touch_end")
@@ -26,11 +27,11 @@ def handlers_of(file):
 class Hearing:
     """The causes in one world's past."""
 
-    def __init__(self, past, faults=None):
-        self.past, self.world = past, past.world
+    def __init__(self, past, since=0):
+        # `since` is the step from which on what happens is new.
+        self.past, self.world, self.since = past, past.world, since
         self.names = stating.names_of(self.world)
         self.handled = [handlers_of(it.file) for it in self.world.scripts]
-        self.faults = faults or {}
 
     def scripts(self, count):
         moment = self.past.after(count)
@@ -46,7 +47,8 @@ class Hearing:
         """Why a step had no effect, as lines; none where it had one."""
         it = self.world.steps[step]
         rule = {"say": self.of_say, "touch": self.of_touch, "clock": self.of_clock, "changed": self.of_changed, "rez": self.of_rez}
-        return list(dict.fromkeys(rule[it.word](step, it))) if it.word in rule else []
+        found = [*rule[it.word](step, it), *self.of_chats(step)] if it.word in rule else []
+        return list(dict.fromkeys(found))
 
     # What stops a script
 
@@ -54,16 +56,13 @@ class Hearing:
         """Why a script takes nothing at a moment: it is dead, asleep, or its handler goes on."""
         script = self.scripts(count)[at]
         if script.rest == "dead":
-            return said("dead", script=self.name(at), fault=script.fault, where=self.where_of_fault(at))
+            return said("dead", script=self.name(at), fault=script.fault, where=self.step_of_fault(at))
         if script.rest != "running":
             return None
         if script.wakes > self.past.after(count).state.clock:
             return said("asleep", script=self.name(at), event=script.event.name, until=telling.seconds(script.wakes))
         line = f", line {script.calls[0].line}" if script.calls else ""
         return said("running", script=self.name(at), event=script.event.name, line=line)
-
-    def where_of_fault(self, at):
-        return f" {self.faults[at]}" if at in self.faults else self.step_of_fault(at)
 
     def step_of_fault(self, at):
         """At which step a script stopped."""
@@ -97,11 +96,31 @@ class Hearing:
 
     def takes(self, at, step, event):
         """Whether a script takes an event of this name at a step or before the next one of another sort."""
+        taken = [it for one in self.with_runs(step) for it in self.past.new_at(one)]
+        return any(it.word == "took" and it.number == at + 1 and it.rest.split(" ")[0] == event for it in taken)
+
+    def of_chats(self, step):
+        """What scripts said at a step on a channel on which scripts listen, or did, of which none hears it."""
+        for entry in (it for one in self.with_runs(step) for it in self.past.new_at(one)):
+            if entry.word == "chat":
+                (_, _), (channel, _), (text, _) = journal.fields(entry.rest)
+                prim = self.world.scripts[entry.number - 1].prim
+                yield from self.of_chat(step + 1, int(channel), prim, text, entry.number - 1)
+
+    def of_chat(self, count, channel, prim, text, speaker):
+        count = min(count, len(self.world.steps))
+        heard = [self.deaf(at, it, count, channel, prim.name, prim.key, text, speaker) for at, it in enumerate(self.scripts(count))]
+        near = [it[1] for it in heard if it and it[0]]
+        if near and None not in heard:
+            before = said("said", script=self.name(speaker), channel=channel, text=quoted(text))
+            yield f"{before}: {'; '.join(near)}"
+
+    def with_runs(self, step):
+        """A step and the runs after it."""
         last = step + 1
         while last < len(self.world.steps) and self.world.steps[last].word in RUNS:
             last += 1
-        taken = [it for one in range(step, last) for it in self.past.new_at(one)]
-        return any(it.word == "took" and it.number == at + 1 and it.rest.split(" ")[0] == event for it in taken)
+        return range(step, last)
 
     def deaf(self, at, script, step, channel, who, key, text, speaker):
         """Whether a script is one that listens on the channel, and why it doesn't hear a text; none where it does."""
@@ -174,6 +193,8 @@ class Hearing:
 
     def of_touch(self, step, it):
         number, link = int(it.fields[0]), max(1, int(it.fields[1]))
+        if self.world.objects[number - 1].prims[link - 1].name == SENDERS_PRIM:
+            return list(self.of_event(step, number, "link_message"))
         places = [at for at, one in enumerate(self.world.scripts) if one.prim.object == number]
         own = [at for at in places if self.world.scripts[at].prim.link == link]
         takers = [at for at in own if self.has_touch(at, step)] or [at for at in places if self.world.scripts[at].prim.link == 1]
@@ -193,7 +214,7 @@ class Hearing:
             return [said("no-handler", script=self.name(at), event="touch_start", state=script.state)]
         if any(self.takes(at, step, it) for it in TOUCHES) or not self.is_run(step):
             return []
-        return self.waiting(at, step, "touch_start") or self.lost(at, step)
+        return self.lost(at, step) or self.waiting(at, step, "touch_start")
 
     def lost(self, at, step):
         """Events that a script has got and lost again at a step, or that its full queue didn't take."""
@@ -209,7 +230,8 @@ class Hearing:
 
     def of_event(self, step, number, event):
         for at, one in enumerate(self.world.scripts):
-            if one.prim.object == number and self.is_run(step) and not self.takes(at, step, event):
+            is_other = one.prim.object != number or one.prim.name == SENDERS_PRIM
+            if not is_other and self.is_run(step) and not self.takes(at, step, event):
                 script = self.scripts(step)[at]
                 halted = self.halted(at, step)
                 missing = said("no-handler", script=self.name(at), event=event, state=script.state)
@@ -217,13 +239,10 @@ class Hearing:
 
     def has_news(self, step):
         """Whether anything came of a reading of the clock, or of those just before it."""
-        first, last = step, step + 1
-        while first > 0 and self.world.steps[first - 1].word in (*RUNS, "clock"):
+        first = step
+        while first > max(self.since, 1) and self.world.steps[first - 1].word in (*RUNS, "clock"):
             first -= 1
-        while last < len(self.world.steps) and self.world.steps[last].word in RUNS:
-            last += 1
-        first += first == 0
-        return self.past.count_after(last) > self.past.count_after(min(first, step))
+        return self.past.count_after(self.with_runs(step).stop) > self.past.count_after(min(first, step))
 
     def of_clock(self, step, _):
         if self.has_news(step):

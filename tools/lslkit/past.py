@@ -79,6 +79,15 @@ class Past:
         return behind.entries[len(before.entries) :] if before and behind else []
 
 
+def stops(binary, text, number):
+    """Whether a script stops for good in a world."""
+    with tempfile.TemporaryDirectory(prefix="lsl-past-") as room:
+        path = os.path.join(room, "world")
+        write_text(path, text)
+        output = program.run(binary, ["replay", path]).output
+    return b"\nfault %d " % number in b"\n" + output
+
+
 def moment(binary, text):
     """The journal and the state after a world's steps."""
     with tempfile.TemporaryDirectory(prefix="lsl-past-") as room:

@@ -91,7 +91,16 @@ def rest_of(script, clock):
 def spent(script):
     """What a script's memory is spent on, the largest first: as names, bytes, and values in words."""
     items = [(f"the global {name}", frozen.charge(it), it) for name, it in script.globals]
-    for call in script.calls:
-        items.append((f"the call of {call.name} in line {call.line}", frozen.charge_of_call(call), None))
-        items += [(f"a value that waits in {call.name}", frozen.charge(it), it) for it in call.operands]
+    for name in dict.fromkeys(it.name for it in script.calls):
+        calls = [it for it in script.calls if it.name == name]
+        count = "the call" if len(calls) == 1 else f"{len(calls):,} calls"
+        items.append((f"{count} of {name}", sum(map(frozen.charge_of_call, calls)), largest(calls)))
     return sorted(items, key=lambda it: -it[1])
+
+
+def largest(calls):
+    """The largest value that calls hold, where it is most of what they are charged."""
+    values = [value for it in calls for value in [*it.slots, *it.operands]]
+    found = max(values, key=frozen.charge, default=None)
+    is_most = found is not None and 2 * frozen.charge(found) > sum(map(frozen.charge_of_call, calls))
+    return found if is_most else None

@@ -255,7 +255,7 @@ class Talk:
         """Why the last steps had no effect, and where a script stopped."""
         history = self.history()
         steps = [at for at in range(self.first, len(history.world.steps)) if history.world.steps[at].word in ACTS]
-        found = hearing.Hearing(history)
+        found = hearing.Hearing(history, self.first)
         causes = [it for step in steps[-3:] for it in found.causes(step)]
         running = found.still_running(len(history.world.steps))
         return list(dict.fromkeys([*causes, *running, *fault_lines(history, self.entries), *self.homes(history)]))
