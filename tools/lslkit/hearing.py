@@ -105,7 +105,8 @@ class Hearing:
             if entry.word == "chat":
                 (_, _), (channel, _), (text, _) = journal.fields(entry.rest)
                 prim = self.world.scripts[entry.number - 1].prim
-                yield from self.of_chat(step + 1, int(channel), prim, text, entry.number - 1)
+                # People hear what is said on channel 0.
+                yield from () if channel == "0" else self.of_chat(step + 1, int(channel), prim, text, entry.number - 1)
 
     def of_chat(self, count, channel, prim, text, speaker):
         count = min(count, len(self.world.steps))

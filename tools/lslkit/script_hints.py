@@ -232,7 +232,9 @@ def unknown_name(source):
         yield hidden if line else f"{name} is a call"
         return
     near = tables.nearest(name, {*own, *tables.calls(), *tables.constants()})
-    yield f"do you mean {near}?" if near else None
+    is_called = source.tokens[source.at + 1].text == "("
+    missing = "write the function" if is_called else "declare it"
+    yield f"do you mean {near}?" if near else f"{missing} before the first state, or leave {name} out"
 
 
 def own_names(source):
