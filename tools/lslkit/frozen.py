@@ -1,4 +1,4 @@
-"""A frozen world (docs/IMAGES.md), decoded for a reader: what each script holds, waits for and listens to.
+"""A frozen world (docs/FORMATS.md), decoded for a reader: what each script holds, waits for and listens to.
 
 The image doesn't say how many operands wait in a saved call. They are found by trying, so that all that follows fits;
 the slots of each call are those that `view` prints."""
