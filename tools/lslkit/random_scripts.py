@@ -37,7 +37,8 @@ class Writer:
                 blank += self.random.choice(COMMENTS)
             is_glued = last and (last[-1].isalnum() or last[-1] == "_") and (it[0].isalnum() or it[0] == "_")
             is_glued = is_glued or last[-1:] in tuple("+-=<>!&|/*%") and it[0] in "+-=<>!&|/*%"
-            made += [blank or (" " if is_glued or blank == "" and last[-1:] == "/" else ""), it]
+            is_glued = is_glued and not blank or last == "/" and blank[:1] in ("/", "")
+            made += [" " * is_glued, blank, it]
             last = it
         return "".join(made) + self.pick("", "\n", " \n\n")
 

@@ -153,7 +153,9 @@ def scripts_of_the_suite_are_formatted():
 @check
 def random_scripts_are_formatted():
     for seed in range(int(os.environ.get("LSL_SCRIPTS", "60"))):
-        need_formatted(random_scripts.script(seed).encode(), f"random script {seed}")
+        text = random_scripts.script(seed).encode()
+        syntax.read(tokens.cut(text))
+        need_formatted(text, f"random script {seed}")
 
 
 @check

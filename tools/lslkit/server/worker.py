@@ -33,7 +33,7 @@ class Worker:
         if self.why is None:
             self.need_program()
         said = []
-        if self.binary or not request["is_world"]:
+        if self.binary:
             said = self.of_world(request) if request["is_world"] else self.of_script(request["text"])
         return {"uri": request["uri"], "version": request["version"], "found": said, "why": self.why}
 
@@ -44,8 +44,6 @@ class Worker:
 
     def check(self, text):
         """The program's first fault of a text, as its line, column and number."""
-        if not self.binary:
-            return None
         with held(text) as (name, number):
             said = said_by([self.binary, "check", name], number)
         found = CHECKED.match(said.decode(errors="surrogateescape"))
