@@ -8,6 +8,7 @@ import shutil
 import signal
 import subprocess
 import tempfile
+import time
 
 from . import diagnostics, formatting, making, places, random_scripts, server_fuzz, syntax, tables, tokens, words
 from .checking import Failed, Skipped, check, need
@@ -376,6 +377,20 @@ def children_of(number):
             continue
         found += [name] if row[1] == str(number) else []
     return found
+
+
+@check
+def a_worker_that_is_late_gets_the_newest_text():
+    """By a program that never answers about one text."""
+    with tempfile.TemporaryDirectory() as room:
+        name = os.path.join(room, "program")
+        places.write_text(name, f"""#!/bin/sh\ngrep -q slow "$2" && exec sleep 600\nexec {binary()} "$@"\n""")
+        os.chmod(name, 0o700)
+        with Client(name) as client:
+            client.open(URI, "default { slow() { } }")
+            time.sleep(0.5)
+            client.change(URI, "default { timer() { x; } }")
+            need([it["code"] for it in client.diagnostics(URI)] == ["20"], "found", client.diagnostics(URI))
 
 
 @check

@@ -18,7 +18,7 @@ PATIENCE = 2.0
 class Diagnosing:
     def __init__(self, tell):
         """`tell` is called in another thread with each reply."""
-        self.tell, self.process, self.is_busy = tell, None, False
+        self.tell, self.process, self.is_busy, self.is_ready = tell, None, False, False
         # When each document is to be looked at, which one the worker has, and since when.
         self.due, self.given, self.since = {}, None, 0.0
 
@@ -44,6 +44,9 @@ class Diagnosing:
         process, reply = told
         if process is not self.process:
             return None
+        if reply is not None and "ready" in reply:
+            self.is_ready = True
+            return None
         if reply is None:
             self.ended()
         self.is_busy = False
@@ -56,8 +59,9 @@ class Diagnosing:
         self.due.pop(uri, None)
 
     def seconds(self):
-        """How long there is nothing to give to the worker; none where nothing is due."""
-        if not self.due or self.is_busy and self.given not in self.due:
+        """How long there is nothing to give to the worker; none where nothing is due. A worker that still compiles the
+        program is left alone."""
+        if not self.due or self.is_busy and (self.given not in self.due or not self.is_ready):
             return None
         when = self.due[self.given] if self.is_busy else min(self.due.values())
         when = max(when, self.since + PATIENCE) if self.is_busy else when
@@ -87,7 +91,7 @@ class Diagnosing:
 
     def ended(self):
         """The worker has ended, or is to end: the next document gets a new one."""
-        process, self.process, self.is_busy = self.process, None, False
+        process, self.process, self.is_busy, self.is_ready = self.process, None, False, False
         if process is None:
             return
         try:

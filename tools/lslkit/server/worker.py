@@ -16,22 +16,23 @@ from ..tokens import Lines
 CHECKED = re.compile(r'bad script ".*" (\d+):(\d+) fault (\d+)')
 REFUSED = re.compile(r'bad (\w+) "((?:[^"\\]|\\.)*)" (?:line (\d+) |(\d+):(\d+) )?fault (\d+)')
 SECONDS = 10
+# What is written first, once there is a program or none can be made.
+READY = {"ready": True}
 
 
 class Worker:
     def __init__(self):
         self.binary, self.why = None, None
 
-    def need_program(self):
-        """Finds the program, once; it may have to be compiled first."""
+    def find_program(self):
+        """Finds the program, which may have to be compiled first."""
         try:
-            self.binary = self.binary or os.environ.get("LSL_PROGRAM") or making.program()
+            self.binary = os.environ.get("LSL_PROGRAM") or making.program()
         except kit.NotMade as error:
             self.why = str(error)
+        return READY
 
     def answer(self, request):
-        if self.why is None:
-            self.need_program()
         said = []
         if self.binary:
             said = self.of_world(request) if request["is_world"] else self.of_script(request["text"])
@@ -140,7 +141,10 @@ def main():
     worker, source = Worker(), sys.stdin.buffer
     # What anything prints goes to standard error: the output is for replies alone.
     replies, sys.stdout = sys.stdout.buffer, sys.stderr
+    reply = worker.find_program()
     while True:
+        pickle.dump(reply, replies)
+        replies.flush()
         try:
             request = pickle.load(source)
         except EOFError:
@@ -150,8 +154,6 @@ def main():
         except Exception as error:  # pylint: disable=broad-except
             print(f"lsl-server: {type(error).__name__}: {error}", file=sys.stderr)
             reply = {"uri": request["uri"], "version": request["version"], "found": [], "why": None}
-        pickle.dump(reply, replies)
-        replies.flush()
 
 
 if __name__ == "__main__":
