@@ -252,6 +252,35 @@ def faults_are_published():
             client.close(uri)
 
 
+# A script with a fault, and what it is after the fix.
+FIXED = (
+    ('default { timer() { llSya(0, ""); } }', 'default { timer() { llSay(0, ""); } }'),
+    ("default { timre() { } }", "default { timer() { } }"),
+    ("default { timer() { llOwnerSay(1); } }", "default { timer() { llOwnerSay((string)1); } }"),
+    ("default { timer() { llOwnerSay(f(1, 2)); } } ", None),
+    ("integer n; default { timer() { llOwnerSay(n + 1); } }",
+     "integer n; default { timer() { llOwnerSay((string)(n + 1)); } }"),
+    ("integer f(integer n) { return n; } default { timer() { llOwnerSay(f(1)); } }",
+     "integer f(integer n) { return n; } default { timer() { llOwnerSay((string)f(1)); } }"),
+)  # fmt: skip
+
+
+@check
+def faults_are_fixed():
+    with Client(binary()) as client:
+        client.open(URI, "")
+        for text, wanted in FIXED:
+            client.change(URI, text)
+            client.diagnostics(URI)
+            whole = {"start": {"line": 0, "character": 0}, "end": {"line": 0, "character": len(text)}}
+            made = client.of("codeAction", URI, range=whole, context={"diagnostics": []})
+            fixed = [edited(text, it["edit"]["changes"][URI]) for it in made]
+            need(fixed == ([wanted] if wanted else []), text, "is fixed as", fixed)
+            if wanted:
+                client.change(URI, wanted)
+                need(not [it for it in client.diagnostics(URI) if it["severity"] == 1], wanted, "has a fault")
+
+
 @check
 def fixes_are_edits_of_the_text():
     text = 'default { timer() { llOwnerSay("é" + count); } }'

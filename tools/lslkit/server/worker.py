@@ -12,6 +12,7 @@ import sys
 from .. import diagnostics, faults, kit, making, program, quoting, worlds, world_hints
 from ..diagnostics import Diagnostic
 from ..tokens import Lines
+from . import fixing
 
 CHECKED = re.compile(r'bad script ".*" (\d+):(\d+) fault (\d+)')
 REFUSED = re.compile(r'bad (\w+) "((?:[^"\\]|\\.)*)" (?:line (\d+) |(\d+):(\d+) )?fault (\d+)')
@@ -41,7 +42,7 @@ class Worker:
     # Scripts
 
     def of_script(self, text):
-        return list(diagnostics.of(text, self.check))
+        return fixing.with_fixes(text, diagnostics.of(text, self.check))
 
     def check(self, text):
         """The program's first fault of a text, as its line, column and number."""
