@@ -1,17 +1,15 @@
-"""The checks of the language server, of the formatter, and of the words that they share with the page."""
+"""The checks of the language server, and of the words that it shares with the page."""
 import ast
 import glob
 import io
 import os
 import re
-import shutil
 import signal
-import subprocess
 import tempfile
 import time
 
-from . import diagnostics, formatting, making, places, random_scripts, server_fuzz, syntax, tables, tokens, words
-from .checking import Failed, Skipped, check, need
+from . import diagnostics, making, places, server_fuzz, tables, words
+from .checking import check, need
 from .server import framing, mending
 from .server.documents import Document
 from .server.session import Session
@@ -19,7 +17,6 @@ from .server_client import Client, Rules
 
 TABLES = {"calls": tables.calls, "events": tables.events, "constants": tables.constants}
 URI = "file:///trial/a.lsl"
-TRIALS = places.in_top("tools", "editor_tests")
 # A script with a mark where the cursor is, the request, and a part of what it is answered.
 ANSWERS = (
     ("default { timer() { llOwner|Say(1); } }", "hover", "llOwnerSay(string msg)"),
@@ -83,13 +80,6 @@ def texts(*pattern):
     return found
 
 
-def scripts_of_suite():
-    """The scripts of the suite that are written line by line."""
-    for text in texts("suite", "*.cases").values():
-        for found in re.finditer(r"(?m)^@ \S+\.lsl\n((?:[|+].*\n)+)", text):
-            yield "".join(f"{line[1:]}\n" if line[0] == "|" else line[1:] for line in found[1].splitlines())
-
-
 def marked(text):
     """A text without the mark of the cursor, and its position."""
     before, _, behind = text.partition("|")
@@ -112,64 +102,6 @@ def words_fit_the_tables():
             need(set(entry) == wanted, word, "has the fields", set(entry))
             need(len(entry.get("params", ())) == len(getattr(row, "params", ())), word, "has other parameters")
             need(len(set(entry.get("params", ()))) == len(entry.get("params", ())), word, "has a parameter twice")
-
-
-# The formatter
-
-
-def need_formatted(text, name):
-    """Whether a text, as bytes, can be formatted, and stays as it is then."""
-    made = formatting.formatted(text)
-    cut = [[(it.sort, it.text) for it in tokens.cut(each)] for each in (text, made)]
-    need(cut[0] == cut[1], name, "has other tokens")
-    need(formatting.formatted(made) == made, name, "is formatted otherwise a second time")
-    return made
-
-
-@check
-def examples_are_formatted_as_they_are():
-    for name, text in texts("examples", "**", "*.lsl").items():
-        if "/bad/" not in name:
-            need(need_formatted(text.encode(), name) == text.encode(), name, "is formatted otherwise")
-
-
-@check
-def scripts_of_the_suite_are_formatted():
-    count = 0
-    for text in scripts_of_suite():
-        try:
-            need_formatted(text.encode(), text)
-            count += 1
-        except formatting.Unformatted as error:
-            is_read = True
-            try:
-                syntax.read(tokens.cut(text.encode()))
-            except syntax.Unexpected:
-                is_read = False
-            is_whole = tokens.cut(text.encode())[-1].place == len(text.encode())
-            need(not (is_read and is_whole), "not formatted:", error, text)
-    need(count > 300, "only", count, "scripts of the suite were formatted")
-
-
-@check
-def random_scripts_are_formatted():
-    for seed in range(int(os.environ.get("LSL_SCRIPTS", "60"))):
-        text = random_scripts.script(seed).encode()
-        syntax.read(tokens.cut(text))
-        need_formatted(text, f"random script {seed}")
-
-
-@check
-def layouts_are_as_shown():
-    before, after = (places.text_of("tools", "editor_tests", f"layout.{it}") for it in ("before", "after"))
-    made = formatting.formatted(before.encode()).decode()
-    need(made == after, "formatted as", made)
-    for text in ("default {", 'integer a = "', "f(] ) default { }", "default { timer() { ) } }"):
-        try:
-            formatting.formatted(text.encode())
-        except formatting.Unformatted:
-            continue
-        need(False, text, "is formatted")
 
 
 # The server
@@ -447,109 +379,3 @@ def the_servers_modules_are_of_python_3_8():
     for name, text in {**texts("tools", "lslkit", "server", "*.py"), **texts("tools", "lsl-server")}.items():
         ast.parse(text, name, feature_version=(3, 8))
         need(text.count("\n") <= 500, name, "is too long")
-
-
-# Editors
-
-
-def block(language, mark):
-    """The first block of a language in docs/EDITORS.md that has a word, for this repository."""
-    found = re.findall(r"(?s)```%s\n(.*?)```" % language, places.text_of("docs", "EDITORS.md"))
-    text = next(it for it in found if mark in it)
-    return text.replace("DISHHOLLOW", places.TOP)
-
-
-# After which an editor that doesn't end by itself is ended.
-SECONDS = 300
-
-
-def tried(command, room, **more):
-    """What an editor says that does a trial in a folder of its own."""
-    for name in ("trial.lsl", "trial.world"):
-        shutil.copy(os.path.join(TRIALS, name), room)
-    environment = {**os.environ, "LSL_PROGRAM": binary(), "HOME": room, **more}
-    how = {"stdin": subprocess.DEVNULL, "stdout": subprocess.PIPE, "stderr": subprocess.STDOUT}
-    try:
-        ran = subprocess.run(command, cwd=room, env=environment, timeout=SECONDS, check=False, **how)
-    except subprocess.TimeoutExpired as error:
-        raise Failed(f"{command[0]} doesn't end: {(error.stdout or b'').decode(errors='replace')}") from None
-    return ran.stdout.decode(errors="replace")
-
-
-def need_lines(said, *wanted):
-    for it in wanted:
-        need(it in said, it, "isn't in", said)
-
-
-def need_editor(name):
-    if shutil.which(name) is None:
-        raise Skipped(f"there is no {name}")
-
-
-FAULT = "no such variable, function or state"
-HOVER = "Says msg to the owner alone"
-
-
-@check
-def neovim_uses_the_server():
-    need_editor("nvim")
-    with tempfile.TemporaryDirectory() as room:
-        config = os.path.join(room, "init.lua")
-        places.write_text(config, block("lua", "vim.lsp"))
-        said = tried(["nvim", "--headless", "-u", config, "-S", os.path.join(TRIALS, "neovim.lua"), "+qa!"], room)
-    faults = ["fault true", "fault 10 8 13 20", "mended true", "accepted true", "world true", "world 3 "]
-    need_lines(said, *faults, HOVER, "definition true", "rename true", "completion llMessageLinked", "formatted true")
-    need_lines(said, "signature says llSay(integer channel, string msg)")
-
-
-def emacs(config, trial):
-    start = "/usr/share/emacs/site-lisp/debian-startup.el"
-    quiet = "(setq make-backup-files nil create-lockfiles nil load-prefer-newer t)"
-    with tempfile.TemporaryDirectory() as room:
-        places.write_text(os.path.join(room, "init.el"), config)
-        words_ = ["emacs", "--batch", "--eval", quiet, *(["-l", start] if os.path.exists(start) else [])]
-        words_ += ["--eval", "(package-initialize)", "-l", "init.el", "-l", os.path.join(TRIALS, trial)]
-        said = tried(words_, room)
-    if "Cannot open load file" in said:
-        raise Skipped("Emacs has no package for the protocol")
-    return said
-
-
-@check
-def emacs_uses_the_server_by_eglot():
-    need_editor("emacs")
-    said = emacs(block("elisp", "eglot"), "eglot.el")
-    need_lines(said, "fault true", f"fault 11 lsl [20]: {FAULT}", "mended true", HOVER, "definition 4", "rename t")
-    need_lines(said, "formatted         llOwnerSay(words(count));", "completion         llMessageLinked", "ended")
-
-
-@check
-def emacs_uses_the_server_by_lsp_mode():
-    need_editor("emacs")
-    said = emacs(block("elisp", "lsp-mode"), "lsp_mode.el")
-    need_lines(said, "fault true", f"fault 10 {FAULT}", HOVER, "rename t", "ended")
-
-
-@check
-def vim_uses_the_server_by_ale():
-    need_editor("vim")
-    with tempfile.TemporaryDirectory() as room:
-        config, said = os.path.join(room, "vimrc"), os.path.join(room, "said")
-        places.write_text(config, "set nocompatible\n" + block("vim", "ale#linter"))
-        output = tried(["vim", "-Nu", config, "-es", "-S", os.path.join(TRIALS, "ale.vim")], room, SAID=said)
-        if "ale" in output and not os.path.exists(said):
-            raise Skipped("Vim has no ALE")
-        said = places.text_of(said)
-    need_lines(said, "fault true", f"fault 11 9 20: {FAULT}", "mended true", "hover true", "definition true")
-
-
-@check
-def the_extension_for_vs_code_uses_the_server():
-    need_editor("node")
-    with tempfile.TemporaryDirectory() as room:
-        said = tried(["node", os.path.join(TRIALS, "vscode.cjs"), places.TOP, room], room)
-    need_lines(said, "fault true", "fault 10 8 13 20 0", "mended true", HOVER, "signature 1", "definition 3")
-    need_lines(said, "references 3", "completion llSay(${1:channel}, ${2:msg})$0")
-    need_lines(said, "rename string words(integer number) {", "calls touch_start 2", 'typed 12 "    "')
-    need_lines(said, "refused llSay is a call of the language", "symbols count words default", "tokens 0", "ended")
-    need_lines(said, "played lsl play trial.lsl", 'formatted "        llOwnerSay(words(count));"')
