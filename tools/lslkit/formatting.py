@@ -9,9 +9,9 @@ COMMENT = re.compile(rb"//[^\n]*|/\*.*?\*/", re.S)
 OPENING, CLOSING = {"(": ")", "[": "]", "{": "}"}, (")", "]", "}")
 NONE_BEFORE, NONE_AFTER = (")", "]", ",", ";"), ("(", "[")
 HEADS = ("if", "while", "for")
-# A token or a comment: its first byte, the one behind its last, and a token's number.
+# A token or a comment: its first byte, the one after its last, and a token's number.
 Element = namedtuple("Element", "start end at")
-# A gap: its first byte, the one behind its last, and the blanks that it should hold.
+# A gap: its first byte, the one after its last, and the blanks that it should hold.
 Edit = namedtuple("Edit", "start end text")
 
 
@@ -127,7 +127,7 @@ class Layout:
         return self.statement + max(1, len(set(brackets)))
 
     def end_of_statement(self, following):
-        """Ends the statement, and those whose body it is, but for one that goes on with an `else` or a `while`."""
+        """Ends the statement, and those whose body it is, but for one that continues with an `else` or a `while`."""
         heads = self.braces[-1].heads
         self.is_start = True
         while heads:

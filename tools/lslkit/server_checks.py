@@ -82,9 +82,9 @@ def texts(*pattern):
 
 def marked(text):
     """A text without the mark of the cursor, and its position."""
-    before, _, behind = text.partition("|")
+    before, _, after = text.partition("|")
     line = before.count("\n")
-    return before + behind, line, len(before.rpartition("\n")[2].encode("utf-16-le")) // 2
+    return before + after, line, len(before.rpartition("\n")[2].encode("utf-16-le")) // 2
 
 
 # Words

@@ -29,8 +29,8 @@ class Rules:
 
     def position(self, it):
         need(set(it) == {"line", "character"} and all(map(is_number, it.values())), "no position:", it)
-        need(it["line"] < len(self.lines), "a position is behind the text:", it)
-        need(it["character"] <= self.width(it["line"]) + 1, "a position is behind its line:", it)
+        need(it["line"] < len(self.lines), "a position is after the text:", it)
+        need(it["character"] <= self.width(it["line"]) + 1, "a position is after its line:", it)
         return it["line"], it["character"]
 
     def range(self, it):
@@ -112,7 +112,7 @@ class Rules:
             line, character = line + down, right if down else character + right
             need(length > 0 and (down or not at or character >= end), "tokens overlap at", line, character)
             end = character + length
-            need(line < len(self.lines) and end <= self.width(line), "a token is behind its line:", line, character)
+            need(line < len(self.lines) and end <= self.width(line), "a token is after its line:", line, character)
             need(sort < 13 and bits < 16, "no type:", sort, bits)
 
     def actions(self, found):

@@ -31,7 +31,7 @@ def cut(text):
 
 
 def cut_from(text, place, tokens):
-    """Adds the tokens from a place on up to the next lexical fault. The place behind the last."""
+    """Adds the tokens from a place on up to the next lexical fault. The place after the last."""
     for found in ONE.finditer(text, place):
         if found.start() != place:
             break
@@ -43,7 +43,7 @@ def cut_from(text, place, tokens):
 
 
 def cut_through(text):
-    """The tokens of a text, also behind its lexical faults, where each fault is a token of the sort `fault`."""
+    """The tokens of a text, also after its lexical faults, where each fault is a token of the sort `fault`."""
     tokens, place = [], 0
     while True:
         place = SKIPPED.match(text, cut_to_fault(text, place, tokens)).end()

@@ -53,7 +53,7 @@ class Document:
         return os.path.basename(self.path or self.uri) or "script.lsl"
 
     def changed(self, version, changes):
-        """The document behind changes: each is a range with its new text, or a whole text."""
+        """The document after changes: each is a range with its new text, or a whole text."""
         text, script = self.text, self.__dict__.get("script", self.earlier)
         for it in changes:
             new = to_bytes(it["text"])

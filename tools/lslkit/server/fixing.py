@@ -38,7 +38,7 @@ def cast_before(cut, at, kind):
 
 
 def closed(cut, at):
-    """The number of the token behind the bracket that closes the one at a token."""
+    """The number of the token after the bracket that closes the one at a token."""
     depth = 0
     for number in range(at, len(cut)):
         sign = cut[number].text if cut[number].sort == "sign" else ""
@@ -49,7 +49,7 @@ def closed(cut, at):
 
 
 def end_of_operand(cut, at):
-    """The number of the token behind a name, a literal, a call, or what is in brackets."""
+    """The number of the token after a name, a literal, a call, or what is in brackets."""
     if cut[at].text in OPENING and cut[at].sort == "sign":
         return closed(cut, at)
     is_call = cut[at].sort == "name" and cut[at + 1].text == "(" and cut[at + 1].sort == "sign"
@@ -57,7 +57,7 @@ def end_of_operand(cut, at):
 
 
 def end_of_value(cut, at):
-    """The number of the token behind the value that begins at a token."""
+    """The number of the token after the value that begins at a token."""
     while at < len(cut) - 1 and not (cut[at].sort == "sign" and cut[at].text in ENDS):
         at = closed(cut, at) if cut[at].sort == "sign" and cut[at].text in OPENING else at + 1
     return at

@@ -41,13 +41,13 @@ def as_typed(document, params):
     line = document.lines.line_of(place)
     number = script.piece_at(max(0, place - 1))
     piece, start = script.pieces[number], script.starts[number]
-    before, behind = AROUND.get(piece.sort, (b"", b""))
+    before, after = AROUND.get(piece.sort, (b"", b""))
     try:
-        found = formatting.edits(before + piece.text + behind, unit_of(params.get("options", {})))
+        found = formatting.edits(before + piece.text + after, unit_of(params.get("options", {})))
     except formatting.Unformatted:
         return []
     moved = [it._replace(start=it.start + start - len(before), end=it.end + start - len(before)) for it in found]
-    # A line's indentation begins behind the feed before it.
+    # A line's indentation begins after the feed before it.
     first = document.lines.starts[line]
     kept = [it for it in moved if it.start < first <= it.end <= place and b"\n" in it.text]
     indents = [formatting.Edit(first, it.end, it.text.rpartition(b"\n")[2]) for it in kept]

@@ -131,8 +131,8 @@ class Reader:
         self.waiting = None
 
     def name(self, at):
-        before, behind = self.text(at - 1), self.text(at + 1)
-        if before in KINDS and self.blocks and behind != "(":
+        before, after = self.text(at - 1), self.text(at + 1)
+        if before in KINDS and self.blocks and after != "(":
             self.show()
             self.waiting = self.declare("variable", at, before, self.end_of_declaration(at))
         elif before == "@":
@@ -141,11 +141,11 @@ class Reader:
             self.jumps.append((at, tuple(self.blocks)))
         elif before == "state":
             self.use("state", at)
-        elif behind == "(":
+        elif after == "(":
             self.use("call", at)
         else:
-            is_stepped = behind in ("++", "--") or before in ("++", "--") and not self.is_name(at - 2)
-            self.use("variable", at, self.visible(self.tokens[at].text), is_stepped or behind in ASSIGNS)
+            is_stepped = after in ("++", "--") or before in ("++", "--") and not self.is_name(at - 2)
+            self.use("variable", at, self.visible(self.tokens[at].text), is_stepped or after in ASSIGNS)
 
     def end_of_declaration(self, at):
         while at < len(self.tokens) - 1 and self.text(at) not in (";", "{", "}"):

@@ -120,7 +120,7 @@ def has_open_string(text):
 
 
 def split(text):
-    """The pieces of a text, each as its sort, its first byte and the byte behind its last."""
+    """The pieces of a text, each as its sort, its first byte and the byte after its last."""
     return Splitter(text).split(SHORT_MARK if has_open_string(text) else MARK)
 
 

@@ -27,7 +27,7 @@ def units(piece):
 
 
 def bytes_in(line, count):
-    """How many bytes so many units of UTF-16 of a line take. A place within a character is its start."""
+    """How many bytes a count of UTF-16 units of a line takes. A place within a character is its start."""
     if line.isascii():
         return min(count, len(line))
     taken = 0
