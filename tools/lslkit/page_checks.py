@@ -47,14 +47,6 @@ def the_forms_of_worlds_are_those_of_the_table():
 
 
 @check
-def the_numbers_of_steps_are_those_of_lsl_play():
-    from . import playing
-
-    for name, (least, most) in words.table("steps")["line ranges"].items():
-        need(playing.RANGES.get(name, worlds.SIGNED) == (least, most), name, "is", least, "to", most)
-
-
-@check
 def journals_are_shown_in_the_words_of_the_table():
     """Each line of the examples is one of the phrases, with its fields filled."""
     phrases = [*words.table("journal").values(), *words.table("steps")["says"].values()]

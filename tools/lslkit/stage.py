@@ -12,8 +12,6 @@ UNITS = {"ms": 1, "s": 1000, "": 1000, "m": 60000, "h": 3600000}
 PERSON, PRIM = "00000000-0000-4000-8000-%012x", "00000000-0000-4000-9000-%012x"
 NO_KEY = "00000000-0000-0000-0000-000000000000"
 MOST_CLOCK = 2147483647999
-# The least and the greatest number of those that don't take every one.
-RANGES = {"link": (0, 255), "run": (0, 1000000), "go": (0, 1000000)}
 # The script that sends what a play's `message` says.
 SENDER, SENDERS_PRIM = in_top("tools", "lslkit", "sender.lsl"), "Sender"
 
@@ -37,7 +35,7 @@ def number(text, name):
     values = [constant(it) for it in words]
     if None not in values and words != [""]:
         return sum(set(values))
-    least, greatest = RANGES.get(name, (-(2**31), 2**31 - 1))
+    least, greatest = table("steps")["line ranges"].get(name, worlds.SIGNED)
     if not re.fullmatch(r"-?[0-9]{1,10}", text) or not least <= int(text) <= greatest:
         raise Bad(f"'{text}' is no number for {name}: {least} to {greatest}")
     return int(text)
