@@ -1,7 +1,7 @@
 #!/usr/bin/env python3
-"""Prints the rows of crates/lsl_value_tests/src/operators/rows.rt: what operators on 32-bit integers give.
+"""Prints crates/tests_parts/data/computed.cases: what operators on 32-bit integers give.
 
-Run it as `python3 tools/operator_rows.py > crates/lsl_value_tests/src/operators/rows.rt`.
+Run it as `python3 tools/operator_rows.py > crates/tests_parts/data/computed.cases`.
 
 For each operator it takes, out of all pairs of ten numbers, the thirty that tell most: those on which the
 greatest number of likely wrong operators give another value.
@@ -126,9 +126,9 @@ SIGNS = {
     "BIT_XOR": "^",
 }
 
-print("//! What operators on integers give, as computed by `tools/operator_rows.py`.")
-print('\npub(crate) const COMPUTED: &str = r"# left, sign, right, value', end="")
-for name in RIGHT:
-    for left, right, value in rows(name):
-        print(f"\nop I{left} {SIGNS[name]} I{right} -> I{value}", end="")
-print('";')
+told = [
+    f"|op I{left} {SIGNS[name]} I{right} -> I{value}" for name in RIGHT for left, right, value in rows(name)
+]
+print("? operators-on-integers\n> operators\n@ rows\n|# left, sign, right, value")
+print("\n".join(told))
+print(f"= 0\n|{len(told)} rows hold")

@@ -61,7 +61,7 @@ def group_of(path, subject):
     if parts[0] != "crates":
         return "pages" if parts[0] == "docs" else "examples"
     crate, folder = parts[1], parts[2]
-    if crate.startswith("tests_") or crate.endswith("_tests") or crate == "lsl_rows":
+    if crate.startswith("tests_") or crate == "lsl_rows":
         return "tests"
     if folder in ("proofs", "must-fail"):
         return "proof" if folder == "proofs" else folder
