@@ -1,0 +1,4 @@
+-- The definitions.
+pub mod Pieces
+pub mod Places
+pub mod Stacks
