@@ -13,7 +13,7 @@ use Rattle.lsl_post.specs.Told.{Told}
 use Rattle.lsl_script.specs.declared.live.Live.{Live}
 use Rattle.lsl_script.specs.Lives.{Waits}
 use Rattle.lsl_script.specs.Scripts.{Flight, Script}
-use Rattle.lsl_region.specs.declared.audience.Audience.{Audience}
+use Rattle.lsl_region.specs.declared.notice.Audience.{Audience}
 use Rattle.lsl_region.specs.declared.objects.Linkset.{Linkset}
 use Rattle.lsl_region.specs.Grids.{Contents, IsScript, Lent, Stands, is_out, key_in, seat_of}
 use Rattle.lsl_region.specs.Posting.{admits, is_admitted}

@@ -4,7 +4,7 @@ use Rattle.std.specs.Prelude.{◌&&◌, ◌||◌, not}
 use Rattle.std.specs.Ordering.{int_eq}
 use Rattle.std.proofs.lemmas.Bool.Decides.{Decides-int_eq}
 use Rattle.std.proofs.lemmas.List.Folds.{list_any_more}
-use Rattle.lsl_region.specs.declared.heard.ChannelEntry.{ChannelEntry}
+use Rattle.lsl_region.specs.declared.chat_index.ChannelEntry.{ChannelEntry}
 use Rattle.lsl_region.specs.Hearing.{has_channel}
 use Rattle.lsl_region.specs.Table.{has_entry, heard, is_heard, same_heard}
 use Rattle.lsl_region.proofs.Ordered.{and-true}

@@ -12,7 +12,7 @@ use Rattle.lsl_post.proofs.Amid.{Walk, amid-err, amid-last, amid-ok, amid-start,
 use Rattle.lsl_script.specs.Parts.{parts_of}
 use Rattle.lsl_script.specs.Rules.{Rules}
 use Rattle.lsl_script.specs.Scripts.{post_to}
-use Rattle.lsl_region.specs.declared.audience.Audience.{Audience}
+use Rattle.lsl_region.specs.declared.notice.Audience.{Audience}
 use Rattle.lsl_region.specs.declared.grid.Seat.{Seat}
 use Rattle.lsl_region.specs.Grids.{Contents, Stands, is_out, seat_of}
 use Rattle.lsl_region.specs.Hearing.{ArePassed, HasRow, HaveRows, is_in_row, listens_on}

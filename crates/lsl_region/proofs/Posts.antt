@@ -8,7 +8,7 @@ use Rattle.lsl_script.specs.Rules.{Rules}
 use Rattle.lsl_post.specs.Mailbox.{posted, posting}
 use Rattle.lsl_script.specs.Codes.{Meant, rules_of}
 use Rattle.lsl_script.specs.Scripts.{Script, entries_of_posting, is_alive, post_to}
-use Rattle.lsl_region.specs.declared.audience.Audience.{Audience}
+use Rattle.lsl_region.specs.declared.notice.Audience.{Audience}
 use Rattle.lsl_region.specs.declared.grid.Seat.{Seat}
 use Rattle.lsl_region.specs.Grids.{Contents, IsScript, Stands, key_in, seat_of}
 use Rattle.lsl_region.specs.Posting.{admits, is_admitted, post_where}

@@ -10,7 +10,7 @@ use Rattle.std.proofs.lemmas.List.{get_or-set_other, get_or-set_same, length-map
 use Rattle.std.proofs.lemmas.List.Folds.{list_any-append}
 use Rattle.std.proofs.lemmas.Map.Keys.{IsDistinct-from_sorted}
 use Rattle.std.proofs.lemmas.Map.Made.{length-le_from_is_member}
-use Rattle.lsl_region.specs.declared.heard.ChannelEntry.{ChannelEntry}
+use Rattle.lsl_region.specs.declared.chat_index.ChannelEntry.{ChannelEntry}
 use Rattle.lsl_region.specs.Hearing.{IsTable, has_channel, is_in_row, most_channels}
 use Rattle.lsl_region.specs.Table.{IsOrdered, has_entry, heard, heard_order, is_heard, same_heard}
 use Rattle.lsl_region.proofs.Table.{order-total, same-place}

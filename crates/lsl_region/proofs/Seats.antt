@@ -10,7 +10,7 @@ use Rattle.lsl_code.specs.declared.woven_units.Woven.{Woven as Code}
 use Rattle.lsl_image.specs.Valid.{IsStore}
 use Rattle.lsl_post.specs.declared.parts.Pair.{Pair}
 use Rattle.lsl_post.specs.Listens.{Standing}
-use Rattle.lsl_region.specs.declared.audience.Audience.{Audience}
+use Rattle.lsl_region.specs.declared.notice.Audience.{Audience}
 use Rattle.lsl_region.specs.declared.grid.Seat.{Seat}
 use Rattle.lsl_region.specs.declared.objects.Linkset.{Linkset}
 use Rattle.lsl_region.specs.declared.objects.Primitive.{Primitive}

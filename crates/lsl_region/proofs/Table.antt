@@ -14,7 +14,7 @@ use Rattle.std.specs.Int.Signed.{<ℤ_irrefl}
 use Rattle.std.proofs.lemmas.Int.{ints}
 use Rattle.std.proofs.lemmas.Map.Lookups.{exact_signed, exact_unsigned}
 use Rattle.std.proofs.lemmas.Option.{get_or_from_slice_get, slice_get-get_or, slice_get_cases}
-use Rattle.lsl_region.specs.declared.heard.ChannelEntry.{ChannelEntry}
+use Rattle.lsl_region.specs.declared.chat_index.ChannelEntry.{ChannelEntry}
 use Rattle.lsl_region.specs.Table.{BelongsAt, IsOrdered, StandsAt, has_entry, heard, heard_order, is_heard, no_place, place_of, same_heard}
 use Rattle.lsl_region.proofs.Ordered.{and-false, and-true, searchable, sorted-at}
 

@@ -18,8 +18,8 @@ use Rattle.lsl_post.specs.declared.parts.ScriptParts.{ScriptParts}
 use Rattle.lsl_post.proofs.Amid.{Amid, amid-err, amid-last, amid-ok, amid-start}
 use Rattle.lsl_script.specs.Codes.{HasUnit, Meant, handler_in_unit}
 use Rattle.lsl_script.specs.Parts.{parts_of}
-use Rattle.lsl_region.specs.declared.audience.Audience.{Audience}
-use Rattle.lsl_region.specs.declared.audience.Audience.TheVariants.{Prim as InPrim}
+use Rattle.lsl_region.specs.declared.notice.Audience.{Audience}
+use Rattle.lsl_region.specs.declared.notice.Audience.TheVariants.{Prim as InPrim}
 use Rattle.lsl_region.specs.declared.grid.Seat.{Seat}
 use Rattle.lsl_region.specs.Arrivals.{handles_touch, is_in_prim, touch_end, touch_held, touch_start, touched}
 use Rattle.lsl_region.specs.Posting.{admits, post_all}

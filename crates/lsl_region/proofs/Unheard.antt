@@ -9,7 +9,7 @@ use Rattle.lsl_post.specs.declared.filters.Filter.{Filter}
 use Rattle.lsl_post.specs.declared.listen.Listen.{Listen}
 use Rattle.lsl_post.specs.Listens.{Standing, filter_of, hears, is_heard}
 use Rattle.lsl_post.specs.Filters.{fits_filter}
-use Rattle.lsl_region.specs.declared.audience.Audience.TheVariants.{Hearers}
+use Rattle.lsl_region.specs.declared.notice.Audience.TheVariants.{Hearers}
 use Rattle.lsl_region.specs.Hearing.{is_on, listens_on}
 use Rattle.lsl_region.specs.Posting.{is_admitted}
 

@@ -16,8 +16,8 @@ use Rattle.lsl_script.specs.Lives.{Waits}
 use Rattle.lsl_script.specs.Parts.{parts_of}
 use Rattle.lsl_script.specs.Scripts.{Flight, Script}
 use Rattle.lsl_value.specs.declared.tagged.Value.{Value}
-use Rattle.lsl_region.specs.declared.audience.Audience.{Audience}
-use Rattle.lsl_region.specs.declared.audience.Audience.TheVariants.{Linked}
+use Rattle.lsl_region.specs.declared.notice.Audience.{Audience}
+use Rattle.lsl_region.specs.declared.notice.Audience.TheVariants.{Linked}
 use Rattle.lsl_region.specs.Answers.{integer_at, with_name}
 use Rattle.lsl_region.specs.declared.grid.Seat.{Seat}
 use Rattle.lsl_region.specs.declared.objects.Linkset.{Linkset}

@@ -6,9 +6,9 @@ use Rattle.std.specs.Set.{is_member}
 use Rattle.lsl_post.specs.declared.listen.Listen.{Listen}
 use Rattle.lsl_post.specs.declared.parts.ScriptParts.{ScriptParts}
 use Rattle.lsl_post.specs.Listens.{Standing}
-use Rattle.lsl_region.specs.declared.audience.Audience.{Audience}
+use Rattle.lsl_region.specs.declared.notice.Audience.{Audience}
 use Rattle.lsl_region.specs.declared.grid.Seat.{Seat}
-use Rattle.lsl_region.specs.declared.heard.ChannelEntry.{ChannelEntry}
+use Rattle.lsl_region.specs.declared.chat_index.ChannelEntry.{ChannelEntry}
 use Rattle.lsl_region.specs.Posting.{is_admitted}
 use Rattle.lsl_region.specs.Table.{IsOrdered, is_heard, no_place}
 

@@ -10,8 +10,8 @@ use Rattle.lsl_post.specs.Mailbox.{mailbox_hears}
 use Rattle.lsl_post.specs.Told.{Told, each, quiet}
 use Rattle.lsl_script.specs.Rules.{Rules}
 use Rattle.lsl_script.specs.Scripts.{post_to, ring_to}
-use Rattle.lsl_region.specs.declared.audience.Audience.{Audience}
-use Rattle.lsl_region.specs.declared.audience.Audience.TheVariants.{Hearers, Prim as InPrim, Object as InObject, Linked}
+use Rattle.lsl_region.specs.declared.notice.Audience.{Audience}
+use Rattle.lsl_region.specs.declared.notice.Audience.TheVariants.{Hearers, Prim as InPrim, Object as InObject, Linked}
 use Rattle.lsl_region.specs.Links.{is_for}
 use Rattle.lsl_region.specs.Worlds.{Member, World, at_member, prim_of}
 

@@ -6,7 +6,7 @@ use Rattle.std.specs.Ordering.{eq_by_cmp, int_cmp, int_eq, nat_cmp, ordering_the
 use Rattle.std.specs.Set.{is_member}
 use Rattle.std.specs.declared.cmp.Ordering.{Ordering}
 use Rattle.std.specs.declared.cmp.Ordering.TheVariants.{Less, Greater}
-use Rattle.lsl_region.specs.declared.heard.ChannelEntry.{ChannelEntry}
+use Rattle.lsl_region.specs.declared.chat_index.ChannelEntry.{ChannelEntry}
 
 -- no script has so great a place
 abbrev pub no_place : ℕ

@@ -21,11 +21,10 @@ ghost use Rattle.lsl_region.specs.Worlds.{World, prim_of};
 ghost use Rattle.lsl_region.specs.declared.grid.Seat.{Seat as Place};
 
 use crate::arguments::{integer_at, text_at, text_in};
-use crate::audience::Audience;
 use crate::events::{listen_event, message_event};
 use crate::grid::Grid;
 use crate::links::link_of;
-use crate::notice::Notice;
+use crate::notice::{Audience, Notice};
 use crate::posting::number;
 use crate::scene::Scene;
 use crate::texts::{cut_name, cut_speech};

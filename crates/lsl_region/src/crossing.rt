@@ -1,20 +1,22 @@
-//! Crossings: an object's image is handed to a link, and the object goes on as what comes back stands for.
+//! Crossings: an object's image is handed to a link, or by notes, and the object continues as what comes back describes.
 
-ghost use Rattle.std.specs.Prelude.{◌≡◌, ◌≢◌, ◌<◌, ◌≤◌, ◌-◌, ◌+◌, ◌∷◌, [], ℕ, List, None, Ok as OkResult, length, map, option_map, take, All, IfOk, MatchResult, OnOk};
+ghost use Rattle.std.specs.Prelude.{◌≡◌, ◌≢◌, ◌<◌, ◌≤◌, ◌-◌, ◌+◌, ◌∷◌, [], ℕ, ◌++◌, List, None, Ok as OkResult, length, map, option_map, take, All, IfOk, MatchResult, OnOk, MatchOption};
 ghost use Rattle.std.specs.List.{filter_map};
 ghost use Rattle.lsl_ports.specs.Counts.{Rose};
 ghost use Rattle.lsl_ports.specs.Growth.{Begins};
 ghost use Rattle.lsl_ports.specs.Trips.{Trip, Went, sent_of};
-ghost use Rattle.lsl_script.specs.Codes.{Meant};
+ghost use Rattle.lsl_post.specs.Journal.{Tells};
 ghost use Rattle.lsl_image.specs.Images.{ObjectFirst, ObjectImage};
 ghost use Rattle.lsl_image.specs.Valid.{shape_of};
-ghost use Rattle.lsl_region.specs.Crossings.{CanArrive, ComesOf, CrossesAs, IsOneTrip, IsSent, Stays, image_in, images_to, kept_entries, region_changed, region_in};
+ghost use Rattle.lsl_image.specs.declared.parts.ObjectParts.{ObjectParts as AParts};
+ghost use Rattle.lsl_script.specs.Codes.{Meant};
+ghost use Rattle.lsl_region.specs.Crossings.{CanArrive, ComesOf, CrossesAs, IsOneTrip, IsSent, Stays, image_in, images_to, kept_entries, region_changed, region_in, arrived};
 ghost use Rattle.lsl_region.specs.Grids.{AreSeated, Stands};
-ghost use Rattle.lsl_region.specs.Journeys.{Travels};
+ghost use Rattle.lsl_region.specs.Journeys.{Travels, arrive};
 ghost use Rattle.lsl_region.specs.ObjectParts.{parts_in_seat, parts_of_object};
 ghost use Rattle.lsl_region.specs.Worlds.{World};
 
-use crate::arriving::{Arrival, prepare};
+use crate::arrival::{Arrival, prepare};
 use crate::grid::Grid;
 use lsl_code::Library;
 use lsl_image::{ImageFault, ObjectParts, Shape, read_object, write_object};
@@ -220,6 +222,92 @@ impl Grid {
             Err(fault) => Ok(Crossed::Stayed(StayedWhy::Image(fault))),
         }
     }
+
+    /// The parts for which bytes stand as an image of the object of this number, whose sender was in this region; none
+    /// where they are no such image. Walks the scripts, and the bytes once more for their digest.
+    pub fn read_image(
+        &self,
+        object: u32,
+        region: &Text,
+        bytes: &[u8],
+        library: &Library,
+    ) -> Result<Option<ObjectParts>, NoMemory>
+        requires first { 0 < object }
+        requires last { object ≤ length self.now.objects }
+        ensures { IfOk result (λ read. MatchOption read
+            ((parts : AParts) → ObjectImage region.now (shape_of (parts_of_object self.now (object - 1))) library.now
+            parts bytes.now → ⊥)
+            (λ parts. ObjectImage region.now (shape_of (parts_of_object self.now (object - 1))) library.now
+            parts bytes.now × CanArrive library.now self.now (object - 1) parts)) }
+    {
+        let shape = self.shape(object)?;
+        match read_back(self.alloc, bytes, region, &shape, library)? {
+            Ok(parts) => Ok(Some(parts)),
+            Err(_) => Ok(None),
+        }
+    }
+
+    /// The object of this number is in this region, with these parts, and then `changed` with 256 is posted to all its
+    /// scripts. After want of memory grid and entries are as they were. Walks the scripts.
+    pub fn come(
+        &mut self,
+        object: u32,
+        region: &Text,
+        parts: ObjectParts,
+        library: &Library,
+        out: &mut Entries,
+    ) -> Result<(), NoMemory>
+        requires first { 0 < object }
+        requires last { object ≤ length self.old.objects }
+        requires seated { AreSeated library.now self.old.seats }
+        requires parts { CanArrive library.now self.old (object - 1) parts }
+        ensures comes { MatchResult result
+            (λ _. (self.new ≡ (arrived library.now self.old (object - 1) region.now parts).value)
+            × (out.new ≡ out.old ++ (arrived library.now self.old (object - 1) region.now parts).entries))
+            (λ _. Stays self.old self.new out.old out.new) }
+        ensures means { (m : Meant library.now) (clock : ℕ) (w : World) → Stands library.now None clock self.old w
+            → parts ≡ parts_of_object self.old (object - 1)
+            → Tells result (λ v _. Stands library.now None clock self.new v) out.old out.new
+            (arrive m.rules (object - 1) region.now w) }
+        ensures seated { OnOk result (AreSeated library.now self.new.seats) }
+        ensures objects { map (λ o. length o.prims) self.new.objects ≡ map (λ o. length o.prims) self.old.objects }
+        ensures scripts { length self.new.seats ≡ length self.old.seats }
+    {
+        let before = out.len();
+        match self.come_behind(object, region, parts, library, out) {
+            Ok(()) => Ok(()),
+            Err(error) => {
+                out.truncate(before);
+                Err(error)
+            }
+        }
+    }
+
+    // The object of this number is in this region, with these parts. After want of memory there may be entries behind
+    // the others.
+    fn come_behind(
+        &mut self,
+        object: u32,
+        region: &Text,
+        parts: ObjectParts,
+        library: &Library,
+        out: &mut Entries,
+    ) -> Result<(), NoMemory>
+        requires first { 0 < object }
+        requires last { object ≤ length self.old.objects }
+        requires seated { AreSeated library.now self.old.seats }
+        requires parts { CanArrive library.now self.old (object - 1) parts }
+        ensures comes { MatchResult result
+            (λ _. (self.new ≡ (arrived library.now self.old (object - 1) region.now parts).value)
+            × (out.new ≡ out.old ++ (arrived library.now self.old (object - 1) region.now parts).entries))
+            (λ _. Stays self.old self.new out.old (take (length out.old) out.new)) }
+        ensures seated { OnOk result (AreSeated library.now self.new.seats) }
+        ensures objects { map (λ o. length o.prims) self.new.objects ≡ map (λ o. length o.prims) self.old.objects }
+        ensures scripts { length self.new.seats ≡ length self.old.seats }
+    {
+        let arrival = prepare(self.alloc, parts.scripts.len(), region, out)?;
+        self.arrive(object as usize - 1, parts, arrival, library, out)
+    }
 }
 
 // Where the object stays, only the first so many entries are kept.
@@ -248,7 +336,7 @@ fn carried<L: Link>(alloc: Global, sent: &[u8], link: &mut L) -> Result<Option<V
 }
 
 // Reads what came back: the parts for which it stands, or its first fault.
-pub(crate) fn read_back(
+fn read_back(
     alloc: Global,
     back: &[u8],
     region: &Text,

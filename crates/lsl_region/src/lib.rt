@@ -2,32 +2,23 @@
 //! what a turn of a script does.
 #![tactic(auto)]
 
-mod adding;
 mod arguments;
-mod arrivals;
-mod arriving;
-mod assembling;
-mod audience;
-mod channels;
+mod arrival;
 mod chat_calls;
+mod chat_index;
 mod crossing;
-mod entering;
 mod events;
-mod freezing;
 mod grid;
-mod heard;
-mod hearing;
 mod host_calls;
 pub mod laws;
-mod leaving;
-mod lent;
 mod links;
 mod mailbox_calls;
 mod notecard_calls;
 mod notice;
+mod object_image;
 mod objects;
+mod outside_events;
 mod pause;
-mod paused_turn;
 mod posting;
 mod query_calls;
 mod scene;
@@ -35,7 +26,6 @@ mod segment;
 mod store_calls;
 mod texts;
 mod timers;
-mod touching;
 mod turn;
 
 pub use crate::crossing::{Crossed, StayedWhy};

@@ -1,25 +1,30 @@
-//! Events that are posted to scripts, in the order of their numbers.
+//! Events that are posted to scripts, in the order of their numbers, also while one script is out of the grid and
+//! waits for an answer.
 
 ghost use Rattle.std.specs.Prelude.{◌≡◌, ◌<◌, ◌≤◌, ◌+◌, ℕ, ℤ, List, Option, Some, None, true, false, length, slice_get, is_some, OnOk};
+ghost use Rattle.lsl_value.specs.declared.names.BuiltinId.{BuiltinId};
+ghost use Rattle.lsl_code.specs.declared.woven_units.Woven.{Woven as Code};
 ghost use Rattle.lsl_post.specs.Journal.{Adds, Tells};
 ghost use Rattle.lsl_post.specs.declared.parts.ScriptParts.{ScriptParts as Parts};
-ghost use Rattle.lsl_code.specs.declared.woven_units.Woven.{Woven as Code};
 ghost use Rattle.lsl_script.specs.Codes.{HasUnit, Meant, rules_of};
 ghost use Rattle.lsl_script.specs.Fitting.{FitsUnit, is_exit};
 ghost use Rattle.lsl_script.specs.Parts.{parts_of};
-ghost use Rattle.lsl_script.specs.Scripts.{Script as Source, entries_of_posting, post_to};
-ghost use Rattle.lsl_region.specs.Grids.{AreHome, AreSeated, FitsSeat, Stands, is_out, key_in, outline_of};
+ghost use Rattle.lsl_script.specs.Scripts.{Script as Source, entries_of_posting, post_to, Flight};
+ghost use Rattle.lsl_script.specs.Awake.{IsAwake};
+ghost use Rattle.lsl_script.specs.Lives.{Waits};
+ghost use Rattle.lsl_region.specs.Grids.{AreHome, AreSeated, FitsSeat, Stands, is_out, key_in, outline_of, Lent};
 ghost use Rattle.lsl_region.specs.Hearing.{ArePassed, HasRow, listens_on};
 ghost use Rattle.lsl_region.specs.Posting.{admits, is_admitted, post_all, post_between, post_where};
 ghost use Rattle.lsl_region.specs.Worlds.{Member, World};
 ghost use Rattle.lsl_region.specs.declared.grid.Seat.{Seat as Place};
+ghost use Rattle.lsl_region.specs.Scenes.{Does, IsAwakeIn, KeepsAwake, KeepsSet};
 
-use crate::audience::Audience;
 use crate::grid::Grid;
-use crate::notice::Notice;
+use crate::notice::{Audience, Notice};
+use crate::scene::Scene;
 use lsl_code::{Library, Woven};
 use lsl_post::{Entries, Entry, Event, Listens, Posted};
-use lsl_script::Script;
+use lsl_script::{Live, Script};
 use lsl_text::NoMemory;
 use std::alloc::Global;
 
@@ -31,8 +36,8 @@ pub(crate) fn number(place: usize) -> u32
     place as u32 + 1
 }
 
-/// Tells of an event that is dropped.
-pub(crate) fn tell_posted(number: u32, posted: Posted, out: &mut Entries) -> Result<(), NoMemory>
+// Tells of an event that is dropped.
+fn tell_posted(number: u32, posted: Posted, out: &mut Entries) -> Result<(), NoMemory>
     ensures { Adds result out.old out.new (entries_of_posting number posted) }
 {
     match posted {
@@ -88,7 +93,7 @@ fn post_seat(
 
 impl Grid {
     // Whether the script at this place is one of them, where it has these listens.
-    pub(crate) fn admits(&self, place: usize, audience: &Audience, listens: &Listens) -> bool
+    fn admits(&self, place: usize, audience: &Audience, listens: &Listens) -> bool
         requires { place < length self.now.seats }
         ensures { (seat : Place) → slice_get self.now.seats place ≡ Some seat →
             result ≡ is_admitted audience.now seat.object seat.prim (key_in self.now.objects seat) listens.now }
@@ -110,8 +115,8 @@ impl Grid {
         }
     }
 
-    /// Posts an event to the script at this place, where it is one of them.
-    pub(crate) fn post_at(
+    // Posts an event to the script at this place, where it is one of them.
+    fn post_at(
         &mut self,
         place: usize,
         notice: &Notice,
@@ -173,9 +178,9 @@ impl Grid {
         }
     }
 
-    /// Posts an event to the scripts from one place up to another that are among them; none of these is out. Of what is
-    /// said only the scripts with an active listen on its channel are asked, else all are.
-    pub(crate) fn post_between(
+    // Posts an event to the scripts from one place up to another that are among them; none of these is out. Of what is
+    // said only the scripts with an active listen on its channel are asked, else all are.
+    fn post_between(
         &mut self,
         first: usize,
         end: usize,
@@ -223,4 +228,78 @@ impl Grid {
         let end = self.seats.len();
         self.post_between(0, end, notice, library, out)
     }
+
+    // Whether the script at this place, which is awake, is one of them.
+    fn admits_live(&self, place: usize, live: &mut Live, audience: &Audience) -> bool
+        requires { place < length self.now.seats }
+        ensures same { live.new ≡ live.old }
+        ensures value { (codes : List Code) (unit : Code) (clock : ℕ) (f : Flight) (id : BuiltinId) (w : World) →
+            (lent : Lent codes unit clock place self.now live.old id f w) →
+            result ≡ admits audience.now w lent.member }
+    {
+        self.admits(place, audience, live.listens())
+    }
+
+    // Posts an event to the script at this place, which is out, where it is one of them.
+    fn post_own(
+        &self,
+        scene: &Scene,
+        live: &mut Live,
+        notice: &Notice,
+        out: &mut Entries,
+    ) -> Result<(), NoMemory>
+        requires awake { IsAwakeIn scene.now self.now live.old }
+        ensures does { Does scene.now result (self.now, live.old, out.old) (self.now, live.new, out.new)
+            (λ r m w. post_where (rules_of scene.now.library.now) (admits notice.now.audience.now) notice.now.event.now
+            scene.now.place w) }
+        ensures live { KeepsAwake scene.now live.old live.new }
+    {
+        if !self.admits_live(scene.place, live, notice.audience) {
+            return Ok(());
+        }
+        post_live(self.alloc, scene, live, notice.event, out)
+    }
+
+    /// Posts an event to all scripts that are among them, where the one at this place is out and waits for an answer.
+    /// Of what is said only this one and the scripts with an active listen on its channel are asked, else all are.
+    pub(crate) fn post_all_with(
+        &mut self,
+        scene: &Scene,
+        live: &mut Live,
+        notice: &Notice,
+        out: &mut Entries,
+    ) -> Result<(), NoMemory>
+        requires awake { IsAwakeIn scene.now self.old live.old }
+        ensures does { Does scene.now result (self.old, live.old, out.old) (self.new, live.new, out.new)
+            (λ r m w. post_all r (admits notice.now.audience.now) notice.now.event.now w) }
+        ensures grid { KeepsSet scene.now result self.old self.new }
+        ensures objects { self.new.objects ≡ self.old.objects }
+        ensures live { KeepsAwake scene.now live.old live.new }
+    {
+        let end = self.seats.len();
+        self.post_between(0, scene.place, notice, scene.library, out)?;
+        self.post_own(scene, live, notice, out)?;
+        self.post_between(scene.place + 1, end, notice, scene.library, out)
+    }
+}
+
+/// Posts an event to the script of the scene, which is awake.
+pub(crate) fn post_live(
+    alloc: Global,
+    scene: &Scene,
+    live: &mut Live,
+    event: &Event,
+    out: &mut Entries,
+) -> Result<(), NoMemory>
+    requires number { scene.now.place < 256 }
+    requires awake { IsAwake scene.now.unit.now live.old }
+    requires other { is_exit event.now ≡ false }
+    ensures told { (codes : List Code) (s : Source) (f : Flight) (id : BuiltinId) →
+        Waits codes scene.now.unit.now s f id live.old →
+        Tells result (λ t _. Waits codes scene.now.unit.now t f id live.new) out.old out.new
+        (post_to (rules_of codes) (scene.now.place + 1) event.now s) }
+    ensures live { KeepsAwake scene.now live.old live.new }
+{
+    let posted = live.post(scene.unit, event.copy(alloc)?);
+    tell_posted(number(scene.place), posted, out)
 }

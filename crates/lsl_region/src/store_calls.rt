@@ -16,10 +16,9 @@ ghost use Rattle.lsl_region.specs.Stores.{change_of, number_of, read_in, reset_c
 ghost use Rattle.lsl_region.specs.declared.grid.Seat.{Seat as Place};
 
 use crate::arguments::text_at;
-use crate::audience::Audience;
 use crate::events::store_event;
 use crate::grid::Grid;
-use crate::notice::Notice;
+use crate::notice::{Audience, Notice};
 use crate::scene::Scene;
 use lsl_data::{Store, Wrote};
 use lsl_post::{Entries, Event};

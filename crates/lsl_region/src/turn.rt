@@ -1,16 +1,19 @@
 //! Turns of scripts: segment by segment, while they can run.
 
-ghost use Rattle.std.specs.Prelude.{◌≡◌, ◌<◌, ◌≤◌, ◌-◌, IsTrue, None, false, is_some, length, true, IfOk, OnOk};
+ghost use Rattle.std.specs.Prelude.{◌≡◌, ◌<◌, ◌≤◌, ◌-◌, ℕ, IsTrue, None, false, is_some, length, true, IfOk, OnOk, List};
+ghost use Rattle.lsl_code.specs.declared.woven_units.Woven.{Woven as Code};
+ghost use Rattle.lsl_code.specs.Weaves.{Weaves};
 ghost use Rattle.lsl_post.specs.Journal.{Tells};
 ghost use Rattle.lsl_post.specs.Timing.{latest_clock};
 ghost use Rattle.lsl_script.specs.Codes.{Meant};
-ghost use Rattle.lsl_region.specs.Grids.{AreSeated, Stands, outline_of};
-ghost use Rattle.lsl_region.specs.PausedTurns.{counted_turn, paused_for};
+ghost use Rattle.lsl_region.specs.Grids.{AreSeated, Stands, outline_of, Contents};
+ghost use Rattle.lsl_region.specs.PausedTurns.{counted_turn, paused_for, counted_segment, goes_on_at};
 ghost use Rattle.lsl_region.specs.Pausing.{Counts, Tally, with_save};
 ghost use Rattle.lsl_region.specs.Scenes.{ComesTo, IsBehindSegment, IsHome, IsInTurn, IsSet, IsWithinSegment, KeepsSet};
 ghost use Rattle.lsl_region.specs.Segments.{is_ready_at, segment, turn};
 ghost use Rattle.lsl_region.specs.Turning.{IsAble, IsHeld, IsReadyInTurn, PassesAwake};
 ghost use Rattle.lsl_region.specs.Worlds.{World};
+ghost use Rattle.lsl_region.specs.TurnEnds.{IsBehind};
 
 use crate::grid::Grid;
 use crate::pause::Pause;
@@ -149,7 +152,7 @@ impl Grid {
     }
 
     // Whether the script, which may be awake at a tick, can run.
-    pub(crate) fn is_ready_in_turn(&self, scene: &Scene, live: &Option<Live>) -> bool
+    fn is_ready_in_turn(&self, scene: &Scene, live: &Option<Live>) -> bool
         requires { IsSet scene.now self.now }
         ensures source { (w : World) → IsInTurn scene.now self.now live.now w →
             result ≡ is_ready_at w scene.now.place }
@@ -162,7 +165,7 @@ impl Grid {
     }
 
     // A segment of the script at this place, which can run. One that is awake at a tick stays where it is.
-    pub(crate) fn segment(
+    fn segment(
         &mut self,
         scene: &Scene,
         live: &mut Option<Live>,
@@ -259,6 +262,75 @@ impl Grid {
         }
         Ok(())
     }
+
+    // Segments of the script at this place while it is ready, at most so many, and how many they were. It is saved and
+    // restored behind each pausing one that leaves it in flight and ready.
+    #[inline(never)]
+    fn paused_segments(
+        &mut self,
+        scene: &Scene,
+        live: &mut Option<Live>,
+        ticks: u32,
+        pause: &mut Pause,
+        out: &mut Entries,
+    ) -> Result<u32, NoMemory>
+        requires set { IsSet scene.now self.old }
+        requires none { live.old ≡ None }
+        ensures does { (m : Meant scene.now.library.now) (w : World) → IsHome scene.now self.old w →
+            Tells result (ComesTo scene.now self.new live.new) out.old out.new
+            (turn m.rules ticks scene.now.place w) }
+        ensures counted { (m : Meant scene.now.library.now) (w : World) (t : Tally) → IsHome scene.now self.old w →
+            Counts pause.old t →
+            OnOk result (Counts pause.new
+            (paused_for m.rules scene.now.place w (turn m.rules ticks scene.now.place w).value.1 t)) }
+        ensures within { IfOk result (λ n. n ≤ ticks) }
+        ensures grid { KeepsSet scene.now result self.old self.new }
+        ensures held { OnOk result (IsHeld scene.now.unit.now live.new) }
+        ensures gaps { pause.new.gaps ≡ pause.old.gaps }
+    {
+        for spent in 0..ticks {
+            if !self.is_ready_in_turn(scene, live) {
+                return Ok(spent);
+            }
+            self.paused_segment(scene, live, pause, out)?;
+        }
+        Ok(ticks)
+    }
+
+    // A segment, behind which the script is saved and restored where it is a pausing one.
+    fn paused_segment(
+        &mut self,
+        scene: &Scene,
+        live: &mut Option<Live>,
+        pause: &mut Pause,
+        out: &mut Entries,
+    ) -> Result<(), NoMemory>
+        requires set { IsSet scene.now self.old }
+        requires held { IsHeld scene.now.unit.now live.old }
+        requires ready { IsReadyInTurn scene.now.clock self.old.seats scene.now.place live.old }
+        ensures does { (m : Meant scene.now.library.now) (w : World) →
+            IsInTurn scene.now self.old live.old w →
+            Tells result (λ v _. IsBehindSegment scene.now self.new live.new v) out.old out.new
+            (segment m.rules scene.now.place w) }
+        ensures counted { (m : Meant scene.now.library.now) (w : World) (t : Tally) →
+            IsInTurn scene.now self.old live.old w → Counts pause.old t →
+            OnOk result (Counts pause.new
+            (counted_segment scene.now.place (segment m.rules scene.now.place w).value t)) }
+        ensures grid { KeepsSet scene.now result self.old self.new }
+        ensures held { OnOk result (IsHeld scene.now.unit.now live.new) }
+        ensures gaps { pause.new.gaps ≡ pause.old.gaps }
+    {
+        self.segment(scene, live, out)?;
+        if !pause.pass() {
+            return Ok(());
+        }
+        if !can_go_on(live, scene.clock) {
+            return Ok(());
+        }
+        save_and_restore(live, scene.unit)?;
+        pause.count();
+        Ok(())
+    }
 }
 
 // Segments of a script that is awake, at most so many, on integers and calls of functions alone: how many, and whether
@@ -277,5 +349,33 @@ fn pass_ticks(live: &mut Option<Live>, unit: &Woven, most: u32) -> (u32, bool)
     match live {
         Some(awake) => awake.pass_ticks(unit, most),
         None => (0, false),
+    }
+}
+
+// Whether the script, which may be awake at a tick, is so and can go on.
+fn can_go_on(live: &Option<Live>, clock: u64) -> bool
+    ensures source { (codes : List Code) (unit : Code) (place : ℕ) (grid : Contents) (w : World) →
+        IsBehind codes unit clock place grid live.now w → result ≡ goes_on_at w place }
+    ensures out { IsTrue result → is_some live.now ≡ true }
+{
+    match live {
+        Some(live) => live.ready(clock),
+        None => false,
+    }
+}
+
+// Saves the script, which is awake at a tick, by its unit's own code, and restores it.
+fn save_and_restore(live: &mut Option<Live>, unit: &Woven) -> Result<(), NoMemory>
+    requires held { IsHeld unit.now live.old }
+    requires out { is_some live.old ≡ true }
+    requires weaves { Weaves unit.now }
+    ensures held { OnOk result (IsHeld unit.now live.new) }
+    ensures same { (codes : List Code) (clock place : ℕ) (grid : Contents) (w : World) →
+        IsBehind codes unit.now clock place grid live.old w →
+        OnOk result (IsBehind codes unit.now clock place grid live.new w) }
+{
+    match live {
+        Some(awake) => awake.pause(unit),
+        None => unreachable!(),
     }
 }

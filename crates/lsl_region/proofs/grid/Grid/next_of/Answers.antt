@@ -1,7 +1,7 @@
 use Rattle.std.proofs.Common.{◌∙◌, ℤ, ap, sym, w32, rules}
 use Rattle.std.proofs.lemmas.Int.{to_z-of_z}
 use Rattle.lsl_region.specs.Hearing.{listens_on}
-use Rattle.lsl_region.specs.declared.audience.Audience.{Audience}
+use Rattle.lsl_region.specs.declared.notice.Audience.{Audience}
 use Rattle.lsl_region.specs.Posting.{is_admitted}
 use Rattle.lsl_region.proofs.Unheard.{hearers-none}
 use Rattle.lsl_region.proofs.grid.Grid.next_of.Goals as goal
