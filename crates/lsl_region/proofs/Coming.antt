@@ -1,5 +1,5 @@
 -- A script goes out of the grid, and comes back into it.
-use Rattle.std.proofs.Common.{◌≡◌, ℕ, ◌<◌, Bool, true, false, List, length, refl, ap, sym, ◌∙◌, subst}
+use Rattle.std.proofs.Common.{◌≡◌, ℕ, ◌<◌, Bool, true, false, List, get_or, length, refl, ap, sym, ◌∙◌, subst}
 use Rattle.std.specs.Prelude.{Option, Some, None, slice_get, slice_set}
 use Rattle.std.proofs.lemmas.Option.{slice_get_within}
 use Rattle.lsl_code.specs.declared.woven_units.Woven.{Woven as Code}
@@ -18,7 +18,7 @@ use Rattle.lsl_region.specs.Worlds.{Member, World, with_member}
 use Rattle.lsl_region.proofs.Away.{away-seat, other-home, self-out}
 use Rattle.lsl_region.proofs.Placed.{seated-at, stands-with}
 use Rattle.lsl_region.proofs.Outlines.{outline-seats, vacant-read}
-use Rattle.lsl_region.proofs.Seats.{seated-set}
+use Rattle.lsl_region.proofs.Seats.{read-at, seated-set}
 
 module _ (codes : List Code) (clock place : ℕ) (grid : Contents) (w : World) (m : Member) (t : Script) (seat : Seat)
     (at : slice_get w.members place ≡ Some m) (sits : slice_get grid.seats place ≡ Some seat)
@@ -72,6 +72,10 @@ pub seat-is : (g h : Contents) (n : ℕ) (x seat : Seat) → g ≡ h → slice_g
     → slice_get h.seats n ≡ Some seat → x ≡ seat
 seat-is g h n x seat is at e =
     let same : Some x ≡ Some seat = sym at ∙ ap (λ (z : Contents). slice_get z.seats n) is ∙ e in cc
+
+pub seat-here : {g h : Contents} (n : ℕ) (x seat : Seat) → g ≡ h → n < length g.seats → x ≡ get_or g.seats n x
+    → slice_get h.seats n ≡ Some seat → x ≡ seat
+seat-here {g} {h} n x seat is within e sits = seat-is g h n x seat is (read-at g.seats n x within e) sits
 
 -- the unit at a place stays
 pub unit-kept : (codes : List Code) (unit : Code) (old new : Contents) (place : ℕ)

@@ -1,5 +1,6 @@
 -- An object crosses to another region: its image is handed to a link, and it goes on as what comes back stands for.
-use Rattle.std.specs.Prelude.{◌≡◌, ◌≢◌, ℕ, ◌+◌, pos, nat_eq, if◌then◌else◌, List, [], ◌∷◌, ◌++◌, Option, Some, None, slice_get, take}
+use Rattle.std.specs.Prelude.{◌≡◌, ◌≢◌, ℕ, ◌+◌, pos, nat_eq, if◌then◌else◌, List, [], ◌∷◌, ◌++◌, length, map, OnOk, Option, Some, None, slice_get, take}
+use Rattle.std.specs.declared.result.Result.{Result}
 use Rattle.std.specs.Str.{bytes_eq}
 use Rattle.lsl_code.specs.declared.functions.StateCode.{StateCode}
 use Rattle.lsl_code.specs.declared.woven_units.Woven.{Woven as Code}
@@ -17,12 +18,13 @@ use Rattle.lsl_image.specs.Bytes.{object_image}
 use Rattle.lsl_image.specs.Images.{ObjectFirst, ObjectImage}
 use Rattle.lsl_image.specs.Valid.{IsObject, shape_of}
 use Rattle.lsl_script.specs.Scripts.{entries_of_posting}
+use Rattle.lsl_region.specs.declared.arrival.Site.{Site}
 use Rattle.lsl_region.specs.declared.crossing.Crossed.{Crossed}
 use Rattle.lsl_region.specs.declared.crossing.Crossed.TheVariants.{Moved, Stayed, Here}
 use Rattle.lsl_region.specs.declared.crossing.StayedWhy.TheVariants.{Link, Image}
 use Rattle.lsl_region.specs.declared.grid.Seat.{Seat}
 use Rattle.lsl_region.specs.Arrivals.{changed_event}
-use Rattle.lsl_region.specs.Grids.{Contents}
+use Rattle.lsl_region.specs.Grids.{AreSeated, Contents}
 use Rattle.lsl_region.specs.ObjectParts.{in_region, object_in_grid, parts_of_object, with_parts}
 
 -- the states of the unit of this number
@@ -80,6 +82,28 @@ arrived codes grid place region parts =
     let there = in_region (with_parts grid place parts) place region in
     as_value (λ seats. record there { seats = seats })
     (post_in_seats codes place region_changed 1 there.seats)
+
+-- the same at a site: for one seat, for all of them, and the whole
+abbrev pub told_at : Site → ℕ → Seat → Told Seat
+told_at s n seat = post_in_seat s.library.now s.place region_changed (n + 1) seat
+
+abbrev pub told_all_at : Site → List Seat → Told (List Seat)
+told_all_at s seats = post_in_seats s.library.now s.place region_changed 1 seats
+
+abbrev pub arrived_at : Site → Contents → List ℕ → ObjectParts → Told Contents
+arrived_at s grid region parts = arrived s.library.now grid s.place region parts
+
+-- the objects and notecards are as they were, and all scripts are of their units
+pub record KeepsOthers (codes : List Code) (old new : Contents) : Type 0 where
+  pub objects : new.objects ≡ old.objects
+  pub cards : new.cards ≡ old.cards
+  pub seated : AreSeated codes new.seats
+
+-- all scripts are of their units, unless memory ran out; there are as many objects, prims in each, and scripts
+pub record KeepsCounts {A E : Type 0} (codes : List Code) (result : Result A E) (old new : Contents) : Type 0 where
+  pub seated : OnOk result (AreSeated codes new.seats)
+  pub objects : map (λ o. length o.prims) new.objects ≡ map (λ o. length o.prims) old.objects
+  pub scripts : length new.seats ≡ length old.seats
 
 -- parts that can take the place of the object's
 pub record CanArrive (codes : List Code) (grid : Contents) (place : ℕ) (parts : ObjectParts) : Type 0 where

@@ -3,6 +3,7 @@ use Rattle.std.specs.Prelude.{◌≡◌, ◌<◌, ◌≤◌, ℕ, List, length, 
 use Rattle.std.specs.declared.result.Result.{Result}
 use Rattle.lsl_value.specs.declared.names.BuiltinId.{BuiltinId}
 use Rattle.lsl_running.specs.declared.host.Reply.{Reply}
+use Rattle.lsl_code.specs.declared.woven_units.Woven.{Woven as Code}
 use Rattle.lsl_post.specs.declared.entries.Entry.{Entry}
 use Rattle.lsl_post.specs.Journal.{Tells}
 use Rattle.lsl_post.specs.Timing.{latest_clock}
@@ -33,9 +34,14 @@ pub record IsAwakeIn (scene : Scene) (grid : Contents) (live : Live) : Type 0 wh
   pub set : IsSet scene grid
   pub awake : IsAwake scene.unit.now live
 
--- the scene is set still, unless memory lacked, and the outline of the grid is as it was
+-- the scene is set still, unless memory ran out, and the outline of the grid is as it was
 pub record KeepsSet {A E : Type 0} (scene : Scene) (result : Result A E) (old new : Contents) : Type 0 where
   pub set : OnOk result (IsSet scene new)
+  pub outline : outline_of new ≡ outline_of old
+
+-- where no script is awake: all scripts are of their units, unless memory ran out, and the outline is as it was
+pub record KeepsSeated {A E : Type 0} (codes : List Code) (result : Result A E) (old new : Contents) : Type 0 where
+  pub seated : OnOk result (AreSeated codes new.seats)
   pub outline : outline_of new ≡ outline_of old
 
 -- the script is awake still, and its machine as it was
@@ -70,6 +76,13 @@ IsBegun s grid live w = Begins s.library.now s.unit.now s.clock s.place grid liv
 
 abbrev pub IsPaused : Scene → Contents → Live → Turn → Flight → ℕ → World → Type 0
 IsPaused s grid live stop f most w = Paused s.library.now s.unit.now s.clock s.place grid live stop f most w
+
+-- where no script is out of the grid: this is done, in each world for which the grid stands
+abbrev pub DoesAtHome : {A E : Type 0} → List Code → Result A E → Contents × List Entry → Contents × List Entry
+    → (Rules → World → Told World) → Type 0
+DoesAtHome codes result old new done =
+    (m : Meant codes) (clock : ℕ) (w : World) → Stands codes None clock old.0 w
+    → Tells result (λ v _. Stands codes None clock new.0 v) old.1 new.1 (done m.rules w)
 
 -- a grid, the script that is out of it, and the entries
 abbrev pub Moment : Type 0

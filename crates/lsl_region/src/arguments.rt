@@ -7,7 +7,7 @@ ghost use Rattle.lsl_region.specs.Answers.{integer_at, text_at};
 use lsl_text::NoMemory;
 use lsl_value::{Text, Value};
 
-/// The integer at this place, and 0 where none stands there. Takes no memory.
+/// The integer at this place, and 0 where there is none. Takes no memory.
 pub(crate) fn integer_at(args: &[Value], place: usize) -> i32
     ensures { result ≡ integer_at place args.now }
 {
@@ -17,7 +17,7 @@ pub(crate) fn integer_at(args: &[Value], place: usize) -> i32
     }
 }
 
-/// The text at this place, a string's or a key's, and the empty one where none stands there. It is shared.
+/// The text at this place, a string's or a key's, and the empty one where there is none. It is shared.
 pub(crate) fn text_at(args: &[Value], place: usize) -> Result<Text, NoMemory>
     ensures { IfOk result (λ text. text ≡ text_at place args.now) }
 {
@@ -27,7 +27,7 @@ pub(crate) fn text_at(args: &[Value], place: usize) -> Result<Text, NoMemory>
     }
 }
 
-/// The text at this place, where one stands there. Takes no memory.
+/// The text at this place, where there is one. Takes no memory.
 #[inline(always)]
 pub(crate) fn text_in(args: &[Value], place: usize) -> Option<&Text>
     ensures { text_at place args.now ≡ unwrap_or (option_copied result) [] }

@@ -7,7 +7,7 @@ ghost use Rattle.lsl_post.specs.Mailbox.{with_posted};
 ghost use Rattle.lsl_image.specs.Valid.{HasUnit as IsOfUnit, IsStore, unit_number};
 ghost use Rattle.lsl_script.specs.Fitting.{is_exit};
 ghost use Rattle.lsl_script.specs.Scripts.{entries_of_posting};
-ghost use Rattle.lsl_region.specs.Crossings.{CanArrive, arrived, post_in, post_in_seat, post_in_seats, posted_in, region_changed, states_in};
+ghost use Rattle.lsl_region.specs.Crossings.{CanArrive, KeepsCounts, KeepsOthers, arrived_at, post_in, posted_in, region_changed, states_in, told_all_at, told_at};
 ghost use Rattle.lsl_region.specs.Grids.{AreSeated, FitsSeat, IsSeated};
 ghost use Rattle.lsl_region.specs.Hearing.{HasRow};
 ghost use Rattle.lsl_region.specs.ObjectParts.{behind_first, named, object_in_grid, parts_in_seat, reseated, with_first};
@@ -30,7 +30,7 @@ use std::alloc::Global;
 /// The flag of a region that is another one.
 const CHANGED_REGION: i32 = 256;
 
-/// What an arrival needs: the region's name, an event for each script, and the number of entries behind which there is
+/// What an arrival needs: the region's name, an event for each script, and the number of entries after which there is
 /// room for as many.
 #[derive(Drop)]
 pub(crate) struct Arrival {
@@ -39,8 +39,15 @@ pub(crate) struct Arrival {
     pub(crate) before: usize,
 }
 
-/// Prepares the arrival of so many scripts in this region. Behind the entries come as many others, which are to be
-/// replaced; after want of memory fewer of them.
+/// Where an object arrives: at this place among the objects, with the library of its scripts' units.
+#[derive(Drop)]
+pub(crate) struct Site<'a> {
+    pub(crate) place: usize,
+    pub(crate) library: &'a Library,
+}
+
+/// Prepares the arrival of `count` scripts in this region. As many placeholder entries are appended; when memory runs
+/// out, fewer of them.
 pub(crate) fn prepare(
     alloc: Global,
     count: usize,
@@ -65,7 +72,7 @@ pub(crate) fn prepare(
     })
 }
 
-// So many entries behind the others.
+// Appends `count` placeholder entries, so that posting takes no memory later.
 fn make_room(count: usize, out: &mut Entries) -> Result<(), NoMemory>
     ensures room { OnOk result (length out.new ≡ length out.old + count) }
     ensures kept { take (length out.old) out.new ≡ out.old }
@@ -76,7 +83,7 @@ fn make_room(count: usize, out: &mut Entries) -> Result<(), NoMemory>
     Ok(())
 }
 
-// So many events of a region that is another one.
+// `count` events of a region that is another one.
 fn region_events(alloc: Global, count: usize) -> Result<Vec<Event>, NoMemory>
     ensures events { IfOk result (λ events. All (λ e. e ≡ region_changed) events.items) }
     ensures count { IfOk result (λ events. length events.items ≡ count) }
@@ -99,7 +106,7 @@ fn rename_all(prims: &mut Prims, names: Sequence<Text>)
     }
 }
 
-// The entry of an event that was dropped goes to this place; the place behind it.
+// Writes the entry of an event that was dropped to this place. The place after it, or the same one.
 fn keep_drop(number: u32, posted: Posted, out: &mut Entries, at: usize) -> usize
     requires { at < length out.old }
     ensures entries { take result out.new ≡ take at out.old ++ entries_of_posting number posted }
@@ -118,29 +125,27 @@ fn keep_drop(number: u32, posted: Posted, out: &mut Entries, at: usize) -> usize
 }
 
 impl Grid {
-    /// The object at this place is in the region of this arrival, with these parts, and its scripts are told. Takes
-    /// memory for the store alone; after want of memory all is as it was. Walks the scripts.
+    /// The object at this place is in the region of this arrival, with these parts, and the event is posted to its
+    /// scripts. Takes memory for the store alone; when memory runs out all is as it was. Walks the scripts.
     pub(crate) fn arrive(
         &mut self,
-        place: usize,
+        site: &Site,
         parts: ObjectParts,
         arrival: Arrival,
-        library: &Library,
         out: &mut Entries,
     ) -> Result<(), NoMemory>
-        requires place { place < length self.old.objects }
-        requires seated { AreSeated library.now self.old.seats }
-        requires parts { CanArrive library.now self.old place parts }
+        requires place { site.now.place < length self.old.objects }
+        requires seated { AreSeated site.now.library.now self.old.seats }
+        requires parts { CanArrive site.now.library.now self.old site.now.place parts }
         requires events { All (λ e. e ≡ region_changed) arrival.events.items }
-        requires count { length arrival.events.items ≡ length (filter_map (parts_in_seat place) self.old.seats) }
+        requires count { length arrival.events.items ≡
+            length (filter_map (parts_in_seat site.now.place) self.old.seats) }
         requires room { arrival.before + length arrival.events.items ≤ length out.old }
-        ensures grid { OnOk result (self.new ≡ (arrived library.now self.old place arrival.region parts).value) }
+        ensures grid { OnOk result (self.new ≡ (arrived_at site.now self.old arrival.region parts).value) }
         ensures entries { OnOk result (out.new ≡
-            take arrival.before out.old ++ (arrived library.now self.old place arrival.region parts).entries) }
+            take arrival.before out.old ++ (arrived_at site.now self.old arrival.region parts).entries) }
         ensures unchanged { OnErr result ((self.new ≡ self.old) × (out.new ≡ out.old)) }
-        ensures seated { OnOk result (AreSeated library.now self.new.seats) }
-        ensures objects { map (λ o. length o.prims) self.new.objects ≡ map (λ o. length o.prims) self.old.objects }
-        ensures scripts { length self.new.seats ≡ length self.old.seats }
+        ensures kept { KeepsCounts site.now.library.now result self.old self.new }
     {
         let ObjectParts {
             key: _,
@@ -154,9 +159,9 @@ impl Grid {
             before,
         } = arrival;
         let store = Store::from_pairs(self.alloc, store)?;
-        self.furnish(place, names, store, region);
-        self.reseat(place, scripts, library);
-        self.tell_all(place, events, library, out, before);
+        self.furnish(site.place, names, store, region);
+        self.reseat(site.place, scripts, site.library);
+        self.tell_all(site, events, out, before);
         Ok(())
     }
 
@@ -192,9 +197,7 @@ impl Grid {
         requires valid { AllByRecursion (IsOfUnit library.now) scripts }
         requires units { map unit_number scripts ≡ map unit_number (filter_map (parts_in_seat place) self.old.seats) }
         ensures seats { self.new.seats ≡ reseated place scripts self.old.seats }
-        ensures objects { self.new.objects ≡ self.old.objects }
-        ensures cards { self.new.cards ≡ self.old.cards }
-        ensures seated { AreSeated library.now self.new.seats }
+        ensures kept { KeepsOthers library.now self.old self.new }
         ensures len { length self.new.seats ≡ length self.old.seats }
         ensures count { length (filter_map (parts_in_seat place) self.new.seats) ≡
             length (filter_map (parts_in_seat place) self.old.seats) }
@@ -223,9 +226,7 @@ impl Grid {
             slice_set self.old.seats seat (with_first at (parts_in_seat place at) (reverse scripts.old.items)) }
         ensures scripts { (at : Place) → slice_get self.old.seats seat ≡ Some at →
             reverse scripts.new.items ≡ behind_first (parts_in_seat place at) (reverse scripts.old.items) }
-        ensures objects { self.new.objects ≡ self.old.objects }
-        ensures cards { self.new.cards ≡ self.old.cards }
-        ensures seated { AreSeated library.now self.new.seats }
+        ensures kept { KeepsOthers library.now self.old self.new }
     {
         if !is_of(&self.seats[seat], place) {
             return;
@@ -244,9 +245,7 @@ impl Grid {
             IsSeated library.now (record at { script = Some parts }) }
         ensures seats { (at : Place) → slice_get self.old.seats seat ≡ Some at →
             self.new.seats ≡ slice_set self.old.seats seat (record at { script = Some parts }) }
-        ensures objects { self.new.objects ≡ self.old.objects }
-        ensures cards { self.new.cards ≡ self.old.cards }
-        ensures seated { AreSeated library.now self.new.seats }
+        ensures kept { KeepsOthers library.now self.old self.new }
     {
         let unit = library.unit(self.seats[seat].unit);
         self.hearers.follow(seat, &parts.listens);
@@ -256,76 +255,63 @@ impl Grid {
         script.set_parts(parts, unit);
     }
 
-    // All scripts of the object at this place are told by these events, and the entries stand behind so many.
-    fn tell_all(
-        &mut self,
-        place: usize,
-        events: Vec<Event>,
-        library: &Library,
-        out: &mut Entries,
-        before: usize,
-    )
-        requires seated { AreSeated library.now self.old.seats }
+    // Posts these events to all scripts of the object, one to each. The entries come after the first `before`.
+    fn tell_all(&mut self, site: &Site, events: Vec<Event>, out: &mut Entries, before: usize)
+        requires seated { AreSeated site.now.library.now self.old.seats }
         requires events { All (λ e. e ≡ region_changed) events.items }
-        requires count { length (filter_map (parts_in_seat place) self.old.seats) ≤ length events.items }
-        requires room { before + length (filter_map (parts_in_seat place) self.old.seats) ≤ length out.old }
-        ensures seats { self.new.seats ≡
-            (post_in_seats library.now place region_changed 1 self.old.seats).value }
-        ensures entries { out.new ≡
-            take before out.old ++ (post_in_seats library.now place region_changed 1 self.old.seats).entries }
-        ensures objects { self.new.objects ≡ self.old.objects }
-        ensures cards { self.new.cards ≡ self.old.cards }
-        ensures seated { AreSeated library.now self.new.seats }
+        requires count { length (filter_map (parts_in_seat site.now.place) self.old.seats) ≤ length events.items }
+        requires room { before + length (filter_map (parts_in_seat site.now.place) self.old.seats) ≤ length out.old }
+        ensures seats { self.new.seats ≡ (told_all_at site.now self.old.seats).value }
+        ensures entries { out.new ≡ take before out.old ++ (told_all_at site.now self.old.seats).entries }
+        ensures kept { KeepsOthers site.now.library.now self.old self.new }
         ensures len { length self.new.seats ≡ length self.old.seats }
     {
         let mut events = events;
         let mut at = before;
         for seat in 0..self.seats.len() {
-            at = self.tell_next(seat, place, &mut events, library, out, at);
+            at = self.tell_next(seat, site, &mut events, out, at);
         }
         out.truncate(at);
     }
 
-    // The script in this seat is told by the last of these events, where it is one of the object at this place.
+    // Posts the last of these events to the script in this seat, where it is one of the object.
     fn tell_next(
         &mut self,
         seat: usize,
-        place: usize,
+        site: &Site,
         events: &mut Vec<Event>,
-        library: &Library,
         out: &mut Entries,
         at: usize,
     ) -> usize
         requires seat { seat < length self.old.seats }
-        requires seated { AreSeated library.now self.old.seats }
+        requires seated { AreSeated site.now.library.now self.old.seats }
         requires events { All (λ e. e ≡ region_changed) events.old.items }
-        requires there { (s : Place) → slice_get self.old.seats seat ≡ Some s → is_some (parts_in_seat place s) ≡ true →
+        requires there { (s : Place) → slice_get self.old.seats seat ≡ Some s →
+            is_some (parts_in_seat site.now.place s) ≡ true →
             (0 < length events.old.items) × (at < length out.old) }
         ensures seats { (s : Place) → slice_get self.old.seats seat ≡ Some s →
-            self.new.seats ≡ slice_set self.old.seats seat
-            (post_in_seat library.now place region_changed (seat + 1) s).value }
-        ensures entries { (s : Place) → slice_get self.old.seats seat ≡ Some s → take result out.new ≡
-            take at out.old ++ (post_in_seat library.now place region_changed (seat + 1) s).entries }
+            self.new.seats ≡ slice_set self.old.seats seat (told_at site.now seat s).value }
+        ensures entries { (s : Place) → slice_get self.old.seats seat ≡ Some s →
+            take result out.new ≡ take at out.old ++ (told_at site.now seat s).entries }
         ensures at { (s : Place) → slice_get self.old.seats seat ≡ Some s →
-            result ≡ at + length (post_in_seat library.now place region_changed (seat + 1) s).entries }
+            result ≡ at + length (told_at site.now seat s).entries }
         ensures len { length out.new ≡ length out.old }
         ensures events { All (λ e. e ≡ region_changed) events.new.items }
         ensures left { (s : Place) → slice_get self.old.seats seat ≡ Some s →
-            length events.old.items ≤ length events.new.items + length (option_to_list (parts_in_seat place s)) }
-        ensures objects { self.new.objects ≡ self.old.objects }
-        ensures cards { self.new.cards ≡ self.old.cards }
-        ensures seated { AreSeated library.now self.new.seats }
+            length events.old.items
+            ≤ length events.new.items + length (option_to_list (parts_in_seat site.now.place s)) }
+        ensures kept { KeepsOthers site.now.library.now self.old self.new }
     {
-        if !is_of(&self.seats[seat], place) {
+        if !is_of(&self.seats[seat], site.place) {
             return at;
         }
         let Some(event) = events.pop() else {
             unreachable!();
         };
-        self.tell_one(seat, event, library, out, at)
+        self.tell_one(seat, event, site.library, out, at)
     }
 
-    // The script in this seat is told by an event.
+    // Posts an event to the script in this seat.
     fn tell_one(
         &mut self,
         seat: usize,
@@ -346,9 +332,7 @@ impl Grid {
         ensures at { (s : Place) → slice_get self.old.seats seat ≡ Some s →
             result ≡ at + length (post_in (states_in library.now s.unit) event (seat + 1) s s.script).entries }
         ensures len { length out.new ≡ length out.old }
-        ensures objects { self.new.objects ≡ self.old.objects }
-        ensures cards { self.new.cards ≡ self.old.cards }
-        ensures seated { AreSeated library.now self.new.seats }
+        ensures kept { KeepsOthers library.now self.old self.new }
     {
         let to = &mut self.seats[seat];
         let unit = library.unit(to.unit);

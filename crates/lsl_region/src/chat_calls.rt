@@ -11,13 +11,13 @@ ghost use Rattle.lsl_post.specs.declared.entries.Entry.TheVariants as entries;
 ghost use Rattle.lsl_script.specs.Fitting.{is_exit};
 ghost use Rattle.lsl_script.specs.Scripts.{Flight};
 ghost use Rattle.lsl_script.specs.declared.live.Live.{Live as Awake};
-ghost use Rattle.lsl_region.specs.Answers.{answer_of, integer_at, is_message_to, message_of, nothing, prims_count, renamed, said_by, says, text_at};
+ghost use Rattle.lsl_region.specs.Answers.{answer_of, integer_at, is_message_to, message_of, nothing, prims_count, renamed, says, text_at};
 ghost use Rattle.lsl_region.specs.Grids.{Lent, linked_to, object_in, outline_of, prim_in, renamed_grid};
 ghost use Rattle.lsl_region.specs.Links.{link_of};
 ghost use Rattle.lsl_region.specs.Posting.{post_all, said_to_all};
 ghost use Rattle.lsl_region.specs.Scenes.{Does, IsAwakeIn, KeepsAwake, KeepsSet, Replies};
 ghost use Rattle.lsl_region.specs.Texts.{cut_name, cut_speech};
-ghost use Rattle.lsl_region.specs.Worlds.{World, prim_of};
+ghost use Rattle.lsl_region.specs.Worlds.{World};
 ghost use Rattle.lsl_region.specs.declared.grid.Seat.{Seat as Place};
 
 use crate::arguments::{integer_at, text_at, text_in};
@@ -52,26 +52,24 @@ impl Grid {
         })
     }
 
-    // The script's prim says a text on a channel, and others hear it.
-    fn say_by(
-        &mut self,
-        scene: &Scene,
-        live: &mut Live,
+    // The line of a text that the script at this place says, and what is heard of it.
+    fn say_line(
+        &self,
+        place: usize,
         voice: Voice,
         channel: i32,
         text: Text,
         out: &mut Entries,
-    ) -> Result<(), NoMemory>
-        requires awake { IsAwakeIn scene.now self.old live.old }
-        ensures does { Does scene.now result (self.old, live.old, out.old) (self.new, live.new, out.new)
-            (λ r m w. said_by r scene.now.place voice (prim_of w m) channel text w) }
-        ensures grid { KeepsSet scene.now result self.old self.new }
-        ensures live { KeepsAwake scene.now live.old live.new }
+    ) -> Result<Filter, NoMemory>
+        requires { place < length self.now.seats }
+        ensures line { Adds result out.old out.new (entries.Chat (place + 1) voice channel text ∷ []) }
+        ensures said { (seat : Place) → slice_get self.now.seats place ≡ Some seat →
+            IfOk result (λ said. said ≡ filter channel (prim_in self.now.objects seat).name
+            (prim_in self.now.objects seat).key text) }
     {
-        let said = self.heard_of(scene.place, channel, &text)?;
-        let line = Entry::Chat(number(scene.place), voice, channel, text);
-        out.push(line)?;
-        self.tell_hearers(scene, live, said, out)
+        let said = self.heard_of(place, channel, &text)?;
+        out.push(Entry::Chat(number(place), voice, channel, text))?;
+        Ok(said)
     }
 
     // Others hear what is said where the script at this place is out.
@@ -97,7 +95,7 @@ impl Grid {
         self.post_all_with(scene, live, &notice, out)
     }
 
-    /// The script's prim says the text at place 1 on the channel at place 0.
+    /// llSay(channel, text), and the like in other voices.
     #[inline(never)]
     pub(crate) fn answer_say(
         &mut self,
@@ -115,11 +113,12 @@ impl Grid {
         ensures live { KeepsAwake scene.now live.old live.new }
     {
         let text = spoken(self.alloc, args, 1)?;
-        self.say_by(scene, live, voice, integer_at(args, 0), text, out)?;
+        let said = self.say_line(scene.place, voice, integer_at(args, 0), text, out)?;
+        self.tell_hearers(scene, live, said, out)?;
         Ok(Reply::Value(None))
     }
 
-    /// The script's prim says the text at place 1 to the whole region, on the channel at place 0, unless that is 0.
+    /// llRegionSay(channel, text); channel 0 is silent.
     #[inline(never)]
     pub(crate) fn answer_region_say(
         &mut self,
@@ -141,7 +140,7 @@ impl Grid {
         self.answer_say(scene, live, Voice::Region, args, out)
     }
 
-    /// The text at place 0 is said to the owner.
+    /// llOwnerSay(text).
     #[inline(always)]
     pub(crate) fn answer_owner_say(
         &self,
@@ -219,7 +218,7 @@ impl Grid {
         self.post_all_with(scene, live, &notice, out)
     }
 
-    /// A message goes to the scripts of the prims that the number at place 0 names.
+    /// llMessageLinked(link, number, text, key).
     #[inline(never)]
     pub(crate) fn answer_message_linked(
         &mut self,
@@ -251,7 +250,7 @@ impl Grid {
         self.objects[seat.object].prims.rename(seat.prim, name);
     }
 
-    /// The script's prim has the name at place 0, cut.
+    /// llSetObjectName(name): the script's prim has the name, cut.
     #[inline(never)]
     pub(crate) fn answer_set_object_name(
         &mut self,

@@ -130,7 +130,7 @@ pub(crate) struct ChannelEntry {
     pub(crate) place: usize,
 }
 
-// Where an entry stands in the table, or else where it would. A binary search.
+// Where an entry is in the table, or else where it belongs. A binary search.
 fn find(table: &[ChannelEntry], entry: &ChannelEntry) -> Result<usize, usize>
     requires { IsOrdered table.now }
     ensures { MatchResult result (StandsAt table.now entry.now) (BelongsAt table.now entry.now) }
@@ -188,7 +188,7 @@ fn next_heard(table: &[ChannelEntry], channel: i32, from: usize) -> usize
     }
 }
 
-// The place of what stands here in the table, where it is on this channel.
+// The place of the entry here in the table, where it is on this channel.
 fn place_at(table: &[ChannelEntry], at: usize, channel: i32) -> usize
     ensures { result ≡ place_of channel (slice_get table.now at) }
 {
@@ -240,7 +240,7 @@ impl ChannelTable {
     }
 
     /// The script at this place listens on these channels, and on no others. Takes no memory. Each channel that came
-    /// or went costs a binary search, and a move of what stands behind it.
+    /// or went costs a binary search, and a move of the entries after it.
     pub(crate) fn tell(&mut self, place: usize, channels: Channels)
         requires place { place < length self.old }
         requires few { length channels ≤ most_channels }
@@ -253,7 +253,7 @@ impl ChannelTable {
     }
 
     /// The script at this place has these listens. Takes no memory; walks them. Each channel on which it began or
-    /// ceased to listen costs a binary search, and a move of what stands behind it.
+    /// ceased to listen costs a binary search, and a move of the entries after it.
     pub(crate) fn follow(&mut self, place: usize, listens: &Listens)
         requires { place < length self.old }
         ensures count { length self.new ≡ length self.old }

@@ -1,4 +1,4 @@
-//! Crossings: an object's image is handed to a link, or by notes, and the object continues as what comes back describes.
+//! Crossings: an object's image is handed to a link, or by notes, and the object continues as what comes back says.
 
 ghost use Rattle.std.specs.Prelude.{◌≡◌, ◌≢◌, ◌<◌, ◌≤◌, ◌-◌, ◌+◌, ◌∷◌, [], ℕ, ◌++◌, List, None, Ok as OkResult, length, map, option_map, take, All, IfOk, MatchResult, OnOk, MatchOption};
 ghost use Rattle.std.specs.List.{filter_map};
@@ -10,13 +10,13 @@ ghost use Rattle.lsl_image.specs.Images.{ObjectFirst, ObjectImage};
 ghost use Rattle.lsl_image.specs.Valid.{shape_of};
 ghost use Rattle.lsl_image.specs.declared.parts.ObjectParts.{ObjectParts as AParts};
 ghost use Rattle.lsl_script.specs.Codes.{Meant};
-ghost use Rattle.lsl_region.specs.Crossings.{CanArrive, ComesOf, CrossesAs, IsOneTrip, IsSent, Stays, image_in, images_to, kept_entries, region_changed, region_in, arrived};
+ghost use Rattle.lsl_region.specs.Crossings.{CanArrive, ComesOf, CrossesAs, IsOneTrip, IsSent, KeepsCounts, Stays, arrived, image_in, images_to, kept_entries, region_changed, region_in};
 ghost use Rattle.lsl_region.specs.Grids.{AreSeated, Stands};
 ghost use Rattle.lsl_region.specs.Journeys.{Travels, arrive};
 ghost use Rattle.lsl_region.specs.ObjectParts.{parts_in_seat, parts_of_object};
 ghost use Rattle.lsl_region.specs.Worlds.{World};
 
-use crate::arrival::{Arrival, prepare};
+use crate::arrival::{Arrival, Site, prepare};
 use crate::grid::Grid;
 use lsl_code::Library;
 use lsl_image::{ImageFault, ObjectParts, Shape, read_object, write_object};
@@ -31,16 +31,16 @@ use std::alloc::{AllocError, Global};
 pub enum StayedWhy {
     /// The link failed, and counted it.
     Link,
-    /// What came back is no image of the object; this is its first fault.
+    /// What came back isn't an image of the object; this is its first fault.
     Image(ImageFault),
 }
 
 /// What became of an object that was to cross.
 #[derive(Clone, Copy, PartialEq, Eq)]
 pub enum Crossed {
-    /// It goes on in the other region, as what came back stands for.
+    /// It continues in the other region, as what came back says.
     Moved,
-    /// It goes on as it was, where it was.
+    /// It continues as it was, where it was.
     Stayed(StayedWhy),
     /// It is in that region already; the link wasn't called.
     Here,
@@ -48,9 +48,9 @@ pub enum Crossed {
 
 impl Grid {
     /// Hands the object of this number over the link, to be in this region, and posts `changed` with 256 to all its
-    /// scripts where it came there. The link is called once, where the object is in another region. After Stayed, Here
-    /// and want of memory grid and entries are as they were. What the posting needs is taken before the link is called.
-    /// Walks the scripts, and the object's image once for each way and once for each digest.
+    /// scripts where it came there. The link is called once, where the object is in another region. After Stayed and
+    /// Here, and when memory runs out, grid and entries are as they were. What the posting needs is taken before the
+    /// link is called. Walks the scripts, and the object's image once for each way and once for each digest.
     pub fn cross<L: Link>(
         &mut self,
         object: u32,
@@ -85,7 +85,7 @@ impl Grid {
         outcome
     }
 
-    // An object crosses from another region. Where it stays there may be entries behind the others.
+    // An object crosses from another region. Where it stays, placeholder entries may be left after the others.
     fn cross_over<L: Link>(
         &mut self,
         object: u32,
@@ -108,46 +108,14 @@ impl Grid {
         ensures link { result ≡ OkResult (Crossed.Stayed StayedWhy.Link) →
             Rose (L.faults link.old) (L.faults link.new) }
         ensures counted { L.faults link.old ≤ L.faults link.new }
-        ensures seated { OnOk result (AreSeated library.now self.new.seats) }
-        ensures objects { map (λ o. length o.prims) self.new.objects ≡ map (λ o. length o.prims) self.old.objects }
-        ensures scripts { length self.new.seats ≡ length self.old.seats }
+        ensures kept { KeepsCounts library.now result self.old self.new }
     {
         let shape = self.shape(object)?;
-        self.cross_shaped(object, &shape, region, library, link, out)
-    }
-
-    // An object of this shape crosses from another region. Where it stays there may be entries behind the others.
-    fn cross_shaped<L: Link>(
-        &mut self,
-        object: u32,
-        shape: &Shape,
-        region: &Text,
-        library: &Library,
-        link: &mut L,
-        out: &mut Entries,
-    ) -> Result<Crossed, NoMemory>
-        requires first { 0 < object }
-        requires last { object ≤ length self.old.objects }
-        requires seated { AreSeated library.now self.old.seats }
-        requires elsewhere { region_in self.old (object - 1) ≢ region.now }
-        requires shape { shape.now ≡ shape_of (parts_of_object self.old (object - 1)) }
-        ensures crosses { (trips : List Trip) × Went L.gives (L.trips link.old) (L.trips link.new) trips
-            × MatchResult result
-            (λ crossed. CrossesAs library.now (object - 1) region.now self.old self.new out.old
-            (kept_entries crossed (length out.old) out.new) trips crossed)
-            (λ _. Stays self.old self.new out.old (take (length out.old) out.new)
-            × Begins (sent_of trips) (image_in library.now self.old (object - 1) ∷ [])) }
-        ensures image { OnOk result (IsSent library.now self.old (object - 1)) }
-        ensures link { result ≡ OkResult (Crossed.Stayed StayedWhy.Link) →
-            Rose (L.faults link.old) (L.faults link.new) }
-        ensures counted { L.faults link.old ≤ L.faults link.new }
-        ensures seated { OnOk result (AreSeated library.now self.new.seats) }
-        ensures objects { map (λ o. length o.prims) self.new.objects ≡ map (λ o. length o.prims) self.old.objects }
-        ensures scripts { length self.new.seats ≡ length self.old.seats }
-    {
         let arrival = prepare(self.alloc, shape.units.len(), region, out)?;
+        let place = object as usize - 1;
+        let site = Site { place, library };
         match self.send(object, library, link)? {
-            Some(back) => self.receive(object, &back, shape, arrival, library, out),
+            Some(back) => self.receive(&site, &back, &shape, arrival, out),
             None => Ok(Crossed::Stayed(StayedWhy::Link)),
         }
     }
@@ -188,43 +156,40 @@ impl Grid {
         write_object(self.alloc, &parts, self.region(object), library)
     }
 
-    // The object of this number becomes what came back stands for.
+    // The object at this site becomes what came back says.
     fn receive(
         &mut self,
-        object: u32,
+        site: &Site,
         back: &[u8],
         shape: &Shape,
         arrival: Arrival,
-        library: &Library,
         out: &mut Entries,
     ) -> Result<Crossed, NoMemory>
-        requires first { 0 < object }
-        requires last { object ≤ length self.old.objects }
-        requires seated { AreSeated library.now self.old.seats }
-        requires shape { shape.now ≡ shape_of (parts_of_object self.old (object - 1)) }
+        requires place { site.now.place < length self.old.objects }
+        requires seated { AreSeated site.now.library.now self.old.seats }
+        requires shape { shape.now ≡ shape_of (parts_of_object self.old site.now.place) }
         requires events { All (λ e. e ≡ region_changed) arrival.events.items }
         requires count { length arrival.events.items ≡
-            length (filter_map (parts_in_seat (object - 1)) self.old.seats) }
+            length (filter_map (parts_in_seat site.now.place) self.old.seats) }
         requires room { arrival.before + length arrival.events.items ≤ length out.old }
         ensures comes { MatchResult result
-            (λ crossed. ComesOf library.now (object - 1) arrival.region self.old self.new
+            (λ crossed. ComesOf site.now.library.now site.now.place arrival.region self.old self.new
             (take arrival.before out.old) (kept_entries crossed arrival.before out.new) back.now crossed)
             (λ _. Stays self.old self.new (take arrival.before out.old) (take arrival.before out.new)) }
-        ensures seated { OnOk result (AreSeated library.now self.new.seats) }
-        ensures objects { map (λ o. length o.prims) self.new.objects ≡ map (λ o. length o.prims) self.old.objects }
-        ensures scripts { length self.new.seats ≡ length self.old.seats }
+        ensures kept { KeepsCounts site.now.library.now result self.old self.new }
     {
-        match read_back(self.alloc, back, self.region(object), shape, library)? {
+        let region = self.region_at(site.place);
+        match read_back(self.alloc, back, region, shape, site.library)? {
             Ok(parts) => {
-                self.arrive(object as usize - 1, parts, arrival, library, out)?;
+                self.arrive(site, parts, arrival, out)?;
                 Ok(Crossed::Moved)
             }
             Err(fault) => Ok(Crossed::Stayed(StayedWhy::Image(fault))),
         }
     }
 
-    /// The parts for which bytes stand as an image of the object of this number, whose sender was in this region; none
-    /// where they are no such image. Walks the scripts, and the bytes once more for their digest.
+    /// The object's parts, where these bytes are an image of the object of this number that was sent from this region;
+    /// none where they aren't. Walks the scripts, and the bytes once more for their digest.
     pub fn read_image(
         &self,
         object: u32,
@@ -248,7 +213,7 @@ impl Grid {
     }
 
     /// The object of this number is in this region, with these parts, and then `changed` with 256 is posted to all its
-    /// scripts. After want of memory grid and entries are as they were. Walks the scripts.
+    /// scripts. When memory runs out grid and entries are as they were. Walks the scripts.
     pub fn come(
         &mut self,
         object: u32,
@@ -283,8 +248,8 @@ impl Grid {
         }
     }
 
-    // The object of this number is in this region, with these parts. After want of memory there may be entries behind
-    // the others.
+    // The object of this number is in this region, with these parts. When memory runs out, placeholder entries may be
+    // left after the others.
     fn come_behind(
         &mut self,
         object: u32,
@@ -301,16 +266,16 @@ impl Grid {
             (λ _. (self.new ≡ (arrived library.now self.old (object - 1) region.now parts).value)
             × (out.new ≡ out.old ++ (arrived library.now self.old (object - 1) region.now parts).entries))
             (λ _. Stays self.old self.new out.old (take (length out.old) out.new)) }
-        ensures seated { OnOk result (AreSeated library.now self.new.seats) }
-        ensures objects { map (λ o. length o.prims) self.new.objects ≡ map (λ o. length o.prims) self.old.objects }
-        ensures scripts { length self.new.seats ≡ length self.old.seats }
+        ensures kept { KeepsCounts library.now result self.old self.new }
     {
         let arrival = prepare(self.alloc, parts.scripts.len(), region, out)?;
-        self.arrive(object as usize - 1, parts, arrival, library, out)
+        let place = object as usize - 1;
+        let site = Site { place, library };
+        self.arrive(&site, parts, arrival, out)
     }
 }
 
-// Where the object stays, only the first so many entries are kept.
+// Where the object stays, only the first `before` entries are kept.
 fn strike(outcome: &Result<Crossed, NoMemory>, before: usize, out: &mut Entries)
     ensures { MatchResult outcome.now
         (λ crossed. out.new ≡ kept_entries crossed before out.old) (λ _. out.new ≡ take before out.old) }
@@ -335,7 +300,7 @@ fn carried<L: Link>(alloc: Global, sent: &[u8], link: &mut L) -> Result<Option<V
     }
 }
 
-// Reads what came back: the parts for which it stands, or its first fault.
+// Reads what came back: an object's parts, or the first fault.
 fn read_back(
     alloc: Global,
     back: &[u8],

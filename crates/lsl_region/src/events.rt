@@ -54,7 +54,7 @@ pub(crate) fn message_event(
     })
 }
 
-/// The event that tells a script of its query.
+/// The event that answers a script's query.
 pub(crate) fn data_event(alloc: Global, query: Text, text: Text) -> Result<Event, NoMemory>
     ensures { IfOk result (λ event. event ≡ data_event query text) }
 {

@@ -79,7 +79,15 @@ impl Grid {
         requires last { object ≤ length self.now.objects }
         ensures { result.now ≡ (get_or self.now.objects (object - 1) no_object).region }
     {
-        &self.objects[object as usize - 1].region
+        self.region_at(object as usize - 1)
+    }
+
+    /// The region of the object at this place.
+    pub(crate) fn region_at(&self, place: usize) -> &Text
+        requires { place < length self.now.objects }
+        ensures { result.now ≡ (get_or self.now.objects place no_object).region }
+    {
+        &self.objects[place].region
     }
 
     /// The object of the script at this place.
@@ -103,8 +111,8 @@ impl Grid {
         self.object_of(place).prims.prim(self.seats[place].prim)
     }
 
-    /// Adds an object behind the others, which are 63 at most. It has a root, and each of its prims a key. After want
-    /// of memory all is as it was.
+    /// Appends an object to at most 63 others. It has a root, and each of its prims a key. When memory runs out all is
+    /// as it was.
     pub fn add(&mut self, object: Linkset) -> Result<(), NoMemory>
         requires room { length self.old.objects < 64 }
         requires formed { IsFormed object }
@@ -117,8 +125,7 @@ impl Grid {
         Ok(())
     }
 
-    /// Adds a script behind the others, which are 255 at most, in a prim that is there. After want of memory all is as
-    /// it was.
+    /// Appends a script to at most 255 others, in a prim that is there. When memory runs out all is as it was.
     pub fn seat(&mut self, seat: Seat) -> Result<(), NoMemory>
         requires room { length self.old.seats < 256 }
         requires placed { IsPlaced self.old.objects seat }

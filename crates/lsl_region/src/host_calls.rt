@@ -31,8 +31,8 @@ use lsl_value::{BuiltinId, Value};
 
 impl Grid {
     /// Answers a host call of the script of this number, which is out of the grid and waits for the answer. The script
-    /// stays awake: it goes on once it is given the reply's value, or stops where it asked for a listen more than 65.
-    /// After want of memory the entries are the first of the call's, and the grid is only to be dropped. Chat asks
+    /// stays awake: it continues once it is given the reply's value, or stops where it asked for more than 65 listens.
+    /// When memory runs out the entries are a prefix of the call's, and the grid must be discarded. Chat asks
     /// exactly the scripts with an active listen on its channel, and the one that asks; messages walk all of them.
     pub fn answer(
         &mut self,
@@ -98,7 +98,7 @@ impl Grid {
         }
     }
 
-    // The same of any call, by where it is done.
+    // Dispatches any host call by its class.
     #[inline(never)]
     fn answer_by_home(
         &mut self,
@@ -128,7 +128,7 @@ impl Grid {
         }
     }
 
-    // The script at this place, which is out of the grid and waits, says or sends something, or names its prim.
+    // The script, which is out of the grid and waits, says or sends something, or names its prim.
     #[inline(always)]
     fn act(
         &mut self,

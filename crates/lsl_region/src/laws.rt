@@ -40,7 +40,7 @@ pub fn pauses_are_sums_of_gaps()
     ensures ends { TurnsWithoutGapsCountTheirEnds }
 {}
 
-/// What is said, and a prim's name, is the longest beginning of a text that has no more bytes than it may have.
+/// What is said, and a prim's name, is the longest prefix of a text that has at most so many bytes.
 pub fn longest_beginnings_are_kept()
     ensures speech { SpeechIsLongest }
     ensures names { NamesAreLongest }
@@ -57,7 +57,7 @@ pub fn link_numbers_mean_prims()
     ensures none { OtherNumbersMeanNone }
 {}
 
-/// A script is told of its own prim and its object, and of other prims by their link numbers.
+/// A script reads its own prim and its object, and other prims by their link numbers.
 pub fn prims_are_told()
     ensures own { OwnPrimIsTold }
     ensures object { ObjectIsTold }
@@ -67,14 +67,14 @@ pub fn prims_are_told()
     ensures negative { NegativeNumbersAreNone }
 {}
 
-/// Who touched is told at place 0 alone, and while a touch is in hand.
+/// Who touched is answered at place 0 alone, and while a touch is handled.
 pub fn touchers_are_told()
     ensures toucher { TouchersAreTold }
     ensures other { OtherPlacesAreNobody }
     ensures nobody { UntouchedIsNobody }
 {}
 
-/// No call of the host that is only to be told something is forgotten.
+/// No host call that only reads the world is forgotten.
 pub fn calls_are_answered()
     ensures { CallsAreAnswered }
 {}
@@ -105,7 +105,7 @@ pub fn scripts_hear_by_their_listens()
     ensures { ScriptsHearByTheirListens }
 {}
 
-/// An object that crosses is in the other region, and then its scripts are told by `changed` with CHANGED_REGION. To
+/// An object that crosses is in the other region, and then its scripts get `changed` with CHANGED_REGION. To
 /// the region in which it is, nothing happens.
 pub fn crossings_are_one_event()
     ensures elsewhere { CrossingsAreOneEvent }

@@ -12,7 +12,7 @@ const ALL_CHILDREN: i32 = -3;
 
 const THIS: i32 = -4;
 
-/// The number of the prim at this place, among so many.
+/// The number of the prim at this place, among `count`.
 pub(crate) fn link_of(count: usize, place: usize) -> i32
     requires { place ≤ 255 }
     ensures { result ≡ pos (link_of count place) }
@@ -23,7 +23,7 @@ pub(crate) fn link_of(count: usize, place: usize) -> i32
     place as i32 + 1
 }
 
-/// The place of the prim that a number names, among so many: 0 and 1 both name the root.
+/// The place of the prim that a number names, among `count`: 0 and 1 both name the root.
 pub(crate) fn prim_named(count: usize, number: i32) -> Option<usize>
     ensures value { result ≡ prim_named count number }
     ensures within { 0 < count → IfSome result (λ place. place < count) }
@@ -34,7 +34,7 @@ pub(crate) fn prim_named(count: usize, number: i32) -> Option<usize>
     prim_numbered(count, number as usize)
 }
 
-/// The place of the prim that a number names which isn't negative, among so many: 0 and 1 both name the root.
+/// The place of the prim that a number from 0 on names, among `count`: 0 and 1 both name the root.
 pub(crate) fn prim_numbered(count: usize, number: usize) -> Option<usize>
     ensures value { result ≡ prim_named count (pos number) }
     ensures within { 0 < count → IfSome result (λ place. place < count) }
@@ -49,7 +49,7 @@ pub(crate) fn prim_numbered(count: usize, number: usize) -> Option<usize>
     None
 }
 
-/// The place of the prim that a number names, among so many: -4 names the prim that asks.
+/// The place of the prim that a number names, among `count`: -4 names the prim that asks.
 pub(crate) fn prim_or_this(count: usize, this: usize, number: i32) -> Option<usize>
     ensures value { result ≡ prim_or_this count this number }
     ensures within { this < count → IfSome result (λ place. place < count) }

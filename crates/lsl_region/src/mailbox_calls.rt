@@ -26,7 +26,7 @@ use std::alloc::AllocError;
 /// How many milliseconds a second has.
 const SECOND: u64 = 1000;
 
-/// Does one of these calls, and answers it.
+/// Answers a call on the script's own mailbox or sleep.
 #[inline(never)]
 pub(crate) fn mail(
     live: &mut Live,
@@ -65,7 +65,7 @@ pub(crate) fn mail(
     }
 }
 
-// Asks for a listen, and answers its number; the script stops where as many stand as can.
+// Asks for a listen, and answers its number; the script stops where it has as many as it can.
 fn listen(live: &mut Live, args: &[Value]) -> Result<Reply, NoMemory>
     ensures does { IfOk result (λ reply. (codes : List Code) (unit : Code) (s : Source) (f : Flight) (id : Id) →
         Waits codes unit s f id live.old →
@@ -127,7 +127,7 @@ fn sleep(live: &mut Live, args: &[Value], clock: u64)
     live.nap(wake_after(integer_at(args, 0), clock));
 }
 
-// When a script wakes that sleeps so many seconds from now.
+// When a script wakes that sleeps for these seconds.
 fn wake_after(seconds: i32, clock: u64) -> u64
     requires { clock ≤ latest_clock }
     ensures { result ≡ wake_after seconds clock }

@@ -30,8 +30,8 @@ use lsl_text::NoMemory;
 use lsl_value::{BuiltinId, Text, Value};
 
 impl Grid {
-    /// The script is told of a notecard of its prim: of a line, or how many there are. It is answered the query's key,
-    /// or the key of zeros where there is no such notecard or line number.
+    /// Posts a line of a notecard of the script's prim, or how many there are, as an event. The answer is the query's
+    /// key, or the key of zeros where there is no such notecard or line number.
     #[inline(never)]
     pub(crate) fn answer_notecard(
         &self,
@@ -55,8 +55,8 @@ impl Grid {
         Ok(Reply::Value(Some(Value::Key(key))))
     }
 
-    // The script is told of this line of a notecard, or how many there are, where there is such a notecard and such a
-    // line number; the query's key, or that of zeros.
+    // Posts this line of a notecard, or how many there are, where there is such a notecard and line number. The query's
+    // key, or that of zeros.
     fn ask(
         &self,
         scene: &Scene,
@@ -96,7 +96,7 @@ impl Grid {
         self.cards.find(prim, name)
     }
 
-    // The script is told of this line of a notecard, or how many there are; the query's key.
+    // Posts this line of a notecard, or how many there are. The query's key.
     fn tell_card(
         &self,
         scene: &Scene,
@@ -120,7 +120,7 @@ impl Grid {
         Ok(key)
     }
 
-    // The event that tells of this line of a notecard, or of how many there are, by a query of this key.
+    // The event with this line of a notecard, or with how many there are, for a query of this key.
     fn event_of(&self, key: &Text, card: u32, line: Option<u32>) -> Result<Event, NoMemory>
         requires { IsListed self.now.cards card }
         ensures { IfOk result (λ event. event ≡ data_event key.now (data_told (card_at self.now.cards card) line)) }
@@ -129,7 +129,7 @@ impl Grid {
         data_event(self.alloc, key.copy()?, data)
     }
 
-    // What is told of this line of a notecard, or of how many there are.
+    // This line of a notecard, or how many there are.
     fn data_of(&self, card: u32, line: Option<u32>) -> Result<Text, NoMemory>
         requires { IsListed self.now.cards card }
         ensures { IfOk result (λ text. text ≡ data_told (card_at self.now.cards card) line) }

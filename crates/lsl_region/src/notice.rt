@@ -20,7 +20,7 @@ pub(crate) enum Audience {
     },
     /// those of the object at this place
     Object(usize),
-    /// those of its prims, of which there are so many, that a number names for the prim at this place
+    /// those of the object's prims, `count` in all, that a number names for the sender's prim
     Linked {
         object: usize,
         count: usize,
@@ -57,7 +57,7 @@ impl Audience {
     }
 }
 
-/// An event, which is no exit of a state, and the scripts to which it is posted.
+/// An event, which isn't the exit of a state, and the scripts to which it is posted.
 #[derive(Drop)]
 pub(crate) struct Notice<'a> {
     pub(crate) audience: &'a Audience,

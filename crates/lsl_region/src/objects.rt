@@ -55,7 +55,7 @@ impl Prims {
         }
     }
 
-    /// Adds a prim of this key and name behind the others.
+    /// Appends a prim of this key and name.
     pub fn push(&mut self, key: Text, name: Text) -> Result<(), NoMemory>
         ensures { OnOk result (self.new ≡ self.old ++ record { key = key; name = name } ∷ []) }
     {

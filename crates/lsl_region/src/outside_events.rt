@@ -10,9 +10,10 @@ ghost use Rattle.lsl_post.specs.declared.parts.ScriptParts.{ScriptParts as Parts
 ghost use Rattle.lsl_script.specs.Codes.{Meant, HasUnit};
 ghost use Rattle.lsl_script.specs.Fitting.{is_exit};
 ghost use Rattle.lsl_region.specs.declared.notice.Audience.TheVariants as audiences;
-ghost use Rattle.lsl_region.specs.Arrivals.{IsObjectEvent, changed_event, post_object, rez_event, say, handles_touch, is_in_prim, touch, touch_prim, touched, touched_prim, toucher_of};
+ghost use Rattle.lsl_region.specs.Arrivals.{IsObjectEvent, changed_event, post_object, rez_event, say, handles_touch, is_in_prim, touch, touched, touched_prim, toucher_of};
 ghost use Rattle.lsl_region.specs.Grids.{AreSeated, Stands, outline_of};
 ghost use Rattle.lsl_region.specs.Posting.{said_to_all, admits, post_all};
+ghost use Rattle.lsl_region.specs.Scenes.{DoesAtHome, KeepsSeated};
 ghost use Rattle.lsl_region.specs.Texts.{cut_speech};
 ghost use Rattle.lsl_region.specs.Worlds.{World, no_object};
 ghost use Rattle.lsl_region.specs.Touching.{has_touch};
@@ -32,9 +33,9 @@ use std::alloc::Global;
 
 impl Grid {
     /// Someone of this name and key says a text on this channel: its first 1,024 bytes are heard by every script that
-    /// listens to them, but for the prim of this key. After want of memory the entries are the first of the call's, and
-    /// the grid is only to be dropped. Asks exactly the scripts with an active listen on the channel, and walks
-    /// their listens.
+    /// listens to them, but for the prim of this key. When memory runs out the entries are a prefix of the call's, and
+    /// the grid must be discarded. Asks exactly the scripts with an active listen on the channel, and walks their
+    /// listens.
     pub fn say(
         &mut self,
         channel: i32,
@@ -63,11 +64,9 @@ impl Grid {
         out: &mut Entries,
     ) -> Result<(), NoMemory>
         requires seated { AreSeated library.now self.old.seats }
-        ensures does { (m : Meant library.now) (clock : ℕ) (w : World) → Stands library.now None clock self.old w →
-            Tells result (λ v _. Stands library.now None clock self.new v) out.old out.new
-            (said_to_all m.rules said w) }
-        ensures seated { OnOk result (AreSeated library.now self.new.seats) }
-        ensures outline { outline_of self.new ≡ outline_of self.old }
+        ensures does { DoesAtHome library.now result (self.old, out.old) (self.new, out.new)
+            (λ r w. said_to_all r said w) }
+        ensures grid { KeepsSeated library.now result self.old self.new }
     {
         let event = listen_event(self.alloc, &said)?;
         let hearers = Audience::Hearers(said);
@@ -79,7 +78,7 @@ impl Grid {
     }
 
     /// Posts `changed` with these flags, or `on_rez` with this number, to all scripts of the object of this number.
-    /// After want of memory the entries are the first of the call's, and the grid is only to be dropped. Walks the
+    /// When memory runs out the entries are a prefix of the call's, and the grid must be discarded. Walks the
     /// scripts.
     pub fn post(
         &mut self,
@@ -114,8 +113,8 @@ impl Grid {
 
     /// Someone of this key and name touches the prim of this link number of the object of this number: the three events
     /// of a touch go, one after another, to all scripts of the prim, or of the root where no script of the prim has a
-    /// handler for any of them. Nothing where no prim has that number. After want of memory the entries are the first
-    /// of the call's, and the grid is only to be dropped. Walks the scripts four times.
+    /// handler for any of them. Nothing where no prim has that number. When memory runs out the entries are a prefix of
+    /// the call's, and the grid must be discarded. Walks the scripts four times.
     pub fn touch(
         &mut self,
         object: u32,
@@ -135,8 +134,12 @@ impl Grid {
         ensures outline { outline_of self.new ≡ outline_of self.old }
     {
         let object = object as usize - 1;
-        match prim_numbered(self.prims_of(object), link as usize) {
-            Some(prim) => self.touch_prim(object, prim, key, name, library, out),
+        let count = self.prims_of(object);
+        match prim_numbered(count, link as usize) {
+            Some(prim) => {
+                let toucher = toucher(count, prim, key, name)?;
+                self.touch_prim(object, prim, &toucher, library, out)
+            }
             None => Ok(()),
         }
     }
@@ -150,32 +153,8 @@ impl Grid {
         self.objects[object].prims.len()
     }
 
-    // Someone touches the prim at this place of the object at this place.
+    // Posts the three events of a touch to the scripts of this prim, or of the root where none of them handles a touch.
     fn touch_prim(
-        &mut self,
-        object: usize,
-        prim: usize,
-        key: &Text,
-        name: &Text,
-        library: &Library,
-        out: &mut Entries,
-    ) -> Result<(), NoMemory>
-        requires object { object < length self.old.objects }
-        requires prim { prim ≤ 255 }
-        requires seated { AreSeated library.now self.old.seats }
-        ensures does { (m : Meant library.now) (clock : ℕ) (w : World) → Stands library.now None clock self.old w →
-            Tells result (λ v _. Stands library.now None clock self.new v) out.old out.new
-            (touch_prim m.rules object (Some prim) key.now name.now w) }
-        ensures seated { OnOk result (AreSeated library.now self.new.seats) }
-        ensures outline { outline_of self.new ≡ outline_of self.old }
-    {
-        let toucher = toucher(self.prims_of(object), prim, key, name)?;
-        let prim = self.touched_prim(object, prim, library);
-        self.touched(object, prim, &toucher, library, out)
-    }
-
-    // The three events of a touch go to the scripts of this prim.
-    fn touched(
         &mut self,
         object: usize,
         prim: usize,
@@ -184,17 +163,16 @@ impl Grid {
         out: &mut Entries,
     ) -> Result<(), NoMemory>
         requires { AreSeated library.now self.old.seats }
-        ensures does { (m : Meant library.now) (clock : ℕ) (w : World) → Stands library.now None clock self.old w →
-            Tells result (λ v _. Stands library.now None clock self.new v) out.old out.new
-            (touched m.rules object prim toucher.now w) }
-        ensures seated { OnOk result (AreSeated library.now self.new.seats) }
-        ensures outline { outline_of self.new ≡ outline_of self.old }
+        ensures does { DoesAtHome library.now result (self.old, out.old) (self.new, out.new)
+            (λ r w. touched r object (touched_prim r w object prim) toucher.now w) }
+        ensures grid { KeepsSeated library.now result self.old self.new }
     {
+        let prim = self.touched_prim(object, prim, library);
         let audience = Audience::Prim { object, prim };
         self.touch_all(&audience, toucher, library, out)
     }
 
-    // The three events of a touch go to these scripts.
+    // Posts the three events of a touch to these scripts.
     fn touch_all(
         &mut self,
         audience: &Audience,
@@ -207,8 +185,7 @@ impl Grid {
             audience.now ≡ audiences.Prim object prim → Stands library.now None clock self.old w →
             Tells result (λ v _. Stands library.now None clock self.new v) out.old out.new
             (touched m.rules object prim toucher.now w) }
-        ensures seated { OnOk result (AreSeated library.now self.new.seats) }
-        ensures outline { outline_of self.new ≡ outline_of self.old }
+        ensures grid { KeepsSeated library.now result self.old self.new }
     {
         let start = touch_start(self.alloc, toucher)?;
         self.post_one(audience, start, library, out)?;
@@ -218,7 +195,7 @@ impl Grid {
         self.post_one(audience, end, library, out)
     }
 
-    // Posts an event that is at hand for this alone.
+    // Posts an event that was made for this alone.
     fn post_one(
         &mut self,
         audience: &Audience,
@@ -228,11 +205,9 @@ impl Grid {
     ) -> Result<(), NoMemory>
         requires seated { AreSeated library.now self.old.seats }
         requires other { is_exit event ≡ false }
-        ensures does { (m : Meant library.now) (clock : ℕ) (w : World) → Stands library.now None clock self.old w →
-            Tells result (λ v _. Stands library.now None clock self.new v) out.old out.new
-            (post_all m.rules (admits audience.now) event w) }
-        ensures seated { OnOk result (AreSeated library.now self.new.seats) }
-        ensures outline { outline_of self.new ≡ outline_of self.old }
+        ensures does { DoesAtHome library.now result (self.old, out.old) (self.new, out.new)
+            (λ r w. post_all r (admits audience.now) event w) }
+        ensures grid { KeepsSeated library.now result self.old self.new }
     {
         let notice = Notice {
             audience,
@@ -323,7 +298,7 @@ fn is_in(seat: &Seat, object: usize, prim: usize) -> bool
     seat.object == object && seat.prim == prim
 }
 
-// Who touches the prim at this place, among so many.
+// Who touches the prim at this place, among `count`.
 fn toucher(count: usize, prim: usize, key: &Text, name: &Text) -> Result<Toucher, NoMemory>
     requires { prim ≤ 255 }
     ensures { IfOk result (λ toucher. toucher ≡ toucher_of count prim key.now name.now) }

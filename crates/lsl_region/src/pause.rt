@@ -57,7 +57,7 @@ impl Pause {
         };
     }
 
-    /// How many saves there were; it stands still at the greatest number. Takes no memory.
+    /// How many saves there were; the count saturates. Takes no memory.
     pub fn saves(&self) -> u64
         ensures { result ≡ self.now.saves }
     {
@@ -99,7 +99,7 @@ impl Pause {
     }
 }
 
-// The place behind this one, or the first one behind the last.
+// The next index, wrapping around.
 fn next_place(place: usize, len: usize) -> usize
     requires { place < len }
     ensures { result ≡ (place + 1) % len }

@@ -17,7 +17,7 @@ ghost use Rattle.lsl_region.specs.Hearing.{ArePassed, HasRow, listens_on};
 ghost use Rattle.lsl_region.specs.Posting.{admits, is_admitted, post_all, post_between, post_where};
 ghost use Rattle.lsl_region.specs.Worlds.{Member, World};
 ghost use Rattle.lsl_region.specs.declared.grid.Seat.{Seat as Place};
-ghost use Rattle.lsl_region.specs.Scenes.{Does, IsAwakeIn, KeepsAwake, KeepsSet};
+ghost use Rattle.lsl_region.specs.Scenes.{Does, DoesAtHome, IsAwakeIn, KeepsAwake, KeepsSeated, KeepsSet};
 
 use crate::grid::Grid;
 use crate::notice::{Audience, Notice};
@@ -36,7 +36,7 @@ pub(crate) fn number(place: usize) -> u32
     place as u32 + 1
 }
 
-// Tells of an event that is dropped.
+// Writes the entry of an event that is dropped.
 fn tell_posted(number: u32, posted: Posted, out: &mut Entries) -> Result<(), NoMemory>
     ensures { Adds result out.old out.new (entries_of_posting number posted) }
 {
@@ -92,7 +92,7 @@ fn post_seat(
 }
 
 impl Grid {
-    // Whether the script at this place is one of them, where it has these listens.
+    // Whether the script at this place is in the audience, if it has these listens.
     fn admits(&self, place: usize, audience: &Audience, listens: &Listens) -> bool
         requires { place < length self.now.seats }
         ensures { (seat : Place) → slice_get self.now.seats place ≡ Some seat →
@@ -103,7 +103,7 @@ impl Grid {
         audience.admits(seat.object, seat.prim, &prim.key, listens)
     }
 
-    // Whether the script at this place isn't out, and is one of them.
+    // Whether the seat holds a sleeping script that is in the audience.
     fn is_addressed(&self, place: usize, audience: &Audience) -> bool
         requires { place < length self.now.seats }
         ensures { (seat : Place) (script : _) → slice_get self.now.seats place ≡ Some seat → seat.script ≡ Some script →
@@ -115,7 +115,7 @@ impl Grid {
         }
     }
 
-    // Posts an event to the script at this place, where it is one of them.
+    // Posts an event to the script at this place, where it is in the audience.
     fn post_at(
         &mut self,
         place: usize,
@@ -129,9 +129,7 @@ impl Grid {
             Stands library.now away clock self.old w → is_out away place ≡ false →
             Tells result (λ v _. Stands library.now away clock self.new v) out.old out.new
             (post_where (rules_of library.now) (admits notice.now.audience.now) notice.now.event.now place w) }
-        ensures seated { OnOk result (AreSeated library.now self.new.seats) }
-        ensures len { length self.new.seats ≡ length self.old.seats }
-        ensures outline { outline_of self.new ≡ outline_of self.old }
+        ensures grid { KeepsSeated library.now result self.old self.new }
         ensures objects { self.new.objects ≡ self.old.objects }
     {
         if !self.is_addressed(place, notice.audience) {
@@ -164,7 +162,7 @@ impl Grid {
         self.hearers.next(channel, from).min(end)
     }
 
-    // The next place from this one on whose script may be one of them, or the end. Takes no memory; asks no script.
+    // The next place from this one on whose script may be in the audience, or the end. Takes no memory; asks no script.
     fn next_of(&self, audience: &Audience, from: usize, end: usize) -> usize
         requires order { from ≤ end }
         requires within { end ≤ length self.now.seats }
@@ -178,8 +176,8 @@ impl Grid {
         }
     }
 
-    // Posts an event to the scripts from one place up to another that are among them; none of these is out. Of what is
-    // said only the scripts with an active listen on its channel are asked, else all are.
+    // Posts an event to the scripts of the audience from one place up to another; none of these is out. Of what is said
+    // only the scripts with an active listen on its channel are asked, else all are.
     fn post_between(
         &mut self,
         first: usize,
@@ -195,9 +193,7 @@ impl Grid {
             Stands library.now away clock self.old w → AreHome away first end →
             Tells result (λ v _. Stands library.now away clock self.new v) out.old out.new
             (post_between m.rules (admits notice.now.audience.now) notice.now.event.now first end w) }
-        ensures seated { OnOk result (AreSeated library.now self.new.seats) }
-        ensures len { length self.new.seats ≡ length self.old.seats }
-        ensures outline { outline_of self.new ≡ outline_of self.old }
+        ensures grid { KeepsSeated library.now result self.old self.new }
         ensures objects { self.new.objects ≡ self.old.objects }
     {
         let mut place = self.next_of(notice.audience, first, end);
@@ -208,7 +204,7 @@ impl Grid {
         Ok(())
     }
 
-    /// Posts an event to all scripts that are among them. Of what is said only the scripts with an active listen on its
+    /// Posts an event to all scripts of the audience. Of what is said only the scripts with an active listen on its
     /// channel are asked, else all are.
     pub(crate) fn post_all(
         &mut self,
@@ -217,19 +213,16 @@ impl Grid {
         out: &mut Entries,
     ) -> Result<(), NoMemory>
         requires seated { AreSeated library.now self.old.seats }
-        ensures does { (m : Meant library.now) (clock : ℕ) (w : World) → Stands library.now None clock self.old w →
-            Tells result (λ v _. Stands library.now None clock self.new v) out.old out.new
-            (post_all m.rules (admits notice.now.audience.now) notice.now.event.now w) }
-        ensures seated { OnOk result (AreSeated library.now self.new.seats) }
-        ensures len { length self.new.seats ≡ length self.old.seats }
-        ensures outline { outline_of self.new ≡ outline_of self.old }
+        ensures does { DoesAtHome library.now result (self.old, out.old) (self.new, out.new)
+            (λ r w. post_all r (admits notice.now.audience.now) notice.now.event.now w) }
+        ensures grid { KeepsSeated library.now result self.old self.new }
         ensures objects { self.new.objects ≡ self.old.objects }
     {
         let end = self.seats.len();
         self.post_between(0, end, notice, library, out)
     }
 
-    // Whether the script at this place, which is awake, is one of them.
+    // Whether the script at this place, which is awake, is in the audience.
     fn admits_live(&self, place: usize, live: &mut Live, audience: &Audience) -> bool
         requires { place < length self.now.seats }
         ensures same { live.new ≡ live.old }
@@ -240,7 +233,7 @@ impl Grid {
         self.admits(place, audience, live.listens())
     }
 
-    // Posts an event to the script at this place, which is out, where it is one of them.
+    // Posts an event to the script at this place, which is out, where it is in the audience.
     fn post_own(
         &self,
         scene: &Scene,
@@ -260,7 +253,7 @@ impl Grid {
         post_live(self.alloc, scene, live, notice.event, out)
     }
 
-    /// Posts an event to all scripts that are among them, where the one at this place is out and waits for an answer.
+    /// Posts an event to all scripts of the audience, where the one at this place is out and waits for an answer.
     /// Of what is said only this one and the scripts with an active listen on its channel are asked, else all are.
     pub(crate) fn post_all_with(
         &mut self,

@@ -1,4 +1,4 @@
-//! What a host call is only told.
+//! Host calls that only read the world.
 
 ghost use Rattle.std.specs.Prelude.{◌≡◌, ◌<◌, ◌≤◌, Option, length, None, IfOk, option_copied};
 ghost use Rattle.lsl_value.specs.declared.names.BuiltinId.{BuiltinId as Id};
@@ -25,8 +25,18 @@ use lsl_text::NoMemory;
 use lsl_value::{BuiltinId, Text, Value};
 use std::alloc::Global;
 
+// Where a call is asked from: the script's object, prim and name, the clock, and who touched.
+#[derive(Drop)]
+struct Standpoint<'a> {
+    object: &'a Linkset,
+    prim: usize,
+    name: &'a Text,
+    clock: u64,
+    toucher: &'a Option<Toucher>,
+}
+
 impl Grid {
-    /// The call is told something.
+    /// Answers a call that only reads the world.
     #[inline(never)]
     pub(crate) fn answer_query(
         &self,
@@ -42,37 +52,31 @@ impl Grid {
         ensures stop { IfOk result (λ reply. stop_of reply ≡ None) }
     {
         let seat = &self.seats[scene.place];
-        let toucher = &live.event().toucher;
-        let told = value_of_query(
-            self.alloc,
-            self.object_of(scene.place),
-            seat.prim,
-            &seat.name,
-            scene.clock,
-            toucher,
-            id,
-            args,
-        )?;
-        Ok(Reply::Value(told))
+        let from = Standpoint {
+            object: self.object_of(scene.place),
+            prim: seat.prim,
+            name: &seat.name,
+            clock: scene.clock,
+            toucher: &live.event().toucher,
+        };
+        Ok(Reply::Value(value_of_query(self.alloc, &from, id, args)?))
     }
 }
 
-// What the call is told of this object, the script's prim and name, the clock, and who touched.
+// The value of a call, asked from this standpoint.
 fn value_of_query(
     alloc: Global,
-    object: &Linkset,
-    prim: usize,
-    name: &Text,
-    clock: u64,
-    toucher: &Option<Toucher>,
+    from: &Standpoint,
     id: BuiltinId,
     args: &[Value],
 ) -> Result<Option<Value>, NoMemory>
-    requires prim { prim < length object.now.prims }
-    requires few { length object.now.prims ≤ 255 }
-    requires clock { clock ≤ latest_clock }
-    ensures { IfOk result (λ told. told ≡ value_of_query object.now prim name.now clock toucher.now id args.now) }
+    requires prim { from.now.prim < length from.now.object.now.prims }
+    requires few { length from.now.object.now.prims ≤ 255 }
+    requires clock { from.now.clock ≤ latest_clock }
+    ensures { IfOk result (λ told. told ≡ value_of_query from.now.object.now from.now.prim from.now.name.now
+        from.now.clock from.now.toucher.now id args.now) }
 {
+    let (object, prim) = (from.object, from.prim);
     let prims = &object.prims;
     let value = match id {
         BuiltinId::GetOwner => Value::Key(object.owner.copy()?),
@@ -86,12 +90,12 @@ fn value_of_query(
         BuiltinId::GetLinkNumber => Value::Int(link_of(prims.len(), prim)),
         BuiltinId::GetNumberOfPrims => Value::Int(prims.len() as i32),
         BuiltinId::GetObjectName => Value::Str(prims.prim(prim).name.copy()?),
-        BuiltinId::GetScriptName => Value::Str(name.copy()?),
+        BuiltinId::GetScriptName => Value::Str(from.name.copy()?),
         BuiltinId::GetRegionName => Value::Str(object.region.copy()?),
-        BuiltinId::GetUnixTime => Value::Int((clock / 1000) as i32),
-        BuiltinId::DetectedKey => Value::Key(detected_key(alloc, toucher, args)?),
-        BuiltinId::DetectedName => Value::Str(detected_name(toucher, args)?),
-        BuiltinId::DetectedLinkNumber => Value::Int(detected_link(toucher, args)),
+        BuiltinId::GetUnixTime => Value::Int((from.clock / 1000) as i32),
+        BuiltinId::DetectedKey => Value::Key(detected_key(alloc, from.toucher, args)?),
+        BuiltinId::DetectedName => Value::Str(detected_name(from.toucher, args)?),
+        BuiltinId::DetectedLinkNumber => Value::Int(detected_link(from.toucher, args)),
         BuiltinId::LinksetDataRead => Value::Str(read_in(&object.store, &text_at(args, 0)?)?),
         BuiltinId::LinksetDataCountKeys => Value::Int(object.store.count() as i32),
         BuiltinId::LinksetDataAvailable => Value::Int(room_in(&object.store)),

@@ -34,7 +34,7 @@ use lsl_text::NoMemory;
 use std::alloc::{AllocError, Global};
 
 impl Grid {
-    /// Takes the script at this place out of the grid and wakes it in this room, and tells of the event that it takes.
+    /// Takes the script at this place out of the grid and wakes it in this room, and writes the event that it takes.
     pub(crate) fn begin(
         &mut self,
         scene: &Scene,
@@ -119,7 +119,7 @@ impl Grid {
         }
     }
 
-    // Answers a host call, and lets the script go on.
+    // Answers a host call, and lets the script continue.
     #[inline(always)]
     fn answer_and_go_on(
         &mut self,
@@ -197,8 +197,8 @@ impl Grid {
         }
     }
 
-    // The script at this place, which can run, goes out of the grid and wakes in this room. After want of memory it is
-    // gone.
+    // The script at this place, which can run, goes out of the grid and wakes in this room. When memory runs out it
+    // is gone.
     fn wake_at(
         &mut self,
         place: usize,
@@ -238,7 +238,7 @@ impl Grid {
     }
 }
 
-// Tells of the event that was taken, where one was.
+// Writes the entry of the event that was taken, where one was.
 fn tell_taken(number: u32, live: &Live, alloc: Global, out: &mut Entries) -> Result<(), NoMemory>
     ensures { Adds result out.old out.new (entries_of_taking number (taken_by live.now)) }
 {
@@ -248,7 +248,7 @@ fn tell_taken(number: u32, live: &Live, alloc: Global, out: &mut Entries) -> Res
     }
 }
 
-// Tells of a handler's end: the charge, and how many events went.
+// Writes the entries of a handler's end: the charge, and how many events went.
 fn tell_closing(
     number: u32,
     charge: u64,

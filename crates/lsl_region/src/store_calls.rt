@@ -28,15 +28,15 @@ use lsl_text::NoMemory;
 use lsl_value::{BuiltinId, Text, Value};
 use std::alloc::Global;
 
-/// What the scripts of an object are told of its store: that it was emptied, that a name was given a value, or that a
-/// name is gone.
+/// What changed in an object's store, as its scripts get it: it was emptied, a name was given a value, or a name is
+/// gone.
 const RESET: i32 = 0;
 
 const UPDATE: i32 = 1;
 
 const DELETE: i32 = 2;
 
-/// What comes of a call on a store: what it is answered, and what the object's scripts are told.
+/// What comes of a call on a store: its answer, and the event for the object's scripts.
 #[derive(Drop)]
 pub(crate) struct Change {
     pub(crate) answer: Option<Value>,
@@ -44,7 +44,7 @@ pub(crate) struct Change {
 }
 
 impl Grid {
-    /// The call changes the store of the script's object, and all scripts of the object are told of a change, the one
+    /// Changes the store of the script's object, and posts an event of the change to all scripts of the object, the one
     /// that asks too.
     #[inline(never)]
     pub(crate) fn answer_store(
@@ -69,7 +69,7 @@ impl Grid {
         answered(change, told)
     }
 
-    // All scripts of the object of the script at this place, which is out, are told, if of anything.
+    // Posts the event, if there is one, to all scripts of the object of the script, which is out.
     fn tell_object(
         &mut self,
         scene: &Scene,
@@ -121,7 +121,7 @@ impl Grid {
     }
 }
 
-// The answer of a change, once the scripts were told of it.
+// The answer of a change, once its event was posted.
 fn answered(change: Change, told: Result<(), NoMemory>) -> Result<Reply, NoMemory>
     ensures { result ≡ result_map_both (λ _. replies.Value change.answer) (λ error. error) told }
 {
@@ -203,7 +203,7 @@ fn change_of(alloc: Global, wrote: Wrote, name: Text, text: Text) -> Result<Chan
     })
 }
 
-// What the object's scripts are told of it, if of anything.
+// The event for the object's scripts, if there is one.
 fn told_of(alloc: Global, wrote: Wrote, name: Text, text: Text) -> Result<Option<Event>, NoMemory>
     ensures { IfOk result (λ told. told ≡ told_of wrote name text) }
 {
@@ -214,7 +214,7 @@ fn told_of(alloc: Global, wrote: Wrote, name: Text, text: Text) -> Result<Option
     }
 }
 
-// The number by which a script is told what became of its write or delete.
+// The number that a write or delete answers.
 fn number_of(wrote: Wrote) -> i32
     ensures { result ≡ number_of wrote }
 {

@@ -15,6 +15,7 @@ ghost use Rattle.lsl_region.specs.declared.grid.Seat.{Seat as Place};
 ghost use Rattle.lsl_region.specs.Grids.{AreSeated, FitsSeat, Stands, is_out, outline_of};
 ghost use Rattle.lsl_region.specs.Hearing.{HasRow};
 ghost use Rattle.lsl_region.specs.Posting.{ring_at};
+ghost use Rattle.lsl_region.specs.Scenes.{KeepsSeated};
 ghost use Rattle.lsl_region.specs.Segments.{is_ready_at};
 ghost use Rattle.lsl_region.specs.Timers.{next_due};
 ghost use Rattle.lsl_region.specs.Turning.{IsReady};
@@ -90,8 +91,7 @@ impl Grid {
         requires seated { AreSeated library.now self.old.seats }
         ensures does { (m : Meant library.now) (w : World) → Stands library.now None clock self.old w →
             Tells result (λ v _. Stands library.now None clock self.new v) out.old out.new (ring_at m.rules place w) }
-        ensures seated { OnOk result (AreSeated library.now self.new.seats) }
-        ensures outline { outline_of self.new ≡ outline_of self.old }
+        ensures grid { KeepsSeated library.now result self.old self.new }
     {
         let seat = &mut self.seats[place];
         let unit = library.unit(seat.unit);
@@ -106,7 +106,7 @@ impl Grid {
     }
 
     /// Reads the timer of the script of this number at this reading of the clock: where it is due its event is posted,
-    /// and it is next due one period after the reading. After want of memory the grid is only to be dropped.
+    /// and it is next due one period after the reading. When memory runs out the grid must be discarded.
     pub fn read_timer(
         &mut self,
         script: u32,

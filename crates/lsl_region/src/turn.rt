@@ -24,9 +24,9 @@ use lsl_script::Live;
 use lsl_text::NoMemory;
 
 impl Grid {
-    /// Segments of the script of this number while it is ready, at most so many, and how many they were. The script
-    /// stays awake from one to the next, and is saved at the end; behind a pausing segment it is saved and restored.
-    /// After want of memory the entries are the first of the call's, and the grid is only to be dropped.
+    /// Segments of the script of this number while it is ready, at most `ticks`, and how many they were. The script
+    /// stays awake from one to the next, and is saved at the end; after a pausing segment it is saved and restored.
+    /// When memory runs out the entries are a prefix of the call's, and the grid must be discarded.
     pub fn turn(
         &mut self,
         script: u32,
@@ -88,7 +88,7 @@ impl Grid {
         Ok(spent)
     }
 
-    // Segments while the script is ready, at most so many, and how many they were; it may be awake then.
+    // Segments while the script is ready, at most `ticks`, and how many they were; it may be awake then.
     fn run(
         &mut self,
         scene: &Scene,
@@ -263,8 +263,8 @@ impl Grid {
         Ok(())
     }
 
-    // Segments of the script at this place while it is ready, at most so many, and how many they were. It is saved and
-    // restored behind each pausing one that leaves it in flight and ready.
+    // Segments of the script at this place while it is ready, at most `ticks`, and how many they were. It is saved and
+    // restored after each pausing one that leaves it in flight and ready.
     #[inline(never)]
     fn paused_segments(
         &mut self,
@@ -297,7 +297,7 @@ impl Grid {
         Ok(ticks)
     }
 
-    // A segment, behind which the script is saved and restored where it is a pausing one.
+    // A segment. The script is saved and restored after it, where it is a pausing one.
     fn paused_segment(
         &mut self,
         scene: &Scene,
@@ -333,8 +333,8 @@ impl Grid {
     }
 }
 
-// Segments of a script that is awake, at most so many, on integers and calls of functions alone: how many, and whether
-// it stands at a tick then. Else it is within the next one, or not awake.
+// Segments of a script that is awake, at most `most`, on integers and calls of functions alone: how many, and whether
+// it is at a tick then. Else it is within the next one, or not awake.
 #[inline(always)]
 fn pass_ticks(live: &mut Option<Live>, unit: &Woven, most: u32) -> (u32, bool)
     requires some { 0 < most }
@@ -352,7 +352,7 @@ fn pass_ticks(live: &mut Option<Live>, unit: &Woven, most: u32) -> (u32, bool)
     }
 }
 
-// Whether the script, which may be awake at a tick, is so and can go on.
+// Whether the script is awake, at a tick, and can continue.
 fn can_go_on(live: &Option<Live>, clock: u64) -> bool
     ensures source { (codes : List Code) (unit : Code) (place : ℕ) (grid : Contents) (w : World) →
         IsBehind codes unit clock place grid live.now w → result ≡ goes_on_at w place }

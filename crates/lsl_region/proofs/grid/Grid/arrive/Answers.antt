@@ -7,13 +7,14 @@ use Rattle.lsl_region.proofs.grid.Grid.arrive.Goals as goal
 
 pub returns-clause-grid : goal.returns-clause-grid
 returns-clause-grid c =
-    arrived-is c.args.library.now c.args.self.now c.tell_all.new.self c.args.place c.args.arrival.region c.args.parts
+    let site = c.args.site.now in
+    arrived-is site.library.now c.args.self.now c.tell_all.new.self site.place c.args.arrival.region c.args.parts
     c.requires.place
-    (c.tell_all.ensures.objects ∙ c.reseat.ensures.objects
-    ∙ furnished-with c.args.self.now c.args.place c.args.parts c.args.arrival.region c.in_ok-store.store
+    (c.tell_all.ensures.kept.objects ∙ c.reseat.ensures.kept.objects
+    ∙ furnished-with c.args.self.now site.place c.args.parts c.args.arrival.region c.in_ok-store.store
     c.furnish.new.self.objects c.in_ok-store.ensures c.furnish.ensures.objects)
     (c.tell_all.ensures.seats
-    ∙ ap (λ (z : List Seat). (post_in_seats c.args.library.now c.args.place region_changed 1 z).value)
+    ∙ ap (λ (z : List Seat). (post_in_seats site.library.now site.place region_changed 1 z).value)
     (c.reseat.ensures.seats
-    ∙ ap (λ (z : List Seat). reseated c.args.place c.args.parts.scripts z) c.furnish.ensures.seats))
-    (c.tell_all.ensures.cards ∙ c.reseat.ensures.cards ∙ c.furnish.ensures.cards)
+    ∙ ap (λ (z : List Seat). reseated site.place c.args.parts.scripts z) c.furnish.ensures.seats))
+    (c.tell_all.ensures.kept.cards ∙ c.reseat.ensures.kept.cards ∙ c.furnish.ensures.cards)

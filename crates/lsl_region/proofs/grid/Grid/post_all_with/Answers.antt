@@ -16,7 +16,8 @@ use Rattle.lsl_region.proofs.grid.Grid.post_all_with.Goals as goal
 pub post_own-requires : goal.post_own-requires
 post_own-requires c = record {
   awake = record {
-    set = set-kept c.requires.awake.set c.in_ok-post_between.ensures.outline c.in_ok-post_between.ensures.seated;
+    set = set-kept c.requires.awake.set c.in_ok-post_between.ensures.grid.outline
+        c.in_ok-post_between.ensures.grid.seated;
     awake = c.requires.awake.awake;
   };
 }
@@ -24,7 +25,8 @@ post_own-requires c = record {
 pub returns-clause-grid : goal.returns-clause-grid
 returns-clause-grid c =
     keeps-set c.post_between-2.result c.requires.awake.set
-    (c.post_between-2.ensures.outline ∙ c.in_ok-post_between.ensures.outline) c.post_between-2.ensures.seated
+    (c.post_between-2.ensures.grid.outline ∙ c.in_ok-post_between.ensures.grid.outline)
+    c.post_between-2.ensures.grid.seated
 
 pub returns-in_err-post_between-clause-does : goal.returns-in_err-post_between-clause-does
 returns-in_err-post_between-clause-does c = λ m f id w lent.

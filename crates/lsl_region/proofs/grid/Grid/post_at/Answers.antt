@@ -101,25 +101,24 @@ returns-clause-does c = λ away clock w old home.
     c.args.out.now c.post_seat.new.out (post_to (rules_of codes) n e m.script)) c.number.ensures
     (c.post_seat.ensures.told codes m.script has script)))
 
-pub returns-clause-seated : goal.returns-clause-seated
-returns-clause-seated c =
+pub returns-clause-grid : goal.returns-clause-grid
+returns-clause-grid c =
     let codes = c.args.library.now in
     let h : c.args.place < length c.self.inside.seats.items = search (rules, c.requires.place) in
     let seat = c.index_mut-seat.result.now in
-    OnOk-map c.post_seat.result (FitsSeat c.unit-unit.result.now c.post_seat.new.seat) _
-    (λ fits. seated-set codes c.self.inside.seats.items c.args.place (record seat { script = c.post_seat.new.seat })
-    (record { unit = c.unit-unit.result.now; has = sym c.unit-unit.ensures.unit; fits = fits })
-    (subst (λ (g : Contents). AreSeated codes g.seats) (sym c.self.view_is) c.requires.seated) h)
-    c.post_seat.ensures.fits
-
-pub returns-clause-outline : goal.returns-clause-outline
-returns-clause-outline c =
-    let h : c.args.place < length c.self.inside.seats.items = search (rules, c.requires.place) in
     let inside : Contents = record {
       objects = c.self.inside.objects.items;
       seats = c.self.inside.seats.items;
       cards = c.self.inside.cards;
     } in
-    outline-seated inside c.args.place c.index_mut-seat.result.now _
-    (read-at c.self.inside.seats.items c.args.place _ h c.index_mut-seat.ensures.value) refl
-    ∙ ap outline_of c.self.view_is
+    record {
+      seated = OnOk-map c.post_seat.result (FitsSeat c.unit-unit.result.now c.post_seat.new.seat) _
+          (λ fits. seated-set codes c.self.inside.seats.items c.args.place
+          (record seat { script = c.post_seat.new.seat })
+          (record { unit = c.unit-unit.result.now; has = sym c.unit-unit.ensures.unit; fits = fits })
+          (subst (λ (g : Contents). AreSeated codes g.seats) (sym c.self.view_is) c.requires.seated) h)
+          c.post_seat.ensures.fits;
+      outline = outline-seated inside c.args.place seat _
+          (read-at c.self.inside.seats.items c.args.place _ h c.index_mut-seat.ensures.value) refl
+          ∙ ap outline_of c.self.view_is;
+    }

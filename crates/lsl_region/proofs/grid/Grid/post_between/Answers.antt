@@ -6,6 +6,7 @@ use Rattle.lsl_post.proofs.Amid.{walk-ok, walk-err, walk-end}
 use Rattle.lsl_region.specs.Grids.{Stands}
 use Rattle.lsl_region.specs.Posting.{admits}
 use Rattle.lsl_region.specs.Worlds.{World}
+use Rattle.lsl_region.proofs.Outlines.{outline-scripts}
 use Rattle.lsl_region.proofs.Passing.{post-passed, walk-from, walk-later}
 use Rattle.lsl_region.proofs.Posts.{posts-same}
 use Rattle.lsl_region.proofs.grid.Grid.post_between.Goals as goal
@@ -46,10 +47,10 @@ loop-place-preserved c =
     record {
       from = omega (arith, inv.from, next.ensures.onward);
       within = next.ensures.within;
-      same = c.in_ok-post_at.ensures.len ∙ inv.same;
-      outline = c.in_ok-post_at.ensures.outline ∙ inv.outline;
+      same = outline-scripts _ _ c.in_ok-post_at.ensures.grid.outline ∙ inv.same;
+      outline = c.in_ok-post_at.ensures.grid.outline ∙ inv.outline;
       objects = c.in_ok-post_at.ensures.objects ∙ inv.objects;
-      seated = c.in_ok-post_at.ensures.seated;
+      seated = c.in_ok-post_at.ensures.grid.seated;
       walk = λ m away clock w st home.
           walk-later _ _ _ _ _ (c.loop-place.place + 1) next.result c.args.end
           (walk-ok _ _ _ _ _ _ _ (inv.walk m away clock w st home)

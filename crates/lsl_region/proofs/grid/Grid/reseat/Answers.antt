@@ -36,9 +36,9 @@ loop-seat-preserved c =
     let left = c.reseat_next.ensures.scripts seat at in
     record {
       len = ap (λ (z : List Seat). length z) now ∙ length-set seats n t ∙ before.len;
-      objects = c.reseat_next.ensures.objects ∙ before.objects;
-      cards = c.reseat_next.ensures.cards ∙ before.cards;
-      seated = c.reseat_next.ensures.seated;
+      objects = c.reseat_next.ensures.kept.objects ∙ before.objects;
+      cards = c.reseat_next.ensures.kept.cards ∙ before.cards;
+      seated = c.reseat_next.ensures.kept.seated;
       valid = subst (λ (z : List ScriptParts). AllByRecursion (HasUnit codes) z) (sym left)
           (valid-next (HasUnit codes) p scripts before.valid);
       units = ap (map unit_number) left

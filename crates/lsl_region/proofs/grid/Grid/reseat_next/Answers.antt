@@ -4,74 +4,44 @@ use Rattle.std.proofs.lemmas.List.{length-reverse}
 use Rattle.lsl_region.specs.declared.grid.Seat.{Seat}
 use Rattle.lsl_region.specs.Grids.{Contents}
 use Rattle.lsl_region.specs.ObjectParts.{parts_in_seat}
-use Rattle.lsl_region.proofs.Coming.{seat-is}
+use Rattle.lsl_region.proofs.Coming.{seat-here}
 use Rattle.lsl_region.proofs.Reseating.{behind-other, behind-own, reverse-last, seat-empty, seat-other, seat-own, seat-there}
 use Rattle.lsl_region.proofs.Seats.{read-at}
 use Rattle.lsl_region.proofs.grid.Grid.reseat_next.Goals as goal
 
 pub returns-then-not-is_of-clause-seats : goal.returns-then-not-is_of-clause-seats
 returns-then-not-is_of-clause-seats c = λ seat sits.
-    let h : c.args.seat < length c.self.inside.seats.items = search (rules, c.requires.seat) in
-    let at = read-at c.self.inside.seats.items c.args.seat c.index.result.now h c.index.ensures in
-    let inside : Contents = record {
-      objects = c.self.inside.objects.items;
-      seats = c.self.inside.seats.items;
-      cards = c.self.inside.cards;
-    } in
-    let is = seat-is inside c.args.self.now c.args.seat c.index.result.now seat c.self.view_is at sits in
+    let is = seat-here c.args.seat c.index.result.now seat c.self.view_is (search (rules, c.requires.seat))
+    c.index.ensures sits in
     seat-other c.args.place c.args.self.now.seats c.args.seat seat (reverse c.args.scripts.now.items) sits
     (ap (λ (z : Seat). is_some (parts_in_seat c.args.place z)) (sym is) ∙ sym c.is_of.ensures ∙ c.if-not-is_of.true)
 
 pub returns-then-not-is_of-clause-scripts : goal.returns-then-not-is_of-clause-scripts
 returns-then-not-is_of-clause-scripts c = λ seat sits.
-    let h : c.args.seat < length c.self.inside.seats.items = search (rules, c.requires.seat) in
-    let at = read-at c.self.inside.seats.items c.args.seat c.index.result.now h c.index.ensures in
-    let inside : Contents = record {
-      objects = c.self.inside.objects.items;
-      seats = c.self.inside.seats.items;
-      cards = c.self.inside.cards;
-    } in
-    let is = seat-is inside c.args.self.now c.args.seat c.index.result.now seat c.self.view_is at sits in
+    let is = seat-here c.args.seat c.index.result.now seat c.self.view_is (search (rules, c.requires.seat))
+    c.index.ensures sits in
     behind-other (parts_in_seat c.args.place seat) (reverse c.args.scripts.now.items)
     (ap (λ (z : Seat). is_some (parts_in_seat c.args.place z)) (sym is) ∙ sym c.is_of.ensures ∙ c.if-not-is_of.true)
 
 pub seat_script-requires-clause-fits : goal.seat_script-requires-clause-fits
 seat_script-requires-clause-fits c = λ seat sits.
-    let h : c.args.seat < length c.self.inside.seats.items = search (rules, c.requires.seat) in
-    let at = read-at c.self.inside.seats.items c.args.seat c.index.result.now h c.index.ensures in
-    let inside : Contents = record {
-      objects = c.self.inside.objects.items;
-      seats = c.self.inside.seats.items;
-      cards = c.self.inside.cards;
-    } in
-    let is = seat-is inside c.args.self.now c.args.seat c.index.result.now seat c.self.view_is at sits in
+    let is = seat-here c.args.seat c.index.result.now seat c.self.view_is (search (rules, c.requires.seat))
+    c.index.ensures sits in
     c.requires.fits seat c.pop.new.self.items c.in-Some.parts sits
     (ap (λ (z : Seat). is_some (parts_in_seat c.args.place z)) (sym is) ∙ sym c.is_of.ensures ∙ c.if-not-is_of.false)
     c.in-Some.ensures.items
 
 pub seat_script-requires-clause-there : goal.seat_script-requires-clause-there
 seat_script-requires-clause-there c = λ seat sits.
-    let h : c.args.seat < length c.self.inside.seats.items = search (rules, c.requires.seat) in
-    let at = read-at c.self.inside.seats.items c.args.seat c.index.result.now h c.index.ensures in
-    let inside : Contents = record {
-      objects = c.self.inside.objects.items;
-      seats = c.self.inside.seats.items;
-      cards = c.self.inside.cards;
-    } in
-    let is = seat-is inside c.args.self.now c.args.seat c.index.result.now seat c.self.view_is at sits in
+    let is = seat-here c.args.seat c.index.result.now seat c.self.view_is (search (rules, c.requires.seat))
+    c.index.ensures sits in
     seat-there c.args.place seat
     (ap (λ (z : Seat). is_some (parts_in_seat c.args.place z)) (sym is) ∙ sym c.is_of.ensures ∙ c.if-not-is_of.false)
 
 pub returns-in-Some-clause-seats : goal.returns-in-Some-clause-seats
 returns-in-Some-clause-seats c = λ seat sits.
-    let h : c.args.seat < length c.self.inside.seats.items = search (rules, c.requires.seat) in
-    let at = read-at c.self.inside.seats.items c.args.seat c.index.result.now h c.index.ensures in
-    let inside : Contents = record {
-      objects = c.self.inside.objects.items;
-      seats = c.self.inside.seats.items;
-      cards = c.self.inside.cards;
-    } in
-    let is = seat-is inside c.args.self.now c.args.seat c.index.result.now seat c.self.view_is at sits in
+    let is = seat-here c.args.seat c.index.result.now seat c.self.view_is (search (rules, c.requires.seat))
+    c.index.ensures sits in
     c.seat_script.ensures.seats seat sits
     ∙ ap (λ (t : Seat). slice_set c.args.self.now.seats c.args.seat t)
     (seat-own seat (parts_in_seat c.args.place seat) c.in-Some.parts (reverse c.pop.new.self.items)
@@ -81,14 +51,8 @@ returns-in-Some-clause-seats c = λ seat sits.
 
 pub returns-in-Some-clause-scripts : goal.returns-in-Some-clause-scripts
 returns-in-Some-clause-scripts c = λ seat sits.
-    let h : c.args.seat < length c.self.inside.seats.items = search (rules, c.requires.seat) in
-    let at = read-at c.self.inside.seats.items c.args.seat c.index.result.now h c.index.ensures in
-    let inside : Contents = record {
-      objects = c.self.inside.objects.items;
-      seats = c.self.inside.seats.items;
-      cards = c.self.inside.cards;
-    } in
-    let is = seat-is inside c.args.self.now c.args.seat c.index.result.now seat c.self.view_is at sits in
+    let is = seat-here c.args.seat c.index.result.now seat c.self.view_is (search (rules, c.requires.seat))
+    c.index.ensures sits in
     behind-own (parts_in_seat c.args.place seat) c.in-Some.parts (reverse c.pop.new.self.items)
     (reverse c.args.scripts.now.items)
     (ap (λ (z : Seat). is_some (parts_in_seat c.args.place z)) (sym is) ∙ sym c.is_of.ensures ∙ c.if-not-is_of.false)

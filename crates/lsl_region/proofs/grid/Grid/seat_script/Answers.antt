@@ -6,7 +6,7 @@ use Rattle.lsl_post.specs.declared.parts.ScriptParts.{ScriptParts}
 use Rattle.lsl_region.specs.Hearing.{listens_on}
 use Rattle.lsl_region.specs.declared.grid.Seat.{Seat}
 use Rattle.lsl_region.specs.Grids.{AreSeated, Contents, IsSeated}
-use Rattle.lsl_region.proofs.Coming.{seat-is}
+use Rattle.lsl_region.proofs.Coming.{seat-here}
 use Rattle.lsl_region.proofs.Told.{row-set}
 use Rattle.lsl_region.proofs.Seats.{placed-set, read-at, seated-set, seated-unit}
 use Rattle.lsl_region.proofs.grid.Grid.seat_script.Goals as goal
@@ -51,22 +51,16 @@ invariant_of-self c =
 
 pub returns-clause-seats : goal.returns-clause-seats
 returns-clause-seats c = λ seat sits.
-    let h : c.args.seat < length c.self.inside.seats.items = search (rules, c.requires.seat) in
-    let at = read-at c.self.inside.seats.items c.args.seat c.index_mut.result.now h c.index_mut.ensures.value in
-    let inside : Contents = record {
-      objects = c.self.inside.objects.items;
-      seats = c.self.inside.seats.items;
-      cards = c.self.inside.cards;
-    } in
-    let is = seat-is inside c.args.self.now c.args.seat c.index_mut.result.now seat c.self.view_is at sits in
+    let is = seat-here c.args.seat c.index_mut.result.now seat c.self.view_is (search (rules, c.requires.seat))
+    c.index_mut.ensures.value sits in
     let told : c.set_parts.new.self ≡ c.args.parts = c.set_parts.ensures in
     ap (λ (p : ScriptParts). slice_set c.self.inside.seats.items c.args.seat
     (record c.index_mut.result.now { script = Some p })) told
     ∙ ap (λ (x : Seat). slice_set c.self.inside.seats.items c.args.seat (record x { script = Some c.args.parts })) is
     ∙ ap (λ (g : Contents). slice_set g.seats c.args.seat (record seat { script = Some c.args.parts })) c.self.view_is
 
-pub returns-clause-seated : goal.returns-clause-seated
-returns-clause-seated c =
+pub returns-clause-kept : goal.returns-clause-kept
+returns-clause-kept c =
     let h : c.args.seat < length c.self.inside.seats.items = search (rules, c.requires.seat) in
     let seat = c.index_mut.result.now in
     let at = read-at c.self.inside.seats.items c.args.seat seat h c.index_mut.ensures.value in
@@ -75,6 +69,10 @@ returns-clause-seated c =
     let k : IsSeated c.args.library.now (record seat { script = Some c.set_parts.new.self })
     = subst (λ (p : ScriptParts). IsSeated c.args.library.now (record seat { script = Some p }))
     (sym told) (c.requires.fits seat there) in
-    seated-set c.args.library.now c.self.inside.seats.items c.args.seat
-    (record seat { script = Some c.set_parts.new.self }) k
-    (subst (λ (g : Contents). AreSeated c.args.library.now g.seats) (sym c.self.view_is) c.requires.seated) h
+    record {
+      objects = ap (λ (g : Contents). g.objects) c.self.view_is;
+      cards = ap (λ (g : Contents). g.cards) c.self.view_is;
+      seated = seated-set c.args.library.now c.self.inside.seats.items c.args.seat
+          (record seat { script = Some c.set_parts.new.self }) k
+          (subst (λ (g : Contents). AreSeated c.args.library.now g.seats) (sym c.self.view_is) c.requires.seated) h;
+    }

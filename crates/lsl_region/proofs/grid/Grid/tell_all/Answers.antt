@@ -14,16 +14,16 @@ use Rattle.lsl_region.proofs.grid.Grid.tell_all.Goals as goal
 
 pub tell_next-at-requires-clause-there : goal.tell_next-at-requires-clause-there
 tell_next-at-requires-clause-there c = λ seat at own.
-    let one = one-there (parts_in_seat c.args.place seat) own in
-    let next = count-next c.args.place c.loop-seat.seat c.loop-seat.self.seats seat seat at in (
+    let one = one-there (parts_in_seat c.args.site.now.place seat) own in
+    let next = count-next c.args.site.now.place c.loop-seat.seat c.loop-seat.self.seats seat seat at in (
       omega (arith, one, next, c.loop-seat.invariant.enough),
       omega (arith, one, next, c.loop-seat.invariant.room),
     )
 
 pub loop-seat-preserved : goal.loop-seat-preserved
 loop-seat-preserved c =
-    let codes = c.args.library.now in
-    let place = c.args.place in
+    let codes = c.args.site.now.library.now in
+    let place = c.args.site.now.place in
     let n = c.loop-seat.seat in
     let seats = c.loop-seat.self.seats in
     let before = c.loop-seat.invariant in
@@ -44,9 +44,9 @@ loop-seat-preserved c =
     let behind = c.tell_next-at.ensures.at seat at in
     record {
       len = ap (λ (z : List Seat). length z) now ∙ length-set seats n told.value ∙ before.len;
-      objects = c.tell_next-at.ensures.objects ∙ before.objects;
-      cards = c.tell_next-at.ensures.cards ∙ before.cards;
-      seated = c.tell_next-at.ensures.seated;
+      objects = c.tell_next-at.ensures.kept.objects ∙ before.objects;
+      cards = c.tell_next-at.ensures.kept.cards ∙ before.cards;
+      seated = c.tell_next-at.ensures.kept.seated;
       events = c.tell_next-at.ensures.events;
       enough = omega (arith, fewer, before.enough, left);
       room = omega (arith, fewer, before.room, few, behind, c.tell_next-at.ensures.len);

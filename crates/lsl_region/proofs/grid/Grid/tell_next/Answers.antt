@@ -9,7 +9,7 @@ use Rattle.lsl_region.specs.declared.grid.Seat.{Seat}
 use Rattle.lsl_region.specs.Crossings.{post_in, region_changed, states_in}
 use Rattle.lsl_region.specs.Grids.{Contents}
 use Rattle.lsl_region.specs.ObjectParts.{parts_in_seat}
-use Rattle.lsl_region.proofs.Coming.{seat-is}
+use Rattle.lsl_region.proofs.Coming.{seat-here}
 use Rattle.lsl_region.proofs.Notices.{post-other, post-own}
 use Rattle.lsl_region.proofs.Reseating.{one-there}
 use Rattle.lsl_region.proofs.Seats.{read-at, set-same}
@@ -17,47 +17,32 @@ use Rattle.lsl_region.proofs.grid.Grid.tell_next.Goals as goal
 
 pub returns-then-not-is_of-clause-seats : goal.returns-then-not-is_of-clause-seats
 returns-then-not-is_of-clause-seats c = λ seat sits.
-    let h : c.args.seat < length c.self.inside.seats.items = search (rules, c.requires.seat) in
-    let at = read-at c.self.inside.seats.items c.args.seat c.index.result.now h c.index.ensures in
-    let inside : Contents = record {
-      objects = c.self.inside.objects.items;
-      seats = c.self.inside.seats.items;
-      cards = c.self.inside.cards;
-    } in
-    let is = seat-is inside c.args.self.now c.args.seat c.index.result.now seat c.self.view_is at sits in
+    let is = seat-here c.args.seat c.index.result.now seat c.self.view_is (search (rules, c.requires.seat))
+    c.index.ensures sits in
+    let site = c.args.site.now in
     sym (ap (λ (t : Told Seat). slice_set c.args.self.now.seats c.args.seat t.value)
-    (post-other c.args.library.now c.args.place region_changed (c.args.seat + 1) seat
-    (ap (λ (z : Seat). is_some (parts_in_seat c.args.place z)) (sym is) ∙ sym c.is_of.ensures ∙ c.if-not-is_of.true))
+    (post-other site.library.now site.place region_changed (c.args.seat + 1) seat
+    (ap (λ (z : Seat). is_some (parts_in_seat site.place z)) (sym is) ∙ sym c.is_of.ensures ∙ c.if-not-is_of.true))
     ∙ set-same c.args.self.now.seats c.args.seat seat sits)
 
 pub returns-then-not-is_of-clause-entries : goal.returns-then-not-is_of-clause-entries
 returns-then-not-is_of-clause-entries c = λ seat sits.
-    let h : c.args.seat < length c.self.inside.seats.items = search (rules, c.requires.seat) in
-    let at = read-at c.self.inside.seats.items c.args.seat c.index.result.now h c.index.ensures in
-    let inside : Contents = record {
-      objects = c.self.inside.objects.items;
-      seats = c.self.inside.seats.items;
-      cards = c.self.inside.cards;
-    } in
-    let is = seat-is inside c.args.self.now c.args.seat c.index.result.now seat c.self.view_is at sits in
+    let is = seat-here c.args.seat c.index.result.now seat c.self.view_is (search (rules, c.requires.seat))
+    c.index.ensures sits in
+    let site = c.args.site.now in
     sym (ap (λ (t : Told Seat). take c.args.at c.args.out.now ++ t.entries)
-    (post-other c.args.library.now c.args.place region_changed (c.args.seat + 1) seat
-    (ap (λ (z : Seat). is_some (parts_in_seat c.args.place z)) (sym is) ∙ sym c.is_of.ensures ∙ c.if-not-is_of.true))
+    (post-other site.library.now site.place region_changed (c.args.seat + 1) seat
+    (ap (λ (z : Seat). is_some (parts_in_seat site.place z)) (sym is) ∙ sym c.is_of.ensures ∙ c.if-not-is_of.true))
     ∙ append-nil (take c.args.at c.args.out.now))
 
 pub returns-then-not-is_of-clause-at : goal.returns-then-not-is_of-clause-at
 returns-then-not-is_of-clause-at c = λ seat sits.
-    let h : c.args.seat < length c.self.inside.seats.items = search (rules, c.requires.seat) in
-    let at = read-at c.self.inside.seats.items c.args.seat c.index.result.now h c.index.ensures in
-    let inside : Contents = record {
-      objects = c.self.inside.objects.items;
-      seats = c.self.inside.seats.items;
-      cards = c.self.inside.cards;
-    } in
-    let is = seat-is inside c.args.self.now c.args.seat c.index.result.now seat c.self.view_is at sits in
+    let is = seat-here c.args.seat c.index.result.now seat c.self.view_is (search (rules, c.requires.seat))
+    c.index.ensures sits in
+    let site = c.args.site.now in
     let none = ap (λ (t : Told Seat). length t.entries)
-    (post-other c.args.library.now c.args.place region_changed (c.args.seat + 1) seat
-    (ap (λ (z : Seat). is_some (parts_in_seat c.args.place z)) (sym is) ∙ sym c.is_of.ensures ∙ c.if-not-is_of.true)) in
+    (post-other site.library.now site.place region_changed (c.args.seat + 1) seat
+    (ap (λ (z : Seat). is_some (parts_in_seat site.place z)) (sym is) ∙ sym c.is_of.ensures ∙ c.if-not-is_of.true)) in
     omega (arith, none)
 
 pub unreachable-requires : goal.unreachable-requires
@@ -79,72 +64,52 @@ tell_one-requires-clause-at c =
 
 pub returns-clause-seats : goal.returns-clause-seats
 returns-clause-seats c = λ seat sits.
-    let h : c.args.seat < length c.self.inside.seats.items = search (rules, c.requires.seat) in
-    let at = read-at c.self.inside.seats.items c.args.seat c.index.result.now h c.index.ensures in
-    let inside : Contents = record {
-      objects = c.self.inside.objects.items;
-      seats = c.self.inside.seats.items;
-      cards = c.self.inside.cards;
-    } in
-    let is = seat-is inside c.args.self.now c.args.seat c.index.result.now seat c.self.view_is at sits in
+    let is = seat-here c.args.seat c.index.result.now seat c.self.view_is (search (rules, c.requires.seat))
+    c.index.ensures sits in
+    let site = c.args.site.now in
     let e = (All-pop (λ (e : Event). e ≡ region_changed) c.args.events.now.items c.pop.new.self.items
     (Some c.in-Some.event) c.in-Some.ensures.items c.requires.events).1 in
     c.tell_one.ensures.seats seat sits
     ∙ ap (λ (e : Event). slice_set c.args.self.now.seats c.args.seat
-    (post_in (states_in c.args.library.now seat.unit) e (c.args.seat + 1) seat seat.script).value) e
+    (post_in (states_in site.library.now seat.unit) e (c.args.seat + 1) seat seat.script).value) e
     ∙ sym (ap (λ (t : Told Seat). slice_set c.args.self.now.seats c.args.seat t.value)
-    (post-own c.args.library.now c.args.place region_changed (c.args.seat + 1) seat
-    (ap (λ (z : Seat). is_some (parts_in_seat c.args.place z)) (sym is) ∙ sym c.is_of.ensures ∙ c.if-not-is_of.false)))
+    (post-own site.library.now site.place region_changed (c.args.seat + 1) seat
+    (ap (λ (z : Seat). is_some (parts_in_seat site.place z)) (sym is) ∙ sym c.is_of.ensures ∙ c.if-not-is_of.false)))
 
 pub returns-clause-entries : goal.returns-clause-entries
 returns-clause-entries c = λ seat sits.
-    let h : c.args.seat < length c.self.inside.seats.items = search (rules, c.requires.seat) in
-    let at = read-at c.self.inside.seats.items c.args.seat c.index.result.now h c.index.ensures in
-    let inside : Contents = record {
-      objects = c.self.inside.objects.items;
-      seats = c.self.inside.seats.items;
-      cards = c.self.inside.cards;
-    } in
-    let is = seat-is inside c.args.self.now c.args.seat c.index.result.now seat c.self.view_is at sits in
+    let is = seat-here c.args.seat c.index.result.now seat c.self.view_is (search (rules, c.requires.seat))
+    c.index.ensures sits in
+    let site = c.args.site.now in
     let e = (All-pop (λ (e : Event). e ≡ region_changed) c.args.events.now.items c.pop.new.self.items
     (Some c.in-Some.event) c.in-Some.ensures.items c.requires.events).1 in
     c.tell_one.ensures.entries seat sits
     ∙ ap (λ (e : Event). take c.args.at c.args.out.now
-    ++ (post_in (states_in c.args.library.now seat.unit) e (c.args.seat + 1) seat seat.script).entries) e
+    ++ (post_in (states_in site.library.now seat.unit) e (c.args.seat + 1) seat seat.script).entries) e
     ∙ sym (ap (λ (t : Told Seat). take c.args.at c.args.out.now ++ t.entries)
-    (post-own c.args.library.now c.args.place region_changed (c.args.seat + 1) seat
-    (ap (λ (z : Seat). is_some (parts_in_seat c.args.place z)) (sym is) ∙ sym c.is_of.ensures ∙ c.if-not-is_of.false)))
+    (post-own site.library.now site.place region_changed (c.args.seat + 1) seat
+    (ap (λ (z : Seat). is_some (parts_in_seat site.place z)) (sym is) ∙ sym c.is_of.ensures ∙ c.if-not-is_of.false)))
 
 pub returns-clause-at : goal.returns-clause-at
 returns-clause-at c = λ seat sits.
-    let h : c.args.seat < length c.self.inside.seats.items = search (rules, c.requires.seat) in
-    let at = read-at c.self.inside.seats.items c.args.seat c.index.result.now h c.index.ensures in
-    let inside : Contents = record {
-      objects = c.self.inside.objects.items;
-      seats = c.self.inside.seats.items;
-      cards = c.self.inside.cards;
-    } in
-    let is = seat-is inside c.args.self.now c.args.seat c.index.result.now seat c.self.view_is at sits in
+    let is = seat-here c.args.seat c.index.result.now seat c.self.view_is (search (rules, c.requires.seat))
+    c.index.ensures sits in
+    let site = c.args.site.now in
     let e = (All-pop (λ (e : Event). e ≡ region_changed) c.args.events.now.items c.pop.new.self.items
     (Some c.in-Some.event) c.in-Some.ensures.items c.requires.events).1 in
     c.tell_one.ensures.at seat sits
     ∙ ap (λ (e : Event). c.args.at
-    + length (post_in (states_in c.args.library.now seat.unit) e (c.args.seat + 1) seat seat.script).entries) e
+    + length (post_in (states_in site.library.now seat.unit) e (c.args.seat + 1) seat seat.script).entries) e
     ∙ sym (ap (λ (t : Told Seat). c.args.at + length t.entries)
-    (post-own c.args.library.now c.args.place region_changed (c.args.seat + 1) seat
-    (ap (λ (z : Seat). is_some (parts_in_seat c.args.place z)) (sym is) ∙ sym c.is_of.ensures ∙ c.if-not-is_of.false)))
+    (post-own site.library.now site.place region_changed (c.args.seat + 1) seat
+    (ap (λ (z : Seat). is_some (parts_in_seat site.place z)) (sym is) ∙ sym c.is_of.ensures ∙ c.if-not-is_of.false)))
 
 pub returns-clause-left : goal.returns-clause-left
 returns-clause-left c = λ seat sits.
-    let h : c.args.seat < length c.self.inside.seats.items = search (rules, c.requires.seat) in
-    let at = read-at c.self.inside.seats.items c.args.seat c.index.result.now h c.index.ensures in
-    let inside : Contents = record {
-      objects = c.self.inside.objects.items;
-      seats = c.self.inside.seats.items;
-      cards = c.self.inside.cards;
-    } in
-    let is = seat-is inside c.args.self.now c.args.seat c.index.result.now seat c.self.view_is at sits in
-    let one = one-there (parts_in_seat c.args.place seat)
-    (ap (λ (z : Seat). is_some (parts_in_seat c.args.place z)) (sym is) ∙ sym c.is_of.ensures ∙ c.if-not-is_of.false) in
+    let is = seat-here c.args.seat c.index.result.now seat c.self.view_is (search (rules, c.requires.seat))
+    c.index.ensures sits in
+    let site = c.args.site.now in
+    let one = one-there (parts_in_seat site.place seat)
+    (ap (λ (z : Seat). is_some (parts_in_seat site.place z)) (sym is) ∙ sym c.is_of.ensures ∙ c.if-not-is_of.false) in
     let popped = ap (λ (es : List Event). length es) c.in-Some.ensures.items in
     omega (arith, one, popped, length_push c.pop.new.self.items c.in-Some.event)

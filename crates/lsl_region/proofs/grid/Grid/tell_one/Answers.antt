@@ -5,7 +5,7 @@ use Rattle.lsl_post.specs.declared.entries.Entry.{Entry}
 use Rattle.lsl_region.specs.declared.grid.Seat.{Seat}
 use Rattle.lsl_region.specs.Crossings.{post_in, states_in}
 use Rattle.lsl_region.specs.Grids.{AreSeated, Contents}
-use Rattle.lsl_region.proofs.Coming.{seat-is}
+use Rattle.lsl_region.proofs.Coming.{seat-here}
 use Rattle.lsl_region.proofs.Notices.{told-entries, told-value}
 use Rattle.lsl_region.proofs.Seats.{placed-set, read-at, seated-set, seated-unit}
 use Rattle.lsl_region.proofs.Told.{row-kept}
@@ -42,16 +42,10 @@ invariant_of-self c =
 
 pub returns-clause-seats : goal.returns-clause-seats
 returns-clause-seats c = λ seat sits.
-    let h : c.args.seat < length c.self.inside.seats.items = search (rules, c.requires.seat) in
     let to = c.index_mut-to.result.now in
-    let at = read-at c.self.inside.seats.items c.args.seat to h c.index_mut-to.ensures.value in
-    let inside : Contents = record {
-      objects = c.self.inside.objects.items;
-      seats = c.self.inside.seats.items;
-      cards = c.self.inside.cards;
-    } in
-    let is = seat-is inside c.args.self.now c.args.seat to seat c.self.view_is at sits in
-    ap (λ (t : Seat). slice_set inside.seats c.args.seat t)
+    let is = seat-here c.args.seat to seat c.self.view_is (search (rules, c.requires.seat)) c.index_mut-to.ensures.value
+    sits in
+    ap (λ (t : Seat). slice_set c.self.inside.seats.items c.args.seat t)
     (told-value c.args.library.now c.args.event c.number.result (c.args.seat + 1) c.post_in_seat-posted.result to seat
     c.unit-unit.result.now c.post_in_seat-posted.new.script c.unit-unit.ensures.unit is
     c.post_in_seat-posted.ensures.script)
@@ -61,15 +55,9 @@ returns-clause-seats c = λ seat sits.
 
 pub returns-clause-entries : goal.returns-clause-entries
 returns-clause-entries c = λ seat sits.
-    let h : c.args.seat < length c.self.inside.seats.items = search (rules, c.requires.seat) in
     let to = c.index_mut-to.result.now in
-    let at = read-at c.self.inside.seats.items c.args.seat to h c.index_mut-to.ensures.value in
-    let inside : Contents = record {
-      objects = c.self.inside.objects.items;
-      seats = c.self.inside.seats.items;
-      cards = c.self.inside.cards;
-    } in
-    let is = seat-is inside c.args.self.now c.args.seat to seat c.self.view_is at sits in
+    let is = seat-here c.args.seat to seat c.self.view_is (search (rules, c.requires.seat)) c.index_mut-to.ensures.value
+    sits in
     c.keep_drop.ensures.entries
     ∙ ap (λ (es : List Entry). take c.args.at c.args.out.now ++ es)
     (told-entries c.args.library.now c.args.event c.number.result (c.args.seat + 1) c.post_in_seat-posted.result to
@@ -78,30 +66,29 @@ returns-clause-entries c = λ seat sits.
 
 pub returns-clause-at : goal.returns-clause-at
 returns-clause-at c = λ seat sits.
-    let h : c.args.seat < length c.self.inside.seats.items = search (rules, c.requires.seat) in
     let to = c.index_mut-to.result.now in
-    let at = read-at c.self.inside.seats.items c.args.seat to h c.index_mut-to.ensures.value in
-    let inside : Contents = record {
-      objects = c.self.inside.objects.items;
-      seats = c.self.inside.seats.items;
-      cards = c.self.inside.cards;
-    } in
-    let is = seat-is inside c.args.self.now c.args.seat to seat c.self.view_is at sits in
+    let is = seat-here c.args.seat to seat c.self.view_is (search (rules, c.requires.seat)) c.index_mut-to.ensures.value
+    sits in
     c.keep_drop.ensures.at
     ∙ ap (λ (es : List Entry). c.args.at + length es)
     (told-entries c.args.library.now c.args.event c.number.result (c.args.seat + 1) c.post_in_seat-posted.result to
     seat c.unit-unit.result.now c.post_in_seat-posted.new.script c.unit-unit.ensures.unit is c.number.ensures
     c.post_in_seat-posted.ensures.posted)
 
-pub returns-clause-seated : goal.returns-clause-seated
-returns-clause-seated c =
+pub returns-clause-kept : goal.returns-clause-kept
+returns-clause-kept c =
     let codes = c.args.library.now in
     let h : c.args.seat < length c.self.inside.seats.items = search (rules, c.requires.seat) in
     let to = c.index_mut-to.result.now in
-    seated-set codes c.self.inside.seats.items c.args.seat (record to { script = c.post_in_seat-posted.new.script })
-    (record {
-      unit = c.unit-unit.result.now;
-      has = sym c.unit-unit.ensures.unit;
-      fits = c.post_in_seat-posted.ensures.fits;
-    })
-    (subst (λ (g : Contents). AreSeated codes g.seats) (sym c.self.view_is) c.requires.seated) h
+    record {
+      objects = ap (λ (g : Contents). g.objects) c.self.view_is;
+      cards = ap (λ (g : Contents). g.cards) c.self.view_is;
+      seated = seated-set codes c.self.inside.seats.items c.args.seat
+          (record to { script = c.post_in_seat-posted.new.script })
+          (record {
+            unit = c.unit-unit.result.now;
+            has = sym c.unit-unit.ensures.unit;
+            fits = c.post_in_seat-posted.ensures.fits;
+          })
+          (subst (λ (g : Contents). AreSeated codes g.seats) (sym c.self.view_is) c.requires.seated) h;
+    }

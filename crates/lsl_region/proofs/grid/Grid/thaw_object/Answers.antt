@@ -12,24 +12,24 @@ pub returns-clause-parts : goal.returns-clause-parts
 returns-clause-parts c =
     let a = c.args in
     ap placed_in (refilled-is a.self.now a.place a.region a.parts c.requires.place c.requires.parts.shape
-    c.reseat.new.self (c.reseat.ensures.objects
+    c.reseat.new.self (c.reseat.ensures.kept.objects
     ∙ furnished-with a.self.now a.place a.parts a.region c.in_ok-store.store c.furnish.new.self.objects
     c.in_ok-store.ensures c.furnish.ensures.objects)
     (c.reseat.ensures.seats
     ∙ ap (λ (z : List Seat). reseated a.place a.parts.scripts z) c.furnish.ensures.seats)
-    (c.reseat.ensures.cards ∙ c.furnish.ensures.cards))
+    (c.reseat.ensures.kept.cards ∙ c.furnish.ensures.cards))
     ∙ refilled-parts a.self.now a.place a.region a.parts c.requires.place c.requires.parts.shape
 
 pub returns-clause-fixed : goal.returns-clause-fixed
 returns-clause-fixed c =
     let a = c.args in
     ap fixed_of (refilled-is a.self.now a.place a.region a.parts c.requires.place c.requires.parts.shape
-    c.reseat.new.self (c.reseat.ensures.objects
+    c.reseat.new.self (c.reseat.ensures.kept.objects
     ∙ furnished-with a.self.now a.place a.parts a.region c.in_ok-store.store c.furnish.new.self.objects
     c.in_ok-store.ensures c.furnish.ensures.objects)
     (c.reseat.ensures.seats
     ∙ ap (λ (z : List Seat). reseated a.place a.parts.scripts z) c.furnish.ensures.seats)
-    (c.reseat.ensures.cards ∙ c.furnish.ensures.cards))
+    (c.reseat.ensures.kept.cards ∙ c.furnish.ensures.cards))
     ∙ refilled-fixed a.self.now a.place a.region a.parts c.requires.place c.requires.parts.shape
 
 pub returns-clause-home : goal.returns-clause-home

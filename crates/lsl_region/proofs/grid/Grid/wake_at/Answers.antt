@@ -5,7 +5,7 @@ use Rattle.lsl_region.specs.declared.grid.Seat.{Seat}
 use Rattle.lsl_region.specs.Grids.{Contents, outline_of}
 use Rattle.lsl_region.specs.Hearing.{HasRow}
 use Rattle.lsl_region.specs.Turning.{with_seated}
-use Rattle.lsl_region.proofs.Coming.{ready-there, seat-is}
+use Rattle.lsl_region.proofs.Coming.{ready-there, seat-here}
 use Rattle.lsl_region.proofs.Told.{row-kept}
 use Rattle.lsl_region.proofs.Outlines.{outline-seated}
 use Rattle.lsl_region.proofs.Seats.{placed-set, read-at}
@@ -35,33 +35,23 @@ invariant_of-self c =
 
 pub returns-clause-seats : goal.returns-clause-seats
 returns-clause-seats c = λ seat sits.
-    let h : c.args.place < length c.self.inside.seats.items = search (rules, c.requires.place) in
-    let at = read-at c.self.inside.seats.items c.args.place c.index_mut-seat.result.now h c.index_mut-seat.ensures.value
-    in
+    let x = c.index_mut-seat.result.now in
+    let is = seat-here c.args.place x seat c.self.view_is (search (rules, c.requires.place))
+    c.index_mut-seat.ensures.value sits in
     let inside : Contents = record {
       objects = c.self.inside.objects.items;
       seats = c.self.inside.seats.items;
       cards = c.self.inside.cards;
     } in
-    ap (λ (script : Option ScriptParts). with_seated inside c.args.place c.index_mut-seat.result.now script)
-    c.wake_into.ensures.gone
-    ∙ ap (λ (x : Seat). with_seated inside c.args.place x None) (seat-is inside c.args.self.now c.args.place
-    c.index_mut-seat.result.now seat c.self.view_is at sits)
+    ap (λ (script : Option ScriptParts). with_seated inside c.args.place x script) c.wake_into.ensures.gone
+    ∙ ap (λ (z : Seat). with_seated inside c.args.place z None) is
     ∙ ap (λ (g : Contents). with_seated g c.args.place seat None) c.self.view_is
 
 pub returns-clause-source : goal.returns-clause-source
-returns-clause-source c = λ seat codes s sits has is lawful.
-    let h : c.args.place < length c.self.inside.seats.items = search (rules, c.requires.place) in
-    let at = read-at c.self.inside.seats.items c.args.place c.index_mut-seat.result.now h c.index_mut-seat.ensures.value
-    in
-    let inside : Contents = record {
-      objects = c.self.inside.objects.items;
-      seats = c.self.inside.seats.items;
-      cards = c.self.inside.cards;
-    } in
-    c.wake_into.ensures.source codes s has
-    (ap (λ (z : Seat). z.script) (seat-is inside c.args.self.now c.args.place c.index_mut-seat.result.now seat
-    c.self.view_is at sits) ∙ is) lawful
+returns-clause-source c = λ seat codes s sits has script lawful.
+    let is = seat-here c.args.place c.index_mut-seat.result.now seat c.self.view_is (search (rules, c.requires.place))
+    c.index_mut-seat.ensures.value sits in
+    c.wake_into.ensures.source codes s has (ap (λ (z : Seat). z.script) is ∙ script) lawful
 
 pub returns-clause-outline : goal.returns-clause-outline
 returns-clause-outline c =
