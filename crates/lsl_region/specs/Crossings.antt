@@ -1,5 +1,5 @@
 -- An object crosses to another region: its image is handed to a link, and it goes on as what comes back stands for.
-use Rattle.std.specs.Prelude.{◌≡◌, ◌≢◌, ℕ, ◌+◌, pos, nat_eq, if◌then◌else◌, List, [], ◌∷◌, ◌++◌, length, map, OnOk, Option, Some, None, slice_get, take}
+use Rattle.std.specs.Prelude.{◌≡◌, ◌≢◌, ℕ, ◌+◌, pos, nat_eq, if◌then◌else◌, List, [], ◌∷◌, ◌++◌, length, map, OnOk, Option, Some, None, slice_get, slice_set, take}
 use Rattle.std.specs.declared.result.Result.{Result}
 use Rattle.std.specs.Str.{bytes_eq}
 use Rattle.lsl_code.specs.declared.functions.StateCode.{StateCode}
@@ -92,6 +92,13 @@ told_all_at s seats = post_in_seats s.library.now s.place region_changed 1 seats
 
 abbrev pub arrived_at : Site → Contents → List ℕ → ObjectParts → Told Contents
 arrived_at s grid region parts = arrived s.library.now grid s.place region parts
+
+-- this was done to a seat, and its entries came from this place on, up to the next one
+pub record IsPosted (done : Told Seat) (seat : ℕ) (old new : Contents) (at next : ℕ) (before after : List Entry)
+    : Type 0 where
+  pub seats : new.seats ≡ slice_set old.seats seat done.value
+  pub entries : take next after ≡ take at before ++ done.entries
+  pub next : next ≡ at + length done.entries
 
 -- the objects and notecards are as they were, and all scripts are of their units
 pub record KeepsOthers (codes : List Code) (old new : Contents) : Type 0 where

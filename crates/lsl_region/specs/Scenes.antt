@@ -17,6 +17,7 @@ use Rattle.lsl_script.specs.Scripts.{Flight}
 use Rattle.lsl_region.specs.Answers.{Answered}
 use Rattle.lsl_region.specs.declared.scene.Scene.{Scene}
 use Rattle.lsl_region.specs.Grids.{AreSeated, Contents, Lent, Stands, outline_of}
+use Rattle.lsl_region.specs.Segments.{segment, turn}
 use Rattle.lsl_region.specs.TurnEnds.{CameTo, IsBehind}
 use Rattle.lsl_region.specs.Turning.{Begins, InTurn, IsAmid, IsUnitAt, Paused}
 use Rattle.lsl_region.specs.Worlds.{Member, World}
@@ -83,6 +84,20 @@ abbrev pub DoesAtHome : {A E : Type 0} → List Code → Result A E → Contents
 DoesAtHome codes result old new done =
     (m : Meant codes) (clock : ℕ) (w : World) → Stands codes None clock old.0 w
     → Tells result (λ v _. Stands codes None clock new.0 v) old.1 new.1 (done m.rules w)
+
+-- a turn of at most so many segments, from a grid out of which no script is to what it comes to
+abbrev pub RunsFor : {E : Type 0} → ℕ → Scene → Result ℕ E → Contents × List Entry
+    → Contents × Option Live × List Entry → Type 0
+RunsFor ticks s result old new =
+    (m : Meant s.library.now) (w : World) → IsHome s old.0 w
+    → Tells result (ComesTo s new.0 new.1) old.1 new.2 (turn m.rules ticks s.place w)
+
+-- a segment, from each world of which this holds
+abbrev pub PassesSegment : {A E : Type 0} → Scene → Result A E → (World → Type 0) → List Entry
+    → Contents × Option Live × List Entry → Type 0
+PassesSegment s result From old new =
+    (m : Meant s.library.now) (w : World) → From w
+    → Tells result (λ v _. IsBehindSegment s new.0 new.1 v) old new.2 (segment m.rules s.place w)
 
 -- a grid, the script that is out of it, and the entries
 abbrev pub Moment : Type 0

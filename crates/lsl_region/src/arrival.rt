@@ -7,7 +7,7 @@ ghost use Rattle.lsl_post.specs.Mailbox.{with_posted};
 ghost use Rattle.lsl_image.specs.Valid.{HasUnit as IsOfUnit, IsStore, unit_number};
 ghost use Rattle.lsl_script.specs.Fitting.{is_exit};
 ghost use Rattle.lsl_script.specs.Scripts.{entries_of_posting};
-ghost use Rattle.lsl_region.specs.Crossings.{CanArrive, KeepsCounts, KeepsOthers, arrived_at, post_in, posted_in, region_changed, states_in, told_all_at, told_at};
+ghost use Rattle.lsl_region.specs.Crossings.{CanArrive, IsPosted, KeepsCounts, KeepsOthers, arrived_at, post_in, posted_in, region_changed, states_in, told_all_at, told_at};
 ghost use Rattle.lsl_region.specs.Grids.{AreSeated, FitsSeat, IsSeated};
 ghost use Rattle.lsl_region.specs.Hearing.{HasRow};
 ghost use Rattle.lsl_region.specs.ObjectParts.{behind_first, named, object_in_grid, parts_in_seat, reseated, with_first};
@@ -289,12 +289,8 @@ impl Grid {
         requires there { (s : Place) → slice_get self.old.seats seat ≡ Some s →
             is_some (parts_in_seat site.now.place s) ≡ true →
             (0 < length events.old.items) × (at < length out.old) }
-        ensures seats { (s : Place) → slice_get self.old.seats seat ≡ Some s →
-            self.new.seats ≡ slice_set self.old.seats seat (told_at site.now seat s).value }
-        ensures entries { (s : Place) → slice_get self.old.seats seat ≡ Some s →
-            take result out.new ≡ take at out.old ++ (told_at site.now seat s).entries }
-        ensures at { (s : Place) → slice_get self.old.seats seat ≡ Some s →
-            result ≡ at + length (told_at site.now seat s).entries }
+        ensures told { (s : Place) → slice_get self.old.seats seat ≡ Some s →
+            IsPosted (told_at site.now seat s) seat self.old self.new at result out.old out.new }
         ensures len { length out.new ≡ length out.old }
         ensures events { All (λ e. e ≡ region_changed) events.new.items }
         ensures left { (s : Place) → slice_get self.old.seats seat ≡ Some s →
@@ -324,13 +320,9 @@ impl Grid {
         requires seated { AreSeated library.now self.old.seats }
         requires other { is_exit event ≡ false }
         requires at { at < length out.old }
-        ensures seats { (s : Place) → slice_get self.old.seats seat ≡ Some s →
-            self.new.seats ≡ slice_set self.old.seats seat
-            (post_in (states_in library.now s.unit) event (seat + 1) s s.script).value }
-        ensures entries { (s : Place) → slice_get self.old.seats seat ≡ Some s → take result out.new ≡
-            take at out.old ++ (post_in (states_in library.now s.unit) event (seat + 1) s s.script).entries }
-        ensures at { (s : Place) → slice_get self.old.seats seat ≡ Some s →
-            result ≡ at + length (post_in (states_in library.now s.unit) event (seat + 1) s s.script).entries }
+        ensures told { (s : Place) → slice_get self.old.seats seat ≡ Some s →
+            IsPosted (post_in (states_in library.now s.unit) event (seat + 1) s s.script) seat self.old self.new
+            at result out.old out.new }
         ensures len { length out.new ≡ length out.old }
         ensures kept { KeepsOthers library.now self.old self.new }
     {

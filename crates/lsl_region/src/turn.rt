@@ -9,7 +9,7 @@ ghost use Rattle.lsl_script.specs.Codes.{Meant};
 ghost use Rattle.lsl_region.specs.Grids.{AreSeated, Stands, outline_of, Contents};
 ghost use Rattle.lsl_region.specs.PausedTurns.{counted_turn, paused_for, counted_segment, goes_on_at};
 ghost use Rattle.lsl_region.specs.Pausing.{Counts, Tally, with_save};
-ghost use Rattle.lsl_region.specs.Scenes.{ComesTo, IsBehindSegment, IsHome, IsInTurn, IsSet, IsWithinSegment, KeepsSet};
+ghost use Rattle.lsl_region.specs.Scenes.{IsHome, IsInTurn, IsSet, IsWithinSegment, KeepsSet, PassesSegment, RunsFor};
 ghost use Rattle.lsl_region.specs.Segments.{is_ready_at, segment, turn};
 ghost use Rattle.lsl_region.specs.Turning.{IsAble, IsHeld, IsReadyInTurn, PassesAwake};
 ghost use Rattle.lsl_region.specs.Worlds.{World};
@@ -99,9 +99,7 @@ impl Grid {
     ) -> Result<u32, NoMemory>
         requires set { IsSet scene.now self.old }
         requires none { live.old ≡ None }
-        ensures does { (m : Meant scene.now.library.now) (w : World) → IsHome scene.now self.old w →
-            Tells result (ComesTo scene.now self.new live.new) out.old out.new
-            (turn m.rules ticks scene.now.place w) }
+        ensures does { RunsFor ticks scene.now result (self.old, out.old) (self.new, live.new, out.new) }
         ensures counted { (m : Meant scene.now.library.now) (w : World) (t : Tally) → IsHome scene.now self.old w →
             Counts pause.old t →
             OnOk result (Counts pause.new
@@ -128,9 +126,7 @@ impl Grid {
     ) -> Result<u32, NoMemory>
         requires set { IsSet scene.now self.old }
         requires none { live.old ≡ None }
-        ensures does { (m : Meant scene.now.library.now) (w : World) → IsHome scene.now self.old w →
-            Tells result (ComesTo scene.now self.new live.new) out.old out.new
-            (turn m.rules ticks scene.now.place w) }
+        ensures does { RunsFor ticks scene.now result (self.old, out.old) (self.new, live.new, out.new) }
         ensures within { IfOk result (λ n. n ≤ ticks) }
         ensures grid { KeepsSet scene.now result self.old self.new }
         ensures held { OnOk result (IsHeld scene.now.unit.now live.new) }
@@ -174,10 +170,8 @@ impl Grid {
         requires set { IsSet scene.now self.old }
         requires held { IsHeld scene.now.unit.now live.old }
         requires ready { IsReadyInTurn scene.now.clock self.old.seats scene.now.place live.old }
-        ensures does { (m : Meant scene.now.library.now) (w : World) →
-            IsInTurn scene.now self.old live.old w →
-            Tells result (λ v _. IsBehindSegment scene.now self.new live.new v) out.old out.new
-            (segment m.rules scene.now.place w) }
+        ensures does { PassesSegment scene.now result (IsInTurn scene.now self.old live.old) out.old
+            (self.new, live.new, out.new) }
         ensures grid { KeepsSet scene.now result self.old self.new }
         ensures held { OnOk result (IsHeld scene.now.unit.now live.new) }
     {
@@ -198,10 +192,8 @@ impl Grid {
         requires set { IsSet scene.now self.old }
         requires able { IsAble scene.now.unit.now live.old }
         requires ready { IsReadyInTurn scene.now.clock self.old.seats scene.now.place live.old }
-        ensures does { (m : Meant scene.now.library.now) (w : World) →
-            IsWithinSegment scene.now self.old live.old w →
-            Tells result (λ v _. IsBehindSegment scene.now self.new live.new v) out.old out.new
-            (segment m.rules scene.now.place w) }
+        ensures does { PassesSegment scene.now result (IsWithinSegment scene.now self.old live.old) out.old
+            (self.new, live.new, out.new) }
         ensures grid { KeepsSet scene.now result self.old self.new }
         ensures held { OnOk result (IsHeld scene.now.unit.now live.new) }
     {
@@ -224,9 +216,8 @@ impl Grid {
     ) -> Result<(), NoMemory>
         requires set { IsSet scene.now self.old }
         requires ready { IsReadyInTurn scene.now.clock self.old.seats scene.now.place None }
-        ensures does { (m : Meant scene.now.library.now) (w : World) → IsHome scene.now self.old w →
-            Tells result (λ v _. IsBehindSegment scene.now self.new live.new v) out.old out.new
-            (segment m.rules scene.now.place w) }
+        ensures does { PassesSegment scene.now result (IsHome scene.now self.old) out.old
+            (self.new, live.new, out.new) }
         ensures grid { KeepsSet scene.now result self.old self.new }
         ensures held { OnOk result (IsHeld scene.now.unit.now live.new) }
     {
@@ -276,9 +267,7 @@ impl Grid {
     ) -> Result<u32, NoMemory>
         requires set { IsSet scene.now self.old }
         requires none { live.old ≡ None }
-        ensures does { (m : Meant scene.now.library.now) (w : World) → IsHome scene.now self.old w →
-            Tells result (ComesTo scene.now self.new live.new) out.old out.new
-            (turn m.rules ticks scene.now.place w) }
+        ensures does { RunsFor ticks scene.now result (self.old, out.old) (self.new, live.new, out.new) }
         ensures counted { (m : Meant scene.now.library.now) (w : World) (t : Tally) → IsHome scene.now self.old w →
             Counts pause.old t →
             OnOk result (Counts pause.new
@@ -308,10 +297,8 @@ impl Grid {
         requires set { IsSet scene.now self.old }
         requires held { IsHeld scene.now.unit.now live.old }
         requires ready { IsReadyInTurn scene.now.clock self.old.seats scene.now.place live.old }
-        ensures does { (m : Meant scene.now.library.now) (w : World) →
-            IsInTurn scene.now self.old live.old w →
-            Tells result (λ v _. IsBehindSegment scene.now self.new live.new v) out.old out.new
-            (segment m.rules scene.now.place w) }
+        ensures does { PassesSegment scene.now result (IsInTurn scene.now self.old live.old) out.old
+            (self.new, live.new, out.new) }
         ensures counted { (m : Meant scene.now.library.now) (w : World) (t : Tally) →
             IsInTurn scene.now self.old live.old w → Counts pause.old t →
             OnOk result (Counts pause.new

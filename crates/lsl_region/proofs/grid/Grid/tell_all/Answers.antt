@@ -32,7 +32,8 @@ loop-seat-preserved c =
     let at = slice_get-get_or seats n no_seat h in
     let told = post_in_seat codes place region_changed (n + 1) seat in
     let new = c.tell_next-at.new.self.seats in
-    let now = c.tell_next-at.ensures.seats seat at in
+    let posted = c.tell_next-at.ensures.told seat at in
+    let now = posted.seats in
     let is = posts-next codes place region_changed n seats new seat at now in
     let fewer : count_from place n seats
     ≡ length (option_to_list (parts_in_seat place seat)) + count_from place (n + 1) new
@@ -41,7 +42,7 @@ loop-seat-preserved c =
     in
     let few = one-entry codes place region_changed (n + 1) seat in
     let left = c.tell_next-at.ensures.left seat at in
-    let behind = c.tell_next-at.ensures.at seat at in
+    let behind = posted.next in
     record {
       len = ap (λ (z : List Seat). length z) now ∙ length-set seats n told.value ∙ before.len;
       objects = c.tell_next-at.ensures.kept.objects ∙ before.objects;
@@ -52,7 +53,7 @@ loop-seat-preserved c =
       room = omega (arith, fewer, before.room, few, behind, c.tell_next-at.ensures.len);
       value = sym (ap (λ (t : Told (List Seat)). t.value) is) ∙ before.value;
       entries = ap (λ (z : List Entry). z ++ (posts_from codes place region_changed (n + 1) new).entries)
-          (c.tell_next-at.ensures.entries seat at)
+          posted.entries
           ∙ append_assoc (take c.loop-seat.at c.loop-seat.out) told.entries
           (posts_from codes place region_changed (n + 1) new).entries
           ∙ sym (ap (λ (t : Told (List Seat)). take c.loop-seat.at c.loop-seat.out ++ t.entries) is)

@@ -40,40 +40,26 @@ invariant_of-self c =
           (c.post_in_seat-posted.ensures.row _ (c.self.invariant.1.each c.args.seat to at)) c.self.invariant.1,
     )
 
-pub returns-clause-seats : goal.returns-clause-seats
-returns-clause-seats c = λ seat sits.
+pub returns-clause-told : goal.returns-clause-told
+returns-clause-told c = λ seat sits.
+    let codes = c.args.library.now in
+    let number = c.args.seat + 1 in
     let to = c.index_mut-to.result.now in
+    let posted = c.post_in_seat-posted in
     let is = seat-here c.args.seat to seat c.self.view_is (search (rules, c.requires.seat)) c.index_mut-to.ensures.value
     sits in
-    ap (λ (t : Seat). slice_set c.self.inside.seats.items c.args.seat t)
-    (told-value c.args.library.now c.args.event c.number.result (c.args.seat + 1) c.post_in_seat-posted.result to seat
-    c.unit-unit.result.now c.post_in_seat-posted.new.script c.unit-unit.ensures.unit is
-    c.post_in_seat-posted.ensures.script)
-    ∙ ap (λ (g : Contents). slice_set g.seats c.args.seat
-    (post_in (states_in c.args.library.now seat.unit) c.args.event (c.args.seat + 1) seat seat.script).value)
-    c.self.view_is
-
-pub returns-clause-entries : goal.returns-clause-entries
-returns-clause-entries c = λ seat sits.
-    let to = c.index_mut-to.result.now in
-    let is = seat-here c.args.seat to seat c.self.view_is (search (rules, c.requires.seat)) c.index_mut-to.ensures.value
-    sits in
-    c.keep_drop.ensures.entries
-    ∙ ap (λ (es : List Entry). take c.args.at c.args.out.now ++ es)
-    (told-entries c.args.library.now c.args.event c.number.result (c.args.seat + 1) c.post_in_seat-posted.result to
-    seat c.unit-unit.result.now c.post_in_seat-posted.new.script c.unit-unit.ensures.unit is c.number.ensures
-    c.post_in_seat-posted.ensures.posted)
-
-pub returns-clause-at : goal.returns-clause-at
-returns-clause-at c = λ seat sits.
-    let to = c.index_mut-to.result.now in
-    let is = seat-here c.args.seat to seat c.self.view_is (search (rules, c.requires.seat)) c.index_mut-to.ensures.value
-    sits in
-    c.keep_drop.ensures.at
-    ∙ ap (λ (es : List Entry). c.args.at + length es)
-    (told-entries c.args.library.now c.args.event c.number.result (c.args.seat + 1) c.post_in_seat-posted.result to
-    seat c.unit-unit.result.now c.post_in_seat-posted.new.script c.unit-unit.ensures.unit is c.number.ensures
-    c.post_in_seat-posted.ensures.posted)
+    let entries = told-entries codes c.args.event c.number.result number posted.result to seat c.unit-unit.result.now
+    posted.new.script c.unit-unit.ensures.unit is c.number.ensures posted.ensures.posted in
+    record {
+      seats = ap (λ (t : Seat). slice_set c.self.inside.seats.items c.args.seat t)
+          (told-value codes c.args.event c.number.result number posted.result to seat c.unit-unit.result.now
+          posted.new.script c.unit-unit.ensures.unit is posted.ensures.script)
+          ∙ ap (λ (g : Contents). slice_set g.seats c.args.seat
+          (post_in (states_in codes seat.unit) c.args.event number seat seat.script).value) c.self.view_is;
+      entries = c.keep_drop.ensures.entries
+          ∙ ap (λ (es : List Entry). take c.args.at c.args.out.now ++ es) entries;
+      next = c.keep_drop.ensures.at ∙ ap (λ (es : List Entry). c.args.at + length es) entries;
+    }
 
 pub returns-clause-kept : goal.returns-clause-kept
 returns-clause-kept c =
