@@ -1,4 +1,6 @@
-use Rattle.std.proofs.Common.{◌∙◌, List, ap}
+use Rattle.std.proofs.Common.{◌∙◌, List, ap, length}
+use Rattle.std.specs.Prelude.{map}
+use Rattle.lsl_region.specs.declared.objects.Linkset.{Linkset}
 use Rattle.lsl_region.specs.declared.grid.Seat.{Seat}
 use Rattle.lsl_region.specs.Crossings.{post_in_seats, region_changed}
 use Rattle.lsl_region.specs.ObjectParts.{reseated}
@@ -18,3 +20,11 @@ returns-clause-grid c =
     (c.reseat.ensures.seats
     ∙ ap (λ (z : List Seat). reseated site.place c.args.parts.scripts z) c.furnish.ensures.seats))
     (c.tell_all.ensures.kept.cards ∙ c.reseat.ensures.kept.cards ∙ c.furnish.ensures.cards)
+
+pub returns-clause-kept : goal.returns-clause-kept
+returns-clause-kept c = record {
+  seated = c.tell_all.ensures.kept.seated;
+  objects = ap (λ (os : List Linkset). map (λ (o : Linkset). length o.prims) os)
+      (c.tell_all.ensures.kept.objects ∙ c.reseat.ensures.kept.objects) ∙ c.furnish.ensures.prims;
+  scripts = c.tell_all.ensures.len ∙ c.reseat.ensures.len ∙ ap (λ (z : List Seat). length z) c.furnish.ensures.seats;
+}

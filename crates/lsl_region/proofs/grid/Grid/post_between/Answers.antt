@@ -1,9 +1,9 @@
 use Rattle.std.proofs.Common.{◌≡◌, ◌+◌, ◌++◌, arith, refl, subst, ◌∙◌}
-use Rattle.std.proofs.lemmas.Result.{MatchResult-from_err}
+use Rattle.std.proofs.lemmas.Result.{IfOk-from_err, MatchResult-from_err}
 use Rattle.lsl_post.specs.Journal.{Part}
 use Rattle.lsl_post.specs.Told.{Told}
 use Rattle.lsl_post.proofs.Amid.{walk-ok, walk-err, walk-end}
-use Rattle.lsl_region.specs.Grids.{Stands}
+use Rattle.lsl_region.specs.Grids.{AreSeated, Stands}
 use Rattle.lsl_region.specs.Posting.{admits}
 use Rattle.lsl_region.specs.Worlds.{World}
 use Rattle.lsl_region.proofs.Outlines.{outline-scripts}
@@ -40,6 +40,13 @@ returns-in_err-post_at-clause-does c = λ m away clock w st home.
     c.args.notice.now.event.now c.loop-place.place) (c.in_err-post_at.ensures.does away clock v k
     (home c.loop-place.place c.loop-place.invariant.from c.loop-place-test.true))))
 
+pub returns-in_err-post_at-clause-grid : goal.returns-in_err-post_at-clause-grid
+returns-in_err-post_at-clause-grid c = record {
+  seated = IfOk-from_err c.from_residual.result (λ _. AreSeated c.args.library.now c.post_at.new.self.seats)
+      c.from_residual.ensures.0;
+  outline = c.in_err-post_at.ensures.grid.outline ∙ c.loop-place.invariant.outline;
+}
+
 pub loop-place-preserved : goal.loop-place-preserved
 loop-place-preserved c =
     let inv = c.loop-place.invariant in
@@ -47,7 +54,7 @@ loop-place-preserved c =
     record {
       from = omega (arith, inv.from, next.ensures.onward);
       within = next.ensures.within;
-      same = outline-scripts _ _ c.in_ok-post_at.ensures.grid.outline ∙ inv.same;
+      same = outline-scripts c.loop-place.self c.post_at.new.self c.in_ok-post_at.ensures.grid.outline ∙ inv.same;
       outline = c.in_ok-post_at.ensures.grid.outline ∙ inv.outline;
       objects = c.in_ok-post_at.ensures.objects ∙ inv.objects;
       seated = c.in_ok-post_at.ensures.grid.seated;
