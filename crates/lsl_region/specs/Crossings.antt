@@ -93,12 +93,12 @@ told_all_at s seats = post_in_seats s.library.now s.place region_changed 1 seats
 abbrev pub arrived_at : Site → Contents → List ℕ → ObjectParts → Told Contents
 arrived_at s grid region parts = arrived s.library.now grid s.place region parts
 
--- this was done to a seat, and its entries came from this place on, up to the next one
-pub record IsPosted (done : Told Seat) (seat : ℕ) (old new : Contents) (at next : ℕ) (before after : List Entry)
+-- this was done to a seat, and its entries came from one place up to another
+pub record IsPosted (done : Told Seat) (seat : ℕ) (old new : Contents) (first end : ℕ) (before after : List Entry)
     : Type 0 where
   pub seats : new.seats ≡ slice_set old.seats seat done.value
-  pub entries : take next after ≡ take at before ++ done.entries
-  pub next : next ≡ at + length done.entries
+  pub entries : take end after ≡ take first before ++ done.entries
+  pub next : end ≡ first + length done.entries
 
 -- the objects and notecards are as they were, and all scripts are of their units
 pub record KeepsOthers (codes : List Code) (old new : Contents) : Type 0 where

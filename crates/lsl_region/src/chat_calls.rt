@@ -15,7 +15,7 @@ ghost use Rattle.lsl_region.specs.Answers.{answer_of, integer_at, is_message_to,
 ghost use Rattle.lsl_region.specs.Grids.{Lent, linked_to, object_in, outline_of, prim_in, renamed_grid};
 ghost use Rattle.lsl_region.specs.Links.{link_of};
 ghost use Rattle.lsl_region.specs.Posting.{post_all, said_to_all};
-ghost use Rattle.lsl_region.specs.Scenes.{Does, IsAwakeIn, KeepsAwake, KeepsSet, Replies};
+ghost use Rattle.lsl_region.specs.Scenes.{Does, IsAwakeIn, IsSet, KeepsAwake, KeepsSet, Replies};
 ghost use Rattle.lsl_region.specs.Texts.{cut_name, cut_speech};
 ghost use Rattle.lsl_region.specs.Worlds.{World};
 ghost use Rattle.lsl_region.specs.declared.grid.Seat.{Seat as Place};
@@ -52,23 +52,24 @@ impl Grid {
         })
     }
 
-    // The line of a text that the script at this place says, and what is heard of it.
+    // The line of a text that the script says, and what is heard of it.
     fn say_line(
         &self,
-        place: usize,
+        scene: &Scene,
         voice: Voice,
         channel: i32,
         text: Text,
         out: &mut Entries,
     ) -> Result<Filter, NoMemory>
-        requires { place < length self.now.seats }
-        ensures line { Adds result out.old out.new (entries.Chat (place + 1) voice channel text ∷ []) }
-        ensures said { (seat : Place) → slice_get self.now.seats place ≡ Some seat →
+        requires { IsSet scene.now self.now }
+        ensures line { Adds result out.old out.new
+            (entries.Chat (scene.now.place + 1) voice channel text ∷ []) }
+        ensures said { (seat : Place) → slice_get self.now.seats scene.now.place ≡ Some seat →
             IfOk result (λ said. said ≡ filter channel (prim_in self.now.objects seat).name
             (prim_in self.now.objects seat).key text) }
     {
-        let said = self.heard_of(place, channel, &text)?;
-        out.push(Entry::Chat(number(place), voice, channel, text))?;
+        let said = self.heard_of(scene.place, channel, &text)?;
+        out.push(Entry::Chat(number(scene.place), voice, channel, text))?;
         Ok(said)
     }
 
@@ -113,7 +114,7 @@ impl Grid {
         ensures live { KeepsAwake scene.now live.old live.new }
     {
         let text = spoken(self.alloc, args, 1)?;
-        let said = self.say_line(scene.place, voice, integer_at(args, 0), text, out)?;
+        let said = self.say_line(scene, voice, integer_at(args, 0), text, out)?;
         self.tell_hearers(scene, live, said, out)?;
         Ok(Reply::Value(None))
     }

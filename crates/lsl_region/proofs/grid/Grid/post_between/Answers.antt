@@ -40,6 +40,11 @@ returns-in_err-post_at-clause-does c = λ m away clock w st home.
     c.args.notice.now.event.now c.loop-place.place) (c.in_err-post_at.ensures.does away clock v k
     (home c.loop-place.place c.loop-place.invariant.from c.loop-place-test.true))))
 
+pub next_of-place-requires-in-loop-place-clause-within : goal.next_of-place-requires-in-loop-place-clause-within
+next_of-place-requires-in-loop-place-clause-within c =
+    let len = outline-scripts c.loop-place.self c.post_at.new.self c.in_ok-post_at.ensures.grid.outline in
+    omega (arith, c.requires.within, c.loop-place.invariant.same, len)
+
 pub returns-in_err-post_at-clause-grid : goal.returns-in_err-post_at-clause-grid
 returns-in_err-post_at-clause-grid c = record {
   seated = IfOk-from_err c.from_residual.result (λ _. AreSeated c.args.library.now c.post_at.new.self.seats)

@@ -13,7 +13,7 @@ use Rattle.lsl_region.proofs.grid.Grid.say_line.Goals as goal
 pub returns-in_err-push-clause-line : goal.returns-in_err-push-clause-line
 returns-in_err-push-clause-line c =
     MatchResult-from_err c.from_residual-in_err-push.result _ _ c.from_residual-in_err-push.ensures.0
-    (λ y. subst (λ (z : List Entry). Part c.args.out.now z (Chat (c.args.place + 1) c.args.voice c.args.channel
+    (λ y. subst (λ (z : List Entry). Part c.args.out.now z (Chat (c.args.scene.now.place + 1) c.args.voice c.args.channel
     c.args.text ∷ [])) (sym c.in_err-push.ensures.unchanged)
     (part-none c.args.out.now _))
 
@@ -22,7 +22,7 @@ returns-clause-line c =
     let same : cast_signed w32 (cast_unsigned w32 c.args.channel) ≡ c.args.channel =
     to_z-of_z w32 c.args.channel (search rules) in
     let chat : Chat c.number.result c.args.voice (cast_signed w32 (cast_unsigned w32 c.args.channel)) c.args.text
-    ≡ Chat (c.args.place + 1) c.args.voice c.args.channel c.args.text
+    ≡ Chat (c.args.scene.now.place + 1) c.args.voice c.args.channel c.args.text
     = λ i. Chat (c.number.ensures i) c.args.voice (same i) c.args.text in
     c.in_ok-push.ensures.ok ∙ ap (λ (e : Entry). c.args.out.now ++ e ∷ []) chat
 
