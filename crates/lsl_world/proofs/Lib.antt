@@ -46,3 +46,4 @@ pub mod Reaching
 pub mod Parted
 pub mod Rows
 pub mod Leaving
+pub mod RegionTable

@@ -18,5 +18,6 @@ pub mod Stands
 pub mod Stages
 pub mod Parts
 pub mod Seats
+pub mod RegionTable
 pub mod Frozen
 pub mod Laws

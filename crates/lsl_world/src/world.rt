@@ -187,7 +187,7 @@ fn begin(
     add_objects(alloc, grid, file.objects.as_slice(), units)?;
     grid.hold(cards);
     note_timers(grid, due)?;
-    regions.add_file(file)
+    regions.add_file(alloc, file)
 }
 
 // The cards of objects that are at home where they are.
