@@ -33,7 +33,7 @@ module _ (world : World) (regions : List (List ℕ)) (cards : Option (List (List
   pub sound-as : IsSound world → IsSound (with_cards world regions cards)
   sound-as is = record { seated = is.seated; timely = is.timely; numbered = is.numbered }
 
-tells-as : {T E X : Type 0} (r : Result T E) (First Second : X → Type 0) (old new : List Entry) (a : Told X)
+pub tells-as : {T E X : Type 0} (r : Result T E) (First Second : X → Type 0) (old new : List Entry) (a : Told X)
     → ((x : X) → First x → Second x) → Tells r (λ x _. First x) old new a → Tells r (λ x _. Second x) old new a
 tells-as (Ok t) First Second old new a into told = (into a.value told.0, told.1)
 tells-as (Err e) First Second old new a into told = told

@@ -3,17 +3,19 @@ use Rattle.std.proofs.Common.{◌≡◌, ◌≢◌, ℕ, zero, suc, ◌+◌, ◌
 use Rattle.std.specs.Prelude.{◌↔◌, Contains, Option, Some, None, Result, Ok, Err, OnOk, OnErr, slice_get, slice_set}
 use Rattle.std.proofs.lemmas.Bool.Decides.{eqb_tells}
 use Rattle.std.proofs.lemmas.List.{get_or-set_other, length-map}
-use Rattle.std.proofs.lemmas.Option.{get_or_from_slice_get, slice_get-map}
+use Rattle.std.proofs.lemmas.Option.{get_or_from_slice_get, slice_get-map, slice_get_within}
 use Rattle.std.specs.Option.{option_map}
 use Rattle.lsl_code.specs.declared.woven_units.Woven.{Woven as Code}
+use Rattle.lsl_post.specs.declared.parts.ScriptParts.{ScriptParts}
 use Rattle.lsl_post.specs.Due.{Puts}
 use Rattle.lsl_post.specs.Timing.{Timing, stopped}
+use Rattle.lsl_region.specs.declared.grid.Seat.{Seat}
 use Rattle.lsl_region.specs.Grids.{Contents, Stands}
 use Rattle.lsl_region.specs.Timers.{next_due}
 use Rattle.lsl_region.specs.Worlds.{Member, World}
 use Rattle.lsl_region.proofs.Rings.{home}
 use Rattle.lsl_world.specs.Sizes.{HasNumber}
-use Rattle.lsl_world.specs.Timers.{AreNumbered, IsIndexOf, due_of, timing_in, timings_of}
+use Rattle.lsl_world.specs.Timers.{AreNumbered, IsIndexIn, IsIndexOf, PutsIn, due_in, due_of, timing_in, timings_of}
 
 pub timing-read : (w : World) (place : ℕ) (m : Member) → slice_get w.members place ≡ Some m
     → get_or (timings_of w) place stopped ≡ timing_in m
@@ -153,3 +155,51 @@ module _ (grid : Contents) (number : ℕ) (due : Option ℕ) (old new : List (�
   numbered-after (Ok t) are puts same = numbered-put (length grid.seats) number due old new has are puts
   numbered-after (Err e) are puts same =
       subst (λ (es : List (ℕ × ℕ)). AreNumbered (length grid.seats) es) (sym same) are
+
+-- the same of the scripts in their seats: those up to a place are right
+pub record IsNotedIn (seats : List Seat) (place : ℕ) (entries : List (ℕ × ℕ)) : Type 0 where
+  pub noted : (at k : ℕ) (seat : Seat) (parts : ScriptParts) → k < place → slice_get seats k ≡ Some seat
+      → seat.script ≡ Some parts → Contains entries (at, k + 1) ↔ (due_in parts ≡ Some at)
+
+pub noted_in-none : (seats : List Seat) (entries : List (ℕ × ℕ)) → IsNotedIn seats 0 entries
+noted_in-none seats entries = record { noted = λ at k seat parts few there home. absurd (omega (arith, few)) }
+
+pub noted_in-put : (seats : List Seat) (place : ℕ) (old new : List (ℕ × ℕ)) → IsNotedIn seats place old
+    → PutsIn seats (place + 1) old new → IsNotedIn seats (place + 1) new
+noted_in-put seats place old new is puts = record {
+  noted = λ at k seat parts few there home.
+      ⊎_elim (λ h. own at k seat parts h.1 there home) (λ h. elsewhere at k seat parts few h.1 there home)
+      (eqb_tells k place);
+}
+  where
+    own : (at k : ℕ) (seat : Seat) (parts : ScriptParts) → k ≡ place → slice_get seats k ≡ Some seat
+        → seat.script ≡ Some parts → Contains new (at, k + 1) ↔ (due_in parts ≡ Some at)
+    own at k seat parts e there home =
+        let here : k ≡ (place + 1) - 1 = omega (arith, e) in
+        let tells : puts.due ≡ due_in parts =
+        puts.tells seat parts (subst (λ (n : ℕ). slice_get seats n ≡ Some seat) here there) home in
+        subst (λ (n : ℕ). Contains new (at, n + 1) ↔ (due_in parts ≡ Some at)) (sym e)
+        (subst (λ (o : Option ℕ). Contains new (at, place + 1) ↔ (o ≡ Some at)) tells (puts.puts.own at))
+
+    elsewhere : (at k : ℕ) (seat : Seat) (parts : ScriptParts) → k < place + 1 → k ≢ place
+        → slice_get seats k ≡ Some seat → seat.script ≡ Some parts
+        → Contains new (at, k + 1) ↔ (due_in parts ≡ Some at)
+    elsewhere at k seat parts few apart there home =
+        let stays = puts.puts.others at (k + 1) (λ e. apart (omega (arith, e))) in
+        let was = is.noted at k seat parts (omega (arith, few, apart)) there home in
+        (λ h. was.0 (stays.0 h), λ e. stays.1 (was.1 e))
+
+pub noted_in-all : (seats : List Seat) (place : ℕ) (entries : List (ℕ × ℕ)) → length seats ≤ place
+    → AreNumbered (length seats) entries → IsNotedIn seats place entries → IsIndexIn seats entries
+noted_in-all seats place entries far are is = record {
+  numbered = are;
+  exact = λ at k seat parts there home.
+      is.noted at k seat parts (omega (arith, slice_get_within seats k seat there, far)) there home;
+}
+
+pub puts-in : {T E : Type 0} (seats : List Seat) (number : ℕ) (due : Option ℕ) (old new : List (ℕ × ℕ))
+    (r : Result T E) → ((seat : Seat) (parts : ScriptParts) → slice_get seats (number - 1) ≡ Some seat
+    → seat.script ≡ Some parts → due ≡ due_in parts) → OnOk r (Puts number due old new)
+    → OnOk r (PutsIn seats number old new)
+puts-in seats number due old new (Ok t) tells puts = record { due = due; puts = puts; tells = tells }
+puts-in seats number due old new (Err e) tells puts = tt

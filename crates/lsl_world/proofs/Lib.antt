@@ -47,3 +47,4 @@ pub mod Parted
 pub mod Rows
 pub mod Leaving
 pub mod RegionTable
+pub mod Returning

@@ -11,6 +11,7 @@ pub mod Ranges
 pub mod Regions
 pub mod Handing
 pub mod Orders
+pub mod Returns
 pub mod Lossy
 pub mod Codes
 pub mod Sound

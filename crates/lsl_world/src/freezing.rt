@@ -20,10 +20,10 @@ ghost use Rattle.lsl_world.specs.Frozen.{AgreesWith, IsImageIn, frozen_image, pa
 ghost use Rattle.lsl_world.specs.Programs.{rules_of};
 ghost use Rattle.lsl_world.specs.Ranges.{IsInRange};
 ghost use Rattle.lsl_world.specs.Sizes.{size_of_file};
-ghost use Rattle.lsl_world.specs.Sound.{IsSound};
+ghost use Rattle.lsl_world.specs.Sound.{IsIndexed, IsSound};
 ghost use Rattle.lsl_world.specs.Stands.{IsOf, prims_of, size_of};
 ghost use Rattle.lsl_world.specs.Starts.{start};
-ghost use Rattle.lsl_world.specs.Timers.{AreNumbered};
+ghost use Rattle.lsl_world.specs.Timers.{AreNumbered, IsIndexIn};
 ghost use Rattle.lsl_world.specs.declared.world.World.{World as TheWorld};
 
 use crate::naming::Regions;
@@ -92,6 +92,7 @@ impl World {
             → IfOk result (λ world. fixed_of world.grid ≡ fixed_in (start (rules_of programs) file.now cards)) }
         ensures size { IfOk result (λ world. size_of world ≡ size_of_file file.now) }
         ensures sound { IfOk result IsSound }
+        ensures indexed { IfOk result IsIndexed }
         ensures saves { IfOk result (λ world. Counts world.pause no_tally) }
         ensures units { IfOk result (λ world. world.units ≡ units) }
         ensures plain { IfOk result (λ world. world.cards ≡ None) }
@@ -157,6 +158,7 @@ fn restore(
         ≡ record { prims = map prims_of grid.new.objects; scripts = length grid.new.seats }) }
     ensures seated { OnOk result (AreSeated units.now grid.new.seats) }
     ensures timely { IfOk result (λ clock. clock ≤ latest_clock) }
+    ensures index { OnOk result (IsIndexIn grid.new.seats due.new) }
     ensures numbered { OnOk result (AreNumbered (length grid.new.seats) due.new) }
 {
     add_objects(alloc, grid, file.objects.as_slice(), units)?;

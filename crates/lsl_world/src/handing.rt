@@ -19,7 +19,7 @@ ghost use Rattle.lsl_world.specs.Orders.{AreInOrder, DrivesTo, Hands, SendsOf};
 ghost use Rattle.lsl_world.specs.Programs.{rules_of};
 ghost use Rattle.lsl_world.specs.Regions.{IsNamed, name_in};
 ghost use Rattle.lsl_world.specs.Sizes.{HasNumber};
-ghost use Rattle.lsl_world.specs.Sound.{IsSound};
+ghost use Rattle.lsl_world.specs.Sound.{IsIndexed, IsSound};
 ghost use Rattle.lsl_world.specs.Stands.{IsOf, size_of};
 ghost use Rattle.lsl_world.specs.Steps.{next};
 
@@ -100,6 +100,7 @@ impl World {
         ensures pause { self.new.pause ≡ self.old.pause }
         ensures size { size_of self.new ≡ size_of self.old }
         ensures sound { OnOk result (IsSound self.new) }
+        ensures indexed { IsIndexed self.old → OnOk result (IsIndexed self.new) }
         ensures counted { L.faults link.old ≤ L.faults link.new }
     {
         let Some(way) = regions.way(object, self.grid.region(object), region) else {
@@ -130,6 +131,7 @@ impl World {
         ensures pause { self.new.pause ≡ self.old.pause }
         ensures size { size_of self.new ≡ size_of self.old }
         ensures sound { OnOk result (IsSound self.new) }
+        ensures indexed { IsIndexed self.old → OnOk result (IsIndexed self.new) }
     {
         match given {
             Some(parts) => {

@@ -2,6 +2,7 @@
 
 ghost use Rattle.std.specs.Prelude.{◌≡◌, ◌≤◌, List, None, IfOk, IfSome, OnOk, length};
 ghost use Rattle.lsl_ports.specs.Trips.{Trip, Went};
+ghost use Rattle.lsl_post.specs.Journal.{Tells};
 ghost use Rattle.lsl_tree.specs.Program.{Program};
 ghost use Rattle.lsl_lines.specs.declared.file.Step.TheVariants as steps;
 ghost use Rattle.lsl_region.specs.Grids.{outline_of};
@@ -10,8 +11,9 @@ ghost use Rattle.lsl_world.specs.Handing.{AreCarded, CanHand};
 ghost use Rattle.lsl_world.specs.Lossy.{IsFairFrom, Stage};
 ghost use Rattle.lsl_world.specs.Parts.{DoesPartAt, IsRestOf, TellsPart};
 ghost use Rattle.lsl_world.specs.Programs.{rules_of};
+ghost use Rattle.lsl_world.specs.Returns.{Returns};
 ghost use Rattle.lsl_world.specs.Sizes.{HasNumber, IsStepOf};
-ghost use Rattle.lsl_world.specs.Sound.{IsSound};
+ghost use Rattle.lsl_world.specs.Sound.{IsCrossing, IsIndexed, IsSound};
 ghost use Rattle.lsl_world.specs.Stages.{IsAt};
 ghost use Rattle.lsl_world.specs.Stands.{IsOf, size_of};
 ghost use Rattle.lsl_world.specs.Steps.{next};
@@ -50,6 +52,11 @@ impl World {
             × ((programs : List Program) (stage : Stage) → IsAt programs self.old stage → IsFairFrom stage trips
             → DoesPartAt self.old.units (rules_of programs) self.old.regions (λ s. IsAt programs self.new s) step.now
             stage trips out.old out.new result) }
+        ensures comes { self.old.cards ≡ None
+            → (trips : List Trip) × Went L.gives (L.trips link.old) (L.trips link.new) trips
+            × ((programs : List Program) (w : SourceWorld)
+            → Returns programs self.old.units self.old.clock self.old.grid step.now trips w
+            → Tells result (λ v _. IsOf programs self.new v) out.old out.new (next (rules_of programs) step.now w)) }
         ensures rest { IfOk result (λ left. IfSome left (λ rest. IsRestOf step.now rest)) }
         ensures plain { self.old.cards ≡ None → self.new.cards ≡ None }
         ensures carded { OnOk result (AreCarded self.new) }
@@ -57,6 +64,7 @@ impl World {
         ensures units { self.new.units ≡ self.old.units }
         ensures size { OnOk result (size_of self.new ≡ size_of self.old) }
         ensures sound { OnOk result (IsSound self.new) }
+        ensures indexed { IsCrossing step.now → IsIndexed self.old → OnOk result (IsIndexed self.new) }
         ensures counted { L.faults link.old ≤ L.faults link.new }
     {
         match step {

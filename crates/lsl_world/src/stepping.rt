@@ -18,9 +18,10 @@ ghost use Rattle.lsl_world.specs.Lossy.{IsFairFrom, Stage};
 ghost use Rattle.lsl_world.specs.Orders.{AreInOrder, Hands, SendsOfStep};
 ghost use Rattle.lsl_world.specs.Programs.{rules_of};
 ghost use Rattle.lsl_world.specs.Regions.{LeadsToNamed};
+ghost use Rattle.lsl_world.specs.Returns.{ComesBackAs, Returns};
 ghost use Rattle.lsl_world.specs.Saves.{counted_step};
 ghost use Rattle.lsl_world.specs.Sizes.{HasNumber, IsStepOf};
-ghost use Rattle.lsl_world.specs.Sound.{IsSound};
+ghost use Rattle.lsl_world.specs.Sound.{IsCrossing, IsIndexed, IsSound};
 ghost use Rattle.lsl_world.specs.Stages.{DoesAt, IsAt};
 ghost use Rattle.lsl_world.specs.Stands.{IsOf, size_of};
 ghost use Rattle.lsl_world.specs.Steps.{next};
@@ -65,12 +66,18 @@ impl World {
             × ((programs : List Program) (stage : Stage) → IsAt programs self.old stage → IsFairFrom stage trips
             → DoesAt self.old.units (rules_of programs) self.old.regions (λ s. IsAt programs self.new s) step.now stage
             trips out.old out.new result) }
+        ensures comes { self.old.cards ≡ None
+            → (trips : List Trip) × Went L.gives (L.trips link.old) (L.trips link.new) trips
+            × ((programs : List Program) (w : SourceWorld)
+            → Returns programs self.old.units self.old.clock self.old.grid step.now trips w
+            → Tells result (λ v _. IsOf programs self.new v) out.old out.new (next (rules_of programs) step.now w)) }
         ensures plain { self.old.cards ≡ None → self.new.cards ≡ None }
         ensures carded { OnOk result (AreCarded self.new) }
         ensures regions { self.new.regions ≡ self.old.regions }
         ensures units { self.new.units ≡ self.old.units }
         ensures size { OnOk result (size_of self.new ≡ size_of self.old) }
         ensures sound { OnOk result (IsSound self.new) }
+        ensures indexed { IsCrossing step.now → IsIndexed self.old → OnOk result (IsIndexed self.new) }
         ensures saves { (programs : List Program) (w : SourceWorld) (t : Tally) → IsOf programs self.old w
             → Counts self.old.pause t
             → OnOk result (Counts self.new.pause (counted_step (rules_of programs) step.now w t)) }
@@ -109,6 +116,11 @@ impl World {
             trips out.old out.new result)
             × ((programs : List Program) (w : SourceWorld) → IsOf programs self.old w
             → SendsOfStep self.old.units regions.now self.old.grid step.now trips)) }
+        ensures comes { cards.old ≡ None
+            → (trips : List Trip) × Went L.gives (L.trips link.old) (L.trips link.new) trips
+            × ((programs : List Program) (w : SourceWorld)
+            → Returns programs self.old.units self.old.clock self.old.grid step.now trips w
+            → Tells result (λ v _. IsOf programs self.new v) out.old out.new (next (rules_of programs) step.now w)) }
         ensures plain { cards.old ≡ None → cards.new ≡ None }
         ensures counts { OnOk result ((new : List (List Card)) → cards.new ≡ Some new
             → HasCounts (length self.new.grid.objects) (length regions.now) new) }
@@ -118,6 +130,7 @@ impl World {
         ensures units { self.new.units ≡ self.old.units }
         ensures size { OnOk result (size_of self.new ≡ size_of self.old) }
         ensures sound { OnOk result (IsSound self.new) }
+        ensures indexed { IsCrossing step.now → IsIndexed self.old → OnOk result (IsIndexed self.new) }
         ensures counted { L.faults link.old ≤ L.faults link.new }
     {
         match step {
@@ -142,9 +155,14 @@ impl World {
             × ((programs : List Program) (w : SourceWorld) → IsOf programs self.old w
             → Does self.old.units (rules_of programs) (IsOf programs self.new) step.now w trips
             out.old out.new result) }
+        ensures comes { (trips : List Trip) × Went L.gives (L.trips link.old) (L.trips link.new) trips
+            × ((programs : List Program) (w : SourceWorld)
+            → Returns programs self.old.units self.old.clock self.old.grid step.now trips w
+            → Tells result (λ v _. IsOf programs self.new v) out.old out.new (next (rules_of programs) step.now w)) }
         ensures units { self.new.units ≡ self.old.units }
         ensures size { OnOk result (size_of self.new ≡ size_of self.old) }
         ensures sound { OnOk result (IsSound self.new) }
+        ensures indexed { IsCrossing step.now → IsIndexed self.old → OnOk result (IsIndexed self.new) }
         ensures saves { (programs : List Program) (w : SourceWorld) (t : Tally) → IsOf programs self.old w
             → Counts self.old.pause t
             → OnOk result (Counts self.new.pause (counted_step (rules_of programs) step.now w t)) }
@@ -237,10 +255,16 @@ impl World {
             × ((programs : List Program) (w : SourceWorld) → IsOf programs self.old w
             → Does self.old.units (rules_of programs) (IsOf programs self.new) (steps.Cross object region.now) w trips
             out.old out.new result) }
+        ensures comes { (trips : List Trip) × Went L.gives (L.trips link.old) (L.trips link.new) trips
+            × ((programs : List Program) (w : SourceWorld)
+            → ComesBackAs programs self.old.units self.old.clock self.old.grid object trips w
+            → Tells result (λ v _. IsOf programs self.new v) out.old out.new
+            (next (rules_of programs) (steps.Cross object region.now) w)) }
         ensures units { self.new.units ≡ self.old.units }
         ensures pause { self.new.pause ≡ self.old.pause }
         ensures size { size_of self.new ≡ size_of self.old }
         ensures sound { OnOk result (IsSound self.new) }
+        ensures indexed { OnOk result (IsIndexed self.new) }
         ensures counted { L.faults link.old ≤ L.faults link.new }
     {
         self.grid.cross(object, region, &self.units, link, out)?;

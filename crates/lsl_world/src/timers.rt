@@ -6,7 +6,7 @@ ghost use Rattle.lsl_post.specs.Due.{Puts};
 ghost use Rattle.lsl_region.specs.Grids.{Stands};
 ghost use Rattle.lsl_region.specs.Worlds.{World as SourceWorld};
 ghost use Rattle.lsl_world.specs.Sizes.{HasNumber};
-ghost use Rattle.lsl_world.specs.Timers.{AreNumbered, IsIndexOf, due_of, timings_of};
+ghost use Rattle.lsl_world.specs.Timers.{AreNumbered, IsIndexIn, IsIndexOf, PutsIn, due_of, timings_of};
 
 use lsl_post::Due;
 use lsl_region::Grid;
@@ -17,6 +17,7 @@ pub(crate) fn note_timers(grid: &Grid, due: &mut Due) -> Result<(), NoMemory>
     requires numbered { AreNumbered (length grid.now.seats) due.old }
     ensures exact { OnOk result ((codes : List Code) (clock : ℕ) (w : SourceWorld)
         → Stands codes None clock grid.now w → IsIndexOf (timings_of w) due.new) }
+    ensures index { OnOk result (IsIndexIn grid.now.seats due.new) }
     ensures numbered { AreNumbered (length grid.now.seats) due.new }
 {
     for place in 0..grid.scripts() {
@@ -31,6 +32,7 @@ pub(crate) fn note_timer(grid: &Grid, script: u32, due: &mut Due) -> Result<(), 
     requires numbered { AreNumbered (length grid.now.seats) due.old }
     ensures puts { OnOk result ((codes : List Code) (clock : ℕ) (w : SourceWorld)
         → Stands codes None clock grid.now w → Puts script (due_of (timings_of w) script) due.old due.new) }
+    ensures seat { OnOk result (PutsIn grid.now.seats script due.old due.new) }
     ensures numbered { AreNumbered (length grid.now.seats) due.new }
 {
     due.put(script, grid.due(script))

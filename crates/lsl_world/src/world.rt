@@ -20,10 +20,10 @@ ghost use Rattle.lsl_world.specs.Regions.{AreInNamed, LeadsToNamed, regions_of_f
 ghost use Rattle.lsl_world.specs.Reports.{homes};
 ghost use Rattle.lsl_world.specs.Seats.{seats_of_objects};
 ghost use Rattle.lsl_world.specs.Sizes.{size_of_file};
-ghost use Rattle.lsl_world.specs.Sound.{IsSound};
+ghost use Rattle.lsl_world.specs.Sound.{IsIndexed, IsSound};
 ghost use Rattle.lsl_world.specs.Stands.{IsOf, size_of};
 ghost use Rattle.lsl_world.specs.Starts.{object_of_line, start};
-ghost use Rattle.lsl_world.specs.Timers.{AreNumbered, IsIndexOf, timings_of};
+ghost use Rattle.lsl_world.specs.Timers.{AreNumbered, IsIndexIn, IsIndexOf, timings_of};
 
 use crate::naming::Regions;
 use crate::starting::add_objects;
@@ -83,6 +83,7 @@ impl World {
             → IfOk result (λ world. IsOf programs world (start (rules_of programs) file.now cards)) }
         ensures size { IfOk result (λ world. size_of world ≡ size_of_file file.now) }
         ensures sound { IfOk result IsSound }
+        ensures indexed { IfOk result IsIndexed }
         ensures saves { IfOk result (λ world. Counts world.pause no_tally) }
         ensures units { IfOk result (λ world. world.units ≡ units) }
         ensures begun { IfOk result IsBegun }
@@ -125,6 +126,7 @@ impl World {
         ensures regions { IfOk result (λ world. world.regions ≡ self.regions) }
         ensures size { IfOk result (λ world. size_of world ≡ size_of self) }
         ensures sound { IsSound self → IfOk result IsSound }
+        ensures indexed { IsIndexed self → IfOk result IsIndexed }
         ensures saves { (t : Tally) → Counts self.pause t → IfOk result (λ world. Counts world.pause t) }
         ensures units { IfOk result (λ world. world.units ≡ self.units) }
     {
@@ -181,6 +183,7 @@ fn begin(
     ensures seated { OnOk result (AreSeated units.now grid.new.seats) }
     ensures exact { OnOk result ((codes : List Code) (clock : ℕ) (w : SourceWorld)
         → Stands codes None clock grid.new w → IsIndexOf (timings_of w) due.new) }
+    ensures index { OnOk result (IsIndexIn grid.new.seats due.new) }
     ensures numbered { OnOk result (AreNumbered (length grid.new.seats) due.new) }
     ensures regions { OnOk result (regions.new ≡ regions_of_file file.now) }
 {

@@ -3,7 +3,7 @@ use Rattle.std.proofs.lemmas.List.{length-map}
 use Rattle.lsl_region.proofs.Placed.{stands-length}
 use Rattle.std.specs.Prelude.{None}
 use Rattle.lsl_world.specs.Timers.{timing_in, timings_of}
-use Rattle.lsl_world.proofs.Indexing.{noted-all, noted-none, noted-put}
+use Rattle.lsl_world.proofs.Indexing.{noted-all, noted-none, noted-put, noted_in-all, noted_in-none, noted_in-put}
 use Rattle.lsl_world.proofs.timers.note_timers.Goals as goal
 
 pub loop-place-init : goal.loop-place-init
@@ -11,6 +11,7 @@ loop-place-init c = record {
   few = c.scripts-place-end.ensures.within;
   numbered = c.requires.numbered;
   noted = λ codes clock w st. noted-none (timings_of w) c.args.due.now;
+  seated = noted_in-none c.args.grid.now.seats c.args.due.now;
 }
 
 pub note_timer-requires-clause-script : goal.note_timer-requires-clause-script
@@ -24,6 +25,8 @@ loop-place-preserved c = record {
   noted = λ codes clock w st.
       noted-put (timings_of w) c.loop-place.place c.loop-place.due c.note_timer.new.due
       (c.loop-place.invariant.noted codes clock w st) (c.in_ok-note_timer.ensures.puts codes clock w st);
+  seated = noted_in-put c.args.grid.now.seats c.loop-place.place c.loop-place.due c.note_timer.new.due
+      c.loop-place.invariant.seated c.in_ok-note_timer.ensures.seat;
 }
 
 pub returns-clause-exact : goal.returns-clause-exact
@@ -33,3 +36,9 @@ returns-clause-exact c = λ codes clock w st.
     ∙ sym c.scripts-place-end.ensures.value) c.loop-place-test.false
     (λ at number h. let k = c.loop-place.invariant.numbered at number h in
     (k.0, omega (arith, k.1, c.scripts-place-end.ensures.value))) (c.loop-place.invariant.noted codes clock w st)
+
+pub returns-clause-index : goal.returns-clause-index
+returns-clause-index c =
+    noted_in-all c.args.grid.now.seats c.loop-place.place c.loop-place.due
+    (omega (arith, c.loop-place-test.false, c.scripts-place-end.ensures.value)) c.loop-place.invariant.numbered
+    c.loop-place.invariant.seated

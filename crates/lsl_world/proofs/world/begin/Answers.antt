@@ -23,3 +23,6 @@ returns-clause-seats c =
 
 pub returns-clause-exact : goal.returns-clause-exact
 returns-clause-exact c = on-ok c.add_file.result c.in_ok-note_timers.ensures.exact
+
+pub returns-clause-index : goal.returns-clause-index
+returns-clause-index c = on-ok c.add_file.result c.in_ok-note_timers.ensures.index

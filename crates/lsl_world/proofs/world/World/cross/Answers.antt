@@ -2,6 +2,7 @@ use Rattle.std.proofs.lemmas.Result.{err_from_is_err_and}
 use Rattle.lsl_world.proofs.Going.{crossed-err, crossed-ok, numbered-as, size-as}
 use Rattle.lsl_world.proofs.Kept.{on-ok}
 use Rattle.lsl_world.proofs.Meanings.{meant}
+use Rattle.lsl_world.proofs.Returning.{not-returned, returned}
 use Rattle.lsl_world.proofs.world.World.cross.Goals as goal
 
 pub note_timers-requires : goal.note_timers-requires
@@ -49,3 +50,25 @@ returns-in_err-cross-clause-goes g c =
 pub returns-in_err-cross-clause-size : goal.returns-in_err-cross-clause-size
 returns-in_err-cross-clause-size g c =
     size-as c.args.self.now c.cross.new.self c.args.self.now.due c.cross.ensures.objects c.cross.ensures.scripts
+
+pub returns-clause-comes : goal.returns-clause-comes
+returns-clause-comes g c =
+    let world = c.args.self.now in
+    let (trips, went, crosses, travels) = c.in_ok-cross.ensures.crosses in (
+      trips,
+      went,
+      λ programs w came. returned programs world c.args.object c.args.region.now w trips c.requires.object came
+          c.cross.new.self c.args.out.now c.cross.new.out c.note_timers.new.due _ c.note_timers.result crosses
+          c.in_ok-cross.ensures.seated c.requires.sound.timely c.note_timers.ensures.exact,
+    )
+
+pub returns-in_err-cross-clause-comes : goal.returns-in_err-cross-clause-comes
+returns-in_err-cross-clause-comes g c =
+    let world = c.args.self.now in
+    let p = err_from_is_err_and c.from_residual.result c.from_residual.ensures.1 in
+    let (trips, went, stays, travels) = c.in_err-cross.ensures.crosses in (
+      trips,
+      went,
+      λ programs w came. not-returned programs world c.args.object c.args.region.now w trips c.requires.object came
+          c.cross.new.self c.args.out.now c.cross.new.out world.due c.from_residual.result p.0 p.1 stays.0.silent,
+    )

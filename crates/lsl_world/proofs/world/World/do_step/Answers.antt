@@ -6,9 +6,12 @@ use Rattle.lsl_post.specs.Journal.{Tells}
 use Rattle.lsl_region.specs.Arrivals.{changed_event, post_object, rez_event, say}
 use Rattle.lsl_region.specs.Grids.{Stands}
 use Rattle.lsl_world.specs.Programs.{rules_of}
+use Rattle.lsl_world.specs.Stands.{IsOf}
+use Rattle.lsl_world.specs.Steps.{next}
 use Rattle.lsl_world.proofs.Going.{goes-cross, goes-here, goes-in-grid}
 use Rattle.lsl_world.proofs.Kept.{on-ok, size-kept, sound-kept}
 use Rattle.lsl_world.proofs.Meanings.{meant}
+use Rattle.lsl_world.proofs.Returning.{crossing-not, goes-back, goes-not}
 use Rattle.lsl_world.proofs.Saving.{counts-as, counts-same, tells-quiet}
 use Rattle.lsl_world.proofs.Timings.{post-timings, touch-timings}
 use Rattle.lsl_world.proofs.world.World.do_step.Goals as goal
@@ -166,3 +169,94 @@ pub returns-in-Rez-clause-sound : goal.returns-in-Rez-clause-sound
 returns-in-Rez-clause-sound g c =
     let post = c.post-in-Rez in
     sound-kept c.args.self.now post.new.self post.result c.requires.sound post.ensures.outline post.ensures.seated
+
+pub returns-in-Clock-clause-comes : goal.returns-in-Clock-clause-comes
+returns-in-Clock-clause-comes g c =
+    let world = c.args.self.now in
+    goes-not g.L.Link.gives (g.L.Link.trips c.args.link.now) world.units world.clock world.grid c.args.step.now
+    (Clock c.in-Clock.time) c.in-Clock.is tt _
+
+pub returns-in-Clock-clause-indexed : goal.returns-in-Clock-clause-indexed
+returns-in-Clock-clause-indexed g c = λ crossing was.
+    absurd (crossing-not c.args.step.now (Clock c.in-Clock.time) c.in-Clock.is tt crossing)
+
+pub returns-in-Say-clause-comes : goal.returns-in-Say-clause-comes
+returns-in-Say-clause-comes g c =
+    let world = c.args.self.now in
+    goes-not g.L.Link.gives (g.L.Link.trips c.args.link.now) world.units world.clock world.grid c.args.step.now
+    (Say c.in-Say.channel c.in-Say.name c.in-Say.key c.in-Say.text) c.in-Say.is tt _
+
+pub returns-in-Say-clause-indexed : goal.returns-in-Say-clause-indexed
+returns-in-Say-clause-indexed g c = λ crossing was.
+    absurd (crossing-not c.args.step.now (Say c.in-Say.channel c.in-Say.name c.in-Say.key c.in-Say.text) c.in-Say.is tt crossing)
+
+pub returns-in-Touch-clause-comes : goal.returns-in-Touch-clause-comes
+returns-in-Touch-clause-comes g c =
+    let world = c.args.self.now in
+    goes-not g.L.Link.gives (g.L.Link.trips c.args.link.now) world.units world.clock world.grid c.args.step.now
+    (Touch c.in-Touch.object c.in-Touch.number c.in-Touch.key c.in-Touch.name) c.in-Touch.is tt _
+
+pub returns-in-Touch-clause-indexed : goal.returns-in-Touch-clause-indexed
+returns-in-Touch-clause-indexed g c = λ crossing was.
+    absurd (crossing-not c.args.step.now (Touch c.in-Touch.object c.in-Touch.number c.in-Touch.key c.in-Touch.name) c.in-Touch.is tt crossing)
+
+pub returns-in-Changed-clause-comes : goal.returns-in-Changed-clause-comes
+returns-in-Changed-clause-comes g c =
+    let world = c.args.self.now in
+    goes-not g.L.Link.gives (g.L.Link.trips c.args.link.now) world.units world.clock world.grid c.args.step.now
+    (Changed c.in-Changed.object c.in-Changed.flags) c.in-Changed.is tt _
+
+pub returns-in-Changed-clause-indexed : goal.returns-in-Changed-clause-indexed
+returns-in-Changed-clause-indexed g c = λ crossing was.
+    absurd (crossing-not c.args.step.now (Changed c.in-Changed.object c.in-Changed.flags) c.in-Changed.is tt crossing)
+
+pub returns-in-Rez-clause-comes : goal.returns-in-Rez-clause-comes
+returns-in-Rez-clause-comes g c =
+    let world = c.args.self.now in
+    goes-not g.L.Link.gives (g.L.Link.trips c.args.link.now) world.units world.clock world.grid c.args.step.now
+    (Rez c.in-Rez.object c.in-Rez.n) c.in-Rez.is tt _
+
+pub returns-in-Rez-clause-indexed : goal.returns-in-Rez-clause-indexed
+returns-in-Rez-clause-indexed g c = λ crossing was.
+    absurd (crossing-not c.args.step.now (Rez c.in-Rez.object c.in-Rez.n) c.in-Rez.is tt crossing)
+
+pub returns-in-Go-clause-comes : goal.returns-in-Go-clause-comes
+returns-in-Go-clause-comes g c =
+    let world = c.args.self.now in
+    goes-not g.L.Link.gives (g.L.Link.trips c.args.link.now) world.units world.clock world.grid c.args.step.now
+    (Go c.in-Go.script c.in-Go.most) c.in-Go.is tt _
+
+pub returns-in-Go-clause-indexed : goal.returns-in-Go-clause-indexed
+returns-in-Go-clause-indexed g c = λ crossing was.
+    absurd (crossing-not c.args.step.now (Go c.in-Go.script c.in-Go.most) c.in-Go.is tt crossing)
+
+pub returns-in-Run-clause-comes : goal.returns-in-Run-clause-comes
+returns-in-Run-clause-comes g c =
+    let world = c.args.self.now in
+    goes-not g.L.Link.gives (g.L.Link.trips c.args.link.now) world.units world.clock world.grid c.args.step.now
+    (Run c.in-Run.most) c.in-Run.is tt _
+
+pub returns-in-Run-clause-indexed : goal.returns-in-Run-clause-indexed
+returns-in-Run-clause-indexed g c = λ crossing was.
+    absurd (crossing-not c.args.step.now (Run c.in-Run.most) c.in-Run.is tt crossing)
+
+pub returns-in-Pause-clause-comes : goal.returns-in-Pause-clause-comes
+returns-in-Pause-clause-comes g c =
+    let world = c.args.self.now in
+    goes-not g.L.Link.gives (g.L.Link.trips c.args.link.now) world.units world.clock world.grid c.args.step.now
+    (Pause c.in-Pause.gaps) c.in-Pause.is tt _
+
+pub returns-in-Pause-clause-indexed : goal.returns-in-Pause-clause-indexed
+returns-in-Pause-clause-indexed g c = λ crossing was.
+    absurd (crossing-not c.args.step.now (Pause c.in-Pause.gaps) c.in-Pause.is tt crossing)
+
+pub returns-in-Cross-clause-comes : goal.returns-in-Cross-clause-comes
+returns-in-Cross-clause-comes g c =
+    let world = c.args.self.now in
+    goes-back g.L.Link.gives (g.L.Link.trips c.args.link.now) (g.L.Link.trips c.cross.new.link) world.units world.clock
+    world.grid c.args.step.now (Cross c.in-Cross.object c.in-Cross.region) c.in-Cross.is
+    (λ s programs w. Tells c.cross.result (λ v _. IsOf programs c.cross.new.self v) c.args.out.now c.cross.new.out
+    (next (rules_of programs) s w)) c.cross.ensures.comes
+
+pub returns-in-Cross-clause-indexed : goal.returns-in-Cross-clause-indexed
+returns-in-Cross-clause-indexed g c = λ crossing was. c.cross.ensures.indexed

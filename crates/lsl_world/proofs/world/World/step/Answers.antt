@@ -3,7 +3,7 @@ use Rattle.lsl_ports.specs.Trips.{Went}
 use Rattle.lsl_region.specs.Worlds.{World as SourceWorld}
 use Rattle.lsl_world.specs.Programs.{rules_of}
 use Rattle.lsl_world.specs.Stands.{IsOf}
-use Rattle.lsl_world.proofs.Apart.{does-as, goes-beside, hands-as, of-as, sound-as, with_cards}
+use Rattle.lsl_world.proofs.Apart.{does-as, goes-beside, hands-as, of-as, sound-as, tells-as, with_cards}
 use Rattle.lsl_world.proofs.Reaching.{at-any}
 use Rattle.lsl_world.proofs.world.World.step.Goals as goal
 
@@ -76,4 +76,15 @@ returns-clause-at g c =
                 (hands programs stage.world entries before order past carried),
             sends programs stage.world before,
           ))) c.requires.named c.requires.step),
+    )
+
+pub returns-clause-comes : goal.returns-clause-comes
+returns-clause-comes g c = λ none.
+    let new = c.step_by-outcome.new.self in
+    let (trips, went, comes) = c.step_by-outcome.ensures.comes (c.take-cards.ensures.value ∙ none) in (
+      trips,
+      went,
+      λ programs w came. tells-as c.step_by-outcome.result (IsOf programs new)
+          (IsOf programs (with_cards new c.replace-regions.result c.step_by-outcome.new.cards)) c.args.out.now
+          c.step_by-outcome.new.out _ (λ v. of-as new _ _ programs v) (comes programs w came),
     )

@@ -68,3 +68,12 @@ returns-in-Some-clause-goes g c =
             (sym c.in-Cross.is) sends,
       ),
     )
+
+pub returns-in-None-clause-comes : goal.returns-in-None-clause-comes
+returns-in-None-clause-comes g c = λ none. c.do_step.ensures.comes
+
+pub returns-in_default-clause-comes : goal.returns-in_default-clause-comes
+returns-in_default-clause-comes g c = λ none. c.do_step-in_default.ensures.comes
+
+pub returns-in-Some-clause-comes : goal.returns-in-Some-clause-comes
+returns-in-Some-clause-comes g c = λ none. absurd (let no = sym c.in-Some.is ∙ none in cc)

@@ -3,6 +3,7 @@ use Rattle.lsl_lines.specs.declared.file.Step.TheVariants.{Go, Run}
 use Rattle.lsl_world.proofs.Going.{went-none}
 use Rattle.lsl_world.proofs.Kept.{on-ok, size-kept}
 use Rattle.lsl_world.proofs.Leaving.{carded-as, part-at, rest-of}
+use Rattle.lsl_world.proofs.Returning.{crossing-not, goes-not}
 use Rattle.lsl_world.proofs.world.World.step_part.Goals as goal
 
 pub returns-in-Go-clause-at : goal.returns-in-Go-clause-at
@@ -56,3 +57,23 @@ returns-in-Run-clause-carded g c =
     on-ok c.run_part.result
     (carded-as c.args.self.now c.run_part.new.self c.run_part.ensures.regions c.run_part.ensures.cards
     (size-kept c.args.self.now c.run_part.new.self.grid c.run_part.ensures.outline) c.requires.carded)
+
+pub returns-in-Go-clause-comes : goal.returns-in-Go-clause-comes
+returns-in-Go-clause-comes g c = λ none.
+    let world = c.args.self.now in
+    goes-not g.L.Link.gives (g.L.Link.trips c.args.link.now) world.units world.clock world.grid c.args.step.now
+    (Go c.in-Go.script c.in-Go.most) c.in-Go.is tt _
+
+pub returns-in-Go-clause-indexed : goal.returns-in-Go-clause-indexed
+returns-in-Go-clause-indexed g c = λ crossing was.
+    absurd (crossing-not c.args.step.now (Go c.in-Go.script c.in-Go.most) c.in-Go.is tt crossing)
+
+pub returns-in-Run-clause-comes : goal.returns-in-Run-clause-comes
+returns-in-Run-clause-comes g c = λ none.
+    let world = c.args.self.now in
+    goes-not g.L.Link.gives (g.L.Link.trips c.args.link.now) world.units world.clock world.grid c.args.step.now
+    (Run c.in-Run.most) c.in-Run.is tt _
+
+pub returns-in-Run-clause-indexed : goal.returns-in-Run-clause-indexed
+returns-in-Run-clause-indexed g c = λ crossing was.
+    absurd (crossing-not c.args.step.now (Run c.in-Run.most) c.in-Run.is tt crossing)
