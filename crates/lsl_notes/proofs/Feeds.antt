@@ -27,7 +27,7 @@ parts-cons x [] h = absurd (omega arith)
 parts-cons x (p ∷ parts) h = refl
 
 -- what stands before the first feed is a line, without the return at its end
-lines-fed : (line rest : List ℕ) → HasNoFeed line
+pub lines-fed : (line rest : List ℕ) → HasNoFeed line
     → lines (line ++ 10 ∷ rest) ≡ strip_carriage_return line ∷ lines rest
 lines-fed line rest h =
     ap lines_of_parts (slice_split_at is_feed line 10 rest (no-feed line h) refl)
@@ -64,7 +64,7 @@ append-feeds : (line : List ℕ) → HasNoFeed line → HasNoFeed (line ++ 13 �
 append-feeds [] h = (refl, tt)
 append-feeds (b ∷ line) h = (h.0, append-feeds line h.1)
 
-last-line : (line : List ℕ) → HasNoFeed line → 0 < length line → lines line ≡ line ∷ []
+pub last-line : (line : List ℕ) → HasNoFeed line → 0 < length line → lines line ≡ line ∷ []
 last-line [] h some = absurd (omega arith)
 last-line (b ∷ line) h some =
     let full : eqb (length (b ∷ line)) 0 ≡ false = grind (arith, nat_tests) in

@@ -4,4 +4,5 @@ pub mod Cuts
 pub mod Feeds
 pub mod Fronts
 pub mod Keys
+pub mod LinePlaces
 pub mod Spelled

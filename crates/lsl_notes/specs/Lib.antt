@@ -5,4 +5,5 @@ pub mod Faults
 pub mod Laws
 pub mod Lines
 pub mod Notecards
+pub mod Places
 pub mod Queries

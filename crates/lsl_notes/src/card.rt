@@ -1,53 +1,58 @@
 //! A notecard's text.
 
-ghost use Rattle.std.specs.Prelude.{◌≡◌, ◌≤◌, length, IfOk};
+ghost use Rattle.std.specs.Prelude.{◌≡◌, ◌≤◌, length, map, slice_get, IfOk};
+ghost use Rattle.std.specs.Option.{option_map};
+ghost use Rattle.std.specs.Str.{chars};
+ghost use Rattle.std.specs.Str.Lines.{lines};
 
+use crate::page::Page;
 use lsl_text::NoMemory;
-use lsl_value::Text;
+use std::alloc::Global;
 use std::marker::Model;
 use std::rc::Rc;
 
-/// The lines of a notecard, as texts: one more than 65,536 at most. Copies share them.
+/// The lines of a notecard: one more than 65,536 at most. The text is kept once, with a quarter of a byte for each
+/// line, and copies share it.
 #[derive(Drop)]
 pub struct Card {
-    lines: Rc<Vec<Text>>,
+    page: Rc<Page>,
 }
 
 impl Model for Card {
-    ghost use Rattle.std.specs.Prelude.{List, ℕ, ◌≤◌, length};
+    ghost use Rattle.std.specs.Prelude.{List, ℕ, map};
     ghost use Rattle.std.specs.Rc.{rc_value};
+    ghost use Rattle.std.specs.Str.{chars};
+    ghost use Rattle.std.specs.Str.Lines.{lines};
 
     ghost Value = { List (List ℕ) };
 
-    ghost view = { λ c. (rc_value c.lines).items };
-
-    ghost invariant = { λ c. length (rc_value c.lines).items ≤ 65537 };
+    ghost view = { λ c. map chars (lines (rc_value c.page)) };
 }
 
 impl Card {
-    /// These lines.
-    pub(crate) fn from_lines(lines: Vec<Text>) -> Result<Card, NoMemory>
-        requires { length lines.items ≤ 65537 }
-        ensures { IfOk result (λ card. card ≡ lines.items) }
+    /// The lines of a text that isn't too long.
+    pub(crate) fn of(alloc: Global, text: &str) -> Result<Card, NoMemory>
+        requires { length text.now ≤ 65536 }
+        ensures { IfOk result (λ card. card ≡ map chars (lines text.now)) }
     {
-        let lines = Rc::new(*lines.allocator(), lines)?;
-        Ok(Card { lines })
+        let page = Rc::new(alloc, Page::new(alloc, text)?)?;
+        Ok(Card { page })
     }
 
-    /// The same notecard, which shares the lines of this one. Takes no memory.
+    /// The same notecard, which shares the text of this one. Takes no memory.
     pub fn copy(&self) -> Result<Card, NoMemory>
         ensures { IfOk result (λ card. card ≡ self.now) }
     {
-        let lines = self.lines.clone()?;
-        Ok(Card { lines })
+        let page = self.page.clone()?;
+        Ok(Card { page })
     }
 
-    /// The lines. Takes no memory.
-    pub fn lines(&self) -> &[Text]
-        ensures { result.now ≡ self.now }
+    /// The line of this number, counted from 0. Takes no memory, and walks that line and at most seven before it.
+    pub fn line(&self, number: u32) -> Option<&str>
+        ensures { option_map (λ line. chars line.now) result ≡ slice_get self.now number }
     {
-        let lines: &Vec<Text> = &self.lines;
-        lines.as_slice()
+        let page: &Page = &self.page;
+        page.line(number)
     }
 
     /// How many lines there are. Takes no memory, and no walk.
@@ -55,7 +60,7 @@ impl Card {
         ensures value { result ≡ length self.now }
         ensures within { result ≤ 65537 }
     {
-        let lines: &Vec<Text> = &self.lines;
-        lines.len() as u32
+        let page: &Page = &self.page;
+        page.count()
     }
 }

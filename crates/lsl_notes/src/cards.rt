@@ -94,14 +94,14 @@ impl Cards {
     }
 
     /// What a script is told that asks for this line, counted from 0: the line's first 1,024 bytes, without
-    /// a character that would be split, or three line feeds where the notecard has no such line. A line of
-    /// at most 1,024 bytes is shared, and no other line is walked.
+    /// a character that would be split, or three line feeds where the notecard has no such line. Takes memory
+    /// for a copy, and walks that line and at most seven before it.
     pub fn line(&self, card: u32, line: u32) -> Result<Text, NoMemory>
         requires { IsListed self.now card }
         ensures { IfOk result (λ text. text ≡ data_of (card_at self.now card) line) }
     {
         let alloc = *self.list.allocator();
-        match self.card(card).lines().get(line as usize) {
+        match self.card(card).line(line) {
             Some(text) => cut_line(alloc, text),
             None => end_of_card(alloc),
         }

@@ -11,27 +11,35 @@ use std::alloc::Global;
 /// How many bytes of a line a script is told at most.
 const MOST_LINE_BYTES: usize = 1_024;
 
-/// The line as a script is told it: its first 1,024 bytes, without a character that would be split. A short
-/// one is shared.
-pub(crate) fn cut_line(alloc: Global, line: &Text) -> Result<Text, NoMemory>
-    ensures { IfOk result (λ cut. cut ≡ cut_line line.now) }
+/// The line as a script is told it: its first 1,024 bytes, without a character that would be split.
+pub(crate) fn cut_line(alloc: Global, line: &str) -> Result<Text, NoMemory>
+    ensures { IfOk result (λ cut. cut ≡ cut_line (chars line.now)) }
 {
     cut_to(alloc, line, MOST_LINE_BYTES)
 }
 
 // The first characters that have no more bytes than these.
-fn cut_to(alloc: Global, text: &Text, room: usize) -> Result<Text, NoMemory>
+fn cut_to(alloc: Global, text: &str, room: usize) -> Result<Text, NoMemory>
     requires { room ≤ 1024 }
-    ensures { IfOk result (λ cut. cut ≡ cut_to room text.now) }
+    ensures { IfOk result (λ cut. cut ≡ cut_to room (chars text.now)) }
 {
-    if text.bytes().len() <= room {
-        return text.copy();
+    if text.len() <= room {
+        return whole(alloc, text, room);
     }
-    let length = cut_length(text.as_str(), room);
-    match Text::from_utf8(alloc, &text.bytes()[..length])? {
+    let length = cut_length(text, room);
+    match Text::from_utf8(alloc, &text.as_bytes()[..length])? {
         Some(cut) => Ok(cut),
         None => unreachable!(),
     }
+}
+
+// All of a text, which has no more bytes than these.
+fn whole(alloc: Global, text: &str, room: usize) -> Result<Text, NoMemory>
+    requires short { room ≤ 1024 }
+    requires fits { length text.now ≤ room }
+    ensures { IfOk result (λ whole. whole ≡ cut_to room (chars text.now)) }
+{
+    Text::from_string(String::from_str(alloc, text)?)
 }
 
 // How many bytes they have. Walks them.

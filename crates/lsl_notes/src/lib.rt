@@ -7,6 +7,8 @@ mod cards;
 mod cutting;
 mod faults;
 pub mod laws;
+mod page;
+mod places;
 mod queries;
 mod reading;
 

@@ -1,23 +1,20 @@
 //! The bytes of a notecard, read.
 
-ghost use Rattle.std.specs.Prelude.{◌≡◌, ◌+◌, ◌≤◌, length, map, take, count_by, IfOk, IfErr};
-ghost use Rattle.std.specs.Str.{chars};
-ghost use Rattle.std.specs.Str.Lines.{lines};
-ghost use Rattle.lsl_value.specs.Limits.{most_text_bytes};
+ghost use Rattle.std.specs.Prelude.{◌≡◌, ◌+◌, ◌≤◌, length, take, count_by, IfOk, IfErr};
 ghost use Rattle.lsl_notes.specs.Card.{IsCard, IsRefused};
 ghost use Rattle.lsl_notes.specs.Lines.{is_feed};
 
 use crate::card::Card;
 use crate::faults::CardFault;
-use lsl_text::{NoMemory, Refusal};
-use lsl_value::Text;
+use lsl_text::Refusal;
 use std::alloc::Global;
 
 /// How many bytes a notecard has at most.
 const MOST_CARD_BYTES: usize = 65_536;
 
 /// The notecard of these bytes. Fault `TooLong` where they are more than 65,536, else `NotText` with the
-/// first line, counted from 1, that isn't UTF-8. Takes memory for the lines.
+/// first line, counted from 1, that isn't UTF-8. Takes memory for the text, and a quarter of a byte for each
+/// line.
 pub fn read_card(alloc: Global, bytes: &[u8]) -> Result<Card, Refusal<CardFault>>
     ensures ok { IfOk result (λ card. IsCard bytes.now card) }
     ensures err { IfErr result (λ refusal. IsRefused bytes.now refusal) }
@@ -26,7 +23,7 @@ pub fn read_card(alloc: Global, bytes: &[u8]) -> Result<Card, Refusal<CardFault>
         return Err(Refusal::Fault(CardFault::TooLong));
     }
     match std::str::from_utf8(bytes) {
-        Ok(text) => Ok(card_of(alloc, text)?),
+        Ok(text) => Ok(Card::of(alloc, text)?),
         Err(stop) => Err(not_text(bytes, stop.valid_up_to())),
     }
 }
@@ -40,23 +37,4 @@ fn not_text(bytes: &[u8], end: usize) -> Refusal<CardFault>
 {
     let feeds = bytes[..end].iter().filter(|b| **b == b'\n').count();
     Refusal::Fault(CardFault::NotText(1 + feeds as u32))
-}
-
-// The lines of a text that isn't too long.
-fn card_of(alloc: Global, text: &str) -> Result<Card, NoMemory>
-    requires { length text.now ≤ 65536 }
-    ensures { IfOk result (λ card. card ≡ map chars (lines text.now)) }
-{
-    let mut kept = Vec::new(alloc);
-    for line in text.lines() {
-        kept.push(text_of(alloc, line)?)?;
-    }
-    Card::from_lines(kept)
-}
-
-fn text_of(alloc: Global, line: &str) -> Result<Text, NoMemory>
-    requires { length line.now ≤ most_text_bytes }
-    ensures { IfOk result (λ text. text ≡ chars line.now) }
-{
-    Text::from_string(String::from_str(alloc, line)?)
 }

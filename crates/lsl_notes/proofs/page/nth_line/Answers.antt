@@ -1,0 +1,7 @@
+use Rattle.std.proofs.lemmas.Iterator.Consumers.{nth_from_yields_List}
+use Rattle.std.proofs.lemmas.Iterator.Splits.{YieldsList-from_lines}
+use Rattle.lsl_notes.proofs.page.nth_line.Goals as goal
+
+pub returns : goal.returns
+returns c =
+    nth_from_yields_List c.nth.result _ c.args.number c.nth.ensures.ran (YieldsList-from_lines c.args.text.now cc)
