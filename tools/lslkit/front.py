@@ -1,7 +1,7 @@
 """The script `lsl`: reads its words, has the program made where need be, runs it, and says how it ended."""
-import errno
 import os
 import re
+import select
 import signal
 import subprocess
 import sys
@@ -195,7 +195,9 @@ def carry(binary, command):
     with tempfile.TemporaryDirectory(prefix="lsl-") as room, tempfile.TemporaryFile() as notes:
         handed = handed_name(command, room)
         words = [*command.words, *([command.frozen] if command.frozen is not None else []), handed]
-        with subprocess.Popen([binary, *words], stdout=subprocess.PIPE, stderr=notes) as running:
+        # As in this process, a file that may not grow ends the program by no signal, but with status 5.
+        how = {"stdout": subprocess.PIPE, "stderr": notes, "restore_signals": False}
+        with subprocess.Popen([binary, *words], **how) as running:
             is_taken = True
             try:
                 for piece in iter(lambda: os.read(running.stdout.fileno(), 65536), b""):
@@ -224,14 +226,14 @@ def as_given(written, handed, name):
 
 
 def hand_on(piece):
-    """Writes to standard output. Whether it was taken."""
-    try:
-        while piece:
+    """Writes to standard output, and waits where that has no room yet. Whether it was taken."""
+    while piece:
+        try:
             piece = piece[os.write(1, piece) :]
-    except OSError as error:
-        if error.errno == errno.EINTR:
-            return hand_on(piece)
-        return False
+        except BlockingIOError:
+            select.select([], [1], [])
+        except OSError:
+            return False
     return True
 
 
