@@ -77,7 +77,8 @@ def standard_output_without_room_is_waited_for():
         name = script_in(room, LONG)
         whole = subprocess.run([binary, "once", name], stdout=subprocess.PIPE, check=True).stdout
         need(len(whole) > 65536, "it says too little")
-        need(read_late(carrying(binary, "once", name)) == (0, whole), "it wrote otherwise")
+        for words in ([binary, "once", name], carrying(binary, "once", name)):
+            need(read_late(words) == (0, whole), words[0], "wrote otherwise")
 
 
 @check
@@ -89,3 +90,16 @@ def a_file_that_may_not_grow_is_told():
             how = {"stdout": file, "stderr": subprocess.PIPE, "cwd": places.TOP}
             done = with_limit(carrying(binary, "once", name), resource.RLIMIT_FSIZE, 8192, **how)
         need((done.returncode, os.path.getsize(out)) == (5, 8192), "it ended with", done.returncode, done.stderr)
+
+
+@check
+def what_is_no_regular_file_is_not_read():
+    binary = making.any_program()
+    with tempfile.TemporaryDirectory() as room:
+        world = os.path.join(room, "a.world")
+        places.write_text(world, "begin\nend\n")
+        os.mkfifo(os.path.join(room, "pipe"))
+        for name in ("/dev/zero", os.path.join(room, "pipe"), room):
+            how = {"stdout": subprocess.PIPE, "stderr": subprocess.PIPE, "check": False}
+            done = subprocess.run([binary, "thaw", name, world], **how)
+            need((done.returncode, done.stdout) == (4, b""), name, "ended with", done.returncode)

@@ -3,12 +3,12 @@ ghost use Rattle.std.specs.Prelude.{◌≡◌, ◌≤◌, IfOk, None, length};
 
 use lsl_ports::{Failed, Shelf};
 use std::fs::File;
-use std::io;
-use std::io::{Read, Seek, SeekFrom};
+use std::io::{ErrorKind, Read, Seek, SeekFrom};
 use std::rt::Files;
+use std::{fs, io};
 
-/// The files of the system, by their paths. It keeps and tells no contents, and its one count of
-/// faults stands for every name.
+/// The regular files of the system, by their paths: a device or a pipe may have no end, so it is a fault. It keeps and
+/// tells no contents, and its one count of faults stands for every name.
 #[derive(Drop)]
 pub struct FileShelf<'a, R: Files> {
     files: &'a R,
@@ -42,6 +42,9 @@ impl<R: Files> Shelf for FileShelf<'_, R> {
 fn read_at<R: Files>(files: &R, name: &str, place: u64, piece: &mut [u8]) -> io::Result<usize>
     ensures { IfOk result (λ count. count ≤ length piece.new) }
 {
+    if !fs::metadata(files, name)?.is_file() {
+        return Err(io::Error::from(ErrorKind::InvalidInput));
+    }
     let mut file = File::open(files, name)?;
     file.seek(SeekFrom::Start(place))?;
     file.read(piece)
@@ -51,7 +54,7 @@ fn read_at<R: Files>(files: &R, name: &str, place: u64, piece: &mut [u8]) -> io:
 mod tests {
     use super::*;
     use std::test::Fail;
-    use std::{env, fs, process};
+    use std::{env, process};
 
     #[test]
     fn reads_a_file_that_it_wrote(rt: HostRuntime) -> Result<(), Fail> {
@@ -64,9 +67,10 @@ mod tests {
         assert_eq!(rt; shelf.read(path.as_str(), 2, &mut piece), Ok(3));
         assert_eq!(rt; piece.as_slice(), b"cde".as_slice());
         assert_eq!(rt; shelf.read(path.as_str(), 6, &mut piece), Ok(0));
+        assert_eq!(rt; shelf.read("/dev/zero", 0, &mut piece), Err(Failed));
         fs::remove_file(&rt, path.as_str())?;
         assert_eq!(rt; shelf.read(path.as_str(), 0, &mut piece), Err(Failed));
-        assert_eq!(rt; shelf.faults, 1);
+        assert_eq!(rt; shelf.faults, 2);
         Ok(())
     }
 }

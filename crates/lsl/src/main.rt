@@ -21,8 +21,8 @@ use words::start;
 
 fn main(rt: HostRuntime) -> ExitCode {
     let mut shelf = FileShelf::new(&rt);
-    let mut sink = OutputSink::new(rt.stdout());
-    let mut notes = OutputSink::new(rt.stderr());
+    let mut sink = OutputSink::new(rt.stdout(), &rt);
+    let mut notes = OutputSink::new(rt.stderr(), &rt);
     let words = words_of(&rt);
     start(
         rt.alloc(),
