@@ -36,7 +36,7 @@ class Search:
         source = script_hints.source_of(self.mended.text, line, column)
         self.note(fault, source)
         for choices in self.ways(fault, source):
-            best = self.best(choices, (fault, source.place))
+            best = self.best(choices, self.mended.origin(source.place))
             if best:
                 self.mended, following = best
                 return following
@@ -62,8 +62,9 @@ class Search:
             mended = self.mended.copy()
             mended.apply(edits)
             found = self.check(mended.text)
-            if found is None:
-                return mended, None
+            is_past = found is not None and found[2] not in OF_PARTS and self.rank(mended, found)[1] > place
+            if found is None or (is_past and mended.text != self.mended.text):
+                return mended, found
             tried.append((self.rank(mended, found), -len(tried), mended, found))
         tried = [it for it in tried if it[2].text != self.mended.text]
         return max(tried, key=lambda it: it[:2])[2:] if tried else None

@@ -28,12 +28,13 @@ def checker(binary):
     """What gives the program's first fault of a text, as its line, its column and its number; nothing where the text is
     accepted."""
 
+    room = tempfile.TemporaryDirectory(prefix="lsl-check-")
+
     def check(text):
-        with tempfile.TemporaryDirectory(prefix="lsl-check-") as room:
-            path = os.path.join(room, "s.lsl")
-            with open(path, "wb") as file:
-                file.write(text)
-            found = FIRST_FAULT.search(run(binary, ["check", path]).output)
+        path = os.path.join(room.name, "s.lsl")
+        with open(path, "wb") as file:
+            file.write(text)
+        found = FIRST_FAULT.search(run(binary, ["check", path]).output)
         return tuple(map(int, found.groups())) if found else None
 
     return check
