@@ -5,6 +5,7 @@ import io
 import json
 import os
 import re
+import subprocess
 import tempfile
 
 from . import diagnostics, findings, making, places, playing, program, reporting, tables, talking, warned, words
@@ -161,6 +162,15 @@ def played(play, room):
             # What is shown at the last line alone counts.
             talk.do(word, rest) if line is play["play"][-1] or word in ("by", "prim") else talk.step(word, rest)
     return said.getvalue()
+
+
+@check
+def the_causes_of_an_example_are_as_documented():
+    text = places.text_of("docs", "DEBUGGING.md")
+    wanted = re.search(r"\$ tools/explain --why (\S+)\n(.*?)```", text, re.S)
+    how = {"stdout": subprocess.PIPE, "cwd": places.TOP, "env": {**os.environ, "LSL_PROGRAM": making.any_program()}}
+    said = subprocess.run([places.in_top("tools", "explain"), "--why", wanted[1]], check=True, **how).stdout.decode()
+    need(said == wanted[2], "said", said)
 
 
 @check

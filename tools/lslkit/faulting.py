@@ -104,7 +104,7 @@ def memory(place, teller):
     for name, size, value in stating.spent(script)[:MOST_SPENT]:
         shown = f": {cut(teller.value(value))}" if value is not None else ""
         said.append(f"  {size:,} by {name}{shown}")
-    return said
+    return [*said, f"  and then by what line {place.line} was making"]
 
 
 def cut(text):

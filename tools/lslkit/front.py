@@ -19,14 +19,16 @@ usage: lsl once FILE                runs a script, and prints its journal
        lsl thaw FROZEN WORLD        goes on from what 'freeze' printed, with the steps of a world file
        lsl view FROZEN WORLD        shows where the scripts of what 'freeze' printed stand
        lsl make NUMBER              plays a world made of a number, and prints its report's lines and digest
-       lsl check FILE               says that a script is accepted, or tells its first fault
-       lsl play FILE ..             plays a script without a world file: 'lsl play --help'
+       lsl check FILE               says that a script is accepted, or prints its first fault
+                                    with --explain a refusal is said in words, as on a terminal
+       lsl play FILE ..             plays scripts without a world file, or goes on after one: 'lsl play --help'
        lsl server                   answers an editor, by the Language Server Protocol
 {of_checkout}       lsl --version                which program runs: its version and commit, whether it is proved, its kit
        lsl --help
 
 Write ./-x for a file whose name begins with '-'.{built}
-'tools/explain FILE' prints a script's first fault in words, as 'lsl check FILE' does on a terminal."""
+'tools/explain FILE' prints all faults of a script in words, as 'lsl check FILE' does on a terminal, and with --warn
+what is likely to be a mistake."""
 # What a package has no use for: it builds nothing.
 OF_CHECKOUT = """\
        lsl --prove [WORDS]          proves the program first, in about an hour

@@ -1,6 +1,6 @@
 """Why nobody heard what was said, took a touch, or did anything when the clock went on: from the state of each script at
 that step. The words are in tools/words/causes.json."""
-from . import journal, snapshot, stating, syntax, telling, tokens, worlds
+from . import journal, messages, snapshot, stating, syntax, telling, tokens, worlds
 from .past import RUNS
 from .places import bytes_of
 from .quoting import quoted
@@ -47,7 +47,7 @@ class Hearing:
         """Why a step had no effect, as lines; none where it had one."""
         it = self.world.steps[step]
         rule = {"say": self.of_say, "touch": self.of_touch, "clock": self.of_clock, "changed": self.of_changed, "rez": self.of_rez}
-        found = [*rule[it.word](step, it), *self.of_chats(step)] if it.word in rule else []
+        found = [*rule[it.word](step, it), *self.of_chats(step), *self.of_messages(step)] if it.word in rule else []
         return list(dict.fromkeys(found))
 
     # What stops a script
@@ -115,6 +115,23 @@ class Hearing:
         if near and None not in heard:
             before = said("said", script=self.name(speaker), channel=channel, text=quoted(text))
             yield f"{before}: {'; '.join(near)}"
+
+    def of_messages(self, step):
+        """Messages that scripts sent to others of their object, of which none takes one."""
+        steps = self.with_runs(step)
+        is_taken = any(self.takes(at, step, messages.TAKEN) for at in range(len(self.world.scripts)))
+        for number, line in () if is_taken or not self.past.new_at(steps.stop - 1) else messages.sent(self.past, steps):
+            own = self.world.scripts[number - 1].prim
+            others = [at for at, it in enumerate(self.world.scripts) if it.prim.object == own.object and at != number - 1]
+            reasons = [self.halted(at, step) or self.without_handler(at, step) for at in others]
+            if own.name != SENDERS_PRIM and None not in reasons:
+                why = "; ".join(reasons) or said("alone")
+                yield said("message", script=self.name(number - 1), line=line, why=why)
+
+    def without_handler(self, at, step):
+        script = self.scripts(step)[at]
+        missing = said("no-handler", script=self.name(at), event=messages.TAKEN, state=script.state)
+        return None if self.handles(at, script, messages.TAKEN) else missing
 
     def with_runs(self, step):
         """A step and the runs after it."""

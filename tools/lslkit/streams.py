@@ -42,6 +42,8 @@ def run(tool, main):
     except SystemExit as end:
         status = flushed(tool, end.code)
     except KeyboardInterrupt:
+        if sys.stderr.isatty():
+            print(file=sys.stderr)
         status = said(tool, "interrupted", STOPPED + signal.SIGINT)
     except Stopped as signalled:
         status = said(tool, "stopped", STOPPED + signalled.args[0])

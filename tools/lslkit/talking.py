@@ -15,10 +15,10 @@ touch [NAME] [LINK]     say [CHANNEL] TEXT      by NAME: who touches and says fr
 wait [TIME]             the clock goes on from timer to timer: 10s, 2m, 500ms; 'wait' alone: 1s
 changed FLAGS           rez N                   run TICKS: how many segments run after each step
 cross REGION            message N TEXT          go SCRIPT TICKS         pause GAPS
-.. on NAME              behind a step: the object or the prim for which it is
+... on NAME             after a step: the object or the prim for which it is
 object NAME             prim NAME               script FILE             note FILE: there is more
 state [SCRIPT]          where scripts are, what they hold, wait for and listen to
-why                     why the last step had no effect, or who else heard nothing
+why                     why the last step had no effect
 world                   prints the world file so far; save FILE and freeze FILE write it
 quit"""
 WORDS = ("touch", "say", "wait", "state", "why", "world", "help", "quit")
