@@ -8,7 +8,15 @@ import time
 from . import making, places, playing, program, stage, talking, worlds
 from .checking import check, need
 
-HELLO, BAD, WORLD = "examples/hello.lsl", "examples/bad/bell.lsl", "examples/door/door.world"
+HELLO, JOURNAL = "examples/hello.lsl", "examples/hello.out"
+BAD, WORLD = "examples/bad/bell.lsl", "examples/door/door.world"
+TICKING = "integer n; default { state_entry() { llSetTimerEvent(7); } timer() { llOwnerSay((string)++n); } }"
+NAMING = (
+    "default { touch_start(integer n) { llSay(0, llDetectedName(0)); } changed(integer f) { llSay(0, (string)f); } }"
+)
+NAMED = (
+    "touch \"Ann Lee\"\nchanged CHANGED_OWNER | CHANGED_LINK\nchanged nothing\nby 'Bob'\ntouch\nwait soon\nquit\n"
+)
 CUT = "standard output took no more, and is cut short (status 5)\n"
 
 
@@ -51,14 +59,14 @@ def an_output_that_takes_nothing_is_status_5():
 def pages_that_cannot_be_written_are_told():
     with tempfile.TemporaryDirectory() as room:
         for page in (room, os.path.join(room, "none", "page.html")):
-            for words in (["lsl", "once", HELLO], ["lsl", "play", HELLO, "--touch", "Ann"], ["tools/show", "examples/hello.out"]):
+            for words in (["lsl", "once", HELLO], ["lsl", "play", HELLO, "--touch", "Ann"], ["tools/show", JOURNAL]):
                 _, notes = run(*words, "--html", page, status=5)
                 need(notes.count("\n") == 1 and page in notes, words, "says", notes)
 
 
 @check
 def wrong_files_of_a_journal_are_told():
-    for words in (["examples/hello.out", HELLO], [HELLO], [WORLD], ["/bin/sh"], ["examples/hello.out", "/bin/sh"], ["examples"]):
+    for words in ([JOURNAL, HELLO], [HELLO], [WORLD], ["/bin/sh"], [JOURNAL, "/bin/sh"], ["examples"]):
         _, notes = run("tools/show", *words, status=1)
         need(notes.count("\n") == 1, words, "says", notes)
 
@@ -110,8 +118,10 @@ def other_words_and_files_are_understood():
     need(run("lsl", "help", status=0)[0].startswith("usage: lsl once"), "help")
     need(run("lsl", "--version", status=0)[0].startswith("lsl "), "version")
     need(run("lsl", "check", "--try", HELLO, status=0)[0] == f'accepted "{HELLO}"\n', "--try after the command")
-    need("is a script and no world file: write 'lsl once" in run("lsl", "replay", HELLO, status=2)[1], "a script as a world")
-    need("is a world file and no script: write 'lsl replay" in run("lsl", "once", WORLD, status=3)[1], "a world as a script")
+    _, notes = run("lsl", "replay", HELLO, status=2)
+    need("is a script and no world file: write 'lsl once" in notes, "a script as a world", notes)
+    _, notes = run("lsl", "once", WORLD, status=3)
+    need("is a world file and no script: write 'lsl replay" in notes, "a world as a script", notes)
 
 
 @check
@@ -128,7 +138,7 @@ def files_of_another_folder_are_told_in_one_line():
 def a_wait_goes_from_timer_to_timer():
     with tempfile.TemporaryDirectory() as room:
         path = os.path.join(room, "t.lsl")
-        places.write_text(path, "integer n; default { state_entry() { llSetTimerEvent(7); } timer() { llOwnerSay((string)++n); } }")
+        places.write_text(path, TICKING)
         output, _ = run("lsl", "play", path, "--after", "60s", "--journal", status=0)
         need(output.count("took 1 timer") == 8, "played", output)
         binary = making.any_program()
@@ -142,9 +152,8 @@ def a_wait_goes_from_timer_to_timer():
 def a_play_takes_names_and_quotes():
     with tempfile.TemporaryDirectory() as room:
         path = os.path.join(room, "t.lsl")
-        places.write_text(path, "default { touch_start(integer n) { llSay(0, llDetectedName(0)); } changed(integer f) { llSay(0, (string)f); } }")
-        steps = 'touch "Ann Lee"\nchanged CHANGED_OWNER | CHANGED_LINK\nchanged nothing\nby \'Bob\'\ntouch\nwait soon\nquit\n'
-        output, _ = run("lsl", "play", path, input=steps.encode(), status=0)
+        places.write_text(path, NAMING)
+        output, _ = run("lsl", "play", path, input=NAMED.encode(), status=0)
         for wanted in ('"Ann Lee"', '"160"', "'nothing' is no number", '"Bob"', "'soon' is no time"):
             need(wanted in output, wanted, "isn't in", output)
 
@@ -155,7 +164,8 @@ def a_play_has_objects_prims_notecards_and_regions():
         world, frozen, note = (os.path.join(room, it) for it in ("w.world", "frozen", "prices.txt"))
         places.write_text(note, "Tea 5\n")
         words = ["examples/door/door.lsl", "--prim", "Lamp", "examples/door/lamp.lsl", "--object", "Log"]
-        words += ["examples/door/log.lsl", "--note", note, "--region", "North", "--by", "Ann", "--say", "open", "--channel", "5"]
+        words += ["examples/door/log.lsl", "--note", note, "--region", "North"]
+        words += ["--by", "Ann", "--say", "open", "--channel", "5"]
         output, _ = run("lsl", "play", *words, "--cross", "South", "--on", "log", "--freeze", frozen, status=0)
         need("link_message" in output and "Log crosses from North to South" in output, "played", output)
         places.write_text(world, run("lsl", "play", *words, "--world", status=0)[0])

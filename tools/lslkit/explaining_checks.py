@@ -17,7 +17,8 @@ from .quoting import unquoted
 def faults_have_one_table_of_words():
     rows = dict(re.findall(r"(?m)^\| (\d+) \| (.*?) \|", places.text_of("docs", "FAULTS.md")))
     table = {number: row["says"] for number, row in words.table("faults").items()}
-    need(rows == table, "docs/FAULTS.md differs from tools/words/faults.json in", set(rows.items()) ^ set(table.items()))
+    differing = set(rows.items()) ^ set(table.items())
+    need(not differing, "docs/FAULTS.md differs from tools/words/faults.json in", differing)
 
 
 def check_of_program():
@@ -37,7 +38,7 @@ def lines_of_run(text):
 @check
 def each_substitute_runs():
     for name, row in words.table("substitutes")["names"].items():
-        need(name in tables.known_to_lsl() and not tables.is_here(name), name, "isn't what LSL has and this language hasn't")
+        need(name in tables.known_to_lsl() and not tables.is_here(name), name, "isn't what LSL alone has")
         pasted, before = "\n".join(row.get("function", [])), row.get("before", "")
         tests = row.get("tests", [])
         need(not pasted or tests or "says" in row, name, "has no test")
@@ -69,7 +70,8 @@ default {
 }
 """
     found = [(it.fault, text[it.start : it.end].decode(), it.is_first) for it in findings.of(text, check_of_program())]
-    wanted = [(5, "#", True), (12, "vector", False), (4, "1", False), (20, "llSetColor", False), (20, "ALL_SIDES", False)]
+    wanted = [(5, "#", True), (12, "vector", False), (4, "1", False)]
+    wanted += [(20, "llSetColor", False), (20, "ALL_SIDES", False)]
     wanted += [(10, "integer", False), (5, "'", False), (20, "break", False), (20, "cuont", False), (23, "+", False)]
     wanted += [(30, "sensor", False), (20, "llKey2Name", False), (20, "llWhat", False)]
     need(found == wanted, "found", found)

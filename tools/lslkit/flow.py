@@ -16,10 +16,8 @@ def constant(value):
     row = tables.constants().get(value.text) if value.form == "name" else None
     if row and row.kind == "integer":
         return int(row.value)
-    if value.form == "unary":
-        inner = constant(value.parts[0])
-        return None if inner is None else -inner if value.text == "-" else int(not inner) if value.text == "!" else ~inner
-    return None
+    inner = constant(value.parts[0]) if value.form == "unary" else None
+    return None if inner is None else {"-": -inner, "!": int(not inner), "~": ~inner}[value.text]
 
 
 def condition_of(node, tokens):
@@ -50,7 +48,8 @@ def leaves(node):
 
 def is_endless(node, tokens):
     """Whether a loop goes round for ever, as it is written."""
-    return node.form in LOOPS and bool(constant(condition_of(node, tokens))) and not any(it.form == "jump" for it in walk(node))
+    is_left = any(it.form == "jump" for it in walk(node))
+    return node.form in LOOPS and not is_left and bool(constant(condition_of(node, tokens)))
 
 
 def ends(node, tokens):
@@ -85,4 +84,5 @@ def rounds(node, tokens):
     low, high = constant(starts[0].parts[1]), constant(condition.parts[1])
     step = steps[0]
     by = 1 if step.form == "step" else constant(step.parts[1]) if step.form == "assign" and step.text == "+=" else None
-    return None if None in (low, high, by) or not by or condition.text not in ("<", "<=") else max(0, (high - low) // by)
+    is_known = None not in (low, high, by) and by != 0 and condition.text in ("<", "<=")
+    return max(0, (high - low) // by) if is_known else None

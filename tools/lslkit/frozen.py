@@ -173,7 +173,8 @@ class Decoder:
         reader.take("i")
         listens = [reader.listen() for _ in range(reader.take("B"))]
         found = {"state": state, "leaving": leaving, "globals": globals_, "queue": queue, "listens": listens}
-        return {**found, "timer": (reader.take("I"), reader.take("Q")), "wakes": reader.take("Q"), "limit": reader.take("I")}
+        found.update(timer=(reader.take("I"), reader.take("Q")), wakes=reader.take("Q"), limit=reader.take("I"))
+        return found
 
     def calls(self, at, left, found, rest):
         """The calls, the innermost first, with as few waiting operands as let the rest fit."""

@@ -1,5 +1,7 @@
-"""Why nobody heard what was said, took a touch, or did anything when the clock went on: from the state of each script at
-that step. The words are in tools/words/causes.json."""
+"""Why nobody heard what was said, took a touch, or did anything when the clock went on: from the state of each script
+at that step. The words are in tools/words/causes.json."""
+from collections import namedtuple
+
 from . import journal, messages, snapshot, stating, syntax, telling, tokens, worlds
 from .past import RUNS
 from .places import bytes_of
@@ -8,6 +10,10 @@ from .stage import SENDERS_PRIM
 from .words import filled, table
 
 TOUCHES = ("touch_start", "touch", "touch_end")
+# The steps that scripts may take.
+ACTS = ("say", "touch", "clock", "changed", "rez")
+# What was said: the channel, who said it with name and key, the text, and the script that said it or none.
+Spoken = namedtuple("Spoken", "channel who key text speaker")
 NO_KEY = "00000000-0000-0000-0000-000000000000"
 
 
@@ -46,8 +52,8 @@ class Hearing:
     def causes(self, step):
         """Why a step had no effect, as lines; none where it had one."""
         it = self.world.steps[step]
-        rule = {"say": self.of_say, "touch": self.of_touch, "clock": self.of_clock, "changed": self.of_changed, "rez": self.of_rez}
-        found = [*rule[it.word](step, it), *self.of_chats(step), *self.of_messages(step)] if it.word in rule else []
+        rule = getattr(self, f"of_{it.word}") if it.word in ACTS else None
+        found = [*rule(step, it), *self.of_chats(step), *self.of_messages(step)] if rule else []
         return list(dict.fromkeys(found))
 
     # What stops a script
@@ -78,15 +84,14 @@ class Hearing:
     # What is said
 
     def of_say(self, step, it):
-        channel, who, key, text = int(it.fields[0]), it.fields[1], it.fields[2].lower(), it.fields[3]
-        return self.of_text(step, channel, who, key, text, None)
+        return self.of_text(step, Spoken(int(it.fields[0]), it.fields[1], it.fields[2].lower(), it.fields[3], None))
 
-    def of_text(self, step, channel, who, key, text, speaker):
+    def of_text(self, step, spoken):
         """The causes for each script that doesn't take a text that was said at a step; of those that listen on another
         channel only where nobody takes it."""
         near, far, is_heard = [], [], False
         for at, script in enumerate(self.scripts(step)):
-            cause = self.deaf(at, script, step, channel, who, key, text, speaker)
+            cause = self.deaf(at, script, step, spoken)
             if cause is None:
                 is_heard = True
                 near += self.waiting(at, step, "listen")
@@ -105,16 +110,17 @@ class Hearing:
             if entry.word == "chat":
                 (_, _), (channel, _), (text, _) = journal.fields(entry.rest)
                 prim = self.world.scripts[entry.number - 1].prim
+                spoken = Spoken(int(channel), prim.name, prim.key, text, entry.number - 1)
                 # People hear what is said on channel 0.
-                yield from () if channel == "0" else self.of_chat(step + 1, int(channel), prim, text, entry.number - 1)
+                yield from self.of_chat(step + 1, spoken) if spoken.channel else ()
 
-    def of_chat(self, count, channel, prim, text, speaker):
+    def of_chat(self, count, spoken):
         count = min(count, len(self.world.steps))
-        heard = [self.deaf(at, it, count, channel, prim.name, prim.key, text, speaker) for at, it in enumerate(self.scripts(count))]
+        heard = [self.deaf(at, it, count, spoken) for at, it in enumerate(self.scripts(count))]
         near = [it[1] for it in heard if it and it[0]]
         if near and None not in heard:
-            before = said("said", script=self.name(speaker), channel=channel, text=quoted(text))
-            yield f"{before}: {'; '.join(near)}"
+            fields = {"script": self.name(spoken.speaker), "channel": spoken.channel, "text": quoted(spoken.text)}
+            yield f"{said('said', **fields)}: {'; '.join(near)}"
 
     def of_messages(self, step):
         """Messages that scripts sent to others of their object, of which none takes one."""
@@ -122,11 +128,15 @@ class Hearing:
         is_taken = any(self.takes(at, step, messages.TAKEN) for at in range(len(self.world.scripts)))
         for number, line in () if is_taken or not self.past.new_at(steps.stop - 1) else messages.sent(self.past, steps):
             own = self.world.scripts[number - 1].prim
-            others = [at for at, it in enumerate(self.world.scripts) if it.prim.object == own.object and at != number - 1]
+            others = [at for at in self.places_in(own.object) if at != number - 1]
             reasons = [self.halted(at, step) or self.without_handler(at, step) for at in others]
             if own.name != SENDERS_PRIM and None not in reasons:
                 why = "; ".join(reasons) or said("alone")
                 yield said("message", script=self.name(number - 1), line=line, why=why)
+
+    def places_in(self, number):
+        """The places of an object's scripts."""
+        return [at for at, it in enumerate(self.world.scripts) if it.prim.object == number]
 
     def without_handler(self, at, step):
         script = self.scripts(step)[at]
@@ -140,17 +150,19 @@ class Hearing:
             last += 1
         return range(step, last)
 
-    def deaf(self, at, script, step, channel, who, key, text, speaker):
+    def deaf(self, at, script, step, spoken):
         """Whether a script is one that listens on the channel, and why it doesn't hear a text; none where it does."""
-        name, on = self.name(at), [it for it in script.listens if it.channel == channel]
+        name, channel = self.name(at), spoken.channel
+        on = [it for it in script.listens if it.channel == channel]
         if script.rest == "dead":
             return True, self.halted(at, step)
-        if speaker is not None and self.world.scripts[at].prim == self.world.scripts[speaker].prim:
-            return (True, said("own-prim", script=name)) if on else (False, self.no_listen(at, script, step, channel))
+        speaker = self.world.scripts[spoken.speaker] if spoken.speaker is not None else None
+        if speaker and self.world.scripts[at].prim == speaker.prim:
+            return (True, said("own-prim", script=name)) if on else (False, self.no_listen(at, script, channel))
         if not on:
             gone = self.gone_listen(at, step, channel)
-            return (True, gone) if gone else (False, self.no_listen(at, script, step, channel))
-        reasons = [self.filtered(it, name, who, key, text) for it in on]
+            return (True, gone) if gone else (False, self.no_listen(at, script, channel))
+        reasons = [self.filtered(it, name, spoken) for it in on]
         if None not in reasons:
             return True, reasons[0]
         if not self.handles(at, script, "listen"):
@@ -162,24 +174,24 @@ class Hearing:
         halted = self.halted(at, step)
         return said("full", script=self.name(at)) + (f"; {halted}" if halted else "")
 
-    def no_listen(self, at, script, _, channel):
+    def no_listen(self, at, script, channel):
         channels = sorted({it.channel for it in script.listens})
         if not channels:
             return said("no-listen", script=self.name(at))
         return said("other-channels", script=self.name(at), channels=", ".join(map(str, channels)), channel=channel)
 
-    def filtered(self, listen, name, who, key, text):
+    def filtered(self, listen, name, spoken):
         """Which part of a listen doesn't fit; none where all fit."""
+        fields = {"script": name, "channel": listen.channel, "who": spoken.who or "someone"}
         if not listen.is_active:
-            return said("off", script=name, channel=listen.channel)
-        if listen.name and listen.name != who:
-            return said("name", script=name, channel=listen.channel, wanted=quoted(listen.name), who=who or "someone")
+            return said("off", **fields)
+        if listen.name and listen.name != spoken.who:
+            return said("name", wanted=quoted(listen.name), **fields)
         is_asked = worlds.KEY.fullmatch(listen.id) and listen.id != NO_KEY
-        if is_asked and listen.id != key:
-            wanted = self.names.value(listen.id, True)
-            return said("id", script=name, channel=listen.channel, wanted=wanted, who=who or "someone")
-        if listen.message and listen.message != text:
-            return said("text", script=name, channel=listen.channel, wanted=quoted(listen.message))
+        if is_asked and listen.id != spoken.key:
+            return said("id", wanted=self.names.value(listen.id, True), **fields)
+        if listen.message and listen.message != spoken.text:
+            return said("text", wanted=quoted(listen.message), **fields)
         return None
 
     def gone_listen(self, at, step, channel):
@@ -213,9 +225,9 @@ class Hearing:
         number, link = int(it.fields[0]), max(1, int(it.fields[1]))
         if self.world.objects[number - 1].prims[link - 1].name == SENDERS_PRIM:
             return list(self.of_event(step, number, "link_message"))
-        places = [at for at, one in enumerate(self.world.scripts) if one.prim.object == number]
-        own = [at for at in places if self.world.scripts[at].prim.link == link]
-        takers = [at for at in own if self.has_touch(at, step)] or [at for at in places if self.world.scripts[at].prim.link == 1]
+        links = {at: self.world.scripts[at].prim.link for at in self.places_in(number)}
+        own = [at for at, it in links.items() if it == link]
+        takers = [at for at in own if self.has_touch(at, step)] or [at for at, it in links.items() if it == 1]
         if not takers and not own:
             return [said("no-script")]
         return [cause for at in dict.fromkeys([*takers, *own]) for cause in self.untouched(at, step)]

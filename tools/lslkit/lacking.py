@@ -84,7 +84,8 @@ def hints_of(finding, text):
     if finding.group == "point":
         pairs = dict.fromkeys(it for _, _, it in finding.more if it)
         whole = ", ".join(f"{new} for {old}" for old, new in pairs)
-        return finding.hints if is_one and len(pairs) < 2 else [f"only whole numbers are in the language, {where}: write {whole}"]
+        several = [f"only whole numbers are in the language, {where}: write {whole}"]
+        return finding.hints if is_one and len(pairs) < 2 else several
     if finding.group in ("vector", "float"):
         kind = [words.table("substitutes")["others"]["vector"]["write"]] if finding.group == "vector" else finding.hints
         return [*kind, *([] if is_one else [where])]

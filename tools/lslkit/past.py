@@ -1,5 +1,5 @@
-"""What a world was after each of its steps: its journal so far, and its state. Each is worked out once, when it is asked
-for."""
+"""What a world was after each of its steps: its journal so far, and its state. Each is worked out once, when it is
+asked for."""
 import os
 import tempfile
 from collections import namedtuple

@@ -45,7 +45,8 @@ What there is, in this order; a script is in the prim that was named last:
   lsl play examples/door/door.world"""
 STEPS = ("touch", "say", "after", "changed", "rez", "cross", "message")
 # What describes a step, and which.
-DETAILS = {"link": ("touch",), "channel": ("say",), "by": ("say", "touch"), "on": ("touch", "changed", "rez", "cross", "message")}
+OF_OBJECTS = ("touch", "changed", "rez", "cross", "message")
+DETAILS = {"link": ("touch",), "channel": ("say",), "by": ("say", "touch"), "on": OF_OBJECTS}
 PARTS = ("object", "prim", "note", "region")
 # The steps and lines that are in every play.
 HIDDEN = ("run", "home")

@@ -60,7 +60,8 @@ class Prober:
             return self.probe("to", node.text, node.first)
         if node.form == "value" and node.parts[0].form == "call" and node.parts[0].text == "llResetScript":
             return self.probe("reset", "", node.first)
-        is_told = (self.is_full and node.form not in ("label", "empty", "block")) or node.form in (*LOOPS, "jump") or any(map(self.waits, self.own_values(node)))
+        is_told = self.is_full and node.form not in ("label", "empty", "block")
+        is_told = is_told or node.form in (*LOOPS, "jump") or any(map(self.waits, self.own_values(node)))
         return self.probe("line", "", node.first) if is_told else ""
 
     def statement(self, node):
@@ -93,8 +94,8 @@ def mark_of(texts):
 
 
 def probed(text, mark, probes, is_full=False):
-    """The copy of a script's text with probes, which are added to `probes`; the text itself where it can't be read. They
-    are before each statement where it is full, and else where a tick may pass."""
+    """The copy of a script's text with probes, which are added to `probes`; the text itself where it can't be read. A
+    full copy has one before each statement, and else they are where a tick may pass."""
     known = len(probes)
     try:
         return Prober(text, mark, probes, is_full).probed()

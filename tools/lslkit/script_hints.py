@@ -58,8 +58,8 @@ def is_time(source):
 def number_with_point(source):
     """What a whole number in its place is."""
     whole = whole_number(source)
-    if whole is not None:
-        yield f"write whole seconds: {whole}" if is_time(source) else f"only whole numbers are in the language, as {whole}"
+    before = "write whole seconds: " if is_time(source) else "only whole numbers are in the language, as "
+    yield None if whole is None else f"{before}{whole}"
 
 
 def open_string(source):

@@ -81,8 +81,8 @@ def rest_of(script, clock):
     if script.rest == "dead":
         return f"dead: {script.fault}"
     if script.rest == "running":
-        is_asleep = script.wakes > clock
-        return f"asleep in {script.event.name} until {telling.seconds(script.wakes)} s" if is_asleep else f"in {script.event.name}"
+        event, is_asleep = script.event.name, script.wakes > clock
+        return f"asleep in {event} until {telling.seconds(script.wakes)} s" if is_asleep else f"in {event}"
     if script.leaving:
         return f"leaving it for {script.leaving}"
     return "waits for an event" if not script.queue else "idle"

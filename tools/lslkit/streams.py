@@ -1,4 +1,4 @@
-"""How a tool begins and ends: with standard streams that can be used, and whatever comes, with one line and a status."""
+"""How a tool begins and ends: with standard streams that can be used, and in any case with a line and a status."""
 import contextlib
 import os
 import signal
@@ -20,7 +20,8 @@ def stop(number, _):
 
 def open_missing():
     """Has the standard streams open: a file that takes no byte in the place of a closed standard output."""
-    for number, path, how in ((0, os.devnull, os.O_RDONLY), (1, "/dev/full", os.O_WRONLY), (2, os.devnull, os.O_WRONLY)):
+    paths = ((0, os.devnull, os.O_RDONLY), (1, "/dev/full", os.O_WRONLY), (2, os.devnull, os.O_WRONLY))
+    for number, path, how in paths:
         try:
             os.fstat(number)
         except OSError:

@@ -23,7 +23,6 @@ world                   prints the world file so far; save FILE and freeze FILE 
 quit"""
 WORDS = ("touch", "say", "wait", "state", "why", "world", "help", "quit")
 MOST_WAITS, MOST_STEPS, MOST_LINES, LAST_LINES = 1000, 400, 60, 10
-ACTS = ("say", "touch", "clock", "changed", "rez")
 
 
 def replayed(binary, text):
@@ -55,7 +54,8 @@ def wait(binary, stage, text):
             break
         stage.go_to(min(due))
     else:
-        print(f"lsl: {MOST_WAITS:,} timers and sleeps came before {telling.seconds(end)} s: the rest is left out", file=sys.stderr)
+        said = f"{MOST_WAITS:,} timers and sleeps came before {telling.seconds(end)} s: the rest is left out"
+        print(f"lsl: {said}", file=sys.stderr)
     stage.go_to(end)
 
 
@@ -67,7 +67,7 @@ def tell_causes(binary, text):
 
 def cause_lines(history):
     found = hearing.Hearing(history)
-    acts = [(step, it) for step, it in enumerate(history.world.steps) if it.word in ACTS]
+    acts = [(step, it) for step, it in enumerate(history.world.steps) if it.word in hearing.ACTS]
     for step, it in acts if len(history.world.steps) <= MOST_STEPS else ():
         said = found.causes(step)
         if said:
@@ -254,7 +254,7 @@ class Talk:
     def reasons(self):
         """Why the last steps had no effect, and where a script stopped."""
         history = self.history()
-        steps = [at for at in range(self.first, len(history.world.steps)) if history.world.steps[at].word in ACTS]
+        steps = [at for at in range(self.first, len(history.world.steps)) if history.world.steps[at].word in hearing.ACTS]
         found = hearing.Hearing(history, self.first)
         causes = [it for step in steps[-3:] for it in found.causes(step)]
         running = found.still_running(len(history.world.steps))
@@ -265,14 +265,16 @@ class Talk:
         last = [it for it in history.world.steps[self.first :] if it.word == "cross"]
         state = history.end().state if history.end() else None
         numbers = [int(it.fields[0]) for it in last] if state else []
-        return [f"{telling.Names(history.world).object_name(it)} is in {state.objects[it - 1].region}" for it in numbers]
+        names = telling.Names(history.world)
+        return [f"{names.object_name(it)} is in {state.objects[it - 1].region}" for it in numbers]
 
     def why(self, _):
         history = self.history()
-        steps = [at for at, it in enumerate(history.world.steps) if it.word in ACTS]
+        steps = [at for at, it in enumerate(history.world.steps) if it.word in hearing.ACTS]
         said = hearing.Hearing(history).causes(steps[-1]) if steps else []
-        names = telling.Names(history.world)
-        print("\n".join(said) if said else f"{names.step(history.world.steps[steps[-1]])}: it was taken" if steps else "no step yet")
+        if not said:
+            said = [f"it was taken, {history.label(steps[-1])}" if steps else "there is no step yet"]
+        print("\n".join(said))
 
     def state(self, name):
         """Where the scripts are, and all that they hold."""

@@ -99,8 +99,8 @@ def unused_label(script):
 def hidden_variable(script):
     for it in script.names.found:
         if it.hides and it.node.text:
-            line = script.line(it.hides.node)
-            yield script.at("hidden-variable", it.node, [it.hides.node], name=it.node.text, sort=it.hides.sort, line=line)
+            fields = {"name": it.node.text, "sort": it.hides.sort, "line": script.line(it.hides.node)}
+            yield script.at("hidden-variable", it.node, [it.hides.node], **fields)
 
 
 def missing_return(script):
@@ -130,7 +130,8 @@ def listen_in_loop(script):
         calls = [it for it in walk(flow.body_of(loop)) if it.form == "call"]
         is_removed = any(it.text == "llListenRemove" for it in calls)
         for it in calls:
-            varies = any(part.form in ("name", "call") and part.text not in tables.constants() for part in walk(it) if part is not it)
+            inner = [part for value in it.parts for part in walk(value) if part.form in ("name", "call")]
+            varies = any(part.text not in tables.constants() for part in inner)
             is_few = (flow.rounds(loop, script.tokens) or MOST_LISTENS + 1) <= MOST_LISTENS
             if it.text == "llListen" and varies and not is_removed and not is_few:
                 yield script.at("listen-in-loop", it)
