@@ -91,6 +91,8 @@ class Hearing:
         channel only where nobody takes it."""
         near, far, is_heard = [], [], False
         for at, script in enumerate(self.scripts(step)):
+            if self.world.scripts[at].prim.name == SENDERS_PRIM:
+                continue
             cause = self.deaf(at, script, step, spoken)
             if cause is None:
                 is_heard = True

@@ -17,7 +17,7 @@ changed FLAGS           rez N                   run TICKS: how many segments run
 cross REGION            message N TEXT          go SCRIPT TICKS         pause GAPS
 ... on NAME             after a step: the object or the prim for which it is
 object NAME             prim NAME               script FILE             note FILE: there is more
-state [SCRIPT]          where scripts are, what they hold, wait for and listen to
+state                   where scripts are, what they hold, wait for and listen to
 why                     why the last step had no effect
 world                   prints the world file so far; save FILE and freeze FILE write it
 quit"""
@@ -174,6 +174,8 @@ class Talk:
             self.stage.act(word, rest or ("0" if word == "rez" else ""), details)
         elif word == "cross":
             to = re.fullmatch(r"(?:(.+?)\s+)?to\s+(.+)", rest)
+            if rest in ("", "to"):
+                raise Bad("cross takes the name of a region")
             details["on"] = (to[1] and unquoted_word(to[1])) or on if to else on
             self.stage.act("cross", unquoted_word(to[2] if to else rest), details)
         elif word == "message":
@@ -254,7 +256,8 @@ class Talk:
     def reasons(self):
         """Why the last steps had no effect, and where a script stopped."""
         history = self.history()
-        steps = [at for at in range(self.first, len(history.world.steps)) if history.world.steps[at].word in hearing.ACTS]
+        done = enumerate(history.world.steps)
+        steps = [at for at, it in done if at >= self.first and it.word in hearing.ACTS]
         found = hearing.Hearing(history, self.first)
         causes = [it for step in steps[-3:] for it in found.causes(step)]
         running = found.still_running(len(history.world.steps))
