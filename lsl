@@ -6,6 +6,9 @@ import os
 import sys
 
 sys.path.insert(0, os.path.join(os.path.dirname(os.path.realpath(__file__)), "tools"))
-from lslkit import front, streams
+from lslkit import streams
+
+streams.begin("lsl")
+from lslkit import front
 
 streams.run("lsl", front.main)

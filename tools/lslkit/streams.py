@@ -8,6 +8,7 @@ import traceback
 CUT_SHORT, FAILED, STOPPED = 5, 70, 128
 # Set where whoever mends a tool wants to see where it failed.
 TRACE = "LSL_TRACE"
+SIGNALS = (signal.SIGINT, signal.SIGTERM, signal.SIGHUP)
 
 
 class Stopped(BaseException):
@@ -16,6 +17,18 @@ class Stopped(BaseException):
 
 def stop(number, _):
     raise Stopped(number)
+
+
+def begin(tool):
+    """Has a signal end a tool that has done nothing yet, as while its modules are read."""
+
+    def leave_at_once(number, _):
+        word = "interrupted" if number == signal.SIGINT else "stopped"
+        os.write(2, f"{tool}: {word} (status {STOPPED + number})\n".encode())
+        os._exit(STOPPED + number)
+
+    for number in SIGNALS:
+        signal.signal(number, leave_at_once)
 
 
 def open_missing():
@@ -35,7 +48,8 @@ def open_missing():
 def run(tool, main):
     """Runs a tool to its end. `main` takes the words of the call, and gives the status."""
     open_missing()
-    for number in (signal.SIGTERM, signal.SIGHUP):
+    signal.signal(signal.SIGINT, signal.default_int_handler)
+    for number in SIGNALS[1:]:
         signal.signal(number, stop)
     try:
         status = main(sys.argv[1:])
