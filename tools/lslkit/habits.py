@@ -92,7 +92,7 @@ def colon(source):
 
 
 def blanked_block(text, start):
-    """The edit that blanks what stands from a place to the end of the first block after it."""
+    """The edit that blanks all from a place to the end of the first block after it."""
     at, depth = text.find(b"{", start), 0
     while 0 <= at < len(text):
         depth += {b"{": 1, b"}": -1}.get(text[at : at + 1], 0)
@@ -202,7 +202,7 @@ def body(source, at, texts):
 
 
 def headers(source, at, texts):
-    """What stands outside of bodies: a global's value, a state without a handler, a statement in a state."""
+    """What is outside of bodies: a global's value, a state without a handler, a statement in a state."""
     depth = texts[:at].count("{") - texts[:at].count("}")
     begun = max((place for place in range(at) if texts[place] in (";", "}", "{")), default=-1) + 1
     if depth == 0 and begun < at - 1 and texts[begun] in TYPES and "=" in texts[begun:at]:

@@ -42,7 +42,7 @@ def unknown_name(source):
     if name in tables.calls() or name in own:
         line = source.lines.line_of(source.tokens[own[name].at].place) if name in own else 0
         sort = SORTS[own[name].form] if name in own else "call"
-        hidden = f"the {sort} of line {line} isn't visible here, or no {sort} may stand here"
+        hidden = f"the {sort} of line {line} isn't visible here, or no {sort} may be here"
         yield hidden if line else f"{name} is a call"
         return
     near = tables.nearest(name, {*own, *tables.calls(), *tables.constants()})
@@ -74,7 +74,7 @@ def taken_name(source):
             is_earlier = node.text == name and node.at < source.at
             if is_earlier and node.form in ("global", "function", "state", "handler", "parameter", "declare", "label"):
                 line = source.lines.line_of(source.tokens[node.at].place)
-                yield f"{name} stands in line {line} already"
+                yield f"line {line} has {name} already"
                 return
 
 
@@ -86,13 +86,13 @@ def wrong_kind(source):
             yield f"{said}, and this is {with_article(it.found)}" if it.found else None
             can_cast = (it.found, it.wanted) in WRITTEN_CASTS
             cast = f"write ({it.wanted}) before it" if can_cast else None
-            yield "perhaps the arguments stand in another order" if it.is_swapped else cast
+            yield "perhaps the arguments are in another order" if it.is_swapped else cast
             return
     yield from wrong_part(source)
 
 
 def wrong_part(source):
-    """Of a list in a list, and of a `return` with a value where none may stand, or the other way round."""
+    """Of a list in a list, and of a `return` with a value where none may be, or the other way round."""
     found = []
 
     def report(node, scope, routine):
@@ -122,7 +122,7 @@ def wrong_operands(source):
     kinds.visit(source.script, report)
     for operands in found[:1]:
         kind, *other = map(with_article, operands)
-        yield f"its left side is {kind} and its right one {other[0]}" if other else f"it stands before {kind}"
+        yield f"its left side is {kind} and its right one {other[0]}" if other else f"it is before {kind}"
         if word_at(source) in ("+", "+=") and "string" in operands[:2]:
             yield f"write (string) before the {'right' if operands[0] == 'string' else 'left'} one"
 
@@ -190,7 +190,7 @@ def unknown_label(source):
     labels = {it.text for root in syntax.roots(source.script) for it in syntax.walk(root) if it.form == "label"}
     name = word_at(source)
     near = tables.nearest(name, labels)
-    yield f"`@{name};` stands in no block around" if name in labels else f"do you mean {near}?" if near else None
+    yield f"`@{name};` is in no block around" if name in labels else f"do you mean {near}?" if near else None
 
 
 def wrong_event(source):

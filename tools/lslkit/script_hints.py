@@ -166,7 +166,7 @@ def pairs(source):
 
 
 def text_ended(source):
-    """Where the innermost sign that is still open stands."""
+    """Where the innermost sign is that is still open."""
     closed = {opening for opening, _ in pairs(source)}
     opened = [it for it in source.tokens if it.sort == "sign" and it.text in OPENING and it not in closed]
     if opened:

@@ -18,7 +18,7 @@ def hint(fault, text, number):
 
 def bad_form(text, number, line):
     if line.startswith("\ufeff"):
-        return 1, ["an invisible mark stands before the first word: save the file without a byte order mark"]
+        return 1, ["an invisible mark is before the first word: save the file without a byte order mark"]
     wrong = worlds.wrong_word(line)
     first = worlds.words_of(line)[0].text
     if wrong:
@@ -30,12 +30,12 @@ def bad_form(text, number, line):
     if first == "begin" and is_behind:
         return 1, [f"line {begin} is `begin` already"]
     if first in worlds.DECLARED and is_behind:
-        return 1, [f"`{first}` stands before `begin`, which is line {begin}"]
+        return 1, [f"`{first}` comes before `begin`, which is line {begin}"]
     if first in ("prim", "script", "note"):
-        return 1, [f"`{first}` stands behind an `object`"]
+        return 1, [f"`{first}` comes after an `object`"]
     if first not in worlds.DECLARED and not is_behind:
-        return 1, ["a step stands behind `begin`"]
-    return 1, ["nothing stands behind `end`"] if is_behind else []
+        return 1, ["a step comes after `begin`"]
+    return 1, ["nothing comes after `end`"] if is_behind else []
 
 
 def no_such_number(text, _, line):
