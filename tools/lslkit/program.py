@@ -112,10 +112,13 @@ def folder_of(world, it):
     return folder
 
 
-def tell_unread(name, is_world, frozen=None):
-    """Says what can't be read: of several files that one folder has, the first and how many there are."""
-    said = unread_files(name, is_world, frozen)
+def shortened(said):
+    """What can't be read: of several files that another folder has, the first and how many there are."""
     moved = [it for it in said if ELSEWHERE in it]
     more = f"; so are {len(moved) - 1} more" if len(moved) > 1 else ""
-    for it in [it for it in said if it not in moved[1:]]:
-        print(f"lsl: {it}{more if it in moved else ''}", file=sys.stderr)
+    return [f"{it}{more if it in moved else ''}" for it in said if it not in moved[1:]]
+
+
+def tell_unread(name, is_world, frozen=None):
+    for it in shortened(unread_files(name, is_world, frozen)):
+        print(f"lsl: {it}", file=sys.stderr)
