@@ -1,5 +1,5 @@
-// Colours of a text's lines, by the grammar of the files for VS Code (tools/lslkit/highlighting.py): patterns with a name,
-// which are tried one after another, and some that go from a beginning to an end over several lines.
+// Colours of a text's lines, by the grammar of the files for VS Code (tools/lslkit/highlighting.py): patterns with a
+// name, which are tried one after another, and some that go from a beginning to an end over several lines.
 
 const classOf = name => `c-${name.replace(/\.lsl$/, "").replaceAll(".", "-")}`;
 const WORLD_PIECES = {

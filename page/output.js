@@ -17,10 +17,11 @@ export class Output {
     element.addEventListener("keydown", event => event.key === "Enter" && this.goFirst());
   }
 
-  // Shows why nothing ran: the lines of a fault, or none.
-  refuse(fault) {
-    Object.assign(this, { lines: [], ends: [], scene: null, fault, said: fault?.said.split("\n") ?? [] });
-    this.rows.show(this.said.length);
+  // Shows why nothing ran: the lines of each fault.
+  refuse(faults) {
+    const said = faults.flatMap(fault => fault.said.split("\n").map(text => ({ fault, text })));
+    Object.assign(this, { lines: [], ends: [], scene: null, said });
+    this.rows.show(said.length);
   }
 
   // Shows a scene. `answer` and `asked` are those of its run.
@@ -46,9 +47,9 @@ export class Output {
     return this.linked(rowOf("cut", [`${this.scene.names.script(cut.script)} `], [text]), cut.script, source);
   }
 
-  faultRow(text) {
+  faultRow({ fault, text }) {
     const row = rowOf("fault", [text]);
-    Object.assign(row.dataset, { file: this.fault.name, line: this.fault.line });
+    Object.assign(row.dataset, { file: fault.name, line: fault.line });
     return row;
   }
 

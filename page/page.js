@@ -76,24 +76,23 @@ class Page {
         at("result").dataset.runs = this.runs;
       },
       status: (status, more) => panels.status(status, more),
-      fault: fault => this.showFault(fault),
+      faults: faults => this.showFaults(faults),
       draw: (...drawn) => panels.draw(...drawn),
       save: (file, asked) => panels.save(file, asked),
     };
   }
 
-  // The fault's file is shown; the caret goes to it where the run was asked for in the editor or by the button.
-  showFault(fault) {
-    this.problems.show(fault);
-    if (!fault || !this.panels.isAsked) return;
-    this.problems.visit(fault);
+  // The first fault's file is shown, and the caret goes to it, where the run was asked for.
+  showFaults(faults) {
+    this.problems.show(faults);
+    if (faults.length && this.panels.isAsked) this.problems.visit(faults[0]);
   }
 
   listen() {
     this.play.listen(what => {
       if (what === "text") {
         this.panels.old(this.runs > 0);
-        this.problems.forget();
+        this.problems.forget(this.play.shown.name);
       }
       if (what === "files" || what === "chosen") this.problems.mark();
     });

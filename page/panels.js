@@ -67,12 +67,12 @@ export class Panels {
   }
 
   // Shows a scene, or that there is none. `isSame` where it is the last one with more known of it.
-  draw(scene, answer, asked, isSame, fault) {
+  draw(scene, answer, asked, isSame, faults) {
     this.scene = scene;
     at("save").disabled = false;
     at("save").textContent = asked.word === "freeze" ? "Save the frozen world" : "Save the journal";
     if (scene) this.output.show(scene, answer, asked, isSame);
-    else this.output.refuse(fault);
+    else this.output.refuse(faults);
     this.told.show(scene?.rowCount ?? 0, !isSame);
     this.lines = scene ? null : answer.head.split("\n").slice(0, -1);
     this.journal.show(scene?.journal.count ?? this.lines.length, !isSame);

@@ -1,4 +1,4 @@
-// The fault of a file: its line is marked in the editor with the words beside it, and it is listed below the editor.
+// The faults of files: their lines are marked in the editor with the words beside them, and listed below the editor.
 
 const at = id => document.getElementById(id);
 
@@ -16,10 +16,10 @@ export class Problems {
     this.go(name, line, place);
   }
 
-  show(fault) {
-    this.found = fault ? [fault] : [];
+  show(faults) {
+    this.found = faults;
     const list = at("problems");
-    list.hidden = !fault;
+    list.hidden = !faults.length;
     list.replaceChildren(...this.found.map((it, place) => this.item(it, place)));
     this.mark();
   }
@@ -40,8 +40,8 @@ export class Problems {
     this.editor.mark(here.map(it => ({ line: it.line - 1, text: words(it), sort: "" })));
   }
 
-  // Forgets the fault of a file that has changed.
-  forget() {
-    if (this.found.length) this.show(null);
+  // Forgets the faults of a file that has changed.
+  forget(name) {
+    if (this.found.some(it => it.name === name)) this.show(this.found.filter(it => it.name !== name));
   }
 }

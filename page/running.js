@@ -5,7 +5,7 @@ import { Runner } from "./runner.js";
 import { Scene } from "./scene.js";
 import { stagedWorld } from "./stage.js";
 import { sizeOf, statusOf } from "./status.js";
-import { readWorld, worldOfOnce } from "./worlds.js";
+import { worldOfOnce } from "./worlds.js";
 
 const STAGED = "steps.world";
 const MOST_LOCATED = 40000000;
@@ -22,17 +22,8 @@ export function requestOf(play, words) {
   return { word: "replay", file: name, files: [...files, [name, world]], world };
 }
 
-// What a request's world says of its scripts, and how many segments run at its last step.
-function readRequest(asked) {
-  if (asked.world === undefined) return { ...asked, scripts: [], named: [], segments: 0 };
-  const { scripts, notes, steps } = readWorld(asked.world);
-  const runs = steps.filter(it => it.word === "run" || it.word === "go");
-  const segments = Number(runs.at(-1)?.fields.at(-1) ?? 0);
-  return { ...asked, scripts: scripts.map(it => it.file), named: [...scripts, ...notes], segments };
-}
-
 export class Running {
-  // `seen` has `begin`, `end`, `status`, `fault`, `draw` and `save`, which show what came.
+  // `seen` has `begin`, `end`, `status`, `faults`, `draw` and `save`, which show what came.
   constructor(play, words, seen) {
     Object.assign(this, { play, words, seen, isRunning: false, answer: null, scene: null });
     this.receiver = new Receiver();
@@ -41,7 +32,7 @@ export class Running {
 
   // Begins a run. One that is under way is ended.
   run() {
-    const asked = readRequest(requestOf(this.play, this.words));
+    const asked = requestOf(this.play, this.words);
     if (this.isRunning) this.runner.stop();
     Object.assign(this, { isRunning: true, asked, answer: null, scene: null });
     this.receiver = new Receiver();
@@ -75,20 +66,21 @@ export class Running {
 
   ran(answer) {
     this.answer = answer;
-    this.fault = explained(answer.head, this.asked.files, this.words);
+    Object.assign(this.asked, answer.named);
+    this.faults = answer.heads.map(it => explained(it, this.asked.files, this.words)).filter(it => it);
     this.tell();
-    this.seen.fault(this.fault);
+    this.seen.faults(this.faults);
     const isDrawn = this.asked.world !== undefined && ![2, 3, 8].includes(answer.status);
     if (!isDrawn) {
       this.isRunning = false;
-      this.seen.draw(null, answer, this.asked, false, this.fault);
+      this.seen.draw(null, answer, this.asked, false, this.faults);
       this.seen.end();
     }
   }
 
   tell() {
     const shown = this.scene?.journal.count;
-    this.seen.status(statusOf(this.answer, this.asked, this.fault), sizeOf(this.answer, shown));
+    this.seen.status(statusOf(this.answer, this.asked, this.faults[0]), sizeOf(this.answer, shown));
   }
 
   drawn(parts) {

@@ -12,6 +12,8 @@ import { readWorld } from "./worlds.js";
 const MOST_LINES = 500000;
 const MOST_BYTES = 32000000;
 const HEAD = 2000;
+const MOST_CHECKED = 64;
+const REFUSED = 3;
 const SECOND_WORLD = "\u0000world";
 const UNDRAWN = [2, 3, 8];
 let lsl, frame, peer;
@@ -20,13 +22,33 @@ let last = {};
 
 const textOf = bytes => new TextDecoder().decode(bytes);
 
+// What a world says of its scripts and notecards, and how many segments run at its last step.
+function namedIn(text) {
+  if (text === undefined) return { scripts: [], named: [], segments: 0 };
+  const { scripts, notes, steps } = readWorld(text);
+  const runs = steps.filter(it => it.word === "run" || it.word === "go");
+  const named = [...scripts, ...notes].map(({ file, line }) => ({ file, line }));
+  return { scripts: scripts.map(it => it.file), named, segments: Number(runs.at(-1)?.fields.at(-1) ?? 0) };
+}
+
+// The first faults of the other scripts of a world, of which one was refused.
+function otherFaults(head, files, scripts) {
+  const here = new Set(files.map(it => it[0]));
+  const names = [...new Set(scripts)].filter(it => here.has(it)).slice(0, MOST_CHECKED);
+  const lines = names.map(it => textOf(lsl.run("check", it, files).output));
+  return lines.filter(it => it.startsWith("bad ") && it !== head);
+}
+
 // Runs a request, and says what became of it; then hands over the front of its journal.
 function run({ number, word, file, files, world }, answer, tell) {
   const start = performance.now();
   const { status, output } = lsl.run(word, file, files);
   last = { number, output, files, world, front: frontOf(output, MOST_LINES, MOST_BYTES) };
   const [outcome, milliseconds] = [outcomeOf(output), performance.now() - start];
-  answer({ kind: "ran", status, outcome, size: output.length, milliseconds, head: last.front.slice(0, HEAD) });
+  const named = namedIn(world);
+  const head = last.front.slice(0, HEAD);
+  const heads = status === REFUSED ? [head, ...otherFaults(head, files, named.scripts)] : [head];
+  answer({ kind: "ran", status, outcome, size: output.length, milliseconds, head, heads, named });
   if (world === undefined || UNDRAWN.includes(status)) return;
   const scene = sceneOf(last.front, world, null);
   handOver(structuredClone(scene), tell);

@@ -159,7 +159,15 @@ def faults_are_shown_in_the_editor(page):
     need(page.value("document.getElementById('problems').hidden"), "the fault is still listed")
     page.click_run()
     need(page.status == "finished", "mended it is", page.status)
-    return "a fault, its line and its mending"
+    head = 'object 00000000-0000-0000-0000-000000000001 "A" 00000000-0000-0000-0000-000000000002 "N"\n'
+    world = head + 'script "a" "a.lsl"\nscript "b" "b.lsl"\nbegin\nend\n'
+    files = [["a.world", world], ["a.lsl", BROKEN], ["b.lsl", "default { touch() { } }"]]
+    page.follow({"files": files, "how": "replay", "file": "a.world", "steps": ""})
+    listed = page.value("[...document.querySelectorAll('#problems button')].map(it => it.textContent.split(': ')[0])")
+    need(listed == ["a.lsl:3:23", "b.lsl:1:11"], "the faults are", listed)
+    page.value("(document.querySelectorAll('#problems button')[1].click(), true)")
+    need(page.source == files[2][1] and page.selection[0] == 10, "a click goes to", page.source, page.selection)
+    return "a fault, its line and its mending; the faults of two files"
 
 
 @in_both
@@ -270,6 +278,7 @@ def a_world_is_frozen(page):
 @in_both
 def the_keyboard_is_enough(page):
     page.fresh()
+    page.follow(script(HELLO))
     page.value("(document.getElementById('examples').focus(), true)")
     for _ in range(12):
         if page.value("document.activeElement.tagName") == "TEXTAREA":
