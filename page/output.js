@@ -19,7 +19,7 @@ export class Output {
 
   // Shows why nothing ran: the lines of each fault.
   refuse(faults) {
-    const said = faults.flatMap(fault => fault.said.split("\n").map(text => ({ fault, text })));
+    const said = faults.flatMap(fault => fault.said.split("\n").map((text, at) => ({ fault, text, isQuote: at > 0 })));
     Object.assign(this, { lines: [], ends: [], scene: null, said });
     this.rows.show(said.length);
   }
@@ -47,8 +47,8 @@ export class Output {
     return this.linked(rowOf("cut", [`${this.scene.names.script(cut.script)} `], [text]), cut.script, source);
   }
 
-  faultRow({ fault, text }) {
-    const row = rowOf("fault", [text]);
+  faultRow({ fault, text, isQuote }) {
+    const row = rowOf(isQuote ? "fault quote" : "fault", [text]);
     Object.assign(row.dataset, { file: fault.name, line: fault.line });
     return row;
   }

@@ -1,7 +1,9 @@
 """Walks through the page in a browser: a user types, clicks and presses keys."""
 import json
+import os
+import tempfile
 
-from . import places, webpage
+from . import places, timeline, webpage
 from .webpages import ENDED, script
 from .webtesting import in_both, need, test
 
@@ -345,6 +347,21 @@ def the_timeline_has_keys_and_buttons(page):
     page.tab.until(f"{spot}.textContent.includes('lamp off')")
     need(not page.tab.said, "the page says", page.tab.said)
     return "arrows, Enter, buttons and a search"
+
+
+@in_both
+def the_page_of_lsl_html_draws(page):
+    """The one file that `lsl --html` writes, opened without a server."""
+    world, text = places.text_of("examples", "door", "door.world"), places.text_of("examples", "door", "door.out")
+    with tempfile.TemporaryDirectory(prefix="lsl-page-") as room:
+        path = os.path.join(room, "door.html")
+        places.write_text(path, timeline.page(text, world, None, "Door"))
+        page.tab.said.clear()
+        page.tab.open(f"file://{path}")
+        page.tab.until("document.getElementById('count')?.textContent === '3 scripts, 14 handlers, 43 lines'")
+        rows = page.value("[...document.querySelectorAll('#lines .row')].map(it => it.textContent)")
+    need("Door closed" in rows[1] and not page.tab.said, "the page shows", rows[:3], page.tab.said)
+    return "one file"
 
 
 @test
