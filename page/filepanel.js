@@ -23,6 +23,10 @@ export class FilePanel {
     at("file").addEventListener("change", () => play.choose(play.names.indexOf(at("file").value)));
     for (const way of WAYS) radioOf(way).addEventListener("change", () => play.setWay(way));
     at("steps").addEventListener("input", () => play.setSteps(at("steps").value));
+    at("undo-forget").addEventListener("click", () => {
+      play.forget();
+      editor.area.focus();
+    });
     at("undo-button").addEventListener("click", () => {
       play.undo();
       editor.area.focus();

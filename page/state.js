@@ -53,6 +53,11 @@ export class Play {
     this.tell("before");
   }
 
+  forget() {
+    this.before = null;
+    this.tell("before");
+  }
+
   undo() {
     const { before } = this;
     if (!before) return;

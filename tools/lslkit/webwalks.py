@@ -101,6 +101,9 @@ def no_work_is_lost(page):
     need(page.source == mine and "removed" in page.text("undo"), "Remove leaves", page.source)
     page.tab.click("#undo-button")
     need(page.tabs == ["hello.lsl", "script.lsl"], "after Undo the files are", page.tabs)
+    page.tab.click("#remove")
+    page.tab.click("#undo-forget")
+    need(page.value("document.getElementById('undo').hidden"), "the files can still be had back")
     return "a reload, an example and Remove"
 
 
