@@ -1,27 +1,44 @@
 // Who is likely to have sent what an event is of: the journal says it of chat by text and speaker alone.
-import { CHAT, TOOK, rawFields } from "./journal.js";
+import { CHAT, TOOK } from "./journal.js";
 import { quoted } from "./quoting.js";
 
-// A list for each key.
-class Lists {
+// Where something happened, for each key, and how many of these places each script took.
+class Places {
   constructor() {
-    this.lists = new Map();
+    this.found = new Map();
   }
 
-  of(key) {
-    let found = this.lists.get(key);
-    if (!found) this.lists.set(key, (found = []));
-    return found;
+  add(key, place) {
+    const known = this.found.get(key);
+    if (known) known.places.push(place);
+    else this.found.set(key, { places: [place], taken: null });
   }
+
+  // The next place that a script hasn't taken, if it fits: it is taken then.
+  take(key, script, fits) {
+    const known = this.found.get(key);
+    if (!known) return undefined;
+    const count = known.taken?.get(script) ?? 0;
+    if (count >= known.places.length || !fits(known.places[count])) return undefined;
+    known.taken ??= new Map();
+    known.taken.set(script, count + 1);
+    return known.places[count];
+  }
+}
+
+// Where the quoted text that begins at a place ends.
+function quotedEnd(text, start) {
+  let at = start + 1;
+  while (text[at] !== '"') at += text[at] === "\\" ? 2 : 1;
+  return at + 1;
 }
 
 export class Arrows {
   constructor(journal, world) {
     Object.assign(this, { journal, world, found: [] });
-    // Where each text was said and each object touched, which of these each script took, and its last handler.
-    this.said = new Lists();
-    this.touched = new Lists();
-    this.heard = new Lists();
+    // Where each text was said and each object touched, and the last handler of each script.
+    this.said = new Places();
+    this.touched = new Places();
     this.latest = new Map();
   }
 
@@ -47,27 +64,28 @@ export class Arrows {
   }
 
   addChat(line, script) {
-    const [, channel, text] = rawFields(this.journal.rest(line));
-    this.said.of(`${channel} ${this.prim(script)?.key ?? ""} ${text}`).push(line);
+    const rest = this.journal.rest(line);
+    const voice = rest.indexOf(" ");
+    const channel = rest.indexOf(" ", voice + 1);
+    this.said.add(`${rest.slice(voice + 1, channel)} ${this.prim(script)?.key ?? ""} ${rest.slice(channel + 1)}`, line);
   }
 
   addStep({ word, fields }, place) {
     if (word === "say") {
-      this.said.of(`${fields[0]} ${this.speaker(fields[2])} ${quoted(fields[3])}`).push(place);
+      this.said.add(`${fields[0]} ${this.speaker(fields[2])} ${quoted(fields[3])}`, place);
     }
-    if (word === "touch") this.touched.of(Number(fields[0])).push(place);
+    if (word === "touch") this.touched.add(Number(fields[0]), place);
   }
 
   addTaken(line, script) {
     const [event, args] = this.journal.event(line);
     const prim = this.prim(script);
     if (event === "listen") {
-      const [channel, , key, text] = rawFields(args);
-      this.addHeard(line, script, `${channel} ${this.speaker(key.slice(1, -1))} ${text}`);
+      this.addHeard(line, script, args);
     } else if (event === "link_message" && prim) {
       this.addMessage(line, prim, Math.max(Number(args.split(" ")[0]), 1));
     } else if (event === "touch_start" && prim) {
-      this.take(this.touched.of(prim.object), this.heard.of(`${script} ${prim.object}`), line);
+      this.add(this.touched.take(prim.object, script, () => true), line);
     }
     this.latest.set(script, line);
   }
@@ -78,16 +96,16 @@ export class Arrows {
     if (place >= 0) this.found.push(place, line);
   }
 
-  addHeard(line, script, said) {
-    const from = this.said.of(said);
-    const heard = this.heard.of(`${script} ${said}`);
-    if (heard.length < from.length && from[heard.length] < line) this.take(from, heard, line);
+  addHeard(line, script, args) {
+    const name = args.indexOf(" ") + 1;
+    const key = quotedEnd(args, name) + 1;
+    const text = quotedEnd(args, key) + 1;
+    const said = `${args.slice(0, name - 1)} ${this.speaker(args.slice(key + 1, text - 2))} ${args.slice(text)}`;
+    this.add(this.said.take(said, script, place => place < line), line);
   }
 
-  take(from, taken, line) {
-    if (taken.length >= from.length) return;
-    this.found.push(from[taken.length], line);
-    taken.push(line);
+  add(place, line) {
+    if (place !== undefined) this.found.push(place, line);
   }
 
   isSender(script, object, link) {

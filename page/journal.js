@@ -80,6 +80,3 @@ export function fields(rest) {
     it[2] === undefined ? [unquoted(it[1]), true] : [it[2], false],
   );
 }
-
-// The words of a line as they are written.
-export const rawFields = rest => rest.match(/"(?:[^"\\]|\\.)*"|[^ ]+/gs) ?? [];

@@ -60,7 +60,10 @@ function scriptCountOf({ kinds, numbers, count }, world) {
 
 // Where the steps of a scene are, and its arrows. `steps` is nothing where it isn't known from which the lines come.
 export function stepsOf(text, worldText, steps) {
-  const [journal, world] = [Journal.read(text), readWorld(worldText)];
+  return stepsIn(Journal.read(text), readWorld(worldText), steps);
+}
+
+function stepsIn(journal, world, steps) {
   const places = steps?.length ? placesOf(world.steps.length, steps) : new Uint32Array(0);
   return { places, arrows: new Arrows(journal, world).all(places) };
 }
@@ -77,7 +80,7 @@ export function sceneOf(text, worldText, steps, states = {}) {
     stepWords: Uint8Array.from(world.steps, it => STEP_WORDS.indexOf(it.word)),
     clocks: Float64Array.from(clocksOf(world)),
     handlers: handlers.parts, lanes: lanesOf(handlers, scriptCount), spoken: spokenOf(journal, known), states,
-    title: titleOf(world), ...stepsOf(text, worldText, steps),
+    title: titleOf(world), ...stepsIn(journal, world, steps),
   };
 }
 
