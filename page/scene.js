@@ -60,15 +60,15 @@ function scriptCountOf({ kinds, numbers, count }, world) {
 
 // Where the steps of a scene are, and its arrows. `steps` is nothing where it isn't known from which the lines come.
 export function stepsOf(text, worldText, steps) {
-  return stepsIn(Journal.read(text), readWorld(worldText), steps);
-}
-
-function stepsIn(journal, world, steps) {
+  const [journal, world] = [Journal.read(text), readWorld(worldText)];
   const places = steps?.length ? placesOf(world.steps.length, steps) : new Uint32Array(0);
   return { places, arrows: new Arrows(journal, world).all(places) };
 }
 
-// The parts of a scene. `states` has the state of each `clear` whose state is known.
+// What takes the place of them until they are known.
+export const NO_STEPS = { places: new Uint32Array(0), arrows: new Int32Array(0) };
+
+// The parts of a scene. `steps` has where the steps are, and the arrows; `states` has the state of each `clear` whose state is known.
 export function sceneOf(text, worldText, steps, states = {}) {
   const [journal, world] = [Journal.read(text), readWorld(worldText)];
   const known = (({ keys, ways, homes }) => ({ keys, ways, homes }))(new Names(world, null));
@@ -80,7 +80,7 @@ export function sceneOf(text, worldText, steps, states = {}) {
     stepWords: Uint8Array.from(world.steps, it => STEP_WORDS.indexOf(it.word)),
     clocks: Float64Array.from(clocksOf(world)),
     handlers: handlers.parts, lanes: lanesOf(handlers, scriptCount), spoken: spokenOf(journal, known), states,
-    title: titleOf(world), ...stepsIn(journal, world, steps),
+    title: titleOf(world), ...steps,
   };
 }
 

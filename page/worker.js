@@ -6,7 +6,7 @@ import { withoutMarks, markedWorld } from "./marks.js";
 import { frontOf, outcomeOf } from "./outcome.js";
 import { handOver } from "./pieces.js";
 import { linesOf, probedFiles } from "./probes.js";
-import { sceneOf, stepsOf } from "./scene.js";
+import { NO_STEPS, sceneOf, stepsOf } from "./scene.js";
 import { readWorld } from "./worlds.js";
 
 const MOST_LINES = 500000;
@@ -50,28 +50,37 @@ function run({ number, word, file, files, world }, answer, tell) {
   const heads = status === REFUSED ? [head, ...otherFaults(head, files, named.scripts)] : [head];
   answer({ kind: "ran", status, outcome, size: output.length, milliseconds, head, heads, named });
   if (world === undefined || UNDRAWN.includes(status)) return;
-  const scene = sceneOf(last.front, world, null);
+  const scene = sceneOf(last.front, world, structuredClone(NO_STEPS));
   handOver(structuredClone(scene), tell);
   handOver(scene, answer);
+  if (word === "freeze") add(null, answer, tell);
 }
 
-// The second run of a world, and from which step each of its lines comes.
-function mark({ number, files, world }) {
+// The second run of a world, and from which step each of its lines comes; nothing where there is none.
+function marks({ files, world }) {
   const marked = markedWorld(world);
-  if (!marked) return;
-  const ran = lsl.run("replay", SECOND_WORLD, [...files, [SECOND_WORLD, marked.text], marked.file]);
-  if (ran.status !== 0) return;
+  const second = marked ? [...files, [SECOND_WORLD, marked.text], marked.file] : [];
+  const ran = marked ? lsl.run("replay", SECOND_WORLD, second) : null;
+  if (ran?.status !== 0) return { text: "", steps: new Uint32Array(0) };
   const text = frontOf(ran.output, 2 * MOST_LINES, 2 * MOST_BYTES);
-  const marks = withoutMarks(text, readWorld(world), marked.stride);
-  peer.postMessage({ number, task: "addSteps", ...marks }, [marks.steps.buffer]);
+  return withoutMarks(text, readWorld(world), marked.stride);
 }
 
-// Adds the steps to what was handed over, where the second run did the same.
+function mark({ number, ...asked }) {
+  const found = marks(asked);
+  peer.postMessage({ number, task: "addSteps", ...found }, [found.steps.buffer]);
+}
+
+// Adds arrows to what was handed over; and the steps, where the second run did the same.
 function addSteps({ number, text, steps }, answer, tell) {
   if (number !== last.number) return;
   const isCut = last.output.length > MOST_BYTES || steps.length > MOST_LINES;
-  if (isCut ? !text.startsWith(last.front) : text !== last.front) return;
-  const added = stepsOf(last.front, last.world, steps.subarray(0, MOST_LINES));
+  const isSame = isCut ? text.startsWith(last.front) : text === last.front;
+  add(isSame ? steps.subarray(0, MOST_LINES) : null, answer, tell);
+}
+
+function add(steps, answer, tell) {
+  const added = stepsOf(last.front, last.world, steps);
   tell({ kind: "stepped", ...structuredClone(added) });
   answer({ kind: "stepped", ...added });
 }

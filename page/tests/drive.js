@@ -8,7 +8,7 @@ import { Lsl } from "../lsl.js";
 import { markedWorld, withoutMarks } from "../marks.js";
 import { outcomeOf } from "../outcome.js";
 import { linesOf, probedFiles } from "../probes.js";
-import { Scene, sceneOf } from "../scene.js";
+import { Scene, sceneOf, stepsOf } from "../scene.js";
 import { packed, unpacked } from "../share.js";
 import { stagedWorld } from "../stage.js";
 import { readWorld, worldOfOnce } from "../worlds.js";
@@ -38,7 +38,8 @@ function told(task) {
   const journal = textOf(lsl.run(task.word, task.file, all).output);
   const ran = marked ? lsl.run("replay", "\u0000world", [...all, ["\u0000world", marked.text], marked.file]) : null;
   const seen = ran?.status === 0 ? withoutMarks(textOf(ran.output), readWorld(text), marked.stride) : null;
-  const scene = new Scene(sceneOf(journal, text, seen?.text === journal ? seen.steps : null), words);
+  const steps = stepsOf(journal, text, seen?.text === journal ? seen.steps : null);
+  const scene = new Scene(sceneOf(journal, text, steps), words);
   return { rows: Array.from({ length: scene.rowCount }, (_, row) => scene.rowText(row)), arrows: [...scene.arrows] };
 }
 
