@@ -2,6 +2,8 @@
 
 export const TAB = 4;
 const isWide = code => code >= 0x1100;
+// Texts without these have a column for each sign.
+const UNEVEN = /[\t\u1100-\uffff]/;
 
 export class Lines {
   constructor() {
@@ -70,6 +72,7 @@ export class Lines {
 
   get widest() {
     let most = 0;
+    if (!UNEVEN.test(this.text)) return this.lines.reduce((longest, it) => Math.max(longest, it.length), 0);
     for (let line = 0; line < this.lines.length; line++) {
       if (this.lines[line].length * 2 > most) most = Math.max(most, this.columns(line));
     }
