@@ -49,7 +49,8 @@ function run({ number, word, file, files, world }, answer, tell) {
   const head = last.front.slice(0, HEAD);
   const heads = status === REFUSED ? [head, ...otherFaults(head, files, named.scripts)] : [head];
   answer({ kind: "ran", status, outcome, size: output.length, milliseconds, head, heads, named });
-  if (world === undefined || UNDRAWN.includes(status)) return;
+  last.isDrawn = world !== undefined && !UNDRAWN.includes(status);
+  if (!last.isDrawn) return;
   const scene = sceneOf(last.front, world, structuredClone(NO_STEPS));
   handOver(structuredClone(scene), tell);
   handOver(scene, answer);
@@ -73,7 +74,7 @@ function mark({ number, ...asked }) {
 
 // Adds arrows to what was handed over; and the steps, where the second run did the same.
 function addSteps({ number, text, steps }, answer, tell) {
-  if (number !== last.number) return;
+  if (number !== last.number || !last.isDrawn) return;
   const isCut = last.output.length > MOST_BYTES || steps.length > MOST_LINES;
   const isSame = isCut ? text.startsWith(last.front) : text === last.front;
   add(isSame ? steps.subarray(0, MOST_LINES) : null, answer, tell);
