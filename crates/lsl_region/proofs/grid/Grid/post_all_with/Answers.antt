@@ -8,6 +8,7 @@ use Rattle.lsl_region.specs.Scenes.{Awaits}
 use Rattle.lsl_region.specs.Posting.{admits}
 use Rattle.lsl_region.specs.Worlds.{World}
 use Rattle.lsl_region.proofs.Around.{before, behind, home, lent-behind, lent-between, lent-start}
+use Rattle.lsl_region.proofs.Outlines.{outline-scripts}
 use Rattle.lsl_region.proofs.Passing.{walk-last, walk-stops, walk-stretch}
 use Rattle.lsl_region.proofs.Posts.{posts-same}
 use Rattle.lsl_region.proofs.Scenes.{keeps-set, set-kept}
@@ -21,6 +22,12 @@ post_own-requires c = record {
     awake = c.requires.awake.awake;
   };
 }
+
+pub post_between-requires-2-clause-within : goal.post_between-requires-2-clause-within
+post_between-requires-2-clause-within c =
+    let count : length c.args.self.now.seats ≡ c.len-end.result = search rules in
+    let same = outline-scripts c.args.self.now c.post_between.new.self c.in_ok-post_between.ensures.grid.outline in
+    omega (arith, count, same)
 
 pub returns-clause-grid : goal.returns-clause-grid
 returns-clause-grid c =

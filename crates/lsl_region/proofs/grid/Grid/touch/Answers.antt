@@ -9,8 +9,8 @@ use Rattle.lsl_region.specs.Links.{prim_named}
 use Rattle.lsl_region.specs.Worlds.{no_object}
 use Rattle.lsl_region.proofs.grid.Grid.touch.Goals as goal
 
-pub returns-in-Some-clause-does : goal.returns-in-Some-clause-does
-returns-in-Some-clause-does c = λ m clock w st.
+pub returns-in_ok-toucher-in-Some-clause-does : goal.returns-in_ok-toucher-in-Some-clause-does
+returns-in_ok-toucher-in-Some-clause-does c = λ m clock w st.
     let codes = c.args.library.now in
     let object = c.args.object - 1 in
     let prim = c.in-Some.prim in
