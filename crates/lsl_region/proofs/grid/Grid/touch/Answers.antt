@@ -20,7 +20,7 @@ returns-in_ok-toucher-in-Some-clause-does c = λ m clock w st.
     ∙ ap (λ (os : List Linkset). length (get_or os object no_object).prims) st.objects in
     let is = sym (ap (λ (n : ℕ). prim_named n (pos c.args.link)) count) ∙ sym c.prim_numbered.ensures.value
     ∙ c.in-Some.is in
-    let who = c.in_ok-toucher.ensures ∙ ap (λ (n : ℕ). toucher_of n prim key name) count in
+    let who = c.in_ok-toucher-in-Some.ensures ∙ ap (λ (n : ℕ). toucher_of n prim key name) count in
     subst (λ (o : Option ℕ). Tells c.touch_prim.result (λ v _. Stands codes None clock c.touch_prim.new.self v)
     c.args.out.now c.touch_prim.new.out (touch_prim m.rules object o key name w)) (sym is)
     (subst (λ (t : Toucher). Tells c.touch_prim.result (λ v _. Stands codes None clock c.touch_prim.new.self v)
