@@ -1,5 +1,5 @@
 -- What is found in the table of regions, and one more region.
-use Rattle.std.proofs.Common.{◌≡◌, ◌≢◌, ℕ, suc, ◌+◌, ◌<◌, ◌^◌, Bool, true, false, cond, List, [], ◌∷◌, ◌++◌, length, map, get_or, drop, position, Option, Some, None, is_some, if◌then◌else◌, refl, ap, sym, ◌∙◌, subst, arith, length-append}
+use Rattle.std.proofs.Common.{◌≡◌, ℕ, suc, ◌+◌, ◌<◌, Bool, true, false, cond, List, [], ◌∷◌, ◌++◌, length, map, get_or, drop, position, Option, Some, None, is_some, if◌then◌else◌, refl, ap, sym, ◌∙◌, arith, length-append}
 use Rattle.std.specs.Prelude.{String}
 use Rattle.std.specs.Cmp.Lexicographic.{nat_list_eq_equiv}
 use Rattle.std.specs.List.{position_from}
@@ -76,8 +76,13 @@ table-added es new key region t made absent room e =
             ∙ ap (λ ks. ks ++ string_bytes key ∷ []) t.keyed
             ∙ ap (λ k. map encode_utf8_all (names_of es) ++ k ∷ []) made
             ∙ sym (map_push encode_utf8_all (names_of es) region) ∙ ap (map encode_utf8_all) (sym names);
-        few = omega (arith, room, ap length names, length-append (names_of es) (region ∷ []),
-            length-map es (λ (x : String Global × List ℕ). x.1));
+        few = omega (
+          arith,
+          room,
+          ap length names,
+          length-append (names_of es) (region ∷ []),
+          length-map es (λ (x : String Global × List ℕ). x.1),
+        );
       },
       names,
     )

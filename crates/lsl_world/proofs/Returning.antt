@@ -1,6 +1,6 @@
 -- What it comes to that other parts came back than were sent.
-use Rattle.std.proofs.Common.{◌≡◌, ◌≢◌, ◌∙◌, refl, sym, ap, subst, arith, ℕ, ◌-◌, ◌≤◌, Bool, List, [], ◌∷◌, ◌++◌, length, get_or, if◌then◌else◌, Option, Some, None}
-use Rattle.std.specs.Prelude.{OnOk, slice_set}
+use Rattle.std.proofs.Common.{◌≡◌, ◌≢◌, ◌∙◌, sym, ap, subst, arith, ℕ, ◌-◌, ◌≤◌, Bool, List, [], ◌++◌, length, get_or, if◌then◌else◌, Option, Some, None}
+use Rattle.std.specs.Prelude.{OnOk}
 use Rattle.std.specs.declared.result.Result.{Result}
 use Rattle.std.specs.declared.result.Result.TheVariants.{Ok, Err}
 use Rattle.std.proofs.lemmas.List.{get_or-set_same}

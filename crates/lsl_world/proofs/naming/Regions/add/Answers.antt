@@ -1,8 +1,7 @@
-use Rattle.std.proofs.Common.{◌≡◌, ◌∙◌, ◌++◌, ◌∷◌, [], ℕ, List, false, length, is_some, ap, arith, sym}
-use Rattle.std.proofs.lemmas.Result.{IfOk-at_ok}
+use Rattle.std.proofs.Common.{◌≡◌, ◌∙◌, ◌++◌, ◌∷◌, [], ℕ, List, false, is_some, ap, arith, sym}
 use Rattle.std.specs.String.{string_eq}
 use Rattle.indexmap.specs.IndexMap.{insert_entry}
-use Rattle.lsl_world.specs.Regions.{number_of, with_region}
+use Rattle.lsl_world.specs.Regions.{number_of}
 use Rattle.lsl_world.specs.RegionTable.{names_of}
 use Rattle.lsl_world.proofs.RegionTable.{table-added, with-added}
 use Rattle.lsl_world.proofs.naming.Regions.add.Goals as goal

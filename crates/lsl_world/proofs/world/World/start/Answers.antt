@@ -1,10 +1,8 @@
-use Rattle.std.proofs.Common.{ℕ, List, ap, refl, sym, ◌∙◌, subst, arith}
-use Rattle.std.specs.Prelude.{All, map}
+use Rattle.std.proofs.Common.{ℕ, List, refl, sym, subst, arith}
+use Rattle.std.specs.Prelude.{All}
 use Rattle.lsl_region.specs.declared.objects.Linkset.{Linkset}
 use Rattle.lsl_world.specs.Ranges.{IsObjectOf}
 use Rattle.lsl_world.specs.Regions.{AreInNamed, LeadsToNamed, regions_of_file}
-use Rattle.lsl_world.specs.Seats.{seats_of_objects}
-use Rattle.lsl_world.specs.Starts.{object_of_line}
 use Rattle.lsl_world.proofs.Beginning.{sized, starts}
 use Rattle.lsl_world.proofs.Meanings.{meant}
 use Rattle.lsl_world.proofs.Named.{file-objects-named, file-steps-named}
