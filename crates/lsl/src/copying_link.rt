@@ -3,6 +3,7 @@ ghost use Rattle.std.specs.Prelude.{◌≡◌, ◌≤◌, [], ◌∷◌, Some, N
 ghost use Rattle.lsl_ports.specs.Counts.{Rose};
 ghost use Rattle.lsl_ports.specs.Growth.{Grew};
 ghost use Rattle.lsl_ports.specs.Trips.{Trip};
+ghost use Rattle.lsl_top.specs.Laws.{copies};
 
 use lsl_ports::{Link, LinkFault};
 use std::alloc::Global;
@@ -17,7 +18,7 @@ impl Link for CopyingLink {
 
     ghost faults = { λ _. 0 };
 
-    ghost gives = { λ sent back. back ≡ Some sent };
+    ghost gives = { copies };
 
     fn carry(&mut self, alloc: Global, sent: &[u8]) -> Result<Vec<u8>, LinkFault>
         ensures same { IfOk result (λ back. back.items ≡ sent.now) }

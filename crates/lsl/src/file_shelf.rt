@@ -1,6 +1,7 @@
 //! The files of the system.
 ghost use Rattle.std.specs.Prelude.{◌≡◌, ◌≤◌, IfOk, None, length};
 
+use crate::counting::counted;
 use lsl_ports::{Failed, Shelf};
 use std::fs::File;
 use std::io::{ErrorKind, Read, Seek, SeekFrom};
@@ -29,13 +30,7 @@ impl<R: Files> Shelf for FileShelf<'_, R> {
     ghost faults = { λ shelf _. shelf.faults };
 
     fn read(&mut self, name: &str, place: u64, piece: &mut [u8]) -> Result<usize, Failed> {
-        match read_at(self.files, name, place, piece) {
-            Ok(count) => Ok(count),
-            Err(_) => {
-                self.faults = self.faults.saturating_add(1);
-                Err(Failed)
-            }
-        }
+        counted(read_at(self.files, name, place, piece), &mut self.faults)
     }
 }
 

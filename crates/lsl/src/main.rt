@@ -4,6 +4,7 @@
 
 mod command;
 mod copying_link;
+mod counting;
 mod file_shelf;
 mod notice;
 mod output_sink;
@@ -11,7 +12,6 @@ mod output_sink;
 mod tests;
 mod words;
 
-use copying_link::CopyingLink;
 use file_shelf::FileShelf;
 use output_sink::OutputSink;
 use std::process::ExitCode;
@@ -20,22 +20,16 @@ use std::{env, io};
 use words::start;
 
 fn main(rt: HostRuntime) -> ExitCode {
-    let mut shelf = FileShelf::new(&rt);
-    let mut sink = OutputSink::new(rt.stdout(), &rt);
-    let mut notes = OutputSink::new(rt.stderr(), &rt);
-    let words = words_of(&rt);
     start(
         rt.alloc(),
-        words,
-        &mut shelf,
-        &mut sink,
-        &mut CopyingLink,
-        &mut notes,
+        command_line(&rt),
+        &mut FileShelf::new(&rt),
+        &mut OutputSink::new(rt.stdout(), &rt),
+        &mut OutputSink::new(rt.stderr(), &rt),
     )
 }
 
-/// The words of the command, without the program's name.
-fn words_of<R: Env + AllocGlobal>(rt: &R) -> io::Result<Vec<String>> {
-    let words = env::args(rt)?;
-    Ok(words.skip(1).collect::<Vec<String>>(rt.alloc())?)
+/// All words of the command line, the program's name first.
+fn command_line<R: Env + AllocGlobal>(rt: &R) -> io::Result<Vec<String>> {
+    Ok(env::args(rt)?.collect::<Vec<String>>(rt.alloc())?)
 }

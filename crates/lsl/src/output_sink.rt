@@ -1,6 +1,7 @@
 //! Standard output.
-ghost use Rattle.std.specs.Prelude.{◌≡◌, ◌≤◌, IfOk, None, length};
+ghost use Rattle.std.specs.Prelude.{◌≡◌, ◌<◌, ◌≤◌, IfOk, None, length};
 
+use crate::counting::counted;
 use lsl_ports::{Failed, Sink};
 use std::io::{ErrorKind, Write};
 use std::time::{Clock, Duration};
@@ -36,14 +37,23 @@ impl<W: Write, C: Clock> Sink for OutputSink<'_, W, C> {
     ghost faults = { λ sink. sink.faults };
 
     fn write(&mut self, piece: &[u8]) -> Result<usize, Failed> {
-        match write_when_ready(self.clock, &mut self.out, piece) {
-            Ok(count) if count > 0 || piece.is_empty() => Ok(count),
-            _ => {
-                self.faults = self.faults.saturating_add(1);
-                Err(Failed)
-            }
-        }
+        counted(
+            write_some(self.clock, &mut self.out, piece),
+            &mut self.faults,
+        )
     }
+}
+
+/// Writes a first part of the piece, and of one that isn't empty at least a byte.
+fn write_some<C: Clock, W: Write>(clock: &C, out: &mut W, piece: &[u8]) -> io::Result<usize>
+    ensures within { IfOk result (λ count. count ≤ length piece.now) }
+    ensures some { IfOk result (λ count. 0 < length piece.now → 0 < count) }
+{
+    let count = write_when_ready(clock, out, piece)?;
+    if count == 0 && !piece.is_empty() {
+        return Err(io::Error::from(ErrorKind::WriteZero));
+    }
+    Ok(count)
 }
 
 /// Has the writer take a prefix of the piece as soon as it has room.

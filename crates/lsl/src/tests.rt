@@ -1,7 +1,5 @@
 //! Commands over memory: the status, what is written, and what is said of it.
 
-use crate::command::run;
-use crate::copying_link::CopyingLink;
 use crate::words::start;
 use lsl_ports::{MemoryShelf, MemorySink, StoredFile};
 use std::alloc::{AllocError, Global};
@@ -14,7 +12,7 @@ const LITERAL: &[u8] = b"default{state_entry(){llOwnerSay(\"hi\");}}";
 
 const REPORT: &[u8] = b"took 1 state_entry\nowner 1 \"hi\"\ndone 1 1024\nhome 1 \"here\"\n";
 
-/// What a command is given: its words, the text of the file `s.lsl`, and how many bytes
+/// What a command is given: its words behind the program's name, the text of the file `s.lsl`, and how many bytes
 /// standard output and the notes have room for.
 #[derive(Clone, Copy)]
 struct Case<'a> {
@@ -35,23 +33,17 @@ impl<'a> Case<'a> {
     }
 
     fn ended(self, alloc: Global) -> Result<Told, AllocError> {
-        let mut words = Vec::new(alloc);
+        let mut line = Vec::new(alloc);
+        line.push(String::from_str(alloc, "lsl")?)?;
         for word in self.words {
-            words.push(String::from_str(alloc, *word)?)?;
+            line.push(String::from_str(alloc, *word)?)?;
         }
         let mut files = Vec::new(alloc);
         files.push(StoredFile::new(alloc, "s.lsl", self.file)?)?;
         let mut shelf = MemoryShelf::new(alloc, files, Vec::new(alloc))?;
         let mut sink = MemorySink::new(alloc, self.room, Vec::new(alloc))?;
         let mut notes = MemorySink::new(alloc, self.notes, Vec::new(alloc))?;
-        let code = run(
-            alloc,
-            words.as_slice(),
-            &mut shelf,
-            &mut sink,
-            &mut CopyingLink,
-            &mut notes,
-        );
+        let code = start(alloc, Ok(line), &mut shelf, &mut sink, &mut notes);
         Ok(Told { code, sink, notes })
     }
 }
@@ -162,15 +154,8 @@ fn words_that_are_not_given(rt: HostRuntime) -> Result<(), Fail> {
         let mut shelf = MemoryShelf::new(alloc, Vec::new(alloc), Vec::new(alloc))?;
         let mut sink = MemorySink::new(alloc, 1000, Vec::new(alloc))?;
         let mut notes = MemorySink::new(alloc, 1000, Vec::new(alloc))?;
-        let words = Err(io::Error::from(kind));
-        let ended = start(
-            alloc,
-            words,
-            &mut shelf,
-            &mut sink,
-            &mut CopyingLink,
-            &mut notes,
-        );
+        let line = Err(io::Error::from(kind));
+        let ended = start(alloc, line, &mut shelf, &mut sink, &mut notes);
         assert_eq!(rt; ended, ExitCode::from(code));
         assert_eq!(rt; sink.as_bytes(), b"".as_slice());
         assert_eq!(rt; notes.as_bytes(), said.as_bytes());

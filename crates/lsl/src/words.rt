@@ -1,10 +1,11 @@
-//! A command whose words the system gives, or doesn't.
+//! A command line that the system gives, or doesn't.
 
-ghost use Rattle.std.specs.Prelude.{◌≡◌, ◌≢◌, ◌⊎◌, false, true, IfErr, IfOk};
+ghost use Rattle.std.specs.Prelude.{◌≡◌, ◌≢◌, ◌⊎◌, false, true, drop, IfErr, IfOk, None};
 ghost use Rattle.std.specs.IoError.{error_kind};
 ghost use Rattle.std.specs.Process.{exit_status};
 ghost use Rattle.lsl_ports.specs.Counts.{Rose};
 ghost use Rattle.lsl_top.specs.Ends.{EndsAs, outside};
+ghost use Rattle.lsl_top.specs.Laws.{copies};
 ghost use Rattle.lsl_top.specs.Status.{number_of};
 ghost use Rattle.lsl_top.specs.Words.{command_of};
 ghost use Rattle.lsl_top.specs.declared.status.Status.{Status as Ended};
@@ -12,40 +13,56 @@ ghost use Rattle.lsl.specs.Notice.{IsTold, file_in};
 ghost use Rattle.lsl.specs.Words.{IsRefusal, IsRefusalTold};
 
 use crate::command::{refuse_words, run};
-use lsl_ports::{Link, Shelf, Sink};
+use crate::copying_link::CopyingLink;
+use lsl_ports::{Shelf, Sink};
 use std::alloc::Global;
 use std::io;
 use std::io::ErrorKind;
 use std::process::ExitCode;
 
-/// Does what the words ask for, as `run` does, or says why the system gave none.
-pub fn start<S: Shelf, K: Sink, L: Link, N: Sink>(
+/// Does what the words behind the program's name ask for, as `run` does, or says why the system gave none. Each
+/// crossing brings back what was sent.
+pub fn start<S: Shelf, K: Sink, N: Sink>(
     alloc: Global,
-    words: io::Result<Vec<String>>,
+    line: io::Result<Vec<String>>,
     shelf: &mut S,
     sink: &mut K,
-    link: &mut L,
     notes: &mut N,
 ) -> ExitCode
     // Where the words are given, the process ends with the number of the command's status.
-    ensures ends { IfOk words (λ words. EndsAs L.gives (exit_status result) (command_of words.items)
-        (outside (S.held shelf.old) (S.faults shelf.old) (K.sunk sink.old) (K.faults sink.old)
-        (L.trips link.old) (L.faults link.old))
-        (outside (S.held shelf.new) (S.faults shelf.new) (K.sunk sink.new) (K.faults sink.new)
-        (L.trips link.new) (L.faults link.new))) }
+    ensures ends { IfOk line (λ line. EndsAs copies (exit_status result) (command_of (drop 1 line.items))
+        (outside (S.held shelf.old) (S.faults shelf.old) (K.sunk sink.old) (K.faults sink.old) None 0)
+        (outside (S.held shelf.new) (S.faults shelf.new) (K.sunk sink.new) (K.faults sink.new) None 0)) }
     // The line of that status was said, but where the notes failed.
-    ensures told { IfOk words (λ words. (status : Ended) → exit_status result ≡ number_of status
+    ensures told { IfOk line (λ line. (status : Ended) → exit_status result ≡ number_of status
         → Rose (N.faults notes.old) (N.faults notes.new)
-        ⊎ IsTold status (file_in status words.items) (N.sunk notes.old) (N.sunk notes.new)) }
+        ⊎ IsTold status (file_in status (drop 1 line.items)) (N.sunk notes.old) (N.sunk notes.new)) }
     // Where they aren't, it ends with 7 for want of memory, and else with 9.
-    ensures refused { IfErr words (λ error. IsRefusal (error_kind error) (exit_status result)) }
+    ensures refused { IfErr line (λ error. IsRefusal (error_kind error) (exit_status result)) }
     // The line of that was said, but where the notes failed.
-    ensures refusal_told { IfErr words (λ error. Rose (N.faults notes.old) (N.faults notes.new)
+    ensures refusal_told { IfErr line (λ error. Rose (N.faults notes.old) (N.faults notes.new)
         ⊎ IsRefusalTold (error_kind error) (N.sunk notes.old) (N.sunk notes.new)) }
 {
-    match words {
-        Ok(words) => run(alloc, words.as_slice(), shelf, sink, link, notes),
+    match line {
+        Ok(line) => run(
+            alloc,
+            behind_name(line.as_slice()),
+            shelf,
+            sink,
+            &mut CopyingLink,
+            notes,
+        ),
         Err(error) => refuse_words(lacks_memory(&error), notes),
+    }
+}
+
+/// The words of a command line behind the program's name.
+fn behind_name(line: &[String]) -> &[String]
+    ensures { result.now ≡ drop 1 line.now }
+{
+    match line {
+        [_, words @ ..] => words,
+        [] => line,
     }
 }
 
