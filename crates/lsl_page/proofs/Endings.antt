@@ -12,6 +12,7 @@ use Rattle.lsl_top.specs.Status.{number_of}
 use Rattle.lsl_top.specs.Words.{Command}
 use Rattle.lsl_top.specs.declared.status.Status.{Status}
 use Rattle.lsl_top.specs.declared.status.Status.TheVariants.{Ok, Usage, BadWorld, BadScript, ReadFault, WriteFault, BadImage, NoMemory, BadNote}
+use Rattle.lsl_top.proofs.KeptFrom.{kept-from}
 use Rattle.lsl_top.proofs.Trips.{copies-fair}
 use Rattle.lsl_page.specs.Ended.{Ended, outside_of}
 use Rattle.lsl_page.specs.Faults.{IsMissing, faults_at, faults_in}
@@ -44,7 +45,8 @@ module _ (files : Files) (words : Option Command) (status : Status) (m n : ℕ) 
     mark-of from fits =
         let (trips, went, silent, keeps) = e.kept in
         keeps-mark m n [] output files from words status trips e.usage.1 e.nothing
-        (keeps from fits (copies-fair words None None trips went))
+        (kept-from (Some files) trips words status (Some (m ∷ [])) (Some (n ∷ output))
+        (keeps (copies-fair words None None trips went)) from fits)
 
     -- what stands behind it ends so too
     pub ends-behind : Ends copies words (outside_of files 0 [] 0) (outside_of files missed output refused) status
@@ -55,7 +57,7 @@ module _ (files : Files) (words : Option Command) (status : Status) (m n : ℕ) 
         trips,
         went,
         silent,
-        λ from fits fair. keeps-behind m n [] output files from words status trips (keeps from fits fair),
+        λ fair. keeps-behind m n [] output (Some files) words status trips (keeps fair),
       );
       read_fault = e.read_fault;
       write_fault = e.write_fault;

@@ -19,9 +19,9 @@ module _ (files : Files) (from : World) where
   named file true check replay freeze make = tt
   named file false true replay freeze make = tt
   named file false false true freeze make =
-      λ bytes world is good texts notes text are noted holds programs units all has cards read. tt
+      λ bytes world is good found had programs units all has cards read. tt
   named file false false false true make =
-      λ bytes world is good texts notes text are noted holds programs units all has cards read. tt
+      λ bytes world is good found had programs units all has cards read. tt
   named file false false false false true = made (number_in file)
   named file false false false false false = tt
 

@@ -35,6 +35,7 @@ use Rattle.lsl_top.specs.Words.{Command, Once, Check, Replay, Lossy, Freeze, Tha
 use Rattle.lsl_top.specs.declared.status.Status.{Status}
 use Rattle.lsl_top.specs.declared.status.Status.TheVariants.{Ok, Usage, BadWorld, BadScript, ReadFault, WriteFault, BadImage, NoMemory, BadNote}
 use Rattle.lsl_top.proofs.Journals.{journal-pieces, pieces-images}
+use Rattle.lsl_top.proofs.KeptFrom.{kept-from}
 use Rattle.lsl_top.proofs.OneAnswer.{plays-programs, replays-plays}
 use Rattle.lsl_top.proofs.Pieces.{begun-partly}
 use Rattle.lsl_top.proofs.Trips.{copies-fair}
@@ -237,7 +238,7 @@ fits-any : (files : Files) (command : Command) (file : WorldFile) (programs : Li
     (from : World) → Runs files command file programs cards → IsFromOf (Some files) command from
 fits-any files (Once name) file programs cards from runs = tt
 fits-any files (Replay name) file programs cards from runs =
-    λ bytes other is good texts notes text are noted holds accepted codes all has read cards_are. tt
+    λ bytes other is good found had accepted codes all has read cards_are. tt
 fits-any files (Check name) file programs cards from runs = absurd runs
 fits-any files (Lossy name) file programs cards from runs = absurd runs
 fits-any files (Freeze name) file programs cards from runs = absurd runs
@@ -253,8 +254,9 @@ headline-of files command file programs cards room status output ended runs =
     let (trips, went, silent, keeps) = ended.ends.kept in
     let from = start (rules_of programs) file cards in
     written files command file programs cards trips runs went.given output status
-    (keeps from (fits-any files command file programs cards from runs)
-    (copies-fair (Some command) None None trips went))
+    (kept-from (Some files) trips (Some command) status (Some []) (Some output)
+    (keeps (copies-fair (Some command) None None trips went)) from
+    (fits-any files command file programs cards from runs))
     (λ e. let both : Some command ≡ None = ended.ends.usage.0 e in absurd (cc))
     (λ e. none-missing files command file programs cards runs
     (missing files (Some command) ended.missed (ended.ends.read_fault e)))

@@ -3,10 +3,12 @@ use Rattle.std.proofs.Common.{◌≡◌, ℕ, List, [], ◌∷◌, Option, Some,
 use Rattle.lsl_ports.specs.Shelf.{Files}
 use Rattle.lsl_ports.specs.Trips.{Trip}
 use Rattle.lsl_region.specs.Worlds.{World}
-use Rattle.lsl_top.specs.Answers.{Answer, Answers, Grade}
+use Rattle.lsl_top.specs.Answers.{Answer, Answers, Checks, Grade, Makes, PlaysRead}
+use Rattle.lsl_top.specs.Held.{Holds}
 use Rattle.lsl_top.specs.Pieces.{Piece}
-use Rattle.lsl_top.specs.Promise.{IsBegun, IsWhole, Keeps, KeepsTo, WritesNothing}
-use Rattle.lsl_top.specs.Words.{Command}
+use Rattle.lsl_top.specs.Plays.{Mode, Whole, Handing, Freezing, Thawing, Viewing, Play, play_of, play_of_once}
+use Rattle.lsl_top.specs.Promise.{IsBegun, IsWhole, Keeps, KeepsFile, KeepsFrom, KeepsOf, KeepsPlay, KeepsTo, RefusesWorld, WritesNothing}
+use Rattle.lsl_top.specs.Words.{Command, Once, Check, Replay, Lossy, Freeze, Thaw, Make, View}
 use Rattle.lsl_top.specs.declared.status.Status.{Status}
 use Rattle.lsl_top.specs.declared.status.Status.TheVariants.{Ok, Usage, BadWorld, BadScript, ReadFault, WriteFault, BadImage, NoMemory, BadNote}
 
@@ -60,12 +62,40 @@ module _ (m n : ℕ) (a b : List ℕ) where
   keeps_to-behind IsAnswer Usage trips k = tt
   keeps_to-behind IsAnswer ReadFault trips k = tt
 
-  pub keeps-behind : (files : Files) (from : World) (words : Option Command) (status : Status) (trips : List Trip)
-      → Keeps (Some files) from trips words status old new
-      → Keeps (Some files) from trips words status (Some a) (Some b)
-  keeps-behind files from None status trips k = tt
-  keeps-behind files from (Some command) status trips k =
-      keeps_to-behind (λ grade. Answers grade (Some files) from trips command) status trips k
+  module _ (held : Option Files) (status : Status) (trips : List Trip) where
+    play-behind : (play : Play) → KeepsPlay held trips play status old new
+        → KeepsPlay held trips play status (Some a) (Some b)
+    play-behind play (inl k) = inl (keeps_to-behind (λ grade answer. ⊥) status trips k)
+    play-behind play (inr (read, are, keeps)) = inr (
+      read,
+      are,
+      λ from fits. keeps_to-behind (λ grade. PlaysRead grade from trips play read) status trips (keeps from fits),
+    )
+
+    file-behind : (mode : Mode) (name : List ℕ) → KeepsFile held trips mode name status old new
+        → KeepsFile held trips mode name status (Some a) (Some b)
+    file-behind mode name (inl k) = inl (keeps_to-behind (λ grade. RefusesWorld held name) status trips k)
+    file-behind mode name (inr (bytes, file, is, good, k)) =
+        inr (bytes, file, is, good, play-behind (play_of mode file) k)
+
+    of-behind : (command : Command) → KeepsOf held trips command status old new
+        → KeepsOf held trips command status (Some a) (Some b)
+    of-behind (Once name) k = play-behind (play_of_once name) k
+    of-behind (Check name) k =
+        keeps_to-behind (λ grade answer. (text : List ℕ) × Holds held name text × Checks name text answer) status trips
+        k
+    of-behind (Replay name) k = file-behind Whole name k
+    of-behind (Lossy name) k = file-behind Handing name k
+    of-behind (Freeze name) k = file-behind Freezing name k
+    of-behind (Thaw frozen name) k = file-behind (Thawing frozen) name k
+    of-behind (View frozen name) k = file-behind (Viewing frozen) name k
+    of-behind (Make number) k =
+        λ from. keeps_to-behind (λ grade. Makes grade from trips number) status trips (k from)
+
+  pub keeps-behind : (held : Option Files) (words : Option Command) (status : Status) (trips : List Trip)
+      → Keeps held trips words status old new → Keeps held trips words status (Some a) (Some b)
+  keeps-behind held None status trips k = tt
+  keeps-behind held (Some command) status trips k = of-behind held status trips command k
 
   -- whatever the status, the mark is as it was
   keeps_to-mark : (IsAnswer : Grade → Answer → Type 0) (status : Status) (trips : List Trip)
@@ -83,7 +113,7 @@ module _ (m n : ℕ) (a b : List ℕ) where
 
   pub keeps-mark : (files : Files) (from : World) (words : Option Command) (status : Status) (trips : List Trip)
       → (words ≡ None → status ≡ Usage) → (WritesNothing status → new ≡ old)
-      → Keeps (Some files) from trips words status old new → n ≡ m
+      → KeepsFrom (Some files) from trips words status old new → n ≡ m
   keeps-mark files from None status trips usage nothing k =
       ap mark (nothing (subst WritesNothing (sym (usage refl)) tt))
   keeps-mark files from (Some command) status trips usage nothing k =

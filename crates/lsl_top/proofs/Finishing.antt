@@ -13,7 +13,7 @@ use Rattle.lsl_world.specs.Lossy.{IsFairFrom, Stage}
 use Rattle.lsl_top.specs.Answers.{Answer, Grade, Due, Written, plain}
 use Rattle.lsl_top.specs.Goes.{Performs}
 use Rattle.lsl_top.specs.Pieces.{Piece}
-use Rattle.lsl_top.specs.Ports.{Concludes, Finishes, IsOwn, Log, Ports, Serves, Wire, Writes, status_after, unread_status}
+use Rattle.lsl_top.specs.Ports.{Concludes, Finishes, IsOwn, Keeping, Log, Ports, Serves, Wire, Writes, status_after, unread_status}
 use Rattle.lsl_top.specs.Promise.{IsBegun, IsWhole, KeepsTo}
 use Rattle.lsl_top.specs.declared.status.Status.{Status}
 use Rattle.lsl_top.specs.declared.status.Status.TheVariants.{Ok, Usage, BadWorld, BadScript, ReadFault, WriteFault, BadImage, NoMemory, BadNote}
@@ -244,26 +244,29 @@ concludes-as gives IsFair OneFits Fits IsOne IsAnswer a b p q status fit f h = r
   no_usage = h.no_usage;
 }
 
-module _ (gives : List ℕ → Option (List ℕ) → Type 0) (IsFair : List Trip → Type 0) (Fits : World → Type 0)
+module _ (gives : List ℕ → Option (List ℕ) → Type 0) (IsFair : List Trip → Type 0) (Kept : Keeping)
     (IsAnswer : Grade → World → List Trip → Answer → Type 0) (IsName : List ℕ → Type 0) (held later : Option Files)
     (faults counted : List ℕ → ℕ) (same : later ≡ held) (fell : NoneFell faults counted) where
+  abbrev Served : Log → Log → Wire → Wire → Status → Type 0
+  Served a b p q status =
+      Serves gives IsFair Kept IsAnswer IsName (record { held = held; read_faults = faults; log = a; wire = p })
+      (record { held = later; read_faults = counted; log = b; wire = q }) status
+
   -- the files were read, and then an answer was written and sent
   pub serve-concluded : (OneFits : World → Type 0) (IsOne : Grade → World → List Trip → Answer → Type 0) (a b : Log)
-      (p q : Wire) (status : Status) → ((from : World) → Fits from → OneFits from)
-      → ((grade : Grade) (from : World) (trips : List Trip) (answer : Answer) → IsOne grade from trips answer
-      → IsAnswer grade from trips answer)
-      → Concludes gives IsFair OneFits IsOne a b p q status
-      → Serves gives IsFair Fits IsAnswer IsName (record { held = held; read_faults = faults; log = a; wire = p })
-      (record { held = later; read_faults = counted; log = b; wire = q }) status
-  serve-concluded OneFits IsOne a b p q status fit f h = record {
+      (p q : Wire) (status : Status)
+      → ((trips : List Trip)
+      → ((from : World) → OneFits from → KeepsTo (λ grade. IsOne grade from trips) status trips a.sunk b.sunk)
+      → Kept trips status a.sunk b.sunk)
+      → ((from : World) (trips : List Trip) (answer : Answer) → IsOne Due from trips answer
+      → IsAnswer Due from trips answer)
+      → Concludes gives IsFair OneFits IsOne a b p q status → Served a b p q status
+  serve-concluded OneFits IsOne a b p q status kept f h = record {
     trips = h.trips;
     went = h.went;
     silent = h.silent;
-    keeps = λ from fits honest.
-        keeps-as (λ grade. IsOne grade from h.trips) (λ grade. IsAnswer grade from h.trips) status h.trips a.sunk b.sunk
-        (λ grade. f grade from h.trips) (h.keeps from (fit from fits) honest);
-    answers = λ from trips own.
-        let (answer, is, e) = h.answers from trips own in (answer, f Due from trips answer is, e);
+    keeps = λ honest. kept h.trips (λ from fits. h.keeps from fits honest);
+    answers = λ from trips own. let (answer, is, e) = h.answers from trips own in (answer, f from trips answer is, e);
     nothing = λ e. absurd (h.no_read e);
     read_fault = λ e. absurd (h.no_read e);
     write_fault = h.cause;
@@ -274,25 +277,44 @@ module _ (gives : List ℕ → Option (List ℕ) → Type 0) (IsFair : List Trip
     links_counted = h.links_counted;
   }
 
-  -- memory lacked before anything was written
-  pub serve-memory : (a : Log) (p : Wire)
-      → Serves gives IsFair Fits IsAnswer IsName (record { held = held; read_faults = faults; log = a; wire = p })
-      (record { held = later; read_faults = counted; log = a; wire = p }) NoMemory
-  serve-memory a p =
-      serve-concluded Fits IsAnswer a a p p NoMemory (λ from fits. fits) (λ grade from trips answer is. is)
-      (concludes-memory gives IsFair Fits IsAnswer a p)
-
-  -- a file wasn't read
-  pub serve-unread : (a : Log) (p : Wire) (fault : ShelfFault)
-      → (fault ≡ Failed → (name : List ℕ) × IsName name × Rose (faults name) (counted name))
-      → Serves gives IsFair Fits IsAnswer IsName (record { held = held; read_faults = faults; log = a; wire = p })
-      (record { held = later; read_faults = counted; log = a; wire = p }) (unread_status fault)
-  serve-unread a p OutOfMemory rose = serve-memory a p
-  serve-unread a p Failed rose = record {
+  -- the same of an answer that sends nothing
+  pub serve-finished : (IsOne : Answer → Type 0) (a b : Log) (p : Wire) (status : Status)
+      → (KeepsTo (λ grade. IsOne) status [] a.sunk b.sunk → Kept [] status a.sunk b.sunk)
+      → ((from : World) (trips : List Trip) (answer : Answer) → IsOne answer → IsAnswer Due from trips answer)
+      → Finishes IsOne a b status → Served a b p p status
+  serve-finished IsOne a b p status kept f h = record {
     trips = [];
     went = went-none gives p.told;
     silent = λ e. refl;
-    keeps = λ from fits honest. tt;
+    keeps = λ honest. kept h.keeps;
+    answers = λ from trips own. let (answer, is, e) = h.answers own in (answer, f from trips answer is, e);
+    nothing = λ e. absurd (h.no_read e);
+    read_fault = λ e. absurd (h.no_read e);
+    write_fault = h.cause;
+    no_usage = h.no_usage;
+    unchanged = same;
+    reads_counted = fell;
+    writes_counted = h.counted;
+    links_counted = omega arith;
+  }
+
+  -- memory lacked before anything was written
+  pub serve-memory : (a : Log) (p : Wire) → Kept [] NoMemory a.sunk a.sunk → Served a a p p NoMemory
+  serve-memory a p lost =
+      serve-finished (λ answer. ⊥) a a p NoMemory (λ k. lost) (λ from trips answer never. absurd never)
+      (finish-memory (λ answer. ⊥) a)
+
+  -- a file wasn't read
+  pub serve-unread : (a : Log) (p : Wire) (fault : ShelfFault) → Kept [] NoMemory a.sunk a.sunk
+      → Kept [] ReadFault a.sunk a.sunk
+      → (fault ≡ Failed → (name : List ℕ) × IsName name × Rose (faults name) (counted name))
+      → Served a a p p (unread_status fault)
+  serve-unread a p OutOfMemory lost failed rose = serve-memory a p lost
+  serve-unread a p Failed lost failed rose = record {
+    trips = [];
+    went = went-none gives p.told;
+    silent = λ e. refl;
+    keeps = λ honest. failed;
     answers = λ from trips own. absurd own;
     nothing = λ e. refl;
     read_fault = λ e. rose refl;
@@ -305,29 +327,25 @@ module _ (gives : List ℕ → Option (List ℕ) → Type 0) (IsFair : List Trip
   }
 
 -- a file was read before, and nothing was written or sent yet
-pub serve-later : (gives : List ℕ → Option (List ℕ) → Type 0) (IsFair : List Trip → Type 0)
-    (OneFits Fits : World → Type 0)
+pub serve-later : (gives : List ℕ → Option (List ℕ) → Type 0) (IsFair : List Trip → Type 0) (OneKept Kept : Keeping)
     (IsOne IsAnswer : Grade → World → List Trip → Answer → Type 0) (IsOneName IsName : List ℕ → Type 0)
     (held later : Option Files) (faults counted : List ℕ → ℕ) (a : Log) (p : Wire) (new : Ports) (status : Status)
-    → later ≡ held → NoneFell faults counted → ((from : World) → Fits from → OneFits from)
-    → ((grade : Grade) (from : World) (trips : List Trip) (answer : Answer) → IsOne grade from trips answer
-    → IsAnswer grade from trips answer)
+    → later ≡ held → NoneFell faults counted
+    → ((trips : List Trip) → OneKept trips status a.sunk new.log.sunk → Kept trips status a.sunk new.log.sunk)
+    → ((from : World) (trips : List Trip) (answer : Answer) → IsOne Due from trips answer
+    → IsAnswer Due from trips answer)
     → ((name : List ℕ) → IsOneName name → IsName name)
-    → Serves gives IsFair OneFits IsOne IsOneName
-    (record { held = later; read_faults = counted; log = a; wire = p }) new
-    status
-    → Serves gives IsFair Fits IsAnswer IsName
+    → Serves gives IsFair OneKept IsOne IsOneName
+    (record { held = later; read_faults = counted; log = a; wire = p }) new status
+    → Serves gives IsFair Kept IsAnswer IsName
     (record { held = held; read_faults = faults; log = a; wire = p }) new status
-serve-later gives IsFair OneFits Fits IsOne IsAnswer IsOneName IsName held later faults counted a p new status same
-    fell fit f g h = record {
+serve-later gives IsFair OneKept Kept IsOne IsAnswer IsOneName IsName held later faults counted a p new status same
+    fell kept f g h = record {
       trips = h.trips;
       went = h.went;
       silent = h.silent;
-      keeps = λ from fits honest.
-          keeps-as (λ grade. IsOne grade from h.trips) (λ grade. IsAnswer grade from h.trips) status h.trips a.sunk
-          new.log.sunk (λ grade. f grade from h.trips) (h.keeps from (fit from fits) honest);
-      answers = λ from trips own. let (answer, is, e) = h.answers from trips
-          own in (answer, f Due from trips answer is, e);
+      keeps = λ honest. kept h.trips (h.keeps honest);
+      answers = λ from trips own. let (answer, is, e) = h.answers from trips own in (answer, f from trips answer is, e);
       nothing = h.nothing;
       read_fault = λ e. let (name, is, rose) = h.read_fault e in (
         name,

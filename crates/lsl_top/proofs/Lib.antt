@@ -6,9 +6,12 @@ pub mod FilesRead
 pub mod NotesRead
 pub mod FrozenRead
 pub mod FrozenOne
+pub mod PlayRead
+pub mod Prepared
 pub mod WorldRead
 pub mod OneCode
 pub mod OneAnswer
+pub mod KeptFrom
 pub mod CodesRun
 pub mod Counted
 pub mod Journals

@@ -213,12 +213,13 @@ pub plays-texts : (files : Files) (g : Grade) (from : World) (trips : List Trip)
     (texts notes : List (List ℕ)) (text : List ℕ) (a : Answer) → AreHeld (Some files) play.names texts
     → AreHeld (Some files) play.cards notes → HoldsFrozen (Some files) play.mode text
     → Plays g (Some files) from trips play a → PlaysTexts g from trips play texts notes text a
-plays-texts files g from trips play texts notes text a are noted holds (others, more, other, k, l, held, q) =
-    texts-come files play.mode g from trips play.names play.cards play.world texts notes other text a held holds
-    (subst (λ (z : List (List ℕ)). PlaysTexts g from trips play texts z other a)
-    (texts-one files play.cards more notes l noted)
-    (subst (λ (z : List (List ℕ)). PlaysTexts g from trips play z more other a)
-    (texts-one files play.names others texts k are) q))
+plays-texts files g from trips play texts notes text a are noted holds (read, had, q) =
+    texts-come files play.mode g from trips play.names play.cards play.world texts notes read.frozen text a had.frozen
+    holds
+    (subst (λ (z : List (List ℕ)). PlaysTexts g from trips play texts z read.frozen a)
+    (texts-one files play.cards read.notes notes had.cards noted)
+    (subst (λ (z : List (List ℕ)). PlaysTexts g from trips play z read.notes read.frozen a)
+    (texts-one files play.names read.texts texts had.scripts are) q))
 
 -- where they are accepted as these programs and have this code, and the others are these notecards, it comes of these
 pub texts-accepted : (g : Grade) (from : World) (trips : List Trip) (play : Play) (texts notes : List (List ℕ))
@@ -249,28 +250,28 @@ pub plays-programs : (files : Files) (g : Grade) (from : World) (trips : List Tr
     → AreCards notes cards → Plays g (Some files) from trips play a
     → (codes : List Code) × (text : List ℕ)
     × Comes g from trips play.mode codes programs play.world (notecards_of play.world.notes cards) text a
-plays-programs files g from trips play programs cards a texts notes are all noted read
-    (others, more, text, k, l, held, q) =
-    go (subst (λ (z : List (List ℕ)). PlaysTexts g from trips play texts z text a)
-    (texts-one files play.cards more notes l noted)
-    (subst (λ (z : List (List ℕ)). PlaysTexts g from trips play z more text a)
-    (texts-one files play.names others texts k are) q))
+plays-programs files g from trips play programs cards a texts notes are all noted read (bytes, had, q) =
+    go (subst (λ (z : List (List ℕ)). PlaysTexts g from trips play texts z bytes.frozen a)
+    (texts-one files play.cards bytes.notes notes had.cards noted)
+    (subst (λ (z : List (List ℕ)). PlaysTexts g from trips play z bytes.notes bytes.frozen a)
+    (texts-one files play.names bytes.texts texts had.scripts are) q))
   where
-    go : PlaysTexts g from trips play texts notes text a
+    go : PlaysTexts g from trips play texts notes bytes.frozen a
         → (codes : List Code) × (text : List ℕ)
         × Comes g from trips play.mode codes programs play.world (notecards_of play.world.notes cards) text a
     go (inl (ps, cs, h, has, e)) = (
       cs,
-      text,
-      texts-accepted g from trips play texts notes text programs cs cards a all has read (inl (ps, cs, h, has, e)),
+      bytes.frozen,
+      texts-accepted g from trips play texts notes bytes.frozen programs cs cards a all has read
+          (inl (ps, cs, h, has, e)),
     )
     go (inr (name, fault, r, e)) = absurd (accepted-refused texts programs r.place fault all r.refused)
 
 plays-one : (files : Files) (g h : Grade) (from : World) (trips : List Trip) (play : Play) (a b : Answer)
     → Plays g (Some files) from trips play a → Plays h (Some files) from trips play b → a ≡ b
-plays-one files g h from trips play a b p (texts, notes, text, are, noted, holds, q) =
-    plays-texts-one g h from trips play texts notes text a b
-    (plays-texts files g from trips play texts notes text a are noted holds p) q
+plays-one files g h from trips play a b p (read, had, q) =
+    plays-texts-one g h from trips play read.texts read.notes read.frozen a b
+    (plays-texts files g from trips play read.texts read.notes read.frozen a had.scripts had.cards had.frozen p) q
 
 checks-one : (name text : List ℕ) (a b : Answer) → Checks name text a → Checks name text b → a ≡ b
 checks-one name text a b (inl (p, h, e)) (inl (q, k, f)) = e ∙ sym f

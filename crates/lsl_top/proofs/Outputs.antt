@@ -254,23 +254,23 @@ pub thaw-fits : (files : Files) (frozen name : List ℕ) (file : WorldFile) (tex
     → IsFromOf (Some files) (Thaw frozen name) from
 thaw-fits files frozen name file texts notes programs codes cards from
     (bytes, is, good) are accepted has noted read given
-    other_bytes other other_is other_good others more text held listed holds ps cs all have ds known_cards =
+    other_bytes other other_is other_good found had ps cs all have ds known_cards =
     let same : file ≡ other = world-one other_bytes file other
     (subst (λ (z : List ℕ). IsWorld z file) (text-one files name bytes other_bytes is other_is) good) other_good in
-    let alike : texts ≡ others = texts-one files (names_in other) texts others
-    (subst (λ (z : WorldFile). AreHeld (Some files) (names_in z) texts) same are) held in
-    let like : notes ≡ more = texts-one files (cards_in other) notes more
-    (subst (λ (z : WorldFile). AreHeld (Some files) (cards_in z) notes) same noted) listed in
-    let known : AreAccepted others programs = subst (λ (z : List (List ℕ)). AreAccepted z programs) alike accepted in
-    let coded : AreCodesOf others codes = subst (λ (z : List (List ℕ)). AreCodesOf z codes) alike has in
-    let taken : AreCards more cards = subst (λ (z : List (List ℕ)). AreCards z cards) like read in
-    frozen-from files frozen cs ps other (notecards_of other.notes ds) from text holds
+    let alike : texts ≡ found.texts = texts-one files (names_in other) texts found.texts
+    (subst (λ (z : WorldFile). AreHeld (Some files) (names_in z) texts) same are) had.scripts in
+    let like : notes ≡ found.notes = texts-one files (cards_in other) notes found.notes
+    (subst (λ (z : WorldFile). AreHeld (Some files) (cards_in z) notes) same noted) had.cards in
+    let known : AreAccepted found.texts programs = subst (λ (z : List (List ℕ)). AreAccepted z programs) alike accepted in
+    let coded : AreCodesOf found.texts codes = subst (λ (z : List (List ℕ)). AreCodesOf z codes) alike has in
+    let taken : AreCards found.notes cards = subst (λ (z : List (List ℕ)). AreCards z cards) like read in
+    frozen-from files frozen cs ps other (notecards_of other.notes ds) from found.frozen had.frozen
     (subst (λ (z : List (List (List ℕ))). IsFrozenIn files frozen cs ps other (notecards_of other.notes z) from)
-    (cards-one more cards ds taken known_cards)
+    (cards-one found.notes cards ds taken known_cards)
     (subst (λ (z : List Code). IsFrozenIn files frozen z ps other (notecards_of other.notes cards) from)
-    (codes-one others codes cs coded have)
+    (codes-one found.texts codes cs coded have)
     (subst (λ (z : List Program). IsFrozenIn files frozen codes z other (notecards_of other.notes cards) from)
-    (programs-one others programs ps known all)
+    (programs-one found.texts programs ps known all)
     (subst (λ (z : WorldFile). IsFrozenIn files frozen codes programs z
     (notecards_of z.notes cards) from) same given))))
 
@@ -279,11 +279,11 @@ pub outputs-fit : (files : Files) (from : World) (command : Command) (trips : Li
 outputs-fit files from (Once name) trips lines h = tt
 outputs-fit files from (Check name) trips lines h = tt
 outputs-fit files from (Replay name) trips lines h =
-    λ bytes file is good texts notes text are noted holds programs codes all has cards read. tt
+    λ bytes file is good read are programs codes all has cards noted. tt
 outputs-fit files from (Lossy name) trips lines h =
-    λ bytes file is good texts notes text are noted holds programs codes all has cards read. tt
+    λ bytes file is good read are programs codes all has cards noted. tt
 outputs-fit files from (Freeze name) trips lines h =
-    λ bytes file is good texts notes text are noted holds programs codes all has cards read. tt
+    λ bytes file is good read are programs codes all has cards noted. tt
 outputs-fit files from (Make number) trips lines h = tt
 outputs-fit files from (Thaw frozen name) trips lines (file, programs, codes, cards, ok, (texts, are, has), given, e) =
     let (notes, noted, read) = notes-of files (cards_in file) ok.read ok.notes in
@@ -291,4 +291,4 @@ outputs-fit files from (Thaw frozen name) trips lines (file, programs, codes, ca
     (accepted-texts files (names_in file) programs texts ok.scripts are) has noted read
     (subst (λ (z : List Notecard). IsFrozenIn files frozen codes programs file z from) ok.cards_are given)
 outputs-fit files from (View frozen name) trips lines h =
-    λ bytes file is good texts notes text are noted holds programs codes all has cards read. tt
+    λ bytes file is good read are programs codes all has cards noted. tt

@@ -8,14 +8,15 @@ use Rattle.lsl_ports.proofs.Growth.{begins-all, begins-none, grew-none, partly-b
 use Rattle.lsl_region.specs.Worlds.{World}
 use Rattle.lsl_top.specs.Answers.{Answer, Answers, Grade, Due, Written}
 use Rattle.lsl_top.specs.Fair.{IsFair, IsFairOf}
-use Rattle.lsl_top.specs.Froms.{IsFromOf, IsFromWords}
+use Rattle.lsl_top.specs.Froms.{IsFromOf}
 use Rattle.lsl_top.specs.Headline.{Outputs, WritesLines}
 use Rattle.lsl_top.specs.Named.{IsNamed, NamedRose}
 use Rattle.lsl_top.specs.Ports.{HasAnswer, IsOwn, Ports, Serves, gives_by}
-use Rattle.lsl_top.specs.Promise.{Keeps, KeepsTo, RunsNothing, SendsNothing, WritesNothing, Wrote}
+use Rattle.lsl_top.specs.Promise.{Keeps, KeepsOf, KeepsTo, RunsNothing, SendsNothing, WritesNothing, Wrote}
 use Rattle.lsl_top.specs.Words.{Command}
 use Rattle.lsl_top.specs.declared.status.Status.{Status}
 use Rattle.lsl_top.specs.declared.status.Status.TheVariants.{Ok, Usage, BadWorld, BadScript, ReadFault, WriteFault, BadImage, NoMemory, BadNote}
+use Rattle.lsl_top.proofs.KeptFrom.{keeps_of-from}
 use Rattle.lsl_top.proofs.OneAnswer.{answers-one}
 use Rattle.lsl_top.proofs.Outputs.{outputs-answer, outputs-fit}
 use Rattle.lsl_top.proofs.Pieces.{begun-partly, begun-sends}
@@ -71,7 +72,7 @@ own-status WriteFault u r w = absurd (w refl)
 
 module _ (gives : List ℕ → Option (List ℕ) → Type 0) (held : Option Files) (words : Option Command)
     (command : Command) (is : words ≡ Some command) (old new : Ports) (status : Status)
-    (h : Serves (gives_by command gives) (IsFairOf command) (IsFromOf held command)
+    (h : Serves (gives_by command gives) (IsFairOf command) (λ trips. KeepsOf held trips command)
     (λ grade from trips. Answers grade held from trips command) (IsNamed held command) old new status) where
   pub promise-usage : (status ≡ Usage → words ≡ None) × (words ≡ None → status ≡ Usage)
   promise-usage = (λ e. absurd (h.no_usage e), λ e. let both : Some command ≡ None = sym is ∙ e in absurd (cc))
@@ -92,8 +93,7 @@ module _ (gives : List ℕ → Option (List ℕ) → Type 0) (held : Option File
 
   pub promise-kept : (trips : List Trip) × Went gives old.wire.told new.wire.told trips
       × (SendsNothing status ⊎ RunsNothing words → trips ≡ [])
-      × ((from : World) → IsFromWords held words from → IsFair words trips
-      → Keeps held from trips words status old.log.sunk new.log.sunk)
+      × (IsFair words trips → Keeps held trips words status old.log.sunk new.log.sunk)
   promise-kept = (
     h.trips,
     went-by gives command old.wire.told new.wire.told h.trips h.went,
@@ -101,9 +101,8 @@ module _ (gives : List ℕ → Option (List ℕ) → Type 0) (held : Option File
       | inl nothing ↦ h.silent nothing
       | inr runs ↦ none-by gives command old.wire.told new.wire.told h.trips h.went (subst RunsNothing is runs)
     ],
-    λ from fits fair. subst (λ w. Keeps held from h.trips w status old.log.sunk new.log.sunk) (sym is)
-        (h.keeps from (subst (λ w. IsFromWords held w from) is fits)
-        (subst (λ (w : Option Command). IsFair w h.trips) is fair)),
+    λ fair. subst (λ w. Keeps held h.trips w status old.log.sunk new.log.sunk) (sym is)
+        (h.keeps (subst (λ (w : Option Command). IsFair w h.trips) is fair)),
   )
 
   pub promise-read : status ≡ ReadFault → NamedRose held words old.read_faults new.read_faults
@@ -146,7 +145,8 @@ module _ (gives : List ℕ → Option (List ℕ) → Type 0) (held : Option File
       let fits : IsFromOf held command from =
       subst (λ z. IsFromOf z command from) (sym told) (outputs-fit files from command trips lines out) in
       let by : IsFairOf command trips = subst (λ (w : Option Command). IsFair w trips) is fair in
-      let keeps = h.keeps from fits (subst (λ (z : List Trip). IsFairOf command z) (sym mine) by) in
+      let keeps = keeps_of-from held h.trips command status old.log.sunk new.log.sunk from
+      (h.keeps (subst (λ (z : List Trip). IsFairOf command z) (sym mine) by)) fits in
       kept-lines files from command trips lines out by old.log.sunk new.log.sunk status
       (subst (λ (z : List Trip). KeepsTo (λ grade. Answers grade (Some files) from z command) status z old.log.sunk
       new.log.sunk) mine

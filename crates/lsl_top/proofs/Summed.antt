@@ -19,13 +19,14 @@ use Rattle.lsl_top.specs.Made.{made_files, made_line, made_name, two_files}
 use Rattle.lsl_top.specs.Named.{IsNamedIn}
 use Rattle.lsl_top.specs.Pieces.{Piece, sent_in}
 use Rattle.lsl_top.specs.Plays.{Whole}
-use Rattle.lsl_top.specs.Ports.{Concludes, HasAnswer, IsOwn, Log, Serves, Wire, Writes, status_after}
-use Rattle.lsl_top.specs.Promise.{IsBegun, IsWhole, KeepsTo, SendsNothing, Wrote, WrotePart}
+use Rattle.lsl_top.specs.Ports.{Concludes, HasAnswer, IsOwn, Keeping, Log, Serves, Wire, Writes, status_after}
+use Rattle.lsl_top.specs.Promise.{IsBegun, IsWhole, KeepsFile, KeepsTo, SendsNothing, Wrote, WrotePart}
 use Rattle.lsl_top.specs.declared.status.Status.{Status}
 use Rattle.lsl_top.specs.declared.status.Status.TheVariants.{Ok, Usage, BadWorld, BadScript, ReadFault, WriteFault, BadImage, NoMemory, BadNote}
 use Rattle.lsl_top.specs.declared.writing.Trouble.{Trouble}
 use Rattle.lsl_top.specs.declared.writing.Trouble.TheVariants.{WriteFault as WriteTrouble, NoMemory as MemoryTrouble}
 use Rattle.lsl_top.proofs.Finishing.{keeps-as}
+use Rattle.lsl_top.proofs.KeptFrom.{keeps_file-from}
 use Rattle.lsl_top.proofs.OneAnswer.{files-one}
 use Rattle.lsl_top.proofs.Pieces.{begins-through, begun-one, sent-begins, whole-one}
 use Rattle.lsl_top.proofs.Trips.{went-then}
@@ -99,7 +100,7 @@ module _ (number : ℕ) (held : Option Files) (is : held ≡ Some (made_files nu
   -- a world that was made wasn't frozen, so any fits
   pub made-fits : (from : World) → IsFromFile held Whole made_name from
   made-fits from =
-      λ bytes file holds good texts notes text are noted frozen programs codes all has cards read. tt
+      λ bytes file holds good read are programs codes all has cards noted. tt
 
   run-or-refusal : (grade : Grade) (from : World) (trips : List Trip) (answer : Answer)
       → Replayed grade from trips answer → (answer.status ≡ Ok) ⊎ IsRefusal answer
@@ -110,12 +111,8 @@ module _ (number : ℕ) (held : Option Files) (is : held ≡ Some (made_files nu
       file,
       good,
       (
-        texts,
-        notes,
-        text,
-        are,
-        noted,
-        frozen,
+        bytes_read,
+        had,
         inl (
           programs,
           codes,
@@ -134,12 +131,8 @@ module _ (number : ℕ) (held : Option Files) (is : held ≡ Some (made_files nu
       file,
       good,
       (
-        texts,
-        notes,
-        text,
-        are,
-        noted,
-        frozen,
+        bytes_read,
+        had,
         inl (
           programs,
           codes,
@@ -152,7 +145,7 @@ module _ (number : ℕ) (held : Option Files) (is : held ≡ Some (made_files nu
   ) =
       inr (refused answer BadNote (note_refusal_of name fault) (λ f. cc) e)
   run-or-refusal grade from trips answer
-      (bytes, holds, inl (file, good, (texts, notes, text, are, noted, frozen, inr (name, fault, first, e)))) =
+      (bytes, holds, inl (file, good, (bytes_read, had, inr (name, fault, first, e)))) =
       inr (refused answer BadScript (refusal_of name fault) (λ f. cc) e)
   run-or-refusal grade from trips answer (bytes, holds, inr (fault, first, e)) =
       inr (refused answer BadWorld (world_refusal_of made_name fault) (λ f. cc) e)
@@ -227,13 +220,20 @@ module _ (number : ℕ) (held : Option Files) (is : held ≡ Some (made_files nu
     )
 
   module _ (gives : List ℕ → Option (List ℕ) → Type 0) (later : Option Files) (p q : Wire) where
-    abbrev Fits : World → Type 0
-    Fits from = IsFromFile held Whole made_name from
+    abbrev Kept : Keeping
+    Kept trips = KeepsFile held trips Whole made_name
+
+    -- an answer from any world
+    keeps-from : (status : Status) (trips : List Trip) (bytes : List ℕ) (from : World)
+        → Kept trips status (Some []) (Some bytes)
+        → KeepsTo (λ grade. Replayed grade from trips) status trips (Some []) (Some bytes)
+    keeps-from status trips bytes from k =
+        keeps_file-from held trips Whole made_name status (Some []) (Some bytes) from k (made-fits from)
 
     -- what a replay over a sink that never fails tells, from its start
     abbrev Over : List ℕ → Status → Type 0
     Over bytes status =
-        Serves gives (Honest IsIntact) Fits Replayed (IsNamedIn held Whole made_name)
+        Serves gives (Honest IsIntact) Kept Replayed (IsNamedIn held Whole made_name)
         (record { held = held; read_faults = λ name. 0; log = record { sunk = Some []; faults = 0 }; wire = p })
         (record { held = later; read_faults = λ name. 0; log = record { sunk = Some bytes; faults = 0 }; wire = q })
         status
@@ -245,14 +245,14 @@ module _ (number : ℕ) (held : Option Files) (is : held ≡ Some (made_files nu
 
     -- what a replay tells that begins with nothing taken
     pub over-of : (bytes taken : List ℕ) (status ended : Status) → taken ≡ [] → ended ≡ status
-        → Serves gives (Honest IsIntact) Fits Replayed (IsNamedIn held Whole made_name)
+        → Serves gives (Honest IsIntact) Kept Replayed (IsNamedIn held Whole made_name)
         (record { held = held; read_faults = λ name. 0; log = record { sunk = Some taken; faults = 0 }; wire = p })
         (record { held = later; read_faults = λ name. 0; log = record { sunk = Some bytes; faults = 0 }; wire = q })
         ended
         → Over bytes status
     over-of bytes taken status ended e f h =
         subst (λ (z : Status). Over bytes z) f
-        (subst (λ (z : List ℕ). Serves gives (Honest IsIntact) Fits Replayed (IsNamedIn held Whole made_name)
+        (subst (λ (z : List ℕ). Serves gives (Honest IsIntact) Kept Replayed (IsNamedIn held Whole made_name)
         (record { held = held; read_faults = λ name. 0; log = record { sunk = Some z; faults = 0 }; wire = p })
         (record { held = later; read_faults = λ name. 0; log = record { sunk = Some bytes; faults = 0 }; wire = q })
         ended)
@@ -265,7 +265,8 @@ module _ (number : ℕ) (held : Option Files) (is : held ≡ Some (made_files nu
       trips = h.trips;
       went = h.went;
       silent = silent r;
-      keeps = λ from fits honest. keeps-line bytes from h.trips a b (h.keeps from (made-fits from) honest) r w;
+      keeps = λ from fits honest.
+          keeps-line bytes from h.trips a b (keeps-from Ok h.trips bytes from (h.keeps honest)) r w;
       answers = λ from trips own. found from trips (h.answers from trips tt) r own;
       counted = w.counted;
       links_counted = h.links_counted;
@@ -312,7 +313,7 @@ module _ (number : ℕ) (held : Option Files) (is : held ≡ Some (made_files nu
       trips = h.trips;
       went = h.went;
       silent = λ e. absurd e;
-      keeps = λ from fits honest. kept from (h.keeps from (made-fits from) honest);
+      keeps = λ from fits honest. kept from (keeps-from NoMemory h.trips bytes from (h.keeps honest));
       answers = λ from trips own. absurd own;
       counted = omega arith;
       links_counted = h.links_counted;
@@ -342,7 +343,7 @@ module _ (number : ℕ) (held : Option Files) (is : held ≡ Some (made_files nu
     -- and the refusal was to be written as a second replay writes it
     pub concludes-refused : (bytes : List ℕ) (first second : Status) (ended : Option Files) (a b : Log) (s : Wire)
         → later ≡ held → first ≢ Ok → first ≢ NoMemory → Over bytes first
-        → Serves gives (Honest IsIntact) (λ from. IsFromFile later Whole made_name from)
+        → Serves gives (Honest IsIntact) (λ trips. KeepsFile later trips Whole made_name)
         (λ grade from trips. ReplaysFile grade later from trips Whole made_name) (IsNamedIn later Whole made_name)
         (record { held = later; read_faults = λ name. 0; log = a; wire = q })
         (record { held = ended; read_faults = λ name. 0; log = b; wire = s }) second
@@ -356,8 +357,8 @@ module _ (number : ℕ) (held : Option Files) (is : held ≡ Some (made_files nu
           keeps-as (λ grade. ReplaysFile grade later from k.trips Whole made_name) (λ grade. Made grade from k.trips)
           second
           k.trips a.sunk b.sunk (λ grade answer given. of grade from k.trips answer given)
-          (k.keeps from (subst (λ (z : Option Files). IsFromFile z Whole made_name from) (sym same) (made-fits from))
-          honest);
+          (keeps_file-from later k.trips Whole made_name second a.sunk b.sunk from (k.keeps honest)
+          (subst (λ (z : Option Files). IsFromFile z Whole made_name from) (sym same) (made-fits from)));
       answers = λ from trips own.
           let (answer, given, e) = k.answers from trips own in (answer, of Due from trips answer given, e);
       counted = k.writes_counted;

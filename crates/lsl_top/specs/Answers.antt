@@ -24,11 +24,11 @@ use Rattle.lsl_world.specs.Programs.{rules_of}
 use Rattle.lsl_world.specs.Regions.{regions_of_file}
 use Rattle.lsl_world.specs.Starts.{start}
 use Rattle.lsl_world.specs.Travels.{travel}
-use Rattle.lsl_top.specs.Held.{Holds, HoldsFrozen, AreHeld}
+use Rattle.lsl_top.specs.Held.{AreRead, Holds}
 use Rattle.lsl_top.specs.Lines.{accepted_line, image_refusal_of, note_refusal_of, refusal_of, world_refusal_of}
 use Rattle.lsl_top.specs.Made.{made_files, made_line, made_name}
 use Rattle.lsl_top.specs.Pieces.{Piece, lines_in, pieces_at, pieces_from, sent_in}
-use Rattle.lsl_top.specs.Plays.{Mode, Whole, Handing, Freezing, Thawing, Play, play_of, play_of_once, Last, Homes, Frozen, Viewing}
+use Rattle.lsl_top.specs.Plays.{Mode, Whole, Handing, Freezing, Thawing, Play, Read, play_of, play_of_once, Last, Homes, Frozen, Viewing}
 use Rattle.lsl_top.specs.Notes.{AreCards, FirstBad, notecards_of}
 use Rattle.lsl_top.specs.Scripts.{AreAccepted, FirstRefused}
 use Rattle.lsl_top.specs.Thaws.{CanThaw, IsThawFault, IsThawOf}
@@ -135,11 +135,13 @@ PlaysTexts grade from trips play texts notes text answer =
     ⊎ ((name : List ℕ) × (fault : BuildFault) × FirstRefused play.names texts name fault
     × (answer ≡ script_refused name fault))
 
+abbrev pub PlaysRead : Grade → World → List Trip → Play → Read → Answer → Type 0
+PlaysRead grade from trips play read answer =
+    PlaysTexts grade from trips play read.texts read.notes read.frozen answer
+
 abbrev pub Plays : Grade → Option Files → World → List Trip → Play → Answer → Type 0
 Plays grade held from trips play answer =
-    (texts : List (List ℕ)) × (notes : List (List ℕ)) × (text : List ℕ) × AreHeld held play.names texts
-    × AreHeld held play.cards notes × HoldsFrozen held play.mode text
-    × PlaysTexts grade from trips play texts notes text answer
+    (read : Read) × AreRead held play read × PlaysRead grade from trips play read answer
 
 -- a text is accepted, or refused for its first fault
 abbrev pub Checks : List ℕ → List ℕ → Answer → Type 0

@@ -6,7 +6,6 @@ use Rattle.lsl_ports.specs.Shelf.{Files}
 use Rattle.lsl_region.specs.Worlds.{World}
 use Rattle.lsl_top.specs.Answers.{Answer, Answers, Due}
 use Rattle.lsl_top.specs.Fair.{IsFair}
-use Rattle.lsl_top.specs.Froms.{IsFromWords}
 use Rattle.lsl_top.specs.Headline.{Outputs, WritesLines}
 use Rattle.lsl_top.specs.Named.{NamedRose}
 use Rattle.lsl_top.specs.Promise.{Keeps, RunsNothing, SendsNothing, WritesNothing}
@@ -47,8 +46,7 @@ pub record Ends (gives : List ℕ → Option (List ℕ) → Type 0) (words : Opt
   pub nothing : WritesNothing status → new.sunk ≡ old.sunk
   pub kept : (trips : List Trip) × Went gives old.trips new.trips trips
       × (SendsNothing status ⊎ RunsNothing words → trips ≡ [])
-      × ((from : World) → IsFromWords old.held words from → IsFair words trips
-      → Keeps old.held from trips words status old.sunk new.sunk)
+      × (IsFair words trips → Keeps old.held trips words status old.sunk new.sunk)
   pub read_fault : status ≡ ReadFault → NamedRose old.held words old.read_faults new.read_faults
   pub write_fault : status ≡ WriteFault → Rose old.write_faults new.write_faults
   pub complete : (files : Files) (from : World) (trips : List Trip) (command : Command) (answer : Answer)

@@ -9,8 +9,8 @@ use Rattle.lsl_lines.specs.declared.file.WorldFile.{WorldFile}
 use Rattle.lsl_notes.specs.declared.cards.Notecard.{Notecard}
 use Rattle.lsl_tree.specs.Program.{Program}
 use Rattle.lsl_region.specs.Worlds.{World}
-use Rattle.lsl_top.specs.Held.{Holds, HoldsFrozen, AreHeld}
-use Rattle.lsl_top.specs.Plays.{Mode, Whole, Handing, Freezing, Thawing, Viewing, Play, play_of}
+use Rattle.lsl_top.specs.Held.{AreRead, Holds}
+use Rattle.lsl_top.specs.Plays.{Mode, Whole, Handing, Freezing, Thawing, Viewing, Play, Read, play_of}
 use Rattle.lsl_top.specs.Notes.{AreCards, notecards_of}
 use Rattle.lsl_top.specs.Scripts.{AreAccepted}
 use Rattle.lsl_top.specs.Thaws.{IsFrom}
@@ -33,10 +33,11 @@ IsFromTexts play texts notes text from =
     (programs : List Program) (codes : List Code) → AreAccepted texts programs → AreCodesOf texts codes
     → IsFromAccepted play codes programs notes text from
 
+abbrev pub IsFromRead : Play → Read → World → Type 0
+IsFromRead play read from = IsFromTexts play read.texts read.notes read.frozen from
+
 abbrev pub IsFromPlay : Option Files → Play → World → Type 0
-IsFromPlay held play from =
-    (texts notes : List (List ℕ)) (text : List ℕ) → AreHeld held play.names texts → AreHeld held play.cards notes
-    → HoldsFrozen held play.mode text → IsFromTexts play texts notes text from
+IsFromPlay held play from = (read : Read) → AreRead held play read → IsFromRead play read from
 
 abbrev pub IsFromFile : Option Files → Mode → List ℕ → World → Type 0
 IsFromFile held mode name from =

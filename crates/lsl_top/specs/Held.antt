@@ -2,7 +2,7 @@
 use Rattle.std.specs.Prelude.{◌≡◌, ℕ, List, Option, Some, None}
 use Rattle.std.specs.List.{AllZip}
 use Rattle.lsl_ports.specs.Shelf.{Files}
-use Rattle.lsl_top.specs.Plays.{Mode, Whole, Handing, Freezing, Thawing, Viewing}
+use Rattle.lsl_top.specs.Plays.{Mode, Whole, Handing, Freezing, Thawing, Viewing, Play, Read}
 
 -- the file of that name has these bytes; of a shelf that doesn't tell nothing is known
 abbrev pub Holds : Option Files → List ℕ → List ℕ → Type 0
@@ -20,6 +20,12 @@ HoldsFrozen held Handing text = Unit {0}
 HoldsFrozen held Freezing text = Unit {0}
 HoldsFrozen held (Thawing name) text = Holds held name text
 HoldsFrozen held (Viewing name) text = Holds held name text
+
+-- the files of a play have these texts
+pub record AreRead (held : Option Files) (play : Play) (read : Read) : Type 0 where
+  pub scripts : AreHeld held play.names read.texts
+  pub cards : AreHeld held play.cards read.notes
+  pub frozen : HoldsFrozen held play.mode read.frozen
 
 -- the shelf tells what it holds
 abbrev pub IsToldBy : Option Files → Files → Type 0

@@ -15,7 +15,7 @@ use Rattle.lsl_top.specs.Froms.{IsFromWords}
 use Rattle.lsl_top.specs.Headline.{output_from}
 use Rattle.lsl_top.specs.Pieces.{lines_in, pieces_from, sent_in}
 use Rattle.lsl_top.specs.Plays.{Last}
-use Rattle.lsl_top.specs.Promise.{Keeps}
+use Rattle.lsl_top.specs.Promise.{Keeps, KeepsFrom}
 use Rattle.lsl_top.specs.Words.{Command}
 use Rattle.lsl_top.specs.declared.status.Status.{Status}
 
@@ -55,4 +55,12 @@ abbrev pub CopiesKeep : Type 0
 CopiesKeep =
     (words : Option Command) (old new : Outside) (status : Status) → Ends copies words old new status
     → (trips : List Trip) × Went copies old.trips new.trips trips
-    × ((from : World) → IsFromWords old.held words from → Keeps old.held from trips words status old.sunk new.sunk)
+    × Keeps old.held trips words status old.sunk new.sunk
+
+-- What a command keeps to with the texts that were read, it keeps to from each world that can have been frozen, by all
+-- texts that the files can have.
+abbrev pub KeptFromEach : Type 0
+KeptFromEach =
+    (held : Option Files) (trips : List Trip) (words : Option Command) (status : Status) (old new : Option (List ℕ))
+    → Keeps held trips words status old new → (from : World) → IsFromWords held words from
+    → KeepsFrom held from trips words status old new

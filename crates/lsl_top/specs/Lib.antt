@@ -19,4 +19,5 @@ pub mod Laws
 pub mod Halves
 pub mod Meant
 pub mod Ports
+pub mod Prepared
 pub mod Goes

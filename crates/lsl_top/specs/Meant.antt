@@ -1,5 +1,5 @@
 -- What the code's values stand for: for private functions.
-use Rattle.std.specs.Prelude.{ℕ, Option, Some, None}
+use Rattle.std.specs.Prelude.{ℕ, Option, Some, None, map}
 use Rattle.lsl_text.specs.declared.Refusal.{Refusal}
 use Rattle.lsl_text.specs.declared.Refusal.TheVariants as refusals
 use Rattle.lsl_build.specs.declared.faults.BuildFault.{BuildFault}
@@ -10,7 +10,8 @@ use Rattle.lsl_top.specs.declared.words.Command.{Command as Found}
 use Rattle.lsl_top.specs.declared.words.Command.TheVariants as found
 use Rattle.lsl_top.specs.declared.modes.Mode.{Mode as AMode}
 use Rattle.lsl_top.specs.declared.modes.Mode.TheVariants as modes
-use Rattle.lsl_top.specs.Plays.{Mode, Whole, Handing, Freezing, Thawing, Last, Homes, Frozen, Viewing}
+use Rattle.lsl_top.specs.declared.play.Play.{Play as APlay}
+use Rattle.lsl_top.specs.Plays.{Mode, Whole, Handing, Freezing, Thawing, Last, Homes, Frozen, Viewing, Play, Read, played}
 use Rattle.lsl_top.specs.Words.{Command, Once, Check, Replay, Lossy, Freeze, Thaw, Make, View}
 use Rattle.lsl_top.specs.declared.modes.Last.{Last as ALast}
 use Rattle.lsl_top.specs.declared.modes.Last.TheVariants as lasts
@@ -31,6 +32,17 @@ mode_of modes.Handing = Handing
 mode_of modes.Freezing = Freezing
 mode_of (modes.Thawing frozen) = Thawing frozen.now
 mode_of (modes.Viewing frozen) = Viewing frozen.now
+
+-- what is played, and what was read of its files
+abbrev pub play_in : APlay → Play
+play_in p = played (mode_of p.mode) (map (λ n. n.now) p.names.now) (map (λ n. n.now) p.cards.now) p.world.now
+
+abbrev pub read_in : APlay → Read
+read_in p = record {
+  texts = map (λ t. t.items) p.texts.items;
+  notes = map (λ t. t.items) p.notes.items;
+  frozen = p.frozen.items;
+}
 
 abbrev pub last_of : ALast → Last
 last_of lasts.Homes = Homes

@@ -34,6 +34,12 @@ pub record Play : Type 0 where
   pub world : WorldFile
   pub mode : Mode
 
+-- what was read of a play's files: the texts of its scripts' and of its notecards' files, in order, and the frozen text
+pub record Read : Type 0 where
+  pub texts : List (List ℕ)
+  pub notes : List (List ℕ)
+  pub frozen : List ℕ
+
 -- the names of the files of a world's scripts
 abbrev pub names_in : WorldFile → List (List ℕ)
 names_in file = map encode_utf8_all file.files

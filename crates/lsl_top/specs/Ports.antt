@@ -1,5 +1,6 @@
 -- What the shelf, the sink and the link tell at one moment, and what comes of a call over them: for private functions.
 use Rattle.std.specs.Prelude.{◌≡◌, ◌≢◌, ℕ, ◌≤◌, List, [], Option, Result, Ok as OkResult, Err, OnOk, IsErrOf}
+use Rattle.std.specs.List.{AllZip}
 use Rattle.lsl_ports.specs.Counts.{NoneFell, Rose}
 use Rattle.lsl_ports.specs.Shelf.{Files, IsHead}
 use Rattle.lsl_ports.specs.declared.reading.ShelfFault.{ShelfFault}
@@ -7,10 +8,8 @@ use Rattle.lsl_ports.specs.declared.reading.ShelfFault.TheVariants.{Failed, NoMe
 use Rattle.lsl_ports.specs.Growth.{Grew, GrewPartly}
 use Rattle.lsl_ports.specs.Trips.{Trip, Went}
 use Rattle.lsl_region.specs.Worlds.{World}
-use Rattle.lsl_top.specs.Answers.{Answer, Grade, Due, PlaysTexts}
-use Rattle.lsl_top.specs.Froms.{IsFromTexts}
-use Rattle.lsl_top.specs.Held.{HoldsFrozen, AreHeld}
-use Rattle.lsl_top.specs.Plays.{Mode, Whole, Handing, Freezing, Thawing, Viewing, Play}
+use Rattle.lsl_top.specs.Answers.{Answer, Grade, Due}
+use Rattle.lsl_top.specs.Plays.{Mode, Whole, Handing, Freezing, Thawing, Viewing, Play, Read}
 use Rattle.lsl_top.specs.Promise.{KeepsTo, SendsNothing}
 use Rattle.lsl_top.specs.Words.{Command, Once, Check, Replay, Lossy, Freeze, Thaw, View, Make}
 use Rattle.lsl_top.specs.declared.status.Status.{Status}
@@ -30,24 +29,11 @@ IsFrozenRead held Freezing bytes = Unit {0}
 IsFrozenRead held (Thawing name) bytes = IsHead held name 2147483647 bytes
 IsFrozenRead held (Viewing name) bytes = IsHead held name 2147483647 bytes
 
--- a play whose scripts were read, and its notecards and its frozen file weren't yet; and where the notecards were too
-abbrev pub PlaysNoted : Grade → Option Files → World → List Trip → Play → List (List ℕ) → List (List ℕ) → Answer
-    → Type 0
-PlaysNoted grade held from trips play texts notes answer =
-    (text : List ℕ) × HoldsFrozen held play.mode text × PlaysTexts grade from trips play texts notes text answer
-
-abbrev pub PlaysRead : Grade → Option Files → World → List Trip → Play → List (List ℕ) → Answer → Type 0
-PlaysRead grade held from trips play texts answer =
-    (notes : List (List ℕ)) × AreHeld held play.cards notes
-    × PlaysNoted grade held from trips play texts notes answer
-
-abbrev pub IsFromNoted : Option Files → Play → List (List ℕ) → List (List ℕ) → World → Type 0
-IsFromNoted held play texts notes from =
-    (text : List ℕ) → HoldsFrozen held play.mode text → IsFromTexts play texts notes text from
-
-abbrev pub IsFromRead : Option Files → Play → List (List ℕ) → World → Type 0
-IsFromRead held play texts from =
-    (notes : List (List ℕ)) → AreHeld held play.cards notes → IsFromNoted held play texts notes from
+-- what was read of a play's files
+pub record WasRead (held : Option Files) (play : Play) (read : Read) : Type 0 where
+  pub scripts : AllZip (IsRead held) play.names read.texts
+  pub cards : AllZip (IsRead held) play.cards read.notes
+  pub frozen : IsFrozenRead held play.mode read.frozen
 
 -- what a link may give back in a play: where no world is run it is handed nothing
 abbrev pub gives_in : Mode → (List ℕ → Option (List ℕ) → Type 0) → List ℕ → Option (List ℕ) → Type 0
@@ -157,16 +143,19 @@ ports held read_faults sunk write_faults told link_faults =
       wire = wire told link_faults;
     }
 
--- the same, after files of these names were read
-pub record Serves (gives : List ℕ → Option (List ℕ) → Type 0) (IsFair : List Trip → Type 0) (Fits : World → Type 0)
+-- what a command keeps to by the trips that were made
+abbrev pub Keeping : Type 1
+Keeping = List Trip → Status → Option (List ℕ) → Option (List ℕ) → Type 0
+
+-- the same as `Concludes`, after files of these names were read
+pub record Serves (gives : List ℕ → Option (List ℕ) → Type 0) (IsFair : List Trip → Type 0) (Kept : Keeping)
     (IsAnswer : Grade → World → List Trip → Answer → Type 0) (IsName : List ℕ → Type 0) (old new : Ports)
     (status : Status) : Type 0
   where
     pub trips : List Trip
     pub went : Went gives old.wire.told new.wire.told trips
     pub silent : SendsNothing status → trips ≡ []
-    pub keeps : (from : World) → Fits from → IsFair trips
-        → KeepsTo (λ grade. IsAnswer grade from trips) status trips old.log.sunk new.log.sunk
+    pub keeps : IsFair trips → Kept trips status old.log.sunk new.log.sunk
     pub answers : (from : World) (trips : List Trip) → IsOwn status → HasAnswer (IsAnswer Due from trips) status
     pub nothing : status ≡ statuses.ReadFault → new.log.sunk ≡ old.log.sunk
     pub read_fault : status ≡ statuses.ReadFault

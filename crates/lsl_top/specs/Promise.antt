@@ -4,8 +4,14 @@ use Rattle.lsl_ports.specs.Growth.{Begins, Grew}
 use Rattle.lsl_ports.specs.Shelf.{Files}
 use Rattle.lsl_ports.specs.Trips.{Trip, sent_of}
 use Rattle.lsl_region.specs.Worlds.{World}
-use Rattle.lsl_top.specs.Answers.{Answer, Answers, Grade, Due, Written}
+use Rattle.lsl_lines.specs.World.{FileFirst, IsWorld}
+use Rattle.lsl_lines.specs.declared.faults.FileFault.{FileFault}
+use Rattle.lsl_lines.specs.declared.file.WorldFile.{WorldFile}
+use Rattle.lsl_top.specs.Answers.{Answer, Answers, Checks, Due, Grade, Makes, PlaysRead, Written, world_refused}
+use Rattle.lsl_top.specs.Froms.{IsFromRead}
+use Rattle.lsl_top.specs.Held.{AreRead, Holds}
 use Rattle.lsl_top.specs.Pieces.{Piece, lines_in, sent_in}
+use Rattle.lsl_top.specs.Plays.{Mode, Whole, Handing, Freezing, Thawing, Viewing, Play, Read, play_of, play_of_once}
 use Rattle.lsl_top.specs.Words.{Command, Once, Check, Replay, Lossy, Freeze, Thaw, View, Make}
 use Rattle.lsl_top.specs.declared.status.Status.{Status}
 use Rattle.lsl_top.specs.declared.status.Status.TheVariants.{Ok, Usage, BadWorld, BadScript, ReadFault, WriteFault, BadImage, NoMemory, BadNote}
@@ -50,11 +56,50 @@ KeepsTo IsAnswer NoMemory trips old new = ((new ≡ old) × (trips ≡ [])) ⊎ 
 KeepsTo IsAnswer Usage trips old new = Unit {0}
 KeepsTo IsAnswer ReadFault trips old new = Unit {0}
 
--- the same of a command's answers from this world and by these trips, where the words are a command
-abbrev pub Keeps : Option Files → World → List Trip → Option Command → Status → Option (List ℕ) → Option (List ℕ)
+-- No answer was begun: at ReadFault, and for want of memory before anything was written and sent. This is said with the
+-- texts that were read, if all were; then from each world that can have been frozen by them an answer was written.
+abbrev pub KeepsPlay : Option Files → List Trip → Play → Status → Option (List ℕ) → Option (List ℕ) → Type 0
+KeepsPlay held trips play status old new =
+    KeepsTo (λ grade answer. ⊥) status trips old new
+    ⊎ ((read : Read) × AreRead held play read
+    × ((from : World) → IsFromRead play read from
+    → KeepsTo (λ grade. PlaysRead grade from trips play read) status trips old new))
+
+-- what the file of that name has is no world, and is refused
+abbrev pub RefusesWorld : Option Files → List ℕ → Answer → Type 0
+RefusesWorld held name answer =
+    (bytes : List ℕ) × (fault : FileFault) × Holds held name bytes × FileFirst bytes fault
+    × (answer ≡ world_refused name fault)
+
+-- the same of a world file that is read, and played so
+abbrev pub KeepsFile : Option Files → List Trip → Mode → List ℕ → Status → Option (List ℕ) → Option (List ℕ) → Type 0
+KeepsFile held trips mode name status old new =
+    KeepsTo (λ grade. RefusesWorld held name) status trips old new
+    ⊎ ((bytes : List ℕ) × (file : WorldFile) × Holds held name bytes × IsWorld bytes file
+    × KeepsPlay held trips (play_of mode file) status old new)
+
+-- and of a command; `check` plays nothing, and the two texts of a number are told
+abbrev pub KeepsOf : Option Files → List Trip → Command → Status → Option (List ℕ) → Option (List ℕ) → Type 0
+KeepsOf held trips (Once name) status old new = KeepsPlay held trips (play_of_once name) status old new
+KeepsOf held trips (Check name) status old new =
+    KeepsTo (λ grade answer. (text : List ℕ) × Holds held name text × Checks name text answer) status trips old new
+KeepsOf held trips (Replay name) status old new = KeepsFile held trips Whole name status old new
+KeepsOf held trips (Lossy name) status old new = KeepsFile held trips Handing name status old new
+KeepsOf held trips (Freeze name) status old new = KeepsFile held trips Freezing name status old new
+KeepsOf held trips (Thaw frozen name) status old new = KeepsFile held trips (Thawing frozen) name status old new
+KeepsOf held trips (View frozen name) status old new = KeepsFile held trips (Viewing frozen) name status old new
+KeepsOf held trips (Make number) status old new =
+    (from : World) → KeepsTo (λ grade. Makes grade from trips number) status trips old new
+
+abbrev pub Keeps : Option Files → List Trip → Option Command → Status → Option (List ℕ) → Option (List ℕ) → Type 0
+Keeps held trips None status old new = Unit {0}
+Keeps held trips (Some command) status old new = KeepsOf held trips command status old new
+
+-- what is kept to from one world: an answer of the command from it
+abbrev pub KeepsFrom : Option Files → World → List Trip → Option Command → Status → Option (List ℕ) → Option (List ℕ)
     → Type 0
-Keeps held from trips None status old new = Unit {0}
-Keeps held from trips (Some command) status old new =
+KeepsFrom held from trips None status old new = Unit {0}
+KeepsFrom held from trips (Some command) status old new =
     KeepsTo (λ grade. Answers grade held from trips command) status trips old new
 
 -- the statuses at which nothing was sent, whatever came back

@@ -1,7 +1,7 @@
 //! Laws of answers. Each law is a function whose clause is the law; it does nothing.
 
 ghost use Rattle.lsl_top.specs.Halves.{TwoHalvesAreOneRun};
-ghost use Rattle.lsl_top.specs.Laws.{AnswersAreOne, CopiesKeep, RunsAreJournals};
+ghost use Rattle.lsl_top.specs.Laws.{AnswersAreOne, CopiesKeep, KeptFromEach, RunsAreJournals};
 
 /// Over files that are told, from the world that was frozen before, and by the trips that are made, a command has one
 /// answer at most: its status, its output and what it hands to the link.
@@ -17,6 +17,11 @@ pub fn runs_are_journals()
 /// Over a link that gives back what it is sent, what a command keeps to holds without a premise on what comes back.
 pub fn copies_keep()
     ensures { CopiesKeep }
+{}
+
+/// What a command keeps to, it keeps to from each world that can have been frozen, whatever texts the files can have.
+pub fn kept_from_each()
+    ensures { KeptFromEach }
 {}
 
 /// A run may be frozen and thawed between two steps: where `freeze` ends well on the first steps, and its output is a

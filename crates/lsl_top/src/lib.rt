@@ -8,7 +8,6 @@ ghost use Rattle.lsl_ports.specs.Trips.{Trip, Went};
 ghost use Rattle.lsl_region.specs.Worlds.{World};
 ghost use Rattle.lsl_top.specs.Answers.{Answer, Answers, Due};
 ghost use Rattle.lsl_top.specs.Fair.{IsFair};
-ghost use Rattle.lsl_top.specs.Froms.{IsFromWords};
 ghost use Rattle.lsl_top.specs.Headline.{Outputs, WritesLines};
 ghost use Rattle.lsl_top.specs.Named.{NamedRose};
 ghost use Rattle.lsl_top.specs.Promise.{Keeps, RunsNothing, SendsNothing, WritesNothing};
@@ -23,6 +22,8 @@ mod making;
 mod modes;
 mod noting;
 mod once;
+mod play;
+mod preparing;
 mod reading;
 mod report;
 mod running;
@@ -57,16 +58,16 @@ pub fn lsl<S: Shelf, K: Sink, L: Link>(
     // At Usage and ReadFault nothing was written.
     ensures nothing { WritesNothing result → K.sunk sink.new ≡ K.sunk sink.old }
     // With the trips that the link made: nothing was sent at Usage, BadWorld, BadScript, ReadFault, BadImage and
-    // BadNote, and by `check` and `view` never. From each world that can have been frozen, by the files (any world,
-    // where nothing is thawed or the frozen file is refused), and where each image came back as it was sent, or not at
-    // all, or isn't intact (by `replay --lossy` what came back was sent by then, or isn't intact): at Ok, BadWorld,
-    // BadScript, BadNote and BadImage the sink grew by exactly an answer of that status, and what that sends was sent;
-    // at WriteFault and NoMemory an answer was begun, or at NoMemory nothing at all was written and sent.
+    // BadNote, and by `check` and `view` never. Where each image came back as it was sent, or not at all, or isn't
+    // intact (by `replay --lossy` what came back was sent by then, or isn't intact), with the texts that were read,
+    // which are those of the files where the shelf tells them, and from each world that can have been frozen by them
+    // (any world, where nothing is thawed or the frozen text is refused): at Ok, BadWorld, BadScript, BadNote and
+    // BadImage the sink grew by exactly an answer of that status, and what that sends was sent; at WriteFault and
+    // NoMemory an answer was begun, or at NoMemory nothing at all was written and sent.
     ensures kept { (trips : List Trip) × Went L.gives (L.trips link.old) (L.trips link.new) trips
         × (SendsNothing result ⊎ RunsNothing (command_of words.now) → trips ≡ [])
-        × ((from : World) → IsFromWords (S.held shelf.old) (command_of words.now) from
-        → IsFair (command_of words.now) trips
-        → Keeps (S.held shelf.old) from trips (command_of words.now) result (K.sunk sink.old) (K.sunk sink.new)) }
+        × (IsFair (command_of words.now) trips
+        → Keeps (S.held shelf.old) trips (command_of words.now) result (K.sunk sink.old) (K.sunk sink.new)) }
     // The shelf failed at a file that the words or their world name.
     ensures read_fault { result ≡ Status.ReadFault
         → NamedRose (S.held shelf.old) (command_of words.now) (S.faults shelf.old) (S.faults shelf.new) }

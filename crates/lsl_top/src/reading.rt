@@ -3,11 +3,14 @@ ghost use Rattle.std.specs.Prelude.{◌≡◌, ◌<◌, length, slice_get, ℕ, 
 ghost use Rattle.std.specs.List.{AllZip};
 ghost use Rattle.std.specs.Str.{encode_utf8_all};
 ghost use Rattle.lsl_ports.specs.Counts.{NoneFell, Rose};
-ghost use Rattle.lsl_top.specs.Meant.{mode_of};
-ghost use Rattle.lsl_top.specs.Named.{IsFrozenName};
-ghost use Rattle.lsl_top.specs.Ports.{IsFrozenRead, IsRead};
+ghost use Rattle.lsl_top.specs.Meant.{mode_of, play_in, read_in};
+ghost use Rattle.lsl_top.specs.Named.{IsFrozenName, IsPlayName};
+ghost use Rattle.lsl_top.specs.Plays.{played};
+ghost use Rattle.lsl_top.specs.Ports.{IsFrozenRead, IsRead, WasRead};
 
 use crate::modes::Mode;
+use crate::play::Play;
+use lsl_lines::WorldFile;
 use lsl_ports::{Shelf, ShelfFault, read_all};
 use lsl_text::NoMemory;
 use lsl_value::Text;
@@ -99,4 +102,38 @@ pub fn name_at<'a>(names: &[&'a str], place: usize) -> &'a str
     ensures { slice_get (map (λ n. n.now) names.now) place ≡ Some result.now }
 {
     names[place]
+}
+
+/// Reads all files of a play: its scripts' and then its notecards', each once, and then the frozen one.
+pub fn read_play<'a, S: Shelf>(
+    alloc: Global,
+    mode: Mode<'a>,
+    names: &'a [&'a str],
+    cards: &'a [&'a str],
+    world: &'a WorldFile,
+    shelf: &mut S,
+) -> Result<Play<'a>, ShelfFault>
+    requires names { length names.now ≡ length world.now.files }
+    requires cards { length cards.now ≡ length world.now.cards }
+    ensures is { IfOk result (λ play. play_in play
+        ≡ played (mode_of mode.entry) (map (λ n. n.now) names.now) (map (λ n. n.now) cards.now) world.now) }
+    ensures read { IfOk result (λ play. WasRead (S.held shelf.old) (play_in play) (read_in play)) }
+    ensures unchanged { S.held shelf.new ≡ S.held shelf.old }
+    ensures err { IsErrOf result ShelfFault.Failed → (name : List ℕ)
+        × IsPlayName (mode_of mode.entry) (map (λ n. n.now) names.now) (map (λ n. n.now) cards.now) name
+        × Rose (S.faults shelf.old name) (S.faults shelf.new name) }
+    ensures counted { NoneFell (S.faults shelf.old) (S.faults shelf.new) }
+{
+    let texts = read_scripts(alloc, shelf, names)?;
+    let notes = read_scripts(alloc, shelf, cards)?;
+    let frozen = read_frozen(alloc, mode, shelf)?;
+    Ok(Play {
+        mode,
+        names,
+        cards,
+        world,
+        texts,
+        notes,
+        frozen,
+    })
 }

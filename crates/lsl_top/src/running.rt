@@ -32,44 +32,43 @@ ghost use Rattle.lsl_top.specs.Thaws.{IsFrom, IsThawFault, IsThawOf};
 
 use crate::lines::image_refusal;
 use crate::modes::{Last, Mode};
+use crate::play::Play;
+use crate::preparing::Cast;
 use crate::report::write_run;
 use crate::status::Status;
 use crate::writing::{status_after, write_line};
-use lsl_code::Library;
 use lsl_image::ImageFault;
 use lsl_lines::{WorldFile, take_frozen};
-use lsl_notes::Cards;
 use lsl_ports::{Link, Sink};
 use lsl_text::{NoMemory, Refusal};
 use lsl_view::{script_names, view};
 use lsl_world::World;
 use std::alloc::Global;
 
-/// Runs a world, whose scripts' files have these units.
-pub fn run_built<K: Sink, L: Link>(
+/// Runs a play with this code and these notecards.
+pub fn run_cast<K: Sink, L: Link>(
     alloc: Global,
-    mode: Mode<'_>,
-    file: &WorldFile,
-    units: Library,
-    cards: Cards,
-    text: &[u8],
+    play: &Play<'_>,
+    cast: Cast,
     sink: &mut K,
     link: &mut L,
 ) -> Status
-    requires file { IsInRange file.now }
-    requires units { length units ≡ length file.now.files }
-    ensures { (programs : List Program) → AreRunBy programs units → Concludes (gives_in (mode_of mode.entry) L.gives)
-        (IsFairIn (mode_of mode.entry)) (IsFromIn (mode_of mode.entry) units programs file.now cards text.now)
-        (λ grade from trips. Comes grade from trips (mode_of mode.entry) units programs file.now cards text.now)
+    requires range { IsInRange play.now.world.now }
+    requires units { length cast.units ≡ length play.now.world.now.files }
+    ensures { (programs : List Program) → AreRunBy programs cast.units
+        → Concludes (gives_in (mode_of play.now.mode) L.gives) (IsFairIn (mode_of play.now.mode))
+        (IsFromIn (mode_of play.now.mode) cast.units programs play.now.world.now cast.cards play.now.frozen.items)
+        (λ grade from trips. Comes grade from trips (mode_of play.now.mode) cast.units programs play.now.world.now
+        cast.cards play.now.frozen.items)
         (log (K.sunk sink.old) (K.faults sink.old)) (log (K.sunk sink.new) (K.faults sink.new))
         (wire (L.trips link.old) (L.faults link.old)) (wire (L.trips link.new) (L.faults link.new)) result }
 {
-    match mode {
-        Mode::Whole => run_started(alloc, Last::Homes, file, units, cards, sink, link),
-        Mode::Handing => run_lossy(alloc, file, units, cards, sink, link),
-        Mode::Freezing => run_started(alloc, Last::Frozen, file, units, cards, sink, link),
-        Mode::Thawing(name) => run_thawed(alloc, name, file, units, cards, text, sink, link),
-        Mode::Viewing(name) => show_frozen(alloc, name, file, units, cards, text, sink),
+    match play.mode {
+        Mode::Whole => run_started(alloc, Last::Homes, play.world, cast, sink, link),
+        Mode::Handing => run_lossy(alloc, play.world, cast, sink, link),
+        Mode::Freezing => run_started(alloc, Last::Frozen, play.world, cast, sink, link),
+        Mode::Thawing(name) => run_thawed(alloc, name, play, cast, sink, link),
+        Mode::Viewing(name) => show_frozen(alloc, name, play, cast, sink),
     }
 }
 
@@ -78,19 +77,19 @@ fn run_started<K: Sink, L: Link>(
     alloc: Global,
     last: Last,
     file: &WorldFile,
-    units: Library,
-    cards: Cards,
+    cast: Cast,
     sink: &mut K,
     link: &mut L,
 ) -> Status
     requires file { IsInRange file.now }
-    requires units { length units ≡ length file.now.files }
-    ensures { (programs : List Program) → AreRunBy programs units → Concludes L.gives (Honest IsIntact)
-        (λ from. Unit {0}) (λ grade from trips. ComesFromStart grade trips (last_of last) units programs file.now cards)
+    requires units { length cast.units ≡ length file.now.files }
+    ensures { (programs : List Program) → AreRunBy programs cast.units → Concludes L.gives (Honest IsIntact)
+        (λ from. Unit {0}) (λ grade from trips. ComesFromStart grade trips (last_of last) cast.units programs file.now
+        cast.cards)
         (log (K.sunk sink.old) (K.faults sink.old)) (log (K.sunk sink.new) (K.faults sink.new))
         (wire (L.trips link.old) (L.faults link.old)) (wire (L.trips link.new) (L.faults link.new)) result }
 {
-    match World::start(alloc, file, units, cards) {
+    match World::start(alloc, file, cast.units, cast.cards) {
         Ok(world) => status_after(
             write_run(alloc, last, world, file.steps.as_slice(), sink, link),
             Status::Ok,
@@ -103,20 +102,19 @@ fn run_started<K: Sink, L: Link>(
 fn run_lossy<K: Sink, L: Link>(
     alloc: Global,
     file: &WorldFile,
-    units: Library,
-    cards: Cards,
+    cast: Cast,
     sink: &mut K,
     link: &mut L,
 ) -> Status
     requires file { IsInRange file.now }
-    requires units { length units ≡ length file.now.files }
-    ensures { (programs : List Program) → AreRunBy programs units → Concludes L.gives (WereCarried [])
+    requires units { length cast.units ≡ length file.now.files }
+    ensures { (programs : List Program) → AreRunBy programs cast.units → Concludes L.gives (WereCarried [])
         (λ from. Unit {0}) (λ grade from trips answer. answer
-        ≡ lossy_answer units programs file.now trips (start (rules_of programs) file.now cards))
+        ≡ lossy_answer cast.units programs file.now trips (start (rules_of programs) file.now cast.cards))
         (log (K.sunk sink.old) (K.faults sink.old)) (log (K.sunk sink.new) (K.faults sink.new))
         (wire (L.trips link.old) (L.faults link.old)) (wire (L.trips link.new) (L.faults link.new)) result }
 {
-    match lossy_start(alloc, file, units, cards) {
+    match lossy_start(alloc, file, cast) {
         Ok(world) => status_after(
             write_run(alloc, Last::Homes, world, file.steps.as_slice(), sink, link),
             Status::Ok,
@@ -126,25 +124,20 @@ fn run_lossy<K: Sink, L: Link>(
 }
 
 /// The world of a file at its start, where objects are handed over by notes.
-fn lossy_start(
-    alloc: Global,
-    file: &WorldFile,
-    units: Library,
-    cards: Cards,
-) -> Result<World, NoMemory>
+fn lossy_start(alloc: Global, file: &WorldFile, cast: Cast) -> Result<World, NoMemory>
     requires file { IsInRange file.now }
-    requires units { length units ≡ length file.now.files }
-    ensures at { (programs : List Program) → AreRunBy programs units
+    requires units { length cast.units ≡ length file.now.files }
+    ensures at { (programs : List Program) → AreRunBy programs cast.units
         → IfOk result (λ world. IsAt programs world
-        (lossy_stage (regions_of_file file.now) (start (rules_of programs) file.now cards))) }
+        (lossy_stage (regions_of_file file.now) (start (rules_of programs) file.now cast.cards))) }
     ensures carded { IfOk result AreCarded }
     ensures named { IfOk result (λ world. All (CanHand world) file.now.steps) }
     ensures regions { IfOk result (λ world. world.regions ≡ regions_of_file file.now) }
     ensures size { IfOk result (λ world. size_of world ≡ size_of_file file.now) }
     ensures sound { IfOk result IsSound }
-    ensures units { IfOk result (λ world. world.units ≡ units) }
+    ensures units { IfOk result (λ world. world.units ≡ cast.units) }
 {
-    let world = World::start(alloc, file, units, cards)?;
+    let world = World::start(alloc, file, cast.units, cast.cards)?;
     world.lossy()
 }
 
@@ -152,24 +145,30 @@ fn lossy_start(
 fn run_thawed<K: Sink, L: Link>(
     alloc: Global,
     name: &str,
-    file: &WorldFile,
-    units: Library,
-    cards: Cards,
-    text: &[u8],
+    play: &Play<'_>,
+    cast: Cast,
     sink: &mut K,
     link: &mut L,
 ) -> Status
-    requires file { IsInRange file.now }
-    requires units { length units ≡ length file.now.files }
-    ensures { (programs : List Program) → AreRunBy programs units → Concludes L.gives (Honest IsIntact)
-        (IsFrom units programs file.now cards text.now)
-        (λ grade from trips. Comes grade from trips (Thawing name.now) units programs file.now cards text.now)
+    requires range { IsInRange play.now.world.now }
+    requires units { length cast.units ≡ length play.now.world.now.files }
+    ensures { (programs : List Program) → AreRunBy programs cast.units → Concludes L.gives (Honest IsIntact)
+        (IsFrom cast.units programs play.now.world.now cast.cards play.now.frozen.items)
+        (λ grade from trips. Comes grade from trips (Thawing name.now) cast.units programs play.now.world.now
+        cast.cards play.now.frozen.items)
         (log (K.sunk sink.old) (K.faults sink.old)) (log (K.sunk sink.new) (K.faults sink.new))
         (wire (L.trips link.old) (L.faults link.old)) (wire (L.trips link.new) (L.faults link.new)) result }
 {
-    match thawed(alloc, file, units, cards, text) {
+    match thawed(alloc, play, cast) {
         Ok(world) => status_after(
-            write_run(alloc, Last::Homes, world, file.steps.as_slice(), sink, link),
+            write_run(
+                alloc,
+                Last::Homes,
+                world,
+                play.world.steps.as_slice(),
+                sink,
+                link,
+            ),
             Status::Ok,
         ),
         Err(Refusal::Fault(fault)) => status_after(
@@ -185,19 +184,20 @@ fn run_thawed<K: Sink, L: Link>(
 fn show_frozen<K: Sink>(
     alloc: Global,
     name: &str,
-    file: &WorldFile,
-    units: Library,
-    cards: Cards,
-    text: &[u8],
+    play: &Play<'_>,
+    cast: Cast,
     sink: &mut K,
 ) -> Status
-    requires file { IsInRange file.now }
-    requires units { length units ≡ length file.now.files }
-    ensures { Finishes (Shows units file.now name.now text.now) (log (K.sunk sink.old) (K.faults sink.old))
-        (log (K.sunk sink.new) (K.faults sink.new)) result }
+    requires range { IsInRange play.now.world.now }
+    requires units { length cast.units ≡ length play.now.world.now.files }
+    ensures { Finishes (Shows cast.units play.now.world.now name.now play.now.frozen.items)
+        (log (K.sunk sink.old) (K.faults sink.old)) (log (K.sunk sink.new) (K.faults sink.new)) result }
 {
-    match thawed(alloc, file, units, cards, text) {
-        Ok(world) => status_after(write_line(view_of(alloc, file, &world), sink), Status::Ok),
+    match thawed(alloc, play, cast) {
+        Ok(world) => status_after(
+            write_line(view_of(alloc, play.world, &world), sink),
+            Status::Ok,
+        ),
         Err(Refusal::Fault(fault)) => status_after(
             write_line(image_refusal(alloc, name, &fault), sink),
             Status::BadImage,
@@ -219,24 +219,21 @@ fn view_of(alloc: Global, file: &WorldFile, world: &World) -> Result<Vec<u8>, No
 }
 
 /// The frozen world of this text, with the objects of the file, or why there is none.
-fn thawed(
-    alloc: Global,
-    file: &WorldFile,
-    units: Library,
-    cards: Cards,
-    text: &[u8],
-) -> Result<World, Refusal<ImageFault>>
-    requires file { IsInRange file.now }
-    requires units { length units ≡ length file.now.files }
-    ensures found { IfOk result (λ world. IsThawOf units file.now text.now (parts_in world)) }
-    ensures refused { (fault : AFault) → IsErrOf result (Fault fault) → IsThawFault units file.now text.now fault }
-    ensures of { (programs : List Program) (w : SourceWorld) → AreRunBy programs units
-        → IsFrom units programs file.now cards text.now w → IfOk result (λ world. IsOf programs world w) }
-    ensures size { IfOk result (λ world. size_of world ≡ size_of_file file.now) }
+fn thawed(alloc: Global, play: &Play<'_>, cast: Cast) -> Result<World, Refusal<ImageFault>>
+    requires range { IsInRange play.now.world.now }
+    requires units { length cast.units ≡ length play.now.world.now.files }
+    ensures found { IfOk result (λ world.
+        IsThawOf cast.units play.now.world.now play.now.frozen.items (parts_in world)) }
+    ensures refused { (fault : AFault) → IsErrOf result (Fault fault)
+        → IsThawFault cast.units play.now.world.now play.now.frozen.items fault }
+    ensures of { (programs : List Program) (w : SourceWorld) → AreRunBy programs cast.units
+        → IsFrom cast.units programs play.now.world.now cast.cards play.now.frozen.items w
+        → IfOk result (λ world. IsOf programs world w) }
+    ensures size { IfOk result (λ world. size_of world ≡ size_of_file play.now.world.now) }
     ensures sound { IfOk result IsSound }
-    ensures units { IfOk result (λ world. world.units ≡ units) }
+    ensures units { IfOk result (λ world. world.units ≡ cast.units) }
     ensures plain { IfOk result (λ world. world.cards ≡ None) }
 {
-    let bytes = take_frozen(alloc, text)?;
-    World::thaw(alloc, file, units, cards, bytes.as_slice())
+    let bytes = take_frozen(alloc, play.frozen.as_slice())?;
+    World::thaw(alloc, play.world, cast.units, cast.cards, bytes.as_slice())
 }

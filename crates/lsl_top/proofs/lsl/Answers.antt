@@ -42,7 +42,7 @@ returns-in-None-clause-kept g c = (
   [],
   went-none g.L.Link.gives (g.L.Link.trips c.args.link.now),
   λ e. refl,
-  λ from fits honest. subst (λ (w : Option Command). Keeps (g.S.Shelf.held c.args.shelf.now) from [] w Usage
+  λ honest. subst (λ (w : Option Command). Keeps (g.S.Shelf.held c.args.shelf.now) [] w Usage
       (g.K.Sink.sunk c.args.sink.now) (g.K.Sink.sunk c.args.sink.now)) (sym c.in-None.ensures) tt,
 )
 

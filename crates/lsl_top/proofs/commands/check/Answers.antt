@@ -1,15 +1,16 @@
-use Rattle.std.proofs.Common.{Err, List, ℕ, refl, sym, ap, subst}
+use Rattle.std.proofs.Common.{Err, List, [], ℕ, inl, refl, sym, ap, subst}
 use Rattle.lsl_ports.specs.Trips.{Trip}
 use Rattle.lsl_region.specs.Worlds.{World}
 use Rattle.lsl_top.specs.Answers.{Answer, Answers, Checks, Grade}
 use Rattle.lsl_top.specs.Fair.{IsFairOf}
-use Rattle.lsl_top.specs.Froms.{IsFromOf}
+use Rattle.lsl_top.specs.Held.{Holds}
 use Rattle.lsl_top.specs.Named.{IsNamed}
-use Rattle.lsl_top.specs.Ports.{Serves, gives_by, log, ports, wire}
+use Rattle.lsl_top.specs.Ports.{Keeping, Serves, gives_by, log, ports, wire}
+use Rattle.lsl_top.specs.Promise.{KeepsOf}
 use Rattle.lsl_top.specs.Words.{Check}
 use Rattle.lsl_top.specs.declared.status.Status.{Status}
 use Rattle.lsl_top.proofs.FilesRead.{checks-read, text-read}
-use Rattle.lsl_top.proofs.Finishing.{concludes-finished, serve-concluded, serve-unread}
+use Rattle.lsl_top.proofs.Finishing.{keeps-as, serve-finished, serve-unread}
 use Rattle.lsl_top.proofs.commands.check.Goals as goal
 
 pub returns-in-Ok : goal.returns-in-Ok
@@ -22,33 +23,35 @@ returns-in-Ok g c =
     let old = (log (g.K.Sink.sunk c.args.sink.now) (g.K.Sink.faults c.args.sink.now)) in
     let new = (log (g.K.Sink.sunk c.write_check.new.sink) (g.K.Sink.faults c.write_check.new.sink)) in
     let link = (wire (g.L.Link.trips c.args.link.now) (g.L.Link.faults c.args.link.now)) in
-    let Fits = IsFromOf held (Check name) in
-    let IsOne : Grade → World → List Trip → Answer → Type 0 = λ grade from trips. Checks name c.as_slice.result.now in
-    serve-concluded (gives_by (Check name) g.L.Link.gives) (IsFairOf (Check name)) Fits
-    (λ grade from trips. Answers grade held from trips (Check name))
-    (IsNamed held (Check name)) held
-    (g.S.Shelf.held c.read_script.new.shelf) (g.S.Shelf.faults c.args.shelf.now)
-    (g.S.Shelf.faults c.read_script.new.shelf) read.unchanged read.counted
-    Fits IsOne old new link link c.write_check.result (λ from fits. fits)
-    (λ grade from trips answer h. (
+    let given = c.as_slice.result.now in
+    let found : (answer : Answer) → Checks name given answer
+    → (text : List ℕ) × Holds held name text × Checks name text answer =
+    λ answer h. (
       text,
       is,
       checks-read name bytes text answer of
           (subst (λ (z : List ℕ). Checks name z answer) c.as_slice.ensures.value h),
-    ))
-    (concludes-finished (gives_by (Check name) g.L.Link.gives) (IsFairOf (Check name))
-    (Checks name c.as_slice.result.now) Fits IsOne
-    old new link c.write_check.result (λ grade from trips answer h. h) c.write_check.ensures)
+    ) in
+    serve-finished (gives_by (Check name) g.L.Link.gives) (IsFairOf (Check name))
+    (λ trips. KeepsOf held trips (Check name)) (λ grade from trips. Answers grade held from trips (Check name))
+    (IsNamed held (Check name)) held
+    (g.S.Shelf.held c.read_script.new.shelf) (g.S.Shelf.faults c.args.shelf.now)
+    (g.S.Shelf.faults c.read_script.new.shelf) read.unchanged read.counted (Checks name given) old new link
+    c.write_check.result
+    (keeps-as (λ grade. Checks name given)
+    (λ grade answer. (text : List ℕ) × Holds held name text × Checks name text answer) c.write_check.result []
+    old.sunk new.sunk (λ grade answer h. found answer h))
+    (λ from trips answer h. found answer h) c.write_check.ensures
 
 pub returns-in-Err : goal.returns-in-Err
 returns-in-Err g c =
     let held = g.S.Shelf.held c.args.shelf.now in
     let name = c.args.name.now in
     let read = c.in-Err.ensures in
-    let Fits = IsFromOf held (Check name) in
+    let Kept : Keeping = λ trips. KeepsOf held trips (Check name) in
     let IsThis : Grade → World → List Trip → Answer → Type 0 =
     λ grade from trips. Answers grade held from trips (Check name) in
-    subst (λ (status : Status). Serves (gives_by (Check name) g.L.Link.gives) (IsFairOf (Check name)) Fits IsThis
+    subst (λ (status : Status). Serves (gives_by (Check name) g.L.Link.gives) (IsFairOf (Check name)) Kept IsThis
     (IsNamed held (Check name))
     (ports held (g.S.Shelf.faults c.args.shelf.now) (g.K.Sink.sunk c.args.sink.now) (g.K.Sink.faults c.args.sink.now)
     (g.L.Link.trips c.args.link.now) (g.L.Link.faults c.args.link.now))
@@ -56,10 +59,10 @@ returns-in-Err g c =
     (g.K.Sink.sunk c.args.sink.now)
     (g.K.Sink.faults c.args.sink.now) (g.L.Link.trips c.args.link.now) (g.L.Link.faults c.args.link.now)) status)
     (sym c.unread.ensures)
-    (serve-unread (gives_by (Check name) g.L.Link.gives) (IsFairOf (Check name)) Fits IsThis
+    (serve-unread (gives_by (Check name) g.L.Link.gives) (IsFairOf (Check name)) Kept IsThis
     (IsNamed held (Check name)) held
     (g.S.Shelf.held c.read_script.new.shelf) (g.S.Shelf.faults c.args.shelf.now)
     (g.S.Shelf.faults c.read_script.new.shelf)
     read.unchanged read.counted (log (g.K.Sink.sunk c.args.sink.now) (g.K.Sink.faults c.args.sink.now))
     (wire (g.L.Link.trips c.args.link.now) (g.L.Link.faults c.args.link.now)) c.in-Err.fault
-    (λ e. (name, refl, read.err (ap (λ r. Err r) e))))
+    (inl (refl, refl)) tt (λ e. (name, refl, read.err (ap (λ r. Err r) e))))

@@ -3,10 +3,10 @@ use Rattle.lsl_ports.specs.Trips.{Honest}
 use Rattle.lsl_image.specs.Images.{IsIntact}
 use Rattle.lsl_top.specs.Answers.{Answers, Makes}
 use Rattle.lsl_top.specs.Fair.{IsFairOf}
-use Rattle.lsl_top.specs.Froms.{IsFromOf}
 use Rattle.lsl_top.specs.Meant.{asked_by}
 use Rattle.lsl_top.specs.Named.{IsNamed}
 use Rattle.lsl_top.specs.Ports.{Serves, log, ports, wire, gives_by}
+use Rattle.lsl_top.specs.Promise.{KeepsOf}
 use Rattle.lsl_top.specs.Words.{Command, Make}
 use Rattle.lsl_top.proofs.Finishing.{serve-concluded}
 use Rattle.lsl_top.proofs.commands.serve.Goals as goal
@@ -14,7 +14,8 @@ use Rattle.lsl_top.proofs.commands.serve.Goals as goal
 pub returns-in-Once : goal.returns-in-Once
 returns-in-Once g c =
     let held = g.S.Shelf.held c.args.shelf.now in
-    subst (λ (command : Command). Serves (gives_by command g.L.Link.gives) (IsFairOf command) (IsFromOf held command)
+    subst (λ (command : Command). Serves (gives_by command g.L.Link.gives) (IsFairOf command)
+    (λ trips. KeepsOf held trips command)
     (λ grade from trips. Answers grade held from trips command) (IsNamed held command)
     (ports held (g.S.Shelf.faults c.args.shelf.now) (g.K.Sink.sunk c.args.sink.now) (g.K.Sink.faults c.args.sink.now)
     (g.L.Link.trips c.args.link.now) (g.L.Link.faults c.args.link.now))
@@ -26,7 +27,8 @@ returns-in-Once g c =
 pub returns-in-Check : goal.returns-in-Check
 returns-in-Check g c =
     let held = g.S.Shelf.held c.args.shelf.now in
-    subst (λ (command : Command). Serves (gives_by command g.L.Link.gives) (IsFairOf command) (IsFromOf held command)
+    subst (λ (command : Command). Serves (gives_by command g.L.Link.gives) (IsFairOf command)
+    (λ trips. KeepsOf held trips command)
     (λ grade from trips. Answers grade held from trips command) (IsNamed held command)
     (ports held (g.S.Shelf.faults c.args.shelf.now) (g.K.Sink.sunk c.args.sink.now) (g.K.Sink.faults c.args.sink.now)
     (g.L.Link.trips c.args.link.now) (g.L.Link.faults c.args.link.now))
@@ -38,7 +40,8 @@ returns-in-Check g c =
 pub returns-in-Replay : goal.returns-in-Replay
 returns-in-Replay g c =
     let held = g.S.Shelf.held c.args.shelf.now in
-    subst (λ (command : Command). Serves (gives_by command g.L.Link.gives) (IsFairOf command) (IsFromOf held command)
+    subst (λ (command : Command). Serves (gives_by command g.L.Link.gives) (IsFairOf command)
+    (λ trips. KeepsOf held trips command)
     (λ grade from trips. Answers grade held from trips command) (IsNamed held command)
     (ports held (g.S.Shelf.faults c.args.shelf.now) (g.K.Sink.sunk c.args.sink.now) (g.K.Sink.faults c.args.sink.now)
     (g.L.Link.trips c.args.link.now) (g.L.Link.faults c.args.link.now))
@@ -50,7 +53,8 @@ returns-in-Replay g c =
 pub returns-in-Lossy : goal.returns-in-Lossy
 returns-in-Lossy g c =
     let held = g.S.Shelf.held c.args.shelf.now in
-    subst (λ (command : Command). Serves (gives_by command g.L.Link.gives) (IsFairOf command) (IsFromOf held command)
+    subst (λ (command : Command). Serves (gives_by command g.L.Link.gives) (IsFairOf command)
+    (λ trips. KeepsOf held trips command)
     (λ grade from trips. Answers grade held from trips command) (IsNamed held command)
     (ports held (g.S.Shelf.faults c.args.shelf.now) (g.K.Sink.sunk c.args.sink.now) (g.K.Sink.faults c.args.sink.now)
     (g.L.Link.trips c.args.link.now) (g.L.Link.faults c.args.link.now))
@@ -63,7 +67,8 @@ returns-in-Lossy g c =
 pub returns-in-Freeze : goal.returns-in-Freeze
 returns-in-Freeze g c =
     let held = g.S.Shelf.held c.args.shelf.now in
-    subst (λ (command : Command). Serves (gives_by command g.L.Link.gives) (IsFairOf command) (IsFromOf held command)
+    subst (λ (command : Command). Serves (gives_by command g.L.Link.gives) (IsFairOf command)
+    (λ trips. KeepsOf held trips command)
     (λ grade from trips. Answers grade held from trips command) (IsNamed held command)
     (ports held (g.S.Shelf.faults c.args.shelf.now) (g.K.Sink.sunk c.args.sink.now) (g.K.Sink.faults c.args.sink.now)
     (g.L.Link.trips c.args.link.now) (g.L.Link.faults c.args.link.now))
@@ -77,7 +82,8 @@ returns-in-Freeze g c =
 pub returns-in-Thaw : goal.returns-in-Thaw
 returns-in-Thaw g c =
     let held = g.S.Shelf.held c.args.shelf.now in
-    subst (λ (command : Command). Serves (gives_by command g.L.Link.gives) (IsFairOf command) (IsFromOf held command)
+    subst (λ (command : Command). Serves (gives_by command g.L.Link.gives) (IsFairOf command)
+    (λ trips. KeepsOf held trips command)
     (λ grade from trips. Answers grade held from trips command) (IsNamed held command)
     (ports held (g.S.Shelf.faults c.args.shelf.now) (g.K.Sink.sunk c.args.sink.now) (g.K.Sink.faults c.args.sink.now)
     (g.L.Link.trips c.args.link.now) (g.L.Link.faults c.args.link.now))
@@ -91,7 +97,8 @@ returns-in-Thaw g c =
 pub returns-in-View : goal.returns-in-View
 returns-in-View g c =
     let held = g.S.Shelf.held c.args.shelf.now in
-    subst (λ (command : Command). Serves (gives_by command g.L.Link.gives) (IsFairOf command) (IsFromOf held command)
+    subst (λ (command : Command). Serves (gives_by command g.L.Link.gives) (IsFairOf command)
+    (λ trips. KeepsOf held trips command)
     (λ grade from trips. Answers grade held from trips command) (IsNamed held command)
     (ports held (g.S.Shelf.faults c.args.shelf.now) (g.K.Sink.sunk c.args.sink.now) (g.K.Sink.faults c.args.sink.now)
     (g.L.Link.trips c.args.link.now) (g.L.Link.faults c.args.link.now))
@@ -106,19 +113,20 @@ returns-in-Make g c =
     let held = g.S.Shelf.held c.args.shelf.now in
     let faults = g.S.Shelf.faults c.args.shelf.now in
     let number = c.in-Make.number in
-    subst (λ (command : Command). Serves (gives_by command g.L.Link.gives) (IsFairOf command) (IsFromOf held command)
+    subst (λ (command : Command). Serves (gives_by command g.L.Link.gives) (IsFairOf command)
+    (λ trips. KeepsOf held trips command)
     (λ grade from trips. Answers grade held from trips command) (IsNamed held command)
     (ports held faults (g.K.Sink.sunk c.args.sink.now) (g.K.Sink.faults c.args.sink.now)
     (g.L.Link.trips c.args.link.now) (g.L.Link.faults c.args.link.now))
     (ports held faults (g.K.Sink.sunk c.make.new.sink) (g.K.Sink.faults c.make.new.sink)
     (g.L.Link.trips c.make.new.link) (g.L.Link.faults c.make.new.link)) c.make.result)
     (sym (ap asked_by c.in-Make.is))
-    (serve-concluded g.L.Link.gives (Honest IsIntact) (IsFromOf held (Make number))
+    (serve-concluded g.L.Link.gives (Honest IsIntact) (λ trips. KeepsOf held trips (Make number))
     (λ grade from trips. Answers grade held from trips (Make number)) (IsNamed held (Make number)) held held faults
     faults
     refl (λ n. omega arith) (λ from. Unit {0}) (λ grade from trips. Makes grade from trips number)
     (log (g.K.Sink.sunk c.args.sink.now) (g.K.Sink.faults c.args.sink.now))
     (log (g.K.Sink.sunk c.make.new.sink) (g.K.Sink.faults c.make.new.sink))
     (wire (g.L.Link.trips c.args.link.now) (g.L.Link.faults c.args.link.now))
-    (wire (g.L.Link.trips c.make.new.link) (g.L.Link.faults c.make.new.link)) c.make.result (λ from fits. tt)
-    (λ grade from trips answer h. h) c.make.ensures)
+    (wire (g.L.Link.trips c.make.new.link) (g.L.Link.faults c.make.new.link)) c.make.result (λ trips keeps from. keeps from tt)
+    (λ from trips answer h. h) c.make.ensures)

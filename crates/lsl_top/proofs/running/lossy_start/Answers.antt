@@ -10,7 +10,7 @@ use Rattle.lsl_top.proofs.running.lossy_start.Goals as goal
 
 pub returns-clause-at : goal.returns-clause-at
 returns-clause-at c = λ programs run.
-    let w = start (rules_of programs) c.args.file.now c.args.cards in
+    let w = start (rules_of programs) c.args.file.now c.args.cast.cards in
     let is = c.in_ok-world.ensures.of programs run in
     at-lossy programs c.in_ok-world.world w (regions_of_file c.args.file.now) c.lossy.result is
     c.in_ok-world.ensures.regions (c.lossy.ensures.of programs w is) (c.lossy.ensures.order programs w is)
@@ -36,5 +36,5 @@ returns-clause-sound c = c.lossy.ensures.sound c.in_ok-world.ensures.sound
 
 pub returns-clause-units : goal.returns-clause-units
 returns-clause-units c =
-    ok-as _ (λ (m : Memory). m.units ≡ c.args.units) c.lossy.result (λ m e. e ∙ c.in_ok-world.ensures.units)
+    ok-as _ (λ (m : Memory). m.units ≡ c.args.cast.units) c.lossy.result (λ m e. e ∙ c.in_ok-world.ensures.units)
     c.lossy.ensures.units

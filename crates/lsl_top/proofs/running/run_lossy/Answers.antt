@@ -36,11 +36,11 @@ write_run-requires-clause-named g c =
 
 pub returns-in-Ok : goal.returns-in-Ok
 returns-in-Ok g c = λ programs run.
-    let units = c.args.units in
+    let units = c.args.cast.units in
     let file = c.args.file.now in
     let world = c.in-Ok.world in
     let regions = regions_of_file file in
-    let begin = start (rules_of programs) file c.args.cards in
+    let begin = start (rules_of programs) file c.args.cast.cards in
     let old = (log (g.K.Sink.sunk c.args.sink.now) (g.K.Sink.faults c.args.sink.now)) in
     let new = (log (g.K.Sink.sunk c.write_run.new.sink) (g.K.Sink.faults c.write_run.new.sink)) in
     let before = (wire (g.L.Link.trips c.args.link.now) (g.L.Link.faults c.args.link.now)) in
@@ -65,6 +65,6 @@ pub returns-in-Err : goal.returns-in-Err
 returns-in-Err g c = λ programs run.
     concludes-memory g.L.Link.gives (WereCarried []) (λ from. Unit {0})
     (λ grade from trips answer. answer
-    ≡ lossy_answer c.args.units programs c.args.file.now trips (start (rules_of programs) c.args.file.now c.args.cards))
+    ≡ lossy_answer c.args.cast.units programs c.args.file.now trips (start (rules_of programs) c.args.file.now c.args.cast.cards))
     (log (g.K.Sink.sunk c.args.sink.now) (g.K.Sink.faults c.args.sink.now))
     (wire (g.L.Link.trips c.args.link.now) (g.L.Link.faults c.args.link.now))

@@ -41,9 +41,9 @@ write_run-requires-clause-named g c =
 pub returns-in-Ok : goal.returns-in-Ok
 returns-in-Ok g c = λ programs run.
     let last = last_of c.args.last in
-    let units = c.args.units in
+    let units = c.args.cast.units in
     let file = c.args.file.now in
-    let cards = c.args.cards in
+    let cards = c.args.cast.cards in
     let world = c.in-Ok.world in
     let begin = start (rules_of programs) file cards in
     let old = (log (g.K.Sink.sunk c.args.sink.now) (g.K.Sink.faults c.args.sink.now)) in
@@ -76,7 +76,7 @@ returns-in-Ok g c = λ programs run.
 pub returns-in-Err : goal.returns-in-Err
 returns-in-Err g c = λ programs run.
     concludes-memory g.L.Link.gives (Honest IsIntact) (λ from. Unit {0})
-    (λ grade from trips. ComesFromStart grade trips (last_of c.args.last) c.args.units programs c.args.file.now
-    c.args.cards)
+    (λ grade from trips. ComesFromStart grade trips (last_of c.args.last) c.args.cast.units programs c.args.file.now
+    c.args.cast.cards)
     (log (g.K.Sink.sunk c.args.sink.now) (g.K.Sink.faults c.args.sink.now))
     (wire (g.L.Link.trips c.args.link.now) (g.L.Link.faults c.args.link.now))

@@ -29,8 +29,8 @@ write_run-requires-clause-sound g c = c.in-Ok.ensures.sound
 pub write_run-requires-clause-steps : goal.write_run-requires-clause-steps
 write_run-requires-clause-steps g c =
     subst (λ (size : Size). All (IsStepOf size) c.as_slice.result.now) (sym c.in-Ok.ensures.size)
-    (subst (λ (steps : List Step). All (IsStepOf (size_of_file c.args.file.now)) steps) (sym c.as_slice.ensures)
-    c.requires.file.steps_fit)
+    (subst (λ (steps : List Step). All (IsStepOf (size_of_file c.args.play.now.world.now)) steps) (sym c.as_slice.ensures)
+    c.requires.range.steps_fit)
 
 pub write_run-requires-clause-carded : goal.write_run-requires-clause-carded
 write_run-requires-clause-carded g c = λ cards some. absurd (let no = sym c.in-Ok.ensures.plain ∙ some in cc)
@@ -42,10 +42,10 @@ write_run-requires-clause-named g c =
 pub returns-in-Ok : goal.returns-in-Ok
 returns-in-Ok g c = λ programs run.
     let name = c.args.name.now in
-    let units = c.args.units in
-    let file = c.args.file.now in
-    let text = c.args.text.now in
-    let cards = c.args.cards in
+    let units = c.args.cast.units in
+    let file = c.args.play.now.world.now in
+    let text = c.args.play.now.frozen.items in
+    let cards = c.args.cast.cards in
     let world = c.in-Ok.world in
     let thaws = c.in-Ok.ensures in
     let old = (log (g.K.Sink.sunk c.args.sink.now) (g.K.Sink.faults c.args.sink.now)) in
@@ -75,19 +75,19 @@ returns-in-Ok g c = λ programs run.
 pub returns-in-Err-NoMemory : goal.returns-in-Err-NoMemory
 returns-in-Err-NoMemory g c = λ programs run.
     concludes-memory g.L.Link.gives (Honest IsIntact)
-    (IsFrom c.args.units programs c.args.file.now c.args.cards c.args.text.now)
-    (λ grade from trips. Comes grade from trips (Thawing c.args.name.now) c.args.units programs c.args.file.now
-    c.args.cards c.args.text.now)
+    (IsFrom c.args.cast.units programs c.args.play.now.world.now c.args.cast.cards c.args.play.now.frozen.items)
+    (λ grade from trips. Comes grade from trips (Thawing c.args.name.now) c.args.cast.units programs c.args.play.now.world.now
+    c.args.cast.cards c.args.play.now.frozen.items)
     (log (g.K.Sink.sunk c.args.sink.now) (g.K.Sink.faults c.args.sink.now))
     (wire (g.L.Link.trips c.args.link.now) (g.L.Link.faults c.args.link.now))
 
 pub returns-in-Err-Fault : goal.returns-in-Err-Fault
 returns-in-Err-Fault g c = λ programs run.
     let name = c.args.name.now in
-    let units = c.args.units in
-    let file = c.args.file.now in
-    let text = c.args.text.now in
-    let cards = c.args.cards in
+    let units = c.args.cast.units in
+    let file = c.args.play.now.world.now in
+    let text = c.args.play.now.frozen.items in
+    let cards = c.args.cast.cards in
     let fault = c.in-Err-Fault.fault in
     let refused = c.in-Err-Fault.ensures.refused fault (ap (λ r. Err r) c.in-Err-Fault.field-0-is) in
     let old = (log (g.K.Sink.sunk c.args.sink.now) (g.K.Sink.faults c.args.sink.now)) in

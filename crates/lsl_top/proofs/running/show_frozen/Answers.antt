@@ -18,14 +18,15 @@ view_of-requires-clause-sound g c = c.in-Ok.ensures.sound
 
 pub view_of-requires-clause-names : goal.view_of-requires-clause-names
 view_of-requires-clause-names g c =
-    names-counted c.args.units c.args.file.now c.args.text.now (parts_in c.in-Ok.world) c.in-Ok.ensures.found
+    names-counted c.args.cast.units c.args.play.now.world.now c.args.play.now.frozen.items (parts_in c.in-Ok.world)
+    c.in-Ok.ensures.found
 
 pub returns-in-Ok : goal.returns-in-Ok
 returns-in-Ok g c =
     let name = c.args.name.now in
-    let units = c.args.units in
-    let file = c.args.file.now in
-    let text = c.args.text.now in
+    let units = c.args.cast.units in
+    let file = c.args.play.now.world.now in
+    let text = c.args.play.now.frozen.items in
     let parts = parts_in c.in-Ok.world in
     let lines = view_of_parts units (script_names file) parts in
     let old = log (g.K.Sink.sunk c.args.sink.now) (g.K.Sink.faults c.args.sink.now) in
@@ -40,9 +41,9 @@ returns-in-Ok g c =
 pub returns-in-Err-Fault : goal.returns-in-Err-Fault
 returns-in-Err-Fault g c =
     let name = c.args.name.now in
-    let units = c.args.units in
-    let file = c.args.file.now in
-    let text = c.args.text.now in
+    let units = c.args.cast.units in
+    let file = c.args.play.now.world.now in
+    let text = c.args.play.now.frozen.items in
     let fault = c.in-Err-Fault.fault in
     let refused = c.in-Err-Fault.ensures.refused fault (ap (λ r. Err r) c.in-Err-Fault.field-0-is) in
     let old = log (g.K.Sink.sunk c.args.sink.now) (g.K.Sink.faults c.args.sink.now) in
@@ -56,5 +57,5 @@ returns-in-Err-Fault g c =
 
 pub returns-in-Err-NoMemory : goal.returns-in-Err-NoMemory
 returns-in-Err-NoMemory g c =
-    finish-memory (Shows c.args.units c.args.file.now c.args.name.now c.args.text.now)
+    finish-memory (Shows c.args.cast.units c.args.play.now.world.now c.args.name.now c.args.play.now.frozen.items)
     (log (g.K.Sink.sunk c.args.sink.now) (g.K.Sink.faults c.args.sink.now))

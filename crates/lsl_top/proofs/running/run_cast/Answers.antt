@@ -8,14 +8,14 @@ use Rattle.lsl_top.specs.Meant.{mode_of}
 use Rattle.lsl_top.specs.Plays.{Mode, Viewing}
 use Rattle.lsl_top.specs.Ports.{Concludes, gives_in, log, wire}
 use Rattle.lsl_top.proofs.Finishing.{concludes-finished}
-use Rattle.lsl_top.proofs.running.run_built.Goals as goal
+use Rattle.lsl_top.proofs.running.run_cast.Goals as goal
 
 pub returns-in-Whole : goal.returns-in-Whole
 returns-in-Whole g c = λ programs run.
-    let units = c.args.units in
-    let file = c.args.file.now in
-    let text = c.args.text.now in
-    let cards = c.args.cards in
+    let units = c.args.cast.units in
+    let file = c.args.play.now.world.now in
+    let text = c.args.play.now.frozen.items in
+    let cards = c.args.cast.cards in
     subst (λ (mode : Mode). Concludes (gives_in mode g.L.Link.gives) (IsFairIn mode)
     (IsFromIn mode units programs file cards text)
     (λ grade from trips. Comes grade from trips mode units programs file cards text)
@@ -27,10 +27,10 @@ returns-in-Whole g c = λ programs run.
 
 pub returns-in-Handing : goal.returns-in-Handing
 returns-in-Handing g c = λ programs run.
-    let units = c.args.units in
-    let file = c.args.file.now in
-    let text = c.args.text.now in
-    let cards = c.args.cards in
+    let units = c.args.cast.units in
+    let file = c.args.play.now.world.now in
+    let text = c.args.play.now.frozen.items in
+    let cards = c.args.cast.cards in
     subst (λ (mode : Mode). Concludes (gives_in mode g.L.Link.gives) (IsFairIn mode)
     (IsFromIn mode units programs file cards text)
     (λ grade from trips. Comes grade from trips mode units programs file cards text)
@@ -42,10 +42,10 @@ returns-in-Handing g c = λ programs run.
 
 pub returns-in-Freezing : goal.returns-in-Freezing
 returns-in-Freezing g c = λ programs run.
-    let units = c.args.units in
-    let file = c.args.file.now in
-    let text = c.args.text.now in
-    let cards = c.args.cards in
+    let units = c.args.cast.units in
+    let file = c.args.play.now.world.now in
+    let text = c.args.play.now.frozen.items in
+    let cards = c.args.cast.cards in
     subst (λ (mode : Mode). Concludes (gives_in mode g.L.Link.gives) (IsFairIn mode)
     (IsFromIn mode units programs file cards text)
     (λ grade from trips. Comes grade from trips mode units programs file cards text)
@@ -58,10 +58,10 @@ returns-in-Freezing g c = λ programs run.
 
 pub returns-in-Thawing : goal.returns-in-Thawing
 returns-in-Thawing g c = λ programs run.
-    let units = c.args.units in
-    let file = c.args.file.now in
-    let text = c.args.text.now in
-    let cards = c.args.cards in
+    let units = c.args.cast.units in
+    let file = c.args.play.now.world.now in
+    let text = c.args.play.now.frozen.items in
+    let cards = c.args.cast.cards in
     subst (λ (mode : Mode). Concludes (gives_in mode g.L.Link.gives) (IsFairIn mode)
     (IsFromIn mode units programs file cards text)
     (λ grade from trips. Comes grade from trips mode units programs file cards text)
@@ -74,10 +74,10 @@ returns-in-Thawing g c = λ programs run.
 pub returns-in-Viewing : goal.returns-in-Viewing
 returns-in-Viewing g c = λ programs run.
     let name = c.in-Viewing.name.now in
-    let units = c.args.units in
-    let file = c.args.file.now in
-    let text = c.args.text.now in
-    let cards = c.args.cards in
+    let units = c.args.cast.units in
+    let file = c.args.play.now.world.now in
+    let text = c.args.play.now.frozen.items in
+    let cards = c.args.cast.cards in
     let old = log (g.K.Sink.sunk c.args.sink.now) (g.K.Sink.faults c.args.sink.now) in
     let new = log (g.K.Sink.sunk c.show_frozen.new.sink) (g.K.Sink.faults c.show_frozen.new.sink) in
     let link = wire (g.L.Link.trips c.args.link.now) (g.L.Link.faults c.args.link.now) in
