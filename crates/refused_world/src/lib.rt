@@ -2,6 +2,8 @@
 //! of a body here is a wrong body there, and the clause refuses it.
 #![tactic(auto)]
 
+pub mod compiler;
 pub mod handoff;
 pub mod lines;
 pub mod regions;
+pub mod worlds;
