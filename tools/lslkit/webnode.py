@@ -9,7 +9,8 @@ import shutil
 import subprocess
 import tempfile
 
-from . import faults, journal, kit, observing, places, playing, quoting, showing, standing, webmodule, webpage, worlds
+from . import faults, journal, kit, observing, places, quoting, showing, stage, standing, talking, webmodule, webpage
+from . import worlds
 from .webtesting import need, test
 
 PROBE = "process.exit(WebAssembly.validate(new Uint8Array([0,97,115,109,1,0,0,0,5,3,1,4,0])) ? 0 : 1)"
@@ -172,19 +173,32 @@ def words_are_those_of_tools_show():
     return f"{len(found)} cases, {rows:,} equal lines"
 
 
+def staged_by_lslkit(script, lines):
+    """The world that `lsl play` makes of these steps; but a wait goes to its end at once, as the page's does."""
+    it = stage.Stage()
+    it.add_script(script)
+    it.run()
+    talk = talking.Talk(None, it)
+    for line in lines.split("\n"):
+        word, _, rest = line.strip().partition(" ")
+        if word == "by":
+            talk.by(rest.strip())
+        elif word == "run":
+            it.ticks = stage.number(rest.strip(), "run")
+        elif word in ("wait", "after"):
+            it.go_to(it.clock + stage.milliseconds(rest.strip() or "1s"))
+        elif word:
+            talk.step(word, rest.strip())
+    return it.text()
+
+
 @test
 def steps_are_played_in_the_same_world():
     script = "examples/door/door.lsl"
     came = driven([["stage", {"file": script, "lines": lines}] for lines in STAGED])
     for lines, text in zip(STAGED, came):
-        talk = playing.Talk(None, playing.Stage(script))
-        for line in lines.split("\n"):
-            word, _, rest = line.strip().partition(" ")
-            if word in ("by", "run"):
-                getattr(talk, "by" if word == "by" else "set_run")(rest.strip())
-            elif word:
-                talk.step(word, rest.strip())
-        need(text == talk.stage.text(), lines, "came to", text, "and not to", talk.stage.text())
+        staged = staged_by_lslkit(script, lines)
+        need(text == staged, lines, "came to", text, "and not to", staged)
     return f"{len(STAGED)} equal worlds"
 
 
