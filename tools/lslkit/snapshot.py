@@ -8,6 +8,19 @@ from .places import bytes_of, write_text
 
 def after(binary, text):
     """The state after the steps of a world file's text; none where it can't be had."""
+    found = frozen_after(binary, text)
+    return found and read(found[0], worlds.read(text), found[1])
+
+
+def calls_after(binary, text):
+    """For each script its active calls after the steps of a world file's text, as `views` has them; none where they
+    can't be had."""
+    found = frozen_after(binary, text)
+    return found and views(found[1], len(worlds.read(text).scripts))
+
+
+def frozen_after(binary, text):
+    """The line that holds the world after the steps of a text, and what `view` prints of it."""
     with tempfile.TemporaryDirectory(prefix="lsl-state-") as room:
         path, image = os.path.join(room, "world"), os.path.join(room, "frozen")
         write_text(path, text)
@@ -18,7 +31,7 @@ def after(binary, text):
         with open(image, "wb") as file:
             file.write(line)
         shown = program.run(binary, ["view", image, path])
-    return None if shown.status else read(line, worlds.read(text), program.lines_of(shown.output))
+    return None if shown.status else (line, program.lines_of(shown.output))
 
 
 def of_file(image, world, shown):
