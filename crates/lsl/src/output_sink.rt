@@ -78,6 +78,7 @@ mod tests {
     use std::test::Fail;
 
     /// A writer that has no room at first, and into whose next call a signal breaks.
+    #[derive(Drop)]
     struct Slow {
         calls: u32,
     }
