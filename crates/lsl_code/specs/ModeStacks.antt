@@ -1,12 +1,11 @@
 -- The kinds of the operands before each instruction of woven code while it saves, and while it restores.
-use Rattle.std.specs.Prelude.{ℕ, zero, suc, ◌+◌, ◌&&◌, Bool, true, false, List, [], ◌∷◌, ◌++◌, Option, Some, None, drop, length, reverse, slice_get, slice_set}
+use Rattle.std.specs.Prelude.{ℕ, zero, suc, ◌+◌, ◌&&◌, Bool, true, List, [], ◌∷◌, ◌++◌, Option, Some, None, drop, length, reverse, slice_get, slice_set}
 use Rattle.lsl_value.specs.declared.tagged.Kind.{Kind}
 use Rattle.lsl_code.specs.declared.functions.Point.{Point}
 use Rattle.lsl_code.specs.declared.instructions.Instr.{Instr}
 use Rattle.lsl_code.specs.declared.instructions.Instr.TheVariants.{Jump, Tick, Call, TestSave, KeepSlot, KeepTop, TestBack, Unpack, BackSlot, BackTop, Branch}
 use Rattle.lsl_code.specs.declared.woven_functions.WovenCode.{WovenCode}
 use Rattle.lsl_code.specs.Fits.{has_kinds}
-use Rattle.lsl_code.specs.Kinds.{same_kinds}
 use Rattle.lsl_code.specs.SaveWays.{waiting_kinds}
 
 -- a call stands before the instruction at this place, with operands of these kinds, the top first
@@ -93,27 +92,20 @@ saving_stacks slots points code = marked (nones (length code)) (saving_stops slo
 abbrev pub restoring_stacks : List Point → List Instr → List (Option (List Kind))
 restoring_stacks points code = marked (nones (length code)) (restoring_stops points code)
 
-abbrev pub same_stack : Option (List Kind) → Option (List Kind) → Bool
-same_stack None None = true
-same_stack (Some js) (Some ks) = same_kinds js ks
-same_stack None (Some ks) = false
-same_stack (Some js) None = false
-
-abbrev pub same_stacks : List (Option (List Kind)) → List (Option (List Kind)) → Bool
-same_stacks [] [] = true
-same_stacks (a ∷ more) (b ∷ others) = same_stack a b && same_stacks more others
-same_stacks [] (b ∷ others) = false
-same_stacks (a ∷ more) [] = false
-
 -- at each stop there are its kinds
 abbrev pub are_there : List (Option (List Kind)) → List Stop → Bool
 are_there stacks [] = true
 are_there stacks (s ∷ stops) = has_kinds (slice_get stacks s.place) s.kinds && are_there stacks stops
 
--- the function tells the kinds with which it saves and restores: wherever a call does, they are one list
+-- the kinds with which a function saves, and those with which it restores
+abbrev pub saving_of : WovenCode → List (Option (List Kind))
+saving_of w = saving_stacks w.slots w.points w.code
+
+abbrev pub restoring_of : WovenCode → List (Option (List Kind))
+restoring_of w = restoring_stacks w.points w.code
+
+-- wherever a call saves, or restores, these are its operands' kinds
 abbrev pub tells_modes : ℕ → WovenCode → Bool
 tells_modes f w =
-    same_stacks w.saving (saving_stacks w.slots w.points w.code)
-    && same_stacks w.restoring (restoring_stacks w.points w.code)
-    && are_there w.saving (saving_stops w.slots w.points w.code)
-    && are_there w.restoring (restoring_stops w.points w.code)
+    are_there (saving_of w) (saving_stops w.slots w.points w.code)
+    && are_there (restoring_of w) (restoring_stops w.points w.code)

@@ -5,9 +5,9 @@ ghost use Rattle.lsl_code.specs.Effects.{behind, called, loaded, operated, pushe
 ghost use Rattle.lsl_code.specs.Kinds.{builtin_signature, scope};
 
 use crate::instructions::Instr;
-use crate::kind_stack::KindStack;
 use crate::sequence::Sequence;
 use crate::signatures::Names;
+use lsl_compact::KindStack;
 use lsl_table::BuiltinRow;
 use lsl_text::NoMemory;
 use lsl_value::{BinaryOp, BuiltinId, Kind};
@@ -21,8 +21,9 @@ pub fn step(
     instr: &Instr,
     stack: &mut KindStack,
 ) -> Result<(), NoMemory>
-    requires { IsTrue (is_some (behind (scope names.now slots.now gives) instr.now stack.old)) }
-    ensures { OnOk result (Some stack.new ≡ behind (scope names.now slots.now gives) instr.now stack.old) }
+    requires { IsTrue (is_some (behind (scope names.now slots.now gives) instr.now stack.old.kinds)) }
+    ensures kinds { OnOk result (Some stack.new.kinds ≡ behind (scope names.now slots.now gives) instr.now stack.old.kinds) }
+    ensures noted { OnOk result (stack.new.noted ≡ stack.old.noted) }
 {
     match instr {
         Instr::Int(_) | Instr::Used | Instr::Free | Instr::GetLimit => {
@@ -59,8 +60,9 @@ pub fn step(
 
 // Adds the kind of a slot or a global.
 fn push_variable(kinds: &Sequence<Kind>, n: u16, stack: &mut KindStack) -> Result<(), NoMemory>
-    requires { IsTrue (is_some (loaded kinds.now n stack.old)) }
-    ensures { OnOk result (Some stack.new ≡ loaded kinds.now n stack.old) }
+    requires { IsTrue (is_some (loaded kinds.now n stack.old.kinds)) }
+    ensures kinds { OnOk result (Some stack.new.kinds ≡ loaded kinds.now n stack.old.kinds) }
+    ensures noted { OnOk result (stack.new.noted ≡ stack.old.noted) }
 {
     let Some(kind) = kinds.get(n as usize) else {
         unreachable!()
@@ -71,8 +73,9 @@ fn push_variable(kinds: &Sequence<Kind>, n: u16, stack: &mut KindStack) -> Resul
 
 // Takes off the kinds of two operands, the left one first, and adds that of their value.
 fn operate(op: BinaryOp, stack: &mut KindStack) -> Result<(), NoMemory>
-    requires { IsTrue (is_some (operated op stack.old)) }
-    ensures { OnOk result (Some stack.new ≡ operated op stack.old) }
+    requires { IsTrue (is_some (operated op stack.old.kinds)) }
+    ensures kinds { OnOk result (Some stack.new.kinds ≡ operated op stack.old.kinds) }
+    ensures noted { OnOk result (stack.new.noted ≡ stack.old.noted) }
 {
     let Some(left) = stack.pop() else {
         unreachable!()
@@ -89,8 +92,9 @@ fn operate(op: BinaryOp, stack: &mut KindStack) -> Result<(), NoMemory>
 
 // Takes off the kinds of a built-in call's arguments, and adds that of its value if it gives one.
 fn call_builtin(id: BuiltinId, stack: &mut KindStack) -> Result<(), NoMemory>
-    requires { IsTrue (is_some (called (Some (builtin_signature id)) stack.old)) }
-    ensures { OnOk result (Some stack.new ≡ called (Some (builtin_signature id)) stack.old) }
+    requires { IsTrue (is_some (called (Some (builtin_signature id)) stack.old.kinds)) }
+    ensures kinds { OnOk result (Some stack.new.kinds ≡ called (Some (builtin_signature id)) stack.old.kinds) }
+    ensures noted { OnOk result (stack.new.noted ≡ stack.old.noted) }
 {
     let row = id.row();
     stack.pop_all(row.params.as_slice().len());
@@ -100,8 +104,9 @@ fn call_builtin(id: BuiltinId, stack: &mut KindStack) -> Result<(), NoMemory>
 
 // Takes off the kinds of a function's arguments, and adds that of its value if it gives one.
 fn call_function(names: &Names, f: u16, stack: &mut KindStack) -> Result<(), NoMemory>
-    requires { IsTrue (is_some (called (slice_get names.now.functions f) stack.old)) }
-    ensures { OnOk result (Some stack.new ≡ called (slice_get names.now.functions f) stack.old) }
+    requires { IsTrue (is_some (called (slice_get names.now.functions f) stack.old.kinds)) }
+    ensures kinds { OnOk result (Some stack.new.kinds ≡ called (slice_get names.now.functions f) stack.old.kinds) }
+    ensures noted { OnOk result (stack.new.noted ≡ stack.old.noted) }
 {
     let Some(signature) = names.functions.get(f as usize) else {
         unreachable!()
@@ -113,7 +118,8 @@ fn call_function(names: &Names, f: u16, stack: &mut KindStack) -> Result<(), NoM
 
 // Adds the kind of a result, if there is one.
 fn push_result(kind: Option<Kind>, stack: &mut KindStack) -> Result<(), NoMemory>
-    ensures { OnOk result (stack.new ≡ pushed kind stack.old) }
+    ensures kinds { OnOk result (stack.new.kinds ≡ pushed kind stack.old.kinds) }
+    ensures noted { OnOk result (stack.new.noted ≡ stack.old.noted) }
 {
     if let Some(kind) = kind {
         stack.push(kind)?;

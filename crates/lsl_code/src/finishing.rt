@@ -4,14 +4,15 @@ ghost use Rattle.std.specs.Prelude.{◌≡◌, ◌<◌, IsTrue, is_some, OnOk, I
 ghost use Rattle.lsl_code.specs.Drafts.{AddsPoint, scan, maps, most_of, finished};
 ghost use Rattle.lsl_code.specs.Effects.{runs};
 ghost use Rattle.lsl_code.specs.Kinds.{scope};
+ghost use Rattle.lsl_compact.specs.Stacks.{noted_of};
 
 use crate::drafts::Draft;
 use crate::effects::step;
 use crate::functions::{FunctionCode, Point};
 use crate::instructions::Instr;
-use crate::kind_stack::KindStack;
 use crate::sequence::Sequence;
 use crate::signatures::Names;
+use lsl_compact::{KindStack, KindStacks};
 use lsl_text::NoMemory;
 use lsl_value::{Kind, Text};
 use std::alloc::{AllocError, Global};
@@ -21,7 +22,7 @@ use std::alloc::{AllocError, Global};
 #[derive(Drop)]
 struct Shapes {
     points: Sequence<Point>,
-    stacks: Sequence<Sequence<Kind>>,
+    stacks: KindStacks,
     most: u32,
 }
 
@@ -57,8 +58,8 @@ pub fn finish(
     })
 }
 
-// The count as a short one.
-fn short_count(n: usize) -> Result<u32, NoMemory>
+/// The count as a short one. Want of memory where it is none.
+pub fn short_count(n: usize) -> Result<u32, NoMemory>
     ensures { IfOk result (λ m. m ≡ n) }
 {
     match u32::try_from(n) {
@@ -82,26 +83,16 @@ fn shapes_of(
 {
     let mut stack = KindStack::new(alloc);
     let mut points = Sequence::new(alloc);
-    let mut stacks = Sequence::new(alloc);
-    let most = pass_over(
-        alloc,
-        names,
-        slots,
-        gives,
-        code,
-        &mut stack,
-        &mut points,
-        &mut stacks,
-    )?;
+    let most = pass_over(alloc, names, slots, gives, code, &mut stack, &mut points)?;
     Ok(Shapes {
         points,
-        stacks,
+        stacks: stack.into_noted(),
         most,
     })
 }
 
-// The pass, which is lent what is to be found, so that it owns nothing where memory runs out. It gives the greatest
-// count of operands.
+// The pass, which is lent what is to be found, so that it owns nothing where memory runs out. It notes the kinds before
+// each instruction, and gives the greatest count of operands.
 fn pass_over(
     alloc: Global,
     names: &Names,
@@ -110,21 +101,19 @@ fn pass_over(
     code: &[Instr],
     stack: &mut KindStack,
     points: &mut Sequence<Point>,
-    stacks: &mut Sequence<Sequence<Kind>>,
 ) -> Result<u32, NoMemory>
     requires goes { IsTrue (is_some (runs (scope names.now slots.now gives) code.now [])) }
-    requires stack { stack.old ≡ [] }
+    requires stack { stack.old ≡ noted_of [] [] }
     requires points { points.old ≡ [] }
-    requires stacks { stacks.old ≡ [] }
     ensures points { OnOk result (points.new ≡ maps (scope names.now slots.now gives) code.now []) }
-    ensures stacks { OnOk result (stacks.new ≡ scan (scope names.now slots.now gives) code.now []) }
+    ensures stacks { OnOk result (stack.new.noted ≡ scan (scope names.now slots.now gives) code.now []) }
     ensures most { IfOk result (λ most. most ≡ most_of (scan (scope names.now slots.now gives) code.now [])) }
 {
     let mut most = 0;
     for instr in code {
         add_point(alloc, names, slots, instr, stack, points)?;
         most = most.max(stack.len());
-        stacks.push(stack.listed(alloc)?)?;
+        stack.note()?;
         step(names, slots, gives, instr, stack)?;
     }
     short_count(most)
@@ -139,7 +128,7 @@ fn add_point(
     stack: &KindStack,
     points: &mut Sequence<Point>,
 ) -> Result<(), NoMemory>
-    ensures { OnOk result (AddsPoint names.now slots.now instr.now stack.now points.old points.new) }
+    ensures { OnOk result (AddsPoint names.now slots.now instr.now stack.now.kinds points.old points.new) }
 {
     match instr {
         Instr::Tick(_) => {
@@ -167,11 +156,11 @@ fn map_of(
     stack: &KindStack,
     taken: usize,
 ) -> Result<Sequence<Kind>, NoMemory>
-    ensures { IfOk result (λ kinds. kinds ≡ slots.now ++ reverse (drop taken stack.now)) }
+    ensures { IfOk result (λ kinds. kinds ≡ slots.now ++ reverse (drop taken stack.now.kinds)) }
 {
     let waiting = stack.below(alloc, taken)?;
     let mut kinds = Vec::new(alloc);
     kinds.extend_from_slice(slots.as_slice())?;
-    kinds.extend_from_slice(waiting.as_slice())?;
+    kinds.extend_from_slice(&waiting)?;
     Ok(Sequence::from_vec(kinds))
 }

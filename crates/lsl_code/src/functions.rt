@@ -2,6 +2,7 @@
 
 use crate::instructions::Instr;
 use crate::sequence::Sequence;
+use lsl_compact::KindStacks;
 use lsl_value::{EventId, Kind, Text};
 
 /// A resume point: the kinds of its map, which are the slots and then the waiting operands from the first pushed,
@@ -25,7 +26,7 @@ pub struct FunctionCode {
     pub points: Sequence<Point>,
     pub lines: Sequence<u32>,
     pub code: Sequence<Instr>,
-    pub stacks: Sequence<Sequence<Kind>>,
+    pub stacks: KindStacks,
 }
 
 /// The function that handles an event.

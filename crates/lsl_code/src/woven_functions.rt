@@ -3,11 +3,13 @@
 use crate::functions::Point;
 use crate::instructions::Instr;
 use crate::sequence::Sequence;
+use lsl_compact::PlacedStacks;
 use lsl_value::{Kind, Text};
 
-/// A function's code with code that saves and restores its calls. `running`, `saving` and `restoring` have, per
-/// instruction, the kinds of the operands that stand before it, from the first pushed, while the machine runs, saves
-/// and restores, and none where it never stands before it then. The others are as in `FunctionCode`.
+/// A function's code with code that saves and restores its calls. `running` has, per instruction, the kinds of the
+/// operands that stand before it, from the first pushed, while the machine runs, and none where it never stands before it
+/// then. The others are as in `FunctionCode`. While it saves and restores, the kinds follow from the code: `specs/` has
+/// them as `saving_of` and `restoring_of`.
 #[derive(Drop)]
 pub struct WovenCode {
     pub name: Text,
@@ -18,7 +20,5 @@ pub struct WovenCode {
     pub points: Sequence<Point>,
     pub lines: Sequence<u32>,
     pub code: Sequence<Instr>,
-    pub running: Sequence<Option<Sequence<Kind>>>,
-    pub saving: Sequence<Option<Sequence<Kind>>>,
-    pub restoring: Sequence<Option<Sequence<Kind>>>,
+    pub running: PlacedStacks,
 }

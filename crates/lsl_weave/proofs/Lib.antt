@@ -17,7 +17,6 @@ pub mod MadeCounts
 pub mod MadeKinds
 pub mod MadeSaves
 pub mod Marked
-pub mod Marking
 pub mod Moved
 pub mod OneMachine
 pub mod OnePlaced
@@ -37,6 +36,7 @@ pub mod SavingOn
 pub mod SavingTold
 pub mod Sealed
 pub mod StacksLaid
+pub mod StacksPlaced
 pub mod Sums
 pub mod Units
 pub mod Waiting

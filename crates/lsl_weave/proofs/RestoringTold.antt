@@ -17,7 +17,7 @@ use Rattle.lsl_code.specs.Fits.{all_places, has_kinds}
 use Rattle.lsl_code.specs.Frames.{Points, points_of, IsAtPoint, FitFrames}
 use Rattle.lsl_code.specs.Kinds.{kinds_of}
 use Rattle.lsl_code.specs.Machine.{MachineCall}
-use Rattle.lsl_code.specs.ModeStacks.{Stop, restores_on, back_stops, restoring_stops, are_there, tells_modes}
+use Rattle.lsl_code.specs.ModeStacks.{Stop, restores_on, back_stops, restoring_of, restoring_stops, are_there, tells_modes}
 use Rattle.lsl_code.specs.Modes.{at_place, repeat}
 use Rattle.lsl_code.specs.Restoring.{Restoring, restoring, awake_with, blank, BackAct, Moves, Reenters, Wakes, NoBack, takes, with_slot, where_slot, back_act, back_after, back_step, begins_restoring}
 use Rattle.lsl_code.specs.Woven.{is_woven}
@@ -150,7 +150,7 @@ module _ (globals : List Value) (states : List StateCode) (functions : List Wove
   bodies = map woven_body functions
 
   all_told : (f : ℕ) (code : WovenCode) → slice_get functions f ≡ Some code
-      → are_there code.restoring (restoring_stops code.points code.code) ≡ true
+      → are_there (restoring_of code) (restoring_stops code.points code.code) ≡ true
   all_told f code e = (both_true _ _ (all_at tells_modes functions f code modes e)).1
 
   -- the call is on its way, and stops where its function tells; the frames that are left are those of the calls that
@@ -162,7 +162,7 @@ module _ (globals : List Value) (states : List StateCode) (functions : List Wove
     are_left : AreLeft (points_of bodies) None left
     steps : ℕ
     on : OnBack (woven_body code) steps left (last_callee None left) c point hand sack
-    told : IsTold code.restoring (back_stops code.code steps) left c point hand sack
+    told : IsTold (restoring_of code) (back_stops code.code steps) left c point hand sack
 
   abbrev AreRestoring : Bool → List MachineCall → ℕ → List Value → List Frame → Type 0
   AreRestoring true calls point hand sack = Unit {0}
@@ -184,12 +184,12 @@ module _ (globals : List Value) (states : List StateCode) (functions : List Wove
       let same : b.0 ≡ woven_body code = one_body (slice_get bodies fr.function) b.0 (woven_body code) b.1 at in
       let mapped = subst (λ (w : Body). slice_get w.points fr.point ≡ Some fit.0) same b.2 in
       let z : 0 + fr.point ≡ fr.point = omega arith in
-      let stops = there_at code.restoring
+      let stops = there_at (restoring_of code)
       (λ (p : ℕ). λ (x : Point). back_stops code.code (length code.code) p 0 x.kinds []) 0 code.points fr.point fit.0
       (all_told fr.function code found) mapped in
-      let here = subst (λ n. are_there code.restoring
+      let here = subst (λ n. are_there (restoring_of code)
       (back_stops code.code (length code.code) n 0 fit.0.kinds []) ≡ true) z stops in
-      let kinds = subst (λ l. are_there code.restoring
+      let kinds = subst (λ l. are_there (restoring_of code)
       (back_stops code.code (length code.code) fr.point 0 l []) ≡ true) (sym fit.3) here in
       record {
         code = code;
@@ -229,40 +229,40 @@ module _ (globals : List Value) (states : List StateCode) (functions : List Wove
       (code : WovenCode) (found : slice_get functions c.function ≡ Some code) (left : List Frame)
       (are_left : AreLeft (points_of bodies) None left) (n : ℕ)
       (on : OnBack (woven_body code) (suc n) left (last_callee None left) c point hand sack)
-      (told : IsTold code.restoring (back_stops code.code (suc n)) left c point hand sack) where
+      (told : IsTold (restoring_of code) (back_stops code.code (suc n)) left c point hand sack) where
     abbrev act : BackAct
     act = back_act (Some (woven_body code)) (slice_get code.code c.place) c point hand sack
 
     behind : (p : ℕ) (values : List Value)
-        → are_there code.restoring (back_stops code.code (suc n) p c.place (kinds_of values)
+        → are_there (restoring_of code) (back_stops code.code (suc n) p c.place (kinds_of values)
         (kinds_of c.operands)) ≡ true
-        → are_there code.restoring (restores_on (back_stops code.code n p) p c.place (kinds_of values)
+        → are_there (restoring_of code) (restores_on (back_stops code.code n p) p c.place (kinds_of values)
         (kinds_of c.operands) (slice_get code.code c.place)) ≡ true
-    behind p values h = (both_true (has_kinds (slice_get code.restoring c.place) (kinds_of c.operands)) _ h).1
+    behind p values h = (both_true (has_kinds (slice_get (restoring_of code) c.place) (kinds_of c.operands)) _ h).1
 
     abbrev IsToldBehind : List Frame → Type 0
-    IsToldBehind frames = ActIsTold code.restoring (back_stops code.code n) left
+    IsToldBehind frames = ActIsTold (restoring_of code) (back_stops code.code n) left
         (back_act (Some (woven_body code)) (slice_get code.code c.place) c point hand frames)
 
     opened_behind : (pt : Point) → sack ≡ left
         → OnBackWay (woven_body code) (suc n) true point pt (last_callee None left) c hand
-        → IsTold code.restoring (back_stops code.code (suc n)) left c point hand sack → IsToldBehind sack
+        → IsTold (restoring_of code) (back_stops code.code (suc n)) left c point hand sack → IsToldBehind sack
     opened_behind pt e st (inl t) =
         subst IsToldBehind (sym e)
-        (opened_told code.restoring (back_stops code.code n) code.code (backs code.code n point) st.way left
+        (opened_told (restoring_of code) (back_stops code.code n) code.code (backs code.code n point) st.way left
         (Some (woven_body code)) c point hand (slice_get code.code c.place) st.is_way (behind point hand t.1))
     opened_behind pt e st (inr t) = absurd (not_one_more left t.0 (sym e ∙ t.1))
 
     closed_behind : (fr : Frame) (pt : Point) → sack ≡ left ++ fr ∷ []
         → OnBackWay (woven_body code) (suc n) false fr.point pt (last_callee None left) c fr.slots
-        → IsTold code.restoring (back_stops code.code (suc n)) left c point hand sack → IsToldBehind sack
+        → IsTold (restoring_of code) (back_stops code.code (suc n)) left c point hand sack → IsToldBehind sack
     closed_behind fr pt e st (inl t) = absurd (not_one_more left fr (sym t.0 ∙ e))
     closed_behind fr pt e st (inr t) =
         let same = one_last left t.0 fr (sym t.1 ∙ e) in
-        let told = subst (λ (f : Frame). are_there code.restoring
+        let told = subst (λ (f : Frame). are_there (restoring_of code)
         (back_stops code.code (suc n) f.point c.place (kinds_of f.slots) (kinds_of c.operands)) ≡ true) same t.2 in
         subst IsToldBehind (sym e)
-        (closed_told code.restoring (back_stops code.code n) code.code (backs code.code n fr.point) st.way left
+        (closed_told (restoring_of code) (back_stops code.code n) code.code (backs code.code n fr.point) st.way left
         (Some (woven_body code)) c point hand fr (slice_get code.code c.place) st.is_way
         (behind fr.point fr.slots told))
 
@@ -272,7 +272,7 @@ module _ (globals : List Value) (states : List StateCode) (functions : List Wove
 
     after_act : (a : BackAct)
         → BackGoesOn bodies (woven_body code) n left (last_callee None left) c.function hand sack a
-        → ActIsTold code.restoring (back_stops code.code n) left a
+        → ActIsTold (restoring_of code) (back_stops code.code n) left a
         → (s : Restoring) → back_after bodies a outer point hand sack ≡ Some s → Restores s
     after_act (Moves d point' hand' sack') g t s e =
         let same : restoring (d ∷ outer) point' hand' sack' ≡ s = cc in
@@ -317,7 +317,7 @@ module _ (globals : List Value) (states : List StateCode) (functions : List Wove
       (code : WovenCode) → slice_get functions c.function ≡ Some code → (left : List Frame)
       → AreLeft (points_of bodies) None left → (steps : ℕ)
       → OnBack (woven_body code) steps left (last_callee None left) c point hand sack
-      → IsTold code.restoring (back_stops code.code steps) left c point hand sack
+      → IsTold (restoring_of code) (back_stops code.code steps) left c point hand sack
       → (s : Restoring) → back_step bodies (restoring (c ∷ outer) point hand sack) ≡ Some s → Restores s
   by_length c point hand sack outer code found left are zero on told s e =
       absurd (back_not_over (woven_body code) left (last_callee None left) c point hand sack on)
@@ -348,27 +348,27 @@ module _ (globals : List Value) (states : List StateCode) (functions : List Wove
       by_step (Some x) is go e = go x (step_kept s x are is) e
 
   first_told : (code : WovenCode) (left : List Frame) (c : MachineCall) (point : ℕ) (hand : List Value)
-      (sack : List Frame) (n : ℕ) → IsTold code.restoring (back_stops code.code (suc n)) left c point hand sack
-      → has_kinds (slice_get code.restoring c.place) (kinds_of c.operands) ≡ true
+      (sack : List Frame) (n : ℕ) → IsTold (restoring_of code) (back_stops code.code (suc n)) left c point hand sack
+      → has_kinds (slice_get (restoring_of code) c.place) (kinds_of c.operands) ≡ true
   first_told code left c point hand sack n (inl t) =
-      (both_true (has_kinds (slice_get code.restoring c.place) (kinds_of c.operands)) _ t.1).0
+      (both_true (has_kinds (slice_get (restoring_of code) c.place) (kinds_of c.operands)) _ t.1).0
   first_told code left c point hand sack n (inr t) =
-      (both_true (has_kinds (slice_get code.restoring c.place) (kinds_of c.operands)) _ t.2).0
+      (both_true (has_kinds (slice_get (restoring_of code) c.place) (kinds_of c.operands)) _ t.2).0
 
   -- the kinds are those that are told
   is_told : (code : WovenCode) (left : List Frame) (c : MachineCall) (point : ℕ) (hand : List Value)
       (sack : List Frame) (steps : ℕ)
       → OnBack (woven_body code) steps left (last_callee None left) c point hand sack
-      → IsTold code.restoring (back_stops code.code steps) left c point hand sack
-      → slice_get code.restoring c.place ≡ Some (Some (reverse (kinds_of c.operands)))
+      → IsTold (restoring_of code) (back_stops code.code steps) left c point hand sack
+      → slice_get (restoring_of code) c.place ≡ Some (Some (reverse (kinds_of c.operands)))
   is_told code left c point hand sack zero on told =
       absurd (back_not_over (woven_body code) left (last_callee None left) c point hand sack on)
   is_told code left c point hand sack (suc n) on told =
-      shape_is (slice_get code.restoring c.place) (kinds_of c.operands)
+      shape_is (slice_get (restoring_of code) c.place) (kinds_of c.operands)
       (first_told code left c point hand sack n told)
 
   are_told : (awake : Bool) (calls : List MachineCall) (point : ℕ) (hand : List Value) (sack : List Frame)
-      → AreRestoring awake calls point hand sack → awake ≡ false → AreAsTold (λ w. w.restoring) functions calls
+      → AreRestoring awake calls point hand sack → awake ≡ false → AreAsTold restoring_of functions calls
   are_told true calls point hand sack are e = absurd cc
   are_told false [] point hand sack are e = tt
   are_told false (c ∷ outer) point hand sack i e =

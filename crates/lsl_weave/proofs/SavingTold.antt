@@ -14,7 +14,7 @@ use Rattle.lsl_code.specs.Bodies.{Body, instruction_in}
 use Rattle.lsl_code.specs.Fits.{all_places, has_kinds}
 use Rattle.lsl_code.specs.Kinds.{kinds_of}
 use Rattle.lsl_code.specs.Machine.{MachineCall}
-use Rattle.lsl_code.specs.ModeStacks.{Stop, flat, saves_on, save_stops, behind_point, stops_behind, saving_stops, are_there, tells_modes}
+use Rattle.lsl_code.specs.ModeStacks.{Stop, flat, saves_on, save_stops, behind_point, stops_behind, saving_stops, saving_of, are_there, tells_modes}
 use Rattle.lsl_code.specs.Modes.{at_place, repeat}
 use Rattle.lsl_code.specs.SaveWays.{waiting_kinds}
 use Rattle.lsl_code.specs.Saving.{Saving, saving, SaveAct, Keeps, Seals, NoSave, keeps_slot, keeps_top, save_act, save_after, save_step, begins_saving}
@@ -100,10 +100,9 @@ module _ (globals : List Value) (states : List StateCode) (functions : List Wove
   bodies = map woven_body functions
 
   all_told : (f : ℕ) (code : WovenCode) → slice_get functions f ≡ Some code
-      → are_there code.saving (saving_stops code.slots code.points code.code) ≡ true
+      → are_there (saving_of code) (saving_stops code.slots code.points code.code) ≡ true
   all_told f code e =
-      let t = both_true _ _ (all_at tells_modes functions f code modes e) in
-      (both_true _ _ t.0).1
+      (both_true _ _ (all_at tells_modes functions f code modes e)).0
 
   -- the call is on its way, and stops where its function tells
   record IsSaving (c : MachineCall) (hand : List Value) : Type 0 where
@@ -113,16 +112,16 @@ module _ (globals : List Value) (states : List StateCode) (functions : List Wove
     kinds : List Kind
     left : ℕ
     on : OnSaveWay (woven_body code) point kinds left c hand
-    told : are_there code.saving (save_stops code.code left c.place (kinds_of c.operands)) ≡ true
+    told : are_there (saving_of code) (save_stops code.code left c.place (kinds_of c.operands)) ≡ true
 
   behind_told : (code : WovenCode) (k p : ℕ) (callee : Option ℕ) (pt : Point)
-      → are_there code.saving (stops_behind code.slots code.points code.code k (point_instr callee p)) ≡ true
+      → are_there (saving_of code) (stops_behind code.slots code.points code.code k (point_instr callee p)) ≡ true
       → slice_get code.points p ≡ Some pt
-      → are_there code.saving (save_stops code.code (length code.code) (k + 1) (waiting_kinds code.slots pt)) ≡ true
+      → are_there (saving_of code) (save_stops code.code (length code.code) (k + 1) (waiting_kinds code.slots pt)) ≡ true
   behind_told code k p None pt t e =
-      subst (λ o. are_there code.saving (behind_point code.slots code.code k o) ≡ true) e t
+      subst (λ o. are_there (saving_of code) (behind_point code.slots code.code k o) ≡ true) e t
   behind_told code k p (Some g) pt t e =
-      subst (λ o. are_there code.saving (behind_point code.slots code.code k o) ≡ true) e t
+      subst (λ o. are_there (saving_of code) (behind_point code.slots code.code k o) ≡ true) e t
 
   begins : (c : MachineCall) (k : ℕ) (callee : Option ℕ) (p x : ℕ) → IsAt bodies c k callee p → x ≡ k + 1
       → IsSaving (at_place c x c.operands) []
@@ -132,9 +131,9 @@ module _ (globals : List Value) (states : List StateCode) (functions : List Wove
       let here = ap (λ (w : Body). slice_get w.code k) r.2 ∙ fit.here in
       let mapped = ap (λ (w : Body). slice_get w.points p) r.2 ∙ fit.mapped in
       let z : 0 + k ≡ k = omega arith in
-      let all = there_at code.saving (stops_behind code.slots code.points code.code) 0 code.code k
+      let all = there_at (saving_of code) (stops_behind code.slots code.points code.code) 0 code.code k
       (point_instr callee p) (all_told c.function code r.1) here in
-      let stop = subst (λ n. are_there code.saving (stops_behind code.slots code.points code.code n
+      let stop = subst (λ n. are_there (saving_of code) (stops_behind code.slots code.points code.code n
       (point_instr callee p)) ≡ true) z all in
       let behind = behind_told code k p callee fit.point stop mapped in
       let operands : kinds_of c.operands ≡ waiting_kinds code.slots fit.point =
@@ -150,8 +149,8 @@ module _ (globals : List Value) (states : List StateCode) (functions : List Wove
         on = subst (λ (w : Body). OnSaveWay w p fit.point.kinds (length w.code) (at_place c x c.operands) []) (sym r.2)
             begin;
         told =
-            subst (λ l. are_there code.saving (save_stops code.code (length code.code) x l) ≡ true) (sym operands)
-            (subst (λ n. are_there code.saving (save_stops code.code (length code.code) n
+            subst (λ l. are_there (saving_of code) (save_stops code.code (length code.code) x l) ≡ true) (sym operands)
+            (subst (λ n. are_there (saving_of code) (save_stops code.code (length code.code) n
             (waiting_kinds code.slots fit.point)) ≡ true) (sym e) behind);
       }
 
@@ -166,7 +165,7 @@ module _ (globals : List Value) (states : List StateCode) (functions : List Wove
   module _ (c : MachineCall) (hand : List Value) (outer : List MachineCall) (sack : List Frame)
       (waits : WaitAtCalls bodies h outer c.function) where
     act_saves : (code : WovenCode) → slice_get functions c.function ≡ Some code → (p f : ℕ) (kinds : List Kind)
-        → are_there code.saving (saves_on (save_stops code.code f) c.place (kinds_of c.operands)
+        → are_there (saving_of code) (saves_on (save_stops code.code f) c.place (kinds_of c.operands)
         (slice_get code.code c.place)) ≡ true
         → (a : SaveAct) → save_act (slice_get code.code c.place) c hand ≡ a
         → SaveGoesOn (woven_body code) p kinds f c.function a
@@ -182,7 +181,7 @@ module _ (globals : List Value) (states : List StateCode) (functions : List Wove
           left = f;
           on = g.1;
           told =
-              act_stop code.saving (save_stops code.code f) (slice_get code.code c.place) c d hand hand' is more;
+              act_stop (saving_of code) (save_stops code.code f) (slice_get code.code c.place) c d hand hand' is more;
         } in
         subst (λ (x : Saving). AreSaving x.calls x.hand) same
         (next, subst (WaitAtCalls bodies h outer) (sym g.0) waits)
@@ -193,13 +192,13 @@ module _ (globals : List Value) (states : List StateCode) (functions : List Wove
 
     on_saves : (left : ℕ) (code : WovenCode) → slice_get functions c.function ≡ Some code → (p : ℕ) (kinds : List Kind)
         → OnSaveWay (woven_body code) p kinds left c hand
-        → are_there code.saving (save_stops code.code left c.place (kinds_of c.operands)) ≡ true
+        → are_there (saving_of code) (save_stops code.code left c.place (kinds_of c.operands)) ≡ true
         → (s : Saving) → save_step bodies (saving (c ∷ outer) hand sack) ≡ Some s → AreSaving s.calls s.hand
     on_saves zero code found p kinds on told s e = absurd (save_not_over (woven_body code) p kinds c hand on)
     on_saves (suc f) code found p kinds on told s e =
         let at = slice_get-map woven_body functions c.function ∙ ap (option_map woven_body) found in
         let step = ap (λ o. save_after (save_act (instruction_in o c.place) c hand) outer sack) (sym at) ∙ e in
-        let t = both_true (has_kinds (slice_get code.saving c.place) (kinds_of c.operands)) _ told in
+        let t = both_true (has_kinds (slice_get (saving_of code) c.place) (kinds_of c.operands)) _ told in
         act_saves code found p f kinds t.1 (save_act (slice_get code.code c.place) c hand) refl
         (save_goes_on (woven_body code) p kinds f c hand on) s step
 
@@ -228,15 +227,15 @@ module _ (globals : List Value) (states : List StateCode) (functions : List Wove
 
   is_told : (left : ℕ) (code : WovenCode) (p : ℕ) (kinds : List Kind) (c : MachineCall) (hand : List Value)
       → OnSaveWay (woven_body code) p kinds left c hand
-      → are_there code.saving (save_stops code.code left c.place (kinds_of c.operands)) ≡ true
-      → slice_get code.saving c.place ≡ Some (Some (reverse (kinds_of c.operands)))
+      → are_there (saving_of code) (save_stops code.code left c.place (kinds_of c.operands)) ≡ true
+      → slice_get (saving_of code) c.place ≡ Some (Some (reverse (kinds_of c.operands)))
   is_told zero code p kinds c hand on told = absurd (save_not_over (woven_body code) p kinds c hand on)
   is_told (suc f) code p kinds c hand on told =
-      shape_is (slice_get code.saving c.place) (kinds_of c.operands)
-      (both_true (has_kinds (slice_get code.saving c.place) (kinds_of c.operands)) _ told).0
+      shape_is (slice_get (saving_of code) c.place) (kinds_of c.operands)
+      (both_true (has_kinds (slice_get (saving_of code) c.place) (kinds_of c.operands)) _ told).0
 
   are_told : (calls : List MachineCall) (hand : List Value) → AreSaving calls hand
-      → AreAsTold (λ w. w.saving) functions calls
+      → AreAsTold saving_of functions calls
   are_told [] hand are = tt
   are_told (c ∷ outer) hand are =
       let i = are.0 in

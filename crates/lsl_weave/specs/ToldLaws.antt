@@ -10,7 +10,7 @@ use Rattle.lsl_code.specs.Fits.{all_places}
 use Rattle.lsl_code.specs.Frames.{points_of, AreFrames}
 use Rattle.lsl_code.specs.Kinds.{kinds_of}
 use Rattle.lsl_code.specs.Machine.{MachineCall, Machine}
-use Rattle.lsl_code.specs.ModeStacks.{tells_modes}
+use Rattle.lsl_code.specs.ModeStacks.{saving_of, restoring_of, tells_modes}
 use Rattle.lsl_code.specs.Modes.{repeat}
 use Rattle.lsl_code.specs.Restoring.{Restoring, back_step, begins_restoring}
 use Rattle.lsl_code.specs.Saving.{Saving, save_step, begins_saving}
@@ -32,7 +32,7 @@ SavingIsTold =
     → is_woven globals states (map woven_body functions) ≡ true → all_places tells_modes 0 functions ≡ true
     → (handler : ℕ) (m : Machine) → RestAtTick (map woven_body functions) handler m.calls
     → (n : ℕ) (s : Saving) → repeat (save_step (map woven_body functions)) n (begins_saving m.calls) ≡ Some s
-    → AreAsTold (λ w. w.saving) functions s.calls
+    → AreAsTold saving_of functions s.calls
 
 -- and at each step of restoring frames that fit, up to its end
 abbrev pub RestoringIsTold : Type 0
@@ -43,4 +43,4 @@ RestoringIsTold =
     → (body : Body) → slice_get (map woven_body functions) handler ≡ Some body
     → (n : ℕ) (s : Restoring)
     → repeat (back_step (map woven_body functions)) n (begins_restoring handler body frames) ≡ Some s
-    → s.awake ≡ false → AreAsTold (λ w. w.restoring) functions s.calls
+    → s.awake ≡ false → AreAsTold restoring_of functions s.calls

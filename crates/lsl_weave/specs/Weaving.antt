@@ -5,7 +5,6 @@ use Rattle.lsl_code.specs.declared.units.Unit.{Unit as Code}
 use Rattle.lsl_code.specs.declared.woven_functions.WovenCode.{WovenCode}
 use Rattle.lsl_code.specs.declared.woven_units.Woven.{Woven}
 use Rattle.lsl_code.specs.Bodies.{plain_body}
-use Rattle.lsl_code.specs.ModeStacks.{saving_stacks, restoring_stacks}
 use Rattle.lsl_weave.specs.Layout.{woven_code, woven_stacks}
 
 -- the function with its woven code
@@ -20,8 +19,6 @@ woven_function f = record {
   lines = f.lines;
   code = woven_code (plain_body f);
   running = woven_stacks (plain_body f);
-  saving = saving_stacks f.slots f.points (woven_code (plain_body f));
-  restoring = restoring_stacks f.points (woven_code (plain_body f));
 }
 
 -- the unit is the same but for the code of its functions, which is woven

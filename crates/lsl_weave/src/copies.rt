@@ -1,13 +1,9 @@
 //! Copies of a function's parts.
 
-ghost use Rattle.std.specs.Prelude.{◌≡◌, IfOk, slice_get};
-ghost use Rattle.lsl_code.specs.Bodies.{plain_body};
-ghost use Rattle.lsl_weave.specs.Layout.{stack_before};
+ghost use Rattle.std.specs.Prelude.{◌≡◌, IfOk};
 
-use lsl_code::{FunctionCode, Instr, Sequence};
+use lsl_code::Instr;
 use lsl_text::NoMemory;
-use lsl_value::Kind;
-use std::alloc::Global;
 
 /// An equal instruction, which shares this one's text.
 pub fn copy_instr(instr: &Instr) -> Result<Instr, NoMemory>
@@ -53,18 +49,4 @@ pub fn copy_instr(instr: &Instr) -> Result<Instr, NoMemory>
         Instr::Again(f) => Instr::Again(*f),
         Instr::Awake => Instr::Awake,
     })
-}
-
-/// The kinds of the operands before a plain instruction, if it is there.
-pub fn copy_stack(
-    alloc: Global,
-    function: &FunctionCode,
-    place: usize,
-) -> Result<Option<Sequence<Kind>>, NoMemory>
-    ensures { IfOk result (λ kinds. kinds ≡ stack_before (plain_body function.now) place) }
-{
-    match function.stacks.as_slice().get(place) {
-        Some(kinds) => Ok(Some(kinds.first(alloc, kinds.len())?)),
-        None => Ok(None),
-    }
 }

@@ -4,7 +4,6 @@
 mod blocks;
 mod copies;
 pub mod laws;
-mod mode_stacks;
 mod numbers;
 mod stacks;
 mod tables;

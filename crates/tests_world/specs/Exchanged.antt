@@ -36,6 +36,9 @@ one_stands = Some (kind.Int ∷ [])
 abbrev none_stands : Option (List Kind)
 none_stands = Some []
 
+abbrev pub exchanged_stacks : List (List Kind)
+exchanged_stacks = [] ∷ (kind.Int ∷ []) ∷ []
+
 abbrev pub exchanged_running : List (Option (List Kind))
 exchanged_running =
     none_stands ∷ none_stands ∷ none_stands ∷ none_stands ∷ one_stands ∷ none_stands ∷ one_stands
@@ -71,8 +74,6 @@ exchanged_code = record {
   lines = 1 ∷ 1 ∷ [];
   code = running_code (saving_code restoring_code);
   running = exchanged_running;
-  saving = exchanged_saving;
-  restoring = exchanged_restoring;
 }
 
 -- the state that has it as its handler

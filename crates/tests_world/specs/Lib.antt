@@ -1,3 +1,4 @@
+pub mod Counts
 pub mod Driven
 pub mod Exchanged
 pub mod Samples

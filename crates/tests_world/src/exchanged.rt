@@ -1,13 +1,15 @@
 //! A unit whose code keeps two values of one kind in the other order: saving and restoring are done by the code.
 
 ghost use Rattle.std.specs.Prelude.{◌≡◌, [], ◌∷◌, IfOk};
-ghost use Rattle.tests_world.specs.Exchanged.{exchanged_code, exchanged_points, exchanged_running};
+ghost use Rattle.tests_world.specs.Exchanged.{exchanged_code, exchanged_points, exchanged_running, exchanged_stacks};
 ghost use Rattle.tests_world.specs.Exchanged.{exchanged_restoring, exchanged_saving};
+ghost use Rattle.lsl_code.specs.ModeStacks.{restoring_of, saving_of};
 
 use crate::driving::{behind_ticks, to_tick};
 use crate::hosting::unit_of;
 use crate::saved::moved;
 use lsl_code::{FusedFunctions, Handler, Instr, Point, Sequence, StateCode, Woven, WovenCode};
+use lsl_compact::{KindStack, KindStacks, PlacedStacks};
 use lsl_text::NoMemory;
 use lsl_value::{EventId, Kind, Text, Values};
 use std::alloc::Global;
@@ -32,144 +34,43 @@ fn points(alloc: Global) -> Result<Sequence<Point>, NoMemory>
     Ok(Sequence::from_vec(points))
 }
 
+/// No operand, and one.
+fn stacks(alloc: Global) -> Result<KindStacks, NoMemory>
+    ensures { IfOk result (λ stacks. stacks ≡ exchanged_stacks) }
+{
+    let mut stack = KindStack::new(alloc);
+    stack.note()?;
+    stack.push(Kind::Int)?;
+    stack.note()?;
+    Ok(stack.into_noted())
+}
+
 /// The operands before each instruction while it runs, and none where the added code stands.
-fn running(alloc: Global) -> Result<Sequence<Option<Sequence<Kind>>>, NoMemory>
+fn running(alloc: Global) -> Result<PlacedStacks, NoMemory>
     ensures { IfOk result (λ stacks. stacks ≡ exchanged_running) }
 {
-    let first = Sequence::from_vec(vec![in alloc; Kind::Int]?);
-    let second = Sequence::from_vec(vec![in alloc; Kind::Int]?);
-    let third = Sequence::from_vec(vec![in alloc; Kind::Int]?);
-    let stacks = vec![in alloc;
-        Some(Sequence::new(alloc)),
-        Some(Sequence::new(alloc)),
-        Some(Sequence::new(alloc)),
-        Some(Sequence::new(alloc)),
-        Some(first),
-        Some(Sequence::new(alloc)),
-        Some(second),
-        Some(Sequence::new(alloc)),
-        Some(third),
-        Some(Sequence::new(alloc)),
-        Some(Sequence::new(alloc)),
-        Some(Sequence::new(alloc)),
-        Some(Sequence::new(alloc)),
-        None,
-        None,
-        None,
-        None,
-        None,
-        None,
-        None,
-        None,
-        None,
-        None,
-        None,
-        None,
-        None,
-        None,
-        None,
-        None,
-        None,
-        None,
-        None,
-        None,
-        None,
-        None,
-    ]?;
-    Ok(Sequence::from_vec(stacks))
-}
-
-/// While it saves.
-fn saving(alloc: Global) -> Result<Sequence<Option<Sequence<Kind>>>, NoMemory>
-    ensures { IfOk result (λ stacks. stacks ≡ exchanged_saving) }
-{
-    let stacks = vec![in alloc;
-        None,
-        None,
-        Some(Sequence::new(alloc)),
-        None,
-        None,
-        None,
-        None,
-        None,
-        None,
-        None,
-        Some(Sequence::new(alloc)),
-        None,
-        None,
-        Some(Sequence::new(alloc)),
-        Some(Sequence::new(alloc)),
-        Some(Sequence::new(alloc)),
-        Some(Sequence::new(alloc)),
-        Some(Sequence::new(alloc)),
-        Some(Sequence::new(alloc)),
-        Some(Sequence::new(alloc)),
-        Some(Sequence::new(alloc)),
-        None,
-        None,
-        None,
-        None,
-        None,
-        None,
-        None,
-        None,
-        None,
-        None,
-        None,
-        None,
-        None,
-        None,
-    ]?;
-    Ok(Sequence::from_vec(stacks))
-}
-
-/// While it restores.
-fn restoring(alloc: Global) -> Result<Sequence<Option<Sequence<Kind>>>, NoMemory>
-    ensures { IfOk result (λ stacks. stacks ≡ exchanged_restoring) }
-{
-    let stacks = vec![in alloc;
-        Some(Sequence::new(alloc)),
-        None,
-        None,
-        None,
-        None,
-        None,
-        None,
-        None,
-        None,
-        None,
-        None,
-        None,
-        None,
-        None,
-        None,
-        None,
-        None,
-        None,
-        None,
-        None,
-        None,
-        Some(Sequence::new(alloc)),
-        Some(Sequence::new(alloc)),
-        Some(Sequence::new(alloc)),
-        Some(Sequence::new(alloc)),
-        Some(Sequence::new(alloc)),
-        Some(Sequence::new(alloc)),
-        Some(Sequence::new(alloc)),
-        Some(Sequence::new(alloc)),
-        None,
-        Some(Sequence::new(alloc)),
-        Some(Sequence::new(alloc)),
-        Some(Sequence::new(alloc)),
-        Some(Sequence::new(alloc)),
-        None,
-    ]?;
-    Ok(Sequence::from_vec(stacks))
+    let mut placing = stacks(alloc)?.into_placing(alloc);
+    placing.place(0)?;
+    placing.place(0)?;
+    placing.place(0)?;
+    placing.place(0)?;
+    placing.place(1)?;
+    placing.place(0)?;
+    placing.place(1)?;
+    placing.place(0)?;
+    placing.place(1)?;
+    placing.place(0)?;
+    placing.place(0)?;
+    placing.place(0)?;
+    placing.place(0)?;
+    Ok(placing.finish(22))
 }
 
 /// The handler of the text below, as weaving makes it, but for the order of its keeps.
 fn function(alloc: Global) -> Result<WovenCode, NoMemory>
-    ensures { IfOk result (λ function. function ≡ exchanged_code) }
+    ensures code { IfOk result (λ function. function ≡ exchanged_code) }
+    ensures saving { IfOk result (λ function. saving_of function ≡ exchanged_saving) }
+    ensures restoring { IfOk result (λ function. restoring_of function ≡ exchanged_restoring) }
 {
     let code = vec![in alloc;
         Instr::TestBack(21),
@@ -218,8 +119,6 @@ fn function(alloc: Global) -> Result<WovenCode, NoMemory>
         lines: Sequence::from_vec(vec![in alloc; 1, 1]?),
         code: Sequence::from_vec(code),
         running: running(alloc)?,
-        saving: saving(alloc)?,
-        restoring: restoring(alloc)?,
     })
 }
 

@@ -1,10 +1,12 @@
 //! A function with a slot, which calls itself with an operand waiting.
 
 ghost use Rattle.std.specs.Prelude.{◌≡◌, IfOk};
+ghost use Rattle.tests_world.specs.Samples.{sample_stacks};
 ghost use Rattle.lsl_code.specs.Bodies.{plain_body};
 ghost use Rattle.tests_world.specs.Samples.{sample_body};
 
 use lsl_code::{FunctionCode, Instr, Point, Sequence};
+use lsl_compact::{KindStack, KindStacks};
 use lsl_text::NoMemory;
 use lsl_value::{Kind, Text};
 use std::alloc::Global;
@@ -13,15 +15,6 @@ use std::alloc::Global;
 pub fn sample(alloc: Global) -> Result<FunctionCode, NoMemory>
     ensures { IfOk result (λ f. plain_body f ≡ sample_body) }
 {
-    let before_call = Sequence::from_vec(vec![in alloc; Kind::Int]?);
-    let before_drop = Sequence::from_vec(vec![in alloc; Kind::Int]?);
-    let stacks = vec![in alloc;
-        Sequence::new(alloc),
-        Sequence::new(alloc),
-        before_call,
-        before_drop,
-        Sequence::new(alloc),
-    ]?;
     let code = vec![in alloc;
         Instr::Tick(0),
         Instr::Int(7),
@@ -50,6 +43,21 @@ pub fn sample(alloc: Global) -> Result<FunctionCode, NoMemory>
         points: Sequence::from_vec(points),
         lines: Sequence::from_vec(vec![in alloc; 1, 2]?),
         code: Sequence::from_vec(code),
-        stacks: Sequence::from_vec(stacks),
+        stacks: stacks(alloc)?,
     })
+}
+
+// The kinds before each of its instructions.
+fn stacks(alloc: Global) -> Result<KindStacks, NoMemory>
+    ensures { IfOk result (λ stacks. stacks ≡ sample_stacks) }
+{
+    let mut stack = KindStack::new(alloc);
+    stack.note()?;
+    stack.note()?;
+    stack.push(Kind::Int)?;
+    stack.note()?;
+    stack.note()?;
+    stack.clear();
+    stack.note()?;
+    Ok(stack.into_noted())
 }

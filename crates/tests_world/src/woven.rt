@@ -1,40 +1,42 @@
 //! A function's woven code, laid out by hand.
 
+ghost use Rattle.std.specs.Prelude.{◌≡◌, IfOk};
+ghost use Rattle.lsl_code.specs.ModeStacks.{restoring_of, saving_of};
+ghost use Rattle.tests_world.specs.Counts.{counts, restoring_counts, running_counts, saving_counts};
+
 use crate::samples::sample;
 use lsl_code::{Instr, Sequence, WovenCode};
 use lsl_text::NoMemory;
-use lsl_value::Kind;
-use lsl_weave::weave_functions;
+use lsl_weave::{weave_function, weave_functions};
 use std::alloc::Global;
 use std::test::Fail;
 
-/// Each instruction, and how many operands a machine has before it while it runs, saves and restores, or `-` where it
-/// never stands there then.
+/// Each instruction.
 const WOVEN: &str = "\
-TestBack(13) 0 - 0\n\
-Tick(0) 0 - -\n\
-TestSave(8) 0 0 -\n\
-Int(7) 0 - -\n\
-Call(0, 1) 1 - -\n\
-TestSave(10) 1 1 -\n\
-Drop 1 - -\n\
-Return 0 - -\n\
-KeepSlot(0) - 0 -\n\
-Seal(0) - 0 -\n\
-KeepTop - 1 -\n\
-KeepSlot(0) - 0 -\n\
-Seal(1) - 0 -\n\
-Unpack - - 0\n\
-Branch - - 0\n\
-Jump(17) - - 0\n\
-Jump(20) - - 0\n\
-BackSlot(0) - - 0\n\
-Awake - - 0\n\
-Jump(1) - - -\n\
-BackSlot(0) - - 0\n\
-BackTop - - 0\n\
-Again(0) - - 1\n\
-Jump(5) - - -\n";
+TestBack(13)\n\
+Tick(0)\n\
+TestSave(8)\n\
+Int(7)\n\
+Call(0, 1)\n\
+TestSave(10)\n\
+Drop\n\
+Return\n\
+KeepSlot(0)\n\
+Seal(0)\n\
+KeepTop\n\
+KeepSlot(0)\n\
+Seal(1)\n\
+Unpack\n\
+Branch\n\
+Jump(17)\n\
+Jump(20)\n\
+BackSlot(0)\n\
+Awake\n\
+Jump(1)\n\
+BackSlot(0)\n\
+BackTop\n\
+Again(0)\n\
+Jump(5)\n";
 
 /// An instruction, and the numbers in it.
 fn tell_instruction(told: &mut String, instr: &Instr) -> Result<(), NoMemory> {
@@ -60,27 +62,21 @@ fn tell_instruction(told: &mut String, instr: &Instr) -> Result<(), NoMemory> {
     }
 }
 
-/// How many operands stand before the instruction at a place.
-fn tell_count(
-    told: &mut String,
-    stacks: &Sequence<Option<Sequence<Kind>>>,
-    place: usize,
-) -> Result<(), NoMemory> {
-    match stacks.get(place) {
-        Some(Some(kinds)) => write!(told, " {}", kinds.len()),
-        Some(None) => told.push_str(" -"),
-        None => told.push_str(" no place"),
-    }
+/// The sample's woven code, and how many operands a machine has before each instruction while it runs, saves and
+/// restores.
+fn woven_sample(alloc: Global) -> Result<WovenCode, NoMemory>
+    ensures running { IfOk result (λ woven. counts woven.running ≡ running_counts) }
+    ensures saving { IfOk result (λ woven. counts (saving_of woven) ≡ saving_counts) }
+    ensures restoring { IfOk result (λ woven. counts (restoring_of woven) ≡ restoring_counts) }
+{
+    weave_function(alloc, sample(alloc)?)
 }
 
 /// Each instruction of a function, a line each.
 fn listing(alloc: Global, function: &WovenCode) -> Result<String, NoMemory> {
     let mut told = String::new(alloc);
-    for (place, instr) in function.code.as_slice().iter().enumerate() {
+    for instr in function.code.as_slice() {
         tell_instruction(&mut told, instr)?;
-        tell_count(&mut told, &function.running, place)?;
-        tell_count(&mut told, &function.saving, place)?;
-        tell_count(&mut told, &function.restoring, place)?;
         told.push('\n')?;
     }
     Ok(told)
@@ -89,6 +85,8 @@ fn listing(alloc: Global, function: &WovenCode) -> Result<String, NoMemory> {
 #[test]
 fn tick_and_call_are_woven(rt: HostRuntime) -> Result<(), Fail> {
     let alloc = rt.alloc();
+    let told = listing(alloc, &woven_sample(alloc)?)?;
+    assert!(rt; told.as_str() == WOVEN, "{told}");
     let mut functions = Sequence::new(alloc);
     functions.push(sample(alloc)?)?;
     let woven = weave_functions(alloc, functions)?;
@@ -96,9 +94,6 @@ fn tick_and_call_are_woven(rt: HostRuntime) -> Result<(), Fail> {
     for function in woven.as_slice() {
         let told = listing(alloc, function)?;
         assert!(rt; told.as_str() == WOVEN, "{told}");
-        assert_eq!(rt; function.running.len(), 24);
-        assert_eq!(rt; function.saving.len(), 24);
-        assert_eq!(rt; function.restoring.len(), 24);
     }
     Ok(())
 }

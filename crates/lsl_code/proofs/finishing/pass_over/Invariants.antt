@@ -6,4 +6,4 @@ use Rattle.lsl_code.proofs.finishing.pass_over.Given as goal
 abbrev pub invariant-loop-instr : goal.invariant-loop-instr
 invariant-loop-instr l =
     Passed (scope l.names l.slots l.gives) l.code
-    (drop l.instr-index l.code) l.stack l.points l.stacks l.most
+    (drop l.instr-index l.code) l.stack.kinds l.points l.stack.noted l.most
