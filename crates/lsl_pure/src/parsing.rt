@@ -1,7 +1,7 @@
 //! `llParseString2List` and `llParseStringKeepNulls`.
 
-ghost use Rattle.std.specs.Prelude.{◌≡◌, ◌≤◌, ◌<◌, ◌++◌, ◌||◌, nat_lt, length, map, IfOk, OnOk};
-ghost use Rattle.std.specs.List.{All};
+ghost use Rattle.std.specs.Prelude.{◌≡◌, ◌≤◌, ◌<◌, ◌++◌, ◌||◌, nat_eq, nat_lt, length, map, IfOk, OnOk};
+ghost use Rattle.std.specs.List.{All, starts_with};
 ghost use Rattle.std.specs.Option.{option_copied, option_map};
 ghost use Rattle.std.specs.Str.{IsUtf8, encode_utf8_all};
 ghost use Rattle.lsl_value.specs.Atoms.{list_charge_of};
@@ -69,11 +69,24 @@ fn first_mark<'a>(marks: &'a [Mark], text: &[u8]) -> Option<&'a Mark>
     ensures { option_map spelled_mark (option_copied result) ≡ first_mark_of (map spelled_mark marks.now) text.now }
 {
     'marks: for mark in marks {
-        if text.starts_with(mark.text.bytes()) {
+        if stands(text, mark.text.bytes()) {
             return Some(mark);
         }
     }
     None
+}
+
+// Whether the mark stands at the head of the text. Most places are ruled out by the first byte, without a call.
+fn stands(text: &[u8], mark: &[u8]) -> bool
+    ensures { result ≡ starts_with nat_eq text.now mark.now }
+{
+    match mark {
+        [] => true,
+        [first, others @ ..] => match text {
+            [] => false,
+            [b, rest @ ..] => *first == *b && rest.starts_with(others),
+        },
+    }
 }
 
 fn push_piece(
