@@ -1,4 +1,4 @@
-// The line that refuses a script or a world, in words (docs/FAULTS.md), with the line of the file and a caret.
+// The line that refuses a script or a world, in words (docs/LANGUAGE.md), with the line of the file and a caret.
 import { unquoted } from "./quoting.js";
 
 const REFUSAL = /^bad (\w+) "((?:[^"\\]|\\.)*)" (?:line (\d+)|(\d+):(\d+)) fault (\d+)$/;

@@ -207,7 +207,7 @@ def a_page_is_compiled_in_parts():
             repo.write(name, "")
         tables = (f"crates/lsl_table/src/{it}.rt" for it in ("calls", "constants", "events"))
         words = (os.path.relpath(it, places.TOP) for it in glob.glob(places.in_top("tools", "words", "*.json")))
-        for name in ("docs/FAULTS.md", "page/index.html", "tools/lsl_names.tsv", *tables, *words):
+        for name in ("page/index.html", "tools/lsl_names.tsv", *tables, *words):
             repo.write(name, places.text_of(name))
         repo.write_in_kit("module", MODULE.replace("@main", '@"lsl_page::lsl_page_run"'))
         for lines in (["compiling the module without its proofs"], []):

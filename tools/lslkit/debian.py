@@ -15,7 +15,6 @@ SHARE, DOC, VIM = f"usr/share/{NAME}", f"usr/share/doc/{NAME}", "usr/share/vim/v
 # Where a package's files are: the first beginning of a name that fits counts. A file that none fits has its content
 # in one of those that are made below.
 PLACES = (
-    ("docs/FAULTS.md", f"{SHARE}/docs/FAULTS.md"),
     ("docs/", f"{DOC}/docs/"),
     ("README.md", f"{DOC}/README.md"),
     ("libexec/", f"usr/lib/{NAME}/"),
@@ -26,7 +25,7 @@ PLACES = (
 LINKS = {
     "usr/bin/lsl": f"{SHARE}/lsl",
     f"{SHARE}/libexec": f"usr/lib/{NAME}",
-    **{f"{DOC}/{it}": f"{SHARE}/{it}" for it in ("docs/FAULTS.md", "examples", "page")},
+    **{f"{DOC}/{it}": f"{SHARE}/{it}" for it in ("examples", "page")},
     **{f"{VIM}/{it}/lsl.vim": f"{SHARE}/editors/vim/{it}/lsl.vim" for it in ("ftdetect", "ftplugin", "syntax")},
 }
 SECTION = re.compile(r"(?ms)^## \[(\S+)\] - (\S+)\n(.*?)(?=^## |\Z)")

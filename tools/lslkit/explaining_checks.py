@@ -15,10 +15,11 @@ from .quoting import unquoted
 
 @check
 def faults_have_one_table_of_words():
-    rows = dict(re.findall(r"(?m)^\| (\d+) \| (.*?) \|", places.text_of("docs", "FAULTS.md")))
+    text = places.text_of("docs", "LANGUAGE.md").partition("\n## Faults\n")[2]
+    rows = dict(re.findall(r"(?m)^\| (\d+) \| (.*?) \|", text))
     table = {number: row["says"] for number, row in words.table("faults").items()}
     differing = set(rows.items()) ^ set(table.items())
-    need(not differing, "docs/FAULTS.md differs from tools/words/faults.json in", differing)
+    need(not differing, "docs/LANGUAGE.md differs from tools/words/faults.json in", differing)
 
 
 def check_of_program():

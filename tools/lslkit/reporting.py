@@ -7,7 +7,7 @@ from .quoting import window
 
 
 def meaning(fault):
-    """What a fault means, which is also the second column of its row in docs/FAULTS.md."""
+    """What a fault means, which is also the second column of its row in docs/LANGUAGE.md."""
     row = words.table("faults").get(str(fault))
     return row["says"] if row else "a fault without words"
 

@@ -1,5 +1,5 @@
 """Makes the module of the page in the browser: the crate `lsl_page` is proved and lowered as a static library for
-x86-64, and the same code is then compiled for WebAssembly, with the heap `page/heap.c`. docs/PAGE.md says what that
+x86-64, and the same code is then compiled for WebAssembly, with the heap `page/heap.c`. docs/EDITORS.md says what that
 rests on. It can be compiled without its proofs, as the program can."""
 import hashlib
 import os
