@@ -40,6 +40,20 @@ class Statements {
   }
 }
 
+// Where the bodies of functions and handlers are in a script's text, with their braces.
+export function bodiesOf(text) {
+  const statements = new Statements();
+  const found = [];
+  for (const { 0: token, index } of text.matchAll(TOKEN)) {
+    if (isAside(token)) continue;
+    const wasIn = statements.body > 0;
+    statements.pass(token);
+    if (!wasIn && statements.body > 0) found.push({ start: index, end: 0 });
+    else if (wasIn && statements.body === 0) found.at(-1).end = index + 1;
+  }
+  return found.filter(it => it.end > 0);
+}
+
 // The copy of a script's text. Each probe is added to `places`: its line, and whether its statement divides.
 function probed(text, mark, places) {
   const statements = new Statements();

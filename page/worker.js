@@ -6,6 +6,7 @@ import { withoutMarks, markedWorld } from "./marks.js";
 import { frontOf, outcomeOf } from "./outcome.js";
 import { handOver } from "./pieces.js";
 import { linesOf, probedFiles } from "./probes.js";
+import { refusalsOf } from "./refusals.js";
 import { NO_STEPS, sceneOf, stepsOf } from "./scene.js";
 import { readWorld } from "./worlds.js";
 
@@ -31,12 +32,20 @@ function namedIn(text) {
   return { scripts: scripts.map(it => it.file), named, segments: Number(runs.at(-1)?.fields.at(-1) ?? 0) };
 }
 
-// The first faults of the other scripts of a world, of which one was refused.
-function otherFaults(head, files, scripts) {
+// The lines that refuse a script.
+function refusals(name, files) {
+  const check = text => textOf(lsl.run("check", name, [[name, text]]).output).split("\n")[0];
+  return refusalsOf(new Map(files).get(name), check);
+}
+
+// The faults of the scripts that are played, of which one was refused; that one's come first.
+function allFaults(head, files, scripts) {
   const here = new Set(files.map(it => it[0]));
   const names = [...new Set(scripts)].filter(it => here.has(it)).slice(0, MOST_CHECKED);
-  const lines = names.map(it => textOf(lsl.run("check", it, files).output));
-  return lines.filter(it => it.startsWith("bad ") && it !== head);
+  const found = names.map(it => refusals(it, files));
+  const isFirst = lines => lines[0] === head.split("\n")[0];
+  const lines = [...found.filter(isFirst), ...found.filter(it => !isFirst(it))].flat();
+  return lines.length ? lines : [head];
 }
 
 // Runs a request, and says what became of it; then hands over the front of its journal.
@@ -47,7 +56,8 @@ function run({ number, word, file, files, world }, answer, tell) {
   const [outcome, milliseconds] = [outcomeOf(output), performance.now() - start];
   const named = namedIn(world);
   const head = last.front.slice(0, HEAD);
-  const heads = status === REFUSED ? [head, ...otherFaults(head, files, named.scripts)] : [head];
+  const scripts = named.scripts.length ? named.scripts : [file];
+  const heads = status === REFUSED ? allFaults(head, files, scripts) : [head];
   answer({ kind: "ran", status, outcome, size: output.length, milliseconds, head, heads, named });
   last.isDrawn = world !== undefined && !UNDRAWN.includes(status);
   if (!last.isDrawn) return;

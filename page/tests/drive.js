@@ -8,6 +8,7 @@ import { Lsl } from "../lsl.js";
 import { markedWorld, withoutMarks } from "../marks.js";
 import { outcomeOf } from "../outcome.js";
 import { linesOf, probedFiles } from "../probes.js";
+import { refusalsOf } from "../refusals.js";
 import { Scene, sceneOf, stepsOf } from "../scene.js";
 import { packed, unpacked } from "../share.js";
 import { stagedWorld } from "../stage.js";
@@ -62,6 +63,11 @@ function coloured({ text }) {
   return lines.lines.map((_, line) => lines.pieces(line));
 }
 
+// The lines that refuse a script.
+function refusals({ name, text }) {
+  return refusalsOf(text, it => textOf(lsl.run("check", name, [[name, it]]).output).split("\n")[0]);
+}
+
 async function link(fragment) {
   try {
     return { play: await unpacked(fragment) };
@@ -71,7 +77,7 @@ async function link(fragment) {
 }
 
 const TASKS = {
-  run, told, outcome, coloured, link,
+  run, told, outcome, coloured, refusals, link,
   stage: ({ file, lines }) => stagedWorld(file, lines, words.steps),
   fault: ({ output, files }) => explained(output, files, words),
   share: async play => unpacked(await packed(play)),

@@ -9,8 +9,8 @@ import shutil
 import subprocess
 import tempfile
 
-from . import faults, journal, kit, observing, places, quoting, showing, stage, standing, talking, webmodule, webpage
-from . import worlds
+from . import faults, findings, journal, kit, observing, places, quoting, showing, stage, standing, talking, tokens
+from . import webmodule, webpage, worlds
 from .webtesting import need, test
 
 PROBE = "process.exit(WebAssembly.validate(new Uint8Array([0,97,115,109,1,0,0,0,5,3,1,4,0])) ? 0 : 1)"
@@ -222,6 +222,39 @@ def faults_are_told_as_by_lslkit():
         if ".. " not in wanted and max(map(len, wanted.split("\n"))) < 110 and "\r" not in came["said"]:
             need(came["said"] == wanted, case.name, "came to", came["said"], "and not to", wanted)
     return f"{len(found)} faults"
+
+
+SEVERAL = (
+    'f() {\n  return "\u00e4" + b;\n}\ndefault {\n  state_entry() { llSay(0, "\u00e9" c); }\n  timer() { llAbs(c); }\n}\n',
+    "default {\n  touch_start(integer n) { n = 1 }\n  state_entry() { jump a; }\n  timer() { }\n  timer() { f(); }\n}\n",
+    "integer a = b;\ndefault { state_entry() { c; } }\n",
+)
+
+
+def place_of(text, refusal):
+    """The byte of a refusal's place, and its fault."""
+    _, _, _, row, column, fault, _ = faults.REFUSAL.fullmatch(refusal).groups()
+    return tokens.Lines(text).place_of(int(row), int(column)), int(fault)
+
+
+@test
+def faults_of_several_bodies_are_those_of_lslkit():
+    """The page finds at most one fault in each body, and each of them is one that lslkit finds."""
+
+    def check(text):
+        output = output_of(driven([run_of("check", "a.lsl", [("a.lsl", text)])])[0]).decode()
+        found = faults.REFUSAL.fullmatch(output.split("\n")[0])
+        return found and tuple(int(found[it]) for it in (4, 5, 6))
+
+    count = 0
+    for text, came in zip(SEVERAL, driven([["refusals", {"name": "a.lsl", "text": it}] for it in SEVERAL])):
+        code = text.encode()
+        known = [(start, it.fault) for it in findings.of(code, check) for start, *_ in [(it.start,), *it.more]]
+        for it in came:
+            need(place_of(code, it) in known, it, "of", text, "isn't among", known)
+        count += len(came)
+    need(count > len(SEVERAL), "only", count, "faults were found")
+    return f"{count} faults in {len(SEVERAL)} scripts"
 
 
 OUTCOMES = {

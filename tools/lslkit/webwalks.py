@@ -172,7 +172,12 @@ def faults_are_shown_in_the_editor(page):
     need(listed == ["a.lsl:3:23", "b.lsl:1:11"], "the faults are", listed)
     page.value("(document.querySelectorAll('#problems button')[1].click(), true)")
     need(page.source == files[2][1] and page.selection[0] == 10, "a click goes to", page.source, page.selection)
-    return "a fault, its line and its mending; the faults of two files"
+    two = "default {\n    state_entry() { llAbs(a); }\n    timer() { llAbs(b); }\n}\n"
+    page.follow(script(two, "check"))
+    page.tab.until("document.querySelectorAll('#paint .marked').length === 2")
+    listed = page.value("[...document.querySelectorAll('#problems button')].map(it => it.textContent.split(': ')[0])")
+    need(listed == ["calc.lsl:2:27", "calc.lsl:3:21"], "the faults of two handlers are", listed)
+    return "a fault, its line and its mending; the faults of two files and of two handlers"
 
 
 @in_both
