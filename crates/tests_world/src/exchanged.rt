@@ -68,9 +68,7 @@ fn running(alloc: Global) -> Result<PlacedStacks, NoMemory>
 
 /// The handler of the text below, as weaving makes it, but for the order of its keeps.
 fn function(alloc: Global) -> Result<WovenCode, NoMemory>
-    ensures code { IfOk result (λ function. function ≡ exchanged_code) }
-    ensures saving { IfOk result (λ function. saving_of function ≡ exchanged_saving) }
-    ensures restoring { IfOk result (λ function. restoring_of function ≡ exchanged_restoring) }
+    ensures { IfOk result (λ function. function ≡ exchanged_code) }
 {
     let code = vec![in alloc;
         Instr::TestBack(21),
@@ -121,6 +119,12 @@ fn function(alloc: Global) -> Result<WovenCode, NoMemory>
         running: running(alloc)?,
     })
 }
+
+/// The operands before each of its instructions while it saves and restores.
+fn kinds_follow_from_the_code()
+    ensures saving { saving_of exchanged_code ≡ exchanged_saving }
+    ensures restoring { restoring_of exchanged_code ≡ exchanged_restoring }
+{}
 
 /// A list of it alone.
 fn listed(alloc: Global) -> Result<Sequence<WovenCode>, NoMemory>
@@ -177,6 +181,7 @@ fn saved_twice(alloc: Global, unit: &Woven) -> Result<String, NoMemory> {
 #[test]
 fn keeps_are_done_by_the_code(rt: HostRuntime) -> Result<(), Fail> {
     let alloc = rt.alloc();
+    kinds_follow_from_the_code();
     let other = saved_twice(alloc, &exchanged(alloc)?)?;
     assert!(rt; other.as_str() == " | 1 2 1 and | 1 1 2", "{other}");
     let woven = saved_twice(alloc, &unit_of(&rt, alloc, TEXT))?;
