@@ -3,7 +3,6 @@ pub mod ByteLemmas
 pub mod ChargeLemmas
 pub mod CsvLemmas
 pub mod CutLemmas
-pub mod FirstLemmas
 pub mod JoinLemmas
 pub mod KindLemmas
 pub mod LawCsv
@@ -15,7 +14,6 @@ pub mod NeedleLemmas
 pub mod ParsingLemmas
 pub mod PlaceLemmas
 pub mod RangeLemmas
-pub mod ReachLemmas
 pub mod SearchLemmas
 pub mod SpellingLemmas
 pub mod TrimLemmas
