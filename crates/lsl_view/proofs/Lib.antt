@@ -7,5 +7,4 @@ pub mod CodeNames
 mod Order
 mod Places
 mod Source
-pub mod Stepping
 mod Written

@@ -1,5 +1,0 @@
-// Makes elements.
-
-export function made(name, textContent = "", className = "") {
-  return Object.assign(document.createElement(name), { textContent, className });
-}
