@@ -3,6 +3,7 @@ pub mod ByteLemmas
 pub mod ChargeLemmas
 pub mod CsvLemmas
 pub mod CutLemmas
+pub mod FirstLemmas
 pub mod JoinLemmas
 pub mod KindLemmas
 pub mod LawCsv
@@ -14,6 +15,7 @@ pub mod NeedleLemmas
 pub mod ParsingLemmas
 pub mod PlaceLemmas
 pub mod RangeLemmas
+pub mod ReachLemmas
 pub mod SearchLemmas
 pub mod SpellingLemmas
 pub mod TrimLemmas

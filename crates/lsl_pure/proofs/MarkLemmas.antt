@@ -1,11 +1,12 @@
 -- The marks of a list's elements.
-use Rattle.std.proofs.Common.{◌≡◌, ◌∙◌, ℕ, ◌<◌, Bool, true, false, cond, ◌==◌, nat_lt, List, [], ◌∷◌, ◌++◌, length, map, take, sym, ap, refl, arith}
+use Rattle.std.proofs.Common.{◌≡◌, ◌∙◌, ℕ, ◌<◌, ◌≤◌, Bool, true, false, cond, ◌==◌, nat_lt, List, [], ◌∷◌, ◌++◌, length, map, take, sym, ap, refl, arith, length-append}
 use Rattle.std.specs.List.{All, filter}
 use Rattle.std.specs.Str.{encode_utf8_all}
 use Rattle.std.proofs.lemmas.Bool.{cond-true, cond-false}
 use Rattle.std.proofs.lemmas.Bool.Decides.{nat_tests}
-use Rattle.std.proofs.lemmas.List.{append-nil, append_assoc, map-append}
+use Rattle.std.proofs.lemmas.List.{append-nil, append_assoc, length-map, length-take, map-append}
 use Rattle.std.proofs.lemmas.List.Elements.{All-append, All-weaker, filter-append, filter_passes}
+use Rattle.std.proofs.lemmas.List.Sums.{count_by-le-length, length-filter}
 use Rattle.lsl_value.specs.declared.list.Atom.{Atom}
 use Rattle.lsl_value.specs.Atoms.{text_of_atom}
 use Rattle.lsl_pure.specs.Parsing.{marks_among, marks_from, marks_of}
@@ -68,3 +69,26 @@ pub marks_of-have : (separators spacers : List Atom)
 marks_of-have separators spacers =
     All-append (λ (m : Mark). 0 < length m.text) (marks_from false separators) (marks_from true spacers)
     (marks_among-have false (take 8 separators)) (marks_among-have true (take 8 spacers))
+
+marks_from-few : (spacer : Bool) (atoms : List Atom) → length (marks_from spacer atoms) ≤ 8
+marks_from-few spacer atoms =
+    let mark : Atom → Mark = λ (a : Atom). record { text = text_of_atom a; spacer = spacer } in
+    let passes : Mark → Bool = λ (m : Mark). nat_lt 0 (length m.text) in
+    let made = map mark (take 8 atoms) in
+    omega (
+      arith,
+      length-filter passes made,
+      count_by-le-length passes made,
+      length-map (take 8 atoms) mark,
+      length-take 8 atoms,
+    )
+
+-- at most eight separators and eight spacers are used
+pub marks_of-few : (separators spacers : List Atom) → length (marks_of separators spacers) ≤ 16
+marks_of-few separators spacers =
+    omega (
+      arith,
+      length-append (marks_from false separators) (marks_from true spacers),
+      marks_from-few false separators,
+      marks_from-few true spacers,
+    )

@@ -5,6 +5,7 @@ pub mod CsvLaws
 pub mod CsvSteps
 pub mod Cuts
 pub mod Elements
+pub mod Firsts
 pub mod Joins
 pub mod Laws
 pub mod Parsing

@@ -12,12 +12,14 @@ mod csv;
 mod cuts;
 mod dispatch;
 mod elements;
+mod firsts;
 mod joining;
 pub mod laws;
 mod list_cuts;
 mod marks;
 mod parsing;
 mod ranges;
+mod reaching;
 mod searching;
 mod spelling;
 

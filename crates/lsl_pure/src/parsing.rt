@@ -1,25 +1,26 @@
 //! `llParseString2List` and `llParseStringKeepNulls`.
 
-ghost use Rattle.std.specs.Prelude.{◌≡◌, ◌≤◌, ◌<◌, ◌++◌, ◌||◌, nat_eq, nat_lt, length, map, IfOk, OnOk};
-ghost use Rattle.std.specs.List.{All, starts_with};
-ghost use Rattle.std.specs.Option.{option_copied, option_map};
+ghost use Rattle.std.specs.Prelude.{◌≡◌, ◌≤◌, ◌<◌, ◌++◌, ◌||◌, nat_lt, length, map, IfOk, OnOk};
+ghost use Rattle.std.specs.List.{All};
 ghost use Rattle.std.specs.Str.{IsUtf8, encode_utf8_all};
 ghost use Rattle.lsl_value.specs.Atoms.{list_charge_of};
 ghost use Rattle.lsl_value.specs.Limits.{most_charge, most_text_bytes};
 ghost use Rattle.lsl_pure.specs.Bounds.{TooBigOnlyWhere};
-ghost use Rattle.lsl_pure.specs.Parsing.{parsed, cut_of, cut_elements, piece_elements, mark_elements, first_mark as first_mark_of};
+ghost use Rattle.lsl_pure.specs.Parsing.{parsed, cut_of, cut_elements, piece_elements, mark_elements};
 ghost use Rattle.lsl_pure.specs.Spelling.{spelled_mark, spelled_string, IsOverfull};
 
 use crate::PureFault;
 use crate::bounds::push_bounded;
+use crate::firsts::{first_marks, mark_at};
 use crate::marks::{Mark, marks};
 use crate::spelling::copy_of;
 use lsl_value::{Atom, Items, Text};
 use std::alloc::Global;
 
 /// The pieces of the text between the separators and spacers, and the spacers themselves, all as strings: from left
-/// to right, the first listed one that stands at a place. Empty pieces are kept or left out. Tries at most 16 texts
-/// at each byte, and is too big as soon as the elements so far are.
+/// to right, the first listed one that stands at a place. Empty pieces are kept or left out. Takes time in
+/// proportion to the text and to the separators and spacers that are used, of which there are at most 16. Is too big
+/// as soon as the elements so far are.
 ///
 /// See <https://wiki.secondlife.com/wiki/LlParseString2List>.
 pub fn parse_string(
@@ -40,17 +41,19 @@ pub fn parse_string(
 fn cut(alloc: Global, text: &[u8], marks: &[Mark], keep_nulls: bool) -> Result<Items, PureFault>
     requires valid { IsUtf8 text.now }
     requires short { length text.now ≤ most_text_bytes }
+    requires few { length marks.now ≤ 16 }
     requires nonempty { All (λ m. 0 < length m.text) marks.now }
     ensures ok { IfOk result (λ items. map spelled_string items
         ≡ cut_elements keep_nulls (cut_of (map spelled_mark marks.now) text.now)) }
     ensures too_big { TooBigOnlyWhere result
         (IsOverfull (cut_elements keep_nulls (cut_of (map spelled_mark marks.now) text.now))) }
 {
+    let firsts = first_marks(alloc, marks, text)?;
     let mut items = Items::new(alloc);
     let mut start = 0;
     let mut at = 0;
     'places: while at < text.len() {
-        match first_mark(marks, &text[at..]) {
+        match mark_at(marks, &firsts, at) {
             None => at += 1,
             Some(mark) => {
                 push_piece(alloc, &mut items, &text[start..at], keep_nulls)?;
@@ -62,31 +65,6 @@ fn cut(alloc: Global, text: &[u8], marks: &[Mark], keep_nulls: bool) -> Result<I
     }
     push_piece(alloc, &mut items, &text[start..], keep_nulls)?;
     Ok(items)
-}
-
-// The first mark that stands at the head of the text.
-fn first_mark<'a>(marks: &'a [Mark], text: &[u8]) -> Option<&'a Mark>
-    ensures { option_map spelled_mark (option_copied result) ≡ first_mark_of (map spelled_mark marks.now) text.now }
-{
-    'marks: for mark in marks {
-        if stands(text, mark.text.bytes()) {
-            return Some(mark);
-        }
-    }
-    None
-}
-
-// Whether the mark stands at the head of the text. Most places are ruled out by the first byte, without a call.
-fn stands(text: &[u8], mark: &[u8]) -> bool
-    ensures { result ≡ starts_with nat_eq text.now mark.now }
-{
-    match mark {
-        [] => true,
-        [first, others @ ..] => match text {
-            [] => false,
-            [b, rest @ ..] => *first == *b && rest.starts_with(others),
-        },
-    }
 }
 
 fn push_piece(

@@ -1,10 +1,10 @@
-use Rattle.std.proofs.Common.{◌∙◌, ◌<◌, List, length, subst, sym}
+use Rattle.std.proofs.Common.{◌∙◌, ◌<◌, List, length, ap, subst, sym, arith}
 use Rattle.std.specs.List.{All}
 use Rattle.lsl_pure.specs.Parsing.{marks_of, parsed}
 use Rattle.lsl_pure.specs.declared.marks.Mark.{Mark}
 use Rattle.lsl_pure.proofs.ChargeLemmas.{IfErr-strings, IfOk-strings}
 use Rattle.lsl_pure.proofs.CutLemmas.{parsed-spelled}
-use Rattle.lsl_pure.proofs.MarkLemmas.{marks_of-have}
+use Rattle.lsl_pure.proofs.MarkLemmas.{marks_of-few, marks_of-have}
 use Rattle.lsl_pure.proofs.parsing.parse_string.Goals as goal
 
 pub cut-requires-clause-nonempty : goal.cut-requires-clause-nonempty
@@ -12,6 +12,14 @@ cut-requires-clause-nonempty c =
     let P : List Mark → Type 0 = λ ms. All (λ (m : Mark). 0 < length m.text) ms in
     subst P (sym (c.as_slice.ensures.value ∙ c.in_ok-marks.ensures))
     (marks_of-have c.args.separators.now c.args.spacers.now)
+
+pub cut-requires-clause-few : goal.cut-requires-clause-few
+cut-requires-clause-few c =
+    omega (
+      arith,
+      ap length (c.as_slice.ensures.value ∙ c.in_ok-marks.ensures),
+      marks_of-few c.args.separators.now c.args.spacers.now,
+    )
 
 pub returns-clause-ok : goal.returns-clause-ok
 returns-clause-ok c =
