@@ -14,7 +14,8 @@ export class Drawing {
     this.steps = new Steps(this);
   }
 
-  draw() {
+  // Draws the chart, with the moment that is seen.
+  draw(moment) {
     const { chart, canvas, pen } = this;
     const ratio = devicePixelRatio || 1;
     const [width, height] = [Math.round(chart.width * ratio), Math.round(chart.height * ratio)];
@@ -36,7 +37,24 @@ export class Drawing {
       this[draw]();
       pen.restore();
     }
+    if (moment) this.drawMoment(moment);
     this.drawNames();
+  }
+
+  // A line from top to bottom, with a point at the lane of the script.
+  drawMoment({ line, script }) {
+    const { chart, pen } = this;
+    const x = chart.xOf(line);
+    if (x < chart.left || x > chart.width) return;
+    pen.strokeStyle = pen.fillStyle = this.colours.fault;
+    pen.lineWidth = 2;
+    this.drawLine(x, 0, x, chart.height);
+    pen.lineWidth = 1;
+    const y = chart.laneY(script) + LANE / 2;
+    if (!script || y < TOP) return;
+    pen.beginPath();
+    pen.arc(x, y, 4, 0, 2 * Math.PI);
+    pen.fill();
   }
 
   drawLine(x, y, toX, toY) {

@@ -2,7 +2,7 @@
 import { Receiver } from "./pieces.js";
 import { View } from "./view.js";
 
-const view = new View();
+const view = new View(line => parent.postMessage({ picked: line }, location.origin));
 let words;
 
 function listen(port) {
@@ -20,5 +20,6 @@ addEventListener("message", ({ source, origin, data }) => {
   if (source !== parent || origin !== location.origin) return;
   words = data.words ?? words;
   if (data.port) listen(data.port);
+  if (data.moment !== undefined) view.follow(data.moment);
 });
 parent.postMessage({ isReady: true }, location.origin);

@@ -1,7 +1,7 @@
-// Calls the module: a command over files that are handed to it. For the page's worker, and for node.
+// Calls the module: a command over files that are handed to it. For the page's workers, and for node.
 //
-// The module exports its memory and one function (crates/lsl_page), which takes each slice as a pointer and a length,
-// and answers the status. What is handed to it lies in pages that this code grew; the module's heap keeps off them.
+// The module exports its memory and functions (crates/lsl_page). Each takes a slice as a pointer and a length, and
+// answers the status. What is handed to it lies in pages that this code grew; the module's heap keeps off them.
 
 const PAGE_BYTES = 65536;
 const FIRST_ROOM = 1 << 23;
@@ -104,25 +104,35 @@ export class Lsl {
 
   // Runs `word file` over files, which are pairs of a name and a text or its bytes: the status, and the bytes that were
   // written. Where the room was full it is tried again with more.
-  run(word, file, files, room = FIRST_ROOM) {
-    const ran = this.runOnce(word, file, files, room);
-    return ran.status === OUTPUT_FULL && room < MOST_ROOM ? this.run(word, file, files, room * 8) : ran;
+  run(word, file, files, room = FIRST_ROOM, most = MOST_ROOM) {
+    return this.call("lsl_page_run", [word, file], files, room, most);
   }
 
   runOnce(word, file, files, room) {
-    const { memory, lsl_page_run } = new WebAssembly.Instance(this.module).exports;
+    return this.callOnce("lsl_page_run", [word, file], files, room);
+  }
+
+  // Calls an export with words, which are texts, bytes or numbers, and with files.
+  call(name, words, files, room = FIRST_ROOM, most = MOST_ROOM) {
+    const ran = this.callOnce(name, words, files, room);
+    if (ran.status !== OUTPUT_FULL || room >= most) return ran;
+    return this.call(name, words, files, Math.min(room * 8, most), most);
+  }
+
+  callOnce(name, words, files, room) {
+    const { memory, [name]: called } = new WebAssembly.Instance(this.module).exports;
     const { bytes, places } = packed(files);
-    const words = [encoded(word), encoded(file)];
-    const size = 8 + places.length + words[0].length + words[1].length + bytes.length + room;
-    const written = grown(memory, size);
+    const all = [...words.map(it => (typeof it === "number" ? it : encoded(it))), bytes];
+    const slicesSize = all.reduce((sum, it) => sum + (it.length ?? 0), 0);
+    const written = grown(memory, 8 + places.length + slicesSize + room);
     const layout = new Layout(written + 8);
-    const slices = [];
     const placesAt = layout.add(places);
-    for (const it of [...words, bytes]) slices.push(BigInt(layout.add(it)), BigInt(it.length));
+    const slice = it => [BigInt(layout.add(it)), BigInt(it.length)];
+    const given = all.flatMap(it => (typeof it === "number" ? [BigInt(it)] : slice(it)));
     const roomAt = layout.end;
     layout.write(memory);
-    const status = lsl_page_run(
-      ...slices, BigInt(placesAt), BigInt(places.length / PLACE_BYTES), BigInt(roomAt), BigInt(room), BigInt(written),
+    const status = called(
+      ...given, BigInt(placesAt), BigInt(places.length / PLACE_BYTES), BigInt(roomAt), BigInt(room), BigInt(written),
     );
     // The memory may have grown, so it is looked at anew.
     const count = Number(new DataView(memory.buffer).getBigUint64(written, true));

@@ -1,6 +1,7 @@
 // The page: what is played, where it is edited, and what came of it.
 import { Builder } from "./builder.js";
 import { Choices } from "./choices.js";
+import { hasCore } from "./core.js";
 import { Editor } from "./editor.js";
 import { FilePanel } from "./filepanel.js";
 import { Grammar, PLAIN, WorldGrammar } from "./highlight.js";
@@ -14,6 +15,7 @@ import { Running } from "./running.js";
 import { BadLink, packed, unpacked } from "./share.js";
 import { BadStep, stagedWorld, stepsHelp } from "./stage.js";
 import { Play, isWorld } from "./state.js";
+import { StepPanel } from "./steppanel.js";
 
 const at = id => document.getElementById(id);
 const made = async name => (await fetch(name)).json();
@@ -22,6 +24,7 @@ class Page {
   constructor(examples, words) {
     Object.assign(this, { examples, words, play: new Play(), runs: 0 });
     const [script, world] = [new Grammar(words.grammar), new WorldGrammar(words.steps)];
+    this.grammar = script;
     const grammarOf = name => (isWorld(name) ? world : /\.lsl$/.test(name) || !/\.\w+$/.test(name) ? script : PLAIN);
     const lookup = new Lookup(words.names, words.steps);
     this.editor = new Editor(this.play, grammarOf);
@@ -120,9 +123,10 @@ class Page {
   }
 
   makeWorld() {
+    const put = world => this.play.setWay("replay", this.play.put("steps.world", world));
     try {
-      const name = this.play.put("steps.world", stagedWorld(this.play.file, this.play.steps, this.words.steps));
-      this.play.setWay("replay", name);
+      if (this.running) this.running.stage(put);
+      else put(stagedWorld(this.play.file, this.play.steps, this.words.steps));
     } catch (error) {
       if (!(error instanceof BadStep)) throw error;
       this.panels.status({ text: error.message, sort: "bad" }, "");
@@ -170,9 +174,18 @@ class Page {
     this.listen();
     if (!hasMemory64()) return this.panels.status({ text: NEEDS, sort: "bad" }, "");
     this.running = new Running(this.play, this.words, this.seen);
+    this.addStepping(this.running.runner.module, !kept);
     at("run").disabled = at("share").disabled = false;
     if ((await this.openLink()) === null) this.run(false);
     return undefined;
+  }
+
+  // Adds the panel that steps through runs, where the module has what it needs. On a first visit it is seen at once.
+  async addStepping(module, isFirst) {
+    const found = await module.catch(() => null);
+    if (!found || !hasCore(found)) return;
+    this.panels.addStepping(new StepPanel(module, this.grammar, view => this.panels.follow(view)));
+    if (isFirst && location.hash === "") this.panels.showCrossing();
   }
 }
 

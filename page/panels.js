@@ -4,7 +4,8 @@ import { Rows, rowOf } from "./rows.js";
 import { TabList } from "./tablist.js";
 
 const at = id => document.getElementById(id);
-// The views: another one, as a debugger, is another row here with its panel in index.html.
+// What is above the journal's views: the panel that steps through a run is there where the module has its calls.
+const SIDES = [["output", "Output"], ["stepping", "Step through"]];
 const VIEWS = [["timeline", "Timeline"], ["told", "In words"], ["journal", "Journal"]];
 const NARROW = "(max-width: 900px)";
 
@@ -15,12 +16,44 @@ export class Panels {
     this.told = new Rows(at("told"), row => this.toldRow(row));
     this.journal = new Rows(at("journal"), line => rowOf("", [this.journalLine(line), ""]));
     this.tabs = new TabList(at("views"), view => this.want(view));
+    this.sides = new TabList(at("sides"), side => this.turnTo(side));
     const ready = new Promise(resolve => (this.isReady = resolve));
     // Hands the frame the port on which it hears the worker.
     this.wire = port => ready.then(() => this.frame.postMessage({ words, port }, location.origin, [port]));
     addEventListener("message", event => this.hear(event));
     at("timeline").src = "timeline.html";
     this.want(0);
+    this.turnTo(0);
+  }
+
+  // Adds the panel that steps through runs.
+  addStepping(panel) {
+    this.stepping = panel;
+    this.turnTo(0);
+    if (this.scene) panel.offer(this.asked, this.scene);
+  }
+
+  turnTo(side) {
+    const tabs = SIDES.slice(0, this.stepping ? 2 : 1).map(([id, name]) => ({ name, panel: id, id: `side-${id}` }));
+    this.sides.show(tabs, side);
+    tabs.forEach(({ panel, id }, place) => {
+      at(panel).hidden = place !== side;
+      at(panel).setAttribute("aria-labelledby", id);
+    });
+    at("result").classList.toggle("steps", side === 1);
+    this.output.rows.follow(true);
+    this.stepping?.see(side === 1);
+  }
+
+  // Shows the moment before the first crossing of the run that comes first.
+  showCrossing() {
+    this.stepping.firstStart = debugging => debugging.stopToCross;
+    this.turnTo(1);
+  }
+
+  // Marks the moment that is seen in the timeline, or none.
+  follow(view) {
+    this.frame.postMessage({ moment: view && { line: view.lines, script: view.script } }, location.origin);
   }
 
   get frame() {
@@ -31,6 +64,7 @@ export class Panels {
   hear({ source, origin, data }) {
     if (source !== this.frame || origin !== location.origin) return;
     if (data.isReady) this.isReady();
+    if (data.picked !== undefined) this.stepping?.reach(data.picked);
     if (data.isDrawn) at("result").dataset.drawn = data.number;
   }
 
@@ -68,7 +102,9 @@ export class Panels {
 
   // Shows a scene, or that there is none. `isSame` where it is the last one with more known of it.
   draw(scene, answer, asked, isSame, faults) {
-    this.scene = scene;
+    Object.assign(this, { scene, asked });
+    if (isSame) this.stepping?.with(scene);
+    else this.stepping?.offer(scene ? asked : null, scene);
     at("save").disabled = false;
     at("save").textContent = asked.word === "freeze" ? "Save the frozen world" : "Save the journal";
     if (scene) this.output.show(scene, answer, asked, isSame);

@@ -1,6 +1,6 @@
-// All that refuses a script: its first fault, and then each time the first one of the rest, once the body of the function
-// or handler with the fault before is blanked. tools/lslkit/findings.py finds more than one fault in a body too: it mends
-// them. Here nothing is mended, so a fault outside of all bodies is the last one.
+// All that refuses a script: its first fault, and then each time the first one of the rest, once the body of the
+// function or handler with the fault before is blanked. tools/lslkit/findings.py finds more than one fault in a body
+// too: it mends them. Here nothing is mended, so a fault outside of all bodies is the last one.
 import { bodiesOf } from "./probes.js";
 
 const REFUSAL = /^bad script "(?:[^"\\]|\\.)*" (\d+):(\d+) fault \d+$/;

@@ -39,6 +39,17 @@ export class Rows {
     this.shown.replaceChildren(...rows);
   }
 
+  // Scrolls as little as needed so that a row is seen, with some around it.
+  bring(row) {
+    const { scrollTop, clientHeight } = this.element;
+    const around = Math.min(3, Math.floor(clientHeight / HEIGHT / 3)) * HEIGHT;
+    const top = row * HEIGHT;
+    const low = top + HEIGHT + around;
+    if (top < scrollTop + around) this.element.scrollTop = Math.max(0, top - around);
+    else if (low > scrollTop + clientHeight) this.element.scrollTop = low - clientHeight;
+    this.follow();
+  }
+
   reveal(row) {
     this.element.scrollTop = Math.max(0, (row - 3) * HEIGHT);
     this.follow();

@@ -47,9 +47,11 @@ export class Runner {
     await this.module.catch(() => null);
     if (number !== this.number) return;
     this.first.postMessage({ number, task: "run", ...asked });
-    if (asked.world !== undefined && asked.word !== "freeze") {
-      this.second.postMessage({ number, task: "mark", files: asked.files, world: asked.world });
-    }
+  }
+
+  // Asks for the world file of steps.
+  stage(asked) {
+    this.first.postMessage({ number: this.number, task: "stage", ...asked });
   }
 
   // Asks for the lines at which scripts stopped or were cut.

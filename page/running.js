@@ -19,7 +19,8 @@ export function requestOf(play, words) {
   if (how === "replay" || how === "freeze") return { word: how, file, files, world: play.textOf(file) ?? "" };
   const world = stagedWorld(file, steps, words.steps);
   const name = play.freeName(STAGED);
-  return { word: "replay", file: name, files: [...files, [name, world]], world };
+  const stage = /^\s*(wait|after)\b/m.test(steps) ? { file, steps, words: words.steps } : null;
+  return { word: "replay", file: name, files: [...files, [name, world]], world, stage };
 }
 
 export class Running {
@@ -36,8 +37,8 @@ export class Running {
     if (this.isRunning) this.runner.stop();
     Object.assign(this, { isRunning: true, asked, answer: null, scene: null });
     this.receiver = new Receiver();
-    const { word, file, files, world } = asked;
-    this.seen.begin(this.runner.run({ word, file, files, world }));
+    const { word, file, files, world, stage } = asked;
+    this.seen.begin(this.runner.run({ word, file, files, world, stage }));
   }
 
   stop() {
@@ -52,7 +53,7 @@ export class Running {
     const act = {
       ran: () => this.ran(answer), stepped: () => this.show(this.scene.with(answer), true),
       piece: () => this.receiver.take(answer), drawn: () => this.drawn(this.receiver.take(answer)),
-      located: () => this.located(answer.lines),
+      located: () => this.located(answer.lines), staged: () => this.made(answer.world),
       saved: () => this.seen.save(answer.file, this.asked), failed: () => this.failed(answer.error),
     }[answer.kind];
     act?.();
@@ -66,7 +67,7 @@ export class Running {
 
   ran(answer) {
     this.answer = answer;
-    Object.assign(this.asked, answer.named);
+    Object.assign(this.asked, answer.named, answer.staged);
     this.faults = answer.heads.map(it => explained(it, this.asked.files, this.words)).filter(it => it);
     this.tell();
     this.seen.faults(this.faults);
@@ -109,6 +110,14 @@ export class Running {
   located(lines) {
     this.answer.lines = lines;
     this.show(this.scene, true);
+  }
+
+  // Asks for the world file of the steps, which `made` gets.
+  stage(made) {
+    const { files, file, world, stage } = requestOf(this.play, this.words);
+    this.made = made;
+    if (stage) this.runner.stage({ files, file, stage });
+    else made(world);
   }
 
   save() {

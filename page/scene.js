@@ -68,7 +68,8 @@ export function stepsOf(text, worldText, steps) {
 // What takes the place of them until they are known.
 export const NO_STEPS = { places: new Uint32Array(0), arrows: new Int32Array(0) };
 
-// The parts of a scene. `steps` has where the steps are, and the arrows; `states` has the state of each `clear` whose state is known.
+// The parts of a scene. `steps` has where the steps are, and the arrows; `states` has the state of each `clear` whose
+// state is known.
 export function sceneOf(text, worldText, steps, states = {}) {
   const [journal, world] = [Journal.read(text), readWorld(worldText)];
   const known = (({ keys, ways, homes }) => ({ keys, ways, homes }))(new Names(world, null));
@@ -123,15 +124,38 @@ export class Scene {
     return prim ? this.names.object(prim.object) + (prim.link > 1 ? `, ${prim.name}` : "") : "";
   }
 
-  // Where objects cross: the line, the step, and the object. One that stays in its region crosses nowhere.
-  get crossings() {
+  // The steps that are crossings, with their objects. One that stays in its region crosses nowhere.
+  get crossed() {
+    if (this.known.crossed) return this.known.crossed;
     const found = [];
-    this.places.forEach((place, step) => {
-      if (STEP_WORDS[this.stepWords[step]] !== "cross") return;
+    this.stepWords.forEach((word, step) => {
+      if (STEP_WORDS[word] !== "cross") return;
       const { line, fields } = readStep(this.worldText, this.stepStarts[step], this.stepLines[step]);
-      if (this.names.ways.get(line) !== fields[1]) found.push({ place, step, object: Number(fields[0]) });
+      if (this.names.ways.get(line) !== fields[1]) found.push({ step, object: Number(fields[0]) });
     });
-    return found;
+    return (this.known.crossed = found);
+  }
+
+  // The same with the lines at which they are, where these are known.
+  get crossings() {
+    const { places } = this;
+    return this.crossed.filter(({ step }) => step < places.length).map(it => ({ place: places[it.step], ...it }));
+  }
+
+  // How many steps begin at a line of the journal or before.
+  stepsBy(line) {
+    let [low, high] = [0, this.places.length];
+    while (low < high) {
+      const middle = (low + high) >> 1;
+      if (this.places[middle] <= line) low = middle + 1;
+      else high = middle;
+    }
+    return low;
+  }
+
+  // How many rows there are of so many lines and so many steps.
+  rowsBy(lines, steps) {
+    return lines + Math.max(this.stepsBy(lines - 1), Math.min(steps, this.places.length));
   }
 
   // The rows of the lines in plain words, with the steps between them.

@@ -4,6 +4,7 @@ import { quoted } from "./quoting.js";
 
 const UNITS = { ms: 1, s: 1000, "": 1000, m: 60000, h: 3600000 };
 const MOST_CLOCK = 2147483647999;
+const MOST_WAITS = 1000;
 const WIDTH = 24;
 
 const padded = number => number.toString(16).padStart(12, "0");
@@ -26,8 +27,8 @@ function milliseconds(text) {
 }
 
 class Stage {
-  constructor(file, words) {
-    Object.assign(this, { file, words, steps: [], ticks: 10000, clock: 0, prims: 1, people: new Map(), by: null });
+  constructor(file, words, due) {
+    Object.assign(this, { file, words, due, steps: [], ticks: 10000, clock: 0, prims: 1, people: new Map(), by: null });
     this.owner = this.keyOf("Owner");
     this.run();
   }
@@ -55,6 +56,7 @@ class Stage {
     if (word === "" || word.startsWith("#")) return;
     if (word === "by") this.by = rest || null;
     else if (word === "run") this.ticks = this.number(rest, "run");
+    else if (word === "wait" || word === "after") this.wait(this.clock + milliseconds(rest || "1s"));
     else {
       this.steps.push(this.step(word, rest));
       this.run();
@@ -64,12 +66,24 @@ class Stage {
   step(word, rest) {
     if (word === "touch") return this.touch(rest);
     if (word === "say") return this.say(rest);
-    if (word === "wait" || word === "after") {
-      this.clock = Math.min(this.clock + milliseconds(rest || "1s"), MOST_CLOCK);
-      return `clock ${this.clock}`;
-    }
     if (word === "changed" || word === "rez") return `${word} 1 ${this.number(rest, word)}`;
     throw new BadStep(`'${word}' is no step`);
+  }
+
+  // The clock goes on from one moment at which a timer is due or a script wakes to the next.
+  wait(end) {
+    for (let count = 0; count < MOST_WAITS; count++) {
+      const due = this.due(this.text()).filter(it => this.clock < it && it < end);
+      if (!due.length) break;
+      this.goTo(Math.min(...due));
+    }
+    this.goTo(end);
+  }
+
+  goTo(clock) {
+    this.clock = Math.min(clock, MOST_CLOCK);
+    this.steps.push(`clock ${this.clock}`);
+    this.run();
   }
 
   touch(rest) {
@@ -97,9 +111,10 @@ class Stage {
   }
 }
 
-// The world file in which one script goes through these steps. `words` is the table of steps.
-export function stagedWorld(file, lines, words) {
-  const stage = new Stage(file, words);
+// The world file in which one script goes through these steps. `words` is the table of steps; `due` gives the moments,
+// in milliseconds, at which something is due after the steps of a world file.
+export function stagedWorld(file, lines, words, due = () => []) {
+  const stage = new Stage(file, words, due);
   for (const [at, line] of lines.split("\n").entries()) {
     try {
       stage.read(line);

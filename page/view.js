@@ -12,7 +12,9 @@ const FOUND = 30;
 const counted = (count, noun) => `${count.toLocaleString("en")} ${noun}${count === 1 ? "" : "s"}`;
 
 export class View {
-  constructor() {
+  // `picked` is called with the first line of what is picked.
+  constructor(picked = () => {}) {
+    this.picked = picked;
     this.canvas = at("canvas");
     this.chart = null;
     this.lines = new Rows(at("lines"), row => this.row(row));
@@ -49,6 +51,13 @@ export class View {
     this.drawing = new Drawing(this.chart);
   }
 
+  // Marks a moment: how many lines there are by then, and whose it is; or none.
+  follow(moment) {
+    this.moment = moment;
+    if (moment && this.chart) this.pointing.show({ first: moment.line, script: Math.max(moment.script, 1) });
+    this.again();
+  }
+
   again() {
     if (!this.chart || this.isWaiting) return;
     this.isWaiting = true;
@@ -57,7 +66,7 @@ export class View {
       this.chart.measure();
       if (!this.chart.width || !this.chart.height) return;
       this.chart.clamp();
-      this.drawing.draw();
+      this.drawing.draw(this.moment);
     });
   }
 
@@ -80,6 +89,7 @@ export class View {
   pick(found, isShown, picked = found.first) {
     this.found = found;
     this.chart.picked = picked;
+    if (picked >= 0) this.picked(picked);
     this.say(found.text.replaceAll("\n", "; "));
     if (isShown) this.showPicked();
     this.again();

@@ -1,6 +1,7 @@
 // Runs requests apart from the page, which stays usable meanwhile and may end this worker. It reads the journals too,
 // and hands over what is shown of them: to the page, and through a port to the frame of the timeline. Two such workers
 // share a world's runs, and hear one another through a port.
+import { Core, hasCore } from "./core.js";
 import { Lsl } from "./lsl.js";
 import { withoutMarks, markedWorld } from "./marks.js";
 import { frontOf, outcomeOf } from "./outcome.js";
@@ -8,6 +9,7 @@ import { handOver } from "./pieces.js";
 import { linesOf, probedFiles } from "./probes.js";
 import { refusalsOf } from "./refusals.js";
 import { NO_STEPS, sceneOf, stepsOf } from "./scene.js";
+import { stagedWorld } from "./stage.js";
 import { readWorld } from "./worlds.js";
 
 const MOST_LINES = 500000;
@@ -48,9 +50,29 @@ function allFaults(head, files, scripts) {
   return lines.length ? lines : [head];
 }
 
+// The world file of steps, with the clock going from one moment at which something is due to the next.
+function worldOf({ file, steps, words }, files) {
+  if (!hasCore(lsl.module)) return stagedWorld(file, steps, words);
+  return stagedWorld(file, steps, words, world => new Core(lsl).due(files, world));
+}
+
+function stage({ files, stage: asked }, answer) {
+  answer({ kind: "staged", world: worldOf(asked, files) });
+}
+
+// A request whose world is made of steps gets that of the clock's own way.
+function staged(asked) {
+  if (!asked.stage) return {};
+  const world = worldOf(asked.stage, asked.files);
+  return { world, files: asked.files.map(([name, text]) => [name, name === asked.file ? world : text]) };
+}
+
 // Runs a request, and says what became of it; then hands over the front of its journal.
-function run({ number, word, file, files, world }, answer, tell) {
+function run({ number, ...asked }, answer, tell) {
   const start = performance.now();
+  const made = staged(asked);
+  const { word, file, files, world } = { ...asked, ...made };
+  if (world !== undefined && word !== "freeze") peer.postMessage({ number, task: "mark", files, world });
   const { status, output } = lsl.run(word, file, files);
   last = { number, output, files, world, front: frontOf(output, MOST_LINES, MOST_BYTES) };
   const [outcome, milliseconds] = [outcomeOf(output), performance.now() - start];
@@ -58,7 +80,7 @@ function run({ number, word, file, files, world }, answer, tell) {
   const head = last.front.slice(0, HEAD);
   const scripts = named.scripts.length ? named.scripts : [file];
   const heads = status === REFUSED ? allFaults(head, files, scripts) : [head];
-  answer({ kind: "ran", status, outcome, size: output.length, milliseconds, head, heads, named });
+  answer({ kind: "ran", status, outcome, size: output.length, milliseconds, head, heads, named, staged: made });
   last.isDrawn = world !== undefined && !UNDRAWN.includes(status);
   if (!last.isDrawn) return;
   const scene = sceneOf(last.front, world, structuredClone(NO_STEPS));
@@ -113,7 +135,7 @@ function save(_, answer) {
   answer({ kind: "saved", file: new Blob([last.output ?? ""], { type: "text/plain" }) });
 }
 
-const TASKS = { run, mark, addSteps, find, locate, save };
+const TASKS = { run, stage, mark, addSteps, find, locate, save };
 
 // Does a task, and answers with its number and what came of it.
 function take({ data: { number, task, ...asked } }) {

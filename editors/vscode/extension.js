@@ -89,7 +89,21 @@ class Extension {
       workspace.onDidSaveTextDocument(this.noticed('textDocument/didSave')),
       workspace.onDidCloseTextDocument(this.noticed('textDocument/didClose')),
       vscode.commands.registerCommand('lsl.play', (uri) => this.play(uri)),
+      vscode.commands.registerCommand('lsl.debug', (uri, words) => this.debug(uri, words)),
+      vscode.debug.registerDebugAdapterDescriptorFactory('lsl', {
+        createDebugAdapterDescriptor: () => new vscode.DebugAdapterExecutable(program(), ['debug', '--adapter']),
+      }),
+      vscode.debug.registerDebugConfigurationProvider('lsl', { resolveDebugConfiguration: configured }),
     );
+  }
+
+  // Debugs a file, with the words of `lsl play` for what happens to it.
+  async debug(uri, words) {
+    const document = vscode.workspace.textDocuments.find((it) => it.uri.toString() === uri);
+    if (document?.isDirty) await document.save();
+    const program = vscode.Uri.parse(uri).fsPath;
+    const asked = { type: 'lsl', request: 'launch', name: path.basename(program), program, args: words ?? [] };
+    await vscode.debug.startDebugging(vscode.workspace.workspaceFolders?.[0], asked);
   }
 
   // Plays a file in a terminal, where one can type what happens to it.
@@ -106,6 +120,14 @@ class Extension {
     this.isClosed = true;
     await this.connection.close();
   }
+}
+
+// What is debugged where nothing is configured: the file in the editor, in the workspace's folder.
+function configured(folder, config) {
+  const document = vscode.window.activeTextEditor?.document;
+  const file = LANGUAGES.includes(document?.languageId) ? document.uri.fsPath : undefined;
+  const asked = { type: 'lsl', request: 'launch', name: 'LSL', program: file, ...config };
+  return asked.program && { cwd: folder?.uri.fsPath, ...asked };
 }
 
 function plain({ start, end }) {

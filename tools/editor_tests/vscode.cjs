@@ -58,6 +58,11 @@ const vscode = new Proxy({
     showErrorMessage: (it) => say('error', it), showWarningMessage: (it) => say('warning', it),
     createTerminal: (it) => { shown.push(it); return { show() {} }; },
   },
+  debug: {
+    registerDebugAdapterDescriptorFactory: (type, it) => { handlers[`adapter ${type}`] = it; return { dispose() {} }; },
+    registerDebugConfigurationProvider: (type, it) => { handlers[`configure ${type}`] = it; return { dispose() {} }; },
+    startDebugging: async (folder, asked) => { shown.push(asked); return true; },
+  },
   commands: { registerCommand: (name, handler) => { handlers[name] = handler; return { dispose() {} }; } },
 }, { get: (own, name) => own[name] ?? Holder });
 
@@ -127,9 +132,18 @@ async function play() {
   const options = { tabSize: 4, insertSpaces: true };
   const typed = await providers.provideOnTypeFormattingEdits(document, at(12, 1), '}', options);
   say('typed', typed[0].range.start.line, JSON.stringify(typed[0].newText));
-  const [lens] = await providers.provideCodeLenses(document);
-  await handlers[lens.given[1].command](...lens.given[1].arguments);
+  const lenses = (await providers.provideCodeLenses(document)).map((it) => it.given[1]);
+  const [lens] = lenses;
+  await handlers[lens.command](...lens.arguments);
   say('played', path.basename(shown[0].shellPath), shown[0].shellArgs[0], path.basename(shown[0].shellArgs[1]));
+  const touched = lenses.find((it) => it.command === 'lsl.debug' && it.arguments[1].length > 0);
+  await handlers[touched.command](...touched.arguments);
+  say('debugged', shown[1].type, path.basename(shown[1].program), shown[1].args.join(' '));
+  const { given } = handlers['adapter lsl'].createDebugAdapterDescriptor();
+  say('adapter', path.basename(given[0]), given[1].join(' '));
+  const [root] = vscode.workspace.workspaceFolders;
+  const asked = handlers['configure lsl'].resolveDebugConfiguration(root, { program: 'a' });
+  say('configured', asked.type, asked.program, asked.cwd === room);
   handlers.close(document);
   await extension.deactivate();
   say('ended');

@@ -1,12 +1,15 @@
 """The checks of the language server in real editors, with the configurations of docs/EDITORS.md."""
+import contextlib
 import os
 import re
 import shutil
 import subprocess
 import tempfile
+from unittest import mock
 
 from . import places
 from .checking import Failed, Skipped, check, need
+from .debug_checks import environment
 from .server_checks import binary
 
 TRIALS = places.in_top("tools", "editor_tests")
@@ -44,6 +47,13 @@ def need_lines(said, *wanted):
 def need_editor(name):
     if shutil.which(name) is None:
         raise Skipped(f"there is no {name}")
+
+
+@contextlib.contextmanager
+def the_core():
+    """Has the debugger's core in the environment, which is made first where need be."""
+    with mock.patch.dict(os.environ, environment()):
+        yield
 
 
 FAULT = "no such variable, function or state"
@@ -91,6 +101,14 @@ def emacs_uses_the_server_by_lsp_mode():
 
 
 @check
+def emacs_debugs_by_dap_mode():
+    need_editor("emacs")
+    with the_core():
+        said = emacs(block("elisp", "dap-mode"), "dap_mode.el")
+    need_lines(said, "stopped true", "stopped at (touch_start 10)", "step at (touch_start 11)", "next at (", "ended true")
+
+
+@check
 def vim_uses_the_server_by_ale():
     need_editor("vim")
     with tempfile.TemporaryDirectory() as room:
@@ -112,4 +130,5 @@ def the_extension_for_vs_code_uses_the_server():
     need_lines(said, "references 3", "completion llSay(${1:channel}, ${2:msg})$0")
     need_lines(said, "rename string words(integer number) {", "calls touch_start 2", 'typed 12 "    "')
     need_lines(said, "refused llSay is a call of the language", "symbols count words default", "tokens 0", "ended")
+    need_lines(said, "debugged lsl trial.lsl --touch Someone", "adapter lsl debug --adapter", "configured lsl a true")
     need_lines(said, "played lsl play trial.lsl", 'formatted "        llOwnerSay(words(count));"')

@@ -8,6 +8,7 @@ import sys
 import tempfile
 
 from . import about, faults, kit, making, playing, program, showing, stage, standing, streams, talking, worlds
+from .debugger import starting
 from .places import in_top, write_text
 
 USAGE = """\
@@ -22,6 +23,7 @@ usage: lsl once FILE                runs a script, and prints its journal
        lsl check FILE               says that a script is accepted, or prints its first fault
                                     with --explain a refusal is said in words, as on a terminal
        lsl play FILE ..             plays scripts without a world file, or goes on after one: 'lsl play --help'
+       lsl debug WORLD              shows a run statement by statement, forwards and backwards: 'lsl debug --help'
        lsl server                   answers an editor, by the Language Server Protocol
 {of_checkout}       lsl --version                which program runs: its version and commit, whether it is proved, its kit
        lsl --help
@@ -142,6 +144,8 @@ def answer(words, how):
         return tell_version(how)
     if words[:1] == ["server"]:
         os.execv(sys.executable, [sys.executable, in_top("tools", "lsl-server"), *words[1:]])
+    if words[:1] == ["debug"]:
+        return starting.main(words[1:])
     try:
         command = playing.Play(words[1:]) if words[:1] == ["play"] else Options(words) if words else None
     except (Bad, stage.Bad) as error:

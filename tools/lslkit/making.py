@@ -8,26 +8,27 @@ from .places import in_top
 from .progress import Progress
 
 PROGRAM = "lsl"
+DEBUGGER = "lsl_debug"
 PROVED = in_top("out", "lsl")
 UNPROVED = in_top("out", "lsl-unproved")
 BROKEN = f"this package isn't whole: {about.PROGRAM} is missing, or can't be run"
 
 
-def is_fresh(binary):
-    """Whether a program was made of the sources as they are."""
-    return sources.Stamp(PROGRAM, binary).is_fresh()
+def is_fresh(binary, crate=PROGRAM):
+    """Whether a program was made of the sources of its crate as they are."""
+    return sources.Stamp(crate, binary).is_fresh()
 
 
-def made(binary, make, proof):
-    """The path of a program, made anew where a source changed."""
-    if is_fresh(binary):
+def made(binary, make, proof, crate=PROGRAM):
+    """The path of a program, made anew where a source of its crate changed."""
+    if is_fresh(binary, crate):
         return binary
     kit.need()
     with building.room(os.path.basename(binary), "lsl") as room:
         # Another call may have made it meanwhile.
-        if not is_fresh(binary):
-            stamp = sources.Stamp(PROGRAM, binary)
-            total, newest, said = sources.sum_of(PROGRAM), sources.newest_of(PROGRAM), about.of_sources(proof)
+        if not is_fresh(binary, crate):
+            stamp = sources.Stamp(crate, binary)
+            total, newest, said = sources.sum_of(crate), sources.newest_of(crate), about.of_sources(proof)
             new = make(room)
             stamp.remove()
             about.write(f"{binary}.about", said)
@@ -43,6 +44,28 @@ def make_unproved(room):
         binary = unproved.make(PROGRAM, room, progress)
         progress.end("compiled the program without its proofs", f"; {hint}")
     return binary
+
+
+def make_debugger(room):
+    """Compiles the debugger's core without its proofs, and says so."""
+    doing = "compiling the debugger without its proofs"
+    with Progress("lsl", f"{doing}, in a minute or two", doing) as progress:
+        binary = unproved.make(DEBUGGER, room, progress)
+        progress.end("compiled the debugger without its proofs")
+    return binary
+
+
+def debugger():
+    """The path of the debugger's core: the one that the environment names, a proved one that was made of the sources as
+    they are, or else one without proofs."""
+    if os.environ.get("LSL_DEBUG_PROGRAM"):
+        return os.environ["LSL_DEBUG_PROGRAM"]
+    if about.is_package():
+        raise kit.NotMade("this package has no debugger")
+    proved = in_top("out", DEBUGGER)
+    if is_fresh(proved, DEBUGGER):
+        return proved
+    return made(in_top("out", f"{DEBUGGER}-unproved"), make_debugger, about.UNPROVED, DEBUGGER)
 
 
 def proved_program():

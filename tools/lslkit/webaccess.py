@@ -22,6 +22,7 @@ def states(page):
     """The page in each of its states, by their names."""
     page.example("door")
     yield "a world"
+    page.tab.click("#side-output")
     page.tab.click("#builder summary")
     page.value("new Promise(done => setTimeout(() => done(true), 300))")
     yield "the forms"

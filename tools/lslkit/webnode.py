@@ -225,8 +225,9 @@ def faults_are_told_as_by_lslkit():
 
 
 SEVERAL = (
-    'f() {\n  return "\u00e4" + b;\n}\ndefault {\n  state_entry() { llSay(0, "\u00e9" c); }\n  timer() { llAbs(c); }\n}\n',
-    "default {\n  touch_start(integer n) { n = 1 }\n  state_entry() { jump a; }\n  timer() { }\n  timer() { f(); }\n}\n",
+    'f() {\n  return "\u00e4" + b;\n}\ndefault {\n  state_entry() { llSay(0, "\u00e9" c); }\n'
+    "  timer() { llAbs(c); }\n}\n",
+    "default {\n  touch_start(integer n) { n = 1 }\n  state_entry() { jump a; }\n  timer() { f(); }\n}\n",
     "integer a = b;\ndefault { state_entry() { c; } }\n",
 )
 

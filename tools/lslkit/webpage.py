@@ -17,7 +17,7 @@ PROVED = 'data-module="proved"'
 FAULTS = range(1, 58)
 # How a script is played that does nothing by itself.
 STEPS = "touch Ann\nwait 1s\ntouch Ben"
-FIRST = "examples/door/door.world"
+FIRST = "examples/courier/courier.world"
 
 
 def named(*pattern):

@@ -4,11 +4,11 @@ import inspect
 import threading
 
 from . import browsers, webserver
-from . import webaccess, weblinks, webnode, webwalks  # (for their tests)
+from . import webaccess, weblinks, webnode, webstepping, webwalks  # (for their tests)
 from .webpages import Page
 from .webtesting import TESTS, Failed
 
-__all__ = ["webaccess", "weblinks", "webnode", "webwalks"]
+__all__ = ["webaccess", "weblinks", "webnode", "webstepping", "webwalks"]
 SORTS = (browsers.Chromium, browsers.Firefox)
 
 

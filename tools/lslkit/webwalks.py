@@ -276,6 +276,7 @@ def worlds_are_built_by_forms(page):
 def a_world_is_frozen(page):
     page.fresh()
     page.example("door")
+    page.tab.click("#side-output")
     page.tab.click("input[value=freeze]")
     page.click_run()
     need(page.status == "finished" and page.text("save") == "Save the frozen world", "it is", page.status)

@@ -1,2 +1,1 @@
 pub mod Notice
-pub mod Words

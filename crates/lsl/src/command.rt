@@ -1,6 +1,6 @@
 //! A command over any outside: what it does, what is said of how it ended, and the process's status.
 
-ghost use Rattle.std.specs.Prelude.{◌≡◌, ◌⊎◌, if◌then◌else◌};
+ghost use Rattle.std.specs.Prelude.{◌≡◌, ◌⊎◌};
 ghost use Rattle.std.specs.Process.{exit_status};
 ghost use Rattle.lsl_ports.specs.Counts.{Rose};
 ghost use Rattle.lsl_ports.specs.Growth.{Grew};
@@ -8,17 +8,19 @@ ghost use Rattle.lsl_top.specs.Ends.{EndsAs, outside};
 ghost use Rattle.lsl_top.specs.Status.{number_of};
 ghost use Rattle.lsl_top.specs.Words.{command_of};
 ghost use Rattle.lsl_top.specs.declared.status.Status.{Status as Ended};
-ghost use Rattle.lsl_top.specs.declared.status.Status.TheVariants.{NoMemory};
-ghost use Rattle.lsl.specs.Notice.{IsTold, file_in, meaning_of, no_words};
+ghost use Rattle.lsl.specs.Notice.{file_in, usage};
+ghost use Rattle.lsl_system.specs.Notice.{IsTold};
 
-use crate::notice::{named_file, say, say_no_words};
+use crate::naming::named_file;
 use lsl_ports::{Link, Shelf, Sink};
+use lsl_system::say;
 use lsl_top::{Status, lsl};
 use std::alloc::Global;
 use std::process::ExitCode;
 
-/// How the process ends where the system doesn't give the words. No status has this number.
-const NO_WORDS: u8 = 9;
+const USAGE: &str =
+    "usage: lsl once FILE | check FILE | replay [--lossy] WORLD | freeze WORLD | thaw FROZEN WORLD \
+        | view FROZEN WORLD | make NUMBER\n";
 
 /// Does what the words ask for over this outside. Where it doesn't end well, one line on the notes
 /// says how. The process ends with the number of the command's status. It takes memory for the
@@ -40,23 +42,9 @@ pub fn run<S: Shelf, K: Sink, L: Link, N: Sink>(
     // The line of that status was said, but where the notes failed.
     ensures told { (status : Ended) → exit_status result ≡ number_of status
         → Rose (N.faults notes.old) (N.faults notes.new)
-        ⊎ IsTold status (file_in status words.now) (N.sunk notes.old) (N.sunk notes.new) }
+        ⊎ IsTold usage status (file_in status words.now) (N.sunk notes.old) (N.sunk notes.new) }
 {
     let status = lsl(alloc, words, shelf, sink, link);
-    say(status, named_file(status, words), notes);
+    say(USAGE, status, named_file(status, words), notes);
     ExitCode::from(status.number())
-}
-
-/// Says that the words of the command weren't given, for want of memory or since one is no text.
-pub fn refuse_words<N: Sink>(lacks_memory: bool, notes: &mut N) -> ExitCode
-    ensures status { exit_status result ≡ if lacks_memory then number_of NoMemory else 9 }
-    ensures told { Rose (N.faults notes.old) (N.faults notes.new)
-        ⊎ Grew (N.sunk notes.old) (N.sunk notes.new) (if lacks_memory then meaning_of NoMemory else no_words) }
-{
-    say_no_words(lacks_memory, notes);
-    ExitCode::from(if lacks_memory {
-        Status::NoMemory.number()
-    } else {
-        NO_WORDS
-    })
 }

@@ -3,20 +3,13 @@
 #![tactic(auto)]
 
 mod command;
-mod copying_link;
-mod counting;
-mod file_shelf;
-mod notice;
-mod output_sink;
+mod naming;
 #[cfg(test)]
 mod tests;
 mod words;
 
-use file_shelf::FileShelf;
-use output_sink::OutputSink;
+use lsl_system::{FileShelf, OutputSink, command_line};
 use std::process::ExitCode;
-use std::rt::Env;
-use std::{env, io};
 use words::start;
 
 fn main(rt: HostRuntime) -> ExitCode {
@@ -27,9 +20,4 @@ fn main(rt: HostRuntime) -> ExitCode {
         &mut OutputSink::new(rt.stdout(), &rt),
         &mut OutputSink::new(rt.stderr(), &rt),
     )
-}
-
-/// All words of the command line, the program's name first.
-fn command_line<R: Env + AllocGlobal>(rt: &R) -> io::Result<Vec<String>> {
-    Ok(env::args(rt)?.collect::<Vec<String>>(rt.alloc())?)
 }

@@ -1,6 +1,6 @@
 //! A command line that the system gives, or doesn't.
 
-ghost use Rattle.std.specs.Prelude.{◌≡◌, ◌≢◌, ◌⊎◌, false, true, drop, IfErr, IfOk, None};
+ghost use Rattle.std.specs.Prelude.{◌≡◌, ◌⊎◌, drop, IfErr, IfOk, None};
 ghost use Rattle.std.specs.IoError.{error_kind};
 ghost use Rattle.std.specs.Process.{exit_status};
 ghost use Rattle.lsl_ports.specs.Counts.{Rose};
@@ -9,15 +9,15 @@ ghost use Rattle.lsl_top.specs.Laws.{copies};
 ghost use Rattle.lsl_top.specs.Status.{number_of};
 ghost use Rattle.lsl_top.specs.Words.{command_of};
 ghost use Rattle.lsl_top.specs.declared.status.Status.{Status as Ended};
-ghost use Rattle.lsl.specs.Notice.{IsTold, file_in};
-ghost use Rattle.lsl.specs.Words.{IsRefusal, IsRefusalTold};
+ghost use Rattle.lsl.specs.Notice.{file_in, usage};
+ghost use Rattle.lsl_system.specs.Notice.{IsTold};
+ghost use Rattle.lsl_system.specs.Words.{IsRefusal, IsRefusalTold};
 
-use crate::command::{refuse_words, run};
-use crate::copying_link::CopyingLink;
+use crate::command::run;
 use lsl_ports::{Shelf, Sink};
+use lsl_system::{CopyingLink, behind_name, refuse_words};
 use std::alloc::Global;
 use std::io;
-use std::io::ErrorKind;
 use std::process::ExitCode;
 
 /// Does what the words behind the program's name ask for, as `run` does, or says why the system gave none. Each
@@ -36,7 +36,7 @@ pub fn start<S: Shelf, K: Sink, N: Sink>(
     // The line of that status was said, but where the notes failed.
     ensures told { IfOk line (λ line. (status : Ended) → exit_status result ≡ number_of status
         → Rose (N.faults notes.old) (N.faults notes.new)
-        ⊎ IsTold status (file_in status (drop 1 line.items)) (N.sunk notes.old) (N.sunk notes.new)) }
+        ⊎ IsTold usage status (file_in status (drop 1 line.items)) (N.sunk notes.old) (N.sunk notes.new)) }
     // Where they aren't, it ends with 7 for want of memory, and else with 9.
     ensures refused { IfErr line (λ error. IsRefusal (error_kind error) (exit_status result)) }
     // The line of that was said, but where the notes failed.
@@ -52,27 +52,6 @@ pub fn start<S: Shelf, K: Sink, N: Sink>(
             &mut CopyingLink,
             notes,
         ),
-        Err(error) => refuse_words(lacks_memory(&error), notes),
-    }
-}
-
-/// The words of a command line behind the program's name.
-fn behind_name(line: &[String]) -> &[String]
-    ensures { result.now ≡ drop 1 line.now }
-{
-    match line {
-        [_, words @ ..] => words,
-        [] => line,
-    }
-}
-
-/// Whether it was memory that lacked for the words.
-fn lacks_memory(error: &io::Error) -> bool
-    ensures yes { result ≡ true → error_kind error.now ≡ ErrorKind.OutOfMemory }
-    ensures no { result ≡ false → error_kind error.now ≢ ErrorKind.OutOfMemory }
-{
-    match error.kind() {
-        ErrorKind::OutOfMemory => true,
-        _ => false,
+        Err(error) => refuse_words(&error, notes),
     }
 }

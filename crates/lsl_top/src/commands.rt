@@ -17,6 +17,7 @@ use crate::making::make;
 use crate::modes::Mode;
 use crate::once::once_world;
 use crate::play::Play;
+use crate::positions::cut_at;
 use crate::preparing::{Unfit, prepare};
 use crate::reading::{file_names, name_at, read_play, read_script};
 use crate::running::run_cast;
@@ -26,7 +27,7 @@ use crate::writing::{status_after, write_line};
 use lsl_build::accept;
 use lsl_lines::{WorldFile, read_world};
 use lsl_ports::{Link, Shelf, ShelfFault, Sink, read_all};
-use lsl_text::Refusal;
+use lsl_text::{NoMemory, Refusal};
 use std::alloc::Global;
 
 /// How many bytes of a world file are read, but for one more, which shows that it is too long.
@@ -72,6 +73,7 @@ pub fn serve<S: Shelf, K: Sink, L: Link>(
             link,
         ),
         Command::Make(number) => make(alloc, number, sink, link),
+        Command::State(at, file) => replay(alloc, Mode::Standing(at), file, shelf, sink, link),
     }
 }
 
@@ -172,7 +174,10 @@ pub fn replay<S: Shelf, K: Sink, L: Link>(
         Err(fault) => return unread(fault),
     };
     match read_world(alloc, text.as_slice()) {
-        Ok(world) => play_world(alloc, mode, &world, shelf, sink, link),
+        Ok(world) => match played(mode, world) {
+            Ok(world) => play_world(alloc, mode, &world, shelf, sink, link),
+            Err(_) => Status::NoMemory,
+        },
         Err(Refusal::Fault(fault)) => {
             status_after(
                 write_line(world_refusal(alloc, name, &fault), sink),
@@ -180,6 +185,19 @@ pub fn replay<S: Shelf, K: Sink, L: Link>(
             )
         }
         Err(Refusal::NoMemory) => Status::NoMemory,
+    }
+}
+
+/// A world file as it is played: up to the position that is asked for.
+fn played(mode: Mode<'_>, file: WorldFile) -> Result<WorldFile, NoMemory> {
+    match mode {
+        Mode::Standing(Some(at)) => cut_at(at, file),
+        Mode::Standing(None) => Ok(file),
+        Mode::Whole => Ok(file),
+        Mode::Handing => Ok(file),
+        Mode::Freezing => Ok(file),
+        Mode::Thawing(_) => Ok(file),
+        Mode::Viewing(_) => Ok(file),
     }
 }
 

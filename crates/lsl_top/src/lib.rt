@@ -23,6 +23,7 @@ mod modes;
 mod noting;
 mod once;
 mod play;
+mod positions;
 mod preparing;
 mod reading;
 mod report;
@@ -32,8 +33,9 @@ mod words;
 mod writing;
 
 use crate::commands::serve;
+pub use crate::positions::Position;
 pub use crate::status::Status;
-use crate::words::parse_words;
+use crate::words::{Command, parse_words};
 use lsl_ports::{Link, Shelf, Sink};
 use std::alloc::Global;
 
@@ -101,4 +103,18 @@ pub fn lsl<S: Shelf, K: Sink, L: Link>(
         None => Status::Usage,
         Some(command) => serve(alloc, command, shelf, sink, link),
     }
+}
+
+/// Runs a world file up to a position, or to the end of its steps, writes the journal of that, and then all that the
+/// world holds there, in lines of its objects and scripts. It answers how that ended, as `lsl` does, and reads, builds
+/// and runs the same files in the same order. The words of `lsl` don't ask for it.
+pub fn state<S: Shelf, K: Sink, L: Link>(
+    alloc: Global,
+    at: Option<Position>,
+    file: &str,
+    shelf: &mut S,
+    sink: &mut K,
+    link: &mut L,
+) -> Status {
+    serve(alloc, Command::State(at, file), shelf, sink, link)
 }

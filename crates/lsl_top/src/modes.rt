@@ -1,12 +1,17 @@
 //! How a world is played.
 
+use crate::positions::Position;
+use lsl_view::Names;
+
 /// What is told at the end of a run.
 #[derive(Clone, Copy)]
-pub enum Last {
+pub enum Last<'a> {
     /// Where each object is.
     Homes,
     /// The world, frozen.
     Frozen,
+    /// All that the world holds, with these names.
+    Standing(&'a Names),
 }
 
 /// From where a world is played, and what is told at its end.
@@ -18,6 +23,8 @@ pub enum Mode<'a> {
     Handing,
     /// From the file's start, and then the world is frozen.
     Freezing,
+    /// From the file's start up to a position, or to the end of the steps, and then it is told what the world holds.
+    Standing(Option<Position>),
     /// From the frozen world of the file of this name, and then it is told where each object is.
     Thawing(&'a str),
     /// It isn't run: of the frozen world of the file of this name it is shown where its scripts stand.

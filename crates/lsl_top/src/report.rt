@@ -27,6 +27,7 @@ use lsl_lines::{Step, push_frozen};
 use lsl_ports::{Link, Sink};
 use lsl_post::Entries;
 use lsl_text::NoMemory;
+use lsl_view::{Names, state};
 use lsl_world::World;
 use std::alloc::Global;
 
@@ -196,10 +197,22 @@ fn write_frozen<K: Sink>(alloc: Global, world: &World, sink: &mut K) -> Result<(
     write_bytes(line.as_slice(), sink)
 }
 
+/// Writes all that the world holds.
+fn write_standing<K: Sink>(
+    alloc: Global,
+    names: &Names,
+    world: &World,
+    sink: &mut K,
+) -> Result<(), Trouble> {
+    let parts = world.parts()?;
+    let lines = state(alloc, &parts, names, world.units())?;
+    write_bytes(lines.as_slice(), sink)
+}
+
 /// Writes what is told at the end.
 fn write_last<K: Sink>(
     alloc: Global,
-    last: Last,
+    last: Last<'_>,
     world: &World,
     sink: &mut K,
 ) -> Result<(), Trouble>
@@ -215,13 +228,14 @@ fn write_last<K: Sink>(
     match last {
         Last::Homes => write_homes(alloc, world, sink),
         Last::Frozen => write_frozen(alloc, world, sink),
+        Last::Standing(names) => write_standing(alloc, names, world, sink),
     }
 }
 
 /// Runs a world, and writes its journal and what is told at its end.
 pub fn write_run<K: Sink, L: Link>(
     alloc: Global,
-    last: Last,
+    last: Last<'_>,
     world: World,
     steps: &[Step],
     sink: &mut K,

@@ -37,11 +37,12 @@ use crate::preparing::Cast;
 use crate::report::write_run;
 use crate::status::Status;
 use crate::writing::{status_after, write_line};
+use lsl_code::Sequence;
 use lsl_image::ImageFault;
 use lsl_lines::{WorldFile, take_frozen};
 use lsl_ports::{Link, Sink};
 use lsl_text::{NoMemory, Refusal};
-use lsl_view::{script_names, view};
+use lsl_view::{Names, global_names, script_names, view};
 use lsl_world::World;
 use std::alloc::Global;
 
@@ -67,6 +68,7 @@ pub fn run_cast<K: Sink, L: Link>(
         Mode::Whole => run_started(alloc, Last::Homes, play.world, cast, sink, link),
         Mode::Handing => run_lossy(alloc, play.world, cast, sink, link),
         Mode::Freezing => run_started(alloc, Last::Frozen, play.world, cast, sink, link),
+        Mode::Standing(_) => run_standing(alloc, play, cast, sink, link),
         Mode::Thawing(name) => run_thawed(alloc, name, play, cast, sink, link),
         Mode::Viewing(name) => show_frozen(alloc, name, play, cast, sink),
     }
@@ -75,7 +77,7 @@ pub fn run_cast<K: Sink, L: Link>(
 /// Runs a world from its file's start.
 fn run_started<K: Sink, L: Link>(
     alloc: Global,
-    last: Last,
+    last: Last<'_>,
     file: &WorldFile,
     cast: Cast,
     sink: &mut K,
@@ -96,6 +98,33 @@ fn run_started<K: Sink, L: Link>(
         ),
         Err(_) => Status::NoMemory,
     }
+}
+
+/// Runs a world from its file's start, and tells what it holds then.
+fn run_standing<K: Sink, L: Link>(
+    alloc: Global,
+    play: &Play<'_>,
+    cast: Cast,
+    sink: &mut K,
+    link: &mut L,
+) -> Status {
+    match names_of(alloc, play) {
+        Ok(names) => run_started(alloc, Last::Standing(&names), play.world, cast, sink, link),
+        Err(_) => Status::NoMemory,
+    }
+}
+
+/// The names of a play's scripts, and of the globals of their texts.
+fn names_of(alloc: Global, play: &Play<'_>) -> Result<Names, NoMemory> {
+    let scripts = script_names(alloc, play.world)?;
+    let mut globals = Sequence::new(alloc);
+    for text in play.texts.as_slice() {
+        globals.push(global_names(alloc, text.as_slice())?)?;
+    }
+    Ok(Names {
+        scripts: Sequence::from_vec(scripts),
+        globals,
+    })
 }
 
 /// Runs a world from its file's start, where objects are handed over by notes.

@@ -3,6 +3,7 @@ ghost use Rattle.std.specs.Prelude.{◌≡◌};
 ghost use Rattle.lsl_top.specs.Words.{command_named, command_of, command_of_lossy, command_of_two, is_number_of, names_file, number_in};
 ghost use Rattle.lsl_top.specs.Meant.{meant_by};
 
+use crate::positions::Position;
 use itoa::Buffer;
 
 /// What the words ask for, with the file or the number that they name.
@@ -24,6 +25,9 @@ pub enum Command<'a> {
     View(&'a str, &'a str),
     /// Runs the world that is made of a number.
     Make(u32),
+    /// Runs a world file up to a position, or to the end of its steps, and tells what the world holds there. No words of
+    /// `lsl` ask for it.
+    State(Option<Position>, &'a str),
 }
 
 fn names_file(word: &str) -> bool

@@ -7,4 +7,5 @@ pub mod CodeNames
 mod Order
 mod Places
 mod Source
+pub mod Stepping
 mod Written

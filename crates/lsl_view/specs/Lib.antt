@@ -1,7 +1,10 @@
 pub mod Calls
+pub mod Globals
 pub mod Laws
 pub mod Lines
 pub mod Names
 pub mod Parts
 pub mod Source
+pub mod State
+pub mod StateParts
 pub mod Values

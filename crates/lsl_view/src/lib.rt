@@ -4,12 +4,20 @@
 #![tactic(auto)]
 
 mod calls;
+mod globals;
+mod holding;
+mod known;
 pub mod laws;
+mod mailbox;
 mod names;
 mod scripts;
+mod standing;
 mod values;
 mod viewing;
 mod words;
 
+pub use crate::globals::global_names;
+pub use crate::known::{NameList, Names};
 pub use crate::names::script_names;
+pub use crate::standing::state;
 pub use crate::viewing::view;

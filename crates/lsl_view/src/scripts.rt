@@ -77,7 +77,8 @@ fn push_calls_of(out: &mut Vec<u8>, rest: &Rest, unit: &Woven) -> Result<(), NoM
     }
 }
 
-fn rest_word(rest: &Rest) -> &'static str
+/// What a script rests in, as a word.
+pub fn rest_word(rest: &Rest) -> &'static str
     ensures { result.now ≡ rest_word rest.now }
 {
     match rest {

@@ -19,7 +19,8 @@ pub fn push_values(out: &mut Vec<u8>, values: &[Value]) -> Result<(), NoMemory>
     Ok(())
 }
 
-fn push_value(out: &mut Vec<u8>, value: &Value) -> Result<(), NoMemory>
+/// Appends a value.
+pub fn push_value(out: &mut Vec<u8>, value: &Value) -> Result<(), NoMemory>
     ensures { OnOk result (out.new.items ≡ out.old.items ++ value_word value.now) }
 {
     match value {

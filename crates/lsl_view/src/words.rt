@@ -1,11 +1,13 @@
 //! The words of a line, each behind a space.
 
-ghost use Rattle.std.specs.Prelude.{◌≡◌, ◌++◌, ◌<◌, decimal, OnOk};
+ghost use Rattle.std.specs.Prelude.{◌≡◌, ◌++◌, ◌∷◌, [], ◌<◌, decimal, OnOk};
 ghost use Rattle.std.specs.Str.{encode_utf8_all};
 ghost use Rattle.lsl_text.specs.Number.{decimal_of};
-ghost use Rattle.lsl_lines.specs.Journal.{spaced, text_word};
+ghost use Rattle.lsl_lines.specs.Journal.{fault_text, spaced, text_word};
+ghost use Rattle.lsl_view.specs.State.{fault_words, line};
 
 use itoa::Buffer;
+use lsl_running::Fault;
 use lsl_text::{NoMemory, push_quoted};
 use lsl_value::Text;
 
@@ -31,4 +33,31 @@ pub fn push_text(out: &mut Vec<u8>, text: &Text) -> Result<(), NoMemory>
 {
     out.push(b' ')?;
     push_quoted(out, text.bytes())
+}
+
+/// Ends a line.
+pub fn end_line(out: &mut Vec<u8>) -> Result<(), NoMemory>
+    ensures { OnOk result (out.new.items ≡ out.old.items ++ 10 ∷ []) }
+{
+    out.push(b'\n')?;
+    Ok(())
+}
+
+/// Appends why a script stopped, as a line.
+pub fn push_fault(out: &mut Vec<u8>, fault: Fault) -> Result<(), NoMemory>
+    ensures { OnOk result (out.new.items ≡ out.old.items ++ line (fault_words fault)) }
+{
+    out.extend_from_slice(b"fault ")?;
+    push_quoted(out, fault_text(fault).as_bytes())?;
+    end_line(out)
+}
+
+fn fault_text(fault: Fault) -> &'static str
+    ensures { result.now ≡ fault_text fault }
+{
+    match fault {
+        Fault::MathError => "Math Error",
+        Fault::StackHeap => "Stack-Heap Collision",
+        Fault::TooManyListens => "Too Many Listens",
+    }
 }

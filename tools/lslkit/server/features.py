@@ -1,6 +1,6 @@
 """Which request is answered by what, for scripts and for world files."""
 from . import coloring, completing, finding, hinting, hovering, layout, lenses, outlining, renaming, world_files
-from .lenses import PLAY
+from .lenses import DEBUG, PLAY
 
 # Each takes the document and the request's parameters.
 OF_SCRIPTS = {
@@ -71,7 +71,7 @@ CAPABILITIES = {
     "inlayHintProvider": True,
     "callHierarchyProvider": True,
     "semanticTokensProvider": {"legend": coloring.LEGEND, "full": True, "range": True},
-    "executeCommandProvider": {"commands": [PLAY]},
+    "executeCommandProvider": {"commands": [PLAY, DEBUG]},
     "workspaceSymbolProvider": True,
 }
 

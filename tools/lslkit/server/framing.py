@@ -8,8 +8,9 @@ class Cut(Exception):
     """The input ended within a message, or its head can't be read."""
 
 
-def read(stream):
-    """The next message, as its bytes; none where the input ended between two."""
+def read(stream, is_strict=False):
+    """The next message, as its bytes; none where the input ended between two. Where it is strict, a head that has any
+    other form than `Name: value`, or no length, can't be read."""
     length = None
     while True:
         line = stream.readline(65536)
@@ -19,9 +20,11 @@ def read(stream):
             raise Cut("the input ended within a message's head")
         if line.strip() == b"" and length is not None:
             break
-        name, _, value = line.partition(b":")
+        name, colon, value = line.partition(b":")
         if name.strip().lower() == b"content-length" and value.strip().isdigit():
             length = int(value)
+        elif is_strict and (not colon or name.strip().lower() == b"content-length"):
+            raise Cut("a message's head has no length")
     if length > MOST:
         raise Cut(f"a message has {length} bytes")
     body = stream.read(length)

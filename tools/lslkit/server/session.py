@@ -242,10 +242,15 @@ class Session:
     # The workspace
 
     def execute(self, number, params):
-        if not isinstance(params, dict) or params.get("command") != lenses.PLAY:
-            raise Wrong(f"the only command is {lenses.PLAY}")
-        uri = (params.get("arguments") or [None])[0]
+        command = params.get("command") if isinstance(params, dict) else None
+        if command not in (lenses.PLAY, lenses.DEBUG):
+            raise Wrong(f"the commands are {lenses.PLAY} and {lenses.DEBUG}")
+        uri, *words = params.get("arguments") or [None]
         document = self.document_of({"textDocument": {"uri": uri}})
+        if command == lenses.DEBUG:
+            said = lenses.debug(document, [it for it in (words or [[]])[0] if isinstance(it, str)])
+            self.send("window/showMessage", {"type": 3, "message": f"In a terminal: {said}"})
+            return said
 
         def played():
             said = lenses.play(document, document.folder)

@@ -1,11 +1,11 @@
 -- How the process ends where the system gives no words of a command.
-use Rattle.std.specs.Prelude.{◌≡◌, ◌≢◌, ℕ, List, Option}
+use Rattle.std.specs.Prelude.{◌≡◌, ◌≢◌, ℕ, List, [], Option}
 use Rattle.std.specs.declared.io.ErrorKind.{ErrorKind}
 use Rattle.std.specs.declared.io.ErrorKind.TheVariants.{OutOfMemory}
 use Rattle.lsl_ports.specs.Growth.{Grew}
 use Rattle.lsl_top.specs.Status.{number_of}
 use Rattle.lsl_top.specs.declared.status.Status.TheVariants.{NoMemory}
-use Rattle.lsl.specs.Notice.{meaning_of, no_words}
+use Rattle.lsl_system.specs.Notice.{meaning_of, no_words}
 
 -- for want of memory as a command does that lacks it, and else with a number that no status has
 pub record IsRefusal (kind : ErrorKind) (number : ℕ) : Type 0 where
@@ -14,5 +14,5 @@ pub record IsRefusal (kind : ErrorKind) (number : ℕ) : Type 0 where
 
 -- the notes grew by the line of that
 pub record IsRefusalTold (kind : ErrorKind) (old new : Option (List ℕ)) : Type 0 where
-  pub memory : kind ≡ OutOfMemory → Grew old new (meaning_of NoMemory)
+  pub memory : kind ≡ OutOfMemory → Grew old new (meaning_of [] NoMemory)
   pub unread : kind ≢ OutOfMemory → Grew old new no_words

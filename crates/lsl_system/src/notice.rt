@@ -1,25 +1,23 @@
 //! What is said on standard error where a command doesn't end well. It takes no memory.
 
-ghost use Rattle.std.specs.Prelude.{◌≡◌, ◌≤◌, ◌⊎◌, Some, OnErr, OnOk, option_map, if◌then◌else◌};
+ghost use Rattle.std.specs.Prelude.{◌≡◌, ◌≤◌, ◌⊎◌, [], Some, OnErr, OnOk, option_map, if◌then◌else◌};
 ghost use Rattle.std.specs.List.{flat_map};
 ghost use Rattle.lsl_text.specs.Quoted.{escaped, quoted};
 ghost use Rattle.lsl_ports.specs.Counts.{Rose};
 ghost use Rattle.lsl_ports.specs.Growth.{Grew};
 ghost use Rattle.lsl_top.specs.declared.status.Status.TheVariants.{NoMemory};
-ghost use Rattle.lsl.specs.Notice.{IsTold, file_in, meaning_of, no_words, notice_of, one_of_two};
+ghost use Rattle.lsl_system.specs.Notice.{IsTold, meaning_of, no_words, notice_of};
 
 use lsl_ports::{Failed, Sink, write_all};
 use lsl_top::Status;
 
 /// What a status means, as a line. A command that ended well has none.
-fn meaning(status: Status) -> &'static str
-    ensures { result.now ≡ meaning_of status }
+fn meaning<'a>(usage: &'a str, status: Status) -> &'a str
+    ensures { result.now ≡ meaning_of usage.now status }
 {
     match status {
         Status::Ok => "",
-        Status::Usage =>
-            "usage: lsl once FILE | check FILE | replay [--lossy] WORLD | freeze WORLD | thaw FROZEN WORLD \
-                | view FROZEN WORLD | make NUMBER\n",
+        Status::Usage => usage,
         Status::BadWorld =>
             "not in the form of a world file; standard output has the fault (lsl: status 2)\n",
         Status::BadScript =>
@@ -32,28 +30,6 @@ fn meaning(status: Status) -> &'static str
             "not a frozen form of that world; standard output has the fault (lsl: status 6)\n",
         Status::NoMemory => "there isn't memory enough (lsl: status 7)\n",
         Status::BadNote => "a notecard isn't one; standard output has the fault (lsl: status 8)\n",
-    }
-}
-
-/// The file that the words name, and of which a status speaks.
-pub fn named_file(status: Status, words: &[String]) -> Option<&str>
-    ensures { file_in status words.now ≡ option_map (λ file. file.now) result }
-{
-    match words {
-        [word, _] if word.as_str() == "make" => None,
-        [_, file] => Some(file.as_str()),
-        [_, frozen, world] => Some(one_of_two(status, frozen.as_str(), world.as_str())),
-        _ => None,
-    }
-}
-
-/// Of a frozen file and one of a world, the one of which a status speaks.
-fn one_of_two<'a>(status: Status, frozen: &'a str, world: &'a str) -> &'a str
-    ensures { result.now ≡ one_of_two status frozen.now world.now }
-{
-    match status {
-        Status::BadImage => frozen,
-        _ => world,
     }
 }
 
@@ -92,47 +68,58 @@ fn write_quoted<N: Sink>(text: &[u8], notes: &mut N) -> Result<(), Failed>
 
 /// Writes the line of a status, with the file's name in front. The name is written byte by byte: it is short, and a
 /// line that is made first would take memory.
-fn write_named<N: Sink>(status: Status, name: &str, notes: &mut N) -> Result<(), Failed>
-    ensures ok { OnOk result (Grew (N.sunk notes.old) (N.sunk notes.new) (notice_of status (Some name.now))) }
+fn write_named<N: Sink>(
+    usage: &str,
+    status: Status,
+    name: &str,
+    notes: &mut N,
+) -> Result<(), Failed>
+    ensures ok { OnOk result
+        (Grew (N.sunk notes.old) (N.sunk notes.new) (notice_of usage.now status (Some name.now))) }
     ensures err { OnErr result (Rose (N.faults notes.old) (N.faults notes.new)) }
 {
     if status == Status::Usage {
-        return write_all(notes, meaning(status).as_bytes());
+        return write_all(notes, meaning(usage, status).as_bytes());
     }
     write_quoted(name.as_bytes(), notes)?;
     write_all(notes, b": ")?;
-    write_all(notes, meaning(status).as_bytes())
+    write_all(notes, meaning(usage, status).as_bytes())
 }
 
-fn write_notice<N: Sink>(status: Status, file: Option<&str>, notes: &mut N) -> Result<(), Failed>
+fn write_notice<N: Sink>(
+    usage: &str,
+    status: Status,
+    file: Option<&str>,
+    notes: &mut N,
+) -> Result<(), Failed>
     ensures ok { OnOk result (Grew (N.sunk notes.old) (N.sunk notes.new)
-        (notice_of status (option_map (λ name. name.now) file.entry))) }
+        (notice_of usage.now status (option_map (λ name. name.now) file.entry))) }
     ensures err { OnErr result (Rose (N.faults notes.old) (N.faults notes.new)) }
 {
     match file {
-        Some(name) => write_named(status, name, notes),
-        None => write_all(notes, meaning(status).as_bytes()),
+        Some(name) => write_named(usage, status, name, notes),
+        None => write_all(notes, meaning(usage, status).as_bytes()),
     }
 }
 
-/// Says how a command ended, in one line, where it didn't end well.
-pub fn say<N: Sink>(status: Status, file: Option<&str>, notes: &mut N)
+/// Says how a command of a program with this usage ended, in one line, where it didn't end well.
+pub fn say<N: Sink>(usage: &str, status: Status, file: Option<&str>, notes: &mut N)
     ensures told { Rose (N.faults notes.old) (N.faults notes.new)
-        ⊎ IsTold status (option_map (λ name. name.now) file.entry) (N.sunk notes.old) (N.sunk notes.new) }
+        ⊎ IsTold usage.now status (option_map (λ name. name.now) file.entry) (N.sunk notes.old) (N.sunk notes.new) }
 {
     if status == Status::Ok {
         return;
     }
-    let _ = write_notice(status, file, notes);
+    let _ = write_notice(usage, status, file, notes);
 }
 
 /// Says why there are no words of a command: for want of memory, or since one is no text.
 pub fn say_no_words<N: Sink>(lacks_memory: bool, notes: &mut N)
     ensures { Rose (N.faults notes.old) (N.faults notes.new)
-        ⊎ Grew (N.sunk notes.old) (N.sunk notes.new) (if lacks_memory then meaning_of NoMemory else no_words) }
+        ⊎ Grew (N.sunk notes.old) (N.sunk notes.new) (if lacks_memory then meaning_of [] NoMemory else no_words) }
 {
     let line = if lacks_memory {
-        meaning(Status::NoMemory)
+        meaning("", Status::NoMemory)
     } else {
         "the command's words can't be read: one isn't UTF-8 (lsl: status 9)\n"
     };

@@ -1,0 +1,23 @@
+-- What entries say of the plain journal.
+use Rattle.std.specs.Prelude.{◌≡◌, ℕ, List, [], ◌∷◌, ◌++◌}
+use Rattle.std.specs.List.{flat_map}
+use Rattle.lsl_marks.specs.declared.told.Entry.{Entry}
+use Rattle.lsl_marks.specs.declared.told.Told.{Told}
+use Rattle.lsl_marks.specs.declared.told.Told.TheVariants.{Entries, Differs}
+use Rattle.lsl_marks.specs.declared.told.What.{What}
+use Rattle.lsl_marks.specs.declared.told.What.TheVariants.{At, Set, Said}
+
+-- a line that was said, with its end; nothing of a marker and of a value
+abbrev pub said_of : What → List ℕ
+said_of (At arrival) = []
+said_of (Set value) = []
+said_of (Said line) = line.now ++ 10 ∷ []
+
+-- all lines that were said, in order
+abbrev pub said_in : List Entry → List ℕ
+said_in entries = flat_map (λ (e : Entry). said_of e.what) entries
+
+-- the entries say this journal
+abbrev pub Says : Told → List ℕ → Type 0
+Says (Entries entries) journal = said_in entries.items ≡ journal
+Says (Differs guilty) journal = Unit {0}

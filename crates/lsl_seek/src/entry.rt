@@ -1,0 +1,187 @@
+//! The entries of a trace, and the values that they set.
+
+use crate::bytes::{cut, number, take_number, take_word};
+
+/// What an entry is: where a script is at its mark, or what the journal says.
+#[derive(Clone, Copy, Debug, PartialEq, Eq, Drop)]
+pub enum Sort {
+    Enter,
+    Statement,
+    Again,
+    Leave,
+    Note,
+    Took,
+    Done,
+    Fault,
+    /// `chat` or `owner`.
+    Speech,
+    /// A line that is no script's, or that none was active for: `home` and `drop`.
+    Apart,
+    /// Any other line of the journal.
+    Other,
+}
+
+impl Sort {
+    /// Whether one can stop there.
+    pub fn is_stop(self) -> bool {
+        matches!(
+            self,
+            Sort::Statement | Sort::Again | Sort::Leave | Sort::Fault
+        )
+    }
+
+    /// Whether it is a line of the journal.
+    pub fn is_said(self) -> bool {
+        matches!(
+            self,
+            Sort::Took | Sort::Done | Sort::Fault | Sort::Speech | Sort::Apart | Sort::Other
+        )
+    }
+
+    /// The sort of a mark, by its word.
+    pub fn of_mark(word: &[u8]) -> Option<Sort> {
+        match word {
+            b"enter" => Some(Sort::Enter),
+            b"stmt" => Some(Sort::Statement),
+            b"again" => Some(Sort::Again),
+            b"leave" => Some(Sort::Leave),
+            b"note" => Some(Sort::Note),
+            _ => None,
+        }
+    }
+
+    // The sort of a line of the journal, by its first word.
+    fn of_said(word: &[u8]) -> Sort {
+        match word {
+            b"took" => Sort::Took,
+            b"done" => Sort::Done,
+            b"fault" => Sort::Fault,
+            b"chat" | b"owner" => Sort::Speech,
+            b"home" | b"drop" => Sort::Apart,
+            _ => Sort::Other,
+        }
+    }
+
+    /// The word for it.
+    pub fn word(self) -> &'static [u8] {
+        match self {
+            Sort::Enter => b"enter",
+            Sort::Statement => b"stmt",
+            Sort::Again => b"again",
+            Sort::Leave => b"leave",
+            Sort::Note => b"note",
+            Sort::Took | Sort::Done | Sort::Fault | Sort::Speech | Sort::Apart | Sort::Other =>
+                b"said",
+        }
+    }
+}
+
+/// An entry's own line. One of the journal has mark, serial and outer 0.
+#[derive(Clone, Copy)]
+pub struct Entry<'a> {
+    pub step: u32,
+    pub segment: u32,
+    pub script: u32,
+    pub mark: u32,
+    pub serial: u32,
+    pub outer: u32,
+    pub said: &'a [u8],
+}
+
+/// The entry of what follows the word `at`.
+pub fn parse_at(text: &[u8]) -> Option<Entry> {
+    let (step, text) = take_number(text)?;
+    let (segment, text) = take_number(text)?;
+    let (script, text) = take_number(text)?;
+    let (mark, text) = take_number(text)?;
+    let (serial, text) = take_number(text)?;
+    let outer = number(text)?;
+    Some(Entry {
+        step,
+        segment,
+        script,
+        mark,
+        serial,
+        outer,
+        said: b"",
+    })
+}
+
+/// The entry of what follows the word `said`.
+pub fn parse_said(text: &[u8]) -> Option<Entry> {
+    let (step, text) = take_number(text)?;
+    let (segment, said) = take_number(text)?;
+    let (first, behind) = take_word(said)?;
+    let (owner, _) = take_number(behind)?;
+    let script = match first {
+        b"home" => 0,
+        _ => owner,
+    };
+    Some(Entry {
+        step,
+        segment,
+        script,
+        mark: 0,
+        serial: 0,
+        outer: 0,
+        said,
+    })
+}
+
+/// The entry of a line, if it is one of an entry.
+pub fn parse_entry(line: &[u8]) -> Option<Entry> {
+    let (first, behind) = cut(line, b' ');
+    match first {
+        b"at" => parse_at(behind),
+        b"said" => parse_said(behind),
+        _ => None,
+    }
+}
+
+/// The sort of a line of the journal.
+pub fn said_sort(said: &[u8]) -> Sort {
+    Sort::of_said(cut(said, b' ').0)
+}
+
+/// Which of a call's variables: a number, or the value that is returned.
+#[derive(Clone, Copy, Debug, PartialEq, Eq, Hash, Drop)]
+pub enum Slot {
+    Number(u32),
+    Result,
+}
+
+/// The slot of a word.
+pub fn parse_slot(word: &[u8]) -> Option<Slot> {
+    match word {
+        b"result" => Some(Slot::Result),
+        _ => Some(Slot::Number(number(word)?)),
+    }
+}
+
+/// A variable's value at an entry. The serial is 0 for a global.
+#[derive(Clone, Copy)]
+pub struct Set<'a> {
+    pub serial: u32,
+    pub slot: Slot,
+    pub value: &'a [u8],
+}
+
+/// The set of a line, if it is one.
+pub fn parse_set(line: &[u8]) -> Option<Set> {
+    let (first, behind) = cut(line, b' ');
+    match first {
+        b"set" => parse_set_words(behind),
+        _ => None,
+    }
+}
+
+fn parse_set_words(text: &[u8]) -> Option<Set> {
+    let (serial, text) = take_number(text)?;
+    let (slot, value) = take_word(text)?;
+    let slot = parse_slot(slot)?;
+    Some(Set {
+        serial,
+        slot,
+        value,
+    })
+}

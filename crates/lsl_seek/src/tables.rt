@@ -1,0 +1,97 @@
+//! The tables of a trace.
+
+use crate::bytes::{cut, is_word, number, take_number, take_word};
+use crate::entry::{Slot, Sort, parse_slot};
+
+/// A variable of a file or of a mark, as its line has it.
+#[derive(Clone, Copy)]
+pub struct Name<'a> {
+    /// The number of the file or the mark.
+    pub of: u32,
+    pub slot: Slot,
+    pub kind: &'a [u8],
+    pub name: &'a [u8],
+}
+
+/// A place of a script's text.
+#[derive(Clone, Copy)]
+pub struct Mark<'a> {
+    pub unit: u32,
+    pub routine: &'a [u8],
+    pub sort: Sort,
+    pub line: u32,
+}
+
+/// A line of the tables.
+pub enum Row<'a> {
+    /// The file's name, in quotes.
+    File(&'a [u8]),
+    /// The unit that a script runs.
+    Script(u32),
+    Global(Name<'a>),
+    Mark(Mark<'a>),
+    Name(Name<'a>),
+}
+
+/// The row of a line, if it is one of the tables.
+pub fn parse_row(line: &[u8]) -> Option<Row> {
+    let (first, behind) = cut(line, b' ');
+    match first {
+        b"file" => Some(Row::File(parse_file(behind)?)),
+        b"script" => Some(Row::Script(parse_script(behind)?)),
+        b"global" => Some(Row::Global(parse_name(behind)?)),
+        b"mark" => Some(Row::Mark(parse_mark(behind)?)),
+        b"name" => Some(Row::Name(parse_name(behind)?)),
+        _ => None,
+    }
+}
+
+// The quoted name before the last word, a number.
+fn parse_file(text: &[u8]) -> Option<&[u8]> {
+    let (_, text) = take_number(text)?;
+    match text {
+        [b'"', .., b' ', b'0'..=b'4'] => Some(&text[..text.len() - 2]),
+        _ => None,
+    }
+}
+
+fn parse_script(text: &[u8]) -> Option<u32> {
+    let (_, text) = take_number(text)?;
+    let (unit, text) = take_number(text)?;
+    match text {
+        [b'"', .., b'"'] => Some(unit),
+        _ => None,
+    }
+}
+
+fn parse_name(text: &[u8]) -> Option<Name> {
+    let (of, text) = take_number(text)?;
+    let (slot, text) = take_word(text)?;
+    let (kind, text) = take_word(text)?;
+    let slot = parse_slot(slot)?;
+    if !is_word(text) {
+        return None;
+    }
+    Some(Name {
+        of,
+        slot,
+        kind,
+        name: text,
+    })
+}
+
+fn parse_mark(text: &[u8]) -> Option<Mark> {
+    let (_, text) = take_number(text)?;
+    let (unit, text) = take_number(text)?;
+    let (routine, text) = take_word(text)?;
+    let (sort, text) = take_word(text)?;
+    let (line, text) = take_number(text)?;
+    let _ = number(text)?;
+    let sort = Sort::of_mark(sort)?;
+    Some(Mark {
+        unit,
+        routine,
+        sort,
+        line,
+    })
+}

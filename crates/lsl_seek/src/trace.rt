@@ -1,0 +1,216 @@
+//! A trace that was read.
+
+use crate::bytes::cut;
+use crate::entry::{Entry, Sort, parse_entry, parse_set, said_sort};
+use crate::faults::SeekFault;
+use crate::tables::{Mark, Name, Row, parse_row};
+use lsl_text::{NoMemory, Refusal};
+use std::alloc::Global;
+
+/// A trace: its tables, and where in its text each of its entries begins. It has 8 bytes for an entry.
+#[derive(Drop)]
+pub struct Trace<'a> {
+    pub text: &'a [u8],
+    pub places: Vec<usize>,
+    pub files: Vec<&'a [u8]>,
+    /// The unit of each script.
+    pub scripts: Vec<u32>,
+    pub globals: Vec<Name<'a>>,
+    pub marks: Vec<Mark<'a>>,
+    /// How many names come before those of each mark.
+    pub firsts: Vec<usize>,
+    pub names: Vec<Name<'a>>,
+}
+
+/// A moment: an entry, what it is, and the text after its line, where its values are.
+#[derive(Clone, Copy)]
+pub struct Moment<'a> {
+    pub entry: Entry<'a>,
+    pub sort: Sort,
+    pub behind: &'a [u8],
+}
+
+impl<'a> Trace<'a> {
+    /// Reads a trace. The fault is that of the first line that is none of a trace.
+    pub fn read(alloc: Global, text: &'a [u8]) -> Result<Trace<'a>, Refusal<SeekFault>> {
+        let mut trace = Trace {
+            text,
+            places: Vec::new(alloc),
+            files: Vec::new(alloc),
+            scripts: Vec::new(alloc),
+            globals: Vec::new(alloc),
+            marks: Vec::new(alloc),
+            firsts: Vec::new(alloc),
+            names: Vec::new(alloc),
+        };
+        let mut rest = text;
+        let mut number: usize = 1;
+        'lines: while !rest.is_empty() {
+            let (line, behind) = cut(rest, b'\n');
+            if !trace.add(line, text.len() - rest.len())? {
+                return Err(Refusal::Fault(SeekFault::Line(number)));
+            }
+            rest = behind;
+            number += 1;
+        }
+        Ok(trace)
+    }
+
+    // Adds a line that begins at this place, and says whether it is one of a trace.
+    fn add(&mut self, line: &'a [u8], place: usize) -> Result<bool, NoMemory> {
+        if parse_set(line).is_some() {
+            return Ok(true);
+        }
+        if parse_entry(line).is_some() {
+            self.places.push(place)?;
+            return Ok(true);
+        }
+        match parse_row(line) {
+            Some(row) => {
+                self.add_row(row)?;
+                Ok(true)
+            }
+            None => Ok(false),
+        }
+    }
+
+    fn add_row(&mut self, row: Row<'a>) -> Result<(), NoMemory> {
+        match row {
+            Row::File(name) => self.files.push(name)?,
+            Row::Script(unit) => self.scripts.push(unit)?,
+            Row::Global(name) => self.globals.push(name)?,
+            Row::Mark(mark) => {
+                self.firsts.push(self.names.len())?;
+                self.marks.push(mark)?;
+            }
+            Row::Name(name) => self.names.push(name)?,
+        }
+        Ok(())
+    }
+
+    /// How many moments there are.
+    pub fn len(&self) -> usize {
+        self.places.len()
+    }
+
+    /// The moment of this number, from 1. Where there is none it is one of no script.
+    pub fn moment(&self, number: usize) -> Moment<'a> {
+        if number == 0 {
+            return self.moment_at(self.text.len());
+        }
+        match self.places.get(number - 1) {
+            Some(place) => self.moment_at(*place),
+            None => self.moment_at(self.text.len()),
+        }
+    }
+
+    /// The places of the moments up to this one.
+    pub fn up_to(&self, number: usize) -> &[usize] {
+        match self.places.get(..number) {
+            Some(places) => places,
+            None => self.places.as_slice(),
+        }
+    }
+
+    /// The places of the moments before this one.
+    pub fn before(&self, number: usize) -> &[usize] {
+        if number == 0 {
+            return &[];
+        }
+        self.up_to(number - 1)
+    }
+
+    /// The moment whose line begins at this place.
+    pub fn moment_at(&self, place: usize) -> Moment<'a> {
+        let text = match self.text.get(place..) {
+            Some(text) => text,
+            None => b"",
+        };
+        let (line, behind) = cut(text, b'\n');
+        match parse_entry(line) {
+            Some(entry) => Moment {
+                sort: self.sort(&entry),
+                entry,
+                behind,
+            },
+            None => no_moment(),
+        }
+    }
+
+    fn sort(&self, entry: &Entry<'a>) -> Sort {
+        if entry.mark == 0 {
+            return said_sort(entry.said);
+        }
+        match self.mark(entry.mark) {
+            Some(mark) => mark.sort,
+            None => Sort::Note,
+        }
+    }
+
+    /// The mark of this number, from 1.
+    pub fn mark(&self, number: u32) -> Option<&Mark<'a>> {
+        if number == 0 {
+            return None;
+        }
+        self.marks.get(number as usize - 1)
+    }
+
+    /// The variables that are visible at a mark, outer ones first, without globals.
+    pub fn names_at(&self, mark: u32) -> &[Name<'a>] {
+        let (first, end) = if mark == 0 {
+            (0, 0)
+        } else {
+            (self.first(mark as usize - 1), self.first(mark as usize))
+        };
+        let names = self.names.as_slice();
+        let end = end.min(names.len());
+        &names[first.min(end)..end]
+    }
+
+    // How many names come before those of the mark of this number, from 0.
+    fn first(&self, mark: usize) -> usize {
+        match self.firsts.get(mark) {
+            Some(first) => *first,
+            None => self.names.len(),
+        }
+    }
+
+    /// The unit that a script runs, or 0.
+    pub fn unit(&self, script: u32) -> u32 {
+        if script == 0 {
+            return 0;
+        }
+        match self.scripts.get(script as usize - 1) {
+            Some(unit) => *unit,
+            None => 0,
+        }
+    }
+
+    /// The quoted name of a unit's file.
+    pub fn file(&self, unit: u32) -> Option<&'a [u8]> {
+        if unit == 0 {
+            return None;
+        }
+        match self.files.get(unit as usize - 1) {
+            Some(name) => Some(*name),
+            None => None,
+        }
+    }
+}
+
+// A moment of no script.
+fn no_moment() -> Moment<'static> {
+    Moment {
+        entry: Entry {
+            step: 0,
+            segment: 0,
+            script: 0,
+            mark: 0,
+            serial: 0,
+            outer: 0,
+            said: b"",
+        },
+        sort: Sort::Apart,
+        behind: b"",
+    }
+}
