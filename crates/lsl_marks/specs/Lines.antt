@@ -2,11 +2,11 @@
 use Rattle.std.specs.Prelude.{ℕ, ◌+◌, ◌-◌, min, nat_lt, List, [], ◌∷◌, ◌++◌, length, slice_range, codes, decimal, if◌then◌else◌, ◌==◌, ◌&&◌}
 use Rattle.lsl_value.specs.declared.tagged.Kind.{Kind}
 use Rattle.lsl_value.specs.declared.tagged.Kind.TheVariants.{Int, Str, Key, List as ListKind}
-use Rattle.lsl_marks.specs.declared.told.Arrival.{Arrival}
-use Rattle.lsl_marks.specs.declared.told.Entry.{Entry}
-use Rattle.lsl_marks.specs.declared.told.Value.{Value}
-use Rattle.lsl_marks.specs.declared.told.What.{What}
-use Rattle.lsl_marks.specs.declared.told.What.TheVariants.{At, Set, Said}
+use Rattle.lsl_marks.specs.declared.entries.Arrival.{Arrival}
+use Rattle.lsl_marks.specs.declared.entries.Entry.{Entry}
+use Rattle.lsl_marks.specs.declared.entries.Value.{Value}
+use Rattle.lsl_marks.specs.declared.entries.What.{What}
+use Rattle.lsl_marks.specs.declared.entries.What.TheVariants.{At, Set, Said}
 use Rattle.lsl_marks.specs.declared.variables.Slot.{Slot}
 use Rattle.lsl_marks.specs.declared.variables.Slot.TheVariants.{Local, Global, Result}
 
@@ -14,7 +14,7 @@ use Rattle.lsl_marks.specs.declared.variables.Slot.TheVariants.{Local, Global, R
 abbrev pub spaced : List ℕ → List ℕ
 spaced word = 32 ∷ word
 
--- what stands at a place is numbered from 1; a number stands still at its type's end
+-- what is at a place is numbered from 1; a number stays at its type's end
 abbrev pub number_after : ℕ → ℕ
 number_after place = min (place + 1) 18446744073709551615
 
@@ -34,9 +34,9 @@ told_length (b ∷ []) = 1
 told_length (b ∷ c ∷ rest) = if b == 92 then told_length rest + 1 else told_length (c ∷ rest) + 1
 
 -- what follows a byte, and the byte that it escapes
-abbrev pub behind_byte : ℕ → List ℕ → List ℕ
-behind_byte b [] = []
-behind_byte b (c ∷ rest) = if b == 92 then rest else c ∷ rest
+abbrev pub after_byte : ℕ → List ℕ → List ℕ
+after_byte b [] = []
+after_byte b (c ∷ rest) = if b == 92 then rest else c ∷ rest
 
 -- two dots where a text may have been cut
 abbrev pub cut_of : List ℕ → List ℕ

@@ -1,11 +1,11 @@
 -- What entries say of the plain journal.
 use Rattle.std.specs.Prelude.{◌≡◌, ℕ, List, [], ◌∷◌, ◌++◌}
 use Rattle.std.specs.List.{flat_map}
-use Rattle.lsl_marks.specs.declared.told.Entry.{Entry}
-use Rattle.lsl_marks.specs.declared.told.Told.{Told}
-use Rattle.lsl_marks.specs.declared.told.Told.TheVariants.{Entries, Differs}
-use Rattle.lsl_marks.specs.declared.told.What.{What}
-use Rattle.lsl_marks.specs.declared.told.What.TheVariants.{At, Set, Said}
+use Rattle.lsl_marks.specs.declared.entries.Entry.{Entry}
+use Rattle.lsl_marks.specs.declared.entries.Told.{Told}
+use Rattle.lsl_marks.specs.declared.entries.Told.TheVariants.{Entries, Differs}
+use Rattle.lsl_marks.specs.declared.entries.What.{What}
+use Rattle.lsl_marks.specs.declared.entries.What.TheVariants.{At, Set, Said}
 
 -- a line that was said, with its end; nothing of a marker and of a value
 abbrev pub said_of : What → List ℕ

@@ -3,12 +3,12 @@
 ghost use Rattle.std.specs.Prelude.{◌≡◌, ◌++◌, OnOk, decimal, nat_lt};
 ghost use Rattle.std.specs.List.{flat_map};
 ghost use Rattle.lsl_text.specs.Quoted.{quoted};
-ghost use Rattle.lsl_marks.specs.Lines.{at_words, cut_of, elements_of, line_of, number_after, parted, said_words, set_words, slot_word, behind_byte, spaced, told_length, value_word, within_quotes};
+ghost use Rattle.lsl_marks.specs.Lines.{at_words, cut_of, elements_of, line_of, number_after, parted, said_words, set_words, slot_word, after_byte, spaced, told_length, value_word, within_quotes};
 
+use crate::entries::{Arrival, Entry, Value, What};
 use crate::markers::{Marker, Moment, kind_word};
 use crate::statements::Routine;
 use crate::tokens::name_at;
-use crate::told::{Arrival, Entry, Value, What};
 use crate::units::Unit;
 use crate::variables::{Slot, Variable};
 use itoa::Buffer;
@@ -54,7 +54,7 @@ pub fn push_files(out: &mut Vec<u8>, units: &[Unit]) -> Result<(), NoMemory> {
     Ok(())
 }
 
-/// The number of what stands at a place: they begin at 1.
+/// The number of what is at a place: they begin at 1.
 fn number_after(place: usize) -> u64
     ensures { result ≡ number_after place }
 {
@@ -261,17 +261,17 @@ fn is_short(inner: &[u8]) -> bool
         if count == MAYBE_CUT {
             return false;
         }
-        rest = behind_byte(*b, more);
+        rest = after_byte(*b, more);
     }
     true
 }
 
 /// What follows a byte, and the byte that it escapes.
-fn behind_byte(b: u8, more: &[u8]) -> &[u8]
-    ensures { result.now ≡ behind_byte b more.now }
+fn after_byte(b: u8, more: &[u8]) -> &[u8]
+    ensures { result.now ≡ after_byte b more.now }
 {
     match more {
-        [_, behind @ ..] if b == b'\\' => behind,
+        [_, after @ ..] if b == b'\\' => after,
         _ => more,
     }
 }
@@ -296,9 +296,9 @@ fn push_parted(out: &mut Vec<u8>, inner: &[u8]) -> Result<(), NoMemory>
     let mut rest = inner;
     'bytes: while let [b, more @ ..] = rest {
         match more {
-            [0xa6, behind @ ..] if *b == 0xc2 => {
+            [0xa6, after @ ..] if *b == 0xc2 => {
                 out.extend_from_slice(b"\", \"")?;
-                rest = behind;
+                rest = after;
             }
             _ => {
                 out.push(*b)?;

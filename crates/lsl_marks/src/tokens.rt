@@ -18,7 +18,7 @@ impl Part {
     }
 }
 
-/// What stands at a place.
+/// The sort of the token at a place.
 pub fn sort_at(tokens: &[Token], at: usize) -> Option<&Sort> {
     match tokens.get(at) {
         Some(token) => Some(&token.sort),
@@ -26,7 +26,7 @@ pub fn sort_at(tokens: &[Token], at: usize) -> Option<&Sort> {
     }
 }
 
-/// The bytes of the name at a place; none where no name stands there.
+/// The bytes of the name at a place; none where no name is there.
 pub fn name_at(tokens: &[Token], at: usize) -> &[u8] {
     match sort_at(tokens, at) {
         Some(Sort::Name(text)) => text.bytes(),

@@ -1,7 +1,9 @@
 //! A script's file, and its copy.
 
-use crate::markers::{Marker, Source, Tier, marked_copy};
+use crate::markers::Marker;
 use crate::statements::Outline;
+use crate::tiers::Tier;
+use crate::writer::{Source, marked_copy};
 use lsl_lex::{Token, Tokens, lex};
 use lsl_text::{NoMemory, Refusal};
 use std::alloc::{AllocError, Global};

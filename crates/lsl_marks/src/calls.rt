@@ -1,0 +1,65 @@
+//! The active calls of a script, as its markers tell them.
+
+use crate::markers::{Marker, Moment};
+use lsl_text::NoMemory;
+use std::alloc::Global;
+
+/// An active call. `again` is the line of the loop whose condition comes, and `returning` the marker of the `return`
+/// that was begun.
+#[derive(Clone, Copy)]
+pub struct Frame {
+    pub routine: usize,
+    pub serial: u64,
+    pub again: Option<u32>,
+    pub returning: Option<usize>,
+}
+
+/// A script that runs: its calls, the innermost last, and the ticks that pass when it goes on.
+#[derive(Drop)]
+pub struct Running {
+    pub stack: Vec<Frame>,
+    pub pending: u64,
+}
+
+pub fn idle(alloc: Global, scripts: usize) -> Result<Vec<Running>, NoMemory> {
+    let mut running = Vec::new(alloc);
+    for _ in 0..scripts {
+        running.push(Running {
+            stack: Vec::new(alloc),
+            pending: 0,
+        })?;
+    }
+    Ok(running)
+}
+
+impl Frame {
+    /// Whether its `return` was begun, which doesn't call this routine.
+    pub fn is_over(&self, markers: &[Marker], routine: usize) -> bool {
+        let Some(returning) = self.returning else {
+            return false;
+        };
+        match markers.get(returning) {
+            Some(
+                Marker {
+                    calls: Some(calls),
+                    ..
+                },
+            ) => !calls.contains(&routine),
+            _ => false,
+        }
+    }
+
+    /// Whether it is over at this marker: of another routine, or its `return` was begun.
+    pub fn is_left(&self, marker: &Marker) -> bool {
+        self.routine != marker.routine
+            || (self.returning.is_some() && marker.moment != Moment::Leave)
+    }
+}
+
+/// The call that called the innermost one, or 0.
+pub fn outer_of(stack: &[Frame]) -> u64 {
+    match stack {
+        [.., outer, _] => outer.serial,
+        _ => 0,
+    }
+}
