@@ -2,7 +2,7 @@
 //! the plain journal.
 
 ghost use Rattle.std.specs.Prelude.{◌≡◌, ◌++◌, ◌∷◌, IfOk, IfSome};
-ghost use Rattle.lsl_marks.specs.Said.{Says, said_in, said_of};
+ghost use Rattle.lsl_marks.specs.Said.{AreNowhere, Has, Says, said_in, said_of};
 
 use crate::calls::idle;
 use crate::entries::{Entry, Guilty, Told, What};
@@ -49,7 +49,8 @@ pub fn read_told<'a>(
 
 /// The lines of a plain journal as entries, at no step.
 pub fn read_plain<'a>(alloc: Global, plain: &'a [u8]) -> Result<Told<'a>, NoMemory>
-    ensures { IfOk result (λ told. Says told plain.now) }
+    ensures says { IfOk result (λ told. Says told plain.now) }
+    ensures nowhere { IfOk result AreNowhere }
 {
     let mut entries = Vec::new(alloc);
     let mut from = 0;
@@ -69,7 +70,8 @@ pub fn read_plain<'a>(alloc: Global, plain: &'a [u8]) -> Result<Told<'a>, NoMemo
 
 /// These entries, if they say the plain journal.
 fn checked<'a>(entries: Vec<Entry<'a>>, plain: &[u8]) -> Told<'a>
-    ensures { Says result plain.now }
+    ensures says { Says result plain.now }
+    ensures same { Has result entries.entry.items }
 {
     match difference(entries.as_slice(), plain) {
         Some(guilty) => Told::Differs(guilty),
