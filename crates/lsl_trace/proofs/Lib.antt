@@ -1,0 +1,2 @@
+mod CopiesRead
+mod Endings

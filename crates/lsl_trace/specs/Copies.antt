@@ -1,5 +1,5 @@
 -- A shelf on which some files are replaced.
-use Rattle.std.specs.Prelude.{ℕ, List, Option, Some, None}
+use Rattle.std.specs.Prelude.{ℕ, Bool, List, Option, Some, None}
 use Rattle.std.specs.List.{find}
 use Rattle.std.specs.Str.{bytes_eq}
 use Rattle.lsl_ports.specs.Shelf.{Files}
@@ -10,8 +10,11 @@ abbrev pub text_over : Option Replaced → Option (List ℕ) → Option (List �
 text_over None file = file
 text_over (Some replaced) file = Some replaced.text.items
 
+abbrev pub is_named : List ℕ → Replaced → Bool
+is_named name r = bytes_eq r.name.items name
+
 abbrev pub files_over : List Replaced → Files → Files
-files_over all files name = text_over (find (λ (r : Replaced). bytes_eq r.name.items name) all) (files name)
+files_over all files name = text_over (find (is_named name) all) (files name)
 
 -- where the shelf below tells, the first that replaces a name's file counts
 abbrev pub held_over : List Replaced → Option Files → Option Files

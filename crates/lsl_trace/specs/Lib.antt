@@ -1,1 +1,4 @@
 pub mod Copies
+pub mod Early
+pub mod Ended
+pub mod Texts

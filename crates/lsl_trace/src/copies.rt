@@ -1,8 +1,9 @@
 //! The copies of a world: its scripts with markers, and its file with one object more, whose touches part the steps.
 
-ghost use Rattle.std.specs.Prelude.{◌≡◌, ◌≤◌, length};
+ghost use Rattle.std.specs.Prelude.{◌≡◌, ◌≤◌, length, option_map};
+ghost use Rattle.std.specs.List.{find};
 ghost use Rattle.lsl_ports.specs.Shelf.{Copies as CopiesBytes};
-ghost use Rattle.lsl_trace.specs.Copies.{held_over};
+ghost use Rattle.lsl_trace.specs.Copies.{held_over, is_named};
 
 use lsl_marks::{Part, push_number};
 use lsl_ports::{Failed, Shelf};
@@ -19,6 +20,15 @@ const KEY: &[u8] = b"ffffffff-ffff-ffff-ffff-000000000001";
 pub struct Replaced {
     pub name: Vec<u8>,
     pub text: Vec<u8>,
+}
+
+impl Replaced {
+    /// Whether this is the file's name.
+    fn is_named(&self, name: &str) -> bool
+        ensures { result ≡ is_named name.now self.now }
+    {
+        self.name.as_slice() == name.as_bytes()
+    }
 }
 
 /// A shelf on which some files are replaced by copies.
@@ -40,15 +50,18 @@ impl<S: Shelf> Shelf for Copies<'_, S> {
     ghost faults = { λ s. S.faults s.shelf.now };
 
     fn read(&mut self, name: &str, place: u64, piece: &mut [u8]) -> Result<usize, Failed> {
-        match self
-            .copies
-            .iter()
-            .find(|it| it.name.as_slice() == name.as_bytes())
-        {
+        match copy_of(self.copies, name) {
             Some(copy) => Ok(copy_from(copy.text.as_slice(), place, piece)),
             None => self.shelf.read(name, place, piece),
         }
     }
+}
+
+/// The first file that is in place of the one of this name.
+fn copy_of<'a>(copies: &'a [Replaced], name: &str) -> Option<&'a Replaced>
+    ensures { option_map (λ it. it.now) result ≡ find (is_named name.now) copies.now }
+{
+    copies.iter().find(|it| it.is_named(name))
 }
 
 /// Copies bytes from `place` on into the piece, and answers how many.

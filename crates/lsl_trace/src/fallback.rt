@@ -1,16 +1,17 @@
 //! The runs of the copies, until they do what the scripts do: a script that does something else with its markers gets
 //! fewer of them, and the others keep theirs.
 
+ghost use Rattle.std.specs.Prelude.{IfOk};
+ghost use Rattle.lsl_marks.specs.Said.{Says};
+
 use crate::copies::{Copies, Counted, Replaced, parted_world, touched};
+use crate::replaying::{MAX_JOURNAL_BYTES, replay};
 use crate::script::Script;
 use lsl_marks::{Guilty, MAX_SCRIPT_BYTES, Marker, Played, Tier, Told, Unit, read_told};
 use lsl_ports::{Link, MemorySink, Shelf};
 use lsl_text::{NoMemory, push_quoted};
-use lsl_top::{Status, lsl};
+use lsl_top::Status;
 use std::alloc::{AllocError, Global};
-
-/// How many bytes of a journal are held.
-pub const MAX_JOURNAL_BYTES: usize = 67_108_864;
 
 /// A world whose copies are run: its file's name and bytes, what scripts it has, its plain journal, and what begins
 /// what markers say.
@@ -60,7 +61,9 @@ pub enum Settled {
 
 impl World<'_> {
     /// The entries that copies told, if they did what the scripts do.
-    pub fn read<'b>(&'b self, alloc: Global, held: &'b Held) -> Result<Told<'b>, NoMemory> {
+    pub fn read<'b>(&'b self, alloc: Global, held: &'b Held) -> Result<Told<'b>, NoMemory>
+        ensures { IfOk result (λ told. Says told self.now.plain.now) }
+    {
         let played = Played {
             scripts: self.counted.scripts,
             objects: self.counted.objects,
@@ -111,13 +114,7 @@ impl World<'_> {
         }
         let mut journal = MemorySink::new(alloc, MAX_JOURNAL_BYTES, Vec::new(alloc))?;
         let mut shelf = Copies::new(shelf, copies.as_slice());
-        let status = lsl(
-            alloc,
-            replay(alloc, self.name)?.as_slice(),
-            &mut shelf,
-            &mut journal,
-            link,
-        );
+        let status = replay(alloc, self.name, &mut shelf, &mut journal, link)?;
         self.attempted(alloc, units, status, Held { markers, journal })
     }
 
@@ -205,12 +202,4 @@ fn tell_less(units: &mut [Unit], blame: Blame) -> bool {
         unit.tier = unit.tier.next();
     }
     told
-}
-
-/// The words of a replay.
-pub fn replay(alloc: Global, world: &str) -> Result<Vec<String>, NoMemory> {
-    let mut words = Vec::new(alloc);
-    words.push(String::from_str(alloc, "replay")?)?;
-    words.push(String::from_str(alloc, world)?)?;
-    Ok(words)
 }

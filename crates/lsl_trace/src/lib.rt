@@ -2,9 +2,91 @@
 //! it.
 #![tactic(auto)]
 
+ghost use Rattle.std.specs.Prelude.{◌≡◌};
+ghost use Rattle.lsl_top.specs.Ends.{outside};
+ghost use Rattle.lsl_trace.specs.Ended.{Comes, ComesOf, EndsSo, WritesAs, taken};
+
 mod copies;
+mod ended;
 mod fallback;
+mod replaying;
 mod script;
+mod texts;
+mod tildes;
 mod tracing;
 
-pub use crate::tracing::{Ended, Request, trace};
+pub use crate::ended::{Ended, Request};
+use crate::replaying::{Replayed, replay_plain};
+use crate::tracing::trace_text;
+use lsl_ports::{Link, Shelf, Sink, write_all};
+use lsl_top::Status;
+use std::alloc::Global;
+
+/// Writes the trace of a world. The world is run as `replay` runs it, and so are copies of its scripts that tell which
+/// statement comes. It takes memory for 64 MiB of each journal, for the copies, and for the trace.
+pub fn trace<S: Shelf, K: Sink, L: Link>(
+    alloc: Global,
+    request: &Request<'_>,
+    shelf: &mut S,
+    sink: &mut K,
+    link: &mut L,
+) -> Ended
+    ensures { EndsSo L.gives request.now
+        (outside (S.held shelf.old) (S.faults shelf.old) (K.sunk sink.old) (K.faults sink.old)
+        (L.trips link.old) (L.faults link.old))
+        (taken (K.sunk sink.old) (K.faults sink.old)) (taken (K.sunk sink.new) (K.faults sink.new)) result }
+{
+    match replay_plain(alloc, request.world, shelf, link) {
+        Ok(run) => trace_run(alloc, request, &run, shelf, sink, link),
+        Err(_) => Ended::Refused(Status::NoMemory),
+    }
+}
+
+/// Writes the trace of a world that was replayed so, or what it wrote.
+fn trace_run<S: Shelf, K: Sink, L: Link>(
+    alloc: Global,
+    request: &Request<'_>,
+    run: &Replayed,
+    shelf: &mut S,
+    sink: &mut K,
+    link: &mut L,
+) -> Ended
+    ensures { ComesOf request.now run.now.status run.now.journal.taken
+        (taken (K.sunk sink.old) (K.faults sink.old)) (taken (K.sunk sink.new) (K.faults sink.new)) result }
+{
+    match run.status {
+        Status::Ok => trace_replayed(alloc, request, run.journal.as_bytes(), shelf, sink, link),
+        Status::WriteFault => Ended::TooLong,
+        status => write(sink, run.journal.as_bytes(), Ended::Refused(status)),
+    }
+}
+
+/// Writes the trace of a world with this plain journal.
+fn trace_replayed<S: Shelf, K: Sink, L: Link>(
+    alloc: Global,
+    request: &Request<'_>,
+    plain: &[u8],
+    shelf: &mut S,
+    sink: &mut K,
+    link: &mut L,
+) -> Ended
+    ensures { Comes request.now plain.now
+        (taken (K.sunk sink.old) (K.faults sink.old)) (taken (K.sunk sink.new) (K.faults sink.new)) result }
+{
+    match trace_text(alloc, request, plain, shelf, link) {
+        Ok(Some(text)) => write(sink, text.as_slice(), Ended::Told),
+        Ok(None) => write(sink, plain, Ended::Refused(Status::Ok)),
+        Err(ended) => ended,
+    }
+}
+
+/// Writes these bytes, and ends so.
+fn write<K: Sink>(sink: &mut K, bytes: &[u8], ended: Ended) -> Ended
+    ensures { WritesAs bytes.now ended
+        (taken (K.sunk sink.old) (K.faults sink.old)) (taken (K.sunk sink.new) (K.faults sink.new)) result }
+{
+    match write_all(sink, bytes) {
+        Ok(()) => ended,
+        Err(_) => Ended::Refused(Status::WriteFault),
+    }
+}
