@@ -3,6 +3,7 @@
 #![tactic(auto)]
 
 mod command;
+mod ending;
 mod words;
 
 use command::start;
