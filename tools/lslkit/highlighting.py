@@ -2,6 +2,7 @@
 import json
 
 from . import about, tables, tokens
+from .debugger import extension
 
 MADE = "made by tools/syntax from the tables of the language: change those"
 NO_KINDS = ("float", "vector", "rotation", "quaternion")
@@ -129,7 +130,8 @@ FOLDER = "The folder of Dishhollow. Left empty, it is the one in which this exte
 
 
 def vscode_package():
-    """The extension: the languages, the grammar, what starts the server, and the matchers for `lsl check`."""
+    """The extension: the languages, the grammar, what starts server and debugger, and the matchers of
+    `lsl check`."""
     language = {"id": "lsl", "aliases": ["LSL"], "extensions": [".lsl"]}
     language["configuration"] = "./language-configuration.json"
     world = {"id": "lsl-world", "aliases": ["LSL world"], "extensions": [".world"]}
@@ -144,9 +146,9 @@ def vscode_package():
         "publisher": "dishhollow",
         "license": "MIT",
         "engines": {"vscode": "^1.60.0"},
-        "categories": ["Programming Languages"],
+        "categories": ["Programming Languages", "Debuggers"],
         "main": "./extension.js",
-        "activationEvents": ["onLanguage:lsl", "onLanguage:lsl-world"],
+        "activationEvents": ["onLanguage:lsl", "onLanguage:lsl-world", "onDebug"],
         "contributes": {
             "languages": [language, world],
             "grammars": [grammar],
@@ -155,6 +157,7 @@ def vscode_package():
                 matcher("lsl-line", r'^bad script "(.+)" (\d+):(\d+) (fault \d+)$', **places),
             ],
             "configuration": {"title": "LSL", "properties": {"lsl.folder": folder}},
+            **extension.contributed(),
         },
     }
 
