@@ -4,13 +4,13 @@ use crate::markers::{Marker, Moment};
 use lsl_text::NoMemory;
 use std::alloc::Global;
 
-/// An active call. `again` is the line of the loop whose condition comes, and `returning` the marker of the `return`
-/// that was begun.
+/// An active call. `is_again` says whether the condition of a loop came last, and `returning` is the marker of the
+/// `return` that was begun.
 #[derive(Clone, Copy)]
 pub struct Frame {
     pub routine: usize,
     pub serial: u64,
-    pub again: Option<u32>,
+    pub is_again: bool,
     pub returning: Option<usize>,
 }
 

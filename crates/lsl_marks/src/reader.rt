@@ -164,7 +164,7 @@ impl<'a> Reader<'a> {
         running.stack.push(Frame {
             routine: marker.routine,
             serial,
-            again: None,
+            is_again: false,
             returning: None,
         })?;
         Ok((!is_handler).then_some(1))
@@ -182,11 +182,11 @@ impl<'a> Reader<'a> {
             }
         }
         let frame = running.stack.last_mut()?;
-        let comes_again = marker.moment == Moment::Body && frame.again == Some(marker.first);
+        let comes_again = marker.moment == Moment::Body && frame.is_again;
         match marker.moment {
-            Moment::Again => frame.again = Some(marker.first),
+            Moment::Again => frame.is_again = true,
             Moment::Note => {}
-            _ => frame.again = None,
+            _ => frame.is_again = false,
         }
         if marker.calls.is_some() {
             frame.returning = Some(number);
