@@ -49,10 +49,15 @@ impl Frame {
         }
     }
 
-    /// Whether it is over at this marker: of another routine, or its `return` was begun.
-    pub fn is_left(&self, marker: &Marker) -> bool {
-        self.routine != marker.routine
-            || (self.returning.is_some() && marker.moment != Moment::Leave)
+    /// Whether it is over at this marker: one of another routine, or a `return` was begun whose own it isn't. That one
+    /// is the next after the statement's.
+    pub fn is_left(&self, number: usize, marker: &Marker) -> bool {
+        match self.returning {
+            Some(returning) => {
+                marker.moment != Moment::Leave || number != returning.saturating_add(1)
+            }
+            None => self.routine != marker.routine,
+        }
     }
 }
 

@@ -175,7 +175,7 @@ impl<'a> Reader<'a> {
         let running = self.running(script)?;
         for _ in 1..running.stack.len() {
             match running.stack.last() {
-                Some(frame) if frame.is_left(marker) => {
+                Some(frame) if frame.is_left(number, marker) => {
                     let _ = running.stack.pop();
                 }
                 _ => break,
