@@ -1,0 +1,124 @@
+"""Compares the trace of a world with its states after segments: which calls there are, where, and with which values.
+
+What may differ is a variable that a statement has assigned which isn't over yet, as x in `f(x = 3)`: a trace tells it
+when the next statement begins. A list is told as one text, in which [""] is as [], and a separator in an element as
+one between elements."""
+import random
+import re
+
+from .. import worlds
+from ..places import bytes_of
+from ..program import world_of
+from .core import Core, text_of, value_of, words_of
+from .folding import Folded
+
+CUT, SEPARATOR = 1021, "¦"
+LAST = 1000000
+ASSIGNED = r"\b{0}\s*([-+*/%]?=(?!=)|\+\+|--)|(\+\+|--)\s*{0}\b"
+
+
+class Compared:
+    """What was compared: scripts at rest, those in a statement that has assigned something, and what differs."""
+
+    def __init__(self):
+        self.count, self.under_way, self.differs, self.tiers = 0, [], [], set()
+
+
+def plain(value):
+    return SEPARATOR.join(map(str, value)) if isinstance(value, list) else str(value)
+
+
+def is_same(word, value):
+    """Whether a value of a trace is that of a state; of a long one only the beginning is known."""
+    is_cut = word.endswith('"..')
+    word = word[:-2] if is_cut else word
+    known, whole = plain(text_of(word) if word.startswith('"') else value_of(word)), plain(value)
+    return known == whole or (len(whole.encode(errors="surrogateescape")) >= CUT and whole.startswith(known))
+
+
+class Comparison:
+    def __init__(self, binary, path, most, seed=1):
+        self.core, self.path, self.most, self.found = Core(binary, path), path, most, Compared()
+        self.choose, self.texts = random.Random(seed), {}
+
+    def run(self):
+        """Compares up to `most` places of each step."""
+        with self.core.room:
+            self.core.trace()
+            folded = Folded((bytes_of(self.core.traced) or b"").decode(errors="surrogateescape"))
+            self.found.tiers = {it.tier for it in folded.tables.units.values()}
+            steps = worlds.read(world_of(self.path)).steps
+            for step, it in enumerate(steps, 1):
+                if it.word in ("run", "go"):
+                    self.step(folded, step)
+        return self.found
+
+    def step(self, folded, step):
+        last = folded.ends.get(step, 0)
+        segments = range(last + 1)
+        if len(segments) > self.most:
+            segments = sorted({0, last, *self.choose.sample(segments, self.most - 2)})
+        states = {}
+        for segment in segments:
+            folded.go(step, segment)
+            states[segment] = self.core.state((step, segment))
+            scripts = [it for whole in states[segment].objects for it in whole.scripts]
+            for number, script in enumerate(scripts, 1):
+                self.found.count += 1
+                for said in self.of_script(folded, number, script):
+                    self.found.differs.append(f"{step}.{segment} script {number}: {said}")
+        # The segments of the step are counted as they are.
+        if self.core.state((step, LAST)) != states[last]:
+            self.found.differs.append(f"{step} has more than {last} segments")
+        if last and states.get(last - 1) == states[last]:
+            self.found.differs.append(f"{step} has fewer than {last} segments")
+
+    def of_script(self, folded, number, state):
+        unit = folded.unit_of(number)
+        if unit.tier > 3 or state.rest == "dead":
+            return
+        script = folded.scripts[number]
+        if not script.last and state.rest == "idle":
+            # Globals are told from its first handler on.
+            return
+        frames, calls = script.calls(), state.calls[::-1]
+        names = [it.mark.routine.rpartition(".")[2] for it in frames]
+        # One call more is there where a function or a handler is about to begin.
+        if [it.name for it in calls[: len(names)]] != names or len(calls) > len(names) + 1:
+            yield f"its calls are {[it.name for it in calls]}, told {names}"
+            return
+        lines = self.source(unit.file)
+        texts = ["\n".join(lines[it.mark.first - 1 : it.mark.last]) for it in frames]
+        for at, (frame, call) in enumerate(zip(frames, calls)):
+            if at + 1 < len(calls) and not frame.mark.first <= call.line <= frame.mark.last:
+                yield f"{call.name} is at line {call.line}, told {frame.mark.first} to {frame.mark.last}"
+            known = folded.slots[frame.mark.unit, frame.mark.routine]
+            for slot, value in enumerate(call.slots):
+                yield from self.value(unit, known.get(slot), frame.values.get(slot), value, texts[at : at + 1])
+        known = folded.globals[folded.units[number]]
+        for slot, (_, value) in enumerate(state.globals):
+            yield from self.value(unit, known.get(slot), script.globals.get(slot), value, texts)
+
+    def value(self, unit, known, word, value, texts):
+        """What differs of a variable, whose kind and name are known where it is visible."""
+        kind, name = known or (None, None)
+        is_told = unit.tier < 2 or unit.tier == 2 and kind == "integer"
+        if word is None:
+            if known is None or not is_told or value in (0, "", []):
+                return
+            word = {"integer": "0", "list": "[]"}.get(kind, '""')
+        if is_same(word, value):
+            return
+        if name and any(re.search(ASSIGNED.format(re.escape(name)), it) for it in texts):
+            self.found.under_way.append(f"{name} is {plain(value)}, told {word}")
+        else:
+            yield f"{name or 'a variable'} is {plain(value)}, told {word}"
+
+    def source(self, file):
+        if file not in self.texts:
+            self.texts[file] = (bytes_of(file) or b"").decode(errors="surrogateescape").split("\n")
+        return self.texts[file]
+
+
+def compare(binary, path, most=60, seed=1):
+    return Comparison(binary, path, most, seed).run()
