@@ -1,14 +1,18 @@
 """Compares the trace of a world with its states after segments: which calls there are, where, and with which values.
 
 What may differ is a variable that a statement has assigned which isn't over yet, as x in `f(x = 3)`: a trace tells it
-when the next statement begins. A list is told as one text, in which [""] is as [], and a separator in an element as
-one between elements."""
+when the next statement begins. After a reset the globals are told when the next handler begins. A list is told as one
+text, in which [""] is as [], and a separator in an element as one between elements.
+
+A copy may lack the memory for the mark of a call that was just entered, where its script stops in that call. Its fault is
+then told a segment too early, and the state there says so: the script hasn't stopped yet."""
 import random
 import re
 
 from .. import worlds
 from ..places import bytes_of
 from ..program import world_of
+from . import stopping
 from .core import Core, text_of, value_of, words_of
 from .folding import Folded
 
@@ -18,10 +22,11 @@ ASSIGNED = r"\b{0}\s*([-+*/%]?=(?!=)|\+\+|--)|(\+\+|--)\s*{0}\b"
 
 
 class Compared:
-    """What was compared: scripts at rest, those in a statement that has assigned something, and what differs."""
+    """What was compared: scripts at rest, values that are told later, faults that come a segment later, and what
+    differs."""
 
     def __init__(self):
-        self.count, self.under_way, self.differs, self.tiers = 0, [], [], set()
+        self.count, self.later, self.late, self.differs, self.tiers = 0, [], 0, [], set()
 
 
 def plain(value):
@@ -36,10 +41,15 @@ def is_same(word, value):
     return known == whole or (len(whole.encode(errors="surrogateescape")) >= CUT and whole.startswith(known))
 
 
+def is_assigned(name, text):
+    """Whether a text assigns a variable."""
+    return re.search(ASSIGNED.format(re.escape(name)), text) is not None
+
+
 class Comparison:
     def __init__(self, binary, path, most, seed=1):
         self.core, self.path, self.most, self.found = Core(binary, path), path, most, Compared()
-        self.choose, self.texts = random.Random(seed), {}
+        self.choose, self.texts, self.states = random.Random(seed), {}, {}
 
     def run(self):
         """Compares up to `most` places of each step."""
@@ -53,24 +63,42 @@ class Comparison:
                     self.step(folded, step)
         return self.found
 
+    def state(self, step, segment):
+        if (step, segment) not in self.states:
+            self.states[step, segment] = self.core.state((step, segment))
+        return self.states[step, segment]
+
+    def scripts(self, step, segment):
+        return [it for whole in self.state(step, segment).objects for it in whole.scripts]
+
+    def late(self, folded, step):
+        """The segments of a step that its trace hasn't: a script goes on there whose fault is told already."""
+        found = []
+        for segment, number in folded.collisions(step):
+            segment += len(found)
+            more = stopping.late(self.core, number, step, segment)
+            found += range(segment + 1, segment + 1 + more)
+            self.found.late += more > 0
+        return found
+
     def step(self, folded, step):
-        last = folded.ends.get(step, 0)
+        self.states = {}
+        late, told = self.late(folded, step), folded.ends.get(step, 0)
+        last = told + len(late)
         segments = range(last + 1)
         if len(segments) > self.most:
             segments = sorted({0, last, *self.choose.sample(segments, self.most - 2)})
-        states = {}
         for segment in segments:
-            folded.go(step, segment)
-            states[segment] = self.core.state((step, segment))
-            scripts = [it for whole in states[segment].objects for it in whole.scripts]
-            for number, script in enumerate(scripts, 1):
-                self.found.count += 1
-                for said in self.of_script(folded, number, script):
-                    self.found.differs.append(f"{step}.{segment} script {number}: {said}")
+            folded.go(step, segment - sum(it <= segment for it in late))
+            if segment + 1 not in late:
+                for number, script in enumerate(self.scripts(step, segment), 1):
+                    self.found.count += 1
+                    for said in self.of_script(folded, number, script):
+                        self.found.differs.append(f"{step}.{segment} script {number}: {said}")
         # The segments of the step are counted as they are.
-        if self.core.state((step, LAST)) != states[last]:
+        if self.state(step, LAST) != self.state(step, last):
             self.found.differs.append(f"{step} has more than {last} segments")
-        if last and states.get(last - 1) == states[last]:
+        if last and folded.says(step, told) and self.state(step, last - 1) == self.state(step, last):
             self.found.differs.append(f"{step} has fewer than {last} segments")
 
     def of_script(self, folded, number, state):
@@ -94,8 +122,12 @@ class Comparison:
                 yield f"{call.name} is at line {call.line}, told {frame.mark.first} to {frame.mark.last}"
             known = folded.slots[frame.mark.unit, frame.mark.routine]
             for slot, value in enumerate(call.slots):
-                yield from self.value(unit, known.get(slot), frame.values.get(slot), value, texts[at : at + 1])
+                if slot not in known or not folded.is_hidden(frame, slot, known[slot][1]):
+                    yield from self.value(unit, known.get(slot), frame.values.get(slot), value, texts[at : at + 1])
         known = folded.globals[folded.units[number]]
+        if script.is_cleared:
+            self.found.later.append("globals after a reset")
+            return
         for slot, (_, value) in enumerate(state.globals):
             yield from self.value(unit, known.get(slot), script.globals.get(slot), value, texts)
 
@@ -109,8 +141,8 @@ class Comparison:
             word = {"integer": "0", "list": "[]"}.get(kind, '""')
         if is_same(word, value):
             return
-        if name and any(re.search(ASSIGNED.format(re.escape(name)), it) for it in texts):
-            self.found.under_way.append(f"{name} is {plain(value)}, told {word}")
+        if name and any(is_assigned(name, it) for it in texts):
+            self.found.later.append(f"{name} is {plain(value)}, told {word}")
         else:
             yield f"{name or 'a variable'} is {plain(value)}, told {word}"
 

@@ -101,11 +101,13 @@ class Script:
 
     # Statements
 
-    def block(self, count, depth):
+    def block(self, count, depth, last=None):
         self.scopes.append({})
         self.depth += 1
         for _ in range(count):
             self.statement(depth)
+        if last:
+            last()
         self.depth -= 1
         self.scopes.pop()
 
@@ -186,8 +188,7 @@ class Script:
         self.add(f"{kind} f{number}({', '.join(params)}) {{")
         self.add(f"    if (cf < 1) return {EMPTY[kind]};")
         self.functions.append((f"f{number}", kind, kinds))
-        self.block(self.chance.randrange(1, 5), 2)
-        self.add(f"    return {self.value(kind)};")
+        self.block(self.chance.randrange(1, 5), 2, last=lambda: self.add(f"return {self.value(kind)};"))
         self.add("}")
         self.scopes.pop()
 

@@ -4,6 +4,7 @@ from collections import namedtuple
 
 from .. import telling, worlds
 from ..program import world_of
+from . import stopping
 from .breakpoints import Breakpoint, beside, condition_of
 from .core import Core
 
@@ -31,7 +32,7 @@ class Session:
             self.names = telling.Names(self.world)
             self.breakpoints, self.made = {}, 0
             # The script that one looks at, and the values at the last stop.
-            self.script, self.known, self.states = 1, {}, {}
+            self.script, self.known, self.states, self.stops = 1, {}, {}, {}
             self.moment = self.first()
         except BaseException:
             self.core.close()
@@ -48,7 +49,17 @@ class Session:
         return self.core.seek(1, "at", 0, 0) or self.at(1)
 
     def at(self, number):
-        return self.core.seek(number, "to", number)
+        return self.amended(self.core.seek(number, "to", number))
+
+    def amended(self, moment):
+        """The moment, where a script stops for want of memory with all calls that it has then."""
+        line = self.trace.line_at(moment.number) or ""
+        if not line.startswith(FAULT) or stopping.MEMORY not in line:
+            return moment
+        if moment.number not in self.stops:
+            file = self.trace.scripts[moment.script][1]
+            self.stops[moment.number] = stopping.amended(self.core, moment, file)
+        return self.stops[moment.number]
 
     def end(self):
         return self.at(self.trace.count)
@@ -64,7 +75,7 @@ class Session:
     def go(self, moment):
         """Goes to a moment, with what was known at the last one kept for marks."""
         self.known = self.values_at(self.moment)
-        self.moment = moment
+        self.moment = self.amended(moment)
         self.look()
 
     def seen(self, script=None):
