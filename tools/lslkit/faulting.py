@@ -1,18 +1,19 @@
 """Where a script stopped: the line, the function or the event, the variables there, and what the memory was spent on.
 
-The world is cut at the segment in which the fault comes, so that its state before is known; the line within it comes
-from copies with a probe before each statement, and is the last call's where these do something else."""
+The debugger's trace tells it. Where its core can't be had, it is the last saved call of the state before."""
+import contextlib
 import os
 import tempfile
 from collections import namedtuple
 
-from . import journal, past, places, snapshot, stating, viewing
-from .observing import Second
+from . import journal, kit, making, past, places, snapshot, stating, viewing
+from .debugger import core
+from .debugger.session import Session
 
 # Where a script stopped: its fault, its file, the line, the function or event, the variables there as names and values,
-# and the script's state before.
-Place = namedtuple("Place", "fault file line routine variables before")
-MOST_SPENT = 5
+# the calls as names and lines, and the script's state before the segment.
+Place = namedtuple("Place", "fault file line routine variables calls before")
+MOST_SPENT, MOST_CALLS, LAST_CALLS = 5, 6, 2
 MEMORY = "Stack-Heap Collision"
 
 
@@ -21,25 +22,48 @@ def find(history, number):
     step = history.step_of_fault(number)
     if step is None:
         return None
+    binary = debugger()
+    return (traced(binary, history, number) if binary else None) or saved(history, step, number)
+
+
+def debugger():
+    """The debugger's core; none where there is none."""
+    try:
+        return making.debugger()
+    except kit.NotMade:
+        return None
+
+
+def traced(binary, history, number):
+    """Where a script stopped, by the trace of its world; none where that doesn't tell it."""
+    with tempfile.TemporaryDirectory(prefix="lsl-fault-") as room, contextlib.ExitStack() as opened:
+        path = os.path.join(room, "world")
+        places.write_text(path, history.text)
+        try:
+            session = opened.enter_context(contextlib.closing(Session(binary, path)))
+        except core.Refused:
+            return None
+        trace = session.trace
+        session.go(session.at([it for it in trace.faults() if trace.line_at(it).split(" ")[1] == str(number)][-1]))
+        moment = session.moment
+        if not moment.calls:
+            return None
+        variables = [*session.locals_of(moment, 0), *session.globals_of(moment)]
+        known = [(it.name, core.value_of(it.value)) for it in variables if it.value != core.UNKNOWN]
+        calls = [(it.name.rpartition(".")[2], it.line) for it in moment.calls]
+        before = snapshot.scripts(session.state())[number - 1]
+        return Place(session.fault(), moment.file, moment.line, calls[0][0], known, calls, before)
+
+
+def saved(history, step, number):
+    """Where a script stopped, by its state before the segment."""
     it = history.world.steps[step]
     before = before_fault(history, step, number) if it.word in ("run", "go") else history.after(step)
     script = snapshot.scripts(before.state)[number - 1] if before and before.state else None
     fault = next(it for it in history.new_at(step) if it.word == "fault" and it.number == number)
-    file = history.world.scripts[number - 1].file
-    line, routine = line_of(history, step, number) or line_of_call(script)
-    known = variables(script, file, routine)
-    if script is not None and not any(it.name == routine for it in script.calls):
-        known = [*arguments(history, number, file, script.state, routine), *script.globals]
-    return Place(journal.fields(fault.rest)[0][0], file, line, routine, known, script)
-
-
-def arguments(history, number, file, state, routine):
-    """The arguments of the event in which a script stopped before its first tick, by the line that it was taken."""
-    taken = [it for it in history.end().entries if it.word == "took" and it.number == number]
-    event, args = journal.event_of(taken[-1]) if taken else ("", "")
-    values = [text if is_quoted else int(text) for text, is_quoted in journal.fields(args)]
-    names = viewing.slots_of(viewing.routines_of(places.bytes_of(file) or b""), state, routine)
-    return zip(names, values) if event == routine else ()
+    file, calls = history.world.scripts[number - 1].file, [(it.name, it.line) for it in script.calls] if script else []
+    routine, line = calls[0] if calls else (script.event.name if script and script.event else "", 0)
+    return Place(journal.fields(fault.rest)[0][0], file, line, routine, variables(script, file, routine), calls, script)
 
 
 def before_fault(history, step, number):
@@ -50,28 +74,6 @@ def before_fault(history, step, number):
         is_over = past.stops(history.binary, past.cut(history.text, step, middle), number)
         low, high = (low, middle) if is_over else (middle, high)
     return past.moment(history.binary, past.cut(history.text, step, low))
-
-
-def line_of(history, step, number):
-    """The line of the statement that was begun last, and its function or event."""
-    text = past.without_steps(history.text, step + 1)
-    wanted = history.after(step + 1).entries
-    with tempfile.TemporaryDirectory(prefix="lsl-fault-") as room:
-        second = Second(text, room, with_probes=True, with_marks=False, is_full=True)
-        ran = second.run(history.binary)
-    if ran.status:
-        return None
-    kept, observed = second.observe(journal.read(ran.output.decode(errors="surrogateescape")))
-    if [it for it in kept if it.word != "home"] != wanted:
-        return None
-    end = next(at for at, it in enumerate(wanted) if it.word == "fault" and it.number == number)
-    told = [it for place, script, it in observed.probes if script == number and place <= end and it.sort == "line"]
-    return (told[-1].line, told[-1].name) if told else None
-
-
-def line_of_call(script):
-    call = script.calls[0] if script and script.calls else None
-    return (call.line, call.name) if call else (0, script.event.name if script and script.event else "")
 
 
 def variables(script, file, routine):
@@ -94,7 +96,14 @@ def lines(history, number):
     where = f"{os.path.basename(place.file)}:{place.line}" if place.line else os.path.basename(place.file)
     inside = f", in {place.routine}" if place.routine else ""
     said = [f"{place.fault} at {where}{inside}" + (f", with {known}" if known else "")]
-    return said + (memory(place, teller) if place.fault == MEMORY and place.before else [])
+    return said + ([*stack(place), *memory(place, teller)] if place.fault == MEMORY and place.before else [])
+
+
+def stack(place):
+    """The calls around the one in which a script stopped."""
+    outer = [f"  called by {name} at line {line}" for name, line in place.calls[1:]]
+    left = len(outer) - MOST_CALLS
+    return [*outer[: MOST_CALLS - LAST_CALLS], f"  .. {left:,} more", *outer[-LAST_CALLS:]] if left > 0 else outer
 
 
 def memory(place, teller):

@@ -1,9 +1,11 @@
 """Shows a journal readably: steps and clock between its lines, names in place of numbers, and a summary."""
+import re
 import sys
 from collections import Counter
 
-from . import faults, journal, observing, telling, timeline, worlds
+from . import faulting, faults, journal, observing, past, telling, timeline, worlds
 from .places import write_text
+from .quoting import quoted
 
 COLOURS = {
     "step": "1;36",
@@ -18,6 +20,7 @@ COLOURS = {
     "done": "2",
     "home": "2",
 }
+FAULT = re.compile(r'(?m)^fault (\d+) ".*"$')
 
 
 class Painter:
@@ -85,6 +88,17 @@ def counted(count, noun):
     return f"{count:,} {noun}" + ("" if count == 1 else "s")
 
 
+def with_places(binary, text, world_text):
+    """The journal's text with where each script stopped and its variables there, behind the fault."""
+    history = past.Past(binary, world_text)
+
+    def placed(found):
+        said = faulting.lines(history, int(found[1]))
+        return f"fault {found[1]} {quoted(said[0])}" if said else found[0]
+
+    return FAULT.sub(placed, text)
+
+
 def show(binary, text, world_text, html=None, is_shown=True, is_coloured=None, hidden=()):
     """Prints a journal readably, or writes its page; the status."""
     try:
@@ -98,7 +112,8 @@ def show(binary, text, world_text, html=None, is_shown=True, is_coloured=None, h
         print("show: the steps are left out: the world wasn't played again to this journal", file=sys.stderr)
     if html:
         names = [it.prims[0].name for it in world.objects if it.prims[0].name] if world else []
-        write_text(html, timeline.page(text, world_text, observed, ", ".join(names[:4]) or "Journal"))
+        told = with_places(binary, text, world_text) if observed else text
+        write_text(html, timeline.page(told, world_text, observed, ", ".join(names[:4]) or "Journal"))
         print(f"show: {html} is written", file=sys.stderr)
     if is_shown or not html:
         painter = Painter(sys.stdout.isatty() if is_coloured is None else is_coloured)

@@ -96,10 +96,14 @@ class Comparison:
                     for said in self.of_script(folded, number, script):
                         self.found.differs.append(f"{step}.{segment} script {number}: {said}")
         # The segments of the step are counted as they are.
-        if self.state(step, LAST) != self.state(step, last):
+        if self.said(step, LAST) != self.said(step, last):
             self.found.differs.append(f"{step} has more than {last} segments")
-        if last and folded.says(step, told) and self.state(step, last - 1) == self.state(step, last):
+        if last and folded.says(step, told) and self.said(step, last - 1) == self.said(step, last):
             self.found.differs.append(f"{step} has fewer than {last} segments")
+
+    def said(self, step, segment):
+        """The journal and the state after a segment, as they are printed."""
+        return self.core.run("state", "--at", str(step), str(segment), self.path)
 
     def of_script(self, folded, number, state):
         unit = folded.unit_of(number)

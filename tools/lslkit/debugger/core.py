@@ -12,7 +12,7 @@ from ..quoting import QUOTED, unquoted
 
 WORD = re.compile(rf"{QUOTED}(?:\.\.)?|\[(?:[^\"\]]|{QUOTED})*\]|[^ ]+")
 ITEM = re.compile(rf"{QUOTED}|-?\d+")
-NOWHERE = "nowhere"
+NOWHERE, UNKNOWN = "nowhere", "?"
 # The moments at which one stops, by the sorts of their marks.
 STOPS = ("stmt", "again", "leave")
 
@@ -22,8 +22,8 @@ Unit = namedtuple("Unit", "file tier")
 Mark = namedtuple("Mark", "unit routine sort first last")
 # A line of the journal, and its moment.
 Said = namedtuple("Said", "moment step segment line")
-# Where a move led: `calls` has the innermost first, `values` are the script's globals.
-Moment = namedtuple("Moment", "number count step segment script file line sort calls values")
+# Where a move led: `calls` has the innermost first, `values` are the script's globals, and `said` is the journal's line.
+Moment = namedtuple("Moment", "number count step segment script file line sort calls values said")
 Call = namedtuple("Call", "name line variables")
 Variable = namedtuple("Variable", "name kind value")
 
@@ -157,7 +157,7 @@ def moment_of(lines):
     if lines[:1] == [NOWHERE]:
         return None
     number, count, step, segment = 0, 0, 0, 0
-    script, file, line, sort, calls, values = 0, None, 0, "said", [], []
+    script, file, line, sort, calls, values, said = 0, None, 0, "said", [], [], ""
     for it in lines:
         word, *rest = words_of(it)
         if word == "moment":
@@ -166,16 +166,19 @@ def moment_of(lines):
             step, segment = map(int, rest)
         elif word == "at":
             script, file, line, sort = int(rest[0]), text_of(rest[1]), int(rest[2]), rest[3]
+        elif word == "said":
+            said = it.partition(" ")[2]
         elif word == "call":
             calls.append(Call(rest[0], int(rest[1]), []))
         elif word in ("slot", "global"):
             name, kind, value = it.split(" ", 3)[1:]
             (calls[-1].variables if word == "slot" else values).append(Variable(name, kind, value))
-    return Moment(number, count, step, segment, script, file, line, sort, calls, values)
+    return Moment(number, count, step, segment, script, file, line, sort, calls, values, said)
 
 
 def value_of(word):
-    """The value that a word is: a number, a text or a list."""
+    """The value that a word is: a number, a text or a list. Of a long one only the beginning is known."""
+    word = word[:-2] if word.endswith('"..') else word
     if word.startswith("["):
         return [value_of(it[0]) for it in ITEM.finditer(word[1:-1])]
     return text_of(word) if word.startswith('"') else int(word)

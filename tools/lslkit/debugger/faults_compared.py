@@ -14,7 +14,7 @@ from .face import Face
 from .session import Session
 
 # Values of which a trace has the beginning alone.
-MOST = 1000
+MOST, UNKNOWN = 1000, "?"
 
 
 def shown(session):
@@ -23,22 +23,24 @@ def shown(session):
     session.go(session.at(number))
     moment = session.moment
     variables = [*session.globals_of(moment), *session.locals_of(moment, 0)]
-    values = {it.name: it.value for it in variables if len(it.value) < MOST}
+    values = {it.name: it.value for it in variables if len(it.value) < MOST and it.value != UNKNOWN}
     plain = session.core.seek(number, "to", number)
-    routine = Face.routine(moment.calls[0].name)
-    return random_faults.Stop(session.fault(), moment.line, routine, values, len(moment.calls)), moment != plain
+    routine = Face.routine(moment.calls[0].name) if moment.calls else None
+    found = random_faults.Stop(session.fault(), moment.line, routine, values, len(moment.calls), ())
+    return found, moment != plain
 
 
 def differences(found, wanted, is_amended, text):
-    """What is shown otherwise. In a call that no mark tells the line is that of its name, and what the statement itself
-    assigns isn't told any more."""
+    """What is shown otherwise. In a call that no mark tells the line is that of its name, and what the statements under
+    way have assigned isn't told any more."""
     names = ["fault", "routine", "depth"] + ([] if is_amended else ["line"])
     for it in names:
         if getattr(found, it) != getattr(wanted, it):
             yield f"{it} is {getattr(wanted, it)}, shown {getattr(found, it)}"
-    line = text.split("\n")[wanted.line - 1]
+    lines = text.split("\n")
+    under_way = "\n".join(lines[it - 1] for it in wanted.lines)
     for name, value in wanted.values.items() if not is_amended else ():
-        if not is_assigned(name, line) and name in found.values and found.values[name] != frozen.word(value):
+        if not is_assigned(name, under_way) and name in found.values and found.values[name] != frozen.word(value):
             yield f"{name} is {frozen.word(value)}, shown {found.values[name]}"
 
 

@@ -11,8 +11,9 @@ MATH, LISTENS, MEMORY = "Math Error", "Too Many Listens", "Stack-Heap Collision"
 EMPTY = {"integer": 0, "string": ""}
 MOST_STEPS = 20000
 Routine = namedtuple("Routine", "name line params slots body")
-# Where a script stops: its fault, the line of the statement, the function or event, its variables, and how many calls.
-Stop = namedtuple("Stop", "fault line routine values depth")
+# Where a script stops: its fault, the line of the statement, the function or event, its variables, how many calls, and
+# the lines of the statements of all of them.
+Stop = namedtuple("Stop", "fault line routine values depth lines")
 
 
 class Stopped(Exception):
@@ -211,7 +212,7 @@ class Machine:
             self.enter(self.routines["state_entry"], [])
         except Stopped as error:
             name, values = self.frames[-1]
-            return Stop(f"{error}", self.line[-1], name, {**values, **self.globals}, len(self.frames))
+            return Stop(f"{error}", self.line[-1], name, {**values, **self.globals}, len(self.frames), self.line)
         except TooLong:
             pass
         return None

@@ -49,16 +49,16 @@ class Session:
         return self.core.seek(1, "at", 0, 0) or self.at(1)
 
     def at(self, number):
-        return self.amended(self.core.seek(number, "to", number))
+        return self.whole(self.core.seek(number, "to", number))
 
-    def amended(self, moment):
-        """The moment, where a script stops for want of memory with all calls that it has then."""
+    def whole(self, moment):
+        """The moment, where a script stops for good with all that is known there."""
         line = self.trace.line_at(moment.number) or ""
-        if not line.startswith(FAULT) or stopping.MEMORY not in line:
+        if not line.startswith(FAULT) or not moment.step:
             return moment
         if moment.number not in self.stops:
-            file = self.trace.scripts[moment.script][1]
-            self.stops[moment.number] = stopping.amended(self.core, moment, file)
+            number = int(line.split(" ")[1])
+            self.stops[moment.number] = stopping.whole(self.core, moment, number, self.trace.scripts[number][1])
         return self.stops[moment.number]
 
     def end(self):
@@ -75,7 +75,7 @@ class Session:
     def go(self, moment):
         """Goes to a moment, with what was known at the last one kept for marks."""
         self.known = self.values_at(self.moment)
-        self.moment = self.amended(moment)
+        self.moment = self.whole(moment)
         self.look()
 
     def seen(self, script=None):
