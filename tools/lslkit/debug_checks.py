@@ -2,6 +2,8 @@
 editor."""
 import glob
 import os
+import re
+import shlex
 import subprocess
 
 from . import kit, making, places
@@ -77,6 +79,19 @@ def the_debugger_does_scripts_of_commands():
         need(ran.stdout.decode() == wanted, os.path.basename(name), "says", ran.stdout.decode(), ran.stderr.decode())
         is_wrong = os.path.basename(name).startswith("wrong")
         need(ran.returncode == int(is_wrong), os.path.basename(name), "ended with", ran.returncode)
+
+
+@check
+def the_debuggers_sessions_are_as_documented():
+    """The sessions of docs/DEBUGGING.md, which were typed where the scripts are."""
+    found = re.findall(r"(?s)```\n\$ lsl (debug .*?)\n(.*?)```", places.text_of("docs", "DEBUGGING.md"))
+    need(len(found) == 6, "there are", len(found), "sessions")
+    for words, wanted in found:
+        typed = "".join(f"{it}\n" for it in re.findall(r"(?m)^\(lsl\) (.*)$", wanted))
+        how = {"stdout": subprocess.PIPE, "stderr": subprocess.STDOUT, "cwd": SCRIPTS, "timeout": SECONDS}
+        command = ["sh", "-c", f"exec {shlex.quote(places.in_top('lsl'))} {words}"]
+        said = subprocess.run(command, input=typed.encode(), env=environment(), check=False, **how).stdout.decode()
+        need(said == wanted, words, "says", said)
 
 
 @check

@@ -1,4 +1,6 @@
 """What a script holds, waits for and listens to, as lines for a reader."""
+import itertools
+
 from . import frozen, telling
 from .quoting import quoted
 
@@ -33,6 +35,12 @@ class Teller:
         toucher = f" by {event.toucher[1] or 'someone'}" if event.toucher and event.toucher[1] else ""
         return f"{event.name}({', '.join(map(self.value, event.args))}){toucher}"
 
+    def events(self, queue):
+        """The events of a queue; the same ones after one another are said once."""
+        for said, same in itertools.groupby(map(self.event, queue)):
+            count = len(list(same))
+            yield said if count == 1 else f"{said} {count} times"
+
     def listen(self, listen):
         asked = [f"the name {quoted(listen.name)}"] if listen.name else []
         asked += [f"from {self.value(listen.id)}"] if listen.id not in ("", NO_KEY) else []
@@ -43,7 +51,7 @@ class Teller:
     def lines(self, script):
         """All but its state and its calls."""
         yield from self.row("globals", [f"{name} = {self.value(value)}" for name, value in script.globals])
-        yield from self.row("waiting", [self.event(it) for it in script.queue], f"{len(script.queue)} of 64: ")
+        yield from self.row("waiting", list(self.events(script.queue)), f"{len(script.queue)} of 64: ")
         yield from self.row("listens", [self.listen(it) for it in script.listens])
         if script.timer[0]:
             yield f"timer: each {script.timer[0]} s, due at {telling.seconds(script.timer[1])} s"

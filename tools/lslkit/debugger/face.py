@@ -1,4 +1,5 @@
 """What the terminal shows: where a script is, its source line, what changed, and what was said on the way."""
+import itertools
 import re
 import sys
 
@@ -16,6 +17,13 @@ TIERS = {
     3: "no values are known",
     4: "no statement is known: only what it says, and its state between segments",
 }
+
+
+def grouped(lines):
+    """Lines of which the same ones after one another are one."""
+    for line, same in itertools.groupby(lines):
+        count = len(list(same))
+        yield line if count == 1 else f"{line}, {count:,} times"
 
 
 class Face:
@@ -79,6 +87,7 @@ class Face:
         for it in said:
             lines += self.steps_to(it.step)
             lines.append(f"  | {self.said(it.line)}")
+        lines = list(grouped(lines))
         if len(lines) > MOST_LINES:
             lines[:-MOST_LINES] = [f"  | ... and {len(lines) - MOST_LINES:,} before: 'journal' shows them"]
         return lines
@@ -97,7 +106,7 @@ class Face:
         clocks = telling.clocks(world)
         numbers = range(last if step > last else step - 1, min(step, len(world.steps))) if step not in (0, last) else ()
         shown = [it for it in numbers if world.steps[it].word not in ("run", "go") or it == step - 1]
-        return [self.step_line(clocks[it], world.steps[it]) for it in shown[-MOST_LINES:]]
+        return list(grouped(self.step_line(clocks[it], world.steps[it]) for it in shown))[-MOST_LINES:]
 
     def step_line(self, clock, step):
         return self.paint("step", f"[{telling.seconds(clock)}] {self.session.names.step(step)}")

@@ -152,7 +152,8 @@ def info_queue(face):
     teller = stating.Teller(face.session.world)
     for _, name, it in scripts(face):
         taken = [f"takes {teller.event(it.event)}"] if it.event else []
-        face.say(f"{name}: {'; '.join([*taken, *map(teller.event, it.queue)]) or NOTHING}")
+        waiting = [f"{len(it.queue)} of 64 wait: {'; '.join(teller.events(it.queue))}"] if it.queue else []
+        face.say(f"{name}: {'; '.join([*taken, *waiting]) or NOTHING}")
 
 
 def info_listens(face):
