@@ -13,9 +13,7 @@ from .places import in_top, text_of, write_text
 from .progress import Progress
 
 CRATE = "lsl_page"
-EXPORT = "lsl_page_run"
-# The export's name where a program calls it.
-ROOT = f'"{CRATE}::{EXPORT}"'
+EXPORTS = ("lsl_page_run", "lsl_page_trace", "lsl_page_seek", "lsl_page_state")
 MODULE = in_top("out", "page", "lsl_page.wasm")
 # What the module is made of beside the crates.
 PARTS = (("page", "heap.c"), ("tools", "lslkit", "webmodule.py"))
@@ -30,11 +28,14 @@ SECTIONS = ("-ffunction-sections", "-fdata-sections", "-O3", "-c")
 # What the module says of the processor that it was lowered for.
 OF_PROCESSOR = re.compile(r' "(?:frame-pointer|probe-stack|stack-probe-size|target-cpu|target-features)"="[^"]*"')
 EMPTY_GROUP = re.compile(r"^(attributes #\d+ = \{)\s*\}")
-# A program that calls the export. Without proofs a crate is lowered where a program uses it.
+# A program that calls the exports. Without proofs a crate is lowered where a program uses it.
 CALLER = """\
 fn main(rt: HostRuntime) {
-    let (mut page, mut written) = ([0], 0);
-    lsl_page::lsl_page_run(rt.alloc(), &[], &[], &[], &[], &mut page, &mut written);
+    let (alloc, mut page, mut written) = (rt.alloc(), [0], 0);
+    lsl_page::lsl_page_run(alloc, &[], &[], &[], &[], &mut page, &mut written);
+    lsl_page::lsl_page_trace(alloc, &[], 0, 0, &[], &[], &mut page, &mut written);
+    lsl_page::lsl_page_seek(alloc, &[], 0, &[], &[], &[], &mut page, &mut written);
+    lsl_page::lsl_page_state(alloc, &[], 0, 0, &[], &[], &mut page, &mut written);
 }
 """
 
@@ -59,6 +60,11 @@ def made_as(module=MODULE):
 
 
 # From the crate to a module of LLVM
+
+
+def named_in(name):
+    """The name of an export in the module of a program that calls it."""
+    return f'"{CRATE}::{name}"'
 
 
 def libraries():
@@ -90,7 +96,7 @@ def proved(room, progress):
 
 
 def tried(room, progress):
-    """The parts of the module of LLVM of a program that calls the crate's export, without its proofs. The program is in
+    """The parts of the module of LLVM of a program that calls the crate's exports, without its proofs. The program is in
     a repository of its own, with the sources that it is made of."""
     crates, name, below = os.path.join(room, "top", "crates"), f"{CRATE}_caller", sources.crates_of(CRATE)
     for it in below:
@@ -100,7 +106,7 @@ def tried(room, progress):
     lines = sources.lines_of(below).replace(" staticlib:", ":")
     write_text(f"{crates}.txt", f"{lines}{name}: {CRATE}\n")
     text, _ = lowering.lowered(os.path.join(crates, name), room, progress)
-    return unproved.parts_of(text, ROOT, below)
+    return unproved.parts_of(text, [named_in(it) for it in EXPORTS], below)
 
 
 # From there to a module of WebAssembly
@@ -121,14 +127,15 @@ def for_wasm(line, begins):
         raise NotMade("the module has instructions of the processor that it was lowered for")
     if line.startswith("attributes #"):
         return EMPTY_GROUP.sub(r"\1 nounwind }", OF_PROCESSOR.sub("", line))
-    return exported(line, EXPORT)
+    return exported(line, EXPORTS)
 
 
-def exported(line, name):
-    """A line of a module, which exports the function of this name."""
-    line = line.replace(f"@{ROOT}(", f"@{EXPORT}(")
-    if line.startswith("define ") and f"@{name}(" in line:
-        return re.sub(r" (#\d+) \{", rf' \1 "wasm-export-name"="{name}" {{', line)
+def exported(line, names):
+    """A line of a module, which exports the functions of these names."""
+    for name in names:
+        line = line.replace(f"@{named_in(name)}(", f"@{name}(")
+        if line.startswith("define ") and f"@{name}(" in line:
+            return re.sub(r" (#\d+) \{", rf' \1 "wasm-export-name"="{name}" {{', line)
     return line
 
 
@@ -141,12 +148,12 @@ def compiled(parts, room, progress):
     return linked([*objects, of_c(in_top("page", "heap.c"), room)], room)
 
 
-def of_c(path, room, export=None):
+def of_c(path, room, exports=()):
     """A file in C, compiled for the module. By an attribute in C a function can't be exported without a table."""
     text, made = os.path.join(room, "c.ll"), os.path.join(room, "c.o")
     run([kit.clang(), *COMPILER, "-O2", "-S", "-emit-llvm", "-ffreestanding", "-nostdinc", "-x", "c", path, "-o", text])
     with open(text, encoding="utf-8") as file:
-        lines = [exported(line, export) for line in file]
+        lines = [exported(line, exports) for line in file]
     write_text(text, "".join(lines))
     run([kit.clang(), *COMPILER, *SECTIONS, "-x", "ir", text, "-o", made])
     return made

@@ -120,7 +120,7 @@ def examples_come_to_the_same():
 @test
 def the_heap_keeps_its_blocks():
     with tempfile.TemporaryDirectory(prefix="lsl-page-") as room:
-        made = webmodule.of_c(places.in_top("page", "tests", "heap_faults.c"), room, "faults")
+        made = webmodule.of_c(places.in_top("page", "tests", "heap_faults.c"), room, ["faults"])
         words = [*node(), "-e", HEAP_RUN, webmodule.linked([made], room), str(HEAP_ROUNDS)]
         ran = subprocess.run(words, stdout=subprocess.PIPE, check=False)
     need(ran.returncode == 0 and ran.stdout == b"0", "faults:", ran.stdout)

@@ -18,10 +18,15 @@ mod request_shelf;
 mod returning_link;
 mod room_sink;
 mod run;
+mod stepping;
 mod words;
 
+use crate::request_shelf::RequestShelf;
+use crate::room_sink::RoomSink;
 use crate::run::answer;
+use crate::stepping::{position, write_moment, write_state, write_trace};
 use crate::words::Refused;
+use lsl_top::Status;
 pub use place::Place;
 use std::alloc::Global;
 
@@ -70,7 +75,96 @@ pub extern "C" fn lsl_page_run(
     // What was written is at most the room.
     ensures within { written.new ≤ length page.new }
 {
-    match answer(alloc, word, file, bytes, places, page, written) {
+    number_of_answer(answer(alloc, word, file, bytes, places, page, written))
+}
+
+/// Writes the trace of a world file, from the step `first` to the step `last` of it (docs/DEBUGGING.md). Steps are
+/// counted from 1. The files and the output are as those of [`lsl_page_run`], and so is the answer; a journal that is
+/// too long to be traced counts as an output that doesn't fit.
+#[unsafe(no_mangle)]
+pub extern "C" fn lsl_page_trace(
+    alloc: Global,
+    file: &[u8],
+    first: usize,
+    last: usize,
+    bytes: &[u8],
+    places: &[Place],
+    page: &mut [u8],
+    written: &mut usize,
+) -> u8
+    ensures form { result ≡ 9 → ¬ IsAsked file.now bytes.now places.now }
+    ensures nothing { 9 ≤ result → written.new ≡ 0 }
+    ensures number { result ≤ 10 }
+    ensures within { written.new ≤ length page.new }
+{
+    let mut shelf = RequestShelf::new(bytes, places);
+    let mut sink = RoomSink::new(page);
+    let answered = write_trace(alloc, file, (first, last), &mut shelf, &mut sink);
+    *written = sink.count();
+    number_of_answer(answered)
+}
+
+/// Writes the lines of the moment to which a move leads from the moment `moment` of a trace, or `nowhere`. `words` has
+/// the move's words, each a line; without a word the moment itself is shown. The files and the output are as those of
+/// [`lsl_page_run`]; the answer is the number of a status: of `Usage` where the words are no move, and of `BadWorld`
+/// where the file isn't a trace.
+#[unsafe(no_mangle)]
+pub extern "C" fn lsl_page_seek(
+    alloc: Global,
+    file: &[u8],
+    moment: usize,
+    words: &[u8],
+    bytes: &[u8],
+    places: &[Place],
+    page: &mut [u8],
+    written: &mut usize,
+) -> u8
+    ensures form { result ≡ 9 → ¬ (IsAsked file.now bytes.now places.now × IsUtf8 words.now) }
+    ensures nothing { 9 ≤ result → written.new ≡ 0 }
+    ensures number { result ≤ 10 }
+    ensures within { written.new ≤ length page.new }
+{
+    let shelf = RequestShelf::new(bytes, places);
+    let mut sink = RoomSink::new(page);
+    let answered = write_moment(alloc, file, moment, words, &shelf, &mut sink);
+    *written = sink.count();
+    number_of_answer(answered)
+}
+
+/// Writes the journal of a world file up to a position, and then what the world holds there (docs/DEBUGGING.md): after
+/// `segment` segments of the step `step`, counted from 1, or after all steps where `step` is 0. The files, the output
+/// and the answer are as those of [`lsl_page_run`].
+#[unsafe(no_mangle)]
+pub extern "C" fn lsl_page_state(
+    alloc: Global,
+    file: &[u8],
+    step: usize,
+    segment: usize,
+    bytes: &[u8],
+    places: &[Place],
+    page: &mut [u8],
+    written: &mut usize,
+) -> u8
+    ensures form { result ≡ 9 → ¬ IsAsked file.now bytes.now places.now }
+    ensures nothing { 9 ≤ result → written.new ≡ 0 }
+    ensures number { result ≤ 10 }
+    ensures within { written.new ≤ length page.new }
+{
+    let mut shelf = RequestShelf::new(bytes, places);
+    let mut sink = RoomSink::new(page);
+    let at = position(step, segment);
+    let answered = write_state(alloc, file, at, &mut shelf, &mut sink);
+    *written = sink.count();
+    number_of_answer(answered)
+}
+
+/// The number with which a request is answered.
+fn number_of_answer(answered: Result<Status, Refused>) -> u8
+    ensures ok { IfOk answered (λ status. result ≡ number_of status) }
+    ensures form { IsErrOf answered Refused.NotInForm → result ≡ 9 }
+    ensures memory { IsErrOf answered Refused.NoMemory → result ≡ 10 }
+{
+    match answered {
         Ok(status) => status.number(),
         Err(Refused::NotInForm) => NOT_IN_FORM,
         Err(Refused::NoMemory) => NO_MEMORY,

@@ -6,6 +6,7 @@ ghost use Rattle.lsl_page.specs.Request.{files_in};
 ghost use Rattle.lsl_page.specs.Faults.{faults_in};
 
 use crate::place::Place;
+use crate::words::Refused;
 use lsl_ports::{Failed, Shelf};
 
 /// The files of a request, which are read where they stand among its bytes. Of two files of one name the first counts.
@@ -30,8 +31,22 @@ impl<'a> RequestShelf<'a> {
         }
     }
 
+    /// Whether all places lie within the bytes: else the request isn't in its form.
+    pub fn check(&self) -> Result<(), Refused>
+        ensures ok { IfOk result (λ _. All (λ p. IsTrue (is_in self.now.bytes.now p)) self.now.places.now) }
+        ensures err { OnErr result (¬ All (λ p. IsTrue (is_in self.now.bytes.now p)) self.now.places.now) }
+        ensures form { IfErr result (λ refused. refused ≡ Refused.NotInForm) }
+    {
+        let bytes = self.bytes;
+        if self.places.iter().all(|place| place.is_in(bytes)) {
+            Ok(())
+        } else {
+            Err(Refused::NotInForm)
+        }
+    }
+
     /// The text of a file, or none where no file has the name. It takes no memory.
-    fn text_of(&self, name: &str) -> Option<&'a [u8]>
+    pub fn text_of(&self, name: &str) -> Option<&'a [u8]>
         ensures { option_map (λ text. text.now) result ≡ files_in self.now.bytes.now self.now.places.now name.now }
     {
         let bytes = self.bytes;

@@ -3,7 +3,7 @@ ghost use Rattle.std.specs.Prelude.{◌≡◌, IfOk, IsErrOf, string_bytes};
 ghost use Rattle.std.specs.Str.{IsUtf8};
 ghost use Rattle.lsl_page.specs.declared.words.Refused.TheVariants.{NoMemory as WithoutMemory};
 
-use std::alloc::{AllocError, Global};
+use std::alloc::{AllocError, AllocFailed, Global};
 use std::str;
 
 /// Why a request isn't run.
@@ -23,6 +23,14 @@ impl From<AllocError> for Refused {
     }
 }
 
+impl<T: Drop> From<AllocFailed<T>> for Refused {
+    ghost from_gives = { λ _ refused. refused ≡ WithoutMemory };
+
+    fn from(_: AllocFailed<T>) -> Refused {
+        Refused::NoMemory
+    }
+}
+
 /// A word from its bytes. It takes memory for a copy.
 pub fn read_word(alloc: Global, bytes: &[u8]) -> Result<String, Refused>
     ensures ok { IfOk result (λ word. (string_bytes word ≡ bytes.now) × IsUtf8 bytes.now) }
@@ -30,6 +38,25 @@ pub fn read_word(alloc: Global, bytes: &[u8]) -> Result<String, Refused>
 {
     match str::from_utf8(bytes) {
         Ok(word) => Ok(String::from_str(alloc, word)?),
+        Err(_) => Err(Refused::NotInForm),
+    }
+}
+
+/// The words of some lines, each a line. It takes memory for copies.
+pub fn read_lines(alloc: Global, bytes: &[u8]) -> Result<Vec<String>, Refused>
+    ensures form { IsErrOf result Refused.NotInForm → ¬ IsUtf8 bytes.now }
+{
+    let mut words = Vec::new(alloc);
+    if bytes.is_empty() {
+        return Ok(words);
+    }
+    match str::from_utf8(bytes) {
+        Ok(text) => {
+            for line in text.split('\n') {
+                words.push(String::from_str(alloc, line)?)?;
+            }
+            Ok(words)
+        }
         Err(_) => Err(Refused::NotInForm),
     }
 }
