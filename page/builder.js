@@ -14,9 +14,10 @@ const ORDER = ["touch", "say", "clock", "cross", "changed", "rez", "run", "go", 
 const NAMED = { clock: "wait" };
 
 export class Builder {
-  // `words` is the table of steps.
-  constructor(play, editor, words) {
-    Object.assign(this, { play, editor, words });
+  // `words` is the table of steps. `waited` promises a world file that waits so many milliseconds after its steps, or
+  // nothing where none can be played.
+  constructor(play, editor, words, waited) {
+    Object.assign(this, { play, editor, words, waited });
     play.listen(what => what !== "before" && this.follow());
     at("builder").addEventListener("toggle", () => this.draw());
     at("add-world").addEventListener("click", () => this.begin());
@@ -81,11 +82,19 @@ export class Builder {
     return forms.map(({ element, change }) => {
       element.addEventListener("submit", event => {
         event.preventDefault();
-        const text = change(fieldsOf(element));
-        if (text !== undefined) this.put(text, document.activeElement);
+        this.change(() => change(fieldsOf(element)), document.activeElement);
       });
       return element;
     });
+  }
+
+  // Makes a change of the world file. One that takes time is made again where the file has changed meanwhile.
+  async change(made, focused) {
+    const [{ name }, before] = [this.play.shown, this.text];
+    const text = await made();
+    if (this.play.shown.name !== name || text === undefined) return;
+    if (this.text !== before) this.change(made, focused);
+    else this.put(text, focused);
   }
 
   // Puts a new text into the editor, whose undo takes it back; the focus stays in the form.
@@ -157,13 +166,20 @@ export class Builder {
     return made[name]?.();
   }
 
-  addStep(values) {
+  // A wait goes from one moment at which something is due to the next, where that can be found out.
+  async addStep(values) {
+    const milliseconds = Math.max(0, Math.round(Number(values.seconds) * 1000) || 0);
+    const waited = this.step === "clock" ? await this.waited(this.text, milliseconds).catch(() => null) : null;
+    return waited ?? this.withOne(values, milliseconds);
+  }
+
+  withOne(values, milliseconds) {
     const key = () => keyOfPerson(this.text, values.person);
     const number = name => String(Math.trunc(Number(values[name])) || 0);
     const made = {
       OBJECT: () => values.object, SCRIPT: () => values.script, LINK: () => values.link, KEY: key,
       NAME: () => quoted(values.person), REGION: () => quoted(values.region), TEXT: () => quoted(values.text),
-      MS: () => String(clockOf(this.world) + Math.max(0, Math.round(Number(values.seconds) * 1000))),
+      MS: () => String(clockOf(this.world) + milliseconds),
       CHANNEL: () => number("channel"), FLAGS: () => number("flags"), N: () => number("start parameter"),
       TICKS: () => number("segments"), GAPS: () => values.gaps,
     };

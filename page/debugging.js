@@ -50,7 +50,7 @@ export class Debugging {
   hear(answer) {
     const act = {
       traced: () => this.begun(answer), untraced: () => this.refused(answer), looked: () => this.looked(answer),
-      sought: () => this.sought(answer), state: () => this.seen.state(answer.lines, this.view),
+      sought: () => this.sought(answer), state: () => this.seen.state(answer, this.view),
       failed: () => this.seen.fail(answer.error),
     }[answer.kind];
     act?.();

@@ -21,5 +21,7 @@ addEventListener("message", ({ source, origin, data }) => {
   words = data.words ?? words;
   if (data.port) listen(data.port);
   if (data.moment !== undefined) view.follow(data.moment);
+  if (data.world) view.showWorld(data.world.name, data.world.lines);
+  if (data.isStepping !== undefined) view.leaveWorld(data.isStepping);
 });
 parent.postMessage({ isReady: true }, location.origin);

@@ -31,7 +31,7 @@ class Page {
     this.panels = new Panels(words, (name, line, place) => this.go(name, line, place));
     this.problems = new Problems(this.play, this.editor, (name, line, place) => this.go(name, line, place));
     this.filePanel = new FilePanel(this.play, this.editor);
-    this.builder = new Builder(this.play, this.editor, words.steps);
+    this.builder = new Builder(this.play, this.editor, words.steps, async (...asked) => this.running?.wait(...asked));
     this.choices = new Choices(this.editor, this.play, lookup);
     this.hints = new Hints(this.editor, this.play, lookup);
     this.choices.said = it => this.hints.show(it);
@@ -122,11 +122,11 @@ class Page {
     return this.play.files.length > 0 && JSON.stringify(this.play.parts) !== this.example;
   }
 
-  makeWorld() {
-    const put = world => this.play.setWay("replay", this.play.put("steps.world", world));
+  async makeWorld() {
+    const { play, words, running } = this;
     try {
-      if (this.running) this.running.stage(put);
-      else put(stagedWorld(this.play.file, this.play.steps, this.words.steps));
+      const world = running ? await running.stage() : stagedWorld(play.file, play.steps, words.steps);
+      play.setWay("replay", play.put("steps.world", world));
     } catch (error) {
       if (!(error instanceof BadStep)) throw error;
       this.panels.status({ text: error.message, sort: "bad" }, "");
@@ -184,7 +184,7 @@ class Page {
   async addStepping(module, isFirst) {
     const found = await module.catch(() => null);
     if (!found || !hasCore(found)) return;
-    this.panels.addStepping(new StepPanel(module, this.grammar, view => this.panels.follow(view)));
+    this.panels.addStepping(new StepPanel(module, this.grammar, this.panels));
     if (isFirst && location.hash === "") this.panels.showCrossing();
   }
 }

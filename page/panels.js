@@ -17,9 +17,9 @@ export class Panels {
     this.journal = new Rows(at("journal"), line => rowOf("", [this.journalLine(line), ""]));
     this.tabs = new TabList(at("views"), view => this.want(view));
     this.sides = new TabList(at("sides"), side => this.turnTo(side));
-    const ready = new Promise(resolve => (this.isReady = resolve));
+    this.ready = new Promise(resolve => (this.isReady = resolve));
     // Hands the frame the port on which it hears the worker.
-    this.wire = port => ready.then(() => this.frame.postMessage({ words, port }, location.origin, [port]));
+    this.wire = port => this.ready.then(() => this.frame.postMessage({ words, port }, location.origin, [port]));
     addEventListener("message", event => this.hear(event));
     at("timeline").src = "timeline.html";
     this.want(0);
@@ -41,6 +41,8 @@ export class Panels {
       at(panel).setAttribute("aria-labelledby", id);
     });
     at("result").classList.toggle("steps", side === 1);
+    this.isStepping = side === 1;
+    this.tellFrame({ isStepping: this.isStepping });
     this.output.rows.follow(true);
     this.stepping?.see(side === 1);
   }
@@ -53,7 +55,17 @@ export class Panels {
 
   // Marks the moment that is seen in the timeline, or none.
   follow(view) {
-    this.frame.postMessage({ moment: view && { line: view.lines, script: view.script } }, location.origin);
+    this.tellFrame({ moment: view && { line: view.lines, script: view.script } });
+  }
+
+  // Shows the lines of a state below the timeline: that after so many segments of a step.
+  showWorld(lines, step, segment) {
+    const place = segment ? `after segment ${segment} of step ${step}` : `before step ${step}`;
+    this.tellFrame({ world: { name: `World, ${place}`, lines } });
+  }
+
+  tellFrame(message) {
+    this.ready.then(() => this.frame.postMessage(message, location.origin));
   }
 
   get frame() {

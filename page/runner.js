@@ -11,7 +11,7 @@ export class Runner {
   // `heard` is called with each answer that belongs to the last run. `wire` gets a port, on which the frame of the
   // timeline hears the worker.
   constructor(heard, wire) {
-    Object.assign(this, { number: 0, heard, wire });
+    Object.assign(this, { number: 0, heard, wire, questions: new Map(), asked: 0 });
     this.module = compiled();
     this.start();
   }
@@ -26,10 +26,16 @@ export class Runner {
 
   worker() {
     const worker = new Worker("worker.js", { type: "module" });
-    worker.addEventListener("message", ({ data }) => data.number === this.number && this.heard(data));
+    worker.addEventListener("message", ({ data }) => this.hear(data));
     worker.addEventListener("error", ({ message }) => this.fail(message || "the worker didn't start"));
     this.module.then(module => worker.postMessage({ module }), error => this.fail(error.message));
     return worker;
+  }
+
+  hear(answer) {
+    if (answer.number === this.number) this.heard(answer);
+    this.questions.get(answer.number)?.done(answer);
+    this.questions.delete(answer.number);
   }
 
   fail(error) {
@@ -49,9 +55,15 @@ export class Runner {
     this.first.postMessage({ number, task: "run", ...asked });
   }
 
-  // Asks for the world file of steps.
-  stage(asked) {
-    this.first.postMessage({ number: this.number, task: "stage", ...asked });
+  // What the worker answers to a task that belongs to no run: its number is below 0. Where a worker is ended the next
+  // one is asked.
+  async ask(task, asked) {
+    await this.module;
+    const question = { number: -(this.asked += 1), task, ...asked };
+    return new Promise(done => {
+      this.questions.set(question.number, { question, done });
+      this.first.postMessage(question);
+    });
   }
 
   // Asks for the lines at which scripts stopped or were cut.
@@ -68,5 +80,6 @@ export class Runner {
     this.first.terminate();
     this.second.terminate();
     this.start();
+    this.module.then(() => this.questions.forEach(({ question }) => this.first.postMessage(question)));
   }
 }

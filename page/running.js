@@ -53,7 +53,7 @@ export class Running {
     const act = {
       ran: () => this.ran(answer), stepped: () => this.show(this.scene.with(answer), true),
       piece: () => this.receiver.take(answer), drawn: () => this.drawn(this.receiver.take(answer)),
-      located: () => this.located(answer.lines), staged: () => this.made(answer.world),
+      located: () => this.located(answer.lines),
       saved: () => this.seen.save(answer.file, this.asked), failed: () => this.failed(answer.error),
     }[answer.kind];
     act?.();
@@ -112,12 +112,20 @@ export class Running {
     this.show(this.scene, true);
   }
 
-  // Asks for the world file of the steps, which `made` gets.
-  stage(made) {
-    const { files, file, world, stage } = requestOf(this.play, this.words);
-    this.made = made;
-    if (stage) this.runner.stage({ files, file, stage });
-    else made(world);
+  // The world file of the steps.
+  async stage() {
+    const { files, world, stage } = requestOf(this.play, this.words);
+    if (!stage) return world;
+    const { world: made, error } = await this.runner.ask("stage", { files, stage });
+    if (error) throw new Error(error);
+    return made;
+  }
+
+  // A world file that waits so many milliseconds after its steps.
+  async wait(world, milliseconds) {
+    const { world: made, error } = await this.runner.ask("wait", { files: this.play.parts.files, world, milliseconds });
+    if (error) throw new Error(error);
+    return made;
   }
 
   save() {

@@ -124,14 +124,14 @@ export class Scene {
     return prim ? this.names.object(prim.object) + (prim.link > 1 ? `, ${prim.name}` : "") : "";
   }
 
-  // The steps that are crossings, with their objects. One that stays in its region crosses nowhere.
+  // The steps that are crossings, with their objects and where these go. One that stays in its region crosses nowhere.
   get crossed() {
     if (this.known.crossed) return this.known.crossed;
     const found = [];
     this.stepWords.forEach((word, step) => {
       if (STEP_WORDS[word] !== "cross") return;
       const { line, fields } = readStep(this.worldText, this.stepStarts[step], this.stepLines[step]);
-      if (this.names.ways.get(line) !== fields[1]) found.push({ step, object: Number(fields[0]) });
+      if (this.names.ways.get(line) !== fields[1]) found.push({ step, object: Number(fields[0]), region: fields[1] });
     });
     return (this.known.crossed = found);
   }

@@ -20,6 +20,19 @@ export function stepsHelp({ lines }) {
   return forms.join("\n");
 }
 
+// The clock goes from one moment at which a timer is due or a script wakes to the next, up to `end`. `due` gives the
+// moments that are known by then, and `goTo` sets the clock.
+export function waitFrom(clock, end, due, goTo) {
+  let now = clock;
+  for (let count = 0; count < MOST_WAITS; count++) {
+    const next = due().filter(it => now < it && it < end);
+    if (!next.length) break;
+    now = Math.min(...next);
+    goTo(now);
+  }
+  goTo(end);
+}
+
 function milliseconds(text) {
   const found = /^([0-9]+(?:\.[0-9]+)?)(ms|s|m|h|)$/.exec(text);
   if (!found) throw new BadStep(`'${text}' is no time: write 10s, 2m, 1h or 500ms`);
@@ -70,14 +83,8 @@ class Stage {
     throw new BadStep(`'${word}' is no step`);
   }
 
-  // The clock goes on from one moment at which a timer is due or a script wakes to the next.
   wait(end) {
-    for (let count = 0; count < MOST_WAITS; count++) {
-      const due = this.due(this.text()).filter(it => this.clock < it && it < end);
-      if (!due.length) break;
-      this.goTo(Math.min(...due));
-    }
-    this.goTo(end);
+    waitFrom(this.clock, end, () => this.due(this.text()), clock => this.goTo(clock));
   }
 
   goTo(clock) {

@@ -12,9 +12,9 @@ import { worldElements } from "./worldview.js";
 const at = id => document.getElementById(id);
 
 export class StepPanel {
-  // `module` is the promise of the module. `follow` is called with each moment that is shown.
-  constructor(module, grammar, follow) {
-    Object.assign(this, { follow, asked: null, start: null, firstStart: null });
+  // `module` is the promise of the module. The timeline follows each moment that is shown, and shows its world.
+  constructor(module, grammar, timeline) {
+    Object.assign(this, { timeline, asked: null, start: null, firstStart: null });
     this.debugging = new Debugging(module, this.seen);
     this.source = new SourceView(at("source"), grammar, (line, isBack) => this.toLine(line, isBack));
     this.journal = new Rows(at("so-far"), row => this.journalRow(row));
@@ -32,7 +32,7 @@ export class StepPanel {
       traced: (traced, wanted) => this.traced(traced, wanted),
       untraced: status => this.note(`The statements can't be traced (status ${status}): these are the handlers.`),
       look: view => this.look(view),
-      state: (lines, view) => this.state(lines, view),
+      state: (state, view) => this.state(state, view),
       nowhere: ([move]) => this.say(`${this.placed}; ${nowhere(move)}`),
       fail: error => this.say(error),
     };
@@ -41,7 +41,7 @@ export class StepPanel {
   // A run that may be stepped through, or none. It is traced when the panel is seen.
   offer(asked, scene) {
     this.debugging.close();
-    Object.assign(this, { asked, scene, start: this.firstStart, firstStart: null });
+    Object.assign(this, { asked, scene, start: this.firstStart, firstStart: null, isReached: false });
     this.note("");
     this.clear();
     if (this.isSeen) this.begin();
@@ -63,10 +63,12 @@ export class StepPanel {
     this.debugging.open(this.asked, this.scene, WHOLE, this.start ?? (() => 0));
   }
 
-  // Goes to what follows a line of the journal; where the panel isn't seen it begins there later.
+  // Goes to what follows a line of the journal, where there is something that can be stepped through.
   reach(line) {
-    this.start = () => this.debugging.stopAfter(line);
+    this.start = this.debugging.start = () => this.debugging.stopAfter(line);
+    this.isReached = true;
     if (this.debugging.traced) this.debugging.go(this.debugging.stopAfter(line));
+    else this.begin();
   }
 
   clear() {
@@ -77,7 +79,7 @@ export class StepPanel {
     for (const it of at("moves").querySelectorAll("button")) it.disabled = true;
     at("crossing").hidden = true;
     this.say(this.asked ? "" : "Nothing ran that can be stepped through.");
-    this.follow(null);
+    this.timeline.follow(null);
   }
 
   traced({ count, isCut, last, files, lines }, wanted) {
@@ -151,7 +153,7 @@ export class StepPanel {
     at("globals-name").hidden = !view.globals.length;
     if (call) this.showSource(call.file, view.calls);
     this.showJournal(view);
-    this.follow(view);
+    this.timeline.follow(view);
     at("stepping").dataset.stop = view.stop;
   }
 
@@ -213,8 +215,10 @@ export class StepPanel {
     return rowOf(this.scene.rowAt(row).step === undefined ? "" : "step", [this.scene.rowText(row), ""]);
   }
 
-  state(lines, view) {
+  // Shows the lines of a state, which is that after so many segments of a step.
+  state({ lines, step, segment }, view) {
     at("world-now").replaceChildren(...worldElements(lines, view.script));
+    if (lines.length && this.isReached) this.timeline.showWorld(lines, step, segment);
     at("stepping").dataset.state = view.stop;
   }
 }

@@ -2,13 +2,16 @@
 import { Chart, lowest } from "./chart.js";
 import { Drawing } from "./drawing.js";
 import { HOME } from "./journal.js";
+import { knownAt } from "./knownworld.js";
 import { Pointing } from "./pointing.js";
 import { Rows, rowOf } from "./rows.js";
 import { Scene } from "./scene.js";
+import { worldElements } from "./worldview.js";
 
 const at = id => document.getElementById(id);
 const SLICE = 4000;
 const FOUND = 30;
+const KNOWN = "World, as far as the journal tells it";
 const counted = (count, noun) => `${count.toLocaleString("en")} ${noun}${count === 1 ? "" : "s"}`;
 
 export class View {
@@ -32,6 +35,7 @@ export class View {
     at("title").textContent = document.title = title;
     const counts = [counted(scriptCount, "script"), counted(handlers.count, "handler"), counted(journal.count, "line")];
     at("count").textContent = counts.join(", ");
+    this.showWorld("", []);
     this.pick({ first: 0, last: Math.min(journal.count, FOUND), text: "" }, true, -1);
   }
 
@@ -89,6 +93,7 @@ export class View {
   pick(found, isShown, picked = found.first) {
     this.found = found;
     this.chart.picked = picked;
+    if (picked >= 0) this.showKnown(picked);
     if (picked >= 0) this.picked(picked);
     this.say(found.text.replaceAll("\n", "; "));
     if (isShown) this.showPicked();
@@ -101,6 +106,24 @@ export class View {
     this.first = this.found.first + before(this.found.first);
     this.last = this.found.last + before(this.found.last);
     this.lines.show(Math.max(this.last - this.first, 0));
+  }
+
+  // Shows the world at a line of the journal.
+  showKnown(line) {
+    this.showWorld(KNOWN, knownAt(this.scene, line));
+  }
+
+  // Whether the world is shown elsewhere.
+  leaveWorld(isElsewhere) {
+    this.isWorldElsewhere = isElsewhere;
+    at("world-side").hidden = isElsewhere || !at("world").childElementCount;
+  }
+
+  // Shows the lines of a state, with a heading; or nothing, where it is shown elsewhere.
+  showWorld(name, lines) {
+    at("world-name").textContent = name;
+    at("world").replaceChildren(...worldElements(lines, 0));
+    at("world-side").hidden = this.isWorldElsewhere || !lines.length;
   }
 
   row(number) {

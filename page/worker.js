@@ -1,6 +1,7 @@
 // Runs requests apart from the page, which stays usable meanwhile and may end this worker. It reads the journals too,
 // and hands over what is shown of them: to the page, and through a port to the frame of the timeline. Two such workers
 // share a world's runs, and hear one another through a port.
+import { clockOf, withStep } from "./building.js";
 import { Core, hasCore } from "./core.js";
 import { Lsl } from "./lsl.js";
 import { withoutMarks, markedWorld } from "./marks.js";
@@ -9,7 +10,7 @@ import { handOver } from "./pieces.js";
 import { linesOf, probedFiles } from "./probes.js";
 import { refusalsOf } from "./refusals.js";
 import { NO_STEPS, sceneOf, stepsOf } from "./scene.js";
-import { stagedWorld } from "./stage.js";
+import { stagedWorld, waitFrom } from "./stage.js";
 import { readWorld } from "./worlds.js";
 
 const MOST_LINES = 500000;
@@ -54,6 +55,15 @@ function allFaults(head, files, scripts) {
 function worldOf({ file, steps, words }, files) {
   if (!hasCore(lsl.module)) return stagedWorld(file, steps, words);
   return stagedWorld(file, steps, words, world => new Core(lsl).due(files, world));
+}
+
+// A world file that waits: after its steps the clock goes up to so many milliseconds from then.
+function wait({ files, world, milliseconds }, answer) {
+  let text = world;
+  const due = () => (hasCore(lsl.module) ? new Core(lsl).due(files, text) : []);
+  const clock = clockOf(readWorld(world));
+  waitFrom(clock, clock + milliseconds, due, it => (text = withStep(text, ["clock", `${it}`], true)));
+  answer({ kind: "waited", world: text });
 }
 
 function stage({ files, stage: asked }, answer) {
@@ -135,7 +145,7 @@ function save(_, answer) {
   answer({ kind: "saved", file: new Blob([last.output ?? ""], { type: "text/plain" }) });
 }
 
-const TASKS = { run, stage, mark, addSteps, find, locate, save };
+const TASKS = { run, stage, wait, mark, addSteps, find, locate, save };
 
 // Does a task, and answers with its number and what came of it.
 function take({ data: { number, task, ...asked } }) {

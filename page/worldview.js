@@ -5,6 +5,9 @@ import { fields } from "./journal.js";
 import { quoted } from "./quoting.js";
 import { seconds } from "./telling.js";
 
+// Stands for a word that isn't known.
+export const UNKNOWN = "?";
+
 const grouped = number => Number(number).toLocaleString("en");
 
 // The words of a line, texts with their quotes.
@@ -31,12 +34,20 @@ const SHOWN = {
 
 const bare = text => text.replace(/^"|"$/g, "");
 
+function waiting(queued) {
+  if (queued === "0") return "no event waits";
+  return queued === "1" ? "1 event waits" : `${queued} events wait`;
+}
+
 function heading(word, words) {
   const name = bare(words[1]) || `${word} ${words[0]}`;
-  if (word === "object") return `${name} in ${bare(words[2]) || "a region without a name"}`;
+  if (word === "object") {
+    return words[2] === UNKNOWN ? name : `${name} in ${bare(words[2]) || "a region without a name"}`;
+  }
   const [state, rest, queued, charge, limit] = words.slice(2);
-  const waits = queued === "1" ? "1 event waits" : `${queued} events wait`;
-  return `${name}: ${state}, ${rest}; ${waits}; ${grouped(charge)} of ${grouped(limit)} bytes`;
+  const said = [[state, rest].filter(it => it !== UNKNOWN).join(", ")];
+  if (queued !== undefined) said.push(waiting(queued), `${grouped(charge)} of ${grouped(limit)} bytes`);
+  return `${name}: ${said.join("; ")}`;
 }
 
 function rowOf([name, text]) {

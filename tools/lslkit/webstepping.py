@@ -2,6 +2,7 @@
 import functools
 import json
 
+from . import webwalks
 from .webpages import script
 from .webtesting import in_both, need, test
 
@@ -29,6 +30,28 @@ default {
         }
     }
 }
+"""
+HOLDS = """integer count;
+default {
+    state_entry() {
+        ++count;
+        llListen(3, "", "", "");
+        llLinksetDataWrite("kept", "yes");
+        llSetTimerEvent(5);
+    }
+    timer() {
+        ++count;
+        llSay(0, (string)count);
+    }
+}
+"""
+WORLD = """object 00000000-0000-4000-9000-000000000001 "Box" 00000000-0000-4000-8000-000000000001 "here"
+script "whole" "whole.lsl"
+begin
+run 100
+clock 5000
+run 100
+end
 """
 FAULT = "integer a;\ndefault {\n    state_entry() {\n        a = 5;\n        a = a / (a - 5);\n    }\n}\n"
 
@@ -82,6 +105,11 @@ def marked(page):
     """The variables that are marked as changed, with their values."""
     return page.value("""[...document.querySelectorAll('#values .changed')]
       .map(it => it.firstChild.textContent + " " + it.children[1].firstChild.textContent)""")
+
+
+def world_of(text, world):
+    """A play of a world of one script."""
+    return {"files": [["whole.lsl", text], ["whole.world", world]], "how": "replay", "file": "whole.world", "steps": ""}
 
 
 def steps_of(page, play):
@@ -182,6 +210,39 @@ def a_bar_of_the_timeline_leads_to_its_moment(page):
     shown = page.value("[...document.querySelectorAll('#so-far .row')].at(-1).textContent")
     need(event in shown, "the journal so far ends with", shown)
     return f"the moment of {event}"
+
+
+@test
+@of_steps
+def a_place_of_the_timeline_shows_the_whole_world(page):
+    page.follow(world_of(HOLDS, WORLD))
+    page.tab.click("#side-output")
+    frame = "document.getElementById('timeline').contentDocument"
+    page.value(f"({frame}.defaultView.focus(), {frame}.getElementById('canvas').focus(), true)")
+    for _ in range(2):
+        page.tab.press("ArrowRight")
+    page.tab.until(f"{frame}.getElementById('world-name').textContent === 'World, before step 3'")
+    said = page.value(f"{frame}.getElementById('world').innerText")
+    wanted = ("Box in here", "clock\t5.000 s", "count\t1", "waits\ttimer()", "on channel 3", "every 5 s", "\"yes\"")
+    need(all(it in said for it in wanted), "the world is", said)
+    page.tab.click("#side-stepping")
+    need(page.value(f"{frame}.getElementById('world-side').hidden"), "the world is shown twice")
+    return "globals, a listen, a timer and a store"
+
+
+@test
+@of_steps
+def a_wait_goes_from_timer_to_timer(page):
+    page.follow(world_of(HOLDS, WORLD))
+    page.value("(document.getElementById('builder').open = true)")
+    page.tab.until("document.getElementById('step-kind') !== null")
+    webwalks.chosen(page, "step-kind", "clock")
+    webwalks.filled(page, {"step-seconds": "12"})
+    webwalks.pressed(page, "Step")
+    page.tab.until("document.querySelector('#sheet textarea').value.includes('clock 17000')")
+    clocks = [it for it in page.source.splitlines() if it.startswith("clock")]
+    need(clocks == [f"clock {it}000" for it in (5, 10, 15, 17)], "the clock goes by", clocks)
+    return "twelve seconds, with two timers in them"
 
 
 @test
