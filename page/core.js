@@ -22,13 +22,14 @@ export class Core {
 
   // Takes a world and its files, of which the calls that follow are.
   open(files, world) {
-    this.files = [...files, [WORLD, world]];
+    Object.assign(this, { files: [...files, [WORLD, world]], room: FIRST_ROOM });
   }
 
-  // The trace of these steps, or its front of so many bytes. Moves are made in the trace that was made last.
+  // The trace of these steps, or its front of so many bytes. Moves are made in the trace that was made last. There is
+  // room for all of them at once: where it were too small, the world would run again.
   trace(first, last, most) {
-    const { status, output } = this.lsl.call("lsl_page_trace", [WORLD, first, last], this.files, FIRST_ROOM, most);
-    const isCut = status === OUTPUT_FULL;
+    const { status, output } = this.lsl.call("lsl_page_trace", [WORLD, first, last], this.files, most, most);
+    const isCut = status === OUTPUT_FULL && output.length > 0;
     this.traced = isCut ? output.subarray(0, output.lastIndexOf(10) + 1) : output;
     return { status, isCut, text: textOf(this.traced) };
   }
@@ -43,8 +44,10 @@ export class Core {
     return this.told("lsl_page_state", [WORLD, step, segment], this.files);
   }
 
+  // What a call writes, in as much room as the last one needed.
   told(name, words, files) {
-    const { status, output } = this.lsl.call(name, words, files, FIRST_ROOM);
+    const { status, output } = this.lsl.call(name, words, files, this.room);
+    this.room = Math.max(this.room, FIRST_ROOM + output.length);
     return { status, text: textOf(output) };
   }
 
