@@ -199,23 +199,51 @@ def a_package_builds_nothing():
         need(not repo.calls("") and not repo.built(), "the kit was called")
 
 
+def add_page(repo):
+    """Gives a repository what the page is made of."""
+    repo.write("crates.txt", "low:\nlsl_page staticlib: low\nlsl: low\n")
+    for name in ("crates/lsl_page/src/lib.rt", "page/heap.c"):
+        repo.write(name, "")
+    tables = (f"crates/lsl_table/src/{it}.rt" for it in ("calls", "constants", "events"))
+    words = (os.path.relpath(it, places.TOP) for it in glob.glob(places.in_top("tools", "words", "*.json")))
+    for name in ("page/index.html", "tools/lsl_names.tsv", *tables, *words):
+        repo.write(name, places.text_of(name))
+    repo.write_in_kit("module", MODULE.replace("@main", '@"lsl_page::lsl_page_run"'))
+
+
+def need_page(repo, words, wanted):
+    """Makes the page, which is told by lines that begin so."""
+    status, output, notes = repo.ran("tools/page", "build", *words)
+    lines = notes.splitlines()
+    is_told = len(lines) == len(wanted) and all(line.startswith(f"page: {it}") for line, it in zip(lines, wanted))
+    need(status == 0 and is_told and "out/page has the page" in output, "status", status, notes)
+
+
 @check
 def a_page_is_compiled_in_parts():
     with repository() as repo:
-        repo.write("crates.txt", "low:\nlsl_page staticlib: low\nlsl: low\n")
-        for name in ("crates/lsl_page/src/lib.rt", "page/heap.c"):
-            repo.write(name, "")
-        tables = (f"crates/lsl_table/src/{it}.rt" for it in ("calls", "constants", "events"))
-        words = (os.path.relpath(it, places.TOP) for it in glob.glob(places.in_top("tools", "words", "*.json")))
-        for name in ("page/index.html", "tools/lsl_names.tsv", *tables, *words):
-            repo.write(name, places.text_of(name))
-        repo.write_in_kit("module", MODULE.replace("@main", '@"lsl_page::lsl_page_run"'))
+        add_page(repo)
         for lines in (["compiling the module without its proofs"], []):
-            status, output, notes = repo.ran("tools/page", "build", "--try")
-            wanted = [f"page: {it}" for it in [*lines, "the module was compiled without its proofs"]]
-            need((status, notes.splitlines()) == (0, wanted) and "out/page has the page" in output, status, notes)
+            need_page(repo, ["--try"], [*lines, "the module was compiled without its proofs"])
         need(repo.calls("lowered") == 1, "it was lowered", repo.calls("lowered"), "times")
         need(len(os.listdir(repo.at("out", "parts", "lsl_page"))) == 2, "other parts are kept")
+
+
+@check
+def a_page_is_proved_as_the_program_is():
+    for names, wanted in (("rt ci NAME..\n", "rt ci"), ("rt check\n", "rt all check")):
+        with repository() as repo:
+            add_page(repo)
+            repo.write_in_kit("help", names)
+            need_page(repo, [], ["proving and compiling the module, for some"])
+            need_page(repo, [], [])
+            need(repo.calls(wanted) == repo.calls("rattle build") == 1, wanted, "was called", repo.calls(wanted), "times")
+            need(not os.listdir(repo.rooms), "the build leaves", os.listdir(repo.rooms))
+            repo.write("crates/low/src/lib.rt", "fn other() {}\n")
+            repo.write_in_kit("status", "1")
+            status, _, notes = repo.ran("tools/page", "build")
+            need(status == 125 and notes.endswith("\npage: rt ended with 1\n"), "status", status, notes)
+            need(repo.calls("rattle build") == 1, "it was lowered without a proof")
 
 
 @check

@@ -1,4 +1,5 @@
-"""Proves the program and builds it, from what the gate proved on this machine where the kit keeps that."""
+"""Proves a crate and those that it stands on, from what the gate proved on this machine where the kit keeps that; and
+builds the program."""
 import os
 import re
 import shutil
@@ -10,8 +11,8 @@ from .progress import Progress
 PROGRAM = "lsl"
 # The memory of a proof, in kilobytes.
 PROOF_NEEDS = 4000000
-# What proving the program takes at first, in processor minutes, and what no further processor makes shorter: the
-# crates that stand one on another.
+# What a proof from nothing takes in processor minutes, and what no further processor makes shorter: the crates that
+# stand one on another.
 PROCESSOR_MINUTES = 120
 CHAIN_MINUTES = 60
 # What a build doesn't read of a crate.
@@ -21,24 +22,37 @@ DONE_BY_GATE = re.compile(r"rt: (\w+) (?:proved|is kept\b.*)")
 BEGUN = re.compile(r"== (\w+)")
 
 
-def make(room):
-    """Proves the crates that the program stands on, and builds it, as a file of a room."""
+def how_long():
+    """What is said of the time that a proof takes."""
     minutes = max(PROCESSOR_MINUTES // jobs.count(PROOF_NEEDS), CHAIN_MINUTES)
+    return f"for some {minutes} minutes the first time, and later what changed"
+
+
+def make(room):
+    """Proves the program, and builds it. Its path."""
     doing = "proving and building the program"
-    hint = f"for some {minutes} minutes the first time, and later what changed"
-    with Progress("lsl", f"{doing}, {hint}", doing) as progress:
-        binary = by_gate(room, progress) if kit.keeps() else by_checks(room, progress)
+    with Progress("lsl", f"{doing}, {how_long()}", doing) as progress:
+        folder = proved(PROGRAM, room, progress)
+        if not kit.keeps():
+            jobs.run(["rt", "run", "--", "check", "data/hello.lsl"], progress.tick, cwd=folder)
         progress.end("proved and built the program")
+    binary = os.path.join(folder, "out", PROGRAM)
     if not os.access(binary, os.X_OK):
         raise kit.NotMade("all is proved, but there is no program: this kit can't be used")
     return binary
 
 
-class Count:
-    """How many of the program's crates are proved."""
+def proved(crate, room, progress):
+    """Proves a crate and those that it stands on, each of which leaves its library in its folder `out`: in a copy where
+    the gate keeps what it proved, and else in place. The crate's folder there."""
+    return by_gate(crate, room, progress) if kit.keeps() else by_checks(crate, progress)
 
-    def __init__(self, progress):
-        self.progress, self.crates, self.done = progress, sources.crates_of(PROGRAM), set()
+
+class Count:
+    """How many of the crates that one stands on are proved."""
+
+    def __init__(self, crate, progress):
+        self.progress, self.crates, self.done = progress, sources.crates_of(crate), set()
         self.add()
 
     def add(self, name=None):
@@ -62,21 +76,21 @@ def follow(words, folder, count, done):
         job.need_success()
 
 
-def by_gate(room, progress):
-    """Has the gate prove and build a copy of the program's crates: it takes what it has kept of them."""
-    copy = copied(os.path.join(room, "copy"))
+def by_gate(crate, room, progress):
+    """Has the gate prove a copy of these crates: it takes what it has kept of them."""
+    copy = copied(crate, os.path.join(room, "copy"))
 
     def done(line):
         found = DONE_BY_GATE.fullmatch(line)
         return found and found[1]
 
-    follow(["rt", "ci"], copy, Count(progress), done)
-    return os.path.join(copy, "crates", PROGRAM, "out", PROGRAM)
+    follow(["rt", "ci"], copy, Count(crate, progress), done)
+    return os.path.join(copy, "crates", crate)
 
 
-def copied(top):
-    """A repository of the program's crates alone, without their edits that must fail."""
-    crates = sources.crates_of(PROGRAM)
+def copied(crate, top):
+    """A repository of these crates alone, without their edits that must fail."""
+    crates = sources.crates_of(crate)
     for it in crates:
         shutil.copytree(in_top("crates", it), os.path.join(top, "crates", it), ignore=LEFT_OUT)
     # `rt ci` wants to be at the top of a repository, and takes this for one.
@@ -86,9 +100,9 @@ def copied(top):
     return top
 
 
-def by_checks(room, progress):
-    """Has each crate checked in its place, and the program built there."""
-    folder, count, under_way = in_top("crates", PROGRAM), Count(progress), []
+def by_checks(crate, progress):
+    """Has each of these crates checked in its place."""
+    folder, count, under_way = in_top("crates", crate), Count(crate, progress), []
 
     def done(line):
         """The crate before the one that is begun here is done: one that was proved before says nothing more."""
@@ -98,5 +112,4 @@ def by_checks(room, progress):
         return under_way[-2] if begun and len(under_way) > 1 else None
 
     follow(["rt", "all", "check", "--jobs", str(jobs.count(PROOF_NEEDS))], folder, count, done)
-    jobs.run(["rt", "run", "--", "check", "data/hello.lsl"], progress.tick, cwd=folder)
-    return shutil.copy2(os.path.join(folder, "out", PROGRAM), os.path.join(room, PROGRAM))
+    return folder

@@ -6,7 +6,7 @@ import os
 import re
 import shutil
 
-from . import building, kit, lowering, sources, unproved
+from . import building, kit, lowering, proving, sources, unproved
 from .jobs import run
 from .kit import NotMade
 from .places import in_top, text_of, write_text
@@ -63,14 +63,15 @@ def made_as(module=MODULE):
 
 
 def named_in(name):
-    """The name of an export in the module of a program that calls it."""
+    """The name of an export in a program that calls it. In a static library the export itself calls a function of this
+    name."""
     return f'"{CRATE}::{name}"'
 
 
-def libraries():
-    """The words that name the libraries which the crate stands on."""
+def libraries(crates):
+    """The words that name the libraries which the crate stands on, in a folder of crates."""
     named, below = sources.crates()[CRATE], sources.crates_of(CRATE)[:-1]
-    folders = {it: in_top("crates", it, "out", "rlib") for it in below}
+    folders = {it: os.path.join(crates, it, "out", "rlib") for it in below}
     words = ["--extern", f"std={kit.path('rlibs')}/std.rlib", "-L", f"dependency={kit.path('rlibs')}"]
     for it in named:
         words += ["--extern", f"{it}={folders[it]}/{it}.rlib"]
@@ -81,10 +82,11 @@ def libraries():
 
 def proved(room, progress):
     """The module of LLVM to which the proved crate is lowered, as the only part."""
-    folder, kept, text = in_top("crates", CRATE), os.path.join(room, "kept.bc"), os.path.join(room, "whole.ll")
-    progress.tell("proving the crate and those below it")
-    run(["rt", "check"], progress.tick, cwd=folder)
-    words = [kit.path("bin", "rattle"), "build", "--crate-name", CRATE, "src/lib.rt", *libraries()]
+    kept, text = os.path.join(room, "kept.bc"), os.path.join(room, "whole.ll")
+    folder = proving.proved(CRATE, room, progress)
+    progress.tell("lowering the crate")
+    words = [kit.path("bin", "rattle"), "build", "--crate-name", CRATE, "src/lib.rt"]
+    words += libraries(os.path.dirname(folder))
     words += ["--antt-project", kit.path("rattle", "logic", "antt-project.json")]
     words += ["--logic-built", kit.path("logic_built")]
     words += ["--links", f"{CRATE}=", "--crate-type", "staticlib", "--incremental", "out/incremental"]
@@ -173,15 +175,17 @@ def linked(objects, room):
 def make(is_tried=False):
     """Makes the module where a source changed, and proves the crate where it isn't only tried."""
     kit.need()
-    how, others = ("unproved", "without its proofs") if is_tried else ("proved", "after its proof")
+    how = "unproved" if is_tried else "proved"
+    doing = "compiling the module without its proofs" if is_tried else "proving and compiling the module"
+    begins = doing if is_tried else f"{doing}, {proving.how_long()}"
     with building.room("page", "page") as room:
         if made_as() == how:
             return
         total = made_of()
-        with Progress("page", f"compiling the module {others}", f"compiling the module {others}") as progress:
+        with Progress("page", begins, doing) as progress:
             parts = tried(room, progress) if is_tried else proved(room, progress)
             put(compiled(parts, room, progress), f"{total} {how}")
-            progress.end(f"compiled the module {others}")
+            progress.end("compiled the module without its proofs" if is_tried else "proved and compiled the module")
 
 
 def put(module, made_of_and_how):
