@@ -7,8 +7,13 @@ _lsl_take() {
 }
 
 _lsl_files() {
-    # Offers folders, and the files with an ending, or all of them.
-    _lsl_take "$(compgen -d -- "$2"; compgen -f -X "${1:+!*.$1}" -- "$2")"
+    # Offers for a word the folders, and the files with one of these endings, or all of them.
+    local word=$1 ending
+    shift
+    _lsl_take "$(
+        compgen -d -- "$word"
+        for ending in "${@:-}"; do compgen -f -X "${ending:+!*.$ending}" -- "$word"; done
+    )"
     compopt -o filenames 2>/dev/null
 }
 
@@ -17,14 +22,14 @@ _lsl_words() {
 }
 
 _lsl_options() {
+    local steps='--touch --say --after --changed --rez --cross --message --run --on --link --channel --by
+        --object --prim --note --region --owner'
     case $1 in
         once) echo --show --html --explain ;;
         check | freeze | thaw | view) echo --explain ;;
         replay) echo --lossy --show --html --explain ;;
-        play)
-            echo --touch --say --after --changed --rez --cross --message --run --on --link --channel --by \
-                --object --prim --note --region --owner --world --journal --html --freeze --interactive --help
-            ;;
+        play) echo "$steps" --world --journal --html --freeze --interactive --help ;;
+        debug) echo "$steps" -x --post --adapter --help ;;
     esac
 }
 
@@ -32,20 +37,21 @@ _lsl() {
     local word=${COMP_WORDS[COMP_CWORD]} last=${COMP_WORDS[COMP_CWORD - 1]} command=${COMP_WORDS[1]}
     COMPREPLY=()
     if ((COMP_CWORD == 1)); then
-        _lsl_words 'once check play replay freeze thaw view make server --help --version' "$word"
+        _lsl_words 'once check play replay freeze thaw view make debug server --help --version' "$word"
         return
     fi
     case $last in
-        --html) _lsl_files html "$word"; return ;;
-        --note | --freeze) _lsl_files "" "$word"; return ;;
+        --html) _lsl_files "$word" html; return ;;
+        --note | --freeze | -x) _lsl_files "$word"; return ;;
         --touch | --say | --after | --changed | --rez | --cross | --message | --run) return ;;
         --on | --link | --channel | --by | --object | --prim | --region | --owner) return ;;
     esac
     case $command:$word in
         *:-*) _lsl_words "$(_lsl_options "$command")" "$word" ;;
-        once:* | check:* | play:*) _lsl_files lsl "$word" ;;
-        replay:* | freeze:*) _lsl_files world "$word" ;;
-        thaw:* | view:*) _lsl_files "$( ((COMP_CWORD > 2)) && echo world)" "$word" ;;
+        once:* | check:*) _lsl_files "$word" lsl ;;
+        play:* | debug:*) _lsl_files "$word" lsl world ;;
+        replay:* | freeze:*) _lsl_files "$word" world ;;
+        thaw:* | view:*) _lsl_files "$word" $( ((COMP_CWORD > 2)) && echo world) ;;
     esac
 }
 

@@ -1,6 +1,6 @@
 """What a program is: its version, its commit, whether it is proved, and with which kit it was made.
 
-A package has the file `ABOUT` at its top, with lines `key: value`, and its program in `libexec/lsl`. Nothing is built
+A package has the file `ABOUT` at its top, with lines `key: value`, and its programs in `libexec`. Nothing is built
 there. A checkout has such a file beside each program that was built."""
 import os
 import subprocess
@@ -9,7 +9,9 @@ from . import kit
 from .places import TOP, bytes_of, in_top, write_text
 
 ABOUT = in_top("ABOUT")
-PROGRAM = in_top("libexec", "lsl")
+# The crates of the programs, and what these are called.
+PROGRAM, DEBUGGER = "lsl", "lsl_debug"
+CALLED = {PROGRAM: "program", DEBUGGER: "debugger"}
 KEYS = ("version", "commit", "proof", "kit")
 PROVED = "proved"
 UNBUILT = "none; the first call compiles it"
@@ -23,9 +25,15 @@ def is_package():
     return os.path.isfile(ABOUT)
 
 
-def program():
-    """The path of the package's program; nothing where it can't be run, and in a checkout."""
-    return PROGRAM if is_package() and os.access(PROGRAM, os.X_OK) and os.path.isfile(PROGRAM) else None
+def packaged_as(crate):
+    """Where a package has a program."""
+    return in_top("libexec", crate)
+
+
+def packaged(crate):
+    """The path of a package's program; nothing where it can't be run, and in a checkout."""
+    path = packaged_as(crate)
+    return path if is_package() and os.access(path, os.X_OK) and os.path.isfile(path) else None
 
 
 def read(path):

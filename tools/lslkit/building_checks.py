@@ -162,6 +162,19 @@ def a_proved_program_is_used_from_then_on():
 
 
 @check
+def a_program_is_proved_with_the_debugger():
+    with repository() as repo:
+        doing = "lsl: proving and building the {}, for some "
+        for lines in ([doing.format("program"), doing.format("debugger")], []):
+            status, output, notes = repo.ran("lsl", "--prove")
+            lines += ["lsl: the program and the debugger are proved"]
+            are_said = [line.startswith(it) for line, it in zip(notes.splitlines(), lines)]
+            need((status, output) == (0, "") and all(are_said) and len(are_said) == len(lines), "status", status, notes)
+        built = [it for it in repo.built() if "." not in it]
+        need(built == ["lsl", "lsl_debug"], "out/ has", built)
+
+
+@check
 def a_failed_proof_makes_no_program():
     with repository() as repo:
         repo.write_in_kit("status", "1")
@@ -193,6 +206,8 @@ def a_package_builds_nothing():
         os.chmod(repo.at("libexec/lsl"), 0o755)
         need_run(repo, ["check", "a.lsl"], "packaged check a.lsl\n")
         need_run(repo, ["--version"], "lsl 1.2.3\ncommit: abc\nproof: proved\nkit: its kit\n")
+        status, _, notes = repo.ran("lsl", "debug", "a.lsl")
+        need((status, notes) == (125, "lsl: this package has no debugger\n"), "status", status, notes)
         for words in (["--prove"], ["--try", "check", "a.lsl"]):
             status, _, notes = repo.ran("lsl", *words)
             need(status == 125 and "needs a checkout" in notes and notes.count("\n") == 1, words, "said", notes)

@@ -1,11 +1,11 @@
-"""What a package has: the program, the page, and of the repository what runs without the kit."""
+"""What a package has: the programs, the page, and of the repository what runs without the kit."""
 import glob
 import os
 import sys
 import tempfile
 from modulefinder import ModuleFinder
 
-from . import about, kit, making, sources, timeline, webmodule, webpage
+from . import about, kit, sources, timeline, webmodule, webpage
 from .archives import Entry, moved
 from .places import TOP, bytes_of, in_top, text_of
 
@@ -25,7 +25,7 @@ PLACES = (
     *((f"crates/lsl_table/src/{it}.rt", f"tools/tables/{it}.rt") for it in ("calls", "constants", "events")),
     ("crates/lsl_rows/data/examples/", "examples/"),
     ("crates/lsl_rows/data/", "suite/"),
-    ("package/lsl.1", "man/man1/lsl.1"),
+    *((f"package/{it}", f"man/man1/{it}") for it in ("lsl.1", "lsl-debug.1")),
     ("package/lsl.bash", "completions/lsl.bash"),
     ("package/_lsl", "completions/_lsl"),
 )
@@ -40,33 +40,40 @@ def commit():
     return git("rev-parse", "HEAD").strip() + (", with changes" if changed else "")
 
 
-def entries(binary):
-    """The files of a package with this program, by their names."""
-    said = about.read(f"{binary}.about")
-    shown, page_proof = page(said["proof"])
-    said = {**said, "version": about.version(), "commit": commit(), "page": page_proof}
-    made = {"libexec/lsl": Entry(stripped(binary), True), "suite/examples": Entry(link="../examples")}
+def entries(programs):
+    """The files of a package by their names. Its programs are given by their crates."""
+    proofs = {crate: about.read(f"{binary}.about")["proof"] for crate, binary in programs.items()}
+    shown, page_proof = page(proofs[about.PROGRAM])
+    said = {
+        **about.read(f"{programs[about.PROGRAM]}.about"),
+        "version": about.version(),
+        "commit": commit(),
+        "debugger": proofs.get(about.DEBUGGER, LEFT_OUT),
+        "page": page_proof,
+    }
+    made = {f"libexec/{crate}": Entry(stripped(binary), True) for crate, binary in programs.items()}
+    made["suite/examples"] = Entry(link="../examples")
     made["ABOUT"] = Entry("".join(f"{key}: {it}\n" for key, it in said.items()).encode())
-    made.update((f"licences/{it}", Entry(licence_of(it))) for it in libraries())
+    made.update((f"licences/{it}", Entry(licence_of(it))) for it in libraries(programs))
     return {**dict(tracked()), **dict(scripts()), **shown, **made}
 
 
-# The program
+# The programs
 
 
 def stripped(binary):
-    """What the program holds, without its symbols."""
+    """What a program holds, without its symbols."""
     with tempfile.TemporaryDirectory(prefix="lsl-") as room:
         bare = os.path.join(room, "bare")
         kit.said_by("strip", "--remove-section=.comment", "-o", bare, binary)
         return bytes_of(bare)
 
 
-def libraries():
-    """The kit's libraries of which code is in the program."""
-    own = sources.crates_of(making.PROGRAM)
+def libraries(programs):
+    """The kit's libraries of which code is in the programs of these crates."""
+    own = {it for crate in programs for it in sources.crates_of(crate)}
     lines = (line.partition(":") for line in text_of("crates.txt").splitlines())
-    return sorted({it for head, _, words in lines if head.partition(" ")[0] in own for it in words.split()} - set(own))
+    return sorted({it for head, _, words in lines if head.partition(" ")[0] in own for it in words.split()} - own)
 
 
 def licence_of(library):

@@ -36,7 +36,7 @@ def entries(files, libc):
     """The files of a Debian package, made of those of a package."""
     made = {moved(name, PLACES): it for name, it in files.items() if moved(name, PLACES)}
     made.update((name, Entry(link=os.path.relpath(to, os.path.dirname(name)))) for name, to in LINKS.items())
-    made["usr/share/man/man1/lsl.1.gz"] = Entry(zipped(files["man/man1/lsl.1"].data))
+    made.update((f"usr/share/{it}.gz", Entry(zipped(files[it].data))) for it in files if it.startswith("man/"))
     made[f"{DOC}/changelog.gz"] = Entry(zipped(changelog().encode()))
     made[f"{DOC}/copyright"] = Entry(copyright_of(files))
     return {**made, **of_control(made, libc)}
@@ -59,7 +59,7 @@ def copyright_of(files):
     for name, it in sorted(files.items()):
         if name.startswith("licences/"):
             library = name.partition("/")[2]
-            parts.append(f"The program has code of the library {library}, whose licence is:\n\n{it.data.decode()}")
+            parts.append(f"The programs have code of the library {library}, whose licence is:\n\n{it.data.decode()}")
     return "\n----\n\n".join(parts).encode()
 
 

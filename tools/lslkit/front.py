@@ -145,6 +145,8 @@ def answer(words, how):
     if words[:1] == ["server"]:
         os.execv(sys.executable, [sys.executable, in_top("tools", "lsl-server"), *words[1:]])
     if words[:1] == ["debug"]:
+        if how == "--prove":
+            making.proved(about.DEBUGGER)
         return starting.main(words[1:])
     try:
         command = playing.Play(words[1:]) if words[:1] == ["play"] else Options(words) if words else None
@@ -160,16 +162,17 @@ def answer(words, how):
 
 
 def prove():
-    """Proves the program, which is the one that runs from then on."""
-    making.proved_program()
-    print("lsl: the program is proved", file=sys.stderr)
+    """Proves the program and the debugger, which are those that run from then on."""
+    for it in about.CALLED:
+        making.proved(it)
+    print("lsl: the program and the debugger are proved", file=sys.stderr)
     return 0
 
 
 def tell_version(how):
     """Says which program would run; none is made for that but where it is to be proved."""
     if how == "--prove":
-        making.proved_program()
+        making.proved()
     said = making.told(how == "--try")
     print(f"lsl {said['version']}")
     for key in about.KEYS[1:]:
@@ -185,7 +188,7 @@ def with_program(command, how):
         if said and (is_play or name == command.files[-1] or not program.is_plain(name)):
             print(f'lsl: "{name}" {said} (status 4)', file=sys.stderr)
             return READ_FAULT
-    binary = making.proved_program() if how == "--prove" else making.program(how == "--try")
+    binary = making.proved() if how == "--prove" else making.program(how == "--try")
     if isinstance(command, playing.Play):
         try:
             return command.play(binary)

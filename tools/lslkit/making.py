@@ -1,5 +1,5 @@
-"""The program that a call runs: the proved one, or one without proofs that checks itself. Both are kept in out/ until a
-source changes. A package has its own."""
+"""The programs that a call runs: each one proved, or without proofs, when it checks itself. Both sorts are kept in out/
+until a source changes. A package has its own."""
 import os
 import sys
 
@@ -7,29 +7,38 @@ from . import about, building, kit, proving, sources, unproved
 from .places import in_top
 from .progress import Progress
 
-PROGRAM = "lsl"
-DEBUGGER = "lsl_debug"
-PROVED = in_top("out", "lsl")
-UNPROVED = in_top("out", "lsl-unproved")
-BROKEN = f"this package isn't whole: {about.PROGRAM} is missing, or can't be run"
+LACKING = {
+    about.PROGRAM: f"this package isn't whole: {about.packaged_as(about.PROGRAM)} is missing, or can't be run",
+    about.DEBUGGER: "this package has no debugger",
+}
 
 
-def is_fresh(binary, crate=PROGRAM):
-    """Whether a program was made of the sources of its crate as they are."""
-    return sources.Stamp(crate, binary).is_fresh()
+def path_of(crate, is_proved):
+    """Where the program of a crate is kept."""
+    return in_top("out", crate if is_proved else f"{crate}-unproved")
 
 
-def made(binary, make, proof, crate=PROGRAM):
+def fresh(crate, is_proved):
+    """The path of a program that was made of the sources of its crate as they are; none where there is none."""
+    binary = path_of(crate, is_proved)
+    return binary if sources.Stamp(crate, binary).is_fresh() else None
+
+
+def made(crate, is_proved):
     """The path of a program, made anew where a source of its crate changed."""
-    if is_fresh(binary, crate):
-        return binary
+    return fresh(crate, is_proved) or make(crate, is_proved)
+
+
+def make(crate, is_proved):
+    """Makes a program in its place. Its path."""
     kit.need()
+    binary, stamp = path_of(crate, is_proved), sources.Stamp(crate, path_of(crate, is_proved))
     with building.room(os.path.basename(binary), "lsl") as room:
         # Another call may have made it meanwhile.
-        if not is_fresh(binary, crate):
-            stamp = sources.Stamp(crate, binary)
-            total, newest, said = sources.sum_of(crate), sources.newest_of(crate), about.of_sources(proof)
-            new = make(room)
+        if not stamp.is_fresh():
+            total, newest = sources.sum_of(crate), sources.newest_of(crate)
+            said = about.of_sources(about.PROVED if is_proved else about.UNPROVED)
+            new = (proving.make if is_proved else make_unproved)(crate, room)
             stamp.remove()
             about.write(f"{binary}.about", said)
             building.keep(new, binary)
@@ -37,55 +46,39 @@ def made(binary, make, proof, crate=PROGRAM):
     return binary
 
 
-def make_unproved(room):
-    """Compiles the program without its proofs, and says so."""
-    hint, doing = "'./lsl --prove' proves it, in about an hour", "compiling the program without its proofs"
+def make_unproved(crate, room):
+    """Compiles a program without its proofs, and says so."""
+    doing = f"compiling the {about.CALLED[crate]} without its proofs"
+    hint = "'./lsl --prove' proves it, in about an hour"
     with Progress("lsl", f"{doing}, in a minute or two; {hint}", doing) as progress:
-        binary = unproved.make(PROGRAM, room, progress)
-        progress.end("compiled the program without its proofs", f"; {hint}")
+        binary = unproved.make(crate, room, progress)
+        progress.end(f"compiled the {about.CALLED[crate]} without its proofs", f"; {hint}")
     return binary
 
 
-def make_debugger(room):
-    """Compiles the debugger's core without its proofs, and says so."""
-    doing = "compiling the debugger without its proofs"
-    with Progress("lsl", f"{doing}, in a minute or two", doing) as progress:
-        binary = unproved.make(DEBUGGER, room, progress)
-        progress.end("compiled the debugger without its proofs")
-    return binary
+def program(is_tried=False, crate=about.PROGRAM):
+    """The path of the proved program where there is one, or else, or where it is asked for, of one without proofs. A
+    package has one, whatever is asked for."""
+    if about.is_package():
+        return packaged(crate)
+    return (None if is_tried else fresh(crate, is_proved=True)) or made(crate, is_proved=False)
 
 
 def debugger():
-    """The path of the debugger's core: the one that the environment names, a proved one that was made of the sources as
-    they are, or else one without proofs."""
-    if os.environ.get("LSL_DEBUG_PROGRAM"):
-        return os.environ["LSL_DEBUG_PROGRAM"]
-    if about.is_package():
-        raise kit.NotMade("this package has no debugger")
-    proved = in_top("out", DEBUGGER)
-    if is_fresh(proved, DEBUGGER):
-        return proved
-    return made(in_top("out", f"{DEBUGGER}-unproved"), make_debugger, about.UNPROVED, DEBUGGER)
+    """The same of the debugger's core."""
+    return program(crate=about.DEBUGGER)
 
 
-def proved_program():
+def proved(crate=about.PROGRAM):
     """The path of the proved program."""
-    return made(PROVED, proving.make, about.PROVED)
+    return made(crate, is_proved=True)
 
 
-def program(is_tried=False):
-    """The path of the proved program where there is one, or else, or where it is asked for, of one without proofs. A
-    package has one program, whatever is asked for."""
-    if about.is_package():
-        return packaged()
-    return PROVED if not is_tried and is_fresh(PROVED) else made(UNPROVED, make_unproved, about.UNPROVED)
-
-
-def packaged():
+def packaged(crate):
     """The path of a package's program."""
-    if about.program() is None:
-        raise kit.NotMade(BROKEN)
-    return about.program()
+    if about.packaged(crate) is None:
+        raise kit.NotMade(LACKING[crate])
+    return about.packaged(crate)
 
 
 def any_program():
@@ -102,7 +95,8 @@ def any_program():
 
 def last_program():
     """A program that is there already, also an old one; none where there isn't any."""
-    found = (os.environ.get("LSL_PROGRAM"), about.program(), PROVED, UNPROVED)
+    kept = (path_of(about.PROGRAM, it) for it in (True, False))
+    found = (os.environ.get("LSL_PROGRAM"), about.packaged(about.PROGRAM), *kept)
     return next((it for it in found if it and os.access(it, os.X_OK)), None)
 
 
@@ -110,7 +104,6 @@ def told(is_tried):
     """What there is to say of the program that `lsl` would use."""
     if about.is_package():
         return about.read(about.ABOUT)
-    for binary in (UNPROVED,) if is_tried else (PROVED, UNPROVED):
-        if is_fresh(binary):
-            return about.read(f"{binary}.about")
-    return about.of_sources(about.UNBUILT)
+    found = (fresh(about.PROGRAM, it) for it in ((False,) if is_tried else (True, False)))
+    binary = next(filter(None, found), None)
+    return about.read(f"{binary}.about") if binary else about.of_sources(about.UNBUILT)

@@ -2,6 +2,7 @@
 import os
 import re
 import shutil
+import sys
 
 from . import about, archives, contents, debian, kit, making
 from .kit import NotMade
@@ -10,22 +11,28 @@ NEEDED = re.compile(r"(?m)^ +NEEDED +(\S+)$")
 GLIBC = re.compile(r"\bGLIBC_([0-9.]+)")
 
 
-def program(is_tried):
-    """The program for a package."""
+def programs(is_tried):
+    """The programs for a package, by their crates."""
     if is_tried:
-        return making.program(is_tried=True)
-    if not making.is_fresh(making.PROVED):
+        return {it: making.program(True, it) for it in about.CALLED}
+    found = {it: making.fresh(it, is_proved=True) for it in about.CALLED}
+    if not found[about.PROGRAM]:
         hint = "'./lsl --prove' makes it, and 'tools/package --try' takes the one without proofs"
         raise NotMade(f"there is no proved program of these sources: {hint}")
-    return making.PROVED
+    if not found[about.DEBUGGER]:
+        print("package: the debugger is left out: './lsl --prove' makes it", file=sys.stderr)
+    return {crate: it for crate, it in found.items() if it}
 
 
-def libc_of(binary):
-    """The least version of the C library that a program needs. It needs no other library."""
-    said = kit.said_by("objdump", "-p", binary)
-    if NEEDED.findall(said) != ["libc.so.6"]:
-        raise NotMade(f"{binary} needs more than the C library: {' '.join(NEEDED.findall(said))}")
-    return max(GLIBC.findall(said), key=lambda it: [int(part) for part in it.split(".")])
+def libc_of(binaries):
+    """The least version of the C library that programs need. They need no other library."""
+    found = []
+    for it in binaries:
+        said = kit.said_by("objdump", "-p", it)
+        if NEEDED.findall(said) != ["libc.so.6"]:
+            raise NotMade(f"{it} needs more than the C library: {' '.join(NEEDED.findall(said))}")
+        found += GLIBC.findall(said)
+    return max(found, key=lambda it: [int(part) for part in it.split(".")])
 
 
 def when():
@@ -33,13 +40,13 @@ def when():
     return int(os.environ.get("SOURCE_DATE_EPOCH") or contents.git("log", "-1", "--format=%ct"))
 
 
-def make(binary, folder):
-    """Makes the archive, and the Debian package where there is dpkg-deb. Their paths."""
-    name, files, libc, then = f"{contents.NAME}-{about.version()}", contents.entries(binary), libc_of(binary), when()
+def make(binaries, folder):
+    """Makes the archive, and the Debian package where there is dpkg-deb, of the programs of crates. Their paths."""
+    name, then, files = f"{contents.NAME}-{about.version()}", when(), contents.entries(binaries)
     archive = os.path.join(folder, f"{name}-linux-x86_64.tar.gz")
     archives.write_tar(archive, {f"{name}/{path}": it for path, it in files.items()}, then)
     if shutil.which("dpkg-deb") is None:
         return [archive]
     deb = os.path.join(folder, f"{contents.NAME}_{about.version()}_amd64.deb")
-    archives.write_deb(deb, debian.entries(files, libc), then)
+    archives.write_deb(deb, debian.entries(files, libc_of(binaries.values())), then)
     return [archive, deb]

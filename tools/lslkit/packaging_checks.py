@@ -10,6 +10,7 @@ import tempfile
 
 from . import about, bare_root, contents, front, making, packaging, playing
 from .checking import Skipped, check, need
+from .debugger import commands, looking, moving, terminal  # (looking, moving and terminal for their commands)
 from .places import bytes_of, in_top, text_of
 
 LINK = re.compile(r"\]\(([^)#:]+)(?:#[^)]*)?\)")
@@ -19,6 +20,7 @@ TRIES = (
     ("lsl once examples/hello.lsl", "", 'owner 1 "Hello, Avatar!"'),
     ("lsl play examples/door/door.lsl", TALK, '"Door open"'),
     ("lsl replay --show examples/door/door.world", "", "Door is in North"),
+    ("libexec/lsl_debug state examples/door/door.world", "", "\nobject "),
     ("tools/explain examples/bad/bell.lsl", "", "LSL has the call llSin, and this language hasn't"),
     ("tools/show examples/door/door.out examples/door/door.world", "", "Bob touches Door"),
     ("tools/suite libexec/lsl chat", "", ", 0 failed"),
@@ -33,6 +35,7 @@ INSTALLED = (
     ("lsl play door/door.lsl --touch Ann", "Door open"),
     ("/usr/share/dishhollow/tools/explain bad/bell.lsl", "llSin"),
     ("man -P cat lsl", "compile and run scripts of the Linden Scripting Language"),
+    ("man -P cat lsl-debug", "debug scripts of the Linden Scripting Language"),
     (f"bash -c '{BASH}'", "replay"),
     ("zsh -c 'autoload -Uz compinit; compinit -D -u; echo $_comps[lsl]'", "_lsl"),
     ("vim -N -u NONE -es --cmd 'filetype plugin on' -c 'set makeprg?' -c 'q' hello.lsl", "dishhollow/tools/explain"),
@@ -40,15 +43,17 @@ INSTALLED = (
 COMPLETED = """\
 . package/lsl.bash
 ask() { COMP_WORDS=("$@"); COMP_CWORD=$(($# - 1)); _lsl; printf '%s\\n' "${COMPREPLY[@]}"; }
-ask lsl ''; ask lsl once --; ask lsl replay --; ask lsl play x --; ask lsl once examples/he
+ask lsl ''; ask lsl once --; ask lsl replay --; ask lsl play x --; ask lsl debug x -
+ask lsl once examples/he; ask lsl debug examples/door/
 """
+COMMANDS = (*front.COMMANDS, "play", "debug", "server")
 
 
 def make():
     """Makes both files of a package in a folder that is kept while this runs."""
     room = tempfile.mkdtemp(prefix="lsl-package-")
     atexit.register(shutil.rmtree, room, ignore_errors=True)
-    return packaging.make(making.any_program(), room)
+    return packaging.make(packaging.programs(is_tried=not making.fresh(about.PROGRAM, is_proved=True)), room)
 
 
 @functools.lru_cache(maxsize=None)
@@ -147,21 +152,23 @@ def lintian_finds_no_error_in_a_package():
 
 
 @check
-def the_manual_page_renders_and_is_whole():
-    page = in_top("package", "lsl.1")
-    for line in ("man --warnings -l", "mandoc -Tlint -Wwarning"):
-        if shutil.which(line.split()[0]):
-            said = said_by(["sh", "-c", f"{line} '{page}' 2>&1 >/dev/null"])
-            need(not said, line, "says", said)
-    text = text_of("package", "lsl.1")
-    for word in (*front.COMMANDS, "play"):
+def the_manual_pages_render_and_are_whole():
+    for name in ("lsl.1", "lsl-debug.1"):
+        for line in ("man --warnings -l", "mandoc -Tlint -Wwarning"):
+            if shutil.which(line.split()[0]):
+                said = said_by(["sh", "-c", f"{line} '{in_top('package', name)}' 2>&1 >/dev/null"])
+                need(not said, line, "says of", name, said)
+    text, of_debug = text_of("package", "lsl.1"), text_of("package", "lsl-debug.1")
+    for word in COMMANDS:
         need(f".It Cm {word}" in text, word, "isn't in the manual page")
     for word in options():
         need(f".It Fl -{word[2:]}" in text, word, "isn't in the manual page")
+    for word in commands.COMMANDS:
+        need(re.search(rf"(?m)^\.(It )?Cm .*\b{word}\b", of_debug), word, "isn't in the manual page of debug")
 
 
 def options():
-    """Each option of the script `lsl`."""
+    """Each option of the script `lsl`, but for those of `debug`."""
     own = ("show", "html", "lossy", "explain", "help", "version")
     return {f"--{it}" for it in (*own, *playing.TAKING, *playing.FLAGS)}
 
@@ -169,10 +176,10 @@ def options():
 @check
 def completion_has_each_command_and_option():
     said = said_by(["bash", "-c", COMPLETED], cwd=in_top()).split()
-    wanted = {*front.COMMANDS, "play", *options(), "examples/hello.lsl"}
+    wanted = {*COMMANDS, *options(), "--adapter", "examples/hello.lsl", "examples/door/door.world"}
     need(wanted <= {*said}, "bash doesn't complete", *sorted(wanted - {*said}))
     text = text_of("package", "_lsl")
-    missing = [it for it in (*front.COMMANDS, "play", *options()) if not re.search(rf"'\*?{it}[:\[]", text)]
+    missing = [it for it in (*COMMANDS, *options(), "--adapter") if not re.search(rf"'\*?{it}[:\[]", text)]
     need(not missing, "zsh doesn't complete", *missing)
 
 

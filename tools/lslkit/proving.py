@@ -1,14 +1,14 @@
 """Proves a crate and those that it stands on, from what the gate proved on this machine where the kit keeps that; and
-builds the program."""
+builds the programs."""
+import contextlib
 import os
 import re
 import shutil
 
-from . import jobs, kit, sources
+from . import about, jobs, kit, sources
 from .places import in_top, text_of, write_text
 from .progress import Progress
 
-PROGRAM = "lsl"
 # The memory of a proof, in kilobytes.
 PROOF_NEEDS = 4000000
 # What a proof from nothing takes in processor minutes, and what no further processor makes shorter: the crates that
@@ -28,18 +28,26 @@ def how_long():
     return f"for some {minutes} minutes the first time, and later what changed"
 
 
-def make(room):
-    """Proves the program, and builds it. Its path."""
-    doing = "proving and building the program"
+def make(crate, room):
+    """Proves a program, and builds it. Its path."""
+    doing = f"proving and building the {about.CALLED[crate]}"
     with Progress("lsl", f"{doing}, {how_long()}", doing) as progress:
-        folder = proved(PROGRAM, room, progress)
+        folder = proved(crate, room, progress)
+        binary = os.path.join(folder, "out", crate)
         if not kit.keeps():
-            jobs.run(["rt", "run", "--", "check", "data/hello.lsl"], progress.tick, cwd=folder)
-        progress.end("proved and built the program")
-    binary = os.path.join(folder, "out", PROGRAM)
+            build(binary, progress)
+        progress.end(f"proved and built the {about.CALLED[crate]}")
     if not os.access(binary, os.X_OK):
         raise kit.NotMade("all is proved, but there is no program: this kit can't be used")
     return binary
+
+
+def build(binary, progress):
+    """Builds the program of a crate that was checked in its place. `rt` then runs it without a word, which it refuses."""
+    with contextlib.suppress(FileNotFoundError):
+        os.remove(binary)
+    with jobs.running(["rt", "run"], cwd=os.path.dirname(os.path.dirname(binary))) as job:
+        jobs.wait(job.has_ended, progress.tick)
 
 
 def proved(crate, room, progress):
