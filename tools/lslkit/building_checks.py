@@ -14,6 +14,14 @@ DOING = "lsl: compiling the program without its proofs"
 ONCE = f"{DOING}, in a minute or two; './lsl --prove' proves it, in about an hour\n"
 COMPILED = "compiled check a.lsl\n"
 PROVED = "proved check a.lsl\n"
+INNER = '@"lsl_page::lsl_page_run"'
+# What a static library has beside the module of a program.
+EXPORT = f"""
+define void @lsl_page_run() #0 {{
+  call void {INNER}()
+  ret void
+}}
+"""
 KEPT = ["lsl-unproved", "lsl-unproved.about", "lsl-unproved.lock", "lsl-unproved.sources", "parts"]
 
 
@@ -223,7 +231,7 @@ def add_page(repo):
     words = (os.path.relpath(it, places.TOP) for it in glob.glob(places.in_top("tools", "words", "*.json")))
     for name in ("page/index.html", "tools/lsl_names.tsv", *tables, *words):
         repo.write(name, places.text_of(name))
-    repo.write_in_kit("module", MODULE.replace("@main", '@"lsl_page::lsl_page_run"'))
+    repo.write_in_kit("module", MODULE.replace("@main", INNER))
 
 
 def need_page(repo, words, wanted):
@@ -244,13 +252,23 @@ def a_page_is_compiled_in_parts():
         need(len(os.listdir(repo.at("out", "parts", "lsl_page"))) == 2, "other parts are kept")
 
 
+def need_exported_once(repo):
+    """The export is the function that calls the other one."""
+    texts = [places.text_of(it) for it in glob.glob(repo.at("out", "parts", "lsl_page", "*.o"))]
+    exported = [it for text in texts for it in text.splitlines() if it.startswith("define") and "wasm-export" in it]
+    need(len(exported) == 1 and "@lsl_page_run() #0" in exported[0], "exported are", exported)
+    need(any(f"call void {INNER}()" in it for it in texts), "the export calls itself")
+
+
 @check
 def a_page_is_proved_as_the_program_is():
     for names, wanted in (("rt ci NAME..\n", "rt ci"), ("rt check\n", "rt all check")):
         with repository() as repo:
             add_page(repo)
             repo.write_in_kit("help", names)
+            repo.write_in_kit("module", MODULE.replace("@main", INNER) + EXPORT)
             need_page(repo, [], ["proving and compiling the module, for some"])
+            need_exported_once(repo)
             need_page(repo, [], [])
             need(repo.calls(wanted) == repo.calls("rattle build") == 1, wanted, "was called", repo.calls(wanted), "times")
             need(not os.listdir(repo.rooms), "the build leaves", os.listdir(repo.rooms))

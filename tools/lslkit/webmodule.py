@@ -108,7 +108,8 @@ def tried(room, progress):
     lines = sources.lines_of(below).replace(" staticlib:", ":")
     write_text(f"{crates}.txt", f"{lines}{name}: {CRATE}\n")
     text, _ = lowering.lowered(os.path.join(crates, name), room, progress)
-    return unproved.parts_of(text, [named_in(it) for it in EXPORTS], below)
+    parts = unproved.parts_of(text, [named_in(it) for it in EXPORTS], below)
+    return [named_as_exports(it) for it in parts]
 
 
 # From there to a module of WebAssembly
@@ -132,10 +133,16 @@ def for_wasm(line, begins):
     return exported(line, EXPORTS)
 
 
+def named_as_exports(text):
+    """A module of a program that calls the exports, where these have the names under which they are exported."""
+    for name in EXPORTS:
+        text = text.replace(f"@{named_in(name)}(", f"@{name}(")
+    return text
+
+
 def exported(line, names):
     """A line of a module, which exports the functions of these names."""
     for name in names:
-        line = line.replace(f"@{named_in(name)}(", f"@{name}(")
         if line.startswith("define ") and f"@{name}(" in line:
             return re.sub(r" (#\d+) \{", rf' \1 "wasm-export-name"="{name}" {{', line)
     return line
