@@ -11,6 +11,7 @@ from .checking import Skipped, check, need
 from .debug_client import Client
 from .server import framing
 from .server_checks import binary
+from .server_client import Client as ServerClient
 
 SCRIPTS = places.in_top("tools", "debug_tests")
 COURIER, SOURCE = "examples/courier/courier.world", {"path": places.in_top("examples", "courier", "courier.lsl")}
@@ -108,6 +109,21 @@ def the_debugger_says_what_it_cannot_debug():
         notes = ran.stderr.decode()
         need(ran.returncode == status and said in notes, words, "ended with", ran.returncode, notes)
         need("Traceback" not in notes, words, "failed:", notes)
+
+
+@check
+def a_lens_says_how_a_script_is_debugged():
+    name = places.in_top("examples", "bell.lsl")
+    with ServerClient(binary(), places.TOP) as it:
+        it.open(f"file://{name}", places.text_of(name))
+        lenses = [row["command"] for row in it.of("codeLens", f"file://{name}") if row["command"]["title"] == "debug"]
+        need(len(lenses) > 1, "the lenses are", lenses)
+        for lens in lenses:
+            said = it.ask("workspace/executeCommand", {"command": lens["command"], "arguments": lens["arguments"]})
+            lsl, word, *words = shlex.split(said)
+            need((lsl, word) == ("lsl", "debug"), "a lens says", said)
+            ran = debugged(*words, said="quit\n")
+            need(ran.returncode == 0 and b" moments" in ran.stdout, said, "says", ran.stdout.decode(), ran.stderr.decode())
 
 
 def client():
