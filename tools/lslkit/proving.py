@@ -25,7 +25,8 @@ BEGUN = re.compile(r"== (\w+)")
 def how_long():
     """What is said of the time that a proof takes."""
     minutes = max(PROCESSOR_MINUTES // jobs.count(PROOF_NEEDS), CHAIN_MINUTES)
-    return f"for some {minutes} minutes the first time, and later what changed"
+    kept = ", or a few where 'rt ci' has passed on this machine" if kit.keeps() else ""
+    return f"for some {minutes} minutes the first time{kept}; later only what changed is proved"
 
 
 def make(crate, room):
