@@ -6,12 +6,11 @@ import subprocess
 
 from .places import write_text
 
-# A compiler that keeps the module of a call that has a word, and with what words it was called. Where that is all that
-# is wanted it ends there.
+# A compiler that keeps the module of a call that has a word, and with what words it was called, and doesn't compile it.
 KEEPER = """#!/bin/sh
 for word in "$@"; do case "$word" in module.bc | */module.bc) module=$word ;; esac; done
 case "${{module:+ $* }}" in *" {word}"*) cp "$module" '{kept}' && printf '%s\\n' "$@" > '{kept}.new' &&
-    mv '{kept}.new' '{kept}.words'{end} ;; esac
+    mv '{kept}.new' '{kept}.words' && {then} ;; esac
 exec '{clang}' "$@"
 """
 MISSING = """\
@@ -110,12 +109,12 @@ def with_commands(room, texts):
     return made
 
 
-def with_keeper(room, kept, word="", is_last=False):
-    """A toolchain of links in a folder, whose compiler keeps the module of a call that has a word that begins so."""
+def with_keeper(room, kept, then, word=""):
+    """A toolchain of links in a folder, whose compiler keeps the module of a call that has a word that begins so. What
+    the compiler then does is a command of the shell."""
     made = os.path.join(room, "toolchain")
     link(path("toolchain"), made, ("bin",))
     link(path("toolchain", "bin"), os.path.join(made, "bin"), ("clang",))
-    end = " && exit 1" if is_last else ""
-    keeper = KEEPER.format(word=word, kept=kept, end=end, clang=clang())
+    keeper = KEEPER.format(word=word, kept=kept, then=then, clang=clang())
     write_command(os.path.join(made, "bin", "clang"), keeper)
     return made
