@@ -1,5 +1,5 @@
 // Draws a chart on its canvas.
-import { CUT, STOPPED } from "./handlers.js";
+import { CUT, ENDED, STOPPED } from "./handlers.js";
 import { LANE, MARKS, TOP, lowest } from "./chart.js";
 import { Steps, fitting } from "./stepdrawing.js";
 
@@ -12,6 +12,9 @@ export class Drawing {
     const { canvas } = chart;
     Object.assign(this, { chart, canvas, pen: canvas.getContext("2d"), colours: {} });
     this.steps = new Steps(this);
+    const { handlers, journal, spoken } = chart.scene;
+    this.bad = chart.lanes.map(lane => lane.filter(it => handlers.endings[it] !== ENDED));
+    this.lost = spoken.filter(it => ["fault", "cut"].includes(MARKS.get(journal.kinds[it])?.[0]));
   }
 
   // Draws the chart, with the moment that is seen.
@@ -77,23 +80,28 @@ export class Drawing {
     }
   }
 
+  // Those that didn't end well are drawn over the others.
   drawHandlers() {
+    this.chart.lanes.forEach((lane, number) => {
+      const y = this.chart.laneY(number + 1);
+      if (!this.isSeen(y)) return;
+      this.drawLane(lane, y);
+      this.drawLane(this.bad[number], y);
+    });
+  }
+
+  // Draws those handlers of a list that are seen: of the ones that begin in one pixel the first.
+  drawLane(list, y) {
     const { chart } = this;
     const last = chart.lineAt(chart.width);
-    const { begins } = chart.scene.handlers;
-    chart.lanes.forEach((lane, number) => {
-      const y = chart.laneY(number + 1);
-      if (!this.isSeen(y)) return;
-      let drawn = -1;
-      const first = Math.max(0, lowest(lane.length, chart.from, it => begins[lane[it]]) - 1);
-      for (let at = first; at < lane.length && begins[lane[at]] <= last; at++) {
-        const x = chart.xOf(begins[lane[at]]);
-        const right = Math.max(chart.xOf(chart.endOf(lane[at])) - 1, x + 1);
-        if (right - drawn < 1 && chart.scene.handlers.endings[lane[at]] === 0) continue;
-        drawn = right;
-        this.drawHandler(lane[at], x, right, y);
-      }
-    });
+    const begin = it => chart.scene.handlers.begins[list[it]];
+    let at = Math.max(0, lowest(list.length, chart.from, begin) - 1);
+    while (at < list.length && begin(at) <= last) {
+      const x = chart.xOf(begin(at));
+      const right = Math.max(chart.xOf(chart.endOf(list[at])) - 1, x + 1);
+      this.drawHandler(list[at], x, right, y);
+      at = Math.max(at + 1, lowest(list.length, chart.lineAt(right), begin));
+    }
   }
 
   drawHandler(handler, x, right, y) {
@@ -148,18 +156,33 @@ export class Drawing {
     pen.fill();
   }
 
+  // Where lines are narrow only what went wrong is marked, once in each pixel of a lane.
   drawMarks() {
+    const { chart } = this;
+    const { numbers } = chart.scene.journal;
+    const first = Math.max(0, Math.floor(chart.from));
+    const last = Math.min(chart.total, Math.ceil(chart.lineAt(chart.width)));
+    this.pen.textAlign = "center";
+    if (chart.scale > 5) {
+      for (let line = first; line < last; line++) this.drawMark(line);
+      return;
+    }
+    const drawn = new Map();
+    for (let at = lowest(this.lost.length, first, it => this.lost[it]); this.lost[at] < last; at++) {
+      const [line, x] = [this.lost[at], chart.xOf(this.lost[at])];
+      if (x - (drawn.get(numbers[line]) ?? -Infinity) < 1) continue;
+      drawn.set(numbers[line], x);
+      this.drawMark(line);
+    }
+  }
+
+  drawMark(line) {
     const { chart, pen } = this;
     const { kinds, numbers } = chart.scene.journal;
-    const last = Math.min(chart.total, Math.ceil(chart.lineAt(chart.width)));
-    const isClose = chart.scale > 5;
-    pen.textAlign = "center";
-    for (let line = Math.max(0, Math.floor(chart.from)); line < last; line++) {
-      const mark = MARKS.get(kinds[line]);
-      if (!mark || !(isClose || mark[0] === "fault" || mark[0] === "cut")) continue;
-      pen.fillStyle = this.colours[mark[0]];
-      pen.fillText(mark[1], chart.xOf(line + 0.5), chart.laneY(numbers[line]) + (mark[0] === "said" ? 4 : LANE / 2));
-    }
+    const [sort, sign] = MARKS.get(kinds[line]) ?? [];
+    if (!sort) return;
+    pen.fillStyle = this.colours[sort];
+    pen.fillText(sign, chart.xOf(line + 0.5), chart.laneY(numbers[line]) + (sort === "said" ? 4 : LANE / 2));
   }
 
   // A crossing is drawn in the lanes of its object's scripts.

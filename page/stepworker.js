@@ -78,7 +78,9 @@ addEventListener("message", async ({ data: { module, number, task, ...asked } })
     return;
   }
   try {
-    postMessage({ number, ...await TASKS[task](asked) });
+    const answer = await TASKS[task](asked);
+    const columns = Object.values(answer).filter(it => ArrayBuffer.isView(it));
+    postMessage({ number, ...answer }, columns.map(it => it.buffer));
   } catch (error) {
     postMessage({ number, kind: "failed", error: `${error.message ?? error}` });
   }
