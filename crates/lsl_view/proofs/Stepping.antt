@@ -1,7 +1,7 @@
 -- The lines of one script, one object or one global more, by what is left of them.
-use Rattle.std.proofs.Common.{◌≡◌, ◌∙◌, refl, sym, ap, arith, ℕ, ◌+◌, ◌<◌, ◌≤◌, min, zero, suc, List, [], ◌∷◌, ◌++◌, length, take, drop, get_or, append_assoc, append-nil, length-append, Option, Some, None, slice_get}
-use Rattle.std.specs.List.{flat_map}
-use Rattle.std.specs.Prelude.{IfSome, sum_by}
+use Rattle.std.proofs.Common.{◌≡◌, ◌∙◌, refl, sym, ap, arith, ℕ, ◌+◌, ◌*◌, ◌<◌, ◌≤◌, min, zero, suc, List, [], ◌∷◌, ◌++◌, length, take, drop, get_or, append_assoc, append-nil, length-append, Option, Some, None, slice_get, Result, Ok, Err}
+use Rattle.std.specs.List.{AllByRecursion, flat_map}
+use Rattle.std.specs.Prelude.{IfSome, OnOk, sum_by}
 use Rattle.std.proofs.lemmas.List.{drop_all}
 use Rattle.std.proofs.lemmas.List.Sums.{sum_by_more}
 use Rattle.std.proofs.lemmas.Option.{get_or_from_slice_get, slice_get_within}
@@ -15,18 +15,24 @@ use Rattle.lsl_post.specs.declared.parts.ScriptParts.{ScriptParts}
 use Rattle.lsl_post.specs.Fitting.{CanLeave}
 use Rattle.lsl_post.proofs.Places.{drop-at}
 use Rattle.lsl_image.specs.declared.parts.Placed.{Placed}
+use Rattle.lsl_image.specs.declared.parts.WorldParts.{WorldParts}
+use Rattle.lsl_image.specs.Valid.{IsPlaced, IsWorld}
 use Rattle.lsl_image.proofs.WroteLemmas.{item-at}
 use Rattle.lsl_view.specs.Parts.{scripts_of}
 use Rattle.lsl_view.specs.State.{global_line, object_lines, objects_behind, state_lines, states_behind}
-use Rattle.lsl_view.specs.StateParts.{globals_shown, object_shown, objects_shown, script_state, state_in, states_shown}
+use Rattle.lsl_view.specs.StateParts.{globals_shown, most_scripts, object_shown, objects_shown, script_state, state_in, states_shown}
 use Rattle.lsl_view.specs.declared.known.Names.{Names}
 
--- at a place within the list the default doesn't matter
-name-at : (names : List (List ℕ)) (i : ℕ) (name : List ℕ) → i < length names → name ≡ get_or names i name
-    → name ≡ get_or names i []
-name-at [] i name within is = absurd (omega (arith, within))
-name-at (n ∷ names) zero name within is = is
-name-at (n ∷ names) (suc i) name within is = name-at names i name (omega (arith, within)) is
+-- no name is an empty one
+no-name : (names : List (List ℕ)) (i : ℕ) → None ≡ slice_get names i → [] ≡ get_or names i []
+no-name [] i is = refl
+no-name (n ∷ names) zero is = absurd cc
+no-name (n ∷ names) (suc i) is = no-name names i is
+
+-- what is so where a call went well
+on-ok : {T E A B : Type 0} (result : Result T E) → (A → B) → OnOk result A → OnOk result B
+on-ok (Ok t) f h = f h
+on-ok (Err e) f h = tt
 
 module _ (library : List Code) (names : Names) (clock : ℕ) where
   abbrev lines : ℕ → List ScriptParts → List ℕ
@@ -50,18 +56,36 @@ module _ (library : List Code) (names : Names) (clock : ℕ) where
       ∙ left
 
   -- the lines of a script with its unit and its name at its place
-  pub state-shown : (place : ℕ) (x : ScriptParts) (unit : Code) (name now new : List ℕ) → place < length names.scripts
-      → name ≡ get_or names.scripts place name → Some unit ≡ slice_get library x.unit
+  state-shown : (place : ℕ) (x : ScriptParts) (unit : Code) (name now new : List ℕ)
+      → name ≡ get_or names.scripts place [] → Some unit ≡ slice_get library x.unit
       → new ≡ now ++ state_lines (place + 1) (state_in (Some unit) clock name (get_or names.globals x.unit []) x)
       → new ≡ now ++ state_lines (suc place) (script_state library names clock (get_or names.scripts place []) x)
-  state-shown place x unit name now new within is named then =
+  state-shown place x unit name now new is named then =
       let globals = get_or names.globals x.unit [] in
       let next : place + 1 ≡ suc place = omega arith in
       then
       ∙ ap (λ (o : Option Code). now ++ state_lines (place + 1) (state_in o clock name globals x)) named
-      ∙ ap (λ (n : List ℕ). now ++ state_lines (place + 1) (state_in (slice_get library x.unit) clock n globals x))
-      (name-at names.scripts place name within is)
+      ∙ ap (λ (n : List ℕ). now ++ state_lines (place + 1) (state_in (slice_get library x.unit) clock n globals x)) is
       ∙ ap (λ (k : ℕ). now ++ state_lines k (script_state library names clock (get_or names.scripts place []) x)) next
+
+  module _ {E : Type 0} (place : ℕ) (x : ScriptParts) (unit : Code) (now new : List ℕ) (result : Result (Unit {0}) E)
+      (named : Some unit ≡ slice_get library x.unit) where
+    pub state-named : (name : List ℕ) → Some name ≡ slice_get names.scripts place
+        → OnOk result (new ≡ now ++ state_lines (place + 1)
+        (state_in (Some unit) clock name (get_or names.globals x.unit []) x))
+        → OnOk result (new ≡ now ++ state_lines (suc place)
+        (script_state library names clock (get_or names.scripts place []) x))
+    state-named name is then = on-ok result
+        (state-shown place x unit name now new (sym (get_or_from_slice_get names.scripts place name [] (sym is))) named)
+        then
+
+    pub state-unnamed : (name : List ℕ) → name ≡ [] → None ≡ slice_get names.scripts place
+        → OnOk result (new ≡ now ++ state_lines (place + 1)
+        (state_in (Some unit) clock name (get_or names.globals x.unit []) x))
+        → OnOk result (new ≡ now ++ state_lines (suc place)
+        (script_state library names clock (get_or names.scripts place []) x))
+    state-unnamed name none is then =
+        on-ok result (state-shown place x unit name now new (none ∙ no-name names.scripts place is) named) then
 
   -- all of them were
   pub states-done : (place i : ℕ) (scripts : List ScriptParts) (now total : List ℕ) → length scripts ≤ i
@@ -158,3 +182,20 @@ charge-more sack i frame charged now new mid most is so first then =
     let more = sum_by_more frame_charge sack i frame (slice_get_within sack i frame is) in
     let own = ap frame_charge (get_or_from_slice_get sack i frame frame is) in
     omega (arith, so, first, then, more, own)
+
+-- so many objects, each with so many scripts at most
+pub scripts-few : (library : List Code) (objects : List Placed) → AllByRecursion (IsPlaced library) objects
+    → length (flat_map scripts_of objects) ≤ length objects * 65535
+scripts-few library [] each = omega arith
+scripts-few library (x ∷ objects) each =
+    let more = length-append (scripts_of x) (flat_map scripts_of objects) in
+    let rest = scripts-few library objects each.1 in
+    let few = each.0.count in
+    omega (arith, more, rest, few)
+
+pub world-few : (library : List Code) (w : WorldParts) → IsWorld library w
+    → length (flat_map scripts_of w.objects) ≤ most_scripts
+world-few library w is =
+    let most = scripts-few library w.objects is.objects in
+    let count = is.count in
+    omega (arith, most, count)

@@ -1,5 +1,5 @@
 -- What a world's parts show whole. The parts have no names of scripts and globals: these are given.
-use Rattle.std.specs.Prelude.{ℕ, suc, ◌+◌, min, nat_lt, if◌then◌else◌, List, [], ◌∷◌, Option, Some, None, drop, get_or, length, map, option_map, slice_get}
+use Rattle.std.specs.Prelude.{ℕ, suc, ◌+◌, ◌*◌, min, nat_lt, if◌then◌else◌, List, [], ◌∷◌, Option, Some, None, drop, get_or, length, map, option_map, slice_get}
 use Rattle.lsl_value.specs.declared.tagged.Value.{Value}
 use Rattle.lsl_running.specs.Charging.{most_charged}
 use Rattle.lsl_running.specs.declared.ends.Fault.{Fault}
@@ -74,6 +74,10 @@ state_in unit clock name globals s = record {
   timer = running_timer s.timer;
   sleeps = sleep_until clock s.wake;
 }
+
+-- how many scripts a world has at most that has an image: so many objects, each with so many scripts
+abbrev pub most_scripts : ℕ
+most_scripts = 255 * 65535
 
 -- with the names of its unit's globals
 abbrev pub script_state : List Code → Names → (clock : ℕ) → (name : List ℕ) → ScriptParts → ShownState

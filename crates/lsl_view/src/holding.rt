@@ -1,6 +1,6 @@
 //! What scripts hold, appended as lines.
 
-ghost use Rattle.std.specs.Prelude.{◌≡◌, ◌++◌, ◌+◌, ◌<◌, ◌≤◌, ◌∷◌, [], codes, decimal, get_or, length, option_map, sum_by, IfOk, IfSome, OnOk, Some};
+ghost use Rattle.std.specs.Prelude.{◌≡◌, ◌++◌, ◌+◌, ◌<◌, ◌≤◌, ◌∷◌, [], codes, decimal, get_or, length, option_map, suc, sum_by, IfOk, IfSome, OnOk, Some};
 ghost use Rattle.std.specs.List.{AllByRecursion, flat_map};
 ghost use Rattle.std.specs.Str.{encode_utf8_all};
 ghost use Rattle.lsl_code.specs.Frames.{frame_charge};
@@ -11,7 +11,7 @@ ghost use Rattle.lsl_post.specs.Fitting.{FitsUnit};
 ghost use Rattle.lsl_running.specs.Charging.{charged_with};
 ghost use Rattle.lsl_view.specs.Parts.{rest_word};
 ghost use Rattle.lsl_view.specs.State.{fault_words, global_line, leaving_words, line, line_of, state_lines, states_behind};
-ghost use Rattle.lsl_view.specs.StateParts.{charge_in, fault_in, globals_shown, state_in, states_shown};
+ghost use Rattle.lsl_view.specs.StateParts.{charge_in, fault_in, globals_shown, most_scripts, script_state, state_in, states_shown};
 
 use crate::calls::push_flight;
 use crate::known::Names;
@@ -34,7 +34,7 @@ pub struct Scene<'a> {
 }
 
 impl Scene<'_> {
-    /// Appends the lines of these scripts, which stand behind so many others. How many stand before the next one.
+    /// Appends the lines of these scripts, which follow the first `before`. The place after the last of them.
     pub fn push_scripts(
         &self,
         out: &mut Vec<u8>,
@@ -42,19 +42,37 @@ impl Scene<'_> {
         scripts: &[ScriptParts],
     ) -> Result<usize, NoMemory>
         requires units { AllByRecursion (HasUnit self.now.library.now) scripts.now }
-        requires names { before + length scripts.now ≤ length self.now.names.now.scripts }
+        requires few { before + length scripts.now ≤ most_scripts }
         ensures lines { OnOk result (out.new.items ≡ out.old.items ++ states_behind before
             (states_shown self.now.library.now self.now.names.now self.now.clock before scripts.now)) }
         ensures next { IfOk result (λ next. next ≡ before + length scripts.now) }
     {
-        let names = self.names.scripts.as_slice();
         let mut place = before;
         for script in scripts {
-            let unit = self.library.unit(script.unit);
-            self.push_state(out, place + 1, &names[place], script, unit)?;
+            self.push_script(out, place, script)?;
             place += 1;
         }
         Ok(place)
+    }
+
+    // The lines of the script at this place. Without a name it has an empty one.
+    fn push_script(
+        &self,
+        out: &mut Vec<u8>,
+        place: usize,
+        script: &ScriptParts,
+    ) -> Result<(), NoMemory>
+        requires unit { HasUnit self.now.library.now script.now }
+        requires few { place < most_scripts }
+        ensures { OnOk result (out.new.items ≡ out.old.items ++ state_lines (suc place)
+            (script_state self.now.library.now self.now.names.now self.now.clock
+            (get_or self.now.names.now.scripts place []) script.now)) }
+    {
+        let unit = self.library.unit(script.unit);
+        match self.names.scripts.get(place) {
+            Some(name) => self.push_state(out, place + 1, name, script, unit),
+            None => self.push_state(out, place + 1, &Text::new(), script, unit),
+        }
     }
 
     // The lines of the script of this number, name and unit.

@@ -4,9 +4,9 @@ ghost use Rattle.std.specs.Prelude.{◌≡◌, ◌++◌, ◌≤◌, ◌∷◌, [
 ghost use Rattle.std.specs.List.{AllByRecursion, flat_map};
 ghost use Rattle.lsl_image.specs.Valid.{IsPlaced, IsWorld};
 ghost use Rattle.lsl_lines.specs.Journal.{spaced, text_word};
-ghost use Rattle.lsl_view.specs.Parts.{scripts_in, scripts_of};
+ghost use Rattle.lsl_view.specs.Parts.{scripts_of};
 ghost use Rattle.lsl_view.specs.State.{line, objects_behind, pair_line};
-ghost use Rattle.lsl_view.specs.StateParts.{objects_shown, state_of_parts};
+ghost use Rattle.lsl_view.specs.StateParts.{most_scripts, objects_shown, state_of_parts};
 
 use crate::holding::Scene;
 use crate::known::Names;
@@ -18,17 +18,17 @@ use lsl_text::NoMemory;
 use lsl_value::Text;
 use std::alloc::Global;
 
-/// The lines of a world of these parts with all that it holds, where its scripts and its units' globals have these
-/// names: the clock, and then object by object a line of it, of each pair of its store, and of each of its scripts with
-/// what that holds. It takes memory for the lines, and time in proportion to the parts and to what is written.
+/// The lines of a world of these parts with all that it holds: the clock, and then object by object a line of it, of each
+/// pair of its store, and of each of its scripts with what that holds. The scripts and the units' globals have these
+/// names; a script without one has an empty name, and a global without one isn't shown. It takes memory for the lines,
+/// and time in proportion to the parts and to what is written.
 pub fn state(
     alloc: Global,
     parts: &WorldParts,
     names: &Names,
     library: &Library,
 ) -> Result<Vec<u8>, NoMemory>
-    requires parts { IsWorld library.now parts.now }
-    requires names { length names.now.scripts ≡ length (scripts_in parts.now) }
+    requires { IsWorld library.now parts.now }
     ensures { IfOk result (λ lines. lines.items ≡ state_of_parts library.now names.now parts.now) }
 {
     let mut out = Vec::new(alloc);
@@ -53,7 +53,7 @@ fn push_clock(out: &mut Vec<u8>, clock: u64) -> Result<(), NoMemory>
 // The lines of these objects, which are all of the scene.
 fn push_objects(out: &mut Vec<u8>, scene: &Scene<'_>, objects: &[Placed]) -> Result<(), NoMemory>
     requires units { AllByRecursion (IsPlaced scene.now.library.now) objects.now }
-    requires names { length (flat_map scripts_of objects.now) ≤ length scene.now.names.now.scripts }
+    requires few { length (flat_map scripts_of objects.now) ≤ most_scripts }
     ensures { OnOk result (out.new.items ≡ out.old.items ++ objects_behind 0 0
         (objects_shown scene.now.library.now scene.now.names.now scene.now.clock 0 objects.now)) }
 {

@@ -15,8 +15,8 @@ push_scripts-requires-clause-units c =
     (each-at (IsPlaced library) c.args.objects.now c.loop-placed.placed-index c.placed-item.result c.requires.units
     c.loop-placed-test.true c.placed-item.is).scripts
 
-pub push_scripts-requires-clause-names : goal.push_scripts-requires-clause-names
-push_scripts-requires-clause-names c =
+pub push_scripts-requires-clause-few : goal.push_scripts-requires-clause-few
+push_scripts-requires-clause-few c =
     let count = ap (λ (z : List ScriptParts). length z) c.as_slice-scripts.ensures in
     let few = scripts-left c.loop-placed.placed-index c.loop-placed.before _ c.args.objects.now c.placed-item.result
     c.loop-placed-test.true c.placed-item.is c.loop-placed.invariant.few in
