@@ -11,7 +11,7 @@ use Rattle.lsl_build.specs.Faults.{FirstFault}
 use Rattle.lsl_build.specs.declared.faults.BuildFault.{BuildFault}
 use Rattle.lsl_code.specs.declared.woven_units.Woven.{Woven as Code}
 use Rattle.lsl_region.specs.Worlds.{World}
-use Rattle.lsl_top.specs.Answers.{Answer, Checks, Grade, PlaysTexts}
+use Rattle.lsl_top.specs.Answers.{Answer, Checks, Grade, PlaysAccepted, PlaysTexts}
 use Rattle.lsl_top.specs.Froms.{IsFromTexts}
 use Rattle.lsl_top.specs.Held.{AreHeld, Holds}
 use Rattle.lsl_top.specs.Plays.{Play}
@@ -132,7 +132,8 @@ plays-read grade from trips play read texts notes text answer h (inl (programs, 
       codes,
       accepted-read read texts programs h accepted,
       codes-read read texts programs codes h accepted has,
-      e,
+      subst (λ (z : List (List ℕ)). PlaysAccepted grade from trips play z codes programs notes text answer)
+          (accepted-same read texts programs h accepted) e,
     )
 plays-read grade from trips play read texts notes text answer h (inr (name, fault, first, e)) =
     inr (

@@ -31,7 +31,7 @@ use Rattle.lsl_world.proofs.Meanings.{meant}
 use Rattle.lsl_world.proofs.Thawing.{start-fixed, start-home}
 use Rattle.lsl_top.specs.Answers.{Lasts, Written}
 use Rattle.lsl_top.specs.Goes.{IsFrozenWell, IsLast}
-use Rattle.lsl_top.specs.Plays.{Last, Homes, Frozen}
+use Rattle.lsl_top.specs.Plays.{Last, Homes, Frozen, Inspected}
 use Rattle.lsl_top.specs.Thaws.{CanThaw}
 use Rattle.lsl_top.proofs.Fixed.{travel-keeps}
 use Rattle.lsl_top.proofs.Shaped.{shapes-fixed}
@@ -89,6 +89,7 @@ module _ (codes : List Code) (programs : List Program) (file : WorldFile) (cards
       → Lasts Written last codes programs file cards
       (travel (rules_of programs) file.steps trips (start (rules_of programs) file cards)).value
   lasts-started Homes trips is = tt
+  lasts-started (Inspected names) trips is = tt
   lasts-started Frozen trips is =
       can-thaw (travel (rules_of programs) file.steps trips (start (rules_of programs) file cards)).value
       (travel-keeps (rules_of programs) file.steps trips (start (rules_of programs) file cards)) is

@@ -14,7 +14,7 @@ use Rattle.lsl_region.specs.Worlds.{World}
 use Rattle.lsl_top.specs.Answers.{Answer, Comes, Grade, PlaysTexts, Shows}
 use Rattle.lsl_top.specs.Froms.{IsFromIn, IsFromTexts}
 use Rattle.lsl_top.specs.Held.{HoldsFrozen}
-use Rattle.lsl_top.specs.Plays.{Mode, Whole, Handing, Freezing, Thawing, Viewing, Play}
+use Rattle.lsl_top.specs.Plays.{Mode, Whole, Handing, Freezing, Inspecting, Thawing, Viewing, Play}
 use Rattle.lsl_top.specs.Notes.{notecards_of}
 use Rattle.lsl_top.specs.Ports.{IsFrozenRead}
 use Rattle.lsl_top.specs.Thaws.{IsThawFault}
@@ -47,10 +47,10 @@ frozen-head text bytes e = elim (cases_lt 2147483647 (length text)) [
 pub record HasFrozen (held : Option Files) (mode : Mode) (bytes : List ℕ) : Type 0 where
   pub text : List ℕ
   pub holds : HoldsFrozen held mode text
-  pub comes : (grade : Grade) (from : World) (trips : List Trip) (codes : List Code) (programs : List Program)
-      (file : WorldFile) (cards : List Notecard) (answer : Answer)
-      → Comes grade from trips mode codes programs file cards bytes answer
-      → Comes grade from trips mode codes programs file cards text answer
+  pub comes : (grade : Grade) (from : World) (trips : List Trip) (texts : List (List ℕ)) (codes : List Code)
+      (programs : List Program) (file : WorldFile) (cards : List Notecard) (answer : Answer)
+      → Comes grade from trips mode texts codes programs file cards bytes answer
+      → Comes grade from trips mode texts codes programs file cards text answer
   pub fits : (codes : List Code) (programs : List Program) (file : WorldFile) (cards : List Notecard) (from : World)
       → IsFromIn mode codes programs file cards text from → IsFromIn mode codes programs file cards bytes from
 
@@ -61,12 +61,12 @@ thaw-fault codes file bytes text fault of (inl (lacks, e)) = inl (of.none lacks,
 thaw-fault codes file bytes text fault of (inr (image, is, first)) = inr (image, of.given image is, first)
 
 thaw-comes : (name : List ℕ) (bytes text : List ℕ) (grade : Grade) (from : World) (trips : List Trip)
-    (codes : List Code) (programs : List Program) (file : WorldFile) (cards : List Notecard) (answer : Answer)
-    → IsFrozenReadOf bytes text → Comes grade from trips (Thawing name) codes programs file cards bytes answer
-    → Comes grade from trips (Thawing name) codes programs file cards text answer
-thaw-comes name bytes text grade from trips codes programs file cards answer of (inl (parts, (image, is, stands), e)) =
+    (texts : List (List ℕ)) (codes : List Code) (programs : List Program) (file : WorldFile) (cards : List Notecard) (answer : Answer)
+    → IsFrozenReadOf bytes text → Comes grade from trips (Thawing name) texts codes programs file cards bytes answer
+    → Comes grade from trips (Thawing name) texts codes programs file cards text answer
+thaw-comes name bytes text grade from trips texts codes programs file cards answer of (inl (parts, (image, is, stands), e)) =
     inl (parts, (image, of.given image is, stands), e)
-thaw-comes name bytes text grade from trips codes programs file cards answer of (inr (fault, first, e)) =
+thaw-comes name bytes text grade from trips texts codes programs file cards answer of (inr (fault, first, e)) =
     inr (fault, thaw-fault codes file bytes text fault of first, e)
 
 shown-comes : (name : List ℕ) (bytes text : List ℕ) (codes : List Code) (file : WorldFile) (answer : Answer)
@@ -81,25 +81,31 @@ pub frozen-read : (held : Option Files) (mode : Mode) (bytes : List ℕ) → IsF
 frozen-read held Whole bytes h = record {
   text = bytes;
   holds = tt;
-  comes = λ grade from trips codes programs file cards answer c. c;
+  comes = λ grade from trips texts codes programs file cards answer c. c;
   fits = λ codes programs file cards from f. f;
 }
 frozen-read held Handing bytes h = record {
   text = bytes;
   holds = tt;
-  comes = λ grade from trips codes programs file cards answer c. c;
+  comes = λ grade from trips texts codes programs file cards answer c. c;
   fits = λ codes programs file cards from f. f;
 }
 frozen-read held Freezing bytes h = record {
   text = bytes;
   holds = tt;
-  comes = λ grade from trips codes programs file cards answer c. c;
+  comes = λ grade from trips texts codes programs file cards answer c. c;
+  fits = λ codes programs file cards from f. f;
+}
+frozen-read held (Inspecting at) bytes h = record {
+  text = bytes;
+  holds = tt;
+  comes = λ grade from trips texts codes programs file cards answer c. c;
   fits = λ codes programs file cards from f. f;
 }
 frozen-read None (Thawing name) bytes h = record {
   text = bytes;
   holds = tt;
-  comes = λ grade from trips codes programs file cards answer c. c;
+  comes = λ grade from trips texts codes programs file cards answer c. c;
   fits = λ codes programs file cards from f. f;
 }
 frozen-read (Some files) (Thawing name) bytes h = go (files name) refl h
@@ -110,15 +116,15 @@ frozen-read (Some files) (Thawing name) bytes h = go (files name) refl h
     go (Some text) e h = record {
       text = text;
       holds = e;
-      comes = λ grade from trips codes programs file cards answer c.
-          thaw-comes name bytes text grade from trips codes programs file cards answer (frozen-head text bytes h) c;
+      comes = λ grade from trips texts codes programs file cards answer c.
+          thaw-comes name bytes text grade from trips texts codes programs file cards answer (frozen-head text bytes h) c;
       fits = λ codes programs file cards from f parts thaw.
           f parts (thaw.0, (frozen-head text bytes h).given thaw.0 thaw.1, thaw.2);
     }
 frozen-read None (Viewing name) bytes h = record {
   text = bytes;
   holds = tt;
-  comes = λ grade from trips codes programs file cards answer c. c;
+  comes = λ grade from trips texts codes programs file cards answer c. c;
   fits = λ codes programs file cards from f. f;
 }
 frozen-read (Some files) (Viewing name) bytes h = go (files name) refl h
@@ -129,7 +135,7 @@ frozen-read (Some files) (Viewing name) bytes h = go (files name) refl h
     go (Some text) e h = record {
       text = text;
       holds = e;
-      comes = λ grade from trips codes programs file cards answer c.
+      comes = λ grade from trips texts codes programs file cards answer c.
           shown-comes name bytes text codes file answer (frozen-head text bytes h) c;
       fits = λ codes programs file cards from f. tt;
     }
@@ -149,7 +155,7 @@ plays-frozen held bytes grade from trips play texts notes answer has
       inl (
         cards,
         read,
-        has.comes grade from trips codes programs play.world (notecards_of play.world.notes cards) answer c,
+        has.comes grade from trips texts codes programs play.world (notecards_of play.world.notes cards) answer c,
       ),
     )
 plays-frozen held bytes grade from trips play texts notes answer has (inl (programs, codes, accepted, of, inr bad)) =

@@ -32,7 +32,7 @@ use Rattle.lsl_top.specs.Halves.{AreHalves, IsOnShelf, TwoHalvesAreOneRun}
 use Rattle.lsl_top.specs.Held.{HoldsFrozen}
 use Rattle.lsl_top.specs.Notes.{AreCards, notecards_of}
 use Rattle.lsl_top.specs.Pieces.{lines_in, pieces_from, sent_in}
-use Rattle.lsl_top.specs.Plays.{Last, Homes, Frozen, Mode, Whole, Freezing, Thawing, play_of}
+use Rattle.lsl_top.specs.Plays.{Last, Homes, Frozen, Mode, Whole, Freezing, Thawing, file_in, play_of}
 use Rattle.lsl_top.specs.Scripts.{AreAccepted}
 use Rattle.lsl_top.specs.Thaws.{CanThaw}
 use Rattle.lsl_top.specs.declared.status.Status.TheVariants.{Ok, BadNote, BadScript}
@@ -91,10 +91,10 @@ file-comes : (g : Grade) (files : Files) (from : World) (trips : List Trip) (mod
     (file : WorldFile) (texts notes : List (List ℕ)) (text : List ℕ) (answer : Answer)
     → IsOnShelf files name file texts notes → HoldsFrozen (Some files) mode text
     → ReplaysFile g (Some files) from trips mode name answer
-    → PlaysTexts g from trips (play_of mode file) texts notes text answer
+    → PlaysTexts g from trips (play_of mode (file_in mode file)) texts notes text answer
 file-comes g files from trips mode name file texts notes text answer shelf holds h =
     let (bytes, is, good) = shelf.world in
-    plays-texts files g from trips (play_of mode file) texts notes text answer shelf.scripts shelf.cards holds
+    plays-texts files g from trips (play_of mode (file_in mode file)) texts notes text answer shelf.scripts shelf.cards holds
     (replays-plays files g from trips mode name bytes file answer is good h)
 
 -- texts of which a run was answered are accepted, and are notecards
@@ -130,13 +130,13 @@ froze-run g from trips file texts notes text answer well (inr (name, fault, firs
     let both : BadScript ≡ Ok = sym (ap (λ (a : Answer). a.status) e) ∙ well in absurd (cc)
 
 -- what is thawed from a world that the text has is a run from it
-thawed-run : (from : World) (trips : List Trip) (frozen : List ℕ) (codes : List Code) (programs : List Program)
+thawed-run : (from : World) (trips : List Trip) (frozen : List ℕ) (texts : List (List ℕ)) (codes : List Code) (programs : List Program)
     (file : WorldFile) (cards : List Notecard) (text image : List ℕ) (answer : Answer) → IsFrozen text image
     → IsImageIn codes file (parts_of_world codes from) image
-    → Comes Due from trips (Thawing frozen) codes programs file cards text answer
+    → Comes Due from trips (Thawing frozen) texts codes programs file cards text answer
     → answer ≡ run_answer Homes codes programs file trips from
-thawed-run from trips frozen codes programs file cards text image answer is stands (inl (parts, thaw, e)) = e
-thawed-run from trips frozen codes programs file cards text image answer is stands (inr (fault, first, e)) =
+thawed-run from trips frozen texts codes programs file cards text image answer is stands (inl (parts, thaw, e)) = e
+thawed-run from trips frozen texts codes programs file cards text image answer is stands (inr (fault, first, e)) =
     absurd (thaw-no_fault codes file text (parts_of_world codes from) fault (image, is, stands) first)
 
 -- ---- the two runs
@@ -226,7 +226,7 @@ halves-one files more all first_name second_name whole_name frozen first second 
       image = image;
       written = written;
       one = λ thawed answer thaws replays.
-          let second_is = thawed-run w behind frozen codes programs second
+          let second_is = thawed-run w behind frozen texts codes programs second
           (notecards_of second.notes run.cards) text image
           thawed of there.image
           (texts-accepted Due w behind

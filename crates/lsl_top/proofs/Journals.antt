@@ -10,7 +10,8 @@ use Rattle.lsl_lines.specs.declared.file.WorldFile.{WorldFile}
 use Rattle.lsl_post.specs.Told.{Told}
 use Rattle.lsl_script.specs.Rules.{Rules}
 use Rattle.lsl_region.specs.Worlds.{World}
-use Rattle.lsl_world.specs.Frozen.{frozen_image}
+use Rattle.lsl_world.specs.Frozen.{frozen_image, parts_of_world}
+use Rattle.lsl_view.specs.StateParts.{state_of_parts}
 use Rattle.lsl_world.specs.Programs.{rules_of}
 use Rattle.lsl_world.specs.Reports.{homes}
 use Rattle.lsl_world.specs.Steps.{reference}
@@ -19,7 +20,7 @@ use Rattle.lsl_world.proofs.Taking.{all-taken}
 use Rattle.lsl_top.specs.Headline.{kept_from, output_from, report_from}
 use Rattle.lsl_top.specs.Laws.{RunsAreJournals}
 use Rattle.lsl_top.specs.Pieces.{last_piece, lines_in, pieces_from, sent_in, step_pieces}
-use Rattle.lsl_top.specs.Plays.{Last, Homes, Frozen}
+use Rattle.lsl_top.specs.Plays.{Last, Homes, Frozen, Inspected}
 use Rattle.lsl_top.proofs.Performing.{last-silent}
 use Rattle.lsl_top.proofs.Pieces.{lines_in-append, sent_in-append}
 use Rattle.lsl_top.proofs.Written.{lines-append}
@@ -81,6 +82,10 @@ journal-pieces Homes codes programs file trips w =
 journal-pieces Frozen codes programs file trips w =
     pieces-lines Frozen codes (rules_of programs) file.steps trips w
     ∙ ap (λ (a : Told World). lines_of a.entries ++ frozen_line (frozen_image codes a.value))
+    (kept-travels programs file trips w)
+journal-pieces (Inspected names) codes programs file trips w =
+    pieces-lines (Inspected names) codes (rules_of programs) file.steps trips w
+    ∙ ap (λ (a : Told World). lines_of a.entries ++ state_of_parts codes names (parts_of_world codes a.value))
     (kept-travels programs file trips w)
 
 pub runs-journals : RunsAreJournals

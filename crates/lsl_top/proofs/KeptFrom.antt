@@ -1,14 +1,14 @@
 -- What is kept to with the texts that were read is kept to from each world that can have been frozen.
-use Rattle.std.proofs.Common.{◌≡◌, ℕ, List, Option, Some, None, inl, inr}
+use Rattle.std.proofs.Common.{ℕ, List, Option, Some, None, inl, inr}
 use Rattle.lsl_ports.specs.Shelf.{Files}
 use Rattle.lsl_ports.specs.Trips.{Trip}
 use Rattle.lsl_region.specs.Worlds.{World}
 use Rattle.lsl_top.specs.Answers.{Answers, Plays, PlaysRead, ReplaysFile}
 use Rattle.lsl_top.specs.Froms.{IsFromFile, IsFromOf, IsFromPlay}
 use Rattle.lsl_top.specs.Laws.{KeptFromEach}
-use Rattle.lsl_top.specs.Plays.{Mode, Whole, Handing, Freezing, Thawing, Viewing, Play, play_of, play_of_once}
+use Rattle.lsl_top.specs.Plays.{Mode, Whole, Handing, Freezing, Inspecting, Thawing, Viewing, Play, file_in, play_of, play_of_once}
 use Rattle.lsl_top.specs.Promise.{KeepsFile, KeepsOf, KeepsPlay, KeepsTo, RefusesWorld}
-use Rattle.lsl_top.specs.Words.{Command, Once, Check, Replay, Lossy, Freeze, Thaw, Make, View}
+use Rattle.lsl_top.specs.Words.{Command, Once, Check, Replay, Lossy, Freeze, Thaw, Make, View, State}
 use Rattle.lsl_top.specs.declared.status.Status.{Status}
 use Rattle.lsl_top.proofs.Finishing.{keeps-as}
 
@@ -30,10 +30,10 @@ module _ (held : Option Files) (trips : List Trip) where
       keeps-as (λ grade. RefusesWorld held name) (λ grade. ReplaysFile grade held from trips mode name) status trips
       old new (λ grade answer h. (h.0, h.2, inr (h.1, h.3, h.4))) k
   keeps_file-from mode name status old new from (inr (bytes, file, is, good, k)) fits =
-      keeps-as (λ grade. Plays grade held from trips (play_of mode file))
+      keeps-as (λ grade. Plays grade held from trips (play_of mode (file_in mode file)))
       (λ grade. ReplaysFile grade held from trips mode name) status trips old new
       (λ grade answer h. (bytes, is, inl (file, good, h)))
-      (keeps_play-from (play_of mode file) status old new from k (fits bytes file is good))
+      (keeps_play-from (play_of mode (file_in mode file)) status old new from k (fits bytes file is good))
 
   pub keeps_of-from : (command : Command) (status : Status) (old new : Option (List ℕ)) (from : World)
       → KeepsOf held trips command status old new → IsFromOf held command from
@@ -50,6 +50,8 @@ module _ (held : Option Files) (trips : List Trip) where
   keeps_of-from (View frozen name) status old new from k fits =
       keeps_file-from (Viewing frozen) name status old new from k fits
   keeps_of-from (Make number) status old new from k fits = k from
+  keeps_of-from (State at name) status old new from k fits =
+      keeps_file-from (Inspecting at) name status old new from k fits
 
 pub kept-from : KeptFromEach
 kept-from held trips None status old new k from fits = tt

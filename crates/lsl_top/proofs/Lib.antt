@@ -22,6 +22,7 @@ pub mod Performing
 pub mod Fixed
 pub mod Shaped
 pub mod Frozen
+pub mod Cuts
 pub mod Lasting
 pub mod Runs
 pub mod Goings

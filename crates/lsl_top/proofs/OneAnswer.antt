@@ -10,7 +10,7 @@ use Rattle.lsl_build.specs.Accepted.{Accepted}
 use Rattle.lsl_build.specs.Codes.{AreCodesOf}
 use Rattle.lsl_build.specs.Faults.{FirstFault}
 use Rattle.lsl_build.specs.declared.faults.BuildFault.{BuildFault}
-use Rattle.lsl_build.proofs.Accepted.{one_program}
+use Rattle.lsl_build.proofs.Accepted.{one_derived, one_program}
 use Rattle.lsl_build.proofs.FirstFault.{one_fault}
 use Rattle.lsl_lines.specs.World.{FileFirst, IsWorld}
 use Rattle.lsl_lines.specs.declared.faults.FileFault.{FileFault}
@@ -23,15 +23,18 @@ use Rattle.lsl_image.proofs.ImageLemmas.{first-one, image-no_fault, image-one}
 use Rattle.lsl_notes.specs.declared.cards.Notecard.{Notecard}
 use Rattle.lsl_region.specs.Worlds.{World}
 use Rattle.lsl_world.specs.Frozen.{shapes_of_file, IsImageIn}
-use Rattle.lsl_top.specs.Answers.{Answer, Checks, Comes, Grade, Plays, PlaysTexts, Replays, ReplaysFile, image_refused, script_refused, summed, world_refused, Shows, done, PlaysAccepted}
+use Rattle.lsl_world.specs.Programs.{rules_of}
+use Rattle.lsl_world.specs.Starts.{start}
+use Rattle.lsl_top.specs.Answers.{Answer, run_answer, Checks, Comes, Grade, Plays, PlaysTexts, Replays, ReplaysFile, image_refused, script_refused, summed, world_refused, Shows, done, PlaysAccepted}
 use Rattle.lsl_top.specs.Held.{AreHeld, Holds, HoldsFrozen}
 use Rattle.lsl_top.specs.Laws.{AnswersAreOne}
 use Rattle.lsl_top.specs.Made.{made_files, made_name}
-use Rattle.lsl_top.specs.Plays.{Mode, Whole, Handing, Freezing, Thawing, Play, play_of, play_of_once, played, Viewing}
+use Rattle.lsl_top.specs.Plays.{Mode, Whole, Handing, Freezing, Inspecting, Thawing, Play, file_in, inspected, play_of, play_of_once, played, Viewing}
 use Rattle.lsl_top.specs.Notes.{AreCards, notecards_of}
 use Rattle.lsl_top.specs.Scripts.{AreAccepted, FirstRefused, IsRefusedAt}
 use Rattle.lsl_top.specs.Thaws.{IsThawFault, IsThawOf}
-use Rattle.lsl_top.specs.Words.{Once, Check, Replay, Lossy, Freeze, Thaw, Make, View}
+use Rattle.lsl_top.specs.Words.{Once, Check, Replay, Lossy, Freeze, Thaw, Make, View, State}
+use Rattle.lsl_view.specs.Globals.{HasGlobals, HaveGlobals, global_names}
 use Rattle.lsl_view.specs.Names.{script_names}
 use Rattle.lsl_view.specs.Parts.{view_of_parts}
 use Rattle.lsl_top.proofs.FrozenOne.{frozen-one, has-line}
@@ -61,6 +64,22 @@ programs-one [] (p ∷ ps) qs h k = absurd h
 programs-one [] [] (q ∷ qs) h k = absurd k
 programs-one (t ∷ texts) [] qs h k = absurd h
 programs-one (t ∷ texts) (p ∷ ps) [] h k = absurd k
+
+-- a text has one list of globals
+globals-of-one : (text : List ℕ) (a b : List (List ℕ)) → HasGlobals text a → HasGlobals text b → a ≡ b
+globals-of-one text a b (x, is, e) (y, are, f) =
+    e ∙ ap global_names
+    (one_derived text is.tokens are.tokens is.lexed are.lexed x y is.derived are.derived) ∙ sym f
+
+pub globals-one : (texts : List (List ℕ)) (xs ys : List (List (List ℕ))) → HaveGlobals texts xs → HaveGlobals texts ys
+    → xs ≡ ys
+globals-one [] [] [] h k = refl
+globals-one (t ∷ texts) (x ∷ xs) (y ∷ ys) h k =
+    ap₂ (λ z zs. z ∷ zs) (globals-of-one t x y h.0 k.0) (globals-one texts xs ys h.1 k.1)
+globals-one [] (x ∷ xs) ys h k = absurd h
+globals-one [] [] (y ∷ ys) h k = absurd k
+globals-one (t ∷ texts) [] ys h k = absurd h
+globals-one (t ∷ texts) (x ∷ xs) [] h k = absurd k
 
 -- each of the texts is accepted
 accepted-at : (texts : List (List ℕ)) (programs : List Program) (place : ℕ) (text : List ℕ) → AreAccepted texts programs
@@ -145,46 +164,50 @@ shown-one codes file name text a b (inr (one, t, e)) (inr (other, u, f)) =
     e ∙ ap (λ (fault : ImageFault). image_refused name fault) (thaw-fault-one codes file text one other t u) ∙ sym f
 
 -- of the same scripts, notecards and texts comes one answer, due or written
-comes-one : (g h : Grade) (from : World) (trips : List Trip) (mode : Mode) (codes : List Code) (programs : List Program)
-    (file : WorldFile) (cards : List Notecard) (text : List ℕ) (a b : Answer)
-    → Comes g from trips mode codes programs file cards text a
-    → Comes h from trips mode codes programs file cards text b → a ≡ b
-comes-one g h from trips Whole codes programs file cards text a b (l, e) (m, f) = e ∙ sym f
-comes-one g h from trips Handing codes programs file cards text a b e f = e ∙ sym f
-comes-one g h from trips Freezing codes programs file cards text a b (l, e) (m, f) = e ∙ sym f
-comes-one g h from trips (Thawing name) codes programs file cards text a b (inl (p, t, e)) (inl (q, u, f)) = e ∙ sym f
-comes-one g h from trips (Thawing name) codes programs file cards text a b (inl (p, t, e)) (inr (fault, u, f)) =
+comes-one : (g h : Grade) (from : World) (trips : List Trip) (mode : Mode) (texts : List (List ℕ)) (codes : List Code)
+    (programs : List Program) (file : WorldFile) (cards : List Notecard) (text : List ℕ) (a b : Answer)
+    → Comes g from trips mode texts codes programs file cards text a
+    → Comes h from trips mode texts codes programs file cards text b → a ≡ b
+comes-one g h from trips Whole texts codes programs file cards text a b (l, e) (m, f) = e ∙ sym f
+comes-one g h from trips Handing texts codes programs file cards text a b e f = e ∙ sym f
+comes-one g h from trips Freezing texts codes programs file cards text a b (l, e) (m, f) = e ∙ sym f
+comes-one g h from trips (Inspecting at) texts codes programs file cards text a b (ones, is, come) (others, are, comes) =
+    come.1 ∙ ap (λ (globals : List (List (List ℕ))). run_answer (inspected file globals) codes programs file trips
+    (start (rules_of programs) file cards)) (globals-one texts ones others is are) ∙ sym comes.1
+comes-one g h from trips (Thawing name) texts codes programs file cards text a b (inl (p, t, e)) (inl (q, u, f)) = e ∙ sym f
+comes-one g h from trips (Thawing name) texts codes programs file cards text a b (inl (p, t, e)) (inr (fault, u, f)) =
     absurd (thaw-no_fault codes file text p fault t u)
-comes-one g h from trips (Thawing name) codes programs file cards text a b (inr (fault, t, e)) (inl (p, u, f)) =
+comes-one g h from trips (Thawing name) texts codes programs file cards text a b (inr (fault, t, e)) (inl (p, u, f)) =
     absurd (thaw-no_fault codes file text p fault u t)
-comes-one g h from trips (Thawing name) codes programs file cards text a b (inr (one, t, e)) (inr (other, u, f)) =
+comes-one g h from trips (Thawing name) texts codes programs file cards text a b (inr (one, t, e)) (inr (other, u, f)) =
     e ∙ ap (λ (fault : ImageFault). image_refused name fault) (thaw-fault-one codes file text one other t u) ∙ sym f
-comes-one g h from trips (Viewing name) codes programs file cards text a b p q = shown-one codes file name text a b p q
+comes-one g h from trips (Viewing name) texts codes programs file cards text a b p q =
+    shown-one codes file name text a b p q
 
-accepted-one : (g h : Grade) (from : World) (trips : List Trip) (play : Play) (codes : List Code)
+accepted-one : (g h : Grade) (from : World) (trips : List Trip) (play : Play) (texts : List (List ℕ)) (codes : List Code)
     (programs : List Program) (notes : List (List ℕ)) (text : List ℕ) (a b : Answer)
-    → PlaysAccepted g from trips play codes programs notes text a
-    → PlaysAccepted h from trips play codes programs notes text b → a ≡ b
-accepted-one g h from trips play codes programs notes text a b (inl (cs, all, e)) (inl (ds, other, f)) =
+    → PlaysAccepted g from trips play texts codes programs notes text a
+    → PlaysAccepted h from trips play texts codes programs notes text b → a ≡ b
+accepted-one g h from trips play texts codes programs notes text a b (inl (cs, all, e)) (inl (ds, other, f)) =
     let file = play.world in
-    comes-one g h from trips play.mode codes programs file (notecards_of file.notes ds) text a b
-    (subst (λ (cards : List (List (List ℕ))). Comes g from trips play.mode codes programs file
+    comes-one g h from trips play.mode texts codes programs file (notecards_of file.notes ds) text a b
+    (subst (λ (cards : List (List (List ℕ))). Comes g from trips play.mode texts codes programs file
     (notecards_of file.notes cards) text a) (cards-one notes cs ds all other) e) f
-accepted-one g h from trips play codes programs notes text a b (inl (cs, all, e)) (inr (name, fault, r, f)) =
+accepted-one g h from trips play texts codes programs notes text a b (inl (cs, all, e)) (inr (name, fault, r, f)) =
     absurd (cards-bad notes cs r.place fault all r.bad)
-accepted-one g h from trips play codes programs notes text a b (inr (name, fault, r, e)) (inl (ds, all, f)) =
+accepted-one g h from trips play texts codes programs notes text a b (inr (name, fault, r, e)) (inl (ds, all, f)) =
     absurd (cards-bad notes ds r.place fault all r.bad)
-accepted-one g h from trips play codes programs notes text a b (inr (n, f, r, e)) (inr (m, k, s, d)) =
+accepted-one g h from trips play texts codes programs notes text a b (inr (n, f, r, e)) (inr (m, k, s, d)) =
     e ∙ bad-one play.cards notes n m f k r s ∙ sym d
 
 plays-texts-one : (g h : Grade) (from : World) (trips : List Trip) (play : Play) (texts notes : List (List ℕ))
     (text : List ℕ) (a b : Answer) → PlaysTexts g from trips play texts notes text a
     → PlaysTexts h from trips play texts notes text b → a ≡ b
 plays-texts-one g h from trips play texts notes text a b (inl (ps, cs, all, has, e)) (inl (qs, ds, other, have, f)) =
-    accepted-one g h from trips play ds qs notes text a b
-    (subst (λ (codes : List Code). PlaysAccepted g from trips play codes qs notes text a)
+    accepted-one g h from trips play texts ds qs notes text a b
+    (subst (λ (codes : List Code). PlaysAccepted g from trips play texts codes qs notes text a)
     (codes-one texts cs ds has have)
-    (subst (λ (programs : List Program). PlaysAccepted g from trips play cs programs notes text a)
+    (subst (λ (programs : List Program). PlaysAccepted g from trips play texts cs programs notes text a)
     (programs-one texts ps qs all other) e)) f
 plays-texts-one g h from trips play texts notes text a b (inl (ps, cs, all, has, e)) (inr (name, fault, r, f)) =
     absurd (accepted-refused texts ps r.place fault all r.refused)
@@ -201,6 +224,7 @@ texts-come : (files : Files) (mode : Mode) (g : Grade) (from : World) (trips : L
 texts-come files Whole g from trips names cards file texts notes t u a h k p = p
 texts-come files Handing g from trips names cards file texts notes t u a h k p = p
 texts-come files Freezing g from trips names cards file texts notes t u a h k p = p
+texts-come files (Inspecting at) g from trips names cards file texts notes t u a h k p = p
 texts-come files (Thawing name) g from trips names cards file texts notes t u a h k p =
     subst (λ (z : List ℕ). PlaysTexts g from trips (played (Thawing name) names cards file) texts notes z a)
     (text-one files name t u h k) p
@@ -226,18 +250,18 @@ pub texts-accepted : (g : Grade) (from : World) (trips : List Trip) (play : Play
     (text : List ℕ) (programs : List Program) (codes : List Code) (cards : List (List (List ℕ))) (a : Answer)
     → AreAccepted texts programs → AreCodesOf texts codes → AreCards notes cards
     → PlaysTexts g from trips play texts notes text a
-    → Comes g from trips play.mode codes programs play.world (notecards_of play.world.notes cards) text a
+    → Comes g from trips play.mode texts codes programs play.world (notecards_of play.world.notes cards) text a
 texts-accepted g from trips play texts notes text programs codes cards a all has read
     (inl (ps, cs, accepted, have, e)) =
-    go (subst (λ (z : List Code). PlaysAccepted g from trips play z programs notes text a)
+    go (subst (λ (z : List Code). PlaysAccepted g from trips play texts z programs notes text a)
     (codes-one texts cs codes have has)
-    (subst (λ (z : List Program). PlaysAccepted g from trips play cs z notes text a)
+    (subst (λ (z : List Program). PlaysAccepted g from trips play texts cs z notes text a)
     (programs-one texts ps programs accepted all) e))
   where
-    go : PlaysAccepted g from trips play codes programs notes text a
-        → Comes g from trips play.mode codes programs play.world (notecards_of play.world.notes cards) text a
+    go : PlaysAccepted g from trips play texts codes programs notes text a
+        → Comes g from trips play.mode texts codes programs play.world (notecards_of play.world.notes cards) text a
     go (inl (ds, other, f)) =
-        subst (λ (z : List (List (List ℕ))). Comes g from trips play.mode codes programs play.world
+        subst (λ (z : List (List (List ℕ))). Comes g from trips play.mode texts codes programs play.world
         (notecards_of play.world.notes z) text a) (cards-one notes ds cards other read) f
     go (inr (name, fault, r, f)) = absurd (cards-bad notes cards r.place fault read r.bad)
 texts-accepted g from trips play texts notes text programs codes cards a all has read (inr (name, fault, r, e)) =
@@ -249,7 +273,7 @@ pub plays-programs : (files : Files) (g : Grade) (from : World) (trips : List Tr
     → AreHeld (Some files) play.names texts → AreAccepted texts programs → AreHeld (Some files) play.cards notes
     → AreCards notes cards → Plays g (Some files) from trips play a
     → (codes : List Code) × (text : List ℕ)
-    × Comes g from trips play.mode codes programs play.world (notecards_of play.world.notes cards) text a
+    × Comes g from trips play.mode texts codes programs play.world (notecards_of play.world.notes cards) text a
 plays-programs files g from trips play programs cards a texts notes are all noted read (bytes, had, q) =
     go (subst (λ (z : List (List ℕ)). PlaysTexts g from trips play texts z bytes.frozen a)
     (texts-one files play.cards bytes.notes notes had.cards noted)
@@ -258,7 +282,7 @@ plays-programs files g from trips play programs cards a texts notes are all note
   where
     go : PlaysTexts g from trips play texts notes bytes.frozen a
         → (codes : List Code) × (text : List ℕ)
-        × Comes g from trips play.mode codes programs play.world (notecards_of play.world.notes cards) text a
+        × Comes g from trips play.mode texts codes programs play.world (notecards_of play.world.notes cards) text a
     go (inl (ps, cs, h, has, e)) = (
       cs,
       bytes.frozen,
@@ -302,15 +326,15 @@ world-fault-one bytes f g e k = ap value (sym e ∙ k)
 pub replays-plays : (files : Files) (g : Grade) (from : World) (trips : List Trip) (mode : Mode) (name bytes : List ℕ)
     (file : WorldFile) (answer : Answer) → Holds (Some files) name bytes → IsWorld bytes file
     → ReplaysFile g (Some files) from trips mode name answer
-    → Plays g (Some files) from trips (play_of mode file) answer
+    → Plays g (Some files) from trips (play_of mode (file_in mode file)) answer
 replays-plays files g from trips mode name bytes file answer is good (other, k, q) =
     go (subst (λ (z : List ℕ). Replays g (Some files) from trips mode name z answer)
     (text-one files name other bytes k is) q)
   where
     go : Replays g (Some files) from trips mode name bytes answer
-        → Plays g (Some files) from trips (play_of mode file) answer
+        → Plays g (Some files) from trips (play_of mode (file_in mode file)) answer
     go (inl (f, h, p)) =
-        subst (λ (z : WorldFile). Plays g (Some files) from trips (play_of mode z) answer)
+        subst (λ (z : WorldFile). Plays g (Some files) from trips (play_of mode (file_in mode z)) answer)
         (world-one bytes f file h good) p
     go (inr (fault, h, e)) = absurd (world-no_fault bytes file fault good h)
 
@@ -318,8 +342,8 @@ replays-one : (files : Files) (g h : Grade) (from : World) (trips : List Trip) (
     (a b : Answer) → Replays g (Some files) from trips mode name bytes a
     → Replays h (Some files) from trips mode name bytes b → a ≡ b
 replays-one files g h from trips mode name bytes a b (inl (f, w, p)) (inl (d, k, q)) =
-    plays-one files g h from trips (play_of mode d) a b
-    (subst (λ (z : WorldFile). Plays g (Some files) from trips (play_of mode z) a) (world-one bytes f d w k) p) q
+    plays-one files g h from trips (play_of mode (file_in mode d)) a b
+    (subst (λ (z : WorldFile). Plays g (Some files) from trips (play_of mode (file_in mode z)) a) (world-one bytes f d w k) p) q
 replays-one files g h from trips mode name bytes a b (inl (f, w, p)) (inr (d, k, q)) =
     absurd (world-no_fault bytes f d w k)
 replays-one files g h from trips mode name bytes a b (inr (f, w, p)) (inl (d, k, q)) =
@@ -346,6 +370,8 @@ answers-one files from trips (Thaw frozen name) g h a b p q =
     files-one files g h from trips (Thawing frozen) name a b p q
 answers-one files from trips (View frozen name) g h a b p q =
     files-one files g h from trips (Viewing frozen) name a b p q
+answers-one files from trips (State at name) g h a b p q =
+    files-one files g h from trips (Inspecting at) name a b p q
 answers-one files from trips (Make number) g h a b (one, p, e) (other, q, f) =
     e ∙ ap (λ (z : Answer). summed number z)
     (files-one (made_files number) g h from trips Whole made_name one other p q) ∙ sym f

@@ -16,6 +16,7 @@ use Rattle.lsl_lines.specs.declared.file.WorldFile.{WorldFile}
 use Rattle.lsl_notes.specs.declared.cards.Notecard.{Notecard}
 use Rattle.lsl_tree.specs.Program.{Program}
 use Rattle.lsl_region.specs.Worlds.{World}
+use Rattle.lsl_view.specs.Globals.{HaveGlobals}
 use Rattle.lsl_view.specs.Names.{AreNamedBy, script_names}
 use Rattle.lsl_view.specs.Parts.{view_of_parts}
 use Rattle.lsl_view.specs.Source.{view_of_world}
@@ -34,16 +35,17 @@ use Rattle.lsl_top.specs.Held.{AreHeld}
 use Rattle.lsl_top.specs.Made.{made_files, made_line, made_name}
 use Rattle.lsl_top.specs.Notes.{AreCards, notecards_of}
 use Rattle.lsl_top.specs.Pieces.{lines_in, sent_in}
-use Rattle.lsl_top.specs.Plays.{Last, Homes, Frozen, Whole, Handing, Freezing, Thawing, Viewing, names_in, once_world, play_of, play_of_once, cards_in}
+use Rattle.lsl_top.specs.Plays.{Last, Homes, Frozen, Whole, Handing, Freezing, Inspecting, Thawing, Viewing, inspected, names_in, once_world, play_of, play_of_once, cards_in}
+use Rattle.lsl_top.specs.Positions.{file_until}
 use Rattle.lsl_top.specs.Scripts.{AreAccepted}
 use Rattle.lsl_top.specs.Thaws.{IsFrom}
-use Rattle.lsl_top.specs.Words.{Command, Once, Check, Replay, Lossy, Freeze, Thaw, Make, View}
+use Rattle.lsl_top.specs.Words.{Command, Once, Check, Replay, Lossy, Freeze, Thaw, Make, View, State}
 use Rattle.lsl_top.specs.declared.status.Status.TheVariants.{Ok}
 use Rattle.lsl_top.proofs.FrozenOne.{frozen-one}
 use Rattle.lsl_top.proofs.Journals.{journal-pieces}
 use Rattle.lsl_top.proofs.LossyJournals.{lossy-journal}
 use Rattle.lsl_top.proofs.Summed.{summed-well}
-use Rattle.lsl_top.proofs.OneAnswer.{plays-programs, plays-texts, programs-one, replays-plays, text-one, texts-accepted, texts-one, thaw-no_fault, world-one, thawed-one}
+use Rattle.lsl_top.proofs.OneAnswer.{globals-one, plays-programs, plays-texts, programs-one, replays-plays, text-one, texts-accepted, texts-one, thaw-no_fault, world-one, thawed-one}
 use Rattle.lsl_top.proofs.CodesRun.{codes-named, codes-run}
 use Rattle.lsl_top.proofs.OneText.{some-one}
 use Rattle.lsl_top.proofs.OneCard.{cards-one}
@@ -97,14 +99,14 @@ lossy-output codes programs file trips cards bytes lines answer good e fair send
       ∙ sym are;
 }
 
-thaw-output : (g : Grade) (from : World) (trips : List Trip) (name : List ℕ) (codes : List Code)
+thaw-output : (g : Grade) (from : World) (trips : List Trip) (name : List ℕ) (texts : List (List ℕ)) (codes : List Code)
     (programs : List Program) (file : WorldFile) (cards : List Notecard) (text image : List ℕ) (lines : List ℕ)
     (answer : Answer) → IsFrozen text image → IsImageIn codes file (parts_of_world codes from) image
     → lines ≡ report_from programs file trips from
-    → Comes g from trips (Thawing name) codes programs file cards text answer → IsOutput lines answer
-thaw-output g from trips name codes programs file cards text image lines answer is stands are (inl (parts, thaw, e)) =
+    → Comes g from trips (Thawing name) texts codes programs file cards text answer → IsOutput lines answer
+thaw-output g from trips name texts codes programs file cards text image lines answer is stands are (inl (parts, thaw, e)) =
     run-output Homes codes programs file trips from lines answer e are
-thaw-output g from trips name codes programs file cards text image lines answer is stands are (inr (fault, first, e)) =
+thaw-output g from trips name texts codes programs file cards text image lines answer is stands are (inr (fault, first, e)) =
     absurd (thaw-no_fault codes file text (parts_of_world codes from) fault (image, is, stands) first)
 
 -- the texts of notecards
@@ -197,7 +199,7 @@ outputs-answer g files from (Thaw frozen name) trips lines answer
     (accepted-texts files (names_in file) programs texts ok.scripts are) has read
     (plays-texts files g from trips (play_of (Thawing frozen) file) texts notes text answer are noted held
     (replays-plays files g from trips (Thawing frozen) name bytes file answer is good answers)) in
-    thaw-output g from trips frozen codes programs file (notecards_of file.notes ok.read) text image lines answer of
+    thaw-output g from trips frozen texts codes programs file (notecards_of file.notes ok.read) text image lines answer of
     stands e come
 outputs-answer g files from (View frozen name) trips lines answer (
   file,
@@ -219,6 +221,24 @@ outputs-answer g files from (View frozen name) trips lines answer (
     view-output from frozen codes programs file cards text image lines answer
     (codes-run texts programs codes accepted has) (codes-named texts programs codes accepted has) of agrees stands e
     come
+outputs-answer g files from (State at name) trips lines answer
+    (file, programs, codes, cards, globals, ok, (texts, are, has), (others, held, named), e) answers fair sends =
+    let (bytes, is, good) = ok.world in
+    let (notes, noted, read) = notes-of files (cards_in file) ok.read ok.notes in
+    let shorter = file_until at file in
+    let (found, found_named, comes) = texts-accepted g from trips (play_of (Inspecting at) shorter) texts notes []
+    programs codes ok.read answer (accepted-texts files (names_in file) programs texts ok.scripts are) has read
+    (plays-texts files g from trips (play_of (Inspecting at) shorter) texts notes [] answer are noted tt
+    (replays-plays files g from trips (Inspecting at) name bytes file answer is good answers)) in
+    let same : found ≡ globals = globals-one texts found globals found_named
+    (subst (λ (z : List (List ℕ)). HaveGlobals z globals) (texts-one files (names_in file) others texts held are) named)
+    in
+    run-output (inspected file globals) codes programs shorter trips
+    (start (rules_of programs) file (notecards_of file.notes ok.read)) lines answer
+    (subst (λ (z : List (List (List ℕ))). answer ≡ run_answer (inspected file z) codes programs shorter trips
+    (start (rules_of programs) file (notecards_of file.notes ok.read))) same comes.1)
+    (subst (λ (z : List Notecard). lines ≡ output_from (inspected file globals) codes programs shorter trips
+    (start (rules_of programs) file z)) ok.cards_are e)
 outputs-answer g files from (Make number) trips lines answer (file, programs, cards, good, e) (whole, answers, f)
     fair sends =
     let report = lines_of (journal_of programs file cards trips) in
@@ -290,5 +310,7 @@ outputs-fit files from (Thaw frozen name) trips lines (file, programs, codes, ca
     thaw-fits files frozen name file texts notes programs codes ok.read from ok.world are
     (accepted-texts files (names_in file) programs texts ok.scripts are) has noted read
     (subst (λ (z : List Notecard). IsFrozenIn files frozen codes programs file z from) ok.cards_are given)
+outputs-fit files from (State at name) trips lines h =
+    λ bytes file is good read are programs codes all has cards noted. tt
 outputs-fit files from (View frozen name) trips lines h =
     λ bytes file is good read are programs codes all has cards noted. tt

@@ -12,7 +12,7 @@ use Rattle.lsl_world.specs.Lossy.{Stage, travel_from}
 use Rattle.lsl_world.specs.Programs.{rules_of}
 use Rattle.lsl_top.specs.Goes.{Done, Goes, IsLast, Performs}
 use Rattle.lsl_top.specs.Pieces.{Piece, last_piece, pieces_at, stage_pieces}
-use Rattle.lsl_top.specs.Plays.{Last, Homes, Frozen}
+use Rattle.lsl_top.specs.Plays.{Last, Homes, Frozen, Inspected}
 use Rattle.lsl_top.specs.Ports.{Log, Wire, Writes}
 use Rattle.lsl_top.specs.Promise.{IsBegun, IsWhole}
 use Rattle.lsl_top.specs.declared.writing.Trouble.{Trouble}
@@ -24,6 +24,7 @@ use Rattle.lsl_top.proofs.Written.{rose-later}
 pub last-silent : (last : Last) (codes : List Code) (w : World) → [] ≡ (last_piece last codes w).sent
 last-silent Homes codes w = refl
 last-silent Frozen codes w = refl
+last-silent (Inspected names) codes w = refl
 
 module _ (gives : List ℕ → Option (List ℕ) → Type 0) (codes : List Code) (regions : List (List ℕ)) (last : Last)
     (steps : List Step) (IsThen IsNow : List Program → Stage → Type 0) where

@@ -7,6 +7,7 @@ use Rattle.lsl_ports.specs.Trips.{Trip, Went, sent_of}
 use Rattle.lsl_ports.proofs.Growth.{begins-all, begins-none, grew-none, partly-begins}
 use Rattle.lsl_region.specs.Worlds.{World}
 use Rattle.lsl_top.specs.Answers.{Answer, Answers, Grade, Due, Written}
+use Rattle.lsl_top.specs.Ends.{Ends, Outside}
 use Rattle.lsl_top.specs.Fair.{IsFair, IsFairOf}
 use Rattle.lsl_top.specs.Froms.{IsFromOf}
 use Rattle.lsl_top.specs.Headline.{Outputs, WritesLines}
@@ -153,3 +154,38 @@ module _ (gives : List ℕ → Option (List ℕ) → Type 0) (held : Option File
       (subst (λ z. KeepsTo (λ grade. Answers grade z from h.trips command) status h.trips old.log.sunk new.log.sunk)
       told keeps))
       h.no_usage (λ f. quiet (promise-read f)) (λ f. whole (h.write_fault f))
+
+  -- all of that in one
+  abbrev pub outside_of : Ports → Outside
+  outside_of p = record {
+    held = p.held;
+    read_faults = p.read_faults;
+    sunk = p.log.sunk;
+    write_faults = p.log.faults;
+    trips = p.wire.told;
+    link_faults = p.wire.faults;
+  }
+
+  pub ends-served : old.held ≡ held → Ends gives words (outside_of old) (outside_of new) status
+  ends-served e = record {
+    usage = promise-usage;
+    nothing = promise-nothing;
+    kept = subst (λ (z : Option Files). (trips : List Trip) × Went gives old.wire.told new.wire.told trips
+        × (SendsNothing status ⊎ RunsNothing words → trips ≡ [])
+        × (IsFair words trips → Keeps z trips words status old.log.sunk new.log.sunk)) (sym e) promise-kept;
+    read_fault = subst (λ (z : Option Files). status ≡ ReadFault → NamedRose z words old.read_faults new.read_faults)
+        (sym e) promise-read;
+    write_fault = h.write_fault;
+    complete = λ files from trips other answer told is answers calm.
+        promise-complete files from trips other answer (sym e ∙ told) is answers
+        (λ rose. calm.reads (subst (λ (z : Option Files). NamedRose z words old.read_faults new.read_faults) (sym e) rose))
+        calm.writes;
+    headline = λ files from other before trips lines told is tells telling fair outputs calm.
+        promise-headline files from other before trips lines (sym e ∙ told) is tells telling fair outputs
+        (λ rose. calm.reads (subst (λ (z : Option Files). NamedRose z words old.read_faults new.read_faults) (sym e) rose))
+        calm.writes;
+    unchanged = h.unchanged;
+    reads_counted = h.reads_counted;
+    writes_counted = h.writes_counted;
+    links_counted = h.links_counted;
+  }

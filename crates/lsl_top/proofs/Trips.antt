@@ -11,7 +11,7 @@ use Rattle.lsl_world.specs.Lossy.{WasCarried, WereCarried}
 use Rattle.lsl_top.specs.Laws.{CopiesAreFair, copies}
 use Rattle.lsl_top.specs.Ports.{gives_by}
 use Rattle.lsl_top.specs.Promise.{RunsNothing}
-use Rattle.lsl_top.specs.Words.{Command, Once, Check, Replay, Lossy, Freeze, Thaw, View, Make}
+use Rattle.lsl_top.specs.Words.{Command, Once, Check, Replay, Lossy, Freeze, Thaw, View, Make, State}
 
 -- a link that isn't called made no trips
 pub went-none : (gives : List ℕ → Option (List ℕ) → Type 0) (told : Option (List Trip)) → Went gives told told []
@@ -28,6 +28,7 @@ gives-by gives (Freeze name) sent back h = h
 gives-by gives (Thaw frozen name) sent back h = h
 gives-by gives (View frozen name) sent back h = absurd h
 gives-by gives (Make number) sent back h = h
+gives-by gives (State at name) sent back h = h
 
 pub went-by : (gives : List ℕ → Option (List ℕ) → Type 0) (command : Command) (old new : Option (List Trip))
     (trips : List Trip) → Went (gives_by command gives) old new trips → Went gives old new trips
@@ -54,6 +55,7 @@ none-by gives command old new (t ∷ trips) went runs =
     never (Thaw frozen name) runs h = runs
     never (View frozen name) runs h = h
     never (Make number) runs h = runs
+    never (State at name) runs h = runs
 
 pub went-then : (gives : List ℕ → Option (List ℕ) → Type 0) (a b c : Option (List Trip)) (ts us : List Trip)
     → Went gives a b ts → Went gives b c us → Went gives a c (ts ++ us)
@@ -112,3 +114,4 @@ copies-fair (Some (Freeze name)) old new trips went = copies-honest old new trip
 copies-fair (Some (Thaw frozen name)) old new trips went = copies-honest old new trips went
 copies-fair (Some (View frozen name)) old new trips went = copies-honest old new trips went
 copies-fair (Some (Make number)) old new trips went = copies-honest old new trips went
+copies-fair (Some (State at name)) old new trips went = copies-honest old new trips went

@@ -1,7 +1,7 @@
 -- Two lists of things that belong together, place by place.
 use Rattle.std.proofs.Common.{◌≡◌, ℕ, zero, suc, ◌+◌, ◌<◌, List, [], ◌∷◌, ◌++◌, length, map, take, get_or, Some, refl, sym, ap, ◌∙◌, subst, arith}
 use Rattle.std.specs.Prelude.{slice_get}
-use Rattle.std.specs.List.{AllZip}
+use Rattle.std.specs.List.{AllByRecursion, AllZip}
 use Rattle.std.proofs.lemmas.List.{take_more, map-append, length-map}
 
 pub zip-push : {A B : Type 0} (R : A → B → Type 0) (xs : List A) (ys : List B) (x : A) (y : B) → AllZip R xs ys → R x y
@@ -44,3 +44,10 @@ pub get-below : {A : Type 0} (xs : List A) (i : ℕ) (x : A) → slice_get xs i 
 get-below [] i x e = absurd (cc)
 get-below (y ∷ xs) zero x e = omega arith
 get-below (y ∷ xs) (suc i) x e = let lt = get-below xs i x e in omega arith
+
+-- what each of the images keeps, the image of one at a place does
+pub each-map : {A B : Type 0} (P : B → Type 0) (f : A → B) (xs : List A) (i : ℕ) (x : A) → i < length xs
+    → x ≡ get_or xs i x → AllByRecursion P (map f xs) → P (f x)
+each-map P f [] i x lt is each = absurd (omega (arith, lt))
+each-map P f (y ∷ xs) zero x lt is each = subst (λ z. P (f z)) (sym is) each.0
+each-map P f (y ∷ xs) (suc i) x lt is each = each-map P f xs i x (omega (arith, lt)) is each.1

@@ -17,6 +17,7 @@ use Rattle.lsl_image.specs.declared.parts.WorldParts.{WorldParts}
 use Rattle.lsl_notes.specs.declared.cards.Notecard.{Notecard}
 use Rattle.lsl_notes.specs.declared.faults.CardFault.{CardFault}
 use Rattle.lsl_region.specs.Worlds.{World}
+use Rattle.lsl_view.specs.Globals.{HaveGlobals}
 use Rattle.lsl_view.specs.Names.{script_names}
 use Rattle.lsl_view.specs.Parts.{view_of_parts}
 use Rattle.lsl_world.specs.Lossy.{lossy_stage}
@@ -28,11 +29,11 @@ use Rattle.lsl_top.specs.Held.{AreRead, Holds}
 use Rattle.lsl_top.specs.Lines.{accepted_line, image_refusal_of, note_refusal_of, refusal_of, world_refusal_of}
 use Rattle.lsl_top.specs.Made.{made_files, made_line, made_name}
 use Rattle.lsl_top.specs.Pieces.{Piece, lines_in, pieces_at, pieces_from, sent_in}
-use Rattle.lsl_top.specs.Plays.{Mode, Whole, Handing, Freezing, Thawing, Play, Read, play_of, play_of_once, Last, Homes, Frozen, Viewing}
+use Rattle.lsl_top.specs.Plays.{Mode, Whole, Handing, Freezing, Inspecting, Thawing, Play, Read, file_in, inspected, play_of, play_of_once, Last, Homes, Frozen, Inspected, Viewing}
 use Rattle.lsl_top.specs.Notes.{AreCards, FirstBad, notecards_of}
 use Rattle.lsl_top.specs.Scripts.{AreAccepted, FirstRefused}
 use Rattle.lsl_top.specs.Thaws.{CanThaw, IsThawFault, IsThawOf}
-use Rattle.lsl_top.specs.Words.{Command, Once, Check, Replay, Lossy, Freeze, Thaw, Make, View}
+use Rattle.lsl_top.specs.Words.{Command, Once, Check, Replay, Lossy, Freeze, Thaw, Make, View, State}
 use Rattle.lsl_top.specs.declared.status.Status.{Status}
 use Rattle.lsl_top.specs.declared.status.Status.TheVariants.{Ok, Usage, BadWorld, BadScript, ReadFault, WriteFault, BadImage, NoMemory, BadNote}
 
@@ -83,6 +84,7 @@ abbrev pub Lasts : Grade → Last → List Code → List Program → WorldFile �
 Lasts Due last codes programs file cards w = Unit {0}
 Lasts Written Homes codes programs file cards w = Unit {0}
 Lasts Written Frozen codes programs file cards w = CanThaw codes programs file cards w
+Lasts Written (Inspected names) codes programs file cards w = Unit {0}
 
 -- a run from the file's start
 abbrev pub ComesFromStart : Grade → List Trip → Last → List Code → List Program → WorldFile → List Notecard → Answer
@@ -99,30 +101,39 @@ Shows codes file name text answer =
     × (answer ≡ done (view_of_parts codes (script_names file) parts)))
     ⊎ ((fault : ImageFault) × IsThawFault codes file text fault × (answer ≡ image_refused name fault))
 
--- what comes of scripts that are accepted as these programs, with these notecards: a run from the file's start, or from
--- the world that was frozen, where the text is of a frozen world of the file; or that world is shown
-abbrev pub Comes : Grade → World → List Trip → Mode → List Code → List Program → WorldFile → List Notecard → List ℕ
+-- a run from the file's start, and then all that the world holds, with the names that the file and the scripts' texts have
+abbrev pub Inspects : Grade → List Trip → (texts : List (List ℕ)) → List Code → List Program → WorldFile → List Notecard
     → Answer → Type 0
-Comes grade from trips Whole codes programs file cards text answer =
+Inspects grade trips texts codes programs file cards answer =
+    (globals : List (List (List ℕ))) × HaveGlobals texts globals
+    × ComesFromStart grade trips (inspected file globals) codes programs file cards answer
+
+-- what comes of scripts whose texts are accepted as these programs, with these notecards: a run from the file's start,
+-- or from the world that was frozen, where the text is of a frozen world of the file; or that world is shown
+abbrev pub Comes : Grade → World → List Trip → Mode → (texts : List (List ℕ)) → List Code → List Program → WorldFile
+    → List Notecard → List ℕ → Answer → Type 0
+Comes grade from trips Whole texts codes programs file cards text answer =
     ComesFromStart grade trips Homes codes programs file cards answer
-Comes grade from trips Handing codes programs file cards text answer =
+Comes grade from trips Handing texts codes programs file cards text answer =
     answer ≡ lossy_answer codes programs file trips (start (rules_of programs) file cards)
-Comes grade from trips Freezing codes programs file cards text answer =
+Comes grade from trips Freezing texts codes programs file cards text answer =
     ComesFromStart grade trips Frozen codes programs file cards answer
-Comes grade from trips (Thawing name) codes programs file cards text answer =
+Comes grade from trips (Inspecting at) texts codes programs file cards text answer =
+    Inspects grade trips texts codes programs file cards answer
+Comes grade from trips (Thawing name) texts codes programs file cards text answer =
     ((parts : WorldParts) × IsThawOf codes file text parts
     × (answer ≡ run_answer Homes codes programs file trips from))
     ⊎ ((fault : ImageFault) × IsThawFault codes file text fault × (answer ≡ image_refused name fault))
-Comes grade from trips (Viewing name) codes programs file cards text answer = Shows codes file name text answer
+Comes grade from trips (Viewing name) texts codes programs file cards text answer = Shows codes file name text answer
 
 -- what is answered to a play whose scripts are accepted, where its other files have these texts, its notecards' and the
 -- frozen one: what comes of the programs, by the code that they have, or the refusal of the first text that is no
 -- notecard
-abbrev pub PlaysAccepted : Grade → World → List Trip → Play → List Code → List Program → List (List ℕ) → List ℕ
-    → Answer → Type 0
-PlaysAccepted grade from trips play codes programs notes text answer =
+abbrev pub PlaysAccepted : Grade → World → List Trip → Play → (texts : List (List ℕ)) → List Code → List Program
+    → (notes : List (List ℕ)) → List ℕ → Answer → Type 0
+PlaysAccepted grade from trips play texts codes programs notes text answer =
     ((cards : List (List (List ℕ))) × AreCards notes cards
-    × Comes grade from trips play.mode codes programs play.world (notecards_of play.world.notes cards) text answer)
+    × Comes grade from trips play.mode texts codes programs play.world (notecards_of play.world.notes cards) text answer)
     ⊎ ((name : List ℕ) × (fault : CardFault) × FirstBad play.cards notes name fault
     × (answer ≡ note_refused name fault))
 
@@ -131,7 +142,7 @@ PlaysAccepted grade from trips play codes programs notes text answer =
 abbrev pub PlaysTexts : Grade → World → List Trip → Play → (texts notes : List (List ℕ)) → List ℕ → Answer → Type 0
 PlaysTexts grade from trips play texts notes text answer =
     ((programs : List Program) × (codes : List Code) × AreAccepted texts programs × AreCodesOf texts codes
-    × PlaysAccepted grade from trips play codes programs notes text answer)
+    × PlaysAccepted grade from trips play texts codes programs notes text answer)
     ⊎ ((name : List ℕ) × (fault : BuildFault) × FirstRefused play.names texts name fault
     × (answer ≡ script_refused name fault))
 
@@ -149,10 +160,10 @@ Checks name text answer =
     ((program : Program) × Accepted text program × (answer ≡ done (accepted_line name)))
     ⊎ ((fault : BuildFault) × FirstFault text fault × (answer ≡ script_refused name fault))
 
--- these bytes are a world, or are refused for their first fault
+-- these bytes are a world, which is played so far, or are refused for their first fault
 abbrev pub Replays : Grade → Option Files → World → List Trip → Mode → List ℕ → List ℕ → Answer → Type 0
 Replays grade held from trips mode name bytes answer =
-    ((file : WorldFile) × IsWorld bytes file × Plays grade held from trips (play_of mode file) answer)
+    ((file : WorldFile) × IsWorld bytes file × Plays grade held from trips (play_of mode (file_in mode file)) answer)
     ⊎ ((fault : FileFault) × FileFirst bytes fault × (answer ≡ world_refused name fault))
 
 -- a world file is read, and played so
@@ -195,3 +206,4 @@ Answers grade held from trips (Freeze name) answer = ReplaysFile grade held from
 Answers grade held from trips (Thaw frozen name) answer = ReplaysFile grade held from trips (Thawing frozen) name answer
 Answers grade held from trips (View frozen name) answer = ReplaysFile grade held from trips (Viewing frozen) name answer
 Answers grade held from trips (Make number) answer = Makes grade from trips number answer
+Answers grade held from trips (State at name) answer = ReplaysFile grade held from trips (Inspecting at) name answer

@@ -10,16 +10,17 @@ use Rattle.lsl_notes.specs.declared.cards.Notecard.{Notecard}
 use Rattle.lsl_tree.specs.Program.{Program}
 use Rattle.lsl_region.specs.Worlds.{World}
 use Rattle.lsl_top.specs.Held.{AreRead, Holds}
-use Rattle.lsl_top.specs.Plays.{Mode, Whole, Handing, Freezing, Thawing, Viewing, Play, Read, play_of}
+use Rattle.lsl_top.specs.Plays.{Mode, Whole, Handing, Freezing, Inspecting, Thawing, Viewing, Play, Read, file_in, play_of}
 use Rattle.lsl_top.specs.Notes.{AreCards, notecards_of}
 use Rattle.lsl_top.specs.Scripts.{AreAccepted}
 use Rattle.lsl_top.specs.Thaws.{IsFrom}
-use Rattle.lsl_top.specs.Words.{Command, Once, Check, Replay, Lossy, Freeze, Thaw, Make, View}
+use Rattle.lsl_top.specs.Words.{Command, Once, Check, Replay, Lossy, Freeze, Thaw, Make, View, State}
 
 abbrev pub IsFromIn : Mode → List Code → List Program → WorldFile → List Notecard → List ℕ → World → Type 0
 IsFromIn Whole codes programs file cards text from = Unit {0}
 IsFromIn Handing codes programs file cards text from = Unit {0}
 IsFromIn Freezing codes programs file cards text from = Unit {0}
+IsFromIn (Inspecting at) codes programs file cards text from = Unit {0}
 IsFromIn (Thawing name) codes programs file cards text from = IsFrom codes programs file cards text from
 IsFromIn (Viewing name) codes programs file cards text from = Unit {0}
 
@@ -42,7 +43,7 @@ IsFromPlay held play from = (read : Read) → AreRead held play read → IsFromR
 abbrev pub IsFromFile : Option Files → Mode → List ℕ → World → Type 0
 IsFromFile held mode name from =
     (bytes : List ℕ) (file : WorldFile) → Holds held name bytes → IsWorld bytes file
-    → IsFromPlay held (play_of mode file) from
+    → IsFromPlay held (play_of mode (file_in mode file)) from
 
 abbrev pub IsFromOf : Option Files → Command → World → Type 0
 IsFromOf held (Once name) from = Unit {0}
@@ -53,6 +54,7 @@ IsFromOf held (Freeze name) from = IsFromFile held Freezing name from
 IsFromOf held (Thaw frozen name) from = IsFromFile held (Thawing frozen) name from
 IsFromOf held (View frozen name) from = IsFromFile held (Viewing frozen) name from
 IsFromOf held (Make number) from = Unit {0}
+IsFromOf held (State at name) from = IsFromFile held (Inspecting at) name from
 
 abbrev pub IsFromWords : Option Files → Option Command → World → Type 0
 IsFromWords held None from = Unit {0}

@@ -17,7 +17,7 @@ use Rattle.lsl_world.specs.Programs.{rules_of}
 use Rattle.lsl_world.specs.Stages.{IsAt}
 use Rattle.lsl_world.specs.declared.world.World.{World as Memory}
 use Rattle.lsl_top.specs.Pieces.{Piece, stage_pieces}
-use Rattle.lsl_top.specs.Plays.{Last, Homes, Frozen}
+use Rattle.lsl_top.specs.Plays.{Last, Homes, Frozen, Inspected}
 use Rattle.lsl_top.specs.Ports.{Log, Wire}
 use Rattle.lsl_top.specs.Promise.{IsBegun, IsBegunAt, IsWhole}
 use Rattle.lsl_top.specs.declared.writing.Trouble.{Trouble}
@@ -110,3 +110,4 @@ pub record IsFrozenWell (codes : List Code) (programs : List Program) (w : World
 abbrev pub IsLast : Last → List Code → List Program → World → Type 0
 IsLast Homes codes programs w = Unit {0}
 IsLast Frozen codes programs w = IsFrozenWell codes programs w
+IsLast (Inspected names) codes programs w = Unit {0}

@@ -23,11 +23,15 @@ use Rattle.lsl_world.specs.Programs.{rules_of}
 use Rattle.lsl_world.specs.Reports.{homes, journal_of}
 use Rattle.lsl_world.specs.Starts.{start}
 use Rattle.lsl_world.specs.Steps.{reference}
+use Rattle.lsl_view.specs.Globals.{HaveGlobals}
 use Rattle.lsl_view.specs.Source.{view_of_world}
+use Rattle.lsl_view.specs.StateParts.{state_of_parts}
+use Rattle.lsl_view.specs.declared.known.Names.{Names}
 use Rattle.lsl_top.specs.Held.{AreHeld}
 use Rattle.lsl_top.specs.Made.{made_files, made_line, made_name}
-use Rattle.lsl_top.specs.Plays.{Last, Homes, Frozen, cards_in, names_in, once_world}
-use Rattle.lsl_top.specs.Words.{Command, Once, Check, Replay, Lossy, Freeze, Thaw, Make, View}
+use Rattle.lsl_top.specs.Plays.{Last, Homes, Frozen, Inspected, cards_in, inspected, names_in, once_world}
+use Rattle.lsl_top.specs.Positions.{file_until}
+use Rattle.lsl_top.specs.Words.{Command, Once, Check, Replay, Lossy, Freeze, Thaw, Make, View, State}
 use Rattle.lsl_top.specs.Notes.{notecards_of}
 use Rattle.lsl_top.specs.declared.status.Status.{Status}
 use Rattle.lsl_top.specs.declared.status.Status.TheVariants.{Ok, NoMemory}
@@ -39,6 +43,11 @@ IsScriptIn files name program = (text : List ℕ) × (files name ≡ Some text) 
 -- the files of those names are there, and their texts have this code
 abbrev pub IsCodeIn : Files → List (List ℕ) → List Code → Type 0
 IsCodeIn files names codes = (texts : List (List ℕ)) × AreHeld (Some files) names texts × AreCodesOf texts codes
+
+-- the files of those names are there, and their texts have globals of these names
+abbrev pub AreGlobalsIn : Files → (names : List (List ℕ)) → List (List (List ℕ)) → Type 0
+AreGlobalsIn files names globals =
+    (texts : List (List ℕ)) × AreHeld (Some files) names texts × HaveGlobals texts globals
 
 -- the file of that name is there, and is the file of this world
 abbrev pub IsWorldIn : Files → List ℕ → WorldFile → Type 0
@@ -79,6 +88,12 @@ frozen_from codes programs file trips w =
     let all = reference (rules_of programs) (kept_from file trips w) w in
     lines_of all.entries ++ frozen_line (frozen_image codes all.value)
 
+-- that journal, and then all that the world holds to which the steps lead, with these names
+abbrev pub inspected_from : List Code → Names → List Program → WorldFile → List Trip → World → List ℕ
+inspected_from codes names programs file trips w =
+    let all = reference (rules_of programs) (kept_from file trips w) w in
+    lines_of all.entries ++ state_of_parts codes names (parts_of_world codes all.value)
+
 -- the journal of the scripts' meaning over the steps without the crossings whose offer didn't come, or came behind its
 -- cancel, and then where each object is
 abbrev pub lossy_report : List Program → WorldFile → List Trip → World → List ℕ
@@ -90,6 +105,7 @@ lossy_report programs file trips w =
 abbrev pub output_from : Last → List Code → List Program → WorldFile → List Trip → World → List ℕ
 output_from Homes codes programs file trips w = report_from programs file trips w
 output_from Frozen codes programs file trips w = frozen_from codes programs file trips w
+output_from (Inspected names) codes programs file trips w = inspected_from codes names programs file trips w
 
 -- what a command that runs or shows a world is to write, where this world was frozen and these trips were made
 abbrev pub Outputs : Files → World → Command → List Trip → List ℕ → Type 0
@@ -122,6 +138,12 @@ Outputs files from (Make number) trips lines =
     (file : WorldFile) × (programs : List Program) × (cards : List Notecard)
     × AreGood (made_files number) made_name file programs cards
     × (lines ≡ made_line number (lines_of (journal_of programs file cards trips)))
+Outputs files from (State at name) trips lines =
+    (file : WorldFile) × (programs : List Program) × (codes : List Code) × (cards : List Notecard)
+    × (globals : List (List (List ℕ))) × AreGood files name file programs cards
+    × IsCodeIn files (names_in file) codes × AreGlobalsIn files (names_in file) globals
+    × (lines ≡ output_from (inspected file globals) codes programs (file_until at file) trips
+    (start (rules_of programs) file cards))
 
 -- the sink grew by exactly these lines, or memory lacked, and it grew by a prefix of them
 abbrev pub WritesLines : List ℕ → Status → Option (List ℕ) → Option (List ℕ) → Type 0

@@ -2,7 +2,7 @@
 use Rattle.std.specs.Prelude.{◌≡◌, ℕ, List, Option, Some, None}
 use Rattle.std.specs.List.{AllZip}
 use Rattle.lsl_ports.specs.Shelf.{Files}
-use Rattle.lsl_top.specs.Plays.{Mode, Whole, Handing, Freezing, Thawing, Viewing, Play, Read}
+use Rattle.lsl_top.specs.Plays.{Mode, Whole, Handing, Freezing, Inspecting, Thawing, Viewing, Play, Read}
 
 -- the file of that name has these bytes; of a shelf that doesn't tell nothing is known
 abbrev pub Holds : Option Files → List ℕ → List ℕ → Type 0
@@ -18,6 +18,7 @@ abbrev pub HoldsFrozen : Option Files → Mode → List ℕ → Type 0
 HoldsFrozen held Whole text = Unit {0}
 HoldsFrozen held Handing text = Unit {0}
 HoldsFrozen held Freezing text = Unit {0}
+HoldsFrozen held (Inspecting at) text = Unit {0}
 HoldsFrozen held (Thawing name) text = Holds held name text
 HoldsFrozen held (Viewing name) text = Holds held name text
 

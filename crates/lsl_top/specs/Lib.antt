@@ -1,3 +1,4 @@
+pub mod Positions
 pub mod Words
 pub mod Status
 pub mod Held

@@ -11,8 +11,8 @@ use Rattle.lsl_top.specs.declared.words.Command.TheVariants as found
 use Rattle.lsl_top.specs.declared.modes.Mode.{Mode as AMode}
 use Rattle.lsl_top.specs.declared.modes.Mode.TheVariants as modes
 use Rattle.lsl_top.specs.declared.play.Play.{Play as APlay}
-use Rattle.lsl_top.specs.Plays.{Mode, Whole, Handing, Freezing, Thawing, Last, Homes, Frozen, Viewing, Play, Read, played}
-use Rattle.lsl_top.specs.Words.{Command, Once, Check, Replay, Lossy, Freeze, Thaw, Make, View}
+use Rattle.lsl_top.specs.Plays.{Mode, Whole, Handing, Freezing, Inspecting, Thawing, Last, Homes, Frozen, Inspected, Viewing, Play, Read, played}
+use Rattle.lsl_top.specs.Words.{Command, Once, Check, Replay, Lossy, Freeze, Thaw, Make, View, State}
 use Rattle.lsl_top.specs.declared.modes.Last.{Last as ALast}
 use Rattle.lsl_top.specs.declared.modes.Last.TheVariants as lasts
 
@@ -25,11 +25,13 @@ asked_by (found.Freeze file) = Freeze file.now
 asked_by (found.Thaw frozen file) = Thaw frozen.now file.now
 asked_by (found.View frozen file) = View frozen.now file.now
 asked_by (found.Make number) = Make number
+asked_by (found.State at file) = State at file.now
 
 abbrev pub mode_of : AMode → Mode
 mode_of modes.Whole = Whole
 mode_of modes.Handing = Handing
 mode_of modes.Freezing = Freezing
+mode_of (modes.Inspecting at) = Inspecting at
 mode_of (modes.Thawing frozen) = Thawing frozen.now
 mode_of (modes.Viewing frozen) = Viewing frozen.now
 
@@ -47,6 +49,7 @@ read_in p = record {
 abbrev pub last_of : ALast → Last
 last_of lasts.Homes = Homes
 last_of lasts.Frozen = Frozen
+last_of (lasts.Inspected names) = Inspected names.now
 
 abbrev pub meant_by : Option Found → Option Command
 meant_by None = None

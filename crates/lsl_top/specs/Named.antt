@@ -5,8 +5,8 @@ use Rattle.lsl_ports.specs.Shelf.{Files}
 use Rattle.lsl_lines.specs.World.{IsWorld}
 use Rattle.lsl_lines.specs.declared.file.WorldFile.{WorldFile}
 use Rattle.lsl_top.specs.Held.{Holds}
-use Rattle.lsl_top.specs.Plays.{Mode, Whole, Handing, Freezing, Thawing, names_in, Viewing, cards_in}
-use Rattle.lsl_top.specs.Words.{Command, Once, Check, Replay, Lossy, Freeze, Thaw, Make, View}
+use Rattle.lsl_top.specs.Plays.{Mode, Whole, Handing, Freezing, Inspecting, Thawing, names_in, Viewing, cards_in}
+use Rattle.lsl_top.specs.Words.{Command, Once, Check, Replay, Lossy, Freeze, Thaw, Make, View, State}
 
 -- the world's own file, as it is held, is good, and a script or a notecard of it has its text in the file of that name
 abbrev pub IsNamedInWorld : Option Files → List ℕ → List ℕ → Type 0
@@ -19,6 +19,7 @@ abbrev pub IsFrozenName : Mode → List ℕ → Type 0
 IsFrozenName Whole name = ⊥
 IsFrozenName Handing name = ⊥
 IsFrozenName Freezing name = ⊥
+IsFrozenName (Inspecting at) name = ⊥
 IsFrozenName (Thawing frozen) name = name ≡ frozen
 IsFrozenName (Viewing frozen) name = name ≡ frozen
 
@@ -43,6 +44,7 @@ IsNamed held (Freeze world) name = IsNamedIn held Freezing world name
 IsNamed held (Thaw frozen world) name = IsNamedIn held (Thawing frozen) world name
 IsNamed held (View frozen world) name = IsNamedIn held (Viewing frozen) world name
 IsNamed held (Make number) name = ⊥
+IsNamed held (State at world) name = IsNamedIn held (Inspecting at) world name
 
 -- the count of one of these files rose
 abbrev pub NamedRose : Option Files → Option Command → (List ℕ → ℕ) → (List ℕ → ℕ) → Type 0

@@ -1,5 +1,5 @@
 -- What is written and sent, piece by piece: a run has a piece for each step, and then one that tells where each object
--- is, or the frozen world.
+-- is, or has the frozen world, or all that the world holds.
 use Rattle.std.specs.Prelude.{ℕ, List, [], ◌∷◌, ◌++◌}
 use Rattle.lsl_ports.specs.Trips.{Trip}
 use Rattle.lsl_code.specs.declared.woven_units.Woven.{Woven as Code}
@@ -8,11 +8,13 @@ use Rattle.lsl_region.specs.Worlds.{World}
 use Rattle.lsl_lines.specs.Frozen.{frozen_line}
 use Rattle.lsl_lines.specs.Journal.{lines_of}
 use Rattle.lsl_lines.specs.declared.file.Step.{Step}
-use Rattle.lsl_world.specs.Frozen.{frozen_image}
+use Rattle.lsl_view.specs.StateParts.{state_of_parts}
+use Rattle.lsl_view.specs.declared.known.Names.{Names}
+use Rattle.lsl_world.specs.Frozen.{frozen_image, parts_of_world}
 use Rattle.lsl_world.specs.Lossy.{Stage, goes, travel_from}
 use Rattle.lsl_world.specs.Reports.{homes}
 use Rattle.lsl_world.specs.Travels.{go_on, images_of, left, travel}
-use Rattle.lsl_top.specs.Plays.{Last, Homes, Frozen}
+use Rattle.lsl_top.specs.Plays.{Last, Homes, Frozen, Inspected}
 
 -- lines, and what is handed to the link before they are written, in order
 pub record Piece : Type 0 where
@@ -58,10 +60,15 @@ home_piece w = record { lines = lines_of (homes w); sent = [] }
 abbrev pub frozen_piece : List Code → World → Piece
 frozen_piece codes w = record { lines = frozen_line (frozen_image codes w); sent = [] }
 
+-- all that the world holds
+abbrev pub inspected_piece : List Code → Names → World → Piece
+inspected_piece codes names w = record { lines = state_of_parts codes names (parts_of_world codes w); sent = [] }
+
 -- what is told at the end
 abbrev pub last_piece : Last → List Code → World → Piece
 last_piece Homes codes w = home_piece w
 last_piece Frozen codes w = frozen_piece codes w
+last_piece (Inspected names) codes w = inspected_piece codes names w
 
 -- the pieces of these steps from a world, and then the last one
 abbrev pub pieces_from : Last → List Code → Rules → List Step → List Trip → World → List Piece

@@ -1,10 +1,15 @@
 -- What is played: the world of a file, or the one that `once` makes for a script; from where, and what is told at its
 -- end.
-use Rattle.std.specs.Prelude.{ℕ, codes, List, [], ◌∷◌, map}
+use Rattle.std.specs.Prelude.{ℕ, codes, List, [], ◌∷◌, Option, map}
 use Rattle.std.specs.Str.{encode_utf8_all}
 use Rattle.lsl_lines.specs.declared.file.PrimLine.{PrimLine}
 use Rattle.lsl_lines.specs.declared.file.Step.TheVariants.{Run}
+use Rattle.lsl_lines.specs.declared.file.Step.{Step}
 use Rattle.lsl_lines.specs.declared.file.WorldFile.{WorldFile}
+use Rattle.lsl_view.specs.Names.{script_names}
+use Rattle.lsl_view.specs.declared.known.Names.{Names}
+use Rattle.lsl_top.specs.Positions.{steps_until}
+use Rattle.lsl_top.specs.declared.positions.Position.{Position}
 
 -- what is told at the end of a run
 pub data Last : Type 0 where
@@ -12,6 +17,8 @@ pub data Last : Type 0 where
   Homes : Last
   -- the world, frozen
   Frozen : Last
+  -- all that the world holds, with these names of scripts and globals
+  Inspected : (names : Names) → Last
 
 -- how a world is played
 pub data Mode : Type 0 where
@@ -21,6 +28,8 @@ pub data Mode : Type 0 where
   Handing : Mode
   -- from its start, and then the world is frozen
   Freezing : Mode
+  -- from its start up to a position, or to the end of its steps, and then all that the world holds is shown
+  Inspecting : (at : Option Position) → Mode
   -- from the frozen world of this file, and then it is told where each object is
   Thawing : (frozen : List ℕ) → Mode
   -- it isn't run: of the frozen world of this file it is shown where its scripts stand
@@ -50,6 +59,29 @@ cards_in file = map encode_utf8_all file.cards
 
 abbrev pub played : Mode → (names cards : List (List ℕ)) → WorldFile → Play
 played mode names cards file = record { names = names; cards = cards; world = file; mode = mode }
+
+-- the steps of a file that are played
+abbrev pub steps_in : Mode → List Step → List Step
+steps_in Whole steps = steps
+steps_in Handing steps = steps
+steps_in Freezing steps = steps
+steps_in (Inspecting at) steps = steps_until at steps
+steps_in (Thawing frozen) steps = steps
+steps_in (Viewing frozen) steps = steps
+
+-- the file as it is played
+abbrev pub file_in : Mode → WorldFile → WorldFile
+file_in mode file = record {
+  objects = file.objects;
+  files = file.files;
+  cards = file.cards;
+  notes = file.notes;
+  steps = steps_in mode file.steps;
+}
+
+-- all that a world of the file holds, whose texts have globals of these names
+abbrev pub inspected : WorldFile → (globals : List (List (List ℕ))) → Last
+inspected file globals = Inspected (record { scripts = script_names file; globals = globals })
 
 abbrev pub play_of : Mode → WorldFile → Play
 play_of mode file = played mode (names_in file) (cards_in file) file

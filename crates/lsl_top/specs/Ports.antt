@@ -9,9 +9,9 @@ use Rattle.lsl_ports.specs.Growth.{Grew, GrewPartly}
 use Rattle.lsl_ports.specs.Trips.{Trip, Went}
 use Rattle.lsl_region.specs.Worlds.{World}
 use Rattle.lsl_top.specs.Answers.{Answer, Grade, Due}
-use Rattle.lsl_top.specs.Plays.{Mode, Whole, Handing, Freezing, Thawing, Viewing, Play, Read}
+use Rattle.lsl_top.specs.Plays.{Mode, Whole, Handing, Freezing, Inspecting, Thawing, Viewing, Play, Read}
 use Rattle.lsl_top.specs.Promise.{KeepsTo, SendsNothing}
-use Rattle.lsl_top.specs.Words.{Command, Once, Check, Replay, Lossy, Freeze, Thaw, View, Make}
+use Rattle.lsl_top.specs.Words.{Command, Once, Check, Replay, Lossy, Freeze, Thaw, View, Make, State}
 use Rattle.lsl_top.specs.declared.status.Status.{Status}
 use Rattle.lsl_top.specs.declared.status.Status.TheVariants as statuses
 use Rattle.lsl_top.specs.declared.writing.Trouble.{Trouble}
@@ -26,6 +26,7 @@ abbrev pub IsFrozenRead : Option Files → Mode → List ℕ → Type 0
 IsFrozenRead held Whole bytes = Unit {0}
 IsFrozenRead held Handing bytes = Unit {0}
 IsFrozenRead held Freezing bytes = Unit {0}
+IsFrozenRead held (Inspecting at) bytes = Unit {0}
 IsFrozenRead held (Thawing name) bytes = IsHead held name 2147483647 bytes
 IsFrozenRead held (Viewing name) bytes = IsHead held name 2147483647 bytes
 
@@ -40,6 +41,7 @@ abbrev pub gives_in : Mode → (List ℕ → Option (List ℕ) → Type 0) → L
 gives_in Whole gives = gives
 gives_in Handing gives = gives
 gives_in Freezing gives = gives
+gives_in (Inspecting at) gives = gives
 gives_in (Thawing name) gives = gives
 gives_in (Viewing name) gives = λ sent back. ⊥
 
@@ -53,6 +55,7 @@ gives_by (Freeze name) gives = gives
 gives_by (Thaw frozen name) gives = gives
 gives_by (View frozen name) gives = λ sent back. ⊥
 gives_by (Make number) gives = gives
+gives_by (State at name) gives = gives
 
 -- what the sink tells
 pub record Log : Type 0 where

@@ -11,8 +11,8 @@ use Rattle.lsl_top.specs.Answers.{Answer, Answers, Checks, Due, Grade, Makes, Pl
 use Rattle.lsl_top.specs.Froms.{IsFromRead}
 use Rattle.lsl_top.specs.Held.{AreRead, Holds}
 use Rattle.lsl_top.specs.Pieces.{Piece, lines_in, sent_in}
-use Rattle.lsl_top.specs.Plays.{Mode, Whole, Handing, Freezing, Thawing, Viewing, Play, Read, play_of, play_of_once}
-use Rattle.lsl_top.specs.Words.{Command, Once, Check, Replay, Lossy, Freeze, Thaw, View, Make}
+use Rattle.lsl_top.specs.Plays.{Mode, Whole, Handing, Freezing, Inspecting, Thawing, Viewing, Play, Read, file_in, play_of, play_of_once}
+use Rattle.lsl_top.specs.Words.{Command, Once, Check, Replay, Lossy, Freeze, Thaw, View, Make, State}
 use Rattle.lsl_top.specs.declared.status.Status.{Status}
 use Rattle.lsl_top.specs.declared.status.Status.TheVariants.{Ok, Usage, BadWorld, BadScript, ReadFault, WriteFault, BadImage, NoMemory, BadNote}
 
@@ -76,7 +76,7 @@ abbrev pub KeepsFile : Option Files → List Trip → Mode → List ℕ → Stat
 KeepsFile held trips mode name status old new =
     KeepsTo (λ grade. RefusesWorld held name) status trips old new
     ⊎ ((bytes : List ℕ) × (file : WorldFile) × Holds held name bytes × IsWorld bytes file
-    × KeepsPlay held trips (play_of mode file) status old new)
+    × KeepsPlay held trips (play_of mode (file_in mode file)) status old new)
 
 -- and of a command; `check` plays nothing, and the two texts of a number are told
 abbrev pub KeepsOf : Option Files → List Trip → Command → Status → Option (List ℕ) → Option (List ℕ) → Type 0
@@ -88,6 +88,7 @@ KeepsOf held trips (Lossy name) status old new = KeepsFile held trips Handing na
 KeepsOf held trips (Freeze name) status old new = KeepsFile held trips Freezing name status old new
 KeepsOf held trips (Thaw frozen name) status old new = KeepsFile held trips (Thawing frozen) name status old new
 KeepsOf held trips (View frozen name) status old new = KeepsFile held trips (Viewing frozen) name status old new
+KeepsOf held trips (State at name) status old new = KeepsFile held trips (Inspecting at) name status old new
 KeepsOf held trips (Make number) status old new =
     (from : World) → KeepsTo (λ grade. Makes grade from trips number) status trips old new
 
@@ -125,6 +126,7 @@ RunsNothing (Some (Freeze name)) = ⊥
 RunsNothing (Some (Thaw frozen name)) = ⊥
 RunsNothing (Some (View frozen name)) = Unit {0}
 RunsNothing (Some (Make number)) = ⊥
+RunsNothing (Some (State at name)) = ⊥
 
 -- the statuses at which nothing was written
 abbrev pub WritesNothing : Status → Type 0

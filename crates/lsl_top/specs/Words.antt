@@ -2,6 +2,7 @@
 use Rattle.std.specs.Prelude.{ℕ, nat_le, nat_lt, Bool, false, ◌==◌, ◌&&◌, not, codes, decimal, List, [], ◌∷◌, Option, Some, None, option_map, if◌then◌else◌, map, string_bytes, String}
 use Rattle.std.specs.Str.{bytes_eq}
 use Rattle.std.specs.Str.Parse.{digits_value}
+use Rattle.lsl_top.specs.declared.positions.Position.{Position}
 
 -- a command
 pub data Command : Type 0 where
@@ -21,6 +22,8 @@ pub data Command : Type 0 where
   View : (frozen world : List ℕ) → Command
   -- runs the world that is made of a number
   Make : (number : ℕ) → Command
+  -- runs a world file up to a position, or to its end, and shows all that the world holds there. No words ask for it
+  State : (at : Option Position) → (world : List ℕ) → Command
 
 -- a word that may name a file: it isn't empty, and doesn't begin with `-`
 abbrev pub names_file : List ℕ → Bool

@@ -6,7 +6,7 @@ ghost use Rattle.lsl_top.specs.Fair.{IsFairIn, IsFairOf};
 ghost use Rattle.lsl_top.specs.Froms.{IsFromRead};
 ghost use Rattle.lsl_top.specs.Meant.{asked_by, mode_of, play_in, read_in};
 ghost use Rattle.lsl_top.specs.Named.{IsNamed, IsNamedIn, IsPlayName};
-ghost use Rattle.lsl_top.specs.Plays.{cards_in, names_in, play_of};
+ghost use Rattle.lsl_top.specs.Plays.{cards_in, file_in, names_in, play_of};
 ghost use Rattle.lsl_top.specs.Ports.{Concludes, Finishes, Serves, gives_by, gives_in, log, ports, unread_status, wire};
 ghost use Rattle.lsl_top.specs.Prepared.{IsUnfit, Refuses};
 ghost use Rattle.lsl_top.specs.Promise.{KeepsFile, KeepsOf, KeepsPlay};
@@ -17,7 +17,7 @@ use crate::making::make;
 use crate::modes::Mode;
 use crate::once::once_world;
 use crate::play::Play;
-use crate::positions::cut_at;
+use crate::positions::file_until;
 use crate::preparing::{Unfit, prepare};
 use crate::reading::{file_names, name_at, read_play, read_script};
 use crate::running::run_cast;
@@ -27,7 +27,7 @@ use crate::writing::{status_after, write_line};
 use lsl_build::accept;
 use lsl_lines::{WorldFile, read_world};
 use lsl_ports::{Link, Shelf, ShelfFault, Sink, read_all};
-use lsl_text::{NoMemory, Refusal};
+use lsl_text::Refusal;
 use std::alloc::Global;
 
 /// How many bytes of a world file are read, but for one more, which shows that it is too long.
@@ -73,7 +73,7 @@ pub fn serve<S: Shelf, K: Sink, L: Link>(
             link,
         ),
         Command::Make(number) => make(alloc, number, sink, link),
-        Command::State(at, file) => replay(alloc, Mode::Standing(at), file, shelf, sink, link),
+        Command::State(at, file) => replay(alloc, Mode::Inspecting(at), file, shelf, sink, link),
     }
 }
 
@@ -174,10 +174,7 @@ pub fn replay<S: Shelf, K: Sink, L: Link>(
         Err(fault) => return unread(fault),
     };
     match read_world(alloc, text.as_slice()) {
-        Ok(world) => match played(mode, world) {
-            Ok(world) => play_world(alloc, mode, &world, shelf, sink, link),
-            Err(_) => Status::NoMemory,
-        },
+        Ok(file) => play_world(alloc, mode, &played(mode, file), shelf, sink, link),
         Err(Refusal::Fault(fault)) => {
             status_after(
                 write_line(world_refusal(alloc, name, &fault), sink),
@@ -189,15 +186,16 @@ pub fn replay<S: Shelf, K: Sink, L: Link>(
 }
 
 /// A world file as it is played: up to the position that is asked for.
-fn played(mode: Mode<'_>, file: WorldFile) -> Result<WorldFile, NoMemory> {
+fn played(mode: Mode<'_>, file: WorldFile) -> WorldFile
+    ensures { result ≡ file_in (mode_of mode.entry) file }
+{
     match mode {
-        Mode::Standing(Some(at)) => cut_at(at, file),
-        Mode::Standing(None) => Ok(file),
-        Mode::Whole => Ok(file),
-        Mode::Handing => Ok(file),
-        Mode::Freezing => Ok(file),
-        Mode::Thawing(_) => Ok(file),
-        Mode::Viewing(_) => Ok(file),
+        Mode::Inspecting(at) => file_until(at, file),
+        Mode::Whole => file,
+        Mode::Handing => file,
+        Mode::Freezing => file,
+        Mode::Thawing(_) => file,
+        Mode::Viewing(_) => file,
     }
 }
 

@@ -2,6 +2,7 @@
 
 ghost use Rattle.lsl_top.specs.Halves.{TwoHalvesAreOneRun};
 ghost use Rattle.lsl_top.specs.Laws.{AnswersAreOne, CopiesKeep, KeptFromEach, RunsAreJournals};
+ghost use Rattle.lsl_top.specs.Positions.{PositionsAreOfTheFile};
 
 /// Over files that are told, from the world that was frozen before, and by the trips that are made, a command has one
 /// answer at most: its status, its output and what it hands to the link.
@@ -29,4 +30,10 @@ pub fn kept_from_each()
 /// the report of `replay` on all; and the two hand to the link what that does.
 pub fn two_halves_are_one_run()
     ensures { TwoHalvesAreOneRun }
+{}
+
+/// A file that ends at a position has the whole steps before it, and of its step the first segments; at the beginning
+/// of a step only the steps before it, and after its last step all.
+pub fn positions_are_of_the_file()
+    ensures { PositionsAreOfTheFile }
 {}

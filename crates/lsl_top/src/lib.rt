@@ -7,11 +7,12 @@ ghost use Rattle.lsl_ports.specs.Shelf.{Files};
 ghost use Rattle.lsl_ports.specs.Trips.{Trip, Went};
 ghost use Rattle.lsl_region.specs.Worlds.{World};
 ghost use Rattle.lsl_top.specs.Answers.{Answer, Answers, Due};
+ghost use Rattle.lsl_top.specs.Ends.{Ends, outside};
 ghost use Rattle.lsl_top.specs.Fair.{IsFair};
 ghost use Rattle.lsl_top.specs.Headline.{Outputs, WritesLines};
 ghost use Rattle.lsl_top.specs.Named.{NamedRose};
 ghost use Rattle.lsl_top.specs.Promise.{Keeps, RunsNothing, SendsNothing, WritesNothing};
-ghost use Rattle.lsl_top.specs.Words.{Command as TheCommand, command_of};
+ghost use Rattle.lsl_top.specs.Words.{Command as TheCommand, State as TheState, command_of};
 
 mod building;
 mod commands;
@@ -105,9 +106,9 @@ pub fn lsl<S: Shelf, K: Sink, L: Link>(
     }
 }
 
-/// Runs a world file up to a position, or to the end of its steps, writes the journal of that, and then all that the
-/// world holds there, in lines of its objects and scripts. It answers how that ended, as `lsl` does, and reads, builds
-/// and runs the same files in the same order. The words of `lsl` don't ask for it.
+/// Runs a world file up to a position, or to the end of its steps. It writes the journal of that, as `lsl` does for
+/// `replay`, and then all that the world holds there, as `lsl_view::state` shows it. All that is said of `lsl` and of a
+/// command holds of this one, which no words ask for: how it ends, what it reads, and which memory and time it takes.
 pub fn state<S: Shelf, K: Sink, L: Link>(
     alloc: Global,
     at: Option<Position>,
@@ -115,6 +116,12 @@ pub fn state<S: Shelf, K: Sink, L: Link>(
     shelf: &mut S,
     sink: &mut K,
     link: &mut L,
-) -> Status {
+) -> Status
+    ensures { Ends L.gives (Some (TheState at file.now))
+        (outside (S.held shelf.old) (S.faults shelf.old) (K.sunk sink.old) (K.faults sink.old) (L.trips link.old)
+        (L.faults link.old))
+        (outside (S.held shelf.new) (S.faults shelf.new) (K.sunk sink.new) (K.faults sink.new) (L.trips link.new)
+        (L.faults link.new)) result }
+{
     serve(alloc, Command::State(at, file), shelf, sink, link)
 }

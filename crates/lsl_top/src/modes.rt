@@ -10,8 +10,8 @@ pub enum Last<'a> {
     Homes,
     /// The world, frozen.
     Frozen,
-    /// All that the world holds, with these names.
-    Standing(&'a Names),
+    /// All that the world holds, with these names of scripts and globals.
+    Inspected(&'a Names),
 }
 
 /// From where a world is played, and what is told at its end.
@@ -23,8 +23,8 @@ pub enum Mode<'a> {
     Handing,
     /// From the file's start, and then the world is frozen.
     Freezing,
-    /// From the file's start up to a position, or to the end of the steps, and then it is told what the world holds.
-    Standing(Option<Position>),
+    /// From the file's start up to a position, or to the end of its steps, and then all that the world holds is shown.
+    Inspecting(Option<Position>),
     /// From the frozen world of the file of this name, and then it is told where each object is.
     Thawing(&'a str),
     /// It isn't run: of the frozen world of the file of this name it is shown where its scripts stand.

@@ -1,18 +1,22 @@
-//! Positions among the steps of a world file.
+//! Positions in a world file.
+
+ghost use Rattle.std.specs.Prelude.{◌≡◌, ◌-◌};
+ghost use Rattle.lsl_top.specs.Positions.{file_until as the_file_until, shortened, steps_to, steps_until as the_steps_until};
 
 use lsl_code::Sequence;
 use lsl_lines::{Step, WorldFile};
-use lsl_text::NoMemory;
 
-/// Within a step, which is counted from 1: behind so many segments of it.
+/// After the first `segment` segments of the step `step`, which is counted from 1.
 #[derive(Clone, Copy, Debug, PartialEq, Eq)]
 pub struct Position {
     pub step: u32,
     pub segment: u32,
 }
 
-/// The file that ends at a position. Takes no memory.
-pub fn cut_at(at: Position, file: WorldFile) -> Result<WorldFile, NoMemory> {
+/// The file that ends at a position, or at its own end. Takes no memory.
+pub fn file_until(at: Option<Position>, file: WorldFile) -> WorldFile
+    ensures { result ≡ the_file_until at file }
+{
     let WorldFile {
         objects,
         files,
@@ -20,40 +24,53 @@ pub fn cut_at(at: Position, file: WorldFile) -> Result<WorldFile, NoMemory> {
         notes,
         steps,
     } = file;
-    Ok(WorldFile {
+    WorldFile {
         objects,
         files,
         cards,
         notes,
-        steps: cut_steps(at, steps)?,
-    })
-}
-
-fn cut_steps(at: Position, steps: Sequence<Step>) -> Result<Sequence<Step>, NoMemory> {
-    let before = (at.step as usize).saturating_sub(1);
-    let mut steps = steps.into_vec();
-    if before < steps.len() {
-        steps.truncate(before + 1);
-        if let Some(step) = steps.pop() {
-            if let Some(part) = part_of(at.segment, step) {
-                steps.push(part)?;
-            }
-        }
+        steps: steps_until(at, steps),
     }
-    Ok(Sequence::from_vec(steps))
 }
 
-// So many segments of a step. A step that has no segments is done whole behind its start.
-fn part_of(segment: u32, step: Step) -> Option<Step> {
+fn steps_until(at: Option<Position>, steps: Sequence<Step>) -> Sequence<Step>
+    ensures { result ≡ the_steps_until at steps }
+{
+    match at {
+        Some(at) => steps_to(at, steps),
+        None => steps,
+    }
+}
+
+fn steps_to(at: Position, steps: Sequence<Step>) -> Sequence<Step>
+    ensures { result ≡ steps_to (at.step - 1) at.segment steps }
+{
+    let whole = (at.step as usize).saturating_sub(1);
+    let mut steps = steps.into_vec();
+    cut(&mut steps, whole, at.segment);
+    Sequence::from_vec(steps)
+}
+
+/// Leaves so many whole steps, and the next one up to this segment.
+#[tactic(auto, using(crate::proofs::Cuts::cut_none, crate::proofs::Cuts::cut_part, crate::proofs::Cuts::cut_all))]
+fn cut(steps: &mut Vec<Step>, whole: usize, segment: u32)
+    ensures { steps.new.items ≡ steps_to whole segment steps.old.items }
+{
+    if segment == 0 {
+        steps.truncate(whole);
+    } else if whole < steps.len() {
+        shorten(&mut steps[whole], segment);
+        steps.truncate(whole + 1);
+    }
+}
+
+/// Leaves at most this many segments of a step. One that has no segments stays whole.
+fn shorten(step: &mut Step, most: u32)
+    ensures { step.new ≡ shortened most step.old }
+{
     match step {
-        Step::Run(most) => Some(Step::Run(most.min(segment))),
-        Step::Go(script, most) => Some(Step::Go(script, most.min(segment))),
-        other => {
-            if segment == 0 {
-                None
-            } else {
-                Some(other)
-            }
-        }
+        Step::Run(count) => *count = (*count).min(most),
+        Step::Go(_, count) => *count = (*count).min(most),
+        _ => {}
     }
 }

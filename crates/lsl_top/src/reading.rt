@@ -52,7 +52,7 @@ pub fn read_frozen<S: Shelf>(
         Mode::Whole => Ok(Vec::new(alloc)),
         Mode::Handing => Ok(Vec::new(alloc)),
         Mode::Freezing => Ok(Vec::new(alloc)),
-        Mode::Standing(_) => Ok(Vec::new(alloc)),
+        Mode::Inspecting(_) => Ok(Vec::new(alloc)),
         Mode::Thawing(name) => read_all(alloc, shelf, name, MAX_FROZEN_BYTES),
         Mode::Viewing(name) => read_all(alloc, shelf, name, MAX_FROZEN_BYTES),
     }

@@ -6,7 +6,8 @@ ghost use Rattle.lsl_lines.specs.Frozen.{frozen_line};
 ghost use Rattle.lsl_lines.specs.Journal.{lines_of};
 ghost use Rattle.lsl_tree.specs.Program.{Program};
 ghost use Rattle.lsl_region.specs.Worlds.{World as SourceWorld};
-ghost use Rattle.lsl_world.specs.Frozen.{frozen_image};
+ghost use Rattle.lsl_view.specs.StateParts.{state_of_parts};
+ghost use Rattle.lsl_world.specs.Frozen.{frozen_image, parts_in, parts_of_world};
 ghost use Rattle.lsl_world.specs.Handing.{AreCarded, CanHand};
 ghost use Rattle.lsl_world.specs.Lossy.{travel_from};
 ghost use Rattle.lsl_world.specs.Parts.{IsRestOf};
@@ -197,15 +198,30 @@ fn write_frozen<K: Sink>(alloc: Global, world: &World, sink: &mut K) -> Result<(
     write_bytes(line.as_slice(), sink)
 }
 
-/// Writes all that the world holds.
-fn write_standing<K: Sink>(
+/// The lines of all that the world holds, with these names.
+fn state_lines(alloc: Global, names: &Names, world: &World) -> Result<Vec<u8>, NoMemory>
+    requires { IsSound world.now }
+    ensures { IfOk result (λ lines. lines.items ≡ state_of_parts world.now.units names.now (parts_in world.now)) }
+{
+    let parts = world.parts()?;
+    state(alloc, &parts, names, world.units())
+}
+
+/// Writes all that the world holds, with these names.
+fn write_state<K: Sink>(
     alloc: Global,
     names: &Names,
     world: &World,
     sink: &mut K,
-) -> Result<(), Trouble> {
-    let parts = world.parts()?;
-    let lines = state(alloc, &parts, names, world.units())?;
+) -> Result<(), Trouble>
+    requires { IsSound world.now }
+    ensures of { (programs : List Program) (w : SourceWorld) → IsOf programs world.now w
+        → Writes (state_of_parts world.now.units names.now (parts_of_world world.now.units w))
+        (log (K.sunk sink.old) (K.faults sink.old)) (log (K.sunk sink.new) (K.faults sink.new)) result }
+    ensures counted { K.faults sink.old ≤ K.faults sink.new }
+    ensures cause { IsErrOf result Trouble.WriteFault → Rose (K.faults sink.old) (K.faults sink.new) }
+{
+    let lines = state_lines(alloc, names, world)?;
     write_bytes(lines.as_slice(), sink)
 }
 
@@ -218,17 +234,17 @@ fn write_last<K: Sink>(
 ) -> Result<(), Trouble>
     requires { IsSound world.now }
     ensures of { (programs : List Program) (w : SourceWorld) → IsOf programs world.now w
-        → Writes (last_piece (last_of last) world.now.units w).lines
+        → Writes (last_piece (last_of last.entry) world.now.units w).lines
         (log (K.sunk sink.old) (K.faults sink.old)) (log (K.sunk sink.new) (K.faults sink.new)) result }
     ensures last { (programs : List Program) (w : SourceWorld) → IsOf programs world.now w
-        → OnOk result (IsLast (last_of last) world.now.units programs w) }
+        → OnOk result (IsLast (last_of last.entry) world.now.units programs w) }
     ensures counted { K.faults sink.old ≤ K.faults sink.new }
     ensures cause { IsErrOf result Trouble.WriteFault → Rose (K.faults sink.old) (K.faults sink.new) }
 {
     match last {
         Last::Homes => write_homes(alloc, world, sink),
         Last::Frozen => write_frozen(alloc, world, sink),
-        Last::Standing(names) => write_standing(alloc, names, world, sink),
+        Last::Inspected(names) => write_state(alloc, names, world, sink),
     }
 }
 
@@ -246,10 +262,10 @@ pub fn write_run<K: Sink, L: Link>(
     requires carded { AreCarded world }
     requires named { All (CanHand world) steps.now }
     ensures { Performs L.gives (λ programs stage. IsAt programs world stage)
-        (λ programs stage trips. IsLast (last_of last) world.units programs
+        (λ programs stage trips. IsLast (last_of last.entry) world.units programs
         (travel_from world.units (rules_of programs) world.regions steps.now trips stage).value.world)
         (λ programs stage trips.
-        pieces_at (last_of last) world.units (rules_of programs) world.regions steps.now trips stage)
+        pieces_at (last_of last.entry) world.units (rules_of programs) world.regions steps.now trips stage)
         (log (K.sunk sink.old) (K.faults sink.old)) (log (K.sunk sink.new) (K.faults sink.new))
         (wire (L.trips link.old) (L.faults link.old)) (wire (L.trips link.new) (L.faults link.new)) result }
 {

@@ -1,13 +1,15 @@
 //! Worlds whose scripts are built: their runs, from the file's start or from a frozen world, and where the scripts of a
 //! frozen world stand.
 
-ghost use Rattle.std.specs.Prelude.{◌≡◌, List, [], None, length, All, IfOk, IsErrOf};
+ghost use Rattle.std.specs.Prelude.{◌≡◌, List, [], None, length, map, All, IfOk, IsErrOf};
+ghost use Rattle.std.specs.List.{AllByRecursion};
 ghost use Rattle.lsl_ports.specs.Trips.{Honest};
 ghost use Rattle.lsl_text.specs.declared.Refusal.TheVariants.{Fault};
 ghost use Rattle.lsl_image.specs.Images.{IsIntact};
 ghost use Rattle.lsl_image.specs.declared.faults.ImageFault.{ImageFault as AFault};
 ghost use Rattle.lsl_tree.specs.Program.{Program};
 ghost use Rattle.lsl_region.specs.Worlds.{World as SourceWorld};
+ghost use Rattle.lsl_view.specs.Globals.{HaveGlobals, IsScript};
 ghost use Rattle.lsl_view.specs.Names.{script_names as names_of_scripts};
 ghost use Rattle.lsl_view.specs.Parts.{scripts_in, view_of_parts};
 ghost use Rattle.lsl_world.specs.Codes.{AreRunBy};
@@ -22,11 +24,11 @@ ghost use Rattle.lsl_world.specs.Sound.{IsSound};
 ghost use Rattle.lsl_world.specs.Stages.{IsAt};
 ghost use Rattle.lsl_world.specs.Stands.{IsOf, size_of};
 ghost use Rattle.lsl_world.specs.Starts.{start};
-ghost use Rattle.lsl_top.specs.Answers.{Comes, ComesFromStart, Shows, lossy_answer};
+ghost use Rattle.lsl_top.specs.Answers.{Comes, ComesFromStart, Inspects, Shows, lossy_answer};
 ghost use Rattle.lsl_top.specs.Fair.{IsFairIn};
 ghost use Rattle.lsl_top.specs.Froms.{IsFromIn};
 ghost use Rattle.lsl_top.specs.Meant.{last_of, mode_of};
-ghost use Rattle.lsl_top.specs.Plays.{Thawing};
+ghost use Rattle.lsl_top.specs.Plays.{Inspected, Thawing, inspected};
 ghost use Rattle.lsl_top.specs.Ports.{Concludes, Finishes, gives_in, log, wire};
 ghost use Rattle.lsl_top.specs.Thaws.{IsFrom, IsThawFault, IsThawOf};
 
@@ -42,7 +44,7 @@ use lsl_image::ImageFault;
 use lsl_lines::{WorldFile, take_frozen};
 use lsl_ports::{Link, Sink};
 use lsl_text::{NoMemory, Refusal};
-use lsl_view::{Names, global_names, script_names, view};
+use lsl_view::{NameList, Names, global_names, script_names, view};
 use lsl_world::World;
 use std::alloc::Global;
 
@@ -56,10 +58,12 @@ pub fn run_cast<K: Sink, L: Link>(
 ) -> Status
     requires range { IsInRange play.now.world.now }
     requires units { length cast.units ≡ length play.now.world.now.files }
+    requires scripts { AllByRecursion IsScript (map (λ t. t.items) play.now.texts.items) }
     ensures { (programs : List Program) → AreRunBy programs cast.units
         → Concludes (gives_in (mode_of play.now.mode) L.gives) (IsFairIn (mode_of play.now.mode))
         (IsFromIn (mode_of play.now.mode) cast.units programs play.now.world.now cast.cards play.now.frozen.items)
-        (λ grade from trips. Comes grade from trips (mode_of play.now.mode) cast.units programs play.now.world.now
+        (λ grade from trips. Comes grade from trips (mode_of play.now.mode) (map (λ t. t.items) play.now.texts.items)
+        cast.units programs play.now.world.now
         cast.cards play.now.frozen.items)
         (log (K.sunk sink.old) (K.faults sink.old)) (log (K.sunk sink.new) (K.faults sink.new))
         (wire (L.trips link.old) (L.faults link.old)) (wire (L.trips link.new) (L.faults link.new)) result }
@@ -68,7 +72,7 @@ pub fn run_cast<K: Sink, L: Link>(
         Mode::Whole => run_started(alloc, Last::Homes, play.world, cast, sink, link),
         Mode::Handing => run_lossy(alloc, play.world, cast, sink, link),
         Mode::Freezing => run_started(alloc, Last::Frozen, play.world, cast, sink, link),
-        Mode::Standing(_) => run_standing(alloc, play, cast, sink, link),
+        Mode::Inspecting(_) => run_inspected(alloc, play, cast, sink, link),
         Mode::Thawing(name) => run_thawed(alloc, name, play, cast, sink, link),
         Mode::Viewing(name) => show_frozen(alloc, name, play, cast, sink),
     }
@@ -86,7 +90,7 @@ fn run_started<K: Sink, L: Link>(
     requires file { IsInRange file.now }
     requires units { length cast.units ≡ length file.now.files }
     ensures { (programs : List Program) → AreRunBy programs cast.units → Concludes L.gives (Honest IsIntact)
-        (λ from. Unit {0}) (λ grade from trips. ComesFromStart grade trips (last_of last) cast.units programs file.now
+        (λ from. Unit {0}) (λ grade from trips. ComesFromStart grade trips (last_of last.entry) cast.units programs file.now
         cast.cards)
         (log (K.sunk sink.old) (K.faults sink.old)) (log (K.sunk sink.new) (K.faults sink.new))
         (wire (L.trips link.old) (L.faults link.old)) (wire (L.trips link.new) (L.faults link.new)) result }
@@ -100,31 +104,50 @@ fn run_started<K: Sink, L: Link>(
     }
 }
 
-/// Runs a world from its file's start, and tells what it holds then.
-fn run_standing<K: Sink, L: Link>(
+/// Runs a world from its file's start, and shows all that it holds then.
+fn run_inspected<K: Sink, L: Link>(
     alloc: Global,
     play: &Play<'_>,
     cast: Cast,
     sink: &mut K,
     link: &mut L,
-) -> Status {
-    match names_of(alloc, play) {
-        Ok(names) => run_started(alloc, Last::Standing(&names), play.world, cast, sink, link),
+) -> Status
+    requires range { IsInRange play.now.world.now }
+    requires units { length cast.units ≡ length play.now.world.now.files }
+    requires scripts { AllByRecursion IsScript (map (λ t. t.items) play.now.texts.items) }
+    ensures { (programs : List Program) → AreRunBy programs cast.units → Concludes L.gives (Honest IsIntact)
+        (λ from. Unit {0}) (λ grade from trips. Inspects grade trips (map (λ t. t.items) play.now.texts.items)
+        cast.units programs play.now.world.now cast.cards)
+        (log (K.sunk sink.old) (K.faults sink.old)) (log (K.sunk sink.new) (K.faults sink.new))
+        (wire (L.trips link.old) (L.faults link.old)) (wire (L.trips link.new) (L.faults link.new)) result }
+{
+    match names_of(alloc, play.world, play.texts.as_slice()) {
+        Ok(names) => run_started(alloc, Last::Inspected(&names), play.world, cast, sink, link),
         Err(_) => Status::NoMemory,
     }
 }
 
-/// The names of a play's scripts, and of the globals of their texts.
-fn names_of(alloc: Global, play: &Play<'_>) -> Result<Names, NoMemory> {
-    let scripts = script_names(alloc, play.world)?;
+/// The names of a file's scripts, and of the globals of these texts.
+fn names_of(alloc: Global, file: &WorldFile, texts: &[Vec<u8>]) -> Result<Names, NoMemory>
+    requires { AllByRecursion IsScript (map (λ t. t.items) texts.now) }
+    ensures { IfOk result (λ names. HaveGlobals (map (λ t. t.items) texts.now) names.globals
+        × (Inspected names ≡ inspected file.now names.globals)) }
+{
+    let scripts = Sequence::from_vec(script_names(alloc, file)?);
+    let globals = globals_of(alloc, texts)?;
+    Ok(Names { scripts, globals })
+}
+
+/// The names of the globals of these texts, in order.
+fn globals_of(alloc: Global, texts: &[Vec<u8>]) -> Result<Sequence<NameList>, NoMemory>
+    requires { AllByRecursion IsScript (map (λ t. t.items) texts.now) }
+    ensures { IfOk result (HaveGlobals (map (λ t. t.items) texts.now)) }
+{
     let mut globals = Sequence::new(alloc);
-    for text in play.texts.as_slice() {
+    for text in texts {
         globals.push(global_names(alloc, text.as_slice())?)?;
     }
-    Ok(Names {
-        scripts: Sequence::from_vec(scripts),
-        globals,
-    })
+    Ok(globals)
 }
 
 /// Runs a world from its file's start, where objects are handed over by notes.
@@ -183,7 +206,7 @@ fn run_thawed<K: Sink, L: Link>(
     requires units { length cast.units ≡ length play.now.world.now.files }
     ensures { (programs : List Program) → AreRunBy programs cast.units → Concludes L.gives (Honest IsIntact)
         (IsFrom cast.units programs play.now.world.now cast.cards play.now.frozen.items)
-        (λ grade from trips. Comes grade from trips (Thawing name.now) cast.units programs play.now.world.now
+        (λ grade from trips. Comes grade from trips (Thawing name.now) (map (λ t. t.items) play.now.texts.items) cast.units programs play.now.world.now
         cast.cards play.now.frozen.items)
         (log (K.sunk sink.old) (K.faults sink.old)) (log (K.sunk sink.new) (K.faults sink.new))
         (wire (L.trips link.old) (L.faults link.old)) (wire (L.trips link.new) (L.faults link.new)) result }

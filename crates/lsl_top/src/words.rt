@@ -25,8 +25,7 @@ pub enum Command<'a> {
     View(&'a str, &'a str),
     /// Runs the world that is made of a number.
     Make(u32),
-    /// Runs a world file up to a position, or to the end of its steps, and tells what the world holds there. No words of
-    /// `lsl` ask for it.
+    /// Runs a world file up to a position, or to its end, and shows all that the world holds there. No words ask for it.
     State(Option<Position>, &'a str),
 }
 

@@ -2,25 +2,31 @@ use Rattle.std.proofs.Common.{◌≡◌, Err, List, [], ℕ, Option, refl, sym, 
 use Rattle.lsl_ports.specs.Shelf.{Files}
 use Rattle.lsl_ports.specs.Trips.{Trip}
 use Rattle.lsl_lines.specs.World.{FileFirst, IsRefused, IsWorld}
+use Rattle.lsl_lines.specs.declared.file.WorldFile.{WorldFile}
 use Rattle.lsl_region.specs.Worlds.{World}
+use Rattle.lsl_world.specs.Ranges.{IsInRange}
 use Rattle.lsl_world.proofs.Ranges.{good-in_range}
 use Rattle.lsl_top.specs.Answers.{Answer, Due, Grade, Plays, ReplaysFile, world_refused}
 use Rattle.lsl_top.specs.Fair.{IsFairIn}
 use Rattle.lsl_top.specs.Lines.{world_refusal_of}
 use Rattle.lsl_top.specs.Meant.{mode_of}
 use Rattle.lsl_top.specs.Named.{IsNamedIn, IsPlayName}
-use Rattle.lsl_top.specs.Plays.{cards_in, names_in, play_of}
+use Rattle.lsl_top.specs.Plays.{cards_in, file_in, names_in, play_of}
 use Rattle.lsl_top.specs.Ports.{Finishes, Serves, gives_in, log, ports, wire}
 use Rattle.lsl_top.specs.Promise.{KeepsFile, KeepsPlay, RefusesWorld}
 use Rattle.lsl_top.specs.declared.status.Status.{Status}
 use Rattle.lsl_top.specs.declared.status.Status.TheVariants.{BadWorld}
 use Rattle.lsl_top.proofs.Finishing.{finish-written, keeps-as, serve-finished, serve-later, serve-memory, serve-unread}
+use Rattle.lsl_top.proofs.Cuts.{played-in_range}
 use Rattle.lsl_top.proofs.WorldRead.{world-read}
 use Rattle.lsl_top.proofs.commands.replay.Goals as goal
 
 pub play_world-requires : goal.play_world-requires
 play_world-requires g c =
-    good-in_range c.as_slice.result.now c.in-Ok-read_world.world c.in-Ok-read_world.ensures.found
+    let mode = mode_of c.args.mode in
+    let file = c.in-Ok-read_world.file in
+    subst IsInRange (sym c.played.ensures)
+    (played-in_range mode file (good-in_range c.as_slice.result.now file c.in-Ok-read_world.ensures.found))
 
 pub returns-in-Err : goal.returns-in-Err
 returns-in-Err g c =
@@ -52,10 +58,11 @@ returns-in-Ok-read_world g c =
     let mode = mode_of c.args.mode in
     let name = c.args.name.now in
     let read = c.in-Ok.ensures in
-    let world = c.in-Ok-read_world.world in
+    let whole = c.in-Ok-read_world.file in
+    let world = file_in mode whole in
     let (file, is, of) = world-read held name c.in-Ok.text.items read.ok in
-    let good : IsWorld file world = of.good world
-    (subst (λ (z : List ℕ). IsWorld z world) c.as_slice.ensures.value c.in-Ok-read_world.ensures.found) in
+    let good : IsWorld file whole = of.good whole
+    (subst (λ (z : List ℕ). IsWorld z whole) c.as_slice.ensures.value c.in-Ok-read_world.ensures.found) in
     serve-later (gives_in mode g.L.Link.gives) (IsFairIn mode) (λ trips. KeepsPlay later trips (play_of mode world))
     (λ trips. KeepsFile held trips mode name)
     (λ grade from trips. Plays grade later from trips (play_of mode world))
@@ -71,7 +78,7 @@ returns-in-Ok-read_world g c =
     (g.L.Link.faults c.play_world.new.link)) c.play_world.result read.unchanged read.counted
     (λ trips k. inr (
       file,
-      world,
+      whole,
       is,
       good,
       subst (λ (z : Option Files). KeepsPlay z trips (play_of mode world) c.play_world.result
@@ -81,15 +88,24 @@ returns-in-Ok-read_world g c =
       file,
       is,
       inl (
-        world,
+        whole,
         good,
         subst (λ (z : Option Files). Plays Due z from trips (play_of mode world) answer) read.unchanged h,
       ),
     ))
     (λ n h. elim h [
       | inl frozen ↦ inl frozen
-      | inr has ↦ inr (inr (file, world, is, good, has))
-    ]) c.play_world.ensures
+      | inr has ↦ inr (inr (file, whole, is, good, has))
+    ])
+    (subst (λ (z : WorldFile). Serves (gives_in mode g.L.Link.gives) (IsFairIn mode)
+    (λ trips. KeepsPlay later trips (play_of mode z)) (λ grade from trips. Plays grade later from trips (play_of mode z))
+    (IsPlayName mode (names_in z) (cards_in z))
+    (ports later (g.S.Shelf.faults c.read_all.new.shelf) (g.K.Sink.sunk c.args.sink.now) (g.K.Sink.faults c.args.sink.now)
+    (g.L.Link.trips c.args.link.now) (g.L.Link.faults c.args.link.now))
+    (ports (g.S.Shelf.held c.play_world.new.shelf) (g.S.Shelf.faults c.play_world.new.shelf)
+    (g.K.Sink.sunk c.play_world.new.sink)
+    (g.K.Sink.faults c.play_world.new.sink) (g.L.Link.trips c.play_world.new.link)
+    (g.L.Link.faults c.play_world.new.link)) c.play_world.result) c.played.ensures c.play_world.ensures)
 
 pub returns-in-Err-Fault : goal.returns-in-Err-Fault
 returns-in-Err-Fault g c =

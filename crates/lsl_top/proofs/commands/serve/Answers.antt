@@ -79,6 +79,21 @@ returns-in-Freeze g c =
     c.replay-in-Freeze.result)
     (sym (ap asked_by c.in-Freeze.is)) c.replay-in-Freeze.ensures
 
+pub returns-in-State : goal.returns-in-State
+returns-in-State g c =
+    let held = g.S.Shelf.held c.args.shelf.now in
+    subst (λ (command : Command). Serves (gives_by command g.L.Link.gives) (IsFairOf command)
+    (λ trips. KeepsOf held trips command)
+    (λ grade from trips. Answers grade held from trips command) (IsNamed held command)
+    (ports held (g.S.Shelf.faults c.args.shelf.now) (g.K.Sink.sunk c.args.sink.now) (g.K.Sink.faults c.args.sink.now)
+    (g.L.Link.trips c.args.link.now) (g.L.Link.faults c.args.link.now))
+    (ports (g.S.Shelf.held c.replay-in-State.new.shelf) (g.S.Shelf.faults c.replay-in-State.new.shelf)
+    (g.K.Sink.sunk c.replay-in-State.new.sink)
+    (g.K.Sink.faults c.replay-in-State.new.sink) (g.L.Link.trips c.replay-in-State.new.link)
+    (g.L.Link.faults c.replay-in-State.new.link))
+    c.replay-in-State.result)
+    (sym (ap asked_by c.in-State.is)) c.replay-in-State.ensures
+
 pub returns-in-Thaw : goal.returns-in-Thaw
 returns-in-Thaw g c =
     let held = g.S.Shelf.held c.args.shelf.now in

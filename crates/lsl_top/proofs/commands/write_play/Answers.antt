@@ -7,7 +7,7 @@ use Rattle.lsl_top.specs.Meant.{mode_of, play_in, read_in}
 use Rattle.lsl_top.specs.Ports.{gives_in, log, wire}
 use Rattle.lsl_top.specs.Prepared.{Refuses}
 use Rattle.lsl_top.proofs.Finishing.{concludes-as, concludes-finished, concludes-memory}
-use Rattle.lsl_top.proofs.Prepared.{cast-fits, plays-cast, plays-refused}
+use Rattle.lsl_top.proofs.Prepared.{cast-fits, cast-scripts, plays-cast, plays-refused}
 use Rattle.lsl_top.proofs.commands.write_play.Goals as goal
 
 pub prepare-requires : goal.prepare-requires
@@ -21,6 +21,10 @@ run_cast-requires-clause-units g c =
     let play = c.args.play.now in
     c.in-Ok.ensures.ok.len ∙ length-map play.texts.items (λ t. t.items) ∙ play.texts_fit ∙ play.names_fit
 
+pub run_cast-requires-clause-scripts : goal.run_cast-requires-clause-scripts
+run_cast-requires-clause-scripts g c =
+    cast-scripts (play_in c.args.play.now) (read_in c.args.play.now) c.in-Ok.cast c.in-Ok.ensures.ok
+
 pub returns-in-Ok : goal.returns-in-Ok
 returns-in-Ok g c =
     let mode = mode_of c.args.play.now.mode in
@@ -30,7 +34,7 @@ returns-in-Ok g c =
     let is = c.in-Ok.ensures.ok in
     concludes-as (gives_in mode g.L.Link.gives) (IsFairIn mode)
     (IsFromIn mode cast.units is.programs play.world cast.cards read.frozen) (IsFromRead play read)
-    (λ grade from trips. Comes grade from trips mode cast.units is.programs play.world cast.cards read.frozen)
+    (λ grade from trips. Comes grade from trips mode read.texts cast.units is.programs play.world cast.cards read.frozen)
     (λ grade from trips. PlaysRead grade from trips play read)
     (log (g.K.Sink.sunk c.args.sink.now) (g.K.Sink.faults c.args.sink.now))
     (log (g.K.Sink.sunk c.run_cast.new.sink) (g.K.Sink.faults c.run_cast.new.sink))

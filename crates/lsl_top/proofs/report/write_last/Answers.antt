@@ -31,3 +31,15 @@ pub returns-in-Frozen-clause-last : goal.returns-in-Frozen-clause-last
 returns-in-Frozen-clause-last g c = λ programs w is.
     subst (λ (last : Last). OnOk c.write_frozen.result (IsLast last c.args.world.now.units programs w))
     (sym (ap last_of c.in-Frozen.is)) (c.write_frozen.ensures.last programs w is)
+
+pub returns-in-Inspected-clause-of : goal.returns-in-Inspected-clause-of
+returns-in-Inspected-clause-of g c = λ programs w is.
+    subst (λ (last : Last). Writes (last_piece last c.args.world.now.units w).lines
+    (log (g.K.Sink.sunk c.args.sink.now) (g.K.Sink.faults c.args.sink.now))
+    (log (g.K.Sink.sunk c.write_state.new.sink) (g.K.Sink.faults c.write_state.new.sink)) c.write_state.result)
+    (sym (ap last_of c.in-Inspected.is)) (c.write_state.ensures.of programs w is)
+
+pub returns-in-Inspected-clause-last : goal.returns-in-Inspected-clause-last
+returns-in-Inspected-clause-last g c = λ programs w is.
+    subst (λ (last : Last). OnOk c.write_state.result (IsLast last c.args.world.now.units programs w))
+    (sym (ap last_of c.in-Inspected.is)) (ended-well c.write_state.result tt)

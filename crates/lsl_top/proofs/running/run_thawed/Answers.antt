@@ -1,4 +1,4 @@
-use Rattle.std.proofs.Common.{◌≡◌, ◌∙◌, Err, List, inl, inr, refl, sym, ap, subst}
+use Rattle.std.proofs.Common.{◌≡◌, ◌∙◌, ℕ, Err, List, Vec, Global, map, inl, inr, refl, sym, ap, subst}
 use Rattle.std.specs.Prelude.{All}
 use Rattle.lsl_ports.specs.Trips.{Honest, Trip}
 use Rattle.lsl_image.specs.Images.{IsIntact}
@@ -42,6 +42,7 @@ write_run-requires-clause-named g c =
 pub returns-in-Ok : goal.returns-in-Ok
 returns-in-Ok g c = λ programs run.
     let name = c.args.name.now in
+    let texts = map (λ (t : Vec ℕ Global). t.items) c.args.play.now.texts.items in
     let units = c.args.cast.units in
     let file = c.args.play.now.world.now in
     let text = c.args.play.now.frozen.items in
@@ -53,11 +54,11 @@ returns-in-Ok g c = λ programs run.
     let before = (wire (g.L.Link.trips c.args.link.now) (g.L.Link.faults c.args.link.now)) in
     let after = (wire (g.L.Link.trips c.write_run.new.link) (g.L.Link.faults c.write_run.new.link)) in
     subst (λ (status : Status). Concludes g.L.Link.gives (Honest IsIntact) (IsFrom units programs file cards text)
-    (λ grade from trips. Comes grade from trips (Thawing name) units programs file cards text) old new before after
+    (λ grade from trips. Comes grade from trips (Thawing name) texts units programs file cards text) old new before after
     status)
     (sym c.status_after.ensures)
     (concludes-performed g.L.Link.gives (Honest IsIntact) (IsFrom units programs file cards text)
-    (λ grade from trips. Comes grade from trips (Thawing name) units programs file cards text)
+    (λ grade from trips. Comes grade from trips (Thawing name) texts units programs file cards text)
     (λ ps stage. IsAt ps world stage)
     (λ ps stage trips.
     IsLast Homes units ps (travel_from units (rules_of ps) world.regions file.steps trips stage).value.world)
@@ -76,7 +77,8 @@ pub returns-in-Err-NoMemory : goal.returns-in-Err-NoMemory
 returns-in-Err-NoMemory g c = λ programs run.
     concludes-memory g.L.Link.gives (Honest IsIntact)
     (IsFrom c.args.cast.units programs c.args.play.now.world.now c.args.cast.cards c.args.play.now.frozen.items)
-    (λ grade from trips. Comes grade from trips (Thawing c.args.name.now) c.args.cast.units programs c.args.play.now.world.now
+    (λ grade from trips. Comes grade from trips (Thawing c.args.name.now)
+    (map (λ (t : Vec ℕ Global). t.items) c.args.play.now.texts.items) c.args.cast.units programs c.args.play.now.world.now
     c.args.cast.cards c.args.play.now.frozen.items)
     (log (g.K.Sink.sunk c.args.sink.now) (g.K.Sink.faults c.args.sink.now))
     (wire (g.L.Link.trips c.args.link.now) (g.L.Link.faults c.args.link.now))
@@ -84,6 +86,7 @@ returns-in-Err-NoMemory g c = λ programs run.
 pub returns-in-Err-Fault : goal.returns-in-Err-Fault
 returns-in-Err-Fault g c = λ programs run.
     let name = c.args.name.now in
+    let texts = map (λ (t : Vec ℕ Global). t.items) c.args.play.now.texts.items in
     let units = c.args.cast.units in
     let file = c.args.play.now.world.now in
     let text = c.args.play.now.frozen.items in
@@ -95,7 +98,7 @@ returns-in-Err-Fault g c = λ programs run.
     let link = (wire (g.L.Link.trips c.args.link.now) (g.L.Link.faults c.args.link.now)) in
     let IsThis : Answer → Type 0 = λ answer. answer ≡ image_refused name fault in
     let IsAll : Grade → World → List Trip → Answer → Type 0 =
-    λ grade from trips. Comes grade from trips (Thawing name) units programs file cards text in
+    λ grade from trips. Comes grade from trips (Thawing name) texts units programs file cards text in
     subst (λ (status : Status). Concludes g.L.Link.gives (Honest IsIntact)
     (IsFrom units programs file cards text) IsAll old new link link status)
     (sym c.status_after-in-Err-Fault.ensures)
