@@ -1,6 +1,14 @@
 -- Lines, words and numbers in bytes.
-use Rattle.std.specs.Prelude.{◌≡◌, ℕ, ◌+◌, ◌==◌, nat_lt, Bool, not, cond, ◌&&◌, List, take, drop, length, Option, Some, None}
-use Rattle.std.specs.List.{prefix_len}
+use Rattle.std.specs.Prelude.{◌≡◌, ℕ, ◌+◌, ◌==◌, nat_lt, Bool, not, cond, ◌&&◌, List, [], ◌∷◌, take, drop, length, Option, Some, None}
+use Rattle.std.specs.Char.{digit_value}
+use Rattle.std.specs.List.{list_all, prefix_len}
+use Rattle.std.specs.Str.Parse.{digits_value}
+
+-- the first, and then what it leads to
+infixl 10 ◌>>=◌
+abbrev pub ◌>>=◌ : {A B : Type 0} → Option A → (A → Option B) → Option B
+None >>= f = None
+(Some x) >>= f = f x
 
 abbrev pub is_not : ℕ → ℕ → Bool
 is_not by b = not (b == by)
@@ -20,6 +28,28 @@ is_word text = nat_lt 0 (length text) && prefix_len (is_not 32) text == length t
 -- the word before the first space, and what comes after it
 abbrev pub word_at : List ℕ → Option (List ℕ × List ℕ)
 word_at text = cond (length (before 32 text) == 0) None (Some (before 32 text, after 32 text))
+
+abbrev pub is_digit : ℕ → Bool
+is_digit b = nat_lt (digit_value b) 10
+
+-- what decimal digits write, if there is one and it is below 2^32
+unfoldable pub number_of : List ℕ → Option ℕ
+number_of digits = cond (nat_lt 0 (length digits) && (list_all is_digit digits && nat_lt (digits_value 10 digits) 4294967296))
+    (Some (digits_value 10 digits)) None
+
+-- the number before the first space, and what comes after it
+abbrev pub number_at : List ℕ → Option (ℕ × List ℕ)
+number_at text = number_of (before 32 text) >>= λ n. Some (n, after 32 text)
+
+-- the suffixes at which a line after the first one begins
+abbrev pub later_lines : List ℕ → List (List ℕ)
+later_lines [] = []
+later_lines (b ∷ text) = cond (b == 10 && nat_lt 0 (length text)) (text ∷ later_lines text) (later_lines text)
+
+-- the suffixes at which a line begins
+abbrev pub line_starts : List ℕ → List (List ℕ)
+line_starts [] = []
+line_starts (b ∷ text) = (b ∷ text) ∷ later_lines (b ∷ text)
 
 -- the code's answer, seen so, is this one
 abbrev pub Sees : {A B : Type 0} → (A → B) → Option A → Option B → Type 0

@@ -3,7 +3,7 @@
 ghost use Rattle.std.specs.Prelude.{◌≡◌, ◌+◌, ◌*◌, ◌^◌, ◌<◌, ◌≤◌, length};
 ghost use Rattle.std.specs.List.{prefix_len};
 ghost use Rattle.std.specs.Option.{SomeIff};
-ghost use Rattle.lsl_seek.specs.Bytes.{Sees, after, before, is_not, is_word, word_at};
+ghost use Rattle.lsl_seek.specs.Bytes.{Sees, after, before, is_not, is_word, number_at, number_of, word_at};
 
 /// What comes before the first such byte, and what after it. Without one it is the whole text, and nothing.
 pub fn cut(text: &[u8], by: u8) -> (&[u8], &[u8])
@@ -36,7 +36,9 @@ fn length_before(text: &[u8], by: u8) -> usize
 }
 
 /// The number of decimal digits, if it has at least one digit and is below 2^32.
-pub fn number(digits: &[u8]) -> Option<u32> {
+pub fn number(digits: &[u8]) -> Option<u32>
+    ensures { result ≡ number_of digits.now }
+{
     if digits.is_empty() {
         return None;
     }
@@ -58,7 +60,9 @@ fn longer(n: u32, digit: u32) -> Option<u32>
 }
 
 /// The number that a text begins with, up to its first space, and what comes after the space.
-pub fn take_number(text: &[u8]) -> Option<(u32, &[u8])> {
+pub fn take_number(text: &[u8]) -> Option<(u32, &[u8])>
+    ensures { Sees (λ x. (x.0, x.1.now)) result (number_at text.now) }
+{
     let (word, behind) = cut(text, b' ');
     let n = number(word)?;
     Some((n, behind))

@@ -1,5 +1,9 @@
 //! The entries of a trace, and the values that they set.
 
+ghost use Rattle.std.specs.Prelude.{◌≡◌, ◌==◌};
+ghost use Rattle.lsl_seek.specs.Bytes.{Sees, before};
+ghost use Rattle.lsl_seek.specs.Entries.{at_of, entry_of, is_said, is_stop, line, mark_sort, said_of, set_of, set_words, slot_of, sort_of_word, value};
+
 use crate::bytes::{cut, number, take_number, take_word};
 
 /// What an entry is: where a script is at its mark, or what the journal says.
@@ -23,7 +27,9 @@ pub enum Sort {
 
 impl Sort {
     /// Whether one can stop there.
-    pub fn is_stop(self) -> bool {
+    pub fn is_stop(self) -> bool
+        ensures { result ≡ is_stop self }
+    {
         matches!(
             self,
             Sort::Statement | Sort::Again | Sort::Leave | Sort::Fault
@@ -31,7 +37,9 @@ impl Sort {
     }
 
     /// Whether it is a line of the journal.
-    pub fn is_said(self) -> bool {
+    pub fn is_said(self) -> bool
+        ensures { result ≡ is_said self }
+    {
         matches!(
             self,
             Sort::Took | Sort::Done | Sort::Fault | Sort::Speech | Sort::Apart | Sort::Other
@@ -39,7 +47,9 @@ impl Sort {
     }
 
     /// The sort of a mark, by its word.
-    pub fn of_mark(word: &[u8]) -> Option<Sort> {
+    pub fn of_mark(word: &[u8]) -> Option<Sort>
+        ensures { result ≡ mark_sort word.now }
+    {
         match word {
             b"enter" => Some(Sort::Enter),
             b"stmt" => Some(Sort::Statement),
@@ -51,7 +61,9 @@ impl Sort {
     }
 
     // The sort of a line of the journal, by its first word.
-    fn of_said(word: &[u8]) -> Sort {
+    fn of_said(word: &[u8]) -> Sort
+        ensures { result ≡ sort_of_word word.now }
+    {
         match word {
             b"took" => Sort::Took,
             b"done" => Sort::Done,
@@ -89,7 +101,10 @@ pub struct Entry<'a> {
 }
 
 /// The entry of what follows the word `at`.
-pub fn parse_at(text: &[u8]) -> Option<Entry> {
+#[tactic(auto, unfolding(crate::specs::Entries::at_of))]
+pub fn parse_at(text: &[u8]) -> Option<Entry>
+    ensures { Sees line result (at_of text.now) }
+{
     let (step, text) = take_number(text)?;
     let (segment, text) = take_number(text)?;
     let (script, text) = take_number(text)?;
@@ -108,7 +123,10 @@ pub fn parse_at(text: &[u8]) -> Option<Entry> {
 }
 
 /// The entry of what follows the word `said`.
-pub fn parse_said(text: &[u8]) -> Option<Entry> {
+#[tactic(auto, unfolding(crate::specs::Entries::said_of))]
+pub fn parse_said(text: &[u8]) -> Option<Entry>
+    ensures { Sees line result (said_of text.now) }
+{
     let (step, text) = take_number(text)?;
     let (segment, said) = take_number(text)?;
     let (first, behind) = take_word(said)?;
@@ -129,8 +147,11 @@ pub fn parse_said(text: &[u8]) -> Option<Entry> {
 }
 
 /// The entry of a line, if it is one of an entry.
-pub fn parse_entry(line: &[u8]) -> Option<Entry> {
-    let (first, behind) = cut(line, b' ');
+#[tactic(auto, unfolding(crate::specs::Entries::entry_of))]
+pub fn parse_entry(text: &[u8]) -> Option<Entry>
+    ensures { Sees line result (entry_of text.now) }
+{
+    let (first, behind) = cut(text, b' ');
     match first {
         b"at" => parse_at(behind),
         b"said" => parse_said(behind),
@@ -139,7 +160,9 @@ pub fn parse_entry(line: &[u8]) -> Option<Entry> {
 }
 
 /// The sort of a line of the journal.
-pub fn said_sort(said: &[u8]) -> Sort {
+pub fn said_sort(said: &[u8]) -> Sort
+    ensures { result ≡ sort_of_word (before 32 said.now) }
+{
     Sort::of_said(cut(said, b' ').0)
 }
 
@@ -151,11 +174,13 @@ pub enum Slot {
 }
 
 /// The slot of a word.
-pub fn parse_slot(word: &[u8]) -> Option<Slot> {
-    match word {
-        b"result" => Some(Slot::Result),
-        _ => Some(Slot::Number(number(word)?)),
+pub fn parse_slot(word: &[u8]) -> Option<Slot>
+    ensures { result ≡ slot_of word.now }
+{
+    if word == b"result".as_slice() {
+        return Some(Slot::Result);
     }
+    Some(Slot::Number(number(word)?))
 }
 
 /// A variable's value at an entry. The serial is 0 for a global.
@@ -167,15 +192,21 @@ pub struct Set<'a> {
 }
 
 /// The set of a line, if it is one.
-pub fn parse_set(line: &[u8]) -> Option<Set> {
-    let (first, behind) = cut(line, b' ');
+#[tactic(auto, unfolding(crate::specs::Entries::set_of))]
+pub fn parse_set(text: &[u8]) -> Option<Set>
+    ensures { Sees value result (set_of text.now) }
+{
+    let (first, behind) = cut(text, b' ');
     match first {
         b"set" => parse_set_words(behind),
         _ => None,
     }
 }
 
-fn parse_set_words(text: &[u8]) -> Option<Set> {
+#[tactic(auto, unfolding(crate::specs::Entries::set_words))]
+fn parse_set_words(text: &[u8]) -> Option<Set>
+    ensures { Sees value result (set_words text.now) }
+{
     let (serial, text) = take_number(text)?;
     let (slot, value) = take_word(text)?;
     let slot = parse_slot(slot)?;

@@ -1,5 +1,8 @@
 //! The tables of a trace.
 
+ghost use Rattle.lsl_seek.specs.Bytes.{Sees};
+ghost use Rattle.lsl_seek.specs.Tables.{mark_of, name_of, place, variable};
+
 use crate::bytes::{cut, is_word, number, take_number, take_word};
 use crate::entry::{Slot, Sort, parse_slot};
 
@@ -64,7 +67,10 @@ fn parse_script(text: &[u8]) -> Option<u32> {
     }
 }
 
-fn parse_name(text: &[u8]) -> Option<Name> {
+#[tactic(auto, unfolding(crate::specs::Tables::name_of))]
+fn parse_name(text: &[u8]) -> Option<Name>
+    ensures { Sees variable result (name_of text.now) }
+{
     let (of, text) = take_number(text)?;
     let (slot, text) = take_word(text)?;
     let (kind, text) = take_word(text)?;
@@ -80,7 +86,10 @@ fn parse_name(text: &[u8]) -> Option<Name> {
     })
 }
 
-fn parse_mark(text: &[u8]) -> Option<Mark> {
+#[tactic(auto, unfolding(crate::specs::Tables::mark_of))]
+fn parse_mark(text: &[u8]) -> Option<Mark>
+    ensures { Sees place result (mark_of text.now) }
+{
     let (_, text) = take_number(text)?;
     let (unit, text) = take_number(text)?;
     let (routine, text) = take_word(text)?;
