@@ -1,5 +1,11 @@
 //! A trace that was read.
 
+ghost use Rattle.std.specs.Prelude.{◌≡◌, ◌==◌, drop, length, map, slice_get};
+ghost use Rattle.std.specs.Option.{option_copied, option_map};
+ghost use Rattle.lsl_seek.specs.Entries.{line};
+ghost use Rattle.lsl_seek.specs.Moments.{marks_of, moment_of, moment_or_nothing, moments, nothing, numbered, seen, sort_of};
+ghost use Rattle.lsl_seek.specs.Tables.{place};
+
 use crate::bytes::cut;
 use crate::entry::{Entry, Sort, parse_entry, parse_set, said_sort};
 use crate::faults::SeekFault;
@@ -121,12 +127,11 @@ impl<'a> Trace<'a> {
     }
 
     /// The moment whose line begins at this place.
-    pub fn moment_at(&self, place: usize) -> Moment<'a> {
-        let text = match self.text.get(place..) {
-            Some(text) => text,
-            None => b"",
-        };
-        let (line, behind) = cut(text, b'\n');
+    #[tactic(auto, unfolding(crate::specs::Moments::moment_of))]
+    pub fn moment_at(&self, place: usize) -> Moment<'a>
+        ensures { seen result ≡ moment_of (marks_of self.now) (drop place self.now.text.now) }
+    {
+        let (line, behind) = cut(self.text_from(place), b'\n');
         match parse_entry(line) {
             Some(entry) => Moment {
                 sort: self.sort(&entry),
@@ -137,7 +142,19 @@ impl<'a> Trace<'a> {
         }
     }
 
-    fn sort(&self, entry: &Entry<'a>) -> Sort {
+    // What follows this place in the text.
+    fn text_from(&self, place: usize) -> &'a [u8]
+        ensures { result.now ≡ drop place self.now.text.now }
+    {
+        match self.text.get(place..) {
+            Some(text) => text,
+            None => b"",
+        }
+    }
+
+    fn sort(&self, entry: &Entry<'a>) -> Sort
+        ensures { result ≡ sort_of (marks_of self.now) (line entry.now) }
+    {
         if entry.mark == 0 {
             return said_sort(entry.said);
         }
@@ -148,7 +165,9 @@ impl<'a> Trace<'a> {
     }
 
     /// The mark of this number, from 1.
-    pub fn mark(&self, number: u32) -> Option<&Mark<'a>> {
+    pub fn mark(&self, number: u32) -> Option<&Mark<'a>>
+        ensures { option_map (λ it. place it.now) result ≡ numbered (marks_of self.now) number }
+    {
         if number == 0 {
             return None;
         }
@@ -199,7 +218,9 @@ impl<'a> Trace<'a> {
 }
 
 // A moment of no script.
-fn no_moment() -> Moment<'static> {
+fn no_moment() -> Moment<'static>
+    ensures { seen result ≡ nothing }
+{
     Moment {
         entry: Entry {
             step: 0,
