@@ -1,5 +1,12 @@
 //! What a move looks for.
 
+ghost use Rattle.std.specs.Prelude.{◌≡◌, ◌==◌, ◌&&◌, false, List};
+ghost use Rattle.std.specs.Option.{option_map};
+ghost use Rattle.std.specs.Str.{bytes_eq};
+ghost use Rattle.lsl_seek.specs.Aims.{asks_values, contains, event_of, files_of, is_at, is_begun, is_entered, is_file, is_in, is_on_line, is_script, last_part, meets, unquoted};
+ghost use Rattle.lsl_seek.specs.Watches.{WatchesAt};
+ghost use Rattle.lsl_seek.specs.Moments.{Moment as Told, marks_of, numbered, seen};
+
 use crate::bytes::cut;
 use crate::entry::{Slot, Sort};
 use crate::tables::Name;
@@ -65,7 +72,11 @@ pub enum Value<'a> {
 
 impl<'a> Aim<'a> {
     /// Whether a moment is one, where the watch came to it.
-    pub fn is_met(&self, trace: &Trace, watch: &Watch, moment: &Moment) -> bool {
+    #[tactic(auto, unfolding(crate::specs::Aims::meets))]
+    pub fn is_met(&self, trace: &Trace, watch: &Watch, moment: &Moment) -> bool
+        ensures { (past : List Told) → WatchesAt self.now watch.now (seen moment.now) past → asks_values self.now ≡ false
+            → result ≡ meets trace.now self.now (seen moment.now) past }
+    {
         let entry = &moment.entry;
         match self {
             Aim::Any => true,
@@ -77,12 +88,12 @@ impl<'a> Aim<'a> {
             Aim::Outside(script, _) => {
                 moment.sort.is_stop()
                     && entry.script == *script
-                    && (moment.sort == Sort::Fault || !watch.inner.contains(&entry.serial))
+                    && (matches!(moment.sort, Sort::Fault) || !watch.inner.contains(&entry.serial))
             }
             Aim::Segment(step, segment) => {
                 moment.sort.is_stop()
                     && (entry.step != *step || entry.segment != *segment)
-                    && watch.stop != Some((entry.step, entry.segment))
+                    && !watch.is_at(entry.step, entry.segment)
             }
             Aim::Turn(step) => moment.sort.is_stop()
                 && entry.step != *step
@@ -90,24 +101,36 @@ impl<'a> Aim<'a> {
             Aim::Handler => moment.sort.is_stop() && watch.is_taken,
             Aim::Line(file, line) => trace.is_at(moment, *file, *line),
             Aim::Routine(name) => {
-                moment.sort == Sort::Statement && trace.enters(watch.before, *name)
+                matches!(moment.sort, Sort::Statement) && trace.enters(watch.before, *name)
             }
             Aim::If(test) => moment.sort.is_stop() && trace.tests(watch, moment, test),
             Aim::Changes(name) => moment.sort.is_stop() && trace.changes(watch, moment, *name),
             Aim::Event(name, script) => {
-                moment.sort == Sort::Took
+                matches!(moment.sort, Sort::Took)
                     && is_event(entry.said, *name)
-                    && (script.is_none() || *script == Some(entry.script))
+                    && is_script(*script, entry.script)
             }
-            Aim::Said(text) => { moment.sort == Sort::Speech && contains(entry.said, *text) }
-            Aim::Fault => moment.sort == Sort::Fault,
+            Aim::Said(text) => { matches!(moment.sort, Sort::Speech) && contains(entry.said, *text) }
+            Aim::Fault => matches!(moment.sort, Sort::Fault),
         }
     }
 }
 
 impl<'a> Watch<'a> {
+    // Whether the last stop was in this step and segment.
+    fn is_at(&self, step: u32, segment: u32) -> bool
+        ensures { result ≡ is_at self.now.stop step segment }
+    {
+        match self.stop {
+            Some((last, its)) => last == step && its == segment,
+            None => false,
+        }
+    }
+
     // Whether the last stop was in this step.
-    fn is_in(&self, step: u32) -> bool {
+    fn is_in(&self, step: u32) -> bool
+        ensures { result ≡ is_in self.now.stop step }
+    {
         match self.stop {
             Some((last, _)) => last == step,
             None => false,
@@ -116,7 +139,10 @@ impl<'a> Watch<'a> {
 }
 
 impl<'a> Trace<'a> {
-    fn is_at(&self, moment: &Moment, file: Option<&[u8]>, line: u32) -> bool {
+    fn is_at(&self, moment: &Moment, file: Option<&[u8]>, line: u32) -> bool
+        ensures { result ≡ (is_begun moment.now.sort
+            && is_on_line self.now (numbered (marks_of self.now) moment.now.entry.mark) (option_map (λ it. it.now) file.entry) line) }
+    {
         if !matches!(moment.sort, Sort::Statement | Sort::Again) {
             return false;
         }
@@ -126,7 +152,9 @@ impl<'a> Trace<'a> {
         }
     }
 
-    fn is_file(&self, unit: u32, file: Option<&[u8]>) -> bool {
+    fn is_file(&self, unit: u32, file: Option<&[u8]>) -> bool
+        ensures { result ≡ is_file (option_map (λ it. it.now) file.entry) (numbered (files_of self.now) unit) }
+    {
         match (file, self.file(unit)) {
             (None, _) => true,
             (Some(wanted), Some(name)) => unquoted(name) == wanted,
@@ -135,9 +163,11 @@ impl<'a> Trace<'a> {
     }
 
     // Whether the mark is the entry of this function, or of an event's handler.
-    fn enters(&self, mark: u32, name: &[u8]) -> bool {
+    fn enters(&self, mark: u32, name: &[u8]) -> bool
+        ensures { result ≡ is_entered (numbered (marks_of self.now) mark) name.now }
+    {
         match self.mark(mark) {
-            Some(mark) => mark.sort == Sort::Enter && last_part(mark.routine) == name,
+            Some(mark) => matches!(mark.sort, Sort::Enter) && last_part(mark.routine) == name,
             None => false,
         }
     }
@@ -200,7 +230,10 @@ fn global<'a, 'b>(names: &'b [Name<'a>], unit: u32, name: &[u8]) -> Option<&'b N
 }
 
 /// The text between its quotes, without what follows the second one.
-pub fn unquoted(text: &[u8]) -> &[u8] {
+#[tactic(auto, unfolding(crate::specs::Aims::unquoted))]
+pub fn unquoted(text: &[u8]) -> &[u8]
+    ensures { result.now ≡ unquoted text.now }
+{
     match text {
         [b'"', inner @ .., b'"'] => inner,
         [b'"', inner @ .., b'"', b'.', b'.'] => inner,
@@ -209,18 +242,33 @@ pub fn unquoted(text: &[u8]) -> &[u8] {
 }
 
 // What follows the last dot.
-fn last_part(routine: &[u8]) -> &[u8] {
+fn last_part(routine: &[u8]) -> &[u8]
+    ensures { result.now ≡ last_part routine.now }
+{
     let (first, behind) = cut(routine, b'.');
     if behind.is_empty() { first } else { behind }
 }
 
-fn is_event(said: &[u8], name: &[u8]) -> bool {
+fn is_script(wanted: Option<u32>, script: u32) -> bool
+    ensures { result ≡ is_script wanted script }
+{
+    match wanted {
+        Some(wanted) => wanted == script,
+        None => true,
+    }
+}
+
+fn is_event(said: &[u8], name: &[u8]) -> bool
+    ensures { result ≡ bytes_eq (event_of said.now) name.now }
+{
     let behind = cut(said, b' ').1;
     let behind = cut(behind, b' ').1;
     cut(behind, b' ').0 == name
 }
 
-fn contains(text: &[u8], part: &[u8]) -> bool {
+fn contains(text: &[u8], part: &[u8]) -> bool
+    ensures { result ≡ contains text.now part.now }
+{
     let mut rest = text;
     'bytes: while let [_, more @ ..] = rest {
         if rest.starts_with(part) {

@@ -2,6 +2,7 @@
 
 ghost use Rattle.std.specs.Prelude.{◌≡◌, ◌==◌, drop, length, map, slice_get};
 ghost use Rattle.std.specs.Option.{option_copied, option_map};
+ghost use Rattle.lsl_seek.specs.Aims.{files_of};
 ghost use Rattle.lsl_seek.specs.Entries.{line};
 ghost use Rattle.lsl_seek.specs.Moments.{marks_of, moment_of, moment_or_nothing, moments, nothing, numbered, seen, sort_of};
 ghost use Rattle.lsl_seek.specs.Tables.{place};
@@ -206,7 +207,9 @@ impl<'a> Trace<'a> {
     }
 
     /// The quoted name of a unit's file.
-    pub fn file(&self, unit: u32) -> Option<&'a [u8]> {
+    pub fn file(&self, unit: u32) -> Option<&'a [u8]>
+        ensures { option_map (λ it. it.now) result ≡ numbered (files_of self.now) unit }
+    {
         if unit == 0 {
             return None;
         }
