@@ -1,2 +1,3 @@
 pub mod Contains
 pub mod Numbers
+pub mod Watching

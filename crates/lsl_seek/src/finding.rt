@@ -1,5 +1,13 @@
 //! Where a move leads.
 
+ghost use Rattle.std.specs.Prelude.{◌≡◌, ◌&&◌, false, cond, List, ◌∷◌, drop};
+ghost use Rattle.std.specs.Result.{IfOk};
+ghost use Rattle.lsl_seek.specs.Aims.{asks_values, meets};
+ghost use Rattle.lsl_seek.specs.Finding.{IsFirst, IsLast};
+ghost use Rattle.lsl_seek.specs.Leads.{IsBeside, Leads, known};
+ghost use Rattle.lsl_seek.specs.Moments.{Moment as Told, marks_of, moment_of};
+ghost use Rattle.lsl_seek.specs.Watches.{Watches};
+
 use crate::aim::Aim;
 use crate::entry::Sort;
 use crate::moves::{Move, To};
@@ -11,7 +19,9 @@ use std::alloc::Global;
 impl<'a> Trace<'a> {
     /// The moment to which a move leads from the moment of this number: the first after it that the move asks for, or
     /// the last before it where the move goes back.
-    pub fn find(&self, alloc: Global, from: usize, it: &Move) -> Result<Option<usize>, NoMemory> {
+    pub fn find(&self, alloc: Global, from: usize, it: &Move) -> Result<Option<usize>, NoMemory>
+        ensures { IfOk result (λ found. Leads self.now it.now from found) }
+    {
         let here = self.moment(from);
         match &it.to {
             To::Moment(number) => Ok(self.known(*number as usize)),
@@ -50,12 +60,10 @@ impl<'a> Trace<'a> {
         }
     }
 
-    fn known(&self, number: usize) -> Option<usize> {
-        if 0 < number && number <= self.len() {
-            Some(number)
-        } else {
-            None
-        }
+    fn known(&self, number: usize) -> Option<usize>
+        ensures { result ≡ known self.now number }
+    {
+        if self.has(number) { Some(number) } else { None }
     }
 
     fn beside(
@@ -64,7 +72,9 @@ impl<'a> Trace<'a> {
         from: usize,
         is_back: bool,
         aim: &Aim,
-    ) -> Result<Option<usize>, NoMemory> {
+    ) -> Result<Option<usize>, NoMemory>
+        ensures { asks_values aim.now ≡ false → IfOk result (λ found. IsBeside self.now is_back aim.now from found) }
+    {
         if is_back {
             self.last_before(alloc, from, aim)
         } else {
@@ -77,15 +87,15 @@ impl<'a> Trace<'a> {
         alloc: Global,
         from: usize,
         aim: &Aim,
-    ) -> Result<Option<usize>, NoMemory> {
+    ) -> Result<Option<usize>, NoMemory>
+        ensures { asks_values aim.now ≡ false → IfOk result (λ found. IsFirst self.now aim.now from found) }
+    {
         let mut watch = Watch::new(alloc);
         'moments: for (i, place) in self.places.iter().enumerate() {
-            let moment = self.moment_at(*place);
-            watch.come(aim, &moment)?;
-            if from <= i && aim.is_met(self, &watch, &moment) {
+            let is_met = self.passes(aim, &mut watch, *place, from <= i)?;
+            if is_met {
                 return Ok(Some(i + 1));
             }
-            watch.go(&moment);
         }
         Ok(None)
     }
@@ -95,21 +105,35 @@ impl<'a> Trace<'a> {
         alloc: Global,
         from: usize,
         aim: &Aim,
-    ) -> Result<Option<usize>, NoMemory> {
+    ) -> Result<Option<usize>, NoMemory>
+        ensures { asks_values aim.now ≡ false → IfOk result (λ found. IsLast self.now aim.now from found) }
+    {
         let mut watch = Watch::new(alloc);
         let mut found = None;
-        'moments: for (i, place) in self.places.iter().enumerate() {
-            if from <= i + 1 {
-                break;
-            }
-            let moment = self.moment_at(*place);
-            watch.come(aim, &moment)?;
-            if aim.is_met(self, &watch, &moment) {
-                found = Some(i + 1);
-            }
-            watch.go(&moment);
+        'moments: for (i, place) in self.before(from).iter().enumerate() {
+            let is_met = self.passes(aim, &mut watch, *place, true)?;
+            found = latest(found, i + 1, is_met);
         }
         Ok(found)
+    }
+
+    // Passes the moment at a place. Says whether it is one that the aim asks for, where that is sought.
+    fn passes(
+        &self,
+        aim: &Aim,
+        watch: &mut Watch<'a>,
+        place: usize,
+        is_sought: bool,
+    ) -> Result<bool, NoMemory>
+        ensures { IfOk result (λ is_met. (past : List Told) → Watches aim.now watch.old past
+            → Watches aim.now watch.new (moment_of (marks_of self.now) (drop place self.now.text.now) ∷ past)
+            × (asks_values aim.now ≡ false → is_met ≡ (is_sought && meets self.now aim.now (moment_of (marks_of self.now) (drop place self.now.text.now)) past))) }
+    {
+        let moment = self.moment_at(place);
+        watch.come(aim, &moment)?;
+        let is_met = is_sought && aim.is_met(self, watch, &moment);
+        watch.go(&moment);
+        Ok(is_met)
     }
 
     /// The serial of the call that is active at a moment, or 0.
@@ -146,4 +170,10 @@ impl<'a> Trace<'a> {
         }
         0
     }
+}
+
+fn latest(found: Option<usize>, number: usize, is_met: bool) -> Option<usize>
+    ensures { result ≡ cond is_met (Some number) found }
+{
+    if is_met { Some(number) } else { found }
 }

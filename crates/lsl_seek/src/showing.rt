@@ -13,9 +13,7 @@ impl<'a> Trace<'a> {
     pub fn show(&self, alloc: Global, number: Option<usize>) -> Result<Vec<u8>, NoMemory> {
         let mut out = Vec::new(alloc);
         match number {
-            Some(number) if 0 < number && number <= self.len() => self.push_moment(
-                &mut out, number,
-            )?,
+            Some(number) if self.has(number) => self.push_moment(&mut out, number)?,
             _ => out.extend_from_slice(b"nowhere\n")?,
         }
         Ok(out)

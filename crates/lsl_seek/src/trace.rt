@@ -1,6 +1,6 @@
 //! A trace that was read.
 
-ghost use Rattle.std.specs.Prelude.{◌≡◌, ◌==◌, drop, length, map, slice_get};
+ghost use Rattle.std.specs.Prelude.{◌≡◌, ◌==◌, ◌-◌, ◌&&◌, nat_le, nat_lt, drop, take, length, map, slice_get};
 ghost use Rattle.std.specs.Option.{option_copied, option_map};
 ghost use Rattle.lsl_seek.specs.Aims.{files_of};
 ghost use Rattle.lsl_seek.specs.Entries.{line};
@@ -96,23 +96,43 @@ impl<'a> Trace<'a> {
     }
 
     /// How many moments there are.
-    pub fn len(&self) -> usize {
+    pub fn len(&self) -> usize
+        ensures { result ≡ length self.now.places.items }
+    {
         self.places.len()
     }
 
+    /// Whether there is a moment of this number, from 1.
+    pub fn has(&self, number: usize) -> bool
+        ensures { result ≡ (nat_lt 0 number && nat_le number (length self.now.places.items)) }
+    {
+        0 < number && number <= self.len()
+    }
+
     /// The moment of this number, from 1. Where there is none it is one of no script.
-    pub fn moment(&self, number: usize) -> Moment<'a> {
-        if number == 0 {
-            return self.moment_at(self.text.len());
-        }
-        match self.places.get(number - 1) {
-            Some(place) => self.moment_at(*place),
-            None => self.moment_at(self.text.len()),
+    pub fn moment(&self, number: usize) -> Moment<'a>
+        ensures { seen result ≡ moment_or_nothing (moments self.now) number }
+    {
+        match self.place(number) {
+            Some(place) => self.moment_at(place),
+            None => no_moment(),
         }
     }
 
+    // Where the moment of this number begins, from 1.
+    fn place(&self, number: usize) -> Option<usize>
+        ensures { result ≡ numbered self.now.places.items number }
+    {
+        if number == 0 {
+            return None;
+        }
+        self.places.get(number - 1).copied()
+    }
+
     /// The places of the moments up to this one.
-    pub fn up_to(&self, number: usize) -> &[usize] {
+    pub fn up_to(&self, number: usize) -> &[usize]
+        ensures { result.now ≡ take number self.now.places.items }
+    {
         match self.places.get(..number) {
             Some(places) => places,
             None => self.places.as_slice(),
@@ -120,7 +140,9 @@ impl<'a> Trace<'a> {
     }
 
     /// The places of the moments before this one.
-    pub fn before(&self, number: usize) -> &[usize] {
+    pub fn before(&self, number: usize) -> &[usize]
+        ensures { result.now ≡ take (number - 1) self.now.places.items }
+    {
         if number == 0 {
             return &[];
         }

@@ -1,5 +1,13 @@
 //! What is kept of the moments that were passed.
 
+ghost use Rattle.std.specs.Prelude.{◌≡◌, ℕ, ◌==◌, ◌||◌, nat_eq, List, [], ◌∷◌};
+ghost use Rattle.std.specs.Result.{OnOk};
+ghost use Rattle.std.specs.HashSet.{contains};
+ghost use Rattle.lsl_seek.specs.Aims.{is_within};
+ghost use Rattle.lsl_seek.specs.Moments.{Moment as Told, seen};
+ghost use Rattle.lsl_seek.specs.Watches.{Watches, WatchesAt};
+ghost use Rattle.lsl_seek.specs.declared.aim.Aim.{Aim as TheAim};
+
 use crate::aim::Aim;
 use crate::bytes::cut;
 use crate::entry::{Slot, Sort, parse_set};
@@ -35,7 +43,9 @@ pub struct Watch<'a> {
 
 impl<'a> Watch<'a> {
     /// Nothing was seen.
-    pub fn new(alloc: Global) -> Watch<'a> {
+    pub fn new(alloc: Global) -> Watch<'a>
+        ensures { (aim : TheAim) → Watches aim result [] }
+    {
         Watch {
             stop: None,
             is_taken: false,
@@ -47,7 +57,9 @@ impl<'a> Watch<'a> {
     }
 
     /// Comes to a moment.
-    pub fn come(&mut self, aim: &Aim, moment: &Moment<'a>) -> Result<(), NoMemory> {
+    pub fn come(&mut self, aim: &Aim, moment: &Moment<'a>) -> Result<(), NoMemory>
+        ensures { OnOk result ((past : List Told) → Watches aim.now self.old past → WatchesAt aim.now self.new (seen moment.now) past) }
+    {
         match aim {
             Aim::Outside(_, call) => self.enter(*call, moment),
             Aim::If(_) | Aim::Changes(_) => self.set(moment),
@@ -56,32 +68,51 @@ impl<'a> Watch<'a> {
     }
 
     /// Leaves the moment.
-    pub fn go(&mut self, moment: &Moment<'a>) {
+    pub fn go(&mut self, moment: &Moment<'a>)
+        ensures { (aim : TheAim) (past : List Told) → WatchesAt aim self.old (seen moment.now) past → Watches aim self.new (seen moment.now ∷ past) }
+    {
         if moment.sort.is_stop() {
             self.stop = Some((moment.entry.step, moment.entry.segment));
             self.is_taken = false;
             let script = moment.entry.script;
             self.news.retain(|it| it.script != script);
         }
-        if moment.sort == Sort::Took {
+        if matches!(moment.sort, Sort::Took) {
             self.is_taken = true;
         }
         self.before = moment.entry.mark;
     }
 
-    fn enter(&mut self, call: u32, moment: &Moment<'a>) -> Result<(), NoMemory> {
-        let outer = moment.entry.outer;
-        if moment.entry.mark != 0 {
-            if outer == call || self.inner.contains(&outer) {
-                self.inner.insert(moment.entry.serial)?;
-            } else {
-                let _ = self.inner.remove(&moment.entry.serial);
-            }
+    fn enter(&mut self, call: u32, moment: &Moment<'a>) -> Result<(), NoMemory>
+        ensures stop { self.new.stop ≡ self.old.stop }
+        ensures taken { self.new.is_taken ≡ self.old.is_taken }
+        ensures before { self.new.before ≡ self.old.before }
+        ensures inner { OnOk result ((past : List Told) → ((q : ℕ) → contains nat_eq self.old.inner q ≡ is_within call q past)
+            → (q : ℕ) → contains nat_eq self.new.inner q ≡ is_within call q (seen moment.now ∷ past)) }
+    {
+        if moment.entry.mark == 0 {
+            return Ok(());
+        }
+        if self.encloses(call, moment.entry.outer) {
+            self.inner.insert(moment.entry.serial)?;
+        } else {
+            let _ = self.inner.remove(&moment.entry.serial);
         }
         Ok(())
     }
 
-    fn set(&mut self, moment: &Moment<'a>) -> Result<(), NoMemory> {
+    // Whether a call is the aim's or within it.
+    fn encloses(&self, call: u32, serial: u32) -> bool
+        ensures { result ≡ (serial == call || contains nat_eq self.now.inner serial) }
+    {
+        serial == call || self.inner.contains(&serial)
+    }
+
+    fn set(&mut self, moment: &Moment<'a>) -> Result<(), NoMemory>
+        ensures stop { self.new.stop ≡ self.old.stop }
+        ensures taken { self.new.is_taken ≡ self.old.is_taken }
+        ensures before { self.new.before ≡ self.old.before }
+    {
         if moment.entry.mark == 0 {
             return Ok(());
         }
