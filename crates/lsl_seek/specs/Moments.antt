@@ -16,7 +16,7 @@ pub record Moment : Type 0 where
   pub sets : List Value
 
 abbrev pub seen : TheMoment → Moment
-seen m = record { line = line m.entry; sort = m.sort; sets = sets_of m.behind.now }
+seen m = record { line = line m.entry; sort = m.sort; sets = sets_of m.sets.now }
 
 -- a moment of no script
 abbrev pub nothing : Moment

@@ -2,14 +2,13 @@
 
 ghost use Rattle.std.specs.Prelude.{◌≡◌, ◌==◌, ◌&&◌, false, List};
 ghost use Rattle.std.specs.Option.{option_map};
-ghost use Rattle.std.specs.Str.{bytes_eq};
-ghost use Rattle.lsl_seek.specs.Aims.{asks_values, contains, event_of, files_of, is_at, is_begun, is_entered, is_file, is_in, is_on_line, is_script, last_part, meets, unquoted};
+ghost use Rattle.lsl_seek.specs.Aims.{asks_values, files_of, is_at, is_begun, is_entered, is_file, is_in, is_on_line, is_script, meets};
 ghost use Rattle.lsl_seek.specs.Watches.{WatchesAt};
 ghost use Rattle.lsl_seek.specs.Moments.{Moment as Told, marks_of, numbered, seen};
 
-use crate::bytes::cut;
 use crate::entry::{Slot, Sort};
 use crate::tables::Name;
+use crate::texts::{contains, is_event, last_part, unquoted};
 use crate::trace::{Moment, Trace};
 use crate::watch::{Variable, Watch};
 
@@ -110,7 +109,9 @@ impl<'a> Aim<'a> {
                     && is_event(entry.said, *name)
                     && is_script(*script, entry.script)
             }
-            Aim::Said(text) => { matches!(moment.sort, Sort::Speech) && contains(entry.said, *text) }
+            Aim::Said(text) => {
+                matches!(moment.sort, Sort::Speech) && contains(entry.said, *text)
+            }
             Aim::Fault => matches!(moment.sort, Sort::Fault),
         }
     }
@@ -229,26 +230,6 @@ fn global<'a, 'b>(names: &'b [Name<'a>], unit: u32, name: &[u8]) -> Option<&'b N
     names.iter().find(|it| it.of == unit && it.name == name)
 }
 
-/// The text between its quotes, without what follows the second one.
-#[tactic(auto, unfolding(crate::specs::Aims::unquoted))]
-pub fn unquoted(text: &[u8]) -> &[u8]
-    ensures { result.now ≡ unquoted text.now }
-{
-    match text {
-        [b'"', inner @ .., b'"'] => inner,
-        [b'"', inner @ .., b'"', b'.', b'.'] => inner,
-        _ => text,
-    }
-}
-
-// What follows the last dot.
-fn last_part(routine: &[u8]) -> &[u8]
-    ensures { result.now ≡ last_part routine.now }
-{
-    let (first, behind) = cut(routine, b'.');
-    if behind.is_empty() { first } else { behind }
-}
-
 fn is_script(wanted: Option<u32>, script: u32) -> bool
     ensures { result ≡ is_script wanted script }
 {
@@ -256,27 +237,6 @@ fn is_script(wanted: Option<u32>, script: u32) -> bool
         Some(wanted) => wanted == script,
         None => true,
     }
-}
-
-fn is_event(said: &[u8], name: &[u8]) -> bool
-    ensures { result ≡ bytes_eq (event_of said.now) name.now }
-{
-    let behind = cut(said, b' ').1;
-    let behind = cut(behind, b' ').1;
-    cut(behind, b' ').0 == name
-}
-
-fn contains(text: &[u8], part: &[u8]) -> bool
-    ensures { result ≡ contains text.now part.now }
-{
-    let mut rest = text;
-    'bytes: while let [_, more @ ..] = rest {
-        if rest.starts_with(part) {
-            return true;
-        }
-        rest = more;
-    }
-    part.is_empty()
 }
 
 impl<'a> Test<'a> {

@@ -8,7 +8,7 @@ ghost use Rattle.lsl_seek.specs.Bytes.{Sees, after, before, is_not, is_word, num
 /// What comes before the first such byte, and what after it. Without one it is the whole text, and nothing.
 pub fn cut(text: &[u8], by: u8) -> (&[u8], &[u8])
     ensures front { result.0.now ≡ before by text.now }
-    ensures behind { result.1.now ≡ after by text.now }
+    ensures rest { result.1.now ≡ after by text.now }
     ensures shorter { 0 < length text.now → length result.1.now < length text.now }
 {
     let end = length_before(text, by);
@@ -63,20 +63,20 @@ fn longer(n: u32, digit: u32) -> Option<u32>
 pub fn take_number(text: &[u8]) -> Option<(u32, &[u8])>
     ensures { Sees (λ x. (x.0, x.1.now)) result (number_at text.now) }
 {
-    let (word, behind) = cut(text, b' ');
+    let (word, after) = cut(text, b' ');
     let n = number(word)?;
-    Some((n, behind))
+    Some((n, after))
 }
 
 /// The word that a text begins with, up to its first space, and what comes after the space.
 pub fn take_word(text: &[u8]) -> Option<(&[u8], &[u8])>
     ensures { Sees (λ x. (x.0.now, x.1.now)) result (word_at text.now) }
 {
-    let (word, behind) = cut(text, b' ');
+    let (word, after) = cut(text, b' ');
     if word.is_empty() {
         return None;
     }
-    Some((word, behind))
+    Some((word, after))
 }
 
 /// Whether a text is one word: it has no space and isn't empty.

@@ -129,8 +129,8 @@ pub fn parse_said(text: &[u8]) -> Option<Entry>
 {
     let (step, text) = take_number(text)?;
     let (segment, said) = take_number(text)?;
-    let (first, behind) = take_word(said)?;
-    let (owner, _) = take_number(behind)?;
+    let (first, after) = take_word(said)?;
+    let (owner, _) = take_number(after)?;
     let script = match first {
         b"home" => 0,
         _ => owner,
@@ -151,10 +151,10 @@ pub fn parse_said(text: &[u8]) -> Option<Entry>
 pub fn parse_entry(text: &[u8]) -> Option<Entry>
     ensures { Sees line result (entry_of text.now) }
 {
-    let (first, behind) = cut(text, b' ');
+    let (first, after) = cut(text, b' ');
     match first {
-        b"at" => parse_at(behind),
-        b"said" => parse_said(behind),
+        b"at" => parse_at(after),
+        b"said" => parse_said(after),
         _ => None,
     }
 }
@@ -196,9 +196,9 @@ pub struct Set<'a> {
 pub fn parse_set(text: &[u8]) -> Option<Set>
     ensures { Sees value result (set_of text.now) }
 {
-    let (first, behind) = cut(text, b' ');
+    let (first, after) = cut(text, b' ');
     match first {
-        b"set" => parse_set_words(behind),
+        b"set" => parse_set_words(after),
         _ => None,
     }
 }

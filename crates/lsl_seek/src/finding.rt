@@ -82,12 +82,7 @@ impl<'a> Trace<'a> {
         }
     }
 
-    fn first_after(
-        &self,
-        alloc: Global,
-        from: usize,
-        aim: &Aim,
-    ) -> Result<Option<usize>, NoMemory>
+    fn first_after(&self, alloc: Global, from: usize, aim: &Aim) -> Result<Option<usize>, NoMemory>
         ensures { asks_values aim.now ≡ false → IfOk result (λ found. IsFirst self.now aim.now from found) }
     {
         let mut watch = Watch::new(alloc);
@@ -100,12 +95,7 @@ impl<'a> Trace<'a> {
         Ok(None)
     }
 
-    fn last_before(
-        &self,
-        alloc: Global,
-        from: usize,
-        aim: &Aim,
-    ) -> Result<Option<usize>, NoMemory>
+    fn last_before(&self, alloc: Global, from: usize, aim: &Aim) -> Result<Option<usize>, NoMemory>
         ensures { asks_values aim.now ≡ false → IfOk result (λ found. IsLast self.now aim.now from found) }
     {
         let mut watch = Watch::new(alloc);

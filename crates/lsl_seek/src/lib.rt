@@ -12,6 +12,7 @@ mod finding;
 mod moves;
 mod showing;
 mod tables;
+mod texts;
 mod trace;
 mod watch;
 

@@ -175,16 +175,16 @@ fn is_hidden(name: &Name, later: &[Name]) -> bool {
 // The value that a variable gets at a moment.
 fn value_in<'a>(moment: &Moment<'a>, variable: Variable) -> Option<&'a [u8]> {
     let mut found = None;
-    let mut rest = moment.behind;
+    let mut rest = moment.sets;
     'sets: while !rest.is_empty() {
-        let (line, behind) = cut(rest, b'\n');
+        let (line, after) = cut(rest, b'\n');
         let Some(set) = parse_set(line) else {
             return found;
         };
         if set.serial == variable.serial && set.slot == variable.slot {
             found = Some(set.value);
         }
-        rest = behind;
+        rest = after;
     }
     found
 }

@@ -38,13 +38,13 @@ pub enum Row<'a> {
 
 /// The row of a line, if it is one of the tables.
 pub fn parse_row(line: &[u8]) -> Option<Row> {
-    let (first, behind) = cut(line, b' ');
+    let (first, after) = cut(line, b' ');
     match first {
-        b"file" => Some(Row::File(parse_file(behind)?)),
-        b"script" => Some(Row::Script(parse_script(behind)?)),
-        b"global" => Some(Row::Global(parse_name(behind)?)),
-        b"mark" => Some(Row::Mark(parse_mark(behind)?)),
-        b"name" => Some(Row::Name(parse_name(behind)?)),
+        b"file" => Some(Row::File(parse_file(after)?)),
+        b"script" => Some(Row::Script(parse_script(after)?)),
+        b"global" => Some(Row::Global(parse_name(after)?)),
+        b"mark" => Some(Row::Mark(parse_mark(after)?)),
+        b"name" => Some(Row::Name(parse_name(after)?)),
         _ => None,
     }
 }

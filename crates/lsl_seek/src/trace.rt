@@ -34,7 +34,7 @@ pub struct Trace<'a> {
 pub struct Moment<'a> {
     pub entry: Entry<'a>,
     pub sort: Sort,
-    pub behind: &'a [u8],
+    pub sets: &'a [u8],
 }
 
 impl<'a> Trace<'a> {
@@ -53,11 +53,11 @@ impl<'a> Trace<'a> {
         let mut rest = text;
         let mut number: usize = 1;
         'lines: while !rest.is_empty() {
-            let (line, behind) = cut(rest, b'\n');
+            let (line, after) = cut(rest, b'\n');
             if !trace.add(line, text.len() - rest.len())? {
                 return Err(Refusal::Fault(SeekFault::Line(number)));
             }
-            rest = behind;
+            rest = after;
             number += 1;
         }
         Ok(trace)
@@ -154,12 +154,12 @@ impl<'a> Trace<'a> {
     pub fn moment_at(&self, place: usize) -> Moment<'a>
         ensures { seen result ≡ moment_of (marks_of self.now) (drop place self.now.text.now) }
     {
-        let (line, behind) = cut(self.text_from(place), b'\n');
+        let (line, after) = cut(self.text_from(place), b'\n');
         match parse_entry(line) {
             Some(entry) => Moment {
                 sort: self.sort(&entry),
                 entry,
-                behind,
+                sets: after,
             },
             None => no_moment(),
         }
@@ -257,6 +257,6 @@ fn no_moment() -> Moment<'static>
             said: b"",
         },
         sort: Sort::Apart,
-        behind: b"",
+        sets: b"",
     }
 }

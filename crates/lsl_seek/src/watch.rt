@@ -116,9 +116,9 @@ impl<'a> Watch<'a> {
         if moment.entry.mark == 0 {
             return Ok(());
         }
-        let mut rest = moment.behind;
+        let mut rest = moment.sets;
         'sets: while !rest.is_empty() {
-            let (line, behind) = cut(rest, b'\n');
+            let (line, after) = cut(rest, b'\n');
             let Some(set) = parse_set(line) else {
                 return Ok(());
             };
@@ -133,7 +133,7 @@ impl<'a> Watch<'a> {
                     self.news.push(variable)?;
                 }
             }
-            rest = behind;
+            rest = after;
         }
         Ok(())
     }

@@ -1,7 +1,7 @@
 use Rattle.std.proofs.Common.{◌≡◌, sym, ◌∙◌, arith, refl, take, drop, length, ◌-◌}
 use Rattle.std.proofs.lemmas.Grind.{common_steps}
 use Rattle.lsl_seek.proofs.Contains.{contains-found, contains-more, contains-end}
-use Rattle.lsl_seek.proofs.aim.contains.Goals as goal
+use Rattle.lsl_seek.proofs.texts.contains.Goals as goal
 
 pub returns-then-starts_with : goal.returns-then-starts_with
 returns-then-starts_with c =
