@@ -1,5 +1,5 @@
 -- A part sought at each byte of a text.
-use Rattle.std.proofs.Common.{◌≡◌, ℕ, ◌==◌, ◌<◌, ◌≤◌, Bool, true, false, nat_eq, List, [], ◌∷◌, length, drop, refl, sym, ap, ◌∙◌, arith, ◌||◌}
+use Rattle.std.proofs.Common.{◌≡◌, ℕ, ◌==◌, ◌<◌, ◌≤◌, true, false, nat_eq, List, [], ◌∷◌, length, drop, refl, sym, ap, ◌∙◌, arith, ◌||◌}
 use Rattle.std.specs.List.{starts_with}
 use Rattle.lsl_seek.specs.Aims.{contains}
 

@@ -1,13 +1,13 @@
 -- From moment to moment.
-use Rattle.std.proofs.Common.{◌≡◌, ℕ, suc, ◌+◌, ◌<◌, ◌≤◌, Bool, true, false, cond, ◌&&◌, ◌==◌, ◌-◌, nat_eq, List, [], ◌∷◌, length, drop, get_or, map, Option, Some, None, refl, ⊎_elim, sym, ap, subst, ◌∙◌, add-one, arith}
+use Rattle.std.proofs.Common.{◌≡◌, ℕ, ◌+◌, ◌<◌, ◌≤◌, Bool, true, false, cond, ◌&&◌, ◌==◌, ◌-◌, nat_eq, List, [], ◌∷◌, length, drop, get_or, map, Option, Some, None, refl, ⊎_elim, sym, ap, subst, ◌∙◌, add-one, arith}
 use Rattle.std.specs.HashSet.{contains}
 use Rattle.std.specs.Option.{option_map, unwrap_or}
 use Rattle.std.specs.Prelude.{nat_le, slice_get}
 use Rattle.std.proofs.lemmas.Bool.{cases_lt, le-leb, lt-leb}
 use Rattle.std.proofs.lemmas.List.{length-map}
 use Rattle.std.proofs.lemmas.Option.{slice_get-get_or, slice_get-map, slice_get_within}
-use Rattle.lsl_seek.specs.Aims.{is_within, asks_values, meets}
-use Rattle.lsl_seek.specs.Finding.{met, met_at, IsFirst, IsFirstAt, LastUpTo, NoneUpTo}
+use Rattle.lsl_seek.specs.Aims.{is_within, meets}
+use Rattle.lsl_seek.specs.Finding.{met, met_at, IsFirstAt, LastUpTo, NoneUpTo}
 use Rattle.lsl_seek.specs.Moments.{Moment, marks_of, moment_of, moments, moment_or_nothing, nothing, numbered, onto, up_to}
 use Rattle.lsl_seek.specs.Watches.{Encloses, Watches, WatchesAt}
 use Rattle.lsl_seek.specs.declared.aim.Aim.{Aim}

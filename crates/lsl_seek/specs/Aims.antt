@@ -1,16 +1,16 @@
 -- What a moment is, that a move looks for.
-use Rattle.std.specs.Prelude.{ℕ, ◌+◌, ◌-◌, ◌==◌, nat_eq, nat_le, nat_lt, Bool, true, false, not, cond, ◌&&◌, ◌||◌, List, [], ◌∷◌, length, map, slice_index, slice_range, Option, Some, None}
+use Rattle.std.specs.Prelude.{ℕ, ◌-◌, ◌==◌, nat_eq, nat_le, nat_lt, Bool, true, false, not, cond, ◌&&◌, ◌||◌, List, [], ◌∷◌, length, map, slice_index, slice_range, Option, Some, None}
 use Rattle.std.specs.List.{starts_with}
 use Rattle.std.specs.Option.{option_map}
 use Rattle.std.specs.Str.{bytes_eq}
 use Rattle.lsl_seek.specs.Bytes.{before, after}
-use Rattle.lsl_seek.specs.Entries.{Line, is_stop}
+use Rattle.lsl_seek.specs.Entries.{is_stop}
 use Rattle.lsl_seek.specs.Tables.{Place}
 use Rattle.lsl_seek.specs.Moments.{Moment, numbered, marks_of}
 use Rattle.lsl_seek.specs.declared.aim.Aim.{Aim}
 use Rattle.lsl_seek.specs.declared.aim.Aim.TheVariants.{Any, From, Of, Outside, Segment, Turn, Handler, Line as AtLine, Routine, If, Changes, Event, Said, Fault as AtFault}
 use Rattle.lsl_seek.specs.declared.entry.Sort.{Sort}
-use Rattle.lsl_seek.specs.declared.entry.Sort.TheVariants.{Enter, Statement, Again, Leave, Note, Took, Done, Fault, Speech, Apart, Other}
+use Rattle.lsl_seek.specs.declared.entry.Sort.TheVariants.{Enter, Statement, Again, Took, Fault, Speech}
 use Rattle.lsl_seek.specs.declared.trace.Trace.{Trace}
 
 abbrev pub is_enter : Sort → Bool

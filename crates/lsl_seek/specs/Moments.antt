@@ -3,7 +3,7 @@ use Rattle.std.specs.Prelude.{ℕ, zero, suc, ◌-◌, ◌==◌, cond, List, [],
 use Rattle.std.specs.Option.{unwrap_or}
 use Rattle.lsl_seek.specs.Bytes.{before, after}
 use Rattle.lsl_seek.specs.Entries.{Line, Value, line, entry_of, sets_of, sort_of_word}
-use Rattle.lsl_seek.specs.Tables.{Place, Variable, place, variable}
+use Rattle.lsl_seek.specs.Tables.{Place, place}
 use Rattle.lsl_seek.specs.declared.entry.Sort.{Sort}
 use Rattle.lsl_seek.specs.declared.entry.Sort.TheVariants.{Note, Apart}
 use Rattle.lsl_seek.specs.declared.trace.Moment.{Moment as TheMoment}

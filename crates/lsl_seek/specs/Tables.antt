@@ -1,7 +1,6 @@
 -- The lines of the tables.
-use Rattle.std.specs.Prelude.{ℕ, ◌+◌, ◌-◌, ◌==◌, nat_le, nat_lt, Bool, not, cond, ◌&&◌, ◌||◌, List, [], ◌∷◌, take, length, slice_index, codes, Option, Some, None}
-use Rattle.std.specs.Str.{bytes_eq}
-use Rattle.lsl_seek.specs.Bytes.{◌>>=◌, before, after, is_word, word_at, number_of, number_at}
+use Rattle.std.specs.Prelude.{ℕ, cond, List, Option, Some, None}
+use Rattle.lsl_seek.specs.Bytes.{◌>>=◌, is_word, word_at, number_of, number_at}
 use Rattle.lsl_seek.specs.Entries.{mark_sort, slot_of}
 use Rattle.lsl_seek.specs.declared.entry.Slot.{Slot}
 use Rattle.lsl_seek.specs.declared.entry.Sort.{Sort}

@@ -1,5 +1,5 @@
 -- What a watch knows of the moments that were passed.
-use Rattle.std.specs.Prelude.{◌≡◌, ℕ, Bool, nat_eq, List, ◌∷◌}
+use Rattle.std.specs.Prelude.{◌≡◌, ℕ, nat_eq, List, ◌∷◌}
 use Rattle.std.specs.HashSet.{contains}
 use Rattle.lsl_seek.specs.Aims.{is_within, mark_before, stop_place, took_since}
 use Rattle.lsl_seek.specs.Moments.{Moment}

@@ -1,4 +1,4 @@
-use Rattle.std.proofs.Common.{◌≡◌, ◌+◌, ◌*◌, ◌<◌, Option, None, sym, arith, ◌∙◌, length, drop}
+use Rattle.std.proofs.Common.{sym, arith, ◌∙◌}
 use Rattle.std.proofs.lemmas.Grind.{common_steps}
 use Rattle.lsl_seek.proofs.Numbers.{no_digits, no_digit, digit_too_many, digits_read, all_read}
 use Rattle.lsl_seek.proofs.bytes.number.Goals as goal

@@ -1,4 +1,4 @@
-use Rattle.std.proofs.Common.{◌≡◌, sym, ◌∙◌, arith, refl, take, drop, length, ◌-◌}
+use Rattle.std.proofs.Common.{◌≡◌, sym, ◌∙◌, arith, take, drop, length, ◌-◌}
 use Rattle.std.proofs.lemmas.Grind.{common_steps}
 use Rattle.lsl_seek.proofs.Contains.{contains-found, contains-more, contains-end}
 use Rattle.lsl_seek.proofs.texts.contains.Goals as goal

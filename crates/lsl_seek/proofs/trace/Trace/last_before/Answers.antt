@@ -1,9 +1,9 @@
-use Rattle.std.proofs.Common.{◌≡◌, ℕ, ◌+◌, ◌-◌, ◌<◌, ◌≤◌, min, List, length, get_or, sym, ap, subst, ◌∙◌, arith}
+use Rattle.std.proofs.Common.{◌≡◌, ℕ, ◌+◌, ◌-◌, ◌<◌, min, List, length, get_or, sym, ap, subst, ◌∙◌, arith}
 use Rattle.std.proofs.lemmas.List.{get_or-take, length-take}
 use Rattle.lsl_seek.specs.Finding.{LastUpTo}
 use Rattle.lsl_seek.specs.Moments.{moments, up_to}
 use Rattle.lsl_seek.specs.Watches.{Watches}
-use Rattle.lsl_seek.proofs.Watching.{length-moments, passed-first, passed-last, passed-none, passed-watch, up_to-none}
+use Rattle.lsl_seek.proofs.Watching.{length-moments, passed-last, passed-watch, up_to-none}
 use Rattle.lsl_seek.proofs.trace.Trace.last_before.Goals as goal
 
 pub moments-init : goal.moments-init
