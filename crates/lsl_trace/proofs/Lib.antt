@@ -1,2 +1,3 @@
+mod Below
 mod CopiesRead
 mod Endings

@@ -2,12 +2,15 @@
 
 ghost use Rattle.std.specs.Prelude.{◌≡◌, ◌≤◌, length, option_map};
 ghost use Rattle.std.specs.List.{find};
+ghost use Rattle.lsl_ports.specs.Counts.{NoneFell};
 ghost use Rattle.lsl_ports.specs.Shelf.{Copies as CopiesBytes};
-ghost use Rattle.lsl_trace.specs.Copies.{held_over, is_named};
+ghost use Rattle.lsl_trace.specs.Copies.{faults_over, held_over, is_named};
 
+use crate::replaying::replay;
 use lsl_marks::{Part, push_number};
-use lsl_ports::{Failed, Shelf};
+use lsl_ports::{Failed, Link, Shelf, Sink};
 use lsl_text::{NoMemory, push_quoted};
+use lsl_top::Status;
 use std::alloc::Global;
 
 /// The object that is touched: a script of its own, and no event but touches.
@@ -39,7 +42,10 @@ pub struct Copies<'a, S> {
 }
 
 impl<'a, S: Shelf> Copies<'a, S> {
-    pub fn new(shelf: &'a mut S, copies: &'a [Replaced]) -> Copies<'a, S> {
+    pub fn new(shelf: &'a mut S, copies: &'a [Replaced]) -> Copies<'a, S>
+        ensures same_shelf { result.shelf.ghost_name ≡ shelf.entry.ghost_name }
+        ensures below { result.shelf.now ≡ shelf.old }
+    {
         Copies { shelf, copies }
     }
 }
@@ -47,7 +53,7 @@ impl<'a, S: Shelf> Copies<'a, S> {
 impl<S: Shelf> Shelf for Copies<'_, S> {
     ghost held = { λ s. held_over s.copies.now (S.held s.shelf.now) };
 
-    ghost faults = { λ s. S.faults s.shelf.now };
+    ghost faults = { λ s. faults_over s.shelf.ghost_name (S.faults s.shelf.now) };
 
     fn read(&mut self, name: &str, place: u64, piece: &mut [u8]) -> Result<usize, Failed> {
         match copy_of(self.copies, name) {
@@ -55,6 +61,22 @@ impl<S: Shelf> Shelf for Copies<'_, S> {
             None => self.shelf.read(name, place, piece),
         }
     }
+}
+
+/// Replays a world over copies, which stay over the same shelf, and only read it.
+pub fn replay_copies<S: Shelf, K: Sink, L: Link>(
+    alloc: Global,
+    world: &str,
+    copies: &mut Copies<'_, S>,
+    sink: &mut K,
+    link: &mut L,
+) -> Result<Status, NoMemory>
+    ensures same_shelf { copies.new.shelf.ghost_name ≡ copies.old.shelf.ghost_name }
+    ensures unchanged { S.held copies.new.shelf.now ≡ S.held copies.old.shelf.now }
+    ensures counted { NoneFell (S.faults copies.old.shelf.now) (S.faults copies.new.shelf.now)
+        × (L.faults link.old ≤ L.faults link.new) }
+{
+    replay(alloc, world, copies, sink, link)
 }
 
 /// The first file that is in place of the one of this name.

@@ -1,11 +1,12 @@
 //! The runs of the copies, until they do what the scripts do: a script that does something else with its markers gets
 //! fewer of them, and the others keep theirs.
 
-ghost use Rattle.std.specs.Prelude.{IfOk};
+ghost use Rattle.std.specs.Prelude.{◌≡◌, ◌≤◌, IfOk};
+ghost use Rattle.lsl_ports.specs.Counts.{NoneFell};
 ghost use Rattle.lsl_marks.specs.Said.{Says};
 
-use crate::copies::{Copies, Counted, Replaced, parted_world, touched};
-use crate::replaying::{MAX_JOURNAL_BYTES, replay};
+use crate::copies::{Copies, Counted, Replaced, parted_world, replay_copies, touched};
+use crate::replaying::MAX_JOURNAL_BYTES;
 use crate::script::Script;
 use lsl_marks::{Guilty, MAX_SCRIPT_BYTES, Marker, Played, Tier, Told, Unit, read_told};
 use lsl_ports::{Link, MemorySink, Shelf};
@@ -80,8 +81,12 @@ impl World<'_> {
         units: &mut [Unit],
         shelf: &mut S,
         link: &mut L,
-    ) -> Result<Settled, NoMemory> {
-        for _ in 0..units.len().saturating_mul(4).saturating_add(1) {
+    ) -> Result<Settled, NoMemory>
+        ensures unchanged { S.held shelf.new ≡ S.held shelf.old }
+        ensures counted { NoneFell (S.faults shelf.old) (S.faults shelf.new)
+            × (L.faults link.old ≤ L.faults link.new) }
+    {
+        'attempts: for _ in 0..units.len().saturating_mul(4).saturating_add(1) {
             match self.attempt(alloc, units, shelf, link)? {
                 Attempt::Held(held) => return Ok(Settled::Held(held)),
                 Attempt::Full => return Ok(Settled::TooLong),
@@ -101,7 +106,11 @@ impl World<'_> {
         units: &[Unit],
         shelf: &mut S,
         link: &mut L,
-    ) -> Result<Attempt, NoMemory> {
+    ) -> Result<Attempt, NoMemory>
+        ensures unchanged { S.held shelf.new ≡ S.held shelf.old }
+        ensures counted { NoneFell (S.faults shelf.old) (S.faults shelf.new)
+            × (L.faults link.old ≤ L.faults link.new) }
+    {
         let mut copies = Vec::new(alloc);
         let mut markers = Vec::new(alloc);
         copies.push(Replaced {
@@ -114,7 +123,7 @@ impl World<'_> {
         }
         let mut journal = MemorySink::new(alloc, MAX_JOURNAL_BYTES, Vec::new(alloc))?;
         let mut shelf = Copies::new(shelf, copies.as_slice());
-        let status = replay(alloc, self.name, &mut shelf, &mut journal, link)?;
+        let status = replay_copies(alloc, self.name, &mut shelf, &mut journal, link)?;
         self.attempted(alloc, units, status, Held { markers, journal })
     }
 

@@ -2,7 +2,8 @@
 //! it.
 #![tactic(auto)]
 
-ghost use Rattle.std.specs.Prelude.{◌≡◌};
+ghost use Rattle.std.specs.Prelude.{◌≡◌, ◌≤◌};
+ghost use Rattle.lsl_ports.specs.Counts.{NoneFell};
 ghost use Rattle.lsl_top.specs.Ends.{outside};
 ghost use Rattle.lsl_trace.specs.Ended.{Comes, ComesOf, EndsSo, WritesAs, taken};
 
@@ -31,10 +32,14 @@ pub fn trace<S: Shelf, K: Sink, L: Link>(
     sink: &mut K,
     link: &mut L,
 ) -> Ended
-    ensures { EndsSo L.gives request.now
+    ensures ended { EndsSo L.gives request.now
         (outside (S.held shelf.old) (S.faults shelf.old) (K.sunk sink.old) (K.faults sink.old)
         (L.trips link.old) (L.faults link.old))
         (taken (K.sunk sink.old) (K.faults sink.old)) (taken (K.sunk sink.new) (K.faults sink.new)) result }
+    ensures unchanged { S.held shelf.new ≡ S.held shelf.old }
+    ensures counted { NoneFell (S.faults shelf.old) (S.faults shelf.new)
+        × (K.faults sink.old ≤ K.faults sink.new)
+        × (L.faults link.old ≤ L.faults link.new) }
 {
     match replay_plain(alloc, request.world, shelf, link) {
         Ok(run) => trace_run(alloc, request, &run, shelf, sink, link),
@@ -51,8 +56,12 @@ fn trace_run<S: Shelf, K: Sink, L: Link>(
     sink: &mut K,
     link: &mut L,
 ) -> Ended
-    ensures { ComesOf request.now run.now.status run.now.journal.taken
+    ensures ended { ComesOf request.now run.now.status run.now.journal.taken
         (taken (K.sunk sink.old) (K.faults sink.old)) (taken (K.sunk sink.new) (K.faults sink.new)) result }
+    ensures unchanged { S.held shelf.new ≡ S.held shelf.old }
+    ensures counted { NoneFell (S.faults shelf.old) (S.faults shelf.new)
+        × (K.faults sink.old ≤ K.faults sink.new)
+        × (L.faults link.old ≤ L.faults link.new) }
 {
     match run.status {
         Status::Ok => trace_replayed(alloc, request, run.journal.as_bytes(), shelf, sink, link),
@@ -70,8 +79,12 @@ fn trace_replayed<S: Shelf, K: Sink, L: Link>(
     sink: &mut K,
     link: &mut L,
 ) -> Ended
-    ensures { Comes request.now plain.now
+    ensures ended { Comes request.now plain.now
         (taken (K.sunk sink.old) (K.faults sink.old)) (taken (K.sunk sink.new) (K.faults sink.new)) result }
+    ensures unchanged { S.held shelf.new ≡ S.held shelf.old }
+    ensures counted { NoneFell (S.faults shelf.old) (S.faults shelf.new)
+        × (K.faults sink.old ≤ K.faults sink.new)
+        × (L.faults link.old ≤ L.faults link.new) }
 {
     match trace_text(alloc, request, plain, shelf, link) {
         Ok(Some(text)) => write(sink, text.as_slice(), Ended::Told),
@@ -82,8 +95,9 @@ fn trace_replayed<S: Shelf, K: Sink, L: Link>(
 
 /// Writes these bytes, and ends so.
 fn write<K: Sink>(sink: &mut K, bytes: &[u8], ended: Ended) -> Ended
-    ensures { WritesAs bytes.now ended
+    ensures ended { WritesAs bytes.now ended
         (taken (K.sunk sink.old) (K.faults sink.old)) (taken (K.sunk sink.new) (K.faults sink.new)) result }
+    ensures counted { K.faults sink.old ≤ K.faults sink.new }
 {
     match write_all(sink, bytes) {
         Ok(()) => ended,

@@ -1,6 +1,7 @@
 //! A replay of a world, over any outside.
 
-ghost use Rattle.std.specs.Prelude.{IfOk, None};
+ghost use Rattle.std.specs.Prelude.{◌≡◌, ◌≤◌, IfOk, None};
+ghost use Rattle.lsl_ports.specs.Counts.{NoneFell};
 ghost use Rattle.lsl_top.specs.Ends.{Ends, outside};
 ghost use Rattle.lsl_top.specs.Words.{command_of};
 ghost use Rattle.lsl_trace.specs.Ended.{Replays, replay_of};
@@ -27,9 +28,12 @@ pub fn replay_plain<S: Shelf, L: Link>(
     shelf: &mut S,
     link: &mut L,
 ) -> Result<Replayed, NoMemory>
-    ensures { IfOk result (λ run. Replays L.gives world.now
+    ensures replays { IfOk result (λ run. Replays L.gives world.now
         (outside (S.held shelf.old) (S.faults shelf.old) None 0 (L.trips link.old) (L.faults link.old))
         run.status run.journal.taken) }
+    ensures unchanged { S.held shelf.new ≡ S.held shelf.old }
+    ensures counted { NoneFell (S.faults shelf.old) (S.faults shelf.new)
+        × (L.faults link.old ≤ L.faults link.new) }
 {
     let mut journal = MemorySink::new(alloc, MAX_JOURNAL_BYTES, Vec::new(alloc))?;
     let status = replay(alloc, world, shelf, &mut journal, link)?;
@@ -44,11 +48,14 @@ pub fn replay<S: Shelf, K: Sink, L: Link>(
     sink: &mut K,
     link: &mut L,
 ) -> Result<Status, NoMemory>
-    ensures { IfOk result (Ends L.gives (replay_of world.now)
+    ensures ends { IfOk result (Ends L.gives (replay_of world.now)
         (outside (S.held shelf.old) (S.faults shelf.old) (K.sunk sink.old) (K.faults sink.old)
         (L.trips link.old) (L.faults link.old))
         (outside (S.held shelf.new) (S.faults shelf.new) (K.sunk sink.new) (K.faults sink.new)
         (L.trips link.new) (L.faults link.new))) }
+    ensures unchanged { S.held shelf.new ≡ S.held shelf.old }
+    ensures counted { NoneFell (S.faults shelf.old) (S.faults shelf.new)
+        × (L.faults link.old ≤ L.faults link.new) }
 {
     let words = [
         String::from_str(alloc, "replay")?,

@@ -1,5 +1,8 @@
 //! The scripts of a world, read from its files.
 
+ghost use Rattle.std.specs.Prelude.{◌≡◌};
+ghost use Rattle.lsl_ports.specs.Counts.{NoneFell};
+
 use lsl_lines::WorldFile;
 use lsl_marks::{MAX_SCRIPT_BYTES, Unit};
 use lsl_ports::{Shelf, ShelfFault, read_all};
@@ -11,9 +14,12 @@ pub fn read_units<S: Shelf>(
     alloc: Global,
     shelf: &mut S,
     world: &WorldFile,
-) -> Result<Vec<Unit>, ShelfFault> {
+) -> Result<Vec<Unit>, ShelfFault>
+    ensures unchanged { S.held shelf.new ≡ S.held shelf.old }
+    ensures counted { NoneFell (S.faults shelf.old) (S.faults shelf.new) }
+{
     let mut units = Vec::new(alloc);
-    for file in world.files.as_slice() {
+    'files: for file in world.files.as_slice() {
         let text = read_all(alloc, shelf, file.as_str(), MAX_SCRIPT_BYTES as u64)?;
         push_unit(&mut units, Unit::new(alloc, file.bytes(), text)?)?;
     }

@@ -1,6 +1,7 @@
 //! The text of a world's trace, from its plain journal.
 
-ghost use Rattle.std.specs.Prelude.{IfErr, IfSome, MatchResult};
+ghost use Rattle.std.specs.Prelude.{◌≡◌, ◌≤◌, IfErr, IfSome, MatchResult};
+ghost use Rattle.lsl_ports.specs.Counts.{NoneFell};
 ghost use Rattle.lsl_trace.specs.Early.{StopsEarly};
 ghost use Rattle.lsl_trace.specs.Texts.{Traces};
 
@@ -28,8 +29,11 @@ pub fn trace_text<S: Shelf, L: Link>(
     shelf: &mut S,
     link: &mut L,
 ) -> Result<Option<Vec<u8>>, Ended>
-    ensures { MatchResult result (λ found. IfSome found
+    ensures told { MatchResult result (λ found. IfSome found
         (λ text. Traces request.now.first request.now.last plain.now text.items)) StopsEarly }
+    ensures unchanged { S.held shelf.new ≡ S.held shelf.old }
+    ensures counted { NoneFell (S.faults shelf.old) (S.faults shelf.new)
+        × (L.faults link.old ≤ L.faults link.new) }
 {
     let bytes = read_all(alloc, shelf, request.world, MAX_WORLD_BYTES)?;
     let file = read_file(alloc, bytes.as_slice())?;
@@ -72,8 +76,11 @@ fn settled_text<S: Shelf, L: Link>(
     shelf: &mut S,
     link: &mut L,
 ) -> Result<Option<Vec<u8>>, Ended>
-    ensures { MatchResult result (λ found. IfSome found
+    ensures told { MatchResult result (λ found. IfSome found
         (λ text. Traces request.now.first request.now.last world.now.plain.now text.items)) StopsEarly }
+    ensures unchanged { S.held shelf.new ≡ S.held shelf.old }
+    ensures counted { NoneFell (S.faults shelf.old) (S.faults shelf.new)
+        × (L.faults link.old ≤ L.faults link.new) }
 {
     match world.settle(alloc, units, shelf, link)? {
         Settled::TooLong => Err(Ended::TooLong),
