@@ -1,12 +1,11 @@
 -- What a read gives of a shelf on which some files are replaced.
-use Rattle.std.proofs.Common.{◌≡◌, ℕ, ◌<◌, ◌≤◌, Bool, true, false, ◌==◌, List, drop, Option, Some, None, subst, if◌then◌else◌, arith}
+use Rattle.std.proofs.Common.{◌≡◌, ℕ, ◌<◌, false, List, Option, Some, None, subst, arith}
 use Rattle.std.specs.Prelude.{IfOk, Result, Ok, Err, slice_index}
 use Rattle.std.specs.List.{find}
 use Rattle.std.proofs.lemmas.Bool.Decides.{nat_tests}
 use Rattle.lsl_ports.specs.declared.Failed.{Failed}
-use Rattle.lsl_ports.specs.Counts.{NoneFell, Rose}
 use Rattle.lsl_ports.specs.Shelf.{Copies, CopiesFile, Files, Reads}
-use Rattle.lsl_trace.specs.Copies.{faults_aside, faults_over, held_over, is_aside, is_named, text_over}
+use Rattle.lsl_trace.specs.Copies.{held_over, is_aside, is_named, text_over}
 use Rattle.lsl_trace.specs.declared.copies.Replaced.{Replaced}
 
 -- a name of bytes isn't aside
@@ -35,20 +34,3 @@ module _ (all : List Replaced) (name : List ℕ) (place : ℕ) (piece : List ℕ
       → IfOk read (λ count. Reads (held_over all held) name place piece count)
   reads-other (Ok count) held e reads = reads-below count held e reads
   reads-other (Err fault) held e reads = tt
-
--- the counts of the shelf below tell those over it
-module _ (number : ℕ) (old new : List ℕ → ℕ) where
-  pub rose-over : (name : List ℕ) → is_aside name ≡ false → Rose (old name) (new name)
-      → Rose (faults_over number old name) (faults_over number new name)
-  rose-over name bytes rose = rw bytes rose
-
-  none-fell-aside : NoneFell old new → (name : List ℕ) → faults_aside number old name ≤ faults_aside number new name
-  none-fell-aside h name =
-      let mark : ℕ = if slice_index name 2 == number then 1 else 0 in
-      elim (slice_index name 1 == 0) as (λ (t : Bool). (if t then old (drop 2 name) else mark)
-      ≤ (if t then new (drop 2 name) else mark)) [ true ↦ h (drop 2 name) | false ↦ omega arith ]
-
-  pub none-fell-over : NoneFell old new → NoneFell (faults_over number old) (faults_over number new)
-  none-fell-over h name =
-      elim (is_aside name) as (λ (t : Bool). (if t then faults_aside number old name else old name)
-      ≤ (if t then faults_aside number new name else new name)) [ true ↦ none-fell-aside h name | false ↦ h name ]

@@ -90,8 +90,8 @@ IsReplayed gives request before status old new =
 abbrev pub IsBroken : (List ℕ → Option (List ℕ) → Type 0) → Request → Outside → Taken → Taken → Type 0
 IsBroken gives request before old new = (bytes : List ℕ) × CanWrite gives request before bytes × Breaks bytes old new
 
--- The trace ended so. Refused is as the world's replay ends; or the sink failed; or memory lacked or a file couldn't be
--- read again, and nothing was written.
+-- The trace ended so. Refused is as the world's replay ends; or the sink failed; or it was out of memory or a file
+-- couldn't be read again, and nothing was written.
 abbrev pub EndsSo : (List ℕ → Option (List ℕ) → Type 0) → Request → Outside → Taken → Taken → Ended → Type 0
 EndsSo gives request before old new Told = IsTold gives request before old new
 EndsSo gives request before old new (Refused status) =
