@@ -3,3 +3,4 @@ pub mod Faults
 pub mod Room
 pub mod Ended
 pub mod Headline
+pub mod Stepping

@@ -27,3 +27,8 @@ pub record IsRequest (word file bytes : List ℕ) (places : List Place) : Type 0
   pub is_word : IsUtf8 word
   pub is_file : IsUtf8 file
   pub are_places : All (λ (p : Place). IsTrue (is_in bytes p)) places
+
+-- a request for a file in its form: the file's name is a text, and all places lie within the bytes
+pub record IsAsked (file bytes : List ℕ) (places : List Place) : Type 0 where
+  pub is_file : IsUtf8 file
+  pub are_places : All (λ (p : Place). IsTrue (is_in bytes p)) places

@@ -1,17 +1,19 @@
 //! The top call for a page in a browser: a request comes as bytes, and what is written goes into a room that is lent.
 #![tactic(auto)]
 
-ghost use Rattle.std.specs.Prelude.{◌≡◌, ◌<◌, ◌≤◌, ◌∷◌, [], List, Some, length, take};
+ghost use Rattle.std.specs.Prelude.{◌≡◌, ◌<◌, ◌≤◌, ◌∷◌, [], IfOk, IsErrOf, List, None, Some, length, take};
 ghost use Rattle.lsl_lines.specs.declared.file.WorldFile.{WorldFile};
 ghost use Rattle.lsl_notes.specs.declared.cards.Notecard.{Notecard};
 ghost use Rattle.lsl_tree.specs.Program.{Program};
 ghost use Rattle.lsl_top.specs.Status.{number_of};
-ghost use Rattle.lsl_top.specs.Words.{Command, command_in};
+ghost use Rattle.lsl_top.specs.Words.{Command, State, command_in};
 ghost use Rattle.lsl_top.specs.declared.status.Status.TheVariants.{ReadFault, WriteFault};
 ghost use Rattle.lsl_page.specs.Ended.{EndedAs};
 ghost use Rattle.lsl_page.specs.Faults.{IsMissing};
 ghost use Rattle.lsl_page.specs.Headline.{Runs, WritesJournal};
-ghost use Rattle.lsl_page.specs.Request.{IsRequest, files_in};
+ghost use Rattle.lsl_page.specs.Request.{IsAsked, IsRequest, files_in};
+ghost use Rattle.lsl_page.specs.Stepping.{StateAs, TraceAs, position_of};
+ghost use Rattle.std.specs.Str.{IsUtf8};
 
 mod place;
 mod request_shelf;
@@ -92,6 +94,9 @@ pub extern "C" fn lsl_page_trace(
     page: &mut [u8],
     written: &mut usize,
 ) -> u8
+    // Below 9 the request is in its form, and the trace ended with this number.
+    ensures ended { result < 9 → TraceAs file.now first last bytes.now places.now result (length page.new)
+        (take written.new page.new) }
     ensures form { result ≡ 9 → ¬ IsAsked file.now bytes.now places.now }
     ensures nothing { 9 ≤ result → written.new ≡ 0 }
     ensures number { result ≤ 10 }
@@ -119,6 +124,9 @@ pub extern "C" fn lsl_page_seek(
     page: &mut [u8],
     written: &mut usize,
 ) -> u8
+    // At the number of a failed read the file isn't in the request; at that of a failed write the room is full.
+    ensures missing { result ≡ number_of ReadFault → files_in bytes.now places.now file.now ≡ None }
+    ensures full { result ≡ number_of WriteFault → written.new ≡ length page.new }
     ensures form { result ≡ 9 → ¬ (IsAsked file.now bytes.now places.now × IsUtf8 words.now) }
     ensures nothing { 9 ≤ result → written.new ≡ 0 }
     ensures number { result ≤ 10 }
@@ -145,6 +153,14 @@ pub extern "C" fn lsl_page_state(
     page: &mut [u8],
     written: &mut usize,
 ) -> u8
+    // Below 9 the request is in its form, and the state ended with the status of that number.
+    ensures ended { result < 9 → StateAs file.now (position_of step segment) bytes.now places.now result
+        (length page.new) (take written.new page.new) }
+    // At the number of a failed read a file that is named isn't in the request; at that of a failed write the room is
+    // full.
+    ensures missing { result ≡ number_of ReadFault
+        → IsMissing (files_in bytes.now places.now) (Some (State (position_of step segment) file.now)) }
+    ensures full { result ≡ number_of WriteFault → written.new ≡ length page.new }
     ensures form { result ≡ 9 → ¬ IsAsked file.now bytes.now places.now }
     ensures nothing { 9 ≤ result → written.new ≡ 0 }
     ensures number { result ≤ 10 }

@@ -1,8 +1,8 @@
 //! The files of a request, as a shelf.
-ghost use Rattle.std.specs.Prelude.{◌≡◌, ◌≤◌, Some, length, IfOk, OnErr, option_map};
+ghost use Rattle.std.specs.Prelude.{◌≡◌, ◌≤◌, All, IfErr, IfOk, IsTrue, OnErr, Some, length, option_map};
 ghost use Rattle.lsl_ports.specs.Counts.{NoneFell, Rose};
 ghost use Rattle.lsl_ports.specs.Shelf.{Copies, Reads};
-ghost use Rattle.lsl_page.specs.Request.{files_in};
+ghost use Rattle.lsl_page.specs.Request.{files_in, is_in};
 ghost use Rattle.lsl_page.specs.Faults.{faults_in};
 
 use crate::place::Place;

@@ -1,6 +1,12 @@
 //! What a debugger asks for: the trace of a world, the moment of a trace to which a move leads, and the state of a world
 //! at a position.
 
+ghost use Rattle.std.specs.Prelude.{◌≡◌, ◌≤◌, IfOk, IsErrOf, OnErr, Some, length, take};
+ghost use Rattle.lsl_top.specs.Words.{State};
+ghost use Rattle.lsl_page.specs.Ended.{Ended as EndedOver};
+ghost use Rattle.lsl_page.specs.Request.{IsAsked, files_in};
+ghost use Rattle.lsl_page.specs.Stepping.{number_of_trace, position_of, saturated};
+
 use crate::request_shelf::RequestShelf;
 use crate::returning_link::ReturningLink;
 use crate::room_sink::RoomSink;
@@ -14,7 +20,9 @@ use std::alloc::Global;
 
 /// The position in a world file, or none for the end of its steps, which is step 0. No world file has so many steps or
 /// segments that 32 bits are too few.
-pub fn position(step: usize, segment: usize) -> Option<Position> {
+pub fn position(step: usize, segment: usize) -> Option<Position>
+    ensures { result ≡ position_of step segment }
+{
     if step == 0 {
         return None;
     }
@@ -24,7 +32,9 @@ pub fn position(step: usize, segment: usize) -> Option<Position> {
     })
 }
 
-fn saturated(number: usize) -> u32 {
+fn saturated(number: usize) -> u32
+    ensures { result ≡ saturated number }
+{
     u32::try_from(number).unwrap_or(u32::MAX)
 }
 
@@ -91,7 +101,17 @@ pub fn write_state(
     at: Option<Position>,
     shelf: &mut RequestShelf<'_>,
     sink: &mut RoomSink<'_>,
-) -> Result<Status, Refused> {
+) -> Result<Status, Refused>
+    requires fresh { shelf.old.faults ≡ 0 }
+    requires empty { sink.old.count ≡ 0 }
+    requires calm { sink.old.faults ≡ 0 }
+    ensures request { IfOk result (λ _. IsAsked file.now shelf.old.bytes.now shelf.old.places.now) }
+    ensures form { IsErrOf result Refused.NotInForm → ¬ IsAsked file.now shelf.old.bytes.now shelf.old.places.now }
+    ensures same_room { sink.new.room.ghost_name ≡ sink.old.room.ghost_name }
+    ensures nothing { OnErr result (sink.new.count ≡ sink.old.count) }
+    ensures ended { IfOk result (λ status. EndedOver (files_in shelf.old.bytes.now shelf.old.places.now)
+        (Some (State at file.now)) (length sink.new.room.now) status (take sink.new.count sink.new.room.now)) }
+{
     shelf.check()?;
     let world = read_word(alloc, file)?;
     Ok(state(alloc, at, world.as_str(), shelf, sink, &mut ReturningLink))
