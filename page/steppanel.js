@@ -10,6 +10,7 @@ import { SAID } from "./trace.js";
 import { worldElements } from "./worldview.js";
 
 const at = id => document.getElementById(id);
+const MOST_CALLS = 200;
 
 export class StepPanel {
   // `module` is the promise of the module. The timeline follows each moment that is shown, and shows its world.
@@ -147,7 +148,10 @@ export class StepPanel {
     at("moment").value = view.stop;
     at("moment").setAttribute("aria-valuetext", this.placed);
     this.showCrossing(view);
-    at("calls").replaceChildren(...view.calls.flatMap((it, depth) => this.callElements(it, depth)));
+    const isDeep = view.calls.length > MOST_CALLS;
+    const seen = view.calls.slice(0, MOST_CALLS);
+    at("calls").replaceChildren(...seen.flatMap((it, depth) => this.callElements(it, depth)));
+    if (isDeep) at("calls").append(made("p", `and ${counted(view.calls.length - MOST_CALLS, "outer call")}`));
     if (!view.calls.length) at("calls").append(made("p", "no call is active"));
     at("globals").replaceChildren(...view.globals.map(it => this.variable(it)));
     at("globals-name").hidden = !view.globals.length;

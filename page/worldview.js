@@ -5,6 +5,7 @@ import { fields } from "./journal.js";
 import { quoted } from "./quoting.js";
 import { seconds } from "./telling.js";
 
+const MOST_LINES = 1500;
 // Stands for a word that isn't known.
 export const UNKNOWN = "?";
 
@@ -56,7 +57,7 @@ function rowOf([name, text]) {
   return row;
 }
 
-// The elements that show a state's lines. Of the script whose calls are shown beside them the variables are left out.
+// The elements that show a state's lines, as many as are made in a moment. Of the script whose calls are shown beside them the variables are left out.
 export function worldElements(lines, script) {
   const found = [];
   let [table, isHere] = [null, false];
@@ -64,7 +65,7 @@ export function worldElements(lines, script) {
     if (!table) found.push(table = made("table"));
     table.append(rowOf(row));
   };
-  for (const line of lines) {
+  for (const line of lines.slice(0, MOST_LINES)) {
     const [word, ...words] = wordsOf(line);
     if (word === "object" || word === "script") {
       isHere = word === "script" && Number(words[0]) === script;
@@ -76,5 +77,6 @@ export function worldElements(lines, script) {
       add(word === "global" ? [words[0], words.slice(1).join(" ")] : [`in ${words[0]}`, `line ${words[1]}`]);
     }
   }
+  if (lines.length > MOST_LINES) found.push(made("p", `and ${grouped(lines.length - MOST_LINES)} more lines`));
   return found;
 }

@@ -9,6 +9,9 @@ BROKEN = 'default {\n    state_entry() {\n        llOwnerSay("a"; // a comment\n
 WIDTHS = ((390, 844), (800, 900), (1400, 900))
 PICTURES = os.path.join(os.path.dirname(webpage.FOLDER), "pictures")
 PICTURE = places.in_top("out", "page.png")
+# The panel that steps through a run shows a moment and its world, where there is a panel.
+STEPPED = """document.getElementById("side-stepping") === null
+  || document.getElementById("stepping").dataset.state !== undefined"""
 
 
 def broken_rules(page):
@@ -64,7 +67,7 @@ def names_roles_and_contrast_keep_the_rules(page):
 
 @test
 def pictures_are_taken(page):
-    """For eyes: each width, light and dark. The page's own picture is one of them."""
+    """For eyes: each width, light and dark. The page's own picture is that of a first visit."""
     os.makedirs(PICTURES, exist_ok=True)
     page.fresh()
     page.example("door")
@@ -75,7 +78,9 @@ def pictures_are_taken(page):
             page.value("new Promise(done => setTimeout(() => done(true), 600))")
             page.tab.picture(os.path.join(PICTURES, f"{width}-{'dark' if is_dark else 'light'}.png"))
     page.tab.dark(False)
-    page.tab.resize(1280, 760)
+    page.tab.resize(1280, 860)
+    page.fresh()
+    page.tab.until(STEPPED)
     page.value("new Promise(done => setTimeout(() => done(true), 600))")
     page.tab.picture(PICTURE)
     page.tab.resize(1280, 800)
