@@ -11,7 +11,7 @@ import { worldElements } from "./worldview.js";
 const at = id => document.getElementById(id);
 const SLICE = 4000;
 const FOUND = 30;
-const KNOWN = "World, as far as the journal tells it";
+const KNOWN = "World, as far as the journal says";
 const counted = (count, noun) => `${count.toLocaleString("en")} ${noun}${count === 1 ? "" : "s"}`;
 
 export class View {
