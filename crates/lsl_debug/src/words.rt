@@ -1,5 +1,11 @@
 //! The words of a command.
 
+ghost use Rattle.std.specs.Prelude.{◌≡◌, map, option_map, string_bytes};
+ghost use Rattle.std.specs.Char.{is_ascii_digit};
+ghost use Rattle.std.specs.List.{list_all};
+ghost use Rattle.lsl_debug.specs.Meant.{meant_by};
+ghost use Rattle.lsl_debug.specs.Words.{Trace, command_named, command_of, for_file, names_file, number_in, position_in, seek_of, state_of, stops_of, trace_of, trace_to};
+
 use lsl_top::Position;
 use lsl_trace::Request;
 
@@ -36,30 +42,44 @@ impl<'a> Command<'a> {
 
 /// What the words ask for, or none where they are no command. Whether the words of a move are one is seen where it is
 /// made. It takes no memory.
-pub fn parse_words(words: &[String]) -> Option<Command<'_>> {
-    let (word, rest) = words.split_first()?;
-    match word.as_bytes() {
-        b"state" => parse_state(rest),
-        b"trace" => parse_trace(rest),
-        b"seek" => parse_seek(rest),
-        b"stops" => parse_stops(rest),
+pub fn parse_words(words: &[String]) -> Option<Command<'_>>
+    ensures { command_of words.now ≡ meant_by result }
+{
+    match words {
+        [word, rest @ ..] => parse_named(word.as_str(), rest),
+        [] => None,
+    }
+}
+
+fn parse_named<'a>(word: &str, words: &'a [String]) -> Option<Command<'a>>
+    ensures { command_named word.now (map string_bytes words.now) ≡ meant_by result }
+{
+    match word {
+        "state" => parse_state(words),
+        "trace" => parse_trace(words),
+        "seek" => parse_seek(words),
+        "stops" => parse_stops(words),
         _ => None,
     }
 }
 
-fn parse_state(words: &[String]) -> Option<Command<'_>> {
+fn parse_state(words: &[String]) -> Option<Command<'_>>
+    ensures { state_of (map string_bytes words.now) ≡ meant_by result }
+{
     match words {
-        [world] => Some(Command::State(None, file_name(world)?)),
-        [flag, step, segment, world] if flag.as_str() == "--at" => {
-            let at = parse_position(step, segment)?;
-            Some(Command::State(Some(at), file_name(world)?))
+        [world] if names_file(world.as_str()) => Some(Command::State(None, world.as_str())),
+        [flag, step, segment, world] if flag.as_str() == "--at" && names_file(world.as_str()) => {
+            let at = parse_position(step.as_str(), segment.as_str())?;
+            Some(Command::State(Some(at), world.as_str()))
         }
         _ => None,
     }
 }
 
 /// A step, counted from 1, and segments of it.
-fn parse_position(step: &String, segment: &String) -> Option<Position> {
+fn parse_position(step: &str, segment: &str) -> Option<Position>
+    ensures { position_in step.now segment.now ≡ option_map (λ at. (at.step, at.segment)) result }
+{
     let step = parse_number(step)?;
     if step == 0 {
         return None;
@@ -70,61 +90,88 @@ fn parse_position(step: &String, segment: &String) -> Option<Position> {
     })
 }
 
-fn parse_trace(words: &[String]) -> Option<Command<'_>> {
-    let (first, words) = parse_flag("--from", words, 0)?;
-    let (last, words) = parse_flag("--to", words, u64::MAX)?;
+fn parse_trace(words: &[String]) -> Option<Command<'_>>
+    ensures { trace_of (map string_bytes words.now) ≡ meant_by result }
+{
     match words {
-        [world] => Some(Command::Trace(Request {
-            world: file_name(world)?,
-            first,
-            last,
-        })),
-        _ => None,
-    }
-}
-
-/// The number behind a flag with which the words begin, or another one where they don't; and the words behind both.
-fn parse_flag<'a>(flag: &str, words: &'a [String], other: u64) -> Option<(u64, &'a [String])> {
-    match words {
-        [word, number, rest @ ..] if word.as_str() == flag => {
-            Some((u64::from(parse_number(number)?), rest))
+        [flag, first, words @ ..] if flag.as_str() == "--from" => {
+            parse_trace_from(u64::from(parse_number(first.as_str())?), words)
         }
-        _ => Some((other, words)),
+        _ => parse_trace_from(0, words),
     }
 }
 
-fn parse_seek(words: &[String]) -> Option<Command<'_>> {
+fn parse_trace_from(first: u64, words: &[String]) -> Option<Command<'_>>
+    ensures { trace_to first (map string_bytes words.now) ≡ meant_by result }
+{
     match words {
-        [trace, moment, words @ ..] => {
-            let moment = parse_number(moment)? as usize;
-            Some(Command::Look(file_name(trace)?, Look::Moment(moment, words)))
+        [world] => trace_named(first, u64::MAX, world.as_str()),
+        [flag, last, world] if flag.as_str() == "--to" => {
+            trace_named(
+                first,
+                u64::from(parse_number(last.as_str())?),
+                world.as_str(),
+            )
         }
         _ => None,
     }
 }
 
-fn parse_stops(words: &[String]) -> Option<Command<'_>> {
+fn trace_named(first: u64, last: u64, world: &str) -> Option<Command<'_>>
+    ensures { for_file world.now (Trace first last) ≡ meant_by result }
+{
+    if !names_file(world) {
+        return None;
+    }
+    Some(Command::Trace(Request { world, first, last }))
+}
+
+fn parse_seek(words: &[String]) -> Option<Command<'_>>
+    ensures { seek_of (map string_bytes words.now) ≡ meant_by result }
+{
     match words {
-        [trace] => Some(Command::Look(file_name(trace)?, Look::Stops)),
+        [trace, moment, words @ ..] if names_file(trace.as_str()) => {
+            let moment = parse_number(moment.as_str())? as usize;
+            Some(Command::Look(trace.as_str(), Look::Moment(moment, words)))
+        }
+        _ => None,
+    }
+}
+
+fn parse_stops(words: &[String]) -> Option<Command<'_>>
+    ensures { stops_of (map string_bytes words.now) ≡ meant_by result }
+{
+    match words {
+        [trace] if names_file(trace.as_str()) => Some(Command::Look(trace.as_str(), Look::Stops)),
         _ => None,
     }
 }
 
 /// A number in decimal digits alone.
-fn parse_number(word: &String) -> Option<u32> {
-    if word.as_bytes().iter().any(|c| !c.is_ascii_digit()) {
+fn parse_number(word: &str) -> Option<u32>
+    ensures { number_in word.now ≡ result }
+{
+    if !has_digits_alone(word.as_bytes()) {
         return None;
     }
-    match word.as_str().parse::<u32>() {
+    match word.parse::<u32>() {
         Ok(number) => Some(number),
         Err(_) => None,
     }
 }
 
-/// A word that may name a file: it isn't empty, and doesn't begin with `-`.
-fn file_name(word: &String) -> Option<&str> {
+fn has_digits_alone(word: &[u8]) -> bool
+    ensures { result ≡ list_all is_ascii_digit word.now }
+{
+    word.iter().all(|c| c.is_ascii_digit())
+}
+
+/// Whether a word may name a file: it isn't empty, and doesn't begin with `-`.
+fn names_file(word: &str) -> bool
+    ensures { result ≡ names_file word.now }
+{
     match word.as_bytes() {
-        [] | [b'-', ..] => None,
-        [..] => Some(word.as_str()),
+        [] => false,
+        [first, ..] => *first != b'-',
     }
 }
