@@ -5,6 +5,7 @@ import shutil
 import subprocess
 import sys
 
+from . import checking
 from .checking import Skipped
 from .places import in_top
 
@@ -20,18 +21,25 @@ NOBODY = "--userspec=65534:65534"
 
 @functools.lru_cache(maxsize=None)
 def folder():
-    """Its folder. It is made once, for which the network is needed, and kept."""
+    """Its folder. It is made once, where checks are asked for by name, and kept."""
     if os.geteuid() or shutil.which("debootstrap") is None:
         raise Skipped("a Debian in a folder needs root and debootstrap")
     if not os.path.isdir(FOLDER):
-        new = f"{FOLDER}.new"
-        print(f"check_tools: making a small Debian, which is kept in {FOLDER}", file=sys.stderr, flush=True)
-        shutil.rmtree(new, ignore_errors=True)
-        words = ["debootstrap", "--variant=minbase", f"--include={','.join(WITH)}", RELEASE, new]
-        if subprocess.run(words, stdout=subprocess.DEVNULL, check=False).returncode:
-            raise Skipped("debootstrap couldn't make a Debian here")
-        os.rename(new, FOLDER)
+        if not checking.WORDS:
+            raise Skipped("there is no Debian in a folder: 'tools/check_tools package' makes one, by the network")
+        make()
     return FOLDER
+
+
+def make():
+    """Makes it from packages of the network, in some minutes."""
+    new = f"{FOLDER}.new"
+    print(f"check_tools: making a small Debian, which is kept in {FOLDER}", file=sys.stderr, flush=True)
+    shutil.rmtree(new, ignore_errors=True)
+    words = ["debootstrap", "--variant=minbase", f"--include={','.join(WITH)}", RELEASE, new]
+    if subprocess.run(words, stdout=subprocess.DEVNULL, check=False).returncode:
+        raise Skipped("debootstrap couldn't make a Debian here")
+    os.rename(new, FOLDER)
 
 
 def words_of(words, at="/", is_root=False):

@@ -2,6 +2,8 @@
 from . import syntax
 
 CHECKS = []
+# The words by which the checks of this run were chosen.
+WORDS = []
 
 
 class Failed(Exception):
@@ -25,7 +27,7 @@ def need(holds, *said):
 
 def run(words):
     """Runs the checks that have one of the words in their names. The status."""
-    failed = skipped = 0
+    WORDS[:], failed, skipped = words, 0, 0
     chosen = [it for it in CHECKS if not words or any(word in it.__name__ for word in words)]
     for it in chosen:
         name = it.__name__.replace("_", " ")
