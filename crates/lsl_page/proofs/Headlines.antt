@@ -31,7 +31,7 @@ use Rattle.lsl_top.specs.Plays.{Homes, Whole, cards_in, names_in, play_of, play_
 use Rattle.lsl_top.specs.Promise.{KeepsTo, Wrote, WrotePart}
 use Rattle.lsl_top.specs.Scripts.{AreAccepted}
 use Rattle.lsl_top.specs.Status.{number_of}
-use Rattle.lsl_top.specs.Words.{Command, Once, Check, Replay, Lossy, Freeze, Thaw, Make, View}
+use Rattle.lsl_top.specs.Words.{Command, Once, Check, Replay, Lossy, Freeze, Thaw, Make, View, State}
 use Rattle.lsl_top.specs.declared.status.Status.{Status}
 use Rattle.lsl_top.specs.declared.status.Status.TheVariants.{Ok, Usage, BadWorld, BadScript, ReadFault, WriteFault, BadImage, NoMemory, BadNote}
 use Rattle.lsl_top.proofs.Journals.{journal-pieces, pieces-images}
@@ -132,6 +132,7 @@ none-missing files (Freeze name) file programs cards h missing = absurd h
 none-missing files (Thaw frozen name) file programs cards h missing = absurd h
 none-missing files (View frozen name) file programs cards h missing = absurd h
 none-missing files (Make number) file programs cards h missing = absurd h
+none-missing files (State at name) file programs cards h missing = absurd h
 
 module _ (files : Files) (command : Command) (file : WorldFile) (programs : List Program) (cards : List Notecard)
     (trips : List Trip) (runs : Runs files command file programs cards) (copied : AreCopied trips) where
@@ -190,6 +191,7 @@ module _ (files : Files) (command : Command) (file : WorldFile) (programs : List
   answer-run g from (Thaw frozen name) h answer answers = absurd h
   answer-run g from (View frozen name) h answer answers = absurd h
   answer-run g from (Make number) h answer answers = absurd h
+  answer-run g from (State at name) h answer answers = absurd h
 
   module _ (output : List ℕ) where
     abbrev IsThis : Grade → Answer → Type 0
@@ -245,6 +247,7 @@ fits-any files (Freeze name) file programs cards from runs = absurd runs
 fits-any files (Thaw frozen name) file programs cards from runs = absurd runs
 fits-any files (View frozen name) file programs cards from runs = absurd runs
 fits-any files (Make number) file programs cards from runs = absurd runs
+fits-any files (State at name) file programs cards from runs = absurd runs
 
 pub headline-of : (files : Files) (command : Command) (file : WorldFile) (programs : List Program)
     (cards : List Notecard) (room : ℕ) (status : Status) (output : List ℕ)

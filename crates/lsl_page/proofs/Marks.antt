@@ -6,9 +6,9 @@ use Rattle.lsl_region.specs.Worlds.{World}
 use Rattle.lsl_top.specs.Answers.{Answer, Answers, Checks, Grade, Makes, PlaysRead}
 use Rattle.lsl_top.specs.Held.{Holds}
 use Rattle.lsl_top.specs.Pieces.{Piece}
-use Rattle.lsl_top.specs.Plays.{Mode, Whole, Handing, Freezing, Thawing, Viewing, Play, play_of, play_of_once}
+use Rattle.lsl_top.specs.Plays.{Mode, Whole, Handing, Freezing, Inspecting, Thawing, Viewing, Play, file_in, play_of, play_of_once}
 use Rattle.lsl_top.specs.Promise.{IsBegun, IsWhole, Keeps, KeepsFile, KeepsFrom, KeepsOf, KeepsPlay, KeepsTo, RefusesWorld, WritesNothing}
-use Rattle.lsl_top.specs.Words.{Command, Once, Check, Replay, Lossy, Freeze, Thaw, Make, View}
+use Rattle.lsl_top.specs.Words.{Command, Once, Check, Replay, Lossy, Freeze, Thaw, Make, View, State}
 use Rattle.lsl_top.specs.declared.status.Status.{Status}
 use Rattle.lsl_top.specs.declared.status.Status.TheVariants.{Ok, Usage, BadWorld, BadScript, ReadFault, WriteFault, BadImage, NoMemory, BadNote}
 
@@ -76,7 +76,7 @@ module _ (m n : ℕ) (a b : List ℕ) where
         → KeepsFile held trips mode name status (Some a) (Some b)
     file-behind mode name (inl k) = inl (keeps_to-behind (λ grade. RefusesWorld held name) status trips k)
     file-behind mode name (inr (bytes, file, is, good, k)) =
-        inr (bytes, file, is, good, play-behind (play_of mode file) k)
+        inr (bytes, file, is, good, play-behind (play_of mode (file_in mode file)) k)
 
     of-behind : (command : Command) → KeepsOf held trips command status old new
         → KeepsOf held trips command status (Some a) (Some b)
@@ -89,6 +89,7 @@ module _ (m n : ℕ) (a b : List ℕ) where
     of-behind (Freeze name) k = file-behind Freezing name k
     of-behind (Thaw frozen name) k = file-behind (Thawing frozen) name k
     of-behind (View frozen name) k = file-behind (Viewing frozen) name k
+    of-behind (State at name) k = file-behind (Inspecting at) name k
     of-behind (Make number) k =
         λ from. keeps_to-behind (λ grade. Makes grade from trips number) status trips (k from)
 

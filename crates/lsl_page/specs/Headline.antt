@@ -17,7 +17,7 @@ use Rattle.lsl_top.specs.Headline.{AreGood, IsScriptIn}
 use Rattle.lsl_top.specs.Laws.{copies}
 use Rattle.lsl_top.specs.Plays.{once_world}
 use Rattle.lsl_top.specs.Status.{number_of}
-use Rattle.lsl_top.specs.Words.{Command, Once, Check, Replay, Lossy, Freeze, Thaw, Make, View}
+use Rattle.lsl_top.specs.Words.{Command, Once, Check, Replay, Lossy, Freeze, Thaw, Make, View, State}
 use Rattle.lsl_top.specs.declared.status.Status.TheVariants.{Ok, WriteFault, NoMemory}
 
 -- the command plays this world with these notecards from its start to its end, and the world's scripts are accepted as
@@ -32,6 +32,7 @@ Runs files (Freeze name) file programs cards = ⊥
 Runs files (Thaw frozen name) file programs cards = ⊥
 Runs files (View frozen name) file programs cards = ⊥
 Runs files (Make number) file programs cards = ⊥
+Runs files (State at name) file programs cards = ⊥
 
 -- of each of these trips what was sent came back
 abbrev pub AreCopied : List Trip → Type 0
