@@ -3,3 +3,4 @@ pub mod Endings
 mod Fits
 pub mod Arrivals
 pub mod Headlines
+mod Numbers

@@ -1,48 +1,44 @@
-use Rattle.std.proofs.Common.{◌∷◌, [], ◌∙◌, ℕ, length, take, arith, subst, sym}
+use Rattle.std.proofs.Common.{◌∷◌, [], ◌∙◌, ℕ, ◌≡◌, length, take, arith, lit<, refl, subst, sym}
 use Rattle.std.proofs.lemmas.List.{length-take}
+use Rattle.lsl_top.specs.Status.{number_of}
 use Rattle.lsl_top.specs.Words.{Command, command_in}
+use Rattle.lsl_top.specs.declared.status.Status.{Status}
 use Rattle.std.specs.Prelude.{Option}
 use Rattle.lsl_page.specs.Ended.{Ended}
 use Rattle.lsl_page.specs.Headline.{WritesJournal}
-use Rattle.lsl_page.specs.Request.{files_in}
+use Rattle.lsl_page.specs.Request.{IsRequest, files_in}
 use Rattle.lsl_page.proofs.Endings.{full-of, missing-of}
-use Rattle.lsl_page.proofs.Headlines.{headline-of, number-below}
+use Rattle.lsl_page.proofs.Headlines.{headline-of}
+use Rattle.lsl_page.proofs.Numbers.{Numbered, form-of, most-ten, refused-of, status-of}
 use Rattle.lsl_page.proofs.lsl_page_run.Goals as goal
 
-pub returns-in-Ok-clause-ended : goal.returns-in-Ok-clause-ended
-returns-in-Ok-clause-ended c = λ below. (
-  c.in-Ok.ensures.request,
-  (c.in-Ok.status, c.number.ensures, c.in-Ok.ensures.ended),
-)
-
-pub returns-in-Ok-clause-headline : goal.returns-in-Ok-clause-headline
-returns-in-Ok-clause-headline c = λ command world programs cards below words runs.
+pub returns-clause-ended : goal.returns-clause-ended
+returns-clause-ended c = λ below.
     let files = files_in c.args.bytes.now c.args.places.now in
+    let words = command_in (c.args.word.now ∷ c.args.file.now ∷ []) in
     let room = length c.answer.new.room in
     let output = take c.answer.new.written c.answer.new.room in
-    let ended = subst (λ (w : Option Command). Ended files w room c.in-Ok.status output) words c.in-Ok.ensures.ended in
-    subst (λ (number : ℕ). WritesJournal world programs cards number output) (sym c.number.ensures)
-    (headline-of files command world programs cards room c.in-Ok.status output ended runs)
+    let it : Numbered c.answer.result c.number_of_answer.result = record {
+      ok = c.number_of_answer.ensures.ok;
+      form = c.number_of_answer.ensures.form;
+      memory = c.number_of_answer.ensures.memory;
+    } in
+    let (status, e, request, ended) = status-of c.answer.result c.number_of_answer.result
+        (λ (status : Status). IsRequest c.args.word.now c.args.file.now c.args.bytes.now c.args.places.now)
+        (λ (status : Status). Ended files words room status output) it c.answer.ensures.request c.answer.ensures.ended
+        below in
+    (request, (status, e, ended))
 
-pub returns-in-Ok-clause-missing : goal.returns-in-Ok-clause-missing
-returns-in-Ok-clause-missing c = λ e.
-    missing-of (files_in c.args.bytes.now c.args.places.now) (command_in (c.args.word.now ∷ c.args.file.now ∷ []))
-    (length c.answer.new.room) c.in-Ok.status (take c.answer.new.written c.answer.new.room) c.in-Ok.ensures.ended
-    (sym c.number.ensures ∙ e)
+pub returns-clause-number : goal.returns-clause-number
+returns-clause-number c = most-ten c.answer.result c.number_of_answer.result (record {
+    ok = c.number_of_answer.ensures.ok;
+    form = c.number_of_answer.ensures.form;
+    memory = c.number_of_answer.ensures.memory;
+  })
 
-pub returns-in-Ok-clause-full : goal.returns-in-Ok-clause-full
-returns-in-Ok-clause-full c = λ e.
-    let output = take c.answer.new.written c.answer.new.room in
-    let full = full-of (files_in c.args.bytes.now c.args.places.now) (command_in (c.args.word.now ∷ c.args.file.now ∷ []))
-    (length c.answer.new.room) c.in-Ok.status output c.in-Ok.ensures.ended (sym c.number.ensures ∙ e) in
-    let size = length-take c.answer.new.written c.answer.new.room in
-    omega (arith, full, size, c.answer.ensures.within)
-
-pub returns-in-Ok-clause-form : goal.returns-in-Ok-clause-form
-returns-in-Ok-clause-form c = λ e request. omega (arith, e, c.number.ensures, number-below c.in-Ok.status)
-
-pub returns-in-Ok-clause-nothing : goal.returns-in-Ok-clause-nothing
-returns-in-Ok-clause-nothing c = λ high. absurd (omega (arith, high, c.number.ensures, number-below c.in-Ok.status))
-
-pub returns-in-Ok-clause-number : goal.returns-in-Ok-clause-number
-returns-in-Ok-clause-number c = omega (arith, c.number.ensures, number-below c.in-Ok.status)
+pub returns-clause-form : goal.returns-clause-form
+returns-clause-form c = λ e. c.answer.ensures.form (form-of c.answer.result c.number_of_answer.result (record {
+    ok = c.number_of_answer.ensures.ok;
+    form = c.number_of_answer.ensures.form;
+    memory = c.number_of_answer.ensures.memory;
+  }) e)
