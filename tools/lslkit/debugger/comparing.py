@@ -6,6 +6,7 @@ text, in which [""] is as [], and a separator in an element as one between eleme
 
 A copy may lack the memory for the mark of a call that was just entered, where its script stops in that call. Its fault is
 then told a segment too early, and the state there says so: the script hasn't stopped yet."""
+import os
 import random
 import re
 
@@ -17,6 +18,8 @@ from .core import Core, text_of, value_of, words_of
 from .folding import Folded
 
 CUT, SEPARATOR = 1021, "¦"
+# The bytes of a trace up to which it is compared.
+MOST = 20000000
 LAST = 1000000
 ASSIGNED = r"\b{0}\s*([-+*/%]?=(?!=)|\+\+|--)|(\+\+|--)\s*{0}\b"
 
@@ -27,6 +30,7 @@ class Compared:
 
     def __init__(self):
         self.count, self.later, self.late, self.differs, self.tiers = 0, [], 0, [], set()
+        self.is_long = False
 
 
 def plain(value):
@@ -55,6 +59,9 @@ class Comparison:
         """Compares up to `most` places of each step."""
         with self.core.room:
             self.core.trace()
+            if os.path.getsize(self.core.traced) > MOST:
+                self.found.is_long = True
+                return self.found
             folded = Folded((bytes_of(self.core.traced) or b"").decode(errors="surrogateescape"))
             self.found.tiers = {it.tier for it in folded.tables.units.values()}
             steps = worlds.read(world_of(self.path)).steps
