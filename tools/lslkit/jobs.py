@@ -53,10 +53,10 @@ class Job:
         self.seen += len(whole)
         return whole.decode(errors="replace").splitlines()
 
-    def said(self):
+    def said(self, most=4000):
         """The end of its output, once it has ended."""
         self.output.seek(0)
-        return self.output.read().decode(errors="replace")[-4000:]
+        return self.output.read().decode(errors="replace")[-most:]
 
     def need_success(self):
         if self.process.returncode:
