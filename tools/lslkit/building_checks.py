@@ -6,7 +6,7 @@ import re
 import signal
 import time
 
-from . import about, kit, places
+from . import about, kit, places, webmodule
 from .checking import check, need
 from .stubs import MODULE, repository
 
@@ -15,6 +15,7 @@ ONCE = f"{DOING}, in a minute or two; './lsl --prove' proves it, in about an hou
 COMPILED = "compiled check a.lsl\n"
 PROVED = "proved check a.lsl\n"
 INNER = '@"lsl_page::lsl_page_run"'
+OTHERS = "".join(f'\ndefine void @"lsl_page::{it}"() #0 {{\n  ret void\n}}\n' for it in webmodule.EXPORTS[1:])
 # What a static library has beside the module of a program.
 EXPORT = f"""
 define void @lsl_page_run() #0 {{
@@ -231,7 +232,7 @@ def add_page(repo):
     words = (os.path.relpath(it, places.TOP) for it in glob.glob(places.in_top("tools", "words", "*.json")))
     for name in ("page/index.html", "tools/lsl_names.tsv", *tables, *words):
         repo.write(name, places.text_of(name))
-    repo.write_in_kit("module", MODULE.replace("@main", INNER))
+    repo.write_in_kit("module", MODULE.replace("@main", INNER) + OTHERS)
 
 
 def need_page(repo, words, wanted):
@@ -266,7 +267,7 @@ def a_page_is_proved_as_the_program_is():
         with repository() as repo:
             add_page(repo)
             repo.write_in_kit("help", names)
-            repo.write_in_kit("module", MODULE.replace("@main", INNER) + EXPORT)
+            repo.write_in_kit("module", MODULE.replace("@main", INNER) + OTHERS + EXPORT)
             need_page(repo, [], ["proving and compiling the module, for some"])
             need_exported_once(repo)
             need_page(repo, [], [])
