@@ -20,7 +20,7 @@ TRIES = (
     ("lsl once examples/hello.lsl", "", 'owner 1 "Hello, Avatar!"'),
     ("lsl play examples/door/door.lsl", TALK, '"Door open"'),
     ("lsl replay --show examples/door/door.world", "", "Door is in North"),
-    ("libexec/lsl_debug state examples/door/door.world", "", "\nobject "),
+    ("lsl debug examples/courier/courier.world", "break walk\ncontinue\nquit\n", "at courier.lsl:13, in walk"),
     ("tools/explain examples/bad/bell.lsl", "", "LSL has the call llSin, and this language hasn't"),
     ("tools/show examples/door/door.out examples/door/door.world", "", "Bob touches Door"),
     ("tools/suite libexec/lsl chat", "", ", 0 failed"),
@@ -33,6 +33,7 @@ COMP_WORDS=(lsl rep) COMP_CWORD=1; _lsl; echo ${COMPREPLY[@]}
 INSTALLED = (
     ("lsl once hello.lsl", "Hello, Avatar!"),
     ("lsl play door/door.lsl --touch Ann", "Door open"),
+    ("lsl debug door/door.lsl --touch Ann </dev/null", "in state_entry"),
     ("/usr/share/dishhollow/tools/explain bad/bell.lsl", "llSin"),
     ("man -P cat lsl", "compile and run scripts of the Linden Scripting Language"),
     ("man -P cat lsl-debug", "debug scripts of the Linden Scripting Language"),
