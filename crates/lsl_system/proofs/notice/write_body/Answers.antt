@@ -1,7 +1,7 @@
 use Rattle.std.proofs.Common.{arith}
 use Rattle.lsl_ports.proofs.Growth.{grew-is, grew-none, grew-then}
-use Rattle.lsl.proofs.Said.{escaped_more}
-use Rattle.lsl.proofs.notice.write_body.Goals as goal
+use Rattle.lsl_system.proofs.Said.{escaped_more}
+use Rattle.lsl_system.proofs.notice.write_body.Goals as goal
 
 pub loop-byte-init : goal.loop-byte-init
 loop-byte-init g c = record { grew = grew-none (g.N.Sink.sunk c.args.notes.now); counted = omega arith }

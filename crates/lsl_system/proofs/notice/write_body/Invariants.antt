@@ -2,7 +2,7 @@ use Rattle.std.proofs.Common.{◌≤◌, take}
 use Rattle.std.specs.List.{flat_map}
 use Rattle.lsl_text.specs.Quoted.{escaped}
 use Rattle.lsl_ports.specs.Growth.{Grew}
-use Rattle.lsl.proofs.notice.write_body.Given as goal
+use Rattle.lsl_system.proofs.notice.write_body.Given as goal
 
 abbrev pub invariant-loop-byte : goal.invariant-loop-byte
 invariant-loop-byte g l =
