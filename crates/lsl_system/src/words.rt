@@ -40,7 +40,11 @@ pub fn refuse_words<N: Sink>(error: &io::Error, notes: &mut N) -> ExitCode
 {
     let lacks = lacks_memory(error);
     say_no_words(lacks, notes);
-    ExitCode::from(if lacks { Status::NoMemory.number() } else { NO_WORDS })
+    ExitCode::from(if lacks {
+        Status::NoMemory.number()
+    } else {
+        NO_WORDS
+    })
 }
 
 /// Whether it was memory that lacked for the words.
