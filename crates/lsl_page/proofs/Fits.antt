@@ -5,7 +5,8 @@ use Rattle.std.specs.Str.{bytes_eq}
 use Rattle.lsl_ports.specs.Shelf.{Files}
 use Rattle.lsl_region.specs.Worlds.{World}
 use Rattle.lsl_top.specs.Froms.{IsFromWords}
-use Rattle.lsl_top.specs.Words.{Once, Check, Replay, Freeze, Make, command_in, command_named, names_file, number_in}
+use Rattle.lsl_top.specs.Words.{Once, Check, Replay, Freeze, Make, State, command_in, command_named, names_file, number_in}
+use Rattle.lsl_top.specs.declared.positions.Position.{Position}
 
 module _ (files : Files) (from : World) where
   made : (number : Option ℕ) → IsFromWords (Some files) (option_map Make number) from
@@ -37,3 +38,7 @@ module _ (files : Files) (from : World) where
   words-fit [] e = absurd (omega (arith, e))
   words-fit (word ∷ []) e = absurd (omega (arith, e))
   words-fit (word ∷ file ∷ other ∷ words) e = absurd (omega (arith, e))
+
+  -- nor does a state
+  pub state-fits : (at : Option Position) (file : List ℕ) → IsFromWords (Some files) (Some (State at file)) from
+  state-fits at file = λ bytes world is good found had programs units all has cards read. tt

@@ -4,3 +4,4 @@ mod Fits
 pub mod Arrivals
 pub mod Headlines
 mod Numbers
+mod Traced

@@ -12,12 +12,12 @@ use Rattle.lsl_top.specs.Words.{Command, Once, Check, Replay, Lossy, Freeze, Tha
 use Rattle.lsl_top.specs.declared.status.Status.{Status}
 use Rattle.lsl_top.specs.declared.status.Status.TheVariants.{Ok, Usage, BadWorld, BadScript, ReadFault, WriteFault, BadImage, NoMemory, BadNote}
 
-abbrev mark : Option (List ℕ) → ℕ
+abbrev pub mark : Option (List ℕ) → ℕ
 mark (Some (m ∷ bytes)) = m
 mark (Some []) = 0
 mark None = 0
 
-abbrev behind : Option (List ℕ) → Option (List ℕ)
+abbrev pub behind : Option (List ℕ) → Option (List ℕ)
 behind (Some (m ∷ bytes)) = Some bytes
 behind told = told
 

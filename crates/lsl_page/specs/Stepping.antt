@@ -47,9 +47,13 @@ pub record TraceEnds (files : Files) (asked : Asked) (room : ℕ) (ended : Trace
   -- a write failed only where the room was full
   pub full : 0 < refused → length output ≡ room
 
--- the file's name and the places are in their form, and its trace from the first step to the last ended with this number
+-- a trace of this file from the first step to the last ended with this number
+abbrev pub IsTraced : Files → List ℕ → ℕ → ℕ → ℕ → ℕ → List ℕ → Type 0
+IsTraced files file first last number room output =
+    (asked : Asked) × (asked.world.now ≡ file) × (asked.first ≡ first) × (asked.last ≡ last)
+    × ((ended : Traced) × (number ≡ number_of_trace ended) × TraceEnds files asked room ended output)
+
+-- the file's name and the places are in their form, and its trace ended with this number
 abbrev pub TraceAs : List ℕ → ℕ → ℕ → List ℕ → List Place → ℕ → ℕ → List ℕ → Type 0
 TraceAs file first last bytes places number room output =
-    IsAsked file bytes places
-    × ((asked : Asked) × (asked.world.now ≡ file) × (asked.first ≡ first) × (asked.last ≡ last)
-    × ((ended : Traced) × (number ≡ number_of_trace ended) × TraceEnds (files_in bytes places) asked room ended output))
+    IsAsked file bytes places × IsTraced (files_in bytes places) file first last number room output
