@@ -25,10 +25,11 @@ def need(holds, *said):
         raise Failed(" ".join(map(str, said)))
 
 
-def run(words):
-    """Runs the checks that have one of the words in their names. The status."""
+def run(words, slow=()):
+    """Runs the checks that have one of the words in their names, but those of the slow modules. The status."""
     WORDS[:], failed, skipped = words, 0, 0
     chosen = [it for it in CHECKS if not words or any(word in it.__name__ for word in words)]
+    chosen = [it for it in chosen if it.__module__.rpartition(".")[2] not in slow]
     for it in chosen:
         name = it.__name__.replace("_", " ")
         try:

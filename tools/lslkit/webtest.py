@@ -43,11 +43,13 @@ def in_browser(sort, tests):
 
 
 def main(words):
-    """Runs the tests that have one of the words in their names. The status."""
+    """Runs the tests that have one of the words in their names; after `--node` those in node alone. The status."""
+    is_quick = words[:1] == ["--node"]
+    words = words[1:] if is_quick else words
     chosen = [it for it in TESTS if not words or any(word in it.__name__ for word in words)]
     passed = sum(ran(it, it.__name__) for it in chosen if not is_of_browser(it))
     count = sum(not is_of_browser(it) for it in chosen)
-    for sort in SORTS:
+    for sort in () if is_quick else SORTS:
         tests = [it for it in chosen if is_of_browser(it) and (sort is SORTS[0] or hasattr(it, "is_in_both"))]
         if not browsers.path_of(sort.names):
             print(f"page: there is no {sort.__name__}, so nothing is shown in it")
