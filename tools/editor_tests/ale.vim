@@ -1,5 +1,9 @@
 " Types, waits and reads in Vim with the configuration of docs/EDITORS.md for ALE. It writes a line for each thing that
 " it saw into the file that $SAID names.
+if empty(globpath(&packpath, 'pack/*/start/*/autoload/ale.vim') . globpath(&runtimepath, 'autoload/ale.vim'))
+  qa!
+endif
+
 let s:said = []
 
 function s:say(...)
