@@ -1,5 +1,5 @@
 -- How a trace ended, from what is said of it over a shelf and a sink that tells a mark in front.
-use Rattle.std.proofs.Common.{◌≡◌, ℕ, List, [], ◌∷◌, Option, Some, ap, inl, inr, subst}
+use Rattle.std.proofs.Common.{◌≡◌, ℕ, List, [], ◌∷◌, Some, ap, inl, inr, subst}
 use Rattle.lsl_ports.specs.Growth.{Grew, GrewPartly}
 use Rattle.lsl_ports.specs.Shelf.{Files}
 use Rattle.lsl_top.specs.Ends.{Outside}

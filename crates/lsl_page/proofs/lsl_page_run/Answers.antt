@@ -1,6 +1,5 @@
-use Rattle.std.proofs.Common.{◌∷◌, [], ◌∙◌, ℕ, ◌≡◌, length, take, arith, lit<, refl, subst, sym}
+use Rattle.std.proofs.Common.{◌∷◌, [], ◌∙◌, ℕ, ◌≡◌, length, take, arith, subst, sym}
 use Rattle.std.proofs.lemmas.List.{length-take}
-use Rattle.lsl_top.specs.Status.{number_of}
 use Rattle.lsl_top.specs.Words.{Command, command_in}
 use Rattle.lsl_top.specs.declared.status.Status.{Status}
 use Rattle.std.specs.Prelude.{Option}
@@ -9,7 +8,7 @@ use Rattle.lsl_page.specs.Headline.{WritesJournal}
 use Rattle.lsl_page.specs.Request.{IsRequest, files_in}
 use Rattle.lsl_page.proofs.Endings.{full-of, missing-of}
 use Rattle.lsl_page.proofs.Headlines.{headline-of}
-use Rattle.lsl_page.proofs.Numbers.{Numbered, form-of, most-ten, refused-of, status-of}
+use Rattle.lsl_page.proofs.Numbers.{form-of, most-ten, refused-of, status-of}
 use Rattle.lsl_page.proofs.lsl_page_run.Goals as goal
 
 pub returns-clause-ended : goal.returns-clause-ended

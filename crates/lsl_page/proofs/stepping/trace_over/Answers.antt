@@ -1,4 +1,4 @@
-use Rattle.std.proofs.Common.{[], length, take, ap, arith}
+use Rattle.std.proofs.Common.{take, ap, arith}
 use Rattle.std.proofs.lemmas.List.{length-take}
 use Rattle.lsl_page.specs.Request.{files_in}
 use Rattle.lsl_page.proofs.Traced.{trace-ends, trace-mark}
