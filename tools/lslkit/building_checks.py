@@ -290,7 +290,7 @@ def a_check_counts_its_parts():
         for name in ("check_tools", "syntax", "example_cases"):
             repo.write(f"tools/{name}", f"#!/bin/sh\ncat suite/examples.cases\n" if name == "example_cases" else counts)
         status, output, notes = repo.ran("tools/check", "suite", "tools", "generated")
-        need(status == 0 and output.endswith("\n10 passed, 0 failed\n"), "status", status, output, notes)
+        need(status == 0 and output.endswith("\n16 passed, 0 failed\n"), "status", status, output, notes)
         repo.write("suite/a.cases", case.replace("compiled", "other"))
         status, output, _ = repo.ran("tools/check", "suite")
         need(status == 1 and "FAILED  suite: 1 passed, 1 failed" in output, "status", status, output)

@@ -25,11 +25,13 @@ def need(holds, *said):
         raise Failed(" ".join(map(str, said)))
 
 
-def run(words, slow=()):
-    """Runs the checks that have one of the words in their names, but those of the slow modules. The status."""
+def run(words, slow=(), share=(1, 1)):
+    """Runs the checks that have one of the words in their names, but those of the slow modules. Of these only each Nth
+    from the Kth on, if the share is (K, N). The status."""
     WORDS[:], failed, skipped = words, 0, 0
     chosen = [it for it in CHECKS if not words or any(word in it.__name__ for word in words)]
     chosen = [it for it in chosen if it.__module__.rpartition(".")[2] not in slow]
+    chosen = chosen[share[0] - 1 :: share[1]]
     for it in chosen:
         name = it.__name__.replace("_", " ")
         try:
