@@ -80,7 +80,7 @@ class Options:
             elif word == "--explain":
                 self.is_explained = True
             elif word.startswith("-"):
-                raise Bad(f"'{word}' is no option of it")
+                raise Bad(f"'{self.command}' has no option '{word}'")
             else:
                 names.append(word)
         takes_frozen = self.command in OF_FROZEN
@@ -151,10 +151,11 @@ def answer(words, how):
     try:
         command = playing.Play(words[1:]) if words[:1] == ["play"] else Options(words) if words else None
     except (Bad, stage.Bad) as error:
-        print(f"lsl: {error}", file=sys.stderr)
-        command = None
+        asked = "lsl play --help" if words[0] == "play" else "lsl --help"
+        print(f"lsl: {error}; '{asked}' lists what there is", file=sys.stderr)
+        return 1
     if command is None:
-        print(usage() if words[:1] != ["play"] else playing.USAGE, file=sys.stderr)
+        print(usage(), file=sys.stderr)
         return 1
     if words[0] == "play" and command.needs_no_program:
         return command.answer()

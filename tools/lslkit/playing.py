@@ -38,7 +38,7 @@ What there is, in this order; a script is in the prim that was named last:
   --journal          prints the journal as the program writes it
   --html PAGE        writes the journal as a page with a timeline
   --freeze FROZEN    writes what 'lsl freeze' prints of the steps
-  --interactive      reads steps line by line, as it does without a step; 'help' lists them
+  --interactive      reads steps line by line, as it does without steps and output options; 'help' lists them
 
   lsl play door.lsl --touch Ann --say open --channel 5 --after 10s
   lsl play door.lsl --prim Lamp lamp.lsl --object Log log.lsl --touch Ann --on Lamp
@@ -84,6 +84,8 @@ class Play:
                 raise Bad(f"'{word}' is no word of play")
         if not self.scripts:
             raise Bad("play takes a script, or a world file")
+        if "interactive" in self.flags and self.outputs:
+            raise Bad(f"--interactive writes no {self.outputs[0]}")
 
     def give(self, name, value):
         if name in ("owner", "html", "freeze"):
@@ -109,6 +111,17 @@ class Play:
     def files(self):
         """The files that its words name."""
         return self.scripts + [it.partition("=")[2] or it for sort, it in self.parts if sort == "note"]
+
+    @property
+    def outputs(self):
+        """The options that say what is written, and where."""
+        given = {"world": "world" in self.flags, "journal": "journal" in self.flags}
+        given |= {"html": self.html is not None, "freeze": self.freeze is not None}
+        return [f"--{name}" for name, is_given in given.items() if is_given]
+
+    @property
+    def is_interactive(self):
+        return "interactive" in self.flags or not (self.given or self.outputs)
 
     @property
     def needs_no_program(self):
@@ -147,7 +160,7 @@ class Play:
         if "world" in self.flags:
             print(stage.text(), end="")
             return 0
-        if "interactive" in self.flags or not self.given:
+        if self.is_interactive:
             return talking.Talk(binary, stage).run()
         ran = talking.replayed(binary, stage.text())
         if ran.status:
