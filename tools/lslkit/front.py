@@ -297,7 +297,7 @@ def tell_standing(binary, command, follower):
     """Says which scripts still stand in a handler, and in which line."""
     for number, name, event, line in standing.told(binary, command.world(), follower):
         place = f", line {line}" if line else ""
-        print(f'lsl: script {number} "{name}" stands in {event}{place}', file=sys.stderr)
+        print(f'lsl: script {number} "{name}" is still in {event}{place}', file=sys.stderr)
 
 
 def show(binary, command):

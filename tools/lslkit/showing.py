@@ -79,7 +79,7 @@ def summary(entries, world, painter):
         yield painter.paint("fault" if counts["fault", it] else "", f"{row}  {counts['fault', it]:>6}  {charge:>15}")
     for it in handlers:
         if it.end is None:
-            yield painter.paint("drop", f"{names.script(it.script)} still stands in {it.event}")
+            yield painter.paint("drop", f"{names.script(it.script)} is still in {it.event}")
     dropped, faults = (sum(it.word == word for it in entries) for word in ("drop", "fault"))
     yield f"{counted(len(handlers), 'event')} handled, {dropped:,} dropped, {counted(faults, 'fault')}"
 
