@@ -15,30 +15,30 @@ USAGE = """\
 usage: lsl once FILE                runs a script, and prints its journal
        lsl replay WORLD             plays a world file, and prints its journal
                                     both: with --show readably, with --html PAGE as a page with a timeline
-       lsl replay --lossy WORLD     the same, where objects cross by numbered notes
+       lsl replay --lossy WORLD     the same, but objects cross by numbered notes
        lsl freeze WORLD             plays a world file, and then prints the world as one line
-       lsl thaw FROZEN WORLD        goes on from what 'freeze' printed, with the steps of a world file
-       lsl view FROZEN WORLD        shows where the scripts of what 'freeze' printed stand
-       lsl make NUMBER              plays a world made of a number, and prints its report's lines and digest
+       lsl thaw FROZEN WORLD        continues a world that 'freeze' printed, with the steps of a world file
+       lsl view FROZEN WORLD        shows where each script of a world is that 'freeze' printed
+       lsl make NUMBER              plays a world generated from a number, and prints its journal's lines and digest
        lsl check FILE               says that a script is accepted, or prints its first fault
-                                    with --explain a refusal is said in words, as on a terminal
-       lsl play FILE ..             plays scripts without a world file, or goes on after one: 'lsl play --help'
-       lsl debug WORLD              shows a run statement by statement, forwards and backwards: 'lsl debug --help'
+                                    with --explain it explains all faults, as on a terminal
+       lsl play FILE...             plays scripts without a world file, or continues one: 'lsl play --help'
+       lsl debug WORLD              shows a run statement by statement, forward and back: 'lsl debug --help'
        lsl server                   answers an editor, by the Language Server Protocol
 {of_checkout}       lsl --version                which program runs: its version and commit, whether it is proved, its kit
        lsl --help
 
-Write ./-x for a file whose name begins with '-'.{built}
-'tools/explain FILE' prints all faults of a script in words, as 'lsl check FILE' does on a terminal, and with --warn
-what is likely to be a mistake."""
+Write ./-x for a file with a name that begins with '-'.{built}
+'tools/explain FILE' explains all faults of a script, as 'lsl check FILE' does on a terminal, and with --warn also what
+is probably a mistake."""
 # What a package has no use for: it builds nothing.
 OF_CHECKOUT = """\
        lsl --prove [WORDS]          proves the program first, in about an hour
-       lsl --try WORDS              uses the program without its proofs, also where there is a proved one
+       lsl --try WORDS              uses the program without its proofs, even if there is a proved one
 """
 BUILT = """ The first call compiles the program without its proofs, in a
-minute or two: it checks itself as it runs, and stops where a check fails. After 'lsl --prove' the proved program is
-used, until a source of it changes."""
+minute or two. That program checks itself as it runs, and stops if a check fails. After 'lsl --prove' the proved program
+runs, until one of its sources changes."""
 COMMANDS = ("once", "replay", "freeze", "thaw", "view", "check", "make")
 OF_WORLDS = ("replay", "freeze", "thaw", "view")
 OF_FROZEN = ("thaw", "view")

@@ -1,4 +1,4 @@
-"""Plays scripts without a world file, or goes on with one: steps are given as words, or line by line (`talking`)."""
+"""Plays scripts without a world file, or continues one: steps are given as words, or line by line (`talking`)."""
 import os
 import sys
 
@@ -7,38 +7,38 @@ from .faults import explained
 from .stage import Bad, Stage, milliseconds, number
 
 USAGE = """\
-usage: lsl play FILE.. [STEP..] [--world] [--journal] [--html PAGE] [--freeze FROZEN]
+usage: lsl play FILE... [STEP...] [--world] [--journal] [--html PAGE] [--freeze FROZEN]
 
-Plays scripts in an object, without a world file, and shows their journal readably; or goes on where a world file ends.
-The steps follow one another as they are given, and after each the scripts run while they can:
+Plays scripts in an object, without a world file, and shows their journal readably; or continues where a world file
+ends. The steps are done in order, and after each step the scripts run while they can:
 
-  --touch NAME       someone of this name touches the object; its key is made up for the name
-  --say TEXT         someone says the text on channel 0
-  --after TIME       the clock goes on, from one timer to the next: 10s, 2m, 1h, 500ms
-  --changed FLAGS    the object changed: a number, or names as CHANGED_OWNER; --rez N: it was rezzed
-  --cross REGION     the object goes to another region
-  --message WORDS    its scripts get link_message: a number, and a text: '100 on'
-  --run TICKS        how many segments run after each later step (at first 10000)
+  --touch NAME       a person of this name touches the object; 'play' makes up the person's key
+  --say TEXT         a person says the text on channel 0
+  --after TIME       the clock advances, from one due timer to the next: 10s, 2m, 1h, 500ms
+  --changed FLAGS    the object changed: a number, or names such as CHANGED_OWNER; --rez N: it was rezzed
+  --cross REGION     the object crosses to another region
+  --message WORDS    the object's scripts get link_message: a number and a text, '100 on'
+  --run TICKS        how many segments run after each later step (10000 by default)
 
-What describes a step comes after it; before the first step it is meant for all:
+Details follow the step that they describe. Before the first step, they are for all steps:
 
-  --on NAME          the object or the prim of this name (at first the first one)
-  --link N           the touched prim's link number; the object gets as many prims
-  --channel N        the channel on which it is said
-  --by NAME          who says or touches it (at first who was named last, or Someone)
+  --on NAME          the object or prim of this name (the first object by default)
+  --link N           the touched prim's link number; the object gets that number of prims
+  --channel N        the channel on which the text is said
+  --by NAME          who speaks or touches (by default the last person named, or Someone)
 
-What there is, in this order; a script is in the prim that was named last:
+The objects, in this order; a script is in the last named prim:
 
-  --object NAME      a further object, or the name of the first; --region NAME: where it is
-  --prim NAME        a further prim of the object
+  --object NAME      another object, or the name of the first; --region NAME: where it is
+  --prim NAME        another prim of the object
   --note FILE        a notecard of the prim, named as the file; or --note NAME=FILE
-  --owner NAME       who owns the objects: what a script says to its owner is said to this one
+  --owner NAME       the owner of the objects
 
   --world            prints the world file of these steps, and plays nothing
   --journal          prints the journal as the program writes it
   --html PAGE        writes the journal as a page with a timeline
-  --freeze FROZEN    writes what 'lsl freeze' prints of the steps
-  --interactive      reads steps line by line, as it does without steps and output options; 'help' lists them
+  --freeze FROZEN    writes what 'lsl freeze' prints after these steps
+  --interactive      reads steps line by line, as it does if no step and no output is given; 'help' lists them
 
   lsl play door.lsl --touch Ann --say open --channel 5 --after 10s
   lsl play door.lsl --prim Lamp lamp.lsl --object Log log.lsl --touch Ann --on Lamp

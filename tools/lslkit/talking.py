@@ -11,13 +11,13 @@ from .places import write_text
 from .stage import Bad, milliseconds, number, unquoted_word
 
 HELP = """\
-touch [NAME] [LINK]     say [CHANNEL] TEXT      by NAME: who touches and says from now on
-wait [TIME]             the clock goes on from timer to timer: 10s, 2m, 500ms; 'wait' alone: 1s
+touch [NAME] [LINK]     say [CHANNEL] TEXT      by NAME: who touches and speaks from now on
+wait [TIME]             the clock advances from timer to timer: 10s, 2m, 500ms; 'wait' alone: 1s
 changed FLAGS           rez N                   run TICKS: how many segments run after each step
 cross REGION            message N TEXT          go SCRIPT TICKS         pause GAPS
-... on NAME             after a step: the object or the prim for which it is
-object NAME             prim NAME               script FILE             note FILE: there is more
-state                   where scripts are, what they hold, wait for and listen to
+... on NAME             after a step: the object or prim that it is for
+object NAME             prim NAME               script FILE             note FILE: adds one
+state                   where scripts are, and their variables, waiting events, listens and timers
 why                     why the last step had no effect
 world                   prints the world file so far; save FILE and freeze FILE write it
 quit"""

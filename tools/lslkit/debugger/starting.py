@@ -12,14 +12,14 @@ from .terminal import Terminal, is_coloured
 
 USAGE = """\
 usage: lsl debug WORLD [-x FILE] [--post]
-       lsl debug SCRIPT.. [WORDS] [-x FILE] [--post]
+       lsl debug SCRIPT... [WORDS] [-x FILE] [--post]
        lsl debug --adapter
 
-Shows a run of a world file, or of scripts and steps as 'lsl play' takes them ('lsl play --help'), statement by
-statement, forwards and backwards. 'help' lists its commands.
+Shows a run statement by statement, forward and back: of a world file, or of scripts with the steps of 'lsl play' (see
+'lsl play --help'). 'help' lists the commands.
 
-  -x FILE            does the commands of a file, and ends; from a standard input that is no terminal it does the same
-  --post             begins where the last script stopped for good, or else at the end
+  -x FILE            does the commands of a file, and ends; it does the same if standard input isn't a terminal
+  --post             starts at the last fault, or else at the end
   --adapter          answers an editor, by the Debug Adapter Protocol
 
   lsl debug examples/courier/courier.world
