@@ -23,7 +23,7 @@ REFUSED = (
     (["examples/bad/worlds/no_such_prim.world"], 2, "no object, script or prim has the number"),
     (["examples/bad/bell.lsl"], 3, "examples/bad/bell.lsl:12:9: error:"),
     ([], 1, "debug takes a script, or a world file"),
-    ([COURIER, "--journal"], 1, "--journal is no word of debug"),
+    ([COURIER, "--journal"], 1, "--journal isn't an option of debug"),
     (["--adapter", COURIER], 1, "--adapter takes no other word"),
 )
 # Requests that aren't done before anything is launched, and why.
@@ -38,7 +38,7 @@ LATE = (
     ("launch", {"program": 7}, "`program` of launch is a text"),
     ("launch", {"program": "nowhere.world"}, "isn't there"),
     ("launch", {"program": "examples/bad/bell.lsl"}, "LSL has the call llSin"),
-    ("launch", {"program": COURIER, "args": ["--foo"]}, "'--foo' is no word of play"),
+    ("launch", {"program": COURIER, "args": ["--foo"]}, "'--foo' isn't an option of play"),
     ("attach", {}, "there is no request `attach`"),
 )
 WRONG = (

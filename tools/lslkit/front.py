@@ -66,7 +66,7 @@ class Options:
         self.command, self.show, self.html, self.is_lossy, names = words[0], False, None, False, []
         self.is_explained = bool(os.environ.get("LSL_EXPLAIN"))
         if self.command not in COMMANDS:
-            raise Bad(f"'{self.command}' is no command")
+            raise Bad(f"'{self.command}' isn't a command")
         rest = iter(words[1:])
         for word in rest:
             if word == "--show" and self.command in SHOWN:
@@ -80,7 +80,7 @@ class Options:
             elif word == "--explain":
                 self.is_explained = True
             elif word.startswith("-"):
-                raise Bad(f"'{self.command}' has no option '{word}'")
+                raise Bad(f"'{word}' isn't an option of '{self.command}'")
             else:
                 names.append(word)
         takes_frozen = self.command in OF_FROZEN
@@ -248,7 +248,7 @@ def hand_on(piece):
 
 
 def handed_name(command, room):
-    """The file that the program is to read: where it names one that is no regular file, a world without that one."""
+    """The file that the program is to read; if it names one that isn't a regular file, a world without that one."""
     if not command.is_world or program.are_plain(command.name, True):
         return command.name
     path = os.path.join(room, "world")

@@ -81,7 +81,7 @@ class Play:
                     raise Bad(f"{word} takes a word" + (f", and not {value}" if value else ""))
                 self.give(name, value)
             else:
-                raise Bad(f"'{word}' is no word of play")
+                raise Bad(f"'{word}' isn't an option of play")
         if not self.scripts:
             raise Bad("play takes a script, or a world file")
         if "interactive" in self.flags and self.outputs:

@@ -71,7 +71,7 @@ def unread(name):
     if stat.S_ISDIR(mode):
         return "is a folder"
     if not stat.S_ISREG(mode):
-        return "is no regular file"
+        return "isn't a regular file"
     return None if os.access(name, os.R_OK) else "may not be read"
 
 

@@ -57,7 +57,7 @@ def played(words):
     play = playing.Play(words)
     unused = [it for it in UNUSED if it in play.flags] + [it for it in ("html", "freeze") if getattr(play, it)]
     if unused:
-        raise stage.Bad(f"--{unused[0]} is no word of debug")
+        raise stage.Bad(f"--{unused[0]} isn't an option of debug")
     return play
 
 
