@@ -1,4 +1,4 @@
-"""A room for what is being built. One call builds at a time, and nothing is left behind."""
+"""A room for what is being built. One call builds at a time, and nothing is left over."""
 import contextlib
 import fcntl
 import hashlib

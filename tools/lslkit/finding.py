@@ -1,4 +1,4 @@
-"""Where a call, an event, a constant, a fault or a step stands in the crates, the pages and the examples."""
+"""Where a call, an event, a constant, a fault or a step is in the crates, the pages and the examples."""
 import os
 import re
 from collections import namedtuple
@@ -17,7 +17,7 @@ WIDTH = 120
 
 
 def subject_of(name):
-    """What a name or a fault's number stands for, or none."""
+    """What a name or a fault's number means, or none."""
     for sort, table, enum in TABLES:
         rows = text_of("crates", "lsl_table", "src", f"{table}.rt")
         row = re.search(r'(?m)^ +(\w+) "%s" .*;$' % re.escape(name), rows)
@@ -96,7 +96,7 @@ def places_of(subject):
 
 
 def places_of_function(folder, name, texts, subject):
-    """Where a function of a crate is written and where its proof stands."""
+    """Where a function of a crate is written and where its proof is."""
     for path, text in texts.items():
         if path.startswith(f"{folder}/src/"):
             for it in re.finditer(r"(?m)^ *(?:pub(?:\(crate\))? )?fn %s\b.*$" % name, text):
@@ -107,7 +107,7 @@ def places_of_function(folder, name, texts, subject):
 
 
 def lines(places, most):
-    """The places as lines, those of a group below its name, at most so many of each."""
+    """The places as lines, those of a group below its name, at most `most` of each."""
     for group in GROUPS:
         rows = [it for it in places if it.group == group]
         if rows:

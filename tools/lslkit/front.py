@@ -200,7 +200,7 @@ def with_program(command, how):
 
 
 def carry(binary, command):
-    """Runs a command with its journal handed on as it comes, and says at its end what its status leaves unsaid."""
+    """Runs a command with its journal passed on as it comes, and says at its end what its status leaves unsaid."""
     follower, first = standing.Follower(), b""
     with tempfile.TemporaryDirectory(prefix="lsl-") as room, tempfile.TemporaryFile() as notes:
         handed = handed_name(command, room)
@@ -294,7 +294,7 @@ def tell_other_sort(command):
 
 
 def tell_standing(binary, command, follower):
-    """Says which scripts still stand in a handler, and in which line."""
+    """Says which scripts are still in a handler, and in which line."""
     for number, name, event, line in standing.told(binary, command.world(), follower):
         place = f", line {line}" if line else ""
         print(f'lsl: script {number} "{name}" is still in {event}{place}', file=sys.stderr)

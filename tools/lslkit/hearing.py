@@ -59,7 +59,7 @@ class Hearing:
     # What stops a script
 
     def halted(self, at, count):
-        """Why a script takes nothing at a moment: it is dead, asleep, or its handler goes on."""
+        """Why a script takes nothing at a moment: it is dead, asleep, or its handler still runs."""
         script = self.scripts(count)[at]
         if script.rest == "dead":
             return said("dead", script=self.name(at), fault=script.fault, where=self.step_of_fault(at))
@@ -76,7 +76,7 @@ class Hearing:
         return "" if step is None else f" {self.past.label(step)}"
 
     def still_running(self, count):
-        """The scripts whose handlers go on, and don't sleep."""
+        """The scripts whose handlers still run, and don't sleep."""
         clock = self.past.after(count).state.clock if self.scripts(count) else 0
         places = [at for at, it in enumerate(self.scripts(count)) if it.rest == "running" and it.wakes <= clock]
         return [self.halted(at, count) for at in places]

@@ -122,7 +122,7 @@ def exit_on(number, _):
 
 @contextlib.contextmanager
 def stopped_in_order():
-    """Has a signal that ends this process end it as an exception, so that nothing is left behind."""
+    """Has a signal that ends this process end it as an exception, so that nothing is left over."""
     before = {it: signal.signal(it, exit_on) for it in STOPPING}
     try:
         yield

@@ -9,7 +9,7 @@ ENDS = ("done", "fault")
 # The lines that are of no script or object.
 UNNUMBERED = ("frozen",)
 
-# A line: its first word, the number of its script or object, and what stands behind that.
+# A line: its first word, the number of its script or object, and what follows that.
 Entry = namedtuple("Entry", "word number rest")
 
 

@@ -4,7 +4,7 @@ from collections import namedtuple
 from . import tables
 from .syntax import walk
 
-# A value that has to become a kind: the value, that kind, its own one, where it stands in words, and whether it is an
+# A value that has to become a kind: the value, that kind, its own one, where it is in words, and whether it is an
 # argument that would fit in another order.
 Conversion = namedtuple("Conversion", "value wanted found where is_swapped")
 TEXTS = ("string", "key")
@@ -69,7 +69,7 @@ def bodies(script):
 
 
 def visit(script, report):
-    """Calls `report` with each part of the script and the scope in which it stands, outer parts first."""
+    """Calls `report` with each part of the script and the scope in which it is, outer parts first."""
     scope = Scope(script)
     for it in script.globals:
         for part in walk(it):

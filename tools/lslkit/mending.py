@@ -2,7 +2,7 @@
 knows where it stood in the text as it was written, and whether it was put in."""
 from . import syntax, tokens
 
-# What can stand for a value of each kind.
+# What can replace a value of each kind.
 VALUES = {"integer": b"0", "string": b'""', "list": b"[]", "key": b'((key)"")'}
 STATEMENTS = (*"block declare label value empty if while do for jump state return".split(),)
 
@@ -96,5 +96,5 @@ def blanked_line(text, place):
 
 
 def cut_of(text):
-    """A text's tokens, for what stands around a fault that no tree has."""
+    """A text's tokens, for what is around a fault that no tree has."""
     return tokens.cut(text)

@@ -1,7 +1,7 @@
-"""Scripts whose constructs stand in one another as deeply as the language allows."""
+"""Scripts whose constructs are nested in one another as deeply as the language allows."""
 
 SCRIPT = "integer f(integer i) { return i; } default { state_entry() { %s } }"
-# Of each sort: what stands before, what opens a construct, what stands within, what closes one, what stands behind, and
+# Of each sort: what comes before, what opens a construct, what is within, what closes one, what comes after, and
 # how many of them are accepted.
 SORTS = {
     "blocks": ("", "{", "", "}", "", 199),
@@ -17,7 +17,7 @@ SORTS = {
 
 
 def script(sort, more=0):
-    """The deepest script of a sort that is accepted, or one that is deeper by so many constructs."""
+    """The deepest script of a sort that is accepted, or one that is deeper by `more` constructs."""
     before, opening, within, closing, behind, count = SORTS[sort]
     count += more
     return SCRIPT % (before + opening * count + within + closing * count + behind)

@@ -1,4 +1,4 @@
-"""A second run of a world that tells more than its journal: each line's step, and where scripts stand.
+"""A second run of a world that tells more than its journal: each line's step, and where scripts are.
 
 The second world has one more object, whose script is touched between the steps, and copies of the scripts with
 probes (`probe`). Numbers of objects and scripts stay as they are, since the new ones are the last. Its journal without
@@ -17,21 +17,21 @@ MAX_BYTES = 1000000
 
 class Observation:
     """Of a journal each line's step, as its place in the world's list, what each probe told before which line, and for
-    each `clear` the state in which its script stands then."""
+    each `clear` the state in which its script is then."""
 
     def __init__(self, steps, probes, states):
         self.steps, self.probes, self.states = steps, probes, states
 
     def state_now(self):
-        """The state in which a world's one script stands at the end."""
+        """The state in which a world's one script is at the end."""
         told = [(place, probe.name) for place, _, probe in self.probes if probe.sort == "state"]
-        # A `clear` stands behind the handlers of the state that was left.
+        # A `clear` comes after the handlers of the state that was left.
         changes = [(place + 1, state) for place, state in self.states.items()]
         return max([(0, "default"), *told, *changes], key=lambda it: it[0])[1]
 
 
 def states_of(entries, probes):
-    """For each `clear` the state in which its script stands then: the one that it was told to go to, or `default`."""
+    """For each `clear` the state in which its script is then: the one that it was told to go to, or `default`."""
     found, going, leaving, at = {}, {}, set(), 0
     for place, entry in enumerate(entries):
         while at < len(probes) and probes[at][0] <= place:

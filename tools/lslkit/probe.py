@@ -7,7 +7,7 @@ from collections import namedtuple
 
 from . import syntax, tokens
 
-# What a probe tells: `state` the state in which a handler stands, `to` the one that it goes to, `reset` that it resets
+# What a probe tells: `state` the state in which a handler is, `to` the one that it goes to, `reset` that it resets
 # its script, `line` where it is, with the name of the function or the event; and the line of that place.
 Probe = namedtuple("Probe", "sort name line")
 LOOPS = ("while", "do", "for")
@@ -65,7 +65,7 @@ class Prober:
         return self.probe("line", "", node.first) if is_told else ""
 
     def statement(self, node):
-        """Probes in a block or in a statement that stands in one."""
+        """Probes in a block or in a statement that is in one."""
         for part in node.parts:
             if part.form in STATEMENTS and node.form == "block":
                 self.insert(self.tokens[part.first].place, 2, self.before(part))
@@ -74,7 +74,7 @@ class Prober:
                 self.body(part, self.probe("line", "", node.at) if node.form in LOOPS else "")
 
     def body(self, node, behind):
-        """Probes in the body of a loop or of an `if`, and the one behind it."""
+        """Probes in the body of a loop or of an `if`, and the one after it."""
         if node.form == "block":
             self.statement(node)
             self.insert(self.tokens[node.last - 1].place, 0, behind)

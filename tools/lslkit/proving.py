@@ -1,4 +1,4 @@
-"""Proves a crate and those that it stands on, from what the gate proved on this machine where the kit keeps that; and
+"""Proves a crate and those that it needs, from what the gate proved on this machine where the kit keeps that; and
 builds the programs."""
 import contextlib
 import os
@@ -12,7 +12,7 @@ from .progress import Progress
 # The memory of a proof, in kilobytes.
 PROOF_NEEDS = 4000000
 # What a proof from nothing takes in processor minutes, and what no further processor makes shorter: the crates that
-# stand one on another.
+# depend on one another.
 PROCESSOR_MINUTES = 120
 CHAIN_MINUTES = 60
 # What a build doesn't read of a crate.
@@ -52,13 +52,13 @@ def build(binary, progress):
 
 
 def proved(crate, room, progress):
-    """Proves a crate and those that it stands on, each of which leaves its library in its folder `out`: in a copy where
+    """Proves a crate and those that it needs, each of which leaves its library in its folder `out`: in a copy where
     the gate keeps what it proved, and else in place. The crate's folder there."""
     return by_gate(crate, room, progress) if kit.keeps() else by_checks(crate, progress)
 
 
 class Count:
-    """How many of the crates that one stands on are proved."""
+    """How many of the crates that one needs are proved."""
 
     def __init__(self, crate, progress):
         self.progress, self.crates, self.done = progress, sources.crates_of(crate), set()

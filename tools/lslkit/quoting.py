@@ -1,4 +1,4 @@
-"""Quoted texts of world files and journals, and the part of a line that a fault stands in."""
+"""Quoted texts of world files and journals, and the part of a line that a fault is in."""
 import re
 
 QUOTED = r'"((?:[^"\\]|\\.)*)"'

@@ -1,4 +1,4 @@
-"""How a text is mended of its first fault, so that the program goes on to the next one: for each fault the choices of
+"""How a text is mended of its first fault, so that the program gets to the next one: for each fault the choices of
 edits, of which the one is taken that lets it go furthest."""
 import re
 

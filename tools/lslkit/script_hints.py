@@ -109,7 +109,7 @@ def unexpected_token(source):
 
 
 def missing_sign(source):
-    """The sign that is missing before the unexpected token, in words, and whether the script goes on with it to its
+    """The sign that is missing before the unexpected token, in words, and whether the script continues with it to its
     end."""
     sign, is_all = sign_missing(source)
     if sign is None:
@@ -120,7 +120,7 @@ def missing_sign(source):
 
 
 def sign_missing(source):
-    """The sign with which the script goes on, and whether it does to its end."""
+    """The sign with which the script continues, and whether it does to its end."""
     at = source.unexpected.at if source.unexpected else 0
     for sign in (";", ")", "]", "{", "(", ",") if at else ():
         token = tokens.Token("sign", sign, 0, 0)

@@ -89,7 +89,7 @@ def counted(count, noun):
 
 
 def with_places(binary, text, world_text):
-    """The journal's text with where each script stopped and its variables there, behind the fault."""
+    """The journal's text with where each script stopped and its variables there, after the fault."""
     history = past.Past(binary, world_text)
 
     def placed(found):

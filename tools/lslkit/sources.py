@@ -20,7 +20,7 @@ def crates():
 
 
 def crates_of(program):
-    """The crates that a program stands on, lowest first, and itself."""
+    """The crates that a program depends on, lowest first, and itself."""
     below, order = crates(), []
 
     def add(name):

@@ -1,4 +1,4 @@
-"""A script as a tree, by the grammar of docs/LANGUAGE.md; or its first unexpected token, and what could stand there.
+"""A script as a tree, by the grammar of docs/LANGUAGE.md; or its first unexpected token, and what could be there.
 
 It serves the tools' hints and probes. What is accepted the program alone says."""
 import sys
@@ -6,8 +6,8 @@ from collections import namedtuple
 
 from .tokens import TYPES
 
-# A part of a script: its form, its name, word or operator, its parts, its first token and the one behind it, and the
-# token at which its faults stand. A name's `kind` is the one that is written before it.
+# A part of a script: its form, its name, word or operator, its parts, its first token and the one after it, and the
+# token at which its faults are. A name's `kind` is the one that is written before it.
 Node = namedtuple("Node", "form text parts first last at kind")
 Script = namedtuple("Script", "globals functions states tokens")
 
@@ -17,7 +17,7 @@ ASSIGNS = ("=", "+=", "-=", "*=", "/=", "%=")
 
 
 class Unexpected(Exception):
-    """The place in the list of tokens at which no script goes on, and what could stand there."""
+    """The place in the list of tokens at which no script continues, and what could be there."""
 
     def __init__(self, at, wanted):
         super().__init__(at, wanted)
@@ -314,7 +314,7 @@ def read(tokens):
 
 
 def walk(node):
-    """A node and all that stand in it, each before its parts."""
+    """A node and all that are in it, each before its parts."""
     yield node
     for part in node.parts:
         yield from walk(part)

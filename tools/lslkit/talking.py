@@ -43,7 +43,7 @@ def write_frozen(binary, text, name):
 
 
 def wait(binary, stage, text):
-    """Has the clock go on by a time, from one moment at which a timer is due or a script wakes to the next."""
+    """Advances the clock by a time, from one moment at which a timer is due or a script wakes to the next."""
     end = stage.clock + milliseconds(text)
     for _ in range(MOST_WAITS):
         state = snapshot.after(binary, stage.text())
@@ -60,7 +60,7 @@ def wait(binary, stage, text):
 
 
 def tell_causes(binary, text):
-    """Says on standard error why steps of a play had no effect, and where scripts stopped or go on."""
+    """Says on standard error why steps of a play had no effect, and where scripts stopped or still run."""
     for line in cause_lines(past.Past(binary, text)):
         print(f"lsl: {line}", file=sys.stderr)
 

@@ -169,7 +169,7 @@ class Names:
 
 
 def clocks(world):
-    """The clock behind each step, in milliseconds."""
+    """The clock after each step, in milliseconds."""
     clock, found = 0, []
     for step in world.steps:
         if step.word == "clock":

@@ -1,4 +1,4 @@
-"""Where the scripts of a frozen world stand, for a reader: the object and prim of each, the source lines of its calls,
+"""Where the scripts of a frozen world are, for a reader: the object and prim of each, the source lines of its calls,
 and the names of their slots."""
 import re
 from collections import namedtuple

@@ -71,7 +71,7 @@ def named_in(name):
 
 
 def libraries(crates):
-    """The words that name the libraries which the crate stands on, in a folder of crates."""
+    """The words that name the libraries which the crate needs, in a folder of crates."""
     named, below = sources.crates()[CRATE], sources.crates_of(CRATE)[:-1]
     folders = {it: os.path.join(crates, it, "out", "rlib") for it in below}
     words = ["--extern", f"std={kit.path('rlibs')}/std.rlib", "-L", f"dependency={kit.path('rlibs')}"]
@@ -124,7 +124,7 @@ def heads():
 
 
 def for_wasm(line, begins):
-    """A line of the module as it stands in the one for WebAssembly."""
+    """A line of the module as it is in the one for WebAssembly."""
     first = line.partition(" = ")[0]
     if first in begins:
         return f"{first} = {begins[first]}\n"

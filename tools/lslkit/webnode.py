@@ -40,7 +40,7 @@ def suite():
 
 @functools.lru_cache(maxsize=None)
 def node():
-    """The words that begin a call of node: with a flag where it has 64-bit memories behind one."""
+    """The words that begin a call of node: with a flag where it has 64-bit memories after one."""
     found = shutil.which("node")
     if found is None:
         raise kit.NotMade("there is no 'node' on the PATH, which plays the module")

@@ -107,7 +107,7 @@ def wrong_gap(line, words):
 
 
 def fault_of(field, word):
-    """Why a word can't stand for a field, or nothing."""
+    """Why a word can't be a field, or nothing."""
     if field in ("NAME", "REGION", "FILE", "TEXT"):
         if not word.is_quoted:
             return "a text in double quotes" + (", and this one has no end" if word.text.startswith('"') else "")
