@@ -1,5 +1,6 @@
 """Checks of how tools begin and end: outputs that take nothing, wrong words and files, signals."""
 import os
+import re
 import signal
 import subprocess
 import tempfile
@@ -76,6 +77,21 @@ def the_suite_takes_a_program_alone():
     for name in ("--try", "lsl", "examples", "nowhere"):
         _, notes = run("tools/suite", name, status=1)
         need(notes.startswith("suite: ") and notes.count("\n") == 1, name, "says", notes)
+
+
+@check
+def the_suite_plays_trips_in_memory():
+    name, path = "replayed-after-it-came-back", "suite/handover.cases"
+    output, _ = run("tools/suite", making.any_program(), name, status=0)
+    need(output.startswith("1 not run: "), "a program gives", output)
+    output, _ = run("tools/suite", "--memory", name, status=0)
+    need(output == "1 passed, 0 failed\n", "in memory it gives", output)
+    case = next(it for it in places.text_of(path).split("\n\n") if f"? {name}\n" in it)
+    with tempfile.TemporaryDirectory() as room:
+        wrong = os.path.join(room, "wrong.cases")
+        places.write_text(wrong, re.sub(r"(?m)^(= .*)=$", r"\1/", case) + "\n")
+        output, _ = run("tools/suite", "--memory", wrong, status=1)
+        need(f"{name}: status" in output and output.endswith("\n0 passed, 1 failed\n"), "another trip gives", output)
 
 
 @check

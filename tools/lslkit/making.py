@@ -48,11 +48,13 @@ def make(crate, is_proved):
 
 def make_unproved(crate, room):
     """Compiles a program without its proofs, and says so."""
-    doing = f"compiling the {about.CALLED[crate]} without its proofs"
-    hint = "'./lsl --prove' proves it, in about an hour"
-    with Progress("lsl", f"{doing}, in a minute or two; {hint}", doing) as progress:
+    is_called = crate in about.CALLED
+    called = f"the {about.CALLED[crate]}" if is_called else crate
+    doing, hint = f"compiling {called} without its proofs", "; './lsl --prove' proves it, in about an hour"
+    hint = hint if is_called else ""
+    with Progress("lsl", f"{doing}, in a minute or two{hint}", doing) as progress:
         binary = unproved.make(crate, room, progress)
-        progress.end(f"compiled the {about.CALLED[crate]} without its proofs", f"; {hint}")
+        progress.end(f"compiled {called} without its proofs", hint)
     return binary
 
 
