@@ -11,8 +11,9 @@ from .debugger import core
 from .debugger.session import Session
 
 # Where a script stopped: its fault, its file, the line, the function or event, the variables there as names and values,
-# the calls as names and lines, and the script's state before the segment.
-Place = namedtuple("Place", "fault file line routine variables calls before")
+# the calls as names and lines, and the script's state before the segment. Where it `is_near` it stopped there or soon
+# after.
+Place = namedtuple("Place", "fault file line routine variables calls before is_near")
 MOST_SPENT, MOST_CALLS, LAST_CALLS = 5, 6, 2
 MEMORY = "Stack-Heap Collision"
 
@@ -52,7 +53,8 @@ def traced(binary, history, number):
         known = [(it.name, core.value_of(it.value)) for it in variables if it.value != core.UNKNOWN]
         calls = [(it.name.rpartition(".")[2], it.line) for it in moment.calls]
         before = snapshot.scripts(session.state())[number - 1]
-        return Place(session.fault(), moment.file, moment.line, calls[0][0], known, calls, before)
+        found = [session.fault(), moment.file, moment.line, calls[0][0], known, calls, before]
+        return Place(*found, moment.is_near)
 
 
 def saved(history, step, number):
@@ -63,7 +65,8 @@ def saved(history, step, number):
     fault = next(it for it in history.new_at(step) if it.word == "fault" and it.number == number)
     file, calls = history.world.scripts[number - 1].file, [(it.name, it.line) for it in script.calls] if script else []
     routine, line = calls[0] if calls else (script.event.name if script and script.event else "", 0)
-    return Place(journal.fields(fault.rest)[0][0], file, line, routine, variables(script, file, routine), calls, script)
+    known = variables(script, file, routine)
+    return Place(journal.fields(fault.rest)[0][0], file, line, routine, known, calls, script, True)
 
 
 def before_fault(history, step, number):
@@ -94,6 +97,7 @@ def lines(history, number):
     teller = stating.Teller(history.world)
     known = ", ".join(f"{name} = {cut(teller.value(value))}" for name, value in place.variables)
     where = f"{os.path.basename(place.file)}:{place.line}" if place.line else os.path.basename(place.file)
+    where += " or soon after" if place.is_near else ""
     inside = f", in {place.routine}" if place.routine else ""
     said = [f"{place.fault} at {where}{inside}" + (f", with {known}" if known else "")]
     return said + ([*stack(place), *memory(place, teller)] if place.fault == MEMORY and place.before else [])

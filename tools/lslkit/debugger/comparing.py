@@ -6,21 +6,19 @@ text, in which [""] is as [], and a separator in an element as one between eleme
 
 A copy may lack the memory for the mark of a call that was just entered, where its script stops in that call. Its fault is
 then told a segment too early, and the state there says so: the script hasn't stopped yet."""
-import os
 import random
 import re
 
 from .. import worlds
 from ..places import bytes_of
 from ..program import world_of
-from . import stopping
+from . import segments
 from .core import Core, text_of, value_of, words_of
 from .folding import Folded
 
 CUT, SEPARATOR = 1021, "¦"
-# The bytes of a trace up to which it is compared.
-MOST = 20000000
-LAST = 1000000
+# The bytes of a trace up to which it is compared, and the most steps of a world that are.
+MOST, MOST_STEPS = 20000000, 200
 ASSIGNED = r"\b{0}\s*([-+*/%]?=(?!=)|\+\+|--)|(\+\+|--)\s*{0}\b"
 
 
@@ -58,16 +56,15 @@ class Comparison:
     def run(self):
         """Compares up to `most` places of each step."""
         with self.core.room:
-            self.core.trace()
-            if os.path.getsize(self.core.traced) > MOST:
+            if self.core.write_trace() > MOST:
                 self.found.is_long = True
                 return self.found
             folded = Folded((bytes_of(self.core.traced) or b"").decode(errors="surrogateescape"))
             self.found.tiers = {it.tier for it in folded.tables.units.values()}
             steps = worlds.read(world_of(self.path)).steps
-            for step, it in enumerate(steps, 1):
-                if it.word in ("run", "go"):
-                    self.step(folded, step)
+            runs = [step for step, it in enumerate(steps, 1) if it.word in ("run", "go")]
+            for step in runs if len(runs) <= MOST_STEPS else sorted(self.choose.sample(runs, MOST_STEPS)):
+                self.step(folded, step)
         return self.found
 
     def state(self, step, segment):
@@ -83,7 +80,7 @@ class Comparison:
         found = []
         for segment, number in folded.collisions(step):
             segment += len(found)
-            more = stopping.late(self.core, number, step, segment)
+            more = segments.late(self.core, number, step, segment)
             found += range(segment + 1, segment + 1 + more)
             self.found.late += more > 0
         return found
@@ -92,10 +89,10 @@ class Comparison:
         self.states = {}
         late, told = self.late(folded, step), folded.ends.get(step, 0)
         last = told + len(late)
-        segments = range(last + 1)
-        if len(segments) > self.most:
-            segments = sorted({0, last, *self.choose.sample(segments, self.most - 2)})
-        for segment in segments:
+        chosen = range(last + 1)
+        if len(chosen) > self.most:
+            chosen = sorted({0, last, *self.choose.sample(chosen, self.most - 2)})
+        for segment in chosen:
             folded.go(step, segment - sum(it <= segment for it in late))
             if segment + 1 not in late:
                 for number, script in enumerate(self.scripts(step, segment), 1):
@@ -105,14 +102,14 @@ class Comparison:
         # The segments of the step are counted as they are, where each script tells something.
         if 4 in self.found.tiers:
             return
-        if self.said(step, LAST) != self.said(step, last):
+        if self.said(step, segments.LAST) != self.said(step, last):
             self.found.differs.append(f"{step} has more than {last} segments")
         if last and folded.says(step, told) and self.said(step, last - 1) == self.said(step, last):
             self.found.differs.append(f"{step} has fewer than {last} segments")
 
     def said(self, step, segment):
         """The journal and the state after a segment, as they are printed."""
-        return self.core.run("state", "--at", str(step), str(segment), self.path)
+        return self.core.shown((step, segment))
 
     def of_script(self, folded, number, state):
         unit = folded.unit_of(number)

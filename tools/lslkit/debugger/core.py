@@ -23,7 +23,8 @@ Mark = namedtuple("Mark", "unit routine sort first last")
 # A line of the journal, and its moment.
 Said = namedtuple("Said", "moment step segment line")
 # Where a move led: `calls` has the innermost first, `values` are the script's globals, and `said` is the journal's line.
-Moment = namedtuple("Moment", "number count step segment script file line sort calls values said")
+# Where a script stopped for good and `is_near`, it did so there or soon after.
+Moment = namedtuple("Moment", "number count step segment script file line sort calls values said is_near", defaults=[False])
 Call = namedtuple("Call", "name line variables")
 Variable = namedtuple("Variable", "name kind value")
 
@@ -64,10 +65,14 @@ class Core:
             raise Refused(ran)
         return ran.output
 
-    def trace(self):
-        """The trace of the world."""
+    def write_trace(self):
+        """Keeps the trace of the world. How many bytes it has."""
         with open(self.traced, "wb") as file:
-            file.write(self.run("trace", self.world))
+            return file.write(self.run("trace", self.world))
+
+    def trace(self):
+        """The trace of the world, which is kept."""
+        self.write_trace()
         return Trace((bytes_of(self.traced) or b"").decode(errors="surrogateescape"))
 
     def seek(self, moment, *move):
@@ -76,8 +81,12 @@ class Core:
 
     def state(self, place=None):
         """The state of the world at a step and a segment, or at its end."""
+        return state_of(program.lines_of(self.shown(place)))
+
+    def shown(self, place=None):
+        """The same as it is printed, after the journal so far."""
         at = ["--at", *map(str, place)] if place else []
-        return state_of(program.lines_of(self.run("state", *at, self.world)))
+        return self.run("state", *at, self.world)
 
 
 class Trace:

@@ -154,7 +154,7 @@ class Face:
         session, moment = self.session, self.session.moment
         at = f" in {session.names.script(moment.script)}"
         if moment.file:
-            at = f" at {self.place(moment.file, moment.line)}"
+            at = f" at {self.place(moment.file, moment.line)}" + (" or soon after" if moment.is_near else "")
         inside = f", in {self.routine(moment.calls[0].name)}" if moment.calls else ""
         every = [*session.locals_of(moment, 0), *session.globals_of(moment)]
         known = self.variables([it._replace(is_new=False) for it in every])

@@ -18,28 +18,26 @@ MOST, UNKNOWN = 1000, "?"
 
 
 def shown(session):
-    """Where the debugger shows that the script stops, and whether a state told it."""
+    """Where the debugger shows that the script stops, and whether it says that it did so there or soon after."""
     number = session.trace.faults()[-1]
     session.go(session.at(number))
     moment = session.moment
     variables = [*session.globals_of(moment), *session.locals_of(moment, 0)]
     values = {it.name: it.value for it in variables if len(it.value) < MOST and it.value != UNKNOWN}
-    plain = session.core.seek(number, "to", number)
     routine = Face.routine(moment.calls[0].name) if moment.calls else None
     found = random_faults.Stop(session.fault(), moment.line, routine, values, len(moment.calls), ())
-    return found, moment != plain
+    return found, moment.is_near
 
 
-def differences(found, wanted, is_amended, text):
-    """What is shown otherwise. In a call that no mark tells the line is that of its name, and what the statements under
-    way have assigned isn't told any more."""
-    names = ["fault", "routine", "depth"] + ([] if is_amended else ["line"])
+def differences(found, wanted, is_near, text):
+    """What is shown otherwise. What the statements under way have assigned isn't told any more."""
+    names = ["fault"] if is_near else ["fault", "routine", "depth", "line"]
     for it in names:
         if getattr(found, it) != getattr(wanted, it):
             yield f"{it} is {getattr(wanted, it)}, shown {getattr(found, it)}"
     lines = text.split("\n")
     under_way = "\n".join(lines[it - 1] for it in wanted.lines)
-    for name, value in wanted.values.items() if not is_amended else ():
+    for name, value in wanted.values.items() if not is_near else ():
         if not is_assigned(name, under_way) and name in found.values and found.values[name] != frozen.word(value):
             yield f"{name} is {frozen.word(value)}, shown {found.values[name]}"
 
@@ -59,11 +57,11 @@ def compare(binary, seeds):
             with contextlib.closing(Session(binary, path)) as session:
                 if not session.trace.faults():
                     said = [f"it stops with {wanted.fault} at line {wanted.line}, and goes on"]
-                    is_amended = False
+                    is_near = False
                 else:
-                    found, is_amended = shown(session)
-                    said = list(differences(found, wanted, is_amended, text))
-            counts[f"{wanted.fault} told by a state" if is_amended else wanted.fault] += 1
+                    found, is_near = shown(session)
+                    said = list(differences(found, wanted, is_near, text))
+            counts[f"{wanted.fault} there or soon after" if is_near else wanted.fault] += 1
             wrong += bool(said)
             for it in said:
                 print(f"script {seed}: {it}"[:200], flush=True)

@@ -1,14 +1,16 @@
-"""Where a script stopped for good, where its trace can't tell the last call.
+"""Where a script stopped for good, where its trace can't tell that exactly.
 
-A mark takes memory. Where a script stops in a call that it has just entered, for want of memory, its copy may lack that
-for the mark of the call. The trace then has the fault in the segment before, in which the script itself hasn't stopped:
-its state tells the calls. So it does where nothing is told of the script, or where a value isn't told."""
-from .. import frozen, snapshot, viewing
+A mark takes memory. So for want of memory a copy may stop at a mark before the statement in which its script stops, also
+a segment earlier, where the script has entered a call. And of some scripts nothing is told, or no values. Copies that
+take no more memory tell the statement (`paced`), or else it is near: the state before the segment has the last place
+that is known."""
+from .. import frozen, viewing
 from ..places import bytes_of
+from . import paced
 from .core import UNKNOWN, Call, Variable
+from .segments import late, script_at
 
 MEMORY = "Stack-Heap Collision"
-LAST = 1000000
 
 
 def word_of(value):
@@ -16,49 +18,49 @@ def word_of(value):
     return frozen.word(list(map(str, value)) if isinstance(value, list) else value)
 
 
-def is_dead(core, number, step, segment):
-    return snapshot.scripts(core.state((step, segment)))[number - 1].rest == "dead"
-
-
-def last_segment(core, number, step, first):
-    """The segment before the one in which a script stops, from one on in which it hasn't."""
-    size = 1
-    while not is_dead(core, number, step, min(first + size, LAST)):
-        first, size = first + size, 2 * size
-    end = first + size
-    while first + 1 < end:
-        middle = (first + end) // 2
-        first, end = (first, middle) if is_dead(core, number, step, middle) else (middle, end)
-    return first
-
-
-def late(core, number, step, segment):
-    """How many segments the script goes on for after the one in which its fault is told."""
-    return 0 if is_dead(core, number, step, segment) else last_segment(core, number, step, segment) - segment + 1
-
-
 def whole(core, moment, number, file):
-    """The moment of a fault of a script with the calls that it has then, where the trace tells fewer; and with values as
-    they were before the segment, where they aren't told."""
+    """The moment of a fault of a script, with all that is known there."""
+    if moment.script and MEMORY not in moment.said:
+        before = script_at(core, number, moment.step, max(0, moment.segment - 1))
+        return filled(moment, calls_of(before, file), values_of(before))
     first = moment.segment if moment.script else 0
-    more = late(core, number, moment.step, first) if MEMORY in moment.said or not moment.script else 0
-    segment = first + more
-    script = snapshot.scripts(core.state((moment.step, max(0, segment - 1))))[number - 1]
-    routines = viewing.routines_of(bytes_of(file) or b"")
-    calls = [call_of(it, script.state, routines) for it in script.calls]
-    if not more:
-        return filled(moment, calls, values_of(script))
+    segment = first + late(core, number, moment.step, first)
+    script = paced.stop(core, number, moment.step)
+    if script is None:
+        return near(moment, segment, script_at(core, number, moment.step, max(0, segment - 1)), number, file)
+    calls = calls_of(script, file)
+    is_told = moment.script and places_of(calls) == places_of(moment.calls)
+    return filled(moment, calls, values_of(script)) if is_told else at(moment, segment, script, number, file)
+
+
+def places_of(calls):
+    """What the active calls are of, and the line of the innermost."""
+    return [it.name for it in calls], [it.line for it in calls[:1]]
+
+
+def near(moment, segment, before, number, file):
+    """The moment where no copies tell the statement: the script's trace does, up to this segment, or its state."""
+    if segment == moment.segment and moment.script:
+        found = filled(moment, calls_of(before, file), values_of(before))
+    else:
+        found = at(moment, segment, before, number, file)
+    return found._replace(is_near=True)
+
+
+def at(moment, segment, script, number, file):
+    """The moment with the calls and the values that a script has then."""
+    calls = calls_of(script, file)
+    found = {"segment": segment, "script": number, "file": file if calls else None}
     line = calls[0].line if calls else 0
-    found = {"segment": segment, "script": number, "file": file if calls else None, "line": line}
-    return moment._replace(**found, calls=calls, values=values_of(script))
+    return moment._replace(**found, line=line, calls=calls, values=values_of(script))
 
 
 def filled(moment, calls, values):
     """The moment with the values of these calls and globals in place of those that aren't told."""
     known = {(depth, call.name, it.name): it for depth, call in enumerate(calls[::-1]) for it in call.variables}
     filled_in, last = [], len(moment.calls) - 1
-    for at, call in enumerate(moment.calls):
-        variables = [told(it, known.get((last - at, call.name, it.name))) for it in call.variables]
+    for number, call in enumerate(moment.calls):
+        variables = [told(it, known.get((last - number, call.name, it.name))) for it in call.variables]
         filled_in.append(call._replace(variables=variables))
     by_name = {it.name: it for it in values}
     return moment._replace(calls=filled_in, values=[told(it, by_name.get(it.name)) for it in moment.values])
@@ -70,6 +72,11 @@ def told(variable, known):
 
 def values_of(script):
     return [Variable(name, kind_of(value), word_of(value)) for name, value in script.globals]
+
+
+def calls_of(script, file):
+    routines = viewing.routines_of(bytes_of(file) or b"")
+    return [call_of(it, script.state, routines) for it in script.calls]
 
 
 def call_of(call, state, routines):
