@@ -134,10 +134,11 @@ class Script:
     def loop(self, depth):
         name, most = self.name("integer", "c"), self.chance.randrange(1, 4)
         self.add(f"integer {name};")
-        form = self.chance.randrange(4)
+        form = self.chance.randrange(5)
         if form == 0:
-            more = f", {self.value('integer', 1)}" if self.often(0.3) else ""
-            self.braces(f"for ({name} = 0{more}; {name} < {most}; ++{name})", depth)
+            self.braces(f"for ({self.listed(f'{name} = 0')}; {name} < {most}; {self.listed(f'++{name}')})", depth)
+        elif form == 4:
+            self.braces(f"for ({self.listed()}; {name}++ < {most}; {self.listed()})", depth)
         elif form == 1:
             self.braces(f"while ({name}++ < {most})", depth)
         elif form == 2:
@@ -147,6 +148,21 @@ class Script:
             self.depth -= 1
         else:
             self.braces("do", depth, f"}} while (++{name} < {most});")
+
+    def listed(self, *items):
+        """A list of a `for`, with these items."""
+        every = [*items, *(self.item() for _ in range(self.pick(0, 0, 0, 1, 2)))]
+        self.chance.shuffle(every)
+        return ", ".join(every)
+
+    def item(self):
+        if self.routine == "handler" and self.often(0.02):
+            return "llResetScript()"
+        text = self.value("string", 1)
+        return self.pick(self.value("integer", 1), self.value("string"), self.sleep(), f"llOwnerSay({text})")
+
+    def sleep(self):
+        return f"llSleep({self.pick('0', '1', self.value('integer') + ' & 1')})"
 
     def labelled(self):
         name = self.name("integer", "c")
@@ -168,7 +184,7 @@ class Script:
         elif choice == 8:
             self.add(f"llSay({self.pick(0, 0, 5)}, {self.value('string')});")
         elif choice == 9 and self.often(0.5):
-            self.add(f"llSleep({self.pick(0, 1)});")
+            self.add(f"{self.sleep()};")
         elif choice == 10 and self.often(0.5):
             self.add(f'llMessageLinked(LINK_SET, {self.value("integer", 1)}, {self.value("string", 1)}, "");')
         elif choice == 11 and self.often(0.4):
