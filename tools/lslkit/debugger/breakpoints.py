@@ -23,12 +23,18 @@ class Breakpoint:
         self.number, self.said, self.condition, self.is_temporary, self.hits = number, said, condition, is_temporary, 0
 
 
-def test_of(text):
+def test_of(trace, text):
     """The core's words for a test of a variable."""
     found = TEST.fullmatch(text.strip())
     if not found:
         raise Wrong(FORM)
+    need_variable(trace, found[1])
     return ["if", found[1], found[2], found[3]]
+
+
+def need_variable(trace, name):
+    if name not in trace.variables:
+        raise Wrong(f"no variable is called `{name}`")
 
 
 def condition_of(trace, text, file=None):
@@ -38,7 +44,7 @@ def condition_of(trace, text, file=None):
     place = place.strip()
     if TEST.fullmatch(place):
         place, test = "", place
-    tested = test_of(test) if test else None
+    tested = test_of(trace, test) if test else None
     if not place:
         if tested is None:
             raise Wrong("a place or a condition is missing")
@@ -54,6 +60,8 @@ def place_of(trace, words, file):
         least, most = PLAIN[first]
         if not least <= len(rest) <= most:
             raise Wrong(f"`{first}` takes {'one word' if most == 1 else 'other words'}")
+        if first == "changes":
+            need_variable(trace, rest[0])
         words = [first, " ".join(rest)] if first == "said" else words
         return words, " ".join(words)
     if rest:

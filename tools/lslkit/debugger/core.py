@@ -96,7 +96,7 @@ class Trace:
     def __init__(self, text):
         self.units, self.marks, self.journal, self.count = {}, {}, [], 0
         # For each script the moments at which it did something.
-        self.acts, self.scripts = defaultdict(list), {}
+        self.acts, self.scripts, self.variables = defaultdict(list), {}, set()
         for line in text.split("\n"):
             word, _, rest = line.partition(" ")
             take = getattr(self, f"take_{word}", None)
@@ -110,6 +110,12 @@ class Trace:
     def take_mark(self, rest):
         number, unit, routine, sort, first, last = rest.split(" ")
         self.marks[int(number)] = Mark(int(unit), routine, sort, int(first), int(last))
+
+    def take_name(self, rest):
+        self.variables.add(rest.rpartition(" ")[2])
+
+    def take_global(self, rest):
+        self.take_name(rest)
 
     def take_script(self, rest):
         number, unit, name = words_of(rest)

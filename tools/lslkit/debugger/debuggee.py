@@ -185,7 +185,7 @@ class Debuggee:
         try:
             found, said = condition_of(self.session.trace, text, file)
             if condition:
-                found = found._replace(test=test_of(condition))
+                found = found._replace(test=test_of(self.session.trace, condition))
         except Wrong as error:
             return None, {"id": number, "verified": False, "message": f"{error}"}
         return Breakpoint(number, said, found), {"id": number, "verified": True}

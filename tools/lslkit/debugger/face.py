@@ -32,6 +32,8 @@ class Face:
     def __init__(self, session, is_coloured):
         self.session, self.painter = session, Painter(is_coloured)
         self.frame, self.listed, self.step, self.texts, self.is_over = 0, None, 0, {}, False
+        # The variable for which the run stopped at the moment.
+        self.watched = None
 
     @staticmethod
     def say(*lines):
@@ -113,11 +115,12 @@ class Face:
 
     # Stops
 
-    def go(self, moment, why=None):
+    def go(self, moment, why=None, watched=None):
         """Goes to a moment, and shows it; says so where there is none."""
         if moment is None:
             self.say("-- there is nothing to go to")
             return False
+        self.watched = watched
         start, self.frame, self.listed = self.session.moment.number, 0, None
         way = self.way(start, moment.number) if moment.number > start else []
         self.session.go(moment)
@@ -144,9 +147,10 @@ class Face:
         return f"{moment.number}: {name} {self.place(moment.file, moment.line)}{inside}{sort}"
 
     def changes(self, moment):
-        """The values of the innermost call and the globals that aren't those of the last stop."""
+        """The values of the innermost call and the globals that aren't those of the last stop, and the one for which the
+        run stopped."""
         shown = [*self.session.locals_of(moment, 0), *self.session.globals_of(moment)]
-        new = [it for it in shown if it.is_new or it.name == "(result)"]
+        new = [it for it in shown if it.is_new or it.name in ("(result)", self.watched)]
         return [f"         {self.variables(new)}"] if new else []
 
     def fault_lines(self, fault):

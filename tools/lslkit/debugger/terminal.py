@@ -50,7 +50,8 @@ class Terminal(Face):
         stop.hits += 1
         if stop.is_temporary:
             self.session.breakpoints.pop(stop.number, None)
-        self.go(moment, f"breakpoint {stop.number}: {stop.said}")
+        word, *rest = stop.condition.words
+        self.go(moment, f"breakpoint {stop.number}: {stop.said}", rest[0] if word == "changes" else None)
 
     # Lines
 
