@@ -70,7 +70,7 @@ class Face:
 
     def source(self, file):
         if file not in self.texts:
-            self.texts[file] = (bytes_of(file) or b"").decode(errors="replace").split("\n")
+            self.texts[file] = (bytes_of(file) or b"").decode(errors="replace").removesuffix("\n").split("\n")
         return self.texts[file]
 
     def source_line(self, file, number, is_current=False):
