@@ -217,10 +217,12 @@ class Machine:
             pass
         return None
 
-    def test(self):
+    def held(self):
         held = 1024 + sum(map(frozen.charge, self.globals.values())) + self.waiting
-        held += sum(32 + sum(map(frozen.charge, values.values())) for _, values in self.frames)
-        if held > self.limit:
+        return held + sum(32 + sum(map(frozen.charge, values.values())) for _, values in self.frames)
+
+    def test(self):
+        if self.held() > self.limit:
             raise Stopped(MEMORY)
 
     def give(self, value):
@@ -304,7 +306,8 @@ class Machine:
 
     def do_limit(self, limit):
         self.dropped(("value", limit))
-        self.limit = limit
+        if self.held() + frozen.charge(1) <= limit:
+            self.limit = limit
 
     def do_let(self, name, value):
         self.frames[-1][1][name] = self.dropped(value)
