@@ -4,8 +4,6 @@ import { Rows, rowOf } from "./rows.js";
 import { TabList } from "./tablist.js";
 
 const at = id => document.getElementById(id);
-// What is above the journal's views: the panel that steps through a run is there where the module has its calls.
-const SIDES = [["output", "Output"], ["stepping", "Step through"]];
 const VIEWS = [["timeline", "Timeline"], ["told", "In words"], ["journal", "Journal"]];
 const NARROW = "(max-width: 900px)";
 
@@ -16,41 +14,37 @@ export class Panels {
     this.told = new Rows(at("told"), row => this.toldRow(row));
     this.journal = new Rows(at("journal"), line => rowOf("", [this.journalLine(line), ""]));
     this.tabs = new TabList(at("views"), view => this.want(view));
-    this.sides = new TabList(at("sides"), side => this.turnTo(side));
+    at("step-through").addEventListener("click", () => this.showStepping(!this.isStepping));
     this.ready = new Promise(resolve => (this.isReady = resolve));
     // Hands the frame the port on which it hears the worker.
     this.wire = port => this.ready.then(() => this.frame.postMessage({ words, port }, location.origin, [port]));
     addEventListener("message", event => this.hear(event));
     at("timeline").src = "timeline.html";
     this.want(0);
-    this.turnTo(0);
   }
 
-  // Adds the panel that steps through runs.
+  // Adds the panel that steps through runs, where the module has its calls.
   addStepping(panel) {
     this.stepping = panel;
-    this.turnTo(0);
+    at("step-through").hidden = false;
     if (this.scene) panel.offer(this.asked, this.scene);
   }
 
-  turnTo(side) {
-    const tabs = SIDES.slice(0, this.stepping ? 2 : 1).map(([id, name]) => ({ name, panel: id, id: `side-${id}` }));
-    this.sides.show(tabs, side);
-    tabs.forEach(({ panel, id }, place) => {
-      at(panel).hidden = place !== side;
-      at(panel).setAttribute("aria-labelledby", id);
-    });
-    at("result").classList.toggle("steps", side === 1);
-    this.isStepping = side === 1;
-    this.tellFrame({ isStepping: this.isStepping });
+  // Shows or hides that panel, which is between the output and the journal's views.
+  showStepping(isShown) {
+    this.isStepping = isShown;
+    at("stepping").hidden = !isShown;
+    at("step-through").ariaExpanded = `${isShown}`;
+    at("result").classList.toggle("steps", isShown);
+    this.tellFrame({ isStepping: isShown });
     this.output.rows.follow(true);
-    this.stepping?.see(side === 1);
+    this.stepping.see(isShown);
   }
 
   // Shows the moment before the first crossing of the run that comes first.
   showCrossing() {
     this.stepping.firstStart = debugging => debugging.stopToCross;
-    this.turnTo(1);
+    this.showStepping(true);
   }
 
   // Marks the moment that is seen in the timeline, or none.

@@ -79,6 +79,7 @@ export class StepPanel {
     Object.assign(at("moment"), { max: 0, value: 0, disabled: true });
     for (const it of at("moves").querySelectorAll("button")) it.disabled = true;
     at("crossing").hidden = true;
+    for (const name of ["stop", "state"]) delete at("stepping").dataset[name];
     this.say(this.asked ? "" : "Nothing ran that can be stepped through.");
     this.timeline.follow(null);
   }

@@ -6,12 +6,12 @@ from .webpages import script
 from .webtesting import need, test
 
 BROKEN = 'default {\n    state_entry() {\n        llOwnerSay("a"; // a comment\n        llAbs(TRUE + 2);\n    }\n}\n'
-WIDTHS = ((390, 844), (800, 900), (1400, 900))
+WIDTHS = ((390, 844), (820, 1180), (1280, 860))
 PICTURES = os.path.join(os.path.dirname(webpage.FOLDER), "pictures")
 PICTURE = places.in_top("out", "page.png")
 # The panel that steps through a run shows a moment and its world, where there is a panel.
-STEPPED = """document.getElementById("side-stepping") === null
-  || document.getElementById("stepping").dataset.state !== undefined"""
+STEPPED = """(({ stop, state }) => document.getElementById("step-through").hidden || (stop !== undefined && state === stop))
+  (document.getElementById("stepping").dataset)"""
 
 
 def broken_rules(page):
@@ -24,10 +24,12 @@ def broken_rules(page):
 def states(page):
     """The page in each of its states, by their names."""
     page.example("door")
+    page.tab.until(STEPPED)
+    yield "a world that is stepped through"
+    page.tab.click("#step-through")
     yield "a world"
-    page.tab.click("#side-output")
     page.tab.click("#builder summary")
-    page.value("new Promise(done => setTimeout(() => done(true), 300))")
+    page.tab.until("document.getElementById('step-kind') !== null")
     yield "the forms"
     page.tab.click("#builder summary")
     page.tab.click("#view-told")
@@ -75,13 +77,13 @@ def pictures_are_taken(page):
         for is_dark in (False, True):
             page.tab.resize(width, height, width < 400)
             page.tab.dark(is_dark)
-            page.value("new Promise(done => setTimeout(() => done(true), 600))")
+            page.drawn()
             page.tab.picture(os.path.join(PICTURES, f"{width}-{'dark' if is_dark else 'light'}.png"))
     page.tab.dark(False)
     page.tab.resize(1280, 860)
     page.fresh()
     page.tab.until(STEPPED)
-    page.value("new Promise(done => setTimeout(() => done(true), 600))")
+    page.drawn()
     page.tab.picture(PICTURE)
     page.tab.resize(1280, 800)
     return f"pictures are in {PICTURES}, and {PICTURE}"

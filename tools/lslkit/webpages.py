@@ -8,6 +8,7 @@ ENDED = """(() => { const it = document.getElementById("result");
   return it.dataset.runs !== undefined && it.getAttribute("aria-busy") === "false"
     && document.getElementById("stop").disabled
     && (document.getElementById("timeline").className === "empty" || it.dataset.drawn === it.dataset.runs); })()"""
+FRAMES = 4
 
 
 class Page:
@@ -32,7 +33,16 @@ class Page:
         return self.tab.value(expression)
 
     def text(self, name):
-        return self.value(f"document.getElementById({json.dumps(name)}).innerText")
+        """The text of an element, or none where it isn't seen."""
+        return self.value(f"(it => it.checkVisibility() ? it.innerText : '')(document.getElementById({json.dumps(name)}))")
+
+    def is_seen(self, name):
+        return self.value(f"document.getElementById({json.dumps(name)}).checkVisibility()")
+
+    def drawn(self):
+        """Waits until the browser has drawn what has changed: sizes are observed in one frame, and followed by the next."""
+        self.value(f"new Promise(done => (function wait(left) {{ "
+                   f"requestAnimationFrame(() => left ? wait(left - 1) : done(true)); }})({FRAMES}))")
 
     @property
     def status(self):

@@ -68,9 +68,9 @@ def of_steps(walk):
     def walked(page):
         page.fresh()
         if has_steps(page):
-            page.tab.until("document.getElementById('side-stepping') !== null")
+            page.tab.until("!document.getElementById('step-through').hidden")
             return walk(page)
-        need(page.value("document.getElementById('side-stepping') === null"), "the panel is there without its calls")
+        need(not page.is_seen("step-through"), "the panel is offered without its calls")
         return "the module has no calls for stepping, and the page no panel"
 
     return walked
@@ -115,9 +115,14 @@ def world_of(text, world):
 def steps_of(page, play):
     """Follows a link, and shows its first moment."""
     page.follow(play)
-    page.tab.click("#side-stepping")
-    page.value("new Promise(done => setTimeout(() => done(true), 50))")
+    step_through(page, True)
     page.tab.until("document.getElementById('place').textContent.startsWith('1 of ')")
+
+
+def step_through(page, is_wanted):
+    """Shows the panel, or hides it."""
+    if page.is_seen("stepping") != is_wanted:
+        page.tab.click("#step-through")
 
 
 @in_both
@@ -170,9 +175,10 @@ def lines_are_run_to_and_variables_marked(page):
 @of_steps
 def the_keyboard_steps(page):
     steps_of(page, script(COUNTS))
-    page.value("(document.getElementById('side-stepping').focus(), true)")
-    page.tab.press("Tab")
-    need(page.focus == "moment", "after the tab comes", page.focus)
+    page.value("(document.getElementById('step-through').focus(), true)")
+    for name in ("output", "moment"):
+        page.tab.press("Tab")
+        need(page.focus == name, "Tab comes to", page.focus)
     places = [keyed(page, "ArrowRight"), keyed(page, "s"), keyed(page, "S", "Shift"), keyed(page, "ArrowLeft")]
     need([it.split(" ")[0] for it in places] == ["2", "3", "2", "1"], "the keys lead to", places)
     said = keyed(page, "End").split(";")[0]
@@ -216,7 +222,7 @@ def a_bar_of_the_timeline_leads_to_its_moment(page):
 @of_steps
 def a_place_of_the_timeline_shows_the_whole_world(page):
     page.follow(world_of(HOLDS, WORLD))
-    page.tab.click("#side-output")
+    step_through(page, False)
     frame = "document.getElementById('timeline').contentDocument"
     page.value(f"({frame}.defaultView.focus(), {frame}.getElementById('canvas').focus(), true)")
     for _ in range(2):
@@ -225,7 +231,7 @@ def a_place_of_the_timeline_shows_the_whole_world(page):
     said = page.value(f"{frame}.getElementById('world').innerText")
     wanted = ("Box in here", "clock\t5.000 s", "count\t1", "waits\ttimer()", "on channel 3", "every 5 s", "\"yes\"")
     need(all(it in said for it in wanted), "the world is", said)
-    page.tab.click("#side-stepping")
+    step_through(page, True)
     need(page.value(f"{frame}.getElementById('world-side').hidden"), "the world is shown twice")
     return "globals, a listen, a timer and a store"
 
@@ -260,7 +266,7 @@ def a_fault_is_a_moment(page):
 @of_steps
 def long_traces_say_so_and_are_narrowed(page):
     page.follow(script(LONG))
-    page.tab.click("#side-stepping")
+    step_through(page, True)
     page.tab.until("!document.getElementById('step-window').hidden")
     need("too long" in page.text("step-note"), "it says", page.text("step-note"))
     page.tab.click("#step-window [name=handlers]")
@@ -280,7 +286,7 @@ def a_phone_steps(page):
         page.tab.until(f"{SHOWN}.state !== undefined")
         wide = page.value("document.documentElement.scrollWidth")
         need(wide <= 390, "the page is wide as", wide)
-        low = page.value("""[...document.querySelectorAll("#moves button, #moment, #sides button")]
+        low = page.value("""[...document.querySelectorAll("#moves button, #moment, #step-through")]
           .filter(it => it.offsetParent && it.getBoundingClientRect().height < 44)
           .map(it => it.id || it.textContent)""")
         need(low == [], "these are lower than 44 pixels:", low)
