@@ -1,7 +1,8 @@
 """Compares the trace of a world with its states after segments: which calls there are, where, and with which values.
 
 What may differ is a variable that a statement has assigned which isn't over yet, as x in `f(x = 3)`: a trace tells it
-when the next statement begins. After a reset the globals are told when the next handler begins. A list is told as one
+when the next statement begins. One that is hidden by a declaration which assigns it, as in `integer x = (x = 3)`, is
+told when it is assigned next. After a reset the globals are told when the next handler begins. A list is told as one
 text, in which [""] is as [], and a separator in an element as one between elements.
 
 A copy may lack the memory for the mark of a call that was just entered, where its script stops in that call. Its fault is
@@ -20,6 +21,7 @@ CUT, SEPARATOR = 1021, "¦"
 # The bytes of a trace up to which it is compared, and the most steps of a world that are.
 MOST, MOST_STEPS = 20000000, 200
 ASSIGNED = r"\b{0}\s*([-+*/%]?=(?!=)|\+\+|--)|(\+\+|--)\s*{0}\b"
+HIDING = r"\b(?:integer|string|key|list)\s+{0}\s*=([^;]*)"
 
 
 class Compared:
@@ -46,6 +48,11 @@ def is_same(word, value):
 def is_assigned(name, text):
     """Whether a text assigns a variable."""
     return re.search(ASSIGNED.format(re.escape(name)), text) is not None
+
+
+def is_hidden_by(name, text):
+    """Whether a declaration of the same name assigns a variable, as in `integer x = (x = 3)`."""
+    return any(is_assigned(name, it) for it in re.findall(HIDING.format(re.escape(name)), text))
 
 
 class Comparison:
@@ -151,7 +158,8 @@ class Comparison:
             word = {"integer": "0", "list": "[]"}.get(kind, '""')
         if is_same(word, value):
             return
-        if name and any(is_assigned(name, it) for it in texts):
+        whole = "\n".join(self.source(unit.file))
+        if name and (any(is_assigned(name, it) for it in texts) or is_hidden_by(name, whole)):
             self.found.later.append(f"{name} is {plain(value)}, told {word}")
         else:
             yield f"{name or 'a variable'} is {plain(value)}, told {word}"
