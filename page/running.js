@@ -9,7 +9,7 @@ import { worldOfOnce } from "./worlds.js";
 
 const STAGED = "steps.world";
 const MOST_LOCATED = 40000000;
-const MOST_SECONDS = 4;
+const MOST_SECONDS = 60;
 
 // What is run, as the words of a command, its files, and the world that it plays, if it plays one.
 export function requestOf(play, words) {
@@ -26,16 +26,16 @@ export function requestOf(play, words) {
 export class Running {
   // `seen` has `begin`, `end`, `status`, `faults`, `draw` and `save`, which show what came.
   constructor(play, words, seen) {
-    Object.assign(this, { play, words, seen, isRunning: false, answer: null, scene: null });
+    Object.assign(this, { play, words, seen, isRunning: false, isLocating: false, answer: null, scene: null });
     this.receiver = new Receiver();
     this.runner = new Runner(answer => this.hear(answer), seen.wire);
   }
 
-  // Begins a run. One that is under way is ended.
+  // Begins a run. One that is under way is ended, and so is a search for the lines of the last one.
   run() {
     const asked = requestOf(this.play, this.words);
-    if (this.isRunning) this.runner.stop();
-    Object.assign(this, { isRunning: true, asked, answer: null, scene: null });
+    if (this.isRunning || this.isLocating) this.runner.stop();
+    Object.assign(this, { isRunning: true, isLocating: false, asked, answer: null, scene: null });
     this.receiver = new Receiver();
     const { word, file, files, world, stage } = asked;
     this.seen.begin(this.runner.run({ word, file, files, world, stage }));
@@ -60,7 +60,7 @@ export class Running {
   }
 
   failed(error) {
-    this.isRunning = false;
+    this.isRunning = this.isLocating = false;
     this.seen.end();
     this.seen.status({ text: error, sort: "bad" }, "");
   }
@@ -104,10 +104,12 @@ export class Running {
     const isLong = size > MOST_LOCATED || milliseconds > MOST_SECONDS * 1000;
     const asked = [...outcome.faults, ...outcome.cut.map(it => ({ ...it, line: outcome.lines }))];
     if (!asked.length || isLong || this.scene.journal.count < outcome.lines || this.asked.word === "freeze") return;
+    this.isLocating = true;
     this.runner.locate(asked);
   }
 
   located(lines) {
+    this.isLocating = false;
     this.answer.lines = lines;
     this.show(this.scene, true);
   }

@@ -15,7 +15,8 @@ from . import kit
 from .places import write_text
 from .sockets import Closed, Socket
 
-SECONDS = 60
+SECONDS = 240
+TASKS = "disabled-by-default-devtools.timeline"
 SIZE = (1280, 800)
 CHROMIUM_FLAGS = ("--headless=new", "--no-sandbox", "--disable-gpu", "--remote-debugging-port=0", "--no-first-run")
 CHROMIUM_FLAGS += ("--remote-allow-origins=*", "--hide-scrollbars")
@@ -90,7 +91,7 @@ class Chromium(Tab):
         port = first_line(os.path.join(profile, "DevToolsActivePort"))
         tabs = read_json(f"http://127.0.0.1:{port}/json")
         self.socket = Socket(next(it for it in tabs if it["type"] == "page")["webSocketDebuggerUrl"])
-        self.count, self.said, self.requests = 0, [], []
+        self.count, self.said, self.requests, self.traced, self.is_traced = 0, [], [], [], False
         for it in ("Page.enable", "Runtime.enable", "Log.enable", "Network.enable"):
             self.call(it)
         self.resize(*SIZE)
@@ -115,6 +116,25 @@ class Chromium(Tab):
             self.said.append(params["entry"]["text"])
         elif method == "Network.requestWillBeSent":
             self.requests.append(params["request"]["url"])
+        elif method == "Tracing.dataCollected":
+            self.traced += params["value"]
+        elif method == "Tracing.tracingComplete":
+            self.is_traced = True
+
+    def tasks(self, act):
+        """The milliseconds of processor time that each task took of the threads that draw pages, while something is
+        done: what else the machine does isn't in them."""
+        self.traced, self.is_traced = [], False
+        self.call("Tracing.start", traceConfig={"includedCategories": [TASKS, "__metadata"]})
+        act()
+        self.call("Tracing.end")
+        while not self.is_traced:
+            message = self.socket.receive()
+            self.hear(message.get("method"), message.get("params"))
+        named = [it for it in self.traced if it["name"] == "thread_name" and it["args"]["name"] == "CrRendererMain"]
+        threads = {(it["pid"], it["tid"]) for it in named}
+        tasks = [it for it in self.traced if it["name"] == "RunTask" and (it["pid"], it["tid"]) in threads]
+        return [it["tdur"] / 1000 for it in tasks if "tdur" in it]
 
     def value(self, expression):
         asked = {"expression": expression, "awaitPromise": True, "returnByValue": True, "userGesture": True}

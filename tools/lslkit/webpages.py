@@ -1,7 +1,7 @@
 """The page in a browser, as the tests use it."""
 import json
 
-from . import webpage
+from . import browsers, webpage
 
 # A run has ended, and what there is of it is drawn.
 ENDED = """(() => { const it = document.getElementById("result");
@@ -62,11 +62,11 @@ class Page:
         """The id of the element that has the focus, or its tag."""
         return self.value("document.activeElement.id || document.activeElement.tagName")
 
-    def run(self, act):
+    def run(self, act, seconds=browsers.SECONDS):
         """Does what begins a run, and waits for its end."""
         before = self.value("Number(document.getElementById('result').dataset.runs ?? 0)")
         act()
-        self.tab.until(f"Number(document.getElementById('result').dataset.runs) > {before} && {ENDED}")
+        self.tab.until(f"Number(document.getElementById('result').dataset.runs) > {before} && {ENDED}", seconds)
 
     def press_run(self):
         """Presses the button Run by a key, where the browser can."""

@@ -4,11 +4,11 @@ import inspect
 import threading
 
 from . import browsers, webserver
-from . import webaccess, weblinks, webnode, webstepping, webwalks  # (for their tests)
+from . import webaccess, weblinks, webnode, webstepping, webtimes, webwalks  # (for their tests)
 from .webpages import Page
 from .webtesting import TESTS, Failed
 
-__all__ = ["webaccess", "weblinks", "webnode", "webstepping", "webwalks"]
+__all__ = ["webaccess", "weblinks", "webnode", "webstepping", "webtimes", "webwalks"]
 SORTS = (browsers.Chromium, browsers.Firefox)
 
 
