@@ -30,14 +30,15 @@ export function explained(output, files, words) {
   const [, , quoted, ofWorld, row, column, fault] = found;
   const name = unquoted(quoted);
   const line = Math.max(Number(ofWorld ?? row), 1);
-  const text = new Map(files).get(name)?.split("\n")[line - 1] ?? "";
+  const whole = new Map(files).get(name)?.split("\n")[line - 1];
+  const text = whole ?? "";
   const place = column === undefined ? 0 : signAt(text, Number(column));
-  const where = column === undefined ? `${name}:${line}` : `${name}:${line}:${column}`;
+  const where = `${name}:${line}`;
   const says = words.faults[fault]?.says ?? "a fault without words";
   const hints = hintsOf(text, place, words);
-  const said = `${where}: error: ${says} (fault ${fault})`;
+  const said = `${where}:${column ?? 1}: error: ${says} (fault ${fault})`;
   const blanks = text.slice(0, place).replace(/[^\t]/g, " ");
-  const short = `${says}, at ${where.replace(/^.*\//, "")}`;
-  const shown = `${said}\n${text}${column === undefined ? "" : `\n${blanks}^`}`;
+  const short = `${says}, at ${where.replace(/^.*\//, "")}${column === undefined ? "" : `:${column}`}`;
+  const shown = whole === undefined ? said : `${said}\n${text}\n${blanks}^`;
   return { name, line, place, fault, says, short, hints, said: shown };
 }

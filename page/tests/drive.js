@@ -9,7 +9,7 @@ import { markedWorld, withoutMarks } from "../marks.js";
 import { outcomeOf } from "../outcome.js";
 import { linesOf, probedFiles } from "../probes.js";
 import { refusalsOf } from "../refusals.js";
-import { Scene, sceneOf, stepsOf } from "../scene.js";
+import { NO_STEPS, Scene, sceneOf, stepsOf } from "../scene.js";
 import { packed, unpacked } from "../share.js";
 import { stagedWorld } from "../stage.js";
 import { readWorld, worldOfOnce } from "../worlds.js";
@@ -42,6 +42,12 @@ function told(task) {
   const steps = stepsOf(journal, text, seen?.text === journal ? seen.steps : null);
   const scene = new Scene(sceneOf(journal, text, steps), words);
   return { rows: Array.from({ length: scene.rowCount }, (_, row) => scene.rowText(row)), arrows: [...scene.arrows] };
+}
+
+// The lines of a journal in words.
+function lines({ journal, world }) {
+  const scene = new Scene(sceneOf(journal, world, NO_STEPS), words);
+  return Array.from({ length: scene.rowCount }, (_, row) => scene.rowText(row));
 }
 
 // What became of a run, with the lines of faults and of handlers that were cut.
@@ -77,7 +83,7 @@ async function link(fragment) {
 }
 
 const TASKS = {
-  run, told, outcome, coloured, refusals, link,
+  run, told, lines, outcome, coloured, refusals, link,
   stage: ({ file, lines }) => stagedWorld(file, lines, words.steps),
   fault: ({ output, files }) => explained(output, files, words),
   share: async play => unpacked(await packed(play)),

@@ -101,7 +101,7 @@ class Names:
         """A line of the journal, without its script's name. `state` is the one of a `clear`, where it is known."""
         tell = getattr(self, f"tell_{entry.word}", None)
         if tell is None:
-            return f"{entry.word} {entry.rest}"
+            return f"{entry.word} {cut(entry.rest)}"
         return tell(entry, state) if entry.word == "clear" else tell(entry)
 
     def tell_took(self, entry):

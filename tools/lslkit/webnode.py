@@ -173,6 +173,37 @@ def words_are_those_of_tools_show():
     return f"{len(found)} cases, {rows:,} equal lines"
 
 
+PLAYS = ("once", "replay", "freeze", "thaw")
+REFUSED = (1, 2, 3, 4, 6, 8)
+
+
+def journal_of(case):
+    """The whole lines of the journal that a case writes, and its world; nothing where it writes none."""
+    if len(case.words) < 2 or case.words[0] not in PLAYS or case.status in REFUSED:
+        return None
+    world = dict(case.files).get(case.words[1], b"")
+    lines = case.written[: case.written.rfind(b"\n") + 1]
+    if not is_text(world) or not is_text(lines):
+        return None
+    is_once = case.words[0] == "once"
+    return lines.decode(), standing.world_of_once(case.words[1]) if is_once else world.decode()
+
+
+@test
+def lines_of_all_cases_are_in_the_same_words():
+    """Also of what the page doesn't run: thawed worlds, and what is cut where something fails."""
+    found = [(it.name, journal_of(it)) for it in suite().chosen([]) if it]
+    found = [(name, *it) for name, it in found if it]
+    came = driven([["lines", {"journal": text, "world": world}] for _, text, world in found])
+    count = 0
+    for (name, text, world), rows in zip(found, came):
+        wanted = list(showing.lines(journal.read(text), worlds.read(world), showing.Painter(False)))
+        differing = [it for it in zip(wanted, rows) if it[0] != it[1]]
+        need(not differing and len(wanted) == len(rows), name, "differs in", differing[:1] or (len(wanted), len(rows)))
+        count += len(rows)
+    return f"{len(found)} cases, {count:,} equal lines"
+
+
 def staged_by_lslkit(script, lines):
     """The world that `lsl play` makes of these steps; but a wait goes to its end at once, as the page's does."""
     it = stage.Stage()
@@ -203,24 +234,27 @@ def steps_are_played_in_the_same_world():
 
 
 def told_by_lslkit(case):
-    """How lslkit tells the fault of a script, without hints: its place, the line and a caret."""
-    _, name, _, row, column, fault, _ = faults.REFUSAL.fullmatch(case.written.decode().rstrip("\n")).groups()
+    """How lslkit tells the fault of a file, without hints: its place, the line and a caret."""
+    _, name, line, row, column, fault, _ = faults.REFUSAL.fullmatch(case.written.decode().rstrip("\n")).groups()
     name = quoting.unquoted(name)
-    return faults.with_line(name, dict(case.files)[name], int(row), int(column), int(fault), [])
+    return faults.with_line(name, dict(case.files)[name], int(line or row), int(column or 1), int(fault), [])
 
 
 @test
 def faults_are_told_as_by_lslkit():
-    found = [it for it in cases() if it.status == 3 and not it.fails and all(is_text(text) for _, text in it.files)]
+    found = [it for it in cases() if it.status in (2, 3, 8) and not it.fails]
+    found = [it for it in found if all(is_text(text) for _, text in it.files)]
     tasks = []
     for it in found:
         files = [[name, text.decode()] for name, text in it.files]
         tasks.append(["fault", {"output": it.written.decode(), "files": files}])
     for case, came in zip(found, driven(tasks)):
-        wanted = told_by_lslkit(case)
-        # lslkit shows a part of a long line, and no carriage return.
-        if ".. " not in wanted and max(map(len, wanted.split("\n"))) < 110 and "\r" not in came["said"]:
-            need(came["said"] == wanted, case.name, "came to", came["said"], "and not to", wanted)
+        wanted, said = told_by_lslkit(case), came["said"]
+        # lslkit shows a part of a long line or none, and no carriage return: then the words alone are compared.
+        is_cut = "\n" not in wanted or ".. " in wanted or "\r" in said
+        if is_cut or max(map(len, said.split("\n"))) >= 110:
+            wanted, said = wanted.split("\n")[0], said.split("\n")[0]
+        need(said == wanted, case.name, "came to", said[:300], "and not to", wanted[:300])
     return f"{len(found)} faults"
 
 
