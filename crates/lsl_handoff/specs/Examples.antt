@@ -58,13 +58,23 @@ handed_over = (card 1 false Away ∷ card 1 true (Live parcel) ∷ []) ∷ []
 abbrev pub called_back : List (List Card)
 called_back = (card 1 false (Live parcel) ∷ card 1 false Away ∷ []) ∷ []
 
--- the letters, the version, the size of the whole, the kind, the object, the trip, the two regions
-abbrev pub taken_bytes : List ℕ
-taken_bytes =
-    76 ∷ 83 ∷ 76 ∷ 78 ∷ 0 ∷ 1 ∷ 0 ∷ 0 ∷ 0 ∷ 0 ∷ 0 ∷ 0 ∷ 0 ∷ 67 ∷ 2 ∷ 0 ∷ 0 ∷ 0 ∷ 1 ∷ 0 ∷ 0 ∷ 0 ∷ 0 ∷ 0 ∷ 0 ∷ 0 ∷ 1 ∷
-    0 ∷ 0 ∷ 0 ∷ 2 ∷ 0 ∷ 0 ∷ 0 ∷ 1 ∷ []
+-- a note of the first trip that isn't an offer: the letters, the version, the size of the whole, the kind, the object,
+-- the trip, the two regions
+abbrev pub short_bytes : ℕ → ℕ → ℕ → List ℕ
+short_bytes kind from to =
+    76 ∷ 83 ∷ 76 ∷ 78 ∷ 0 ∷ 1 ∷ 0 ∷ 0 ∷ 0 ∷ 0 ∷ 0 ∷ 0 ∷ 0 ∷ 67 ∷ kind ∷ 0 ∷ 0 ∷ 0 ∷ 1 ∷
+    0 ∷ 0 ∷ 0 ∷ 0 ∷ 0 ∷ 0 ∷ 0 ∷ 1 ∷ 0 ∷ 0 ∷ 0 ∷ from ∷ 0 ∷ 0 ∷ 0 ∷ to ∷ []
 
--- and behind the kind 1 the parcel, with how many bytes it has
+abbrev pub taken_bytes : List ℕ
+taken_bytes = short_bytes 2 2 1
+
+abbrev pub cancel_bytes : List ℕ
+cancel_bytes = short_bytes 3 1 2
+
+abbrev pub refused_bytes : List ℕ
+refused_bytes = short_bytes 4 2 1
+
+-- an offer, with kind 1: after these fields the parcel, with how many bytes it has
 abbrev pub offer_bytes : List ℕ
 offer_bytes =
     76 ∷ 83 ∷ 76 ∷ 78 ∷ 0 ∷ 1 ∷ 0 ∷ 0 ∷ 0 ∷ 0 ∷ 0 ∷ 0 ∷ 0 ∷ 78 ∷ 1 ∷ 0 ∷ 0 ∷ 0 ∷ 1 ∷ 0 ∷ 0 ∷ 0 ∷ 0 ∷ 0 ∷ 0 ∷ 0 ∷ 1 ∷

@@ -2,7 +2,7 @@
 //! nothing.
 
 ghost use Rattle.std.specs.Prelude.{◌≡◌, [], ◌∷◌, ◌++◌};
-ghost use Rattle.lsl_handoff.specs.Examples.{begun, called_back, cancel, cancelled, good_handoff, handed_over, late_cancel, lost_answer, offer, offer_bytes, refused, stale_offer, taken, taken_bytes};
+ghost use Rattle.lsl_handoff.specs.Examples.{begun, called_back, cancel, cancel_bytes, cancelled, good_handoff, handed_over, late_cancel, lost_answer, offer, offer_bytes, refused, refused_bytes, stale_offer, taken, taken_bytes};
 ghost use Rattle.lsl_handoff.specs.NoteBytes.{fields_bytes, head_bytes};
 ghost use Rattle.lsl_handoff.specs.Runs.{after};
 
@@ -23,8 +23,11 @@ pub fn called_back_for_good()
         ≡ record { field = called_back; sent = offer ∷ cancel ∷ refused ∷ refused ∷ [] } }
 {}
 
-/// An offer of three bytes and its answer, before their digests: 46 and 35 bytes, and 78 and 67 with them.
+/// An offer of three bytes and its answer, and a cancel and its answer, before their digests: 46 bytes and three times
+/// 35, and 78 and 67 with them.
 pub fn notes_in_bytes()
     ensures offer { head_bytes 78 ++ fields_bytes offer ≡ offer_bytes }
     ensures taken { head_bytes 67 ++ fields_bytes taken ≡ taken_bytes }
+    ensures cancel { head_bytes 67 ++ fields_bytes cancel ≡ cancel_bytes }
+    ensures refused { head_bytes 67 ++ fields_bytes refused ≡ refused_bytes }
 {}
