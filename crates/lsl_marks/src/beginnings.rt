@@ -1,7 +1,7 @@
 //! What a copy tells before a statement.
 
 use crate::blocks::Open;
-use crate::markers::Moment;
+use crate::markers::{After, Moment};
 use crate::statements::{Form, Statement};
 use crate::tokens::{Part, kind_at, name_at, sort_at};
 use crate::variables::{Variable, add, is_call, sleeps_in};
@@ -16,7 +16,7 @@ impl Writer<'_, '_> {
             moment: Moment::Statement,
             first: statement.first,
             last: self.last_told(statement),
-            ticks: self.ticks_of(statement),
+            after: self.after_beginning(statement),
         };
         let calls = match statement.form {
             Form::Return => Some(self.calls_in(statement.values)?),
@@ -43,14 +43,21 @@ impl Writer<'_, '_> {
         }
     }
 
-    fn ticks_of(&self, statement: &Statement) -> u64 {
+    fn after_beginning(&self, statement: &Statement) -> After {
         match statement.form {
-            Form::Jump => 1,
-            Form::Value => sleeps_in(self.source.tokens, statement.values),
-            Form::For => sleeps_in(self.source.tokens, self.lists_of(statement.values).starts).min(
-                1,
-            ),
-            _ => 0,
+            Form::Jump => After::Tick,
+            Form::Value => self.before_sleeps(statement.values),
+            Form::For => self.before_sleeps(self.lists_of(statement.values).starts),
+            _ => After::Nothing,
+        }
+    }
+
+    /// The tick after a marker that these values follow.
+    pub fn before_sleeps(&self, values: Part) -> After {
+        if sleeps_in(self.source.tokens, values) {
+            After::Sleep
+        } else {
+            After::Nothing
         }
     }
 
@@ -84,7 +91,7 @@ impl Writer<'_, '_> {
             statement: Some(*statement),
             carried,
             locals: self.scope.locals.len(),
-            ticks: 0,
+            after: After::Nothing,
             held: None,
         })?;
         Ok(())

@@ -1,6 +1,6 @@
 //! Routines, blocks and their statements in a copy.
 
-use crate::markers::Moment;
+use crate::markers::{After, Moment};
 use crate::returns::Held;
 use crate::statements::{Form, Statement};
 use crate::tokens::{Part, end_at, kind_at, start_at};
@@ -9,13 +9,13 @@ use crate::writer::Writer;
 use lsl_text::NoMemory;
 
 /// A statement that isn't ended, or a routine. `carried` are the variables that may have changed since the last marker,
-/// `locals` how many there were before it, and `ticks` how many pass where its body ends.
+/// `locals` how many there were before it, and `after` is the tick that passes where its body ends.
 #[derive(Drop)]
 pub struct Open {
     pub statement: Option<Statement>,
     pub carried: Vec<Variable>,
     pub locals: usize,
-    pub ticks: u64,
+    pub after: After,
     pub held: Option<Held>,
 }
 
@@ -37,7 +37,7 @@ impl Writer<'_, '_> {
         }
         self.copy_to(end_at(self.source.tokens, routine.body))?;
         self.note(Moment::Enter, routine.name, told.as_slice())?;
-        self.open(None, Vec::new(self.alloc), 0)
+        self.open(None, Vec::new(self.alloc), After::Nothing)
     }
 
     pub fn leave(&mut self, at: usize) -> Result<(), NoMemory> {
@@ -50,13 +50,13 @@ impl Writer<'_, '_> {
         &mut self,
         statement: Option<Statement>,
         carried: Vec<Variable>,
-        ticks: u64,
+        after: After,
     ) -> Result<(), NoMemory> {
         self.open.push(Open {
             statement,
             carried,
             locals: self.scope.locals.len(),
-            ticks,
+            after,
             held: None,
         })?;
         Ok(())
@@ -116,11 +116,15 @@ impl Writer<'_, '_> {
             Form::Block | Form::Jump | Form::Label => self.open(
                 Some(*statement),
                 Vec::new(self.alloc),
-                0,
+                After::Nothing,
             ),
             form => {
                 let carried = self.scope.changed(self.alloc, statement.values)?;
-                self.open(Some(*statement), carried, u64::from(form == Form::While))
+                let after = match form {
+                    Form::While => After::Tick,
+                    _ => After::Nothing,
+                };
+                self.open(Some(*statement), carried, after)
             }
         }
     }

@@ -65,7 +65,7 @@ impl Writer<'_, '_> {
                 moment: Moment::Again,
                 first,
                 last: first,
-                ticks: open.ticks,
+                after: open.after,
             };
             self.mark(place, after, None, Sign::Semicolon)
         } else if after.is_empty() {

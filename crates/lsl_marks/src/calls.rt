@@ -4,13 +4,14 @@ use crate::markers::{Marker, Moment};
 use lsl_text::NoMemory;
 use std::alloc::Global;
 
-/// An active call. `is_again` says whether the condition of a loop came last, and `returning` is the marker of the
-/// `return` that was begun.
+/// An active call. `is_again` says whether the condition of a loop came last, `sleeps` whether a tick passes before its
+/// next marker, and `returning` is the marker of the `return` that was begun.
 #[derive(Clone, Copy)]
 pub struct Frame {
     pub routine: usize,
     pub serial: u64,
     pub is_again: bool,
+    pub sleeps: bool,
     pub returning: Option<usize>,
 }
 

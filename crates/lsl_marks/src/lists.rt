@@ -1,6 +1,6 @@
 //! The lists of a `for` in a copy, where calls without a value are allowed.
 
-use crate::markers::Moment;
+use crate::markers::{After, Moment};
 use crate::statements::Statement;
 use crate::tokens::{Part, depth_after, semicolon_from, sort_at, start_at};
 use crate::variables::{Variable, sleeps_in};
@@ -40,40 +40,44 @@ impl Writer<'_, '_> {
 
     pub fn lists(&mut self, statement: &Statement) -> Result<(), NoMemory> {
         let lists = self.lists_of(statement.values);
-        let _ = self.list(lists.starts, statement.first, 0)?;
-        let ticks = self.list(lists.steps, statement.first, 1)?;
+        self.list(lists.starts, statement.first, After::Nothing)?;
+        self.list(lists.steps, statement.first, After::Tick)?;
         let carried = self.scope.changed(self.alloc, lists.condition)?;
-        self.open(Some(*statement), carried, ticks)
+        let after = if lists.steps.is_empty() {
+            After::Tick
+        } else {
+            self.before_sleeps(lists.steps)
+        };
+        self.open(Some(*statement), carried, after)
     }
 
-    /// Markers after each call in a list that sleeps, and at its end where variables may have changed. Answers how many
-    /// ticks pass after the list's end and before the next marker.
-    fn list(&mut self, list: Part, at: usize, ticks: u64) -> Result<u64, NoMemory> {
-        let changed = self.scope.changed(self.alloc, list)?;
-        let values = values_of(self.alloc, self.source.tokens, list)?;
+    /// Markers after each call in a list that sleeps, and at its end where variables may have changed or a tick passes.
+    fn list(&mut self, list: Part, at: usize, end: After) -> Result<(), NoMemory> {
         let tokens = self.source.tokens;
-        let slept = values.iter().rposition(|it| sleeps_in(tokens, *it) > 0);
-        for (index, value) in values.iter().enumerate() {
-            if sleeps_in(tokens, *value) > 0 {
-                let after = if changed.is_empty() { ticks } else { 0 };
-                let ticks = if slept == Some(index) { after } else { 1 };
+        for value in &values_of(self.alloc, tokens, list)? {
+            if sleeps_in(tokens, *value) {
+                let rest = Part {
+                    from: value.to,
+                    to: list.to,
+                };
                 self.copy_to(start_at(tokens, value.to))?;
-                self.list_note(at, &[], ticks)?;
+                self.list_note(at, &[], self.before_sleeps(rest))?;
             }
         }
-        if !changed.is_empty() {
+        let changed = self.scope.changed(self.alloc, list)?;
+        if !changed.is_empty() || end == After::Tick && !list.is_empty() {
             self.copy_to(start_at(tokens, list.to))?;
-            self.list_note(at, changed.as_slice(), ticks)?;
+            self.list_note(at, changed.as_slice(), end)?;
         }
-        Ok(u64::from(slept.is_some() || changed.is_empty()))
+        Ok(())
     }
 
-    fn list_note(&mut self, at: usize, says: &[Variable], ticks: u64) -> Result<(), NoMemory> {
+    fn list_note(&mut self, at: usize, says: &[Variable], after: After) -> Result<(), NoMemory> {
         let place = Place {
             moment: Moment::Note,
             first: at,
             last: at,
-            ticks,
+            after,
         };
         self.mark(place, says, None, Sign::Comma)
     }

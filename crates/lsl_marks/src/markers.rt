@@ -20,7 +20,17 @@ pub enum Moment {
     Note,
 }
 
-/// A marker: its script's unit, its routine, its lines, the ticks that pass after it, the variables whose values
+/// The tick that passes after a marker.
+#[derive(Clone, Copy, Debug, PartialEq, Eq)]
+pub enum After {
+    Nothing,
+    /// One passes before the script does anything more.
+    Tick,
+    /// One passes before the same call's next marker, in a sleep whose time is worked out first.
+    Sleep,
+}
+
+/// A marker: its script's unit, its routine, its lines, the tick that passes after it, the variables whose values
 /// follow, and the locals that can be named there. Before a `return` it has the functions that are called there.
 #[derive(Drop)]
 pub struct Marker {
@@ -29,7 +39,7 @@ pub struct Marker {
     pub routine: usize,
     pub first: u32,
     pub last: u32,
-    pub ticks: u64,
+    pub after: After,
     pub says: Vec<Variable>,
     pub names: Vec<Variable>,
     pub calls: Option<Vec<usize>>,

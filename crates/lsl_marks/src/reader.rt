@@ -3,7 +3,7 @@
 use crate::calls::{Frame, Running, outer_of};
 use crate::entries::{Arrival, Entry, Guilty, Value, What};
 use crate::journal_lines::{Line, Word, number_of, told_by_owner};
-use crate::markers::{Marker, Moment};
+use crate::markers::{After, Marker, Moment};
 use crate::variables::Slot;
 use lsl_text::NoMemory;
 
@@ -120,24 +120,28 @@ impl<'a> Reader<'a> {
         let Some(running) = self.running(script) else {
             return Ok(Some(Guilty::Unknown));
         };
-        let Some(frame) = running.stack.last().copied() else {
+        let outer = outer_of(running.stack.as_slice());
+        let Some(frame) = running.stack.last_mut() else {
             return Ok(Some(Guilty::Script(script)));
         };
-        let outer = outer_of(running.stack.as_slice());
-        running.pending = running.pending.saturating_add(marker.ticks);
+        let serial = frame.serial;
+        frame.sleeps = marker.after == After::Sleep;
+        if marker.after == After::Tick {
+            running.pending = running.pending.saturating_add(1);
+        }
         if marker.moment == Moment::Leave {
             let _ = running.stack.pop();
         }
         self.add(What::At(Arrival {
             script,
             marker: number,
-            serial: frame.serial,
+            serial,
             outer,
         }))?;
         self.awaited = (!marker.says.is_empty()).then_some(Awaited {
             script,
             marker: number,
-            serial: frame.serial,
+            serial,
             next: 0,
         });
         Ok(None)
@@ -165,6 +169,7 @@ impl<'a> Reader<'a> {
             routine: marker.routine,
             serial,
             is_again: false,
+            sleeps: false,
             returning: None,
         })?;
         Ok((!is_handler).then_some(1))
@@ -191,7 +196,7 @@ impl<'a> Reader<'a> {
         if marker.calls.is_some() {
             frame.returning = Some(number);
         }
-        Some(u64::from(comes_again))
+        Some(u64::from(comes_again).saturating_add(u64::from(frame.sleeps)))
     }
 
     fn read_value(

@@ -1,7 +1,7 @@
 //! The results of functions in a copy: `return e;` becomes `{x=e; .. return x;}`, where nobody reads the variable x any
 //! more.
 
-use crate::markers::{Moment, kind_word};
+use crate::markers::{After, Moment, kind_word};
 use crate::statements::Statement;
 use crate::tiers::Tier;
 use crate::tokens::{end_at, name_at};
@@ -25,7 +25,7 @@ impl Writer<'_, '_> {
         if let Some(held) = &held {
             self.open_return(statement, held)?;
         }
-        self.open(Some(*statement), Vec::new(self.alloc), 0)?;
+        self.open(Some(*statement), Vec::new(self.alloc), After::Nothing)?;
         if let Some(open) = self.open.last_mut() {
             open.held = held;
         }
@@ -39,7 +39,7 @@ impl Writer<'_, '_> {
             return Ok(None);
         };
         let is_told = matches!(self.source.tier, Tier::All | Tier::Held);
-        if !is_told || statement.values.to <= statement.values.from {
+        if !is_told || statement.values.is_empty() {
             return Ok(None);
         }
         let own = match self.scope.holder(kind) {
@@ -84,7 +84,7 @@ impl Writer<'_, '_> {
             moment: Moment::Leave,
             first: statement.first,
             last,
-            ticks: 0,
+            after: After::Nothing,
         };
         self.mark(place, held.changed.as_slice(), None, Sign::Semicolon)?;
         self.say(held.kind, held.name.as_slice(), Sign::Semicolon)?;

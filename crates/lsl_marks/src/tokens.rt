@@ -11,6 +11,10 @@ pub struct Part {
 }
 
 impl Part {
+    pub fn is_empty(&self) -> bool {
+        self.to <= self.from
+    }
+
     /// What lies there of a list; a part past the list's end is empty.
     pub fn of<'a, T>(&self, list: &'a [T]) -> &'a [T] {
         let to = self.to.min(list.len());

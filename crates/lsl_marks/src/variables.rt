@@ -177,13 +177,8 @@ pub fn is_call(tokens: &[Token], at: usize) -> bool {
         && matches!(sort_at(tokens, at.saturating_add(1)), Some(Sort::ParenOpen))
 }
 
-/// How many calls among these tokens let a script sleep.
-pub fn sleeps_in(tokens: &[Token], values: Part) -> u64 {
-    let mut count: u64 = 0;
-    for at in values.from..values.to {
-        if is_call(tokens, at) && name_at(tokens, at) == b"llSleep".as_slice() {
-            count = count.saturating_add(1);
-        }
-    }
-    count
+/// Whether a call among these tokens lets a script sleep.
+pub fn sleeps_in(tokens: &[Token], values: Part) -> bool {
+    (values.from..values.to).any(|at| is_call(tokens, at)
+        && name_at(tokens, at) == b"llSleep".as_slice())
 }

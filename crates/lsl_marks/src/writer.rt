@@ -2,7 +2,7 @@
 //! variables have.
 
 use crate::blocks::Open;
-use crate::markers::{Marker, Moment};
+use crate::markers::{After, Marker, Moment};
 use crate::statements::{Event, Outline};
 use crate::tiers::Tier;
 use crate::tokens::{Part, line_at, name_at};
@@ -67,13 +67,13 @@ fn own_name(alloc: Global, tokens: &[Token]) -> Result<Vec<u8>, NoMemory> {
     Ok(name)
 }
 
-/// Where a marker is, and how many ticks pass after it. `first` and `last` are tokens.
+/// Where a marker is, and which tick passes after it. `first` and `last` are tokens.
 #[derive(Clone, Copy, Debug)]
 pub struct Place {
     pub moment: Moment,
     pub first: usize,
     pub last: usize,
-    pub ticks: u64,
+    pub after: After,
 }
 
 #[derive(Drop)]
@@ -150,7 +150,7 @@ impl Writer<'_, '_> {
             routine: self.routine,
             first: line_at(self.source.tokens, place.first),
             last: line_at(self.source.tokens, place.last),
-            ticks: place.ticks,
+            after: place.after,
             says: told,
             names: self.scope.locals.clone()?,
             calls,
@@ -207,7 +207,7 @@ impl Writer<'_, '_> {
                 moment,
                 first: at,
                 last: at,
-                ticks: 0,
+                after: After::Nothing,
             },
             says,
             None,
