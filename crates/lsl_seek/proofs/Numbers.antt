@@ -1,6 +1,8 @@
 -- A number read digit by digit.
-use Rattle.std.proofs.Common.{◌≡◌, ℕ, ◌+◌, ◌*◌, ◌<◌, ◌≤◌, Bool, true, false, List, [], ◌∷◌, length, drop, get_or, Option, Some, None, cond, refl, ⊎_elim, sym, ap, ◌∙◌, arith, ◌&&◌}
+use Rattle.std.proofs.Common.{◌≡◌, ℕ, ◌+◌, ◌-◌, ◌*◌, ◌<◌, ◌≤◌, ◌⊎◌, Bool, true, false, List, [], ◌∷◌, length, drop, get_or, Option, Some, None, cond, refl, ⊎_elim, sym, ap, ◌∙◌, arith, ◌&&◌}
 use Rattle.std.proofs.lemmas.Bool.{cases_lt, lt-ltb, le-ltb}
+use Rattle.std.proofs.lemmas.Str.{digit_value_digit}
+use Rattle.std.proofs.lemmas.Str.Parse.{digit_from_value}
 use Rattle.std.specs.Prelude.{nat_lt}
 use Rattle.std.specs.Char.{digit_value}
 use Rattle.std.specs.List.{list_all}
@@ -35,6 +37,15 @@ one_more_digit n m (d ∷ rest) more some e small is =
     let this : number_after n (d ∷ rest) ≡ number_after (n * 10 + digit_value d) rest =
     ap (λ b. cond ((b && list_all is_digit rest) && nat_lt (digits_value_after 10 (n * 10 + digit_value d) rest) 4294967296) (Some (digits_value_after 10 (n * 10 + digit_value d) rest)) None) test in
     this ∙ (ap (λ k. number_after k rest) is ∙ ap (number_after m) (sym e))
+
+-- the bytes of digits
+pub not_a_digit : (b : ℕ) → (b < 48) ⊎ (57 < b) → digit_value b < 10 → ⊥
+not_a_digit b outside small =
+    let range = digit_from_value b small in
+    ⊎_elim (λ below. omega (arith, range.0)) (λ above. omega (arith, range.1)) outside
+
+pub digit_is : (b : ℕ) → 48 ≤ b → b ≤ 57 → digit_value b ≡ b - 48
+digit_is b low high = omega (arith, digit_value_digit b (low, high))
 
 -- what is no digit
 pub no_digit : (n : ℕ) (rest : List ℕ) → 1 ≤ length rest → (digit_value (get_or rest 0 0) < 10 → ⊥) → number_after n rest ≡ None

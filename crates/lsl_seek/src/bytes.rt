@@ -2,7 +2,6 @@
 
 ghost use Rattle.std.specs.Prelude.{◌≡◌, ◌+◌, ◌*◌, ◌^◌, ◌<◌, ◌≤◌, length};
 ghost use Rattle.std.specs.List.{prefix_len};
-ghost use Rattle.std.specs.Option.{SomeIff};
 ghost use Rattle.lsl_seek.specs.Bytes.{Sees, after, before, is_not, is_word, number_at, number_of, word_at};
 
 /// What comes before the first such byte, and what after it. Without one it is the whole text, and nothing.
@@ -42,21 +41,19 @@ pub fn number(digits: &[u8]) -> Option<u32>
     if digits.is_empty() {
         return None;
     }
-    let mut n: u32 = 0;
+    let mut n: u64 = 0;
     let mut rest = digits;
     'digits: while let [b, more @ ..] = rest {
-        let digit = char::from(*b).to_digit(10)?;
-        n = longer(n, digit)?;
+        if *b < b'0' || b'9' < *b {
+            return None;
+        }
+        n = n * 10 + u64::from(*b - b'0');
+        if u64::from(u32::MAX) < n {
+            return None;
+        }
         rest = more;
     }
-    Some(n)
-}
-
-// The number with one more digit, if it is below 2^32.
-fn longer(n: u32, digit: u32) -> Option<u32>
-    ensures { SomeIff result (n * 10 + digit < 2 ^ 32) (n * 10 + digit) }
-{
-    n.checked_mul(10)?.checked_add(digit)
+    Some(n as u32)
 }
 
 /// The number that a text begins with, up to its first space, and what comes after the space.

@@ -203,8 +203,9 @@ pub fn parse_set(text: &[u8]) -> Option<Set>
     }
 }
 
+/// The set of what follows the word `set`.
 #[tactic(auto, unfolding(crate::specs::Entries::set_words))]
-fn parse_set_words(text: &[u8]) -> Option<Set>
+pub fn parse_set_words(text: &[u8]) -> Option<Set>
     ensures { Sees value result (set_words text.now) }
 {
     let (serial, text) = take_number(text)?;

@@ -4,7 +4,7 @@ ghost use Rattle.lsl_seek.specs.Bytes.{Sees};
 ghost use Rattle.lsl_seek.specs.Tables.{mark_of, name_of, place, variable};
 
 use crate::bytes::{cut, is_word, number, take_number, take_word};
-use crate::entry::{Slot, Sort, parse_slot};
+use crate::entry::{Slot, Sort, parse_at, parse_said, parse_set_words, parse_slot};
 
 /// A variable of a file or of a mark, as its line has it.
 #[derive(Clone, Copy)]
@@ -25,8 +25,11 @@ pub struct Mark<'a> {
     pub line: u32,
 }
 
-/// A line of the tables.
+/// What a line of a trace is.
 pub enum Row<'a> {
+    Entry,
+    /// A value of the entry before it.
+    Value,
     /// The file's name, in quotes.
     File(&'a [u8]),
     /// The unit that a script runs.
@@ -36,10 +39,22 @@ pub enum Row<'a> {
     Name(Name<'a>),
 }
 
-/// The row of a line, if it is one of the tables.
+/// What a line is, if it is one of a trace.
 pub fn parse_row(line: &[u8]) -> Option<Row> {
     let (first, after) = cut(line, b' ');
     match first {
+        b"set" => {
+            let _ = parse_set_words(after)?;
+            Some(Row::Value)
+        }
+        b"at" => {
+            let _ = parse_at(after)?;
+            Some(Row::Entry)
+        }
+        b"said" => {
+            let _ = parse_said(after)?;
+            Some(Row::Entry)
+        }
         b"file" => Some(Row::File(parse_file(after)?)),
         b"script" => Some(Row::Script(parse_script(after)?)),
         b"global" => Some(Row::Global(parse_name(after)?)),

@@ -8,7 +8,7 @@ ghost use Rattle.lsl_seek.specs.Moments.{marks_of, moment_of, moment_or_nothing,
 ghost use Rattle.lsl_seek.specs.Tables.{place};
 
 use crate::bytes::cut;
-use crate::entry::{Entry, Sort, parse_entry, parse_set, said_sort};
+use crate::entry::{Entry, Sort, parse_entry, said_sort};
 use crate::faults::SeekFault;
 use crate::tables::{Mark, Name, Row, parse_row};
 use lsl_text::{NoMemory, Refusal};
@@ -40,7 +40,24 @@ pub struct Moment<'a> {
 impl<'a> Trace<'a> {
     /// Reads a trace. The fault is that of the first line that is none of a trace.
     pub fn read(alloc: Global, text: &'a [u8]) -> Result<Trace<'a>, Refusal<SeekFault>> {
-        let mut trace = Trace {
+        let mut trace = Trace::new(alloc, text);
+        let mut rest = text;
+        let mut number: usize = 1;
+        'lines: while !rest.is_empty() {
+            let (line, after) = cut(rest, b'\n');
+            match parse_row(line) {
+                Some(row) => trace.add(row, text.len() - rest.len())?,
+                None => return Err(Refusal::Fault(SeekFault::Line(number))),
+            }
+            rest = after;
+            number += 1;
+        }
+        Ok(trace)
+    }
+
+    // Nothing was read of a text.
+    fn new(alloc: Global, text: &'a [u8]) -> Trace<'a> {
+        Trace {
             text,
             places: Vec::new(alloc),
             files: Vec::new(alloc),
@@ -49,40 +66,14 @@ impl<'a> Trace<'a> {
             marks: Vec::new(alloc),
             firsts: Vec::new(alloc),
             names: Vec::new(alloc),
-        };
-        let mut rest = text;
-        let mut number: usize = 1;
-        'lines: while !rest.is_empty() {
-            let (line, after) = cut(rest, b'\n');
-            if !trace.add(line, text.len() - rest.len())? {
-                return Err(Refusal::Fault(SeekFault::Line(number)));
-            }
-            rest = after;
-            number += 1;
-        }
-        Ok(trace)
-    }
-
-    // Adds a line that begins at this place, and says whether it is one of a trace.
-    fn add(&mut self, line: &'a [u8], place: usize) -> Result<bool, NoMemory> {
-        if parse_set(line).is_some() {
-            return Ok(true);
-        }
-        if parse_entry(line).is_some() {
-            self.places.push(place)?;
-            return Ok(true);
-        }
-        match parse_row(line) {
-            Some(row) => {
-                self.add_row(row)?;
-                Ok(true)
-            }
-            None => Ok(false),
         }
     }
 
-    fn add_row(&mut self, row: Row<'a>) -> Result<(), NoMemory> {
+    // Adds what a line is that begins at this place.
+    fn add(&mut self, row: Row<'a>, place: usize) -> Result<(), NoMemory> {
         match row {
+            Row::Entry => self.places.push(place)?,
+            Row::Value => {}
             Row::File(name) => self.files.push(name)?,
             Row::Script(unit) => self.scripts.push(unit)?,
             Row::Global(name) => self.globals.push(name)?,
