@@ -1,3 +1,4 @@
 pub mod Contains
+pub mod Latest
 pub mod Numbers
 pub mod Watching

@@ -1,7 +1,8 @@
 //! The entries of a trace, and the values that they set.
 
-ghost use Rattle.std.specs.Prelude.{◌≡◌, ◌==◌};
+ghost use Rattle.std.specs.Prelude.{◌≡◌, ◌==◌, ◌&&◌, not};
 ghost use Rattle.lsl_seek.specs.Bytes.{Sees, before};
+ghost use Rattle.lsl_seek.specs.Calls.{tells_call};
 ghost use Rattle.lsl_seek.specs.Entries.{at_of, entry_of, is_said, is_stop, line, mark_sort, said_of, set_of, set_words, slot_of, sort_of_word, value};
 
 use crate::bytes::{cut, number, take_number, take_word};
@@ -44,6 +45,13 @@ impl Sort {
             self,
             Sort::Took | Sort::Done | Sort::Fault | Sort::Speech | Sort::Apart | Sort::Other
         )
+    }
+
+    /// Whether it says which call its script is in after it.
+    pub fn tells_call(self) -> bool
+        ensures { result ≡ tells_call self }
+    {
+        !matches!(self, Sort::Took | Sort::Speech | Sort::Apart | Sort::Other)
     }
 
     /// The sort of a mark, by its word.
@@ -98,6 +106,15 @@ pub struct Entry<'a> {
     pub serial: u32,
     pub outer: u32,
     pub said: &'a [u8],
+}
+
+impl<'a> Entry<'a> {
+    /// Whether it is one of a call's marks.
+    pub fn is_of(&self, serial: u32) -> bool
+        ensures { result ≡ (not (self.now.mark == 0) && self.now.serial == serial) }
+    {
+        self.mark != 0 && self.serial == serial
+    }
 }
 
 /// The entry of what follows the word `at`.

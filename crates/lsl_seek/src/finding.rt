@@ -1,11 +1,14 @@
 //! Where a move leads.
 
 ghost use Rattle.std.specs.Prelude.{◌≡◌, ◌&&◌, false, cond, List, ◌∷◌, drop};
+ghost use Rattle.std.specs.List.{find};
+ghost use Rattle.std.specs.Option.{option_map};
 ghost use Rattle.std.specs.Result.{IfOk};
 ghost use Rattle.lsl_seek.specs.Aims.{asks_values, meets};
 ghost use Rattle.lsl_seek.specs.Finding.{IsFirst, IsLast};
-ghost use Rattle.lsl_seek.specs.Leads.{IsBeside, Leads, known};
-ghost use Rattle.lsl_seek.specs.Moments.{Moment as Told, marks_of, moment_of};
+ghost use Rattle.lsl_seek.specs.Calls.{call_after, caller, is_of_call};
+ghost use Rattle.lsl_seek.specs.Leads.{IsBeside, Leads, in_hand, known};
+ghost use Rattle.lsl_seek.specs.Moments.{Moment as Told, marks_of, moment_of, moments, seen, up_to};
 ghost use Rattle.lsl_seek.specs.Watches.{Watches};
 
 use crate::aim::Aim;
@@ -127,38 +130,58 @@ impl<'a> Trace<'a> {
     }
 
     /// The serial of the call that is active at a moment, or 0.
-    pub fn active(&self, number: usize, moment: &Moment) -> u32 {
-        if !moment.sort.is_said() {
-            return moment.entry.serial;
-        }
-        if moment.sort == Sort::Apart {
-            return 0;
-        }
-        'before: for place in self.before(number).iter().rev() {
-            let it = self.moment_at(*place);
-            if it.entry.script == moment.entry.script {
-                match it.sort {
-                    Sort::Leave => return it.entry.outer,
-                    Sort::Done | Sort::Fault => return 0,
-                    Sort::Enter | Sort::Statement | Sort::Again | Sort::Note => {
-                        return it.entry.serial;
-                    }
-                    Sort::Took | Sort::Speech | Sort::Apart | Sort::Other => {}
-                }
+    pub fn active(&self, number: usize, moment: &Moment) -> u32
+        ensures { result ≡ in_hand self.now number (seen moment.now) }
+    {
+        match moment.sort {
+            Sort::Enter | Sort::Statement | Sort::Again | Sort::Leave | Sort::Note => {
+                moment.entry.serial
             }
+            Sort::Apart => 0,
+            Sort::Took | Sort::Done | Sort::Fault | Sort::Speech | Sort::Other => {
+                self.active_after(number.saturating_sub(1), moment.entry.script)
+            }
+        }
+    }
+
+    // The serial of the call that a script is in after the moments up to this number, or 0.
+    fn active_after(&self, number: usize, script: u32) -> u32
+        ensures { result ≡ call_after script (up_to (moments self.now) number) }
+    {
+        let mut rest = self.up_to(number);
+        'back: while let [more @ .., place] = rest {
+            let it = self.moment_at(*place);
+            if it.tells_call_of(script) {
+                return it.call_told();
+            }
+            rest = more;
         }
         0
     }
 
     // The serial of the call from which a call was made, or 0.
-    fn outer(&self, number: usize, serial: u32) -> u32 {
-        'before: for place in self.up_to(number).iter().rev() {
-            let it = self.moment_at(*place);
-            if it.entry.mark != 0 && it.entry.serial == serial {
-                return it.entry.outer;
-            }
+    fn outer(&self, number: usize, serial: u32) -> u32
+        ensures { result ≡ caller serial (up_to (moments self.now) number) }
+    {
+        match self.latest_of(number, serial) {
+            Some(it) => it.entry.outer,
+            None => 0,
         }
-        0
+    }
+
+    /// The latest entry of a call among the moments up to this number.
+    pub fn latest_of(&self, number: usize, serial: u32) -> Option<Moment<'a>>
+        ensures { option_map seen result ≡ find (is_of_call serial) (up_to (moments self.now) number) }
+    {
+        let mut rest = self.up_to(number);
+        'back: while let [more @ .., place] = rest {
+            let it = self.moment_at(*place);
+            if it.entry.is_of(serial) {
+                return Some(it);
+            }
+            rest = more;
+        }
+        None
     }
 }
 

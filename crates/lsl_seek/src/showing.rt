@@ -1,5 +1,9 @@
 //! A moment as lines.
 
+ghost use Rattle.std.specs.Prelude.{◌≡◌};
+ghost use Rattle.lsl_seek.specs.Calls.{mark_of};
+ghost use Rattle.lsl_seek.specs.Moments.{moments, up_to};
+
 use crate::bytes::cut;
 use crate::entry::{Slot, Sort, parse_set};
 use crate::tables::Name;
@@ -59,21 +63,20 @@ impl<'a> Trace<'a> {
     }
 
     // The mark of a call's latest entry, or 0.
-    fn latest(&self, number: usize, serial: u32) -> u32 {
-        'before: for place in self.up_to(number).iter().rev() {
-            let it = self.moment_at(*place);
-            if it.entry.mark != 0 && it.entry.serial == serial {
-                return it.entry.mark;
-            }
+    fn latest(&self, number: usize, serial: u32) -> u32
+        ensures { result ≡ mark_of serial (up_to (moments self.now) number) }
+    {
+        match self.latest_of(number, serial) {
+            Some(it) => it.entry.mark,
+            None => 0,
         }
-        0
     }
 
     fn push_calls(&self, out: &mut Vec<u8>, number: usize, serial: u32) -> Result<(), NoMemory> {
         let mut serial = serial;
         'entries: for i in (0..self.up_to(number).len()).rev() {
             let it = self.moment(i + 1);
-            if it.entry.mark != 0 && it.entry.serial == serial {
+            if it.entry.is_of(serial) {
                 self.push_call(out, self.up_to(i + 1), &it)?;
                 serial = it.entry.outer;
             }

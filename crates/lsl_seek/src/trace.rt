@@ -1,8 +1,9 @@
 //! A trace that was read.
 
-ghost use Rattle.std.specs.Prelude.{◌≡◌, ◌==◌, ◌-◌, ◌&&◌, nat_le, nat_lt, drop, take, length, map, slice_get};
+ghost use Rattle.std.specs.Prelude.{◌≡◌, ◌==◌, ◌-◌, ◌&&◌, nat_le, nat_lt, drop, take, length, map, slice_get, Some};
 ghost use Rattle.std.specs.Option.{option_copied, option_map};
 ghost use Rattle.lsl_seek.specs.Aims.{files_of};
+ghost use Rattle.lsl_seek.specs.Calls.{call_told, tells_call_of};
 ghost use Rattle.lsl_seek.specs.Entries.{line};
 ghost use Rattle.lsl_seek.specs.Moments.{marks_of, moment_of, moment_or_nothing, moments, nothing, numbered, seen, sort_of};
 ghost use Rattle.lsl_seek.specs.Tables.{place};
@@ -35,6 +36,26 @@ pub struct Moment<'a> {
     pub entry: Entry<'a>,
     pub sort: Sort,
     pub sets: &'a [u8],
+}
+
+impl<'a> Moment<'a> {
+    /// Whether it says in which call this script is after it.
+    pub fn tells_call_of(&self, script: u32) -> bool
+        ensures { result ≡ tells_call_of script (seen self.now) }
+    {
+        self.entry.script == script && self.sort.tells_call()
+    }
+
+    /// The call that its script is in after it, where it says that; where a call is left it is the caller.
+    pub fn call_told(&self) -> u32
+        ensures { result ≡ call_told (Some (seen self.now)) }
+    {
+        match self.sort {
+            Sort::Leave => self.entry.outer,
+            Sort::Enter | Sort::Statement | Sort::Again | Sort::Note => self.entry.serial,
+            Sort::Took | Sort::Done | Sort::Fault | Sort::Speech | Sort::Apart | Sort::Other => 0,
+        }
+    }
 }
 
 impl<'a> Trace<'a> {
