@@ -1,6 +1,8 @@
 //! The tables of a trace.
 
+ghost use Rattle.std.specs.Prelude.{◌≡◌};
 ghost use Rattle.lsl_seek.specs.Bytes.{Sees};
+ghost use Rattle.lsl_seek.specs.Rows.{file_of, long_word_of, row, row_after, row_of, script_of, word_of};
 ghost use Rattle.lsl_seek.specs.Tables.{mark_of, name_of, place, variable};
 
 use crate::bytes::{cut, is_word, number, take_number, take_word};
@@ -39,33 +41,85 @@ pub enum Row<'a> {
     Name(Name<'a>),
 }
 
+/// The first word of a line of a trace.
+#[derive(Clone, Copy)]
+enum Word {
+    Set,
+    At,
+    Said,
+    File,
+    Script,
+    Global,
+    Mark,
+    Name,
+}
+
+impl Word {
+    fn of(text: &[u8]) -> Option<Word>
+        ensures { result ≡ word_of text.now }
+    {
+        match text {
+            b"set" => Some(Word::Set),
+            b"at" => Some(Word::At),
+            b"said" => Some(Word::Said),
+            b"file" => Some(Word::File),
+            b"mark" => Some(Word::Mark),
+            b"name" => Some(Word::Name),
+            _ => Word::of_long(text),
+        }
+    }
+
+    fn of_long(text: &[u8]) -> Option<Word>
+        ensures { result ≡ long_word_of text.now }
+    {
+        if text == b"script".as_slice() {
+            return Some(Word::Script);
+        }
+        if text == b"global".as_slice() {
+            return Some(Word::Global);
+        }
+        None
+    }
+}
+
 /// What a line is, if it is one of a trace.
-pub fn parse_row(line: &[u8]) -> Option<Row> {
+pub fn parse_row(line: &[u8]) -> Option<Row>
+    ensures { Sees row result (row_of line.now) }
+{
     let (first, after) = cut(line, b' ');
+    parse_after(Word::of(first)?, after)
+}
+
+// What a line is with this first word.
+fn parse_after(first: Word, rest: &[u8]) -> Option<Row>
+    ensures { Sees row result (row_after first rest.now) }
+{
     match first {
-        b"set" => {
-            let _ = parse_set_words(after)?;
+        Word::Set => {
+            let _ = parse_set_words(rest)?;
             Some(Row::Value)
         }
-        b"at" => {
-            let _ = parse_at(after)?;
+        Word::At => {
+            let _ = parse_at(rest)?;
             Some(Row::Entry)
         }
-        b"said" => {
-            let _ = parse_said(after)?;
+        Word::Said => {
+            let _ = parse_said(rest)?;
             Some(Row::Entry)
         }
-        b"file" => Some(Row::File(parse_file(after)?)),
-        b"script" => Some(Row::Script(parse_script(after)?)),
-        b"global" => Some(Row::Global(parse_name(after)?)),
-        b"mark" => Some(Row::Mark(parse_mark(after)?)),
-        b"name" => Some(Row::Name(parse_name(after)?)),
-        _ => None,
+        Word::File => Some(Row::File(parse_file(rest)?)),
+        Word::Script => Some(Row::Script(parse_script(rest)?)),
+        Word::Global => Some(Row::Global(parse_name(rest)?)),
+        Word::Mark => Some(Row::Mark(parse_mark(rest)?)),
+        Word::Name => Some(Row::Name(parse_name(rest)?)),
     }
 }
 
 // The quoted name before the last word, a number.
-fn parse_file(text: &[u8]) -> Option<&[u8]> {
+#[tactic(auto, unfolding(crate::specs::Rows::file_of))]
+fn parse_file(text: &[u8]) -> Option<&[u8]>
+    ensures { Sees (λ name. name.now) result (file_of text.now) }
+{
     let (_, text) = take_number(text)?;
     match text {
         [b'"', .., b' ', b'0'..=b'4'] => Some(&text[..text.len() - 2]),
@@ -73,7 +127,10 @@ fn parse_file(text: &[u8]) -> Option<&[u8]> {
     }
 }
 
-fn parse_script(text: &[u8]) -> Option<u32> {
+#[tactic(auto, unfolding(crate::specs::Rows::script_of))]
+fn parse_script(text: &[u8]) -> Option<u32>
+    ensures { result ≡ script_of text.now }
+{
     let (_, text) = take_number(text)?;
     let (unit, text) = take_number(text)?;
     match text {
