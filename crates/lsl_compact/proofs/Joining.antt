@@ -198,3 +198,26 @@ module _ {A : Type 0} (first pool list : List A) (ps seen : List Piece) (place b
       ∙ sym (joined_at pool ps k (place - length first) p are is.piece is.from is.within)
       ∙ sym (get_right first (joined pool ps) (place - length first) place (omega arith))
       ∙ ap (λ (l : List A). slice_get l place) view
+
+-- the list that is longer by one, or by some of the words
+pub length_pushed : {A : Type 0} (first pool more words : List A) (ps new : List Piece) (old : Worded A) (n : ℕ) (x : A)
+    → worded (take n more) (first ++ joined more new) ≡ worded words (old.list ++ x ∷ []) → (len sum : ℕ)
+    → (old.list ≡ first ++ joined pool ps) → len ≡ length (first ++ joined pool ps) → sum ≡ len + 1
+    → sum ≡ length (first ++ joined more new)
+length_pushed {A} first pool more words ps new old n x is len sum list long more_by =
+    let a = ap (λ (w : Worded A). length w.list) is in
+    let b = length-append old.list (x ∷ []) in
+    let c = ap {A = List A} length list in
+    omega arith
+
+pub length_repeated : {A : Type 0} (first pool words : List A) (ps new : List Piece) (old : Worded A)
+    (p : Piece) → worded words (first ++ joined pool new) ≡ worded old.words (old.list ++ take p.count (drop p.from old.words))
+    → (len sum : ℕ) → (old.list ≡ first ++ joined pool ps) → len ≡ length (first ++ joined pool ps) → sum ≡ len + p.count
+    → p.from + p.count ≤ length old.words → sum ≡ length (first ++ joined pool new)
+length_repeated {A} first pool words ps new old p is len sum list long more_by within =
+    let a = ap (λ (w : Worded A). length w.list) is in
+    let b = length-append old.list (take p.count (drop p.from old.words)) in
+    let c = ap {A = List A} length list in
+    let d = length-drop p.from old.words in
+    let e = length-take-le p.count (drop p.from old.words) (omega arith) in
+    omega arith
