@@ -42,6 +42,7 @@ pub mod Units
 pub mod Waiting
 pub mod Weavable
 pub mod Weaves
+pub mod Wording
 pub mod WovenExamples
 pub mod WovenForward
 pub mod WovenUnits

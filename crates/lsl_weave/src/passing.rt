@@ -4,7 +4,9 @@ ghost use Rattle.std.specs.Prelude.{◌≡◌, ◌<◌, IfOk, IfSome, length, ma
 ghost use Rattle.lsl_code.specs.Bodies.{plain_body};
 ghost use Rattle.lsl_code.specs.Passages.{ArePassages, HavePassages, IsPassage};
 ghost use Rattle.lsl_weave.specs.Layout.{woven_of};
+ghost use Rattle.lsl_code.specs.WovenBodies.{woven_body};
 ghost use Rattle.lsl_weave.specs.Tables.{TablesOf};
+ghost use Rattle.lsl_weave.specs.Weaving.{woven_function};
 
 use crate::tables::{Tables, tables_of};
 use lsl_code::{FunctionCode, Instr, Passage, Passages, Point, Sequence};
@@ -16,10 +18,11 @@ pub fn all_passages(
     alloc: Global,
     functions: &[FunctionCode],
 ) -> Result<Sequence<Passages>, NoMemory>
-    ensures { IfOk result (HavePassages (map (λ f. woven_of (plain_body f)) functions.now)) }
+    ensures { IfOk result (HavePassages (map woven_body (map woven_function functions.now))) }
 {
     let mut lists = Sequence::new(alloc);
-    for function in functions {
+    for i in 0..functions.len() {
+        let function = &functions[i];
         lists.push(passages_of(alloc, function)?)?;
     }
     Ok(lists)

@@ -1,13 +1,12 @@
 //! The words of which the blocks of a function repeat parts.
 
-ghost use Rattle.std.specs.Prelude.{◌≡◌, ◌+◌, ◌-◌, ◌<◌, ◌≤◌, ◌*◌, ◌++◌, [], ℕ, IfOk, OnOk, Some, length, slice_get};
-ghost use Rattle.lsl_code.specs.declared.functions.Point.{Point as Place};
+ghost use Rattle.std.specs.Prelude.{◌≡◌, ◌++◌, [], IfOk, OnOk, length};
 ghost use Rattle.lsl_weave.specs.Layout.{back_slots, back_tops, keep_slots, keep_tops};
 ghost use Rattle.lsl_weave.specs.Words.{IsEnough, IsShort, words_of};
 
 use crate::numbers::{number, plus};
 use crate::tables::waiting_of;
-use lsl_code::{FunctionCode, Instr, Point};
+use lsl_code::{FunctionCode, Instr};
 use lsl_text::NoMemory;
 use std::alloc::Global;
 
@@ -24,22 +23,24 @@ pub fn words_for(function: &FunctionCode) -> Result<Words, NoMemory>
     ensures most { IfOk result (λ words. IsEnough function.now words.most) }
     ensures short { IfOk result IsShort }
 {
-    let slots = function.slots.len();
-    let most = most_waiting(slots, function.points.as_slice());
-    let half = plus(plus(0, slots)?, most)?;
+    let slots = plus(0, function.slots.len())?;
+    let half = plus(slots, most_waiting(function))?;
     plus(half, half as usize)?;
     Ok(Words {
-        slots: slots as u32,
-        most: most as u32,
+        slots,
+        most: half - slots,
     })
 }
 
 // The most operands that wait at one of the points.
-fn most_waiting(slots: usize, points: &[Point]) -> usize
-    ensures { (k : ℕ) (point : Place) → slice_get points.now k ≡ Some point → length point.kinds - slots ≤ result }
+fn most_waiting(function: &FunctionCode) -> usize
+    ensures { IsEnough function.now result }
 {
+    let slots = function.slots.len();
+    let points = function.points.as_slice();
     let mut most = 0;
-    for point in points {
+    for i in 0..points.len() {
+        let point = &points[i];
         most = most.max(waiting_of(slots, point));
     }
     most
