@@ -46,3 +46,4 @@ pub mod Wording
 pub mod WovenExamples
 pub mod WovenForward
 pub mod WovenUnits
+pub mod Writing
