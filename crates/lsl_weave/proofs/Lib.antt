@@ -10,6 +10,7 @@ pub mod Examples
 pub mod Forwards
 pub mod FramesBack
 pub mod Hosts
+pub mod InOrder
 pub mod Lift
 pub mod Made
 pub mod MadeBacks

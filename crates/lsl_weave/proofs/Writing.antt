@@ -6,7 +6,7 @@ use Rattle.lsl_code.specs.declared.instructions.Instr.TheVariants.{Seal}
 use Rattle.lsl_weave.specs.declared.words.Words.{Words}
 use Rattle.lsl_weave.specs.Layout.{keep_tops, keep_slots, back_slots, back_tops}
 use Rattle.lsl_weave.specs.Words.{AreWords, words_of}
-use Rattle.lsl_weave.proofs.Wording.{kept_part, put_part, slots_append, tops_append, words_long}
+use Rattle.lsl_weave.proofs.Wording.{back_slots_append, back_tops_append, kept_part, put_part, slots_append, tops_append, words_long}
 
 -- a part for so many operands lies within the words
 pub within_words : (w : Words) (words : List Instr) (from count : ℕ) → AreWords w words
@@ -37,3 +37,13 @@ module _ (old mid : Worded Instr) (w : Words) (waits : ℕ) (are : AreWords w ol
   put_block first =
       first ∙ ap (λ (l : List Instr). worded old.words (old.list ++ l))
       (put_part w.slots w.most waits old.words are.words_are le)
+
+-- a block that puts values back, and its end
+pub put_whole : (list list1 list2 : List Instr) (s w : ℕ) (tail : List Instr)
+    → list1 ≡ list ++ back_slots 0 s (back_tops w []) → list2 ≡ list1 ++ tail
+    → list2 ≡ list ++ back_slots 0 s (back_tops w tail)
+put_whole list list1 list2 s w tail first then =
+    then ∙ ap (λ (l : List Instr). l ++ tail) first ∙ append_assoc list (back_slots 0 s (back_tops w [])) tail
+    ∙ ap (λ (l : List Instr). list ++ l)
+    (back_slots_append 0 s (back_tops w []) tail
+    ∙ ap (λ (l : List Instr). back_slots 0 s l) (back_tops_append w [] tail))

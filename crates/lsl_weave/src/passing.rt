@@ -1,14 +1,16 @@
 //! The passages of the points of functions.
 
-ghost use Rattle.std.specs.Prelude.{◌≡◌, ◌<◌, IfOk, IfSome, length, map, slice_get, Some};
+ghost use Rattle.std.specs.Prelude.{◌≡◌, ℕ, true, IfOk, IfSome, Option, Some, map, slice_get};
 ghost use Rattle.lsl_code.specs.Bodies.{plain_body};
 ghost use Rattle.lsl_code.specs.Passages.{ArePassages, HavePassages, IsPassage};
 ghost use Rattle.lsl_weave.specs.Layout.{woven_of};
+ghost use Rattle.lsl_code.specs.Standing.{point_instr};
 ghost use Rattle.lsl_code.specs.WovenBodies.{woven_body};
 ghost use Rattle.lsl_weave.specs.Tables.{TablesOf};
 ghost use Rattle.lsl_weave.specs.Weaving.{woven_function};
 
-use crate::tables::{Tables, tables_of};
+use crate::numbers::plus;
+use crate::tables::{Tables, tables_of, waiting_of};
 use lsl_code::{FunctionCode, Instr, Passage, Passages, Point, Sequence};
 use lsl_text::NoMemory;
 use std::alloc::Global;
@@ -57,25 +59,36 @@ fn passage_of(
         return None;
     }
     let slots = function.slots.len();
-    let count = point.kinds.len().max(slots);
-    let tested = tables.shift(function, plain).checked_add(1)?;
+    let place = tables.shift(function, plain);
+    let behind = plus(place, 1).ok()?;
     Some(Passage {
-        tested,
-        slots: u16::try_from(slots).ok()?,
-        count: u16::try_from(count).ok()?,
+        tested: behind,
+        slots: short(slots)?,
+        count: short(waiting_of(slots, point).checked_add(slots)?)?,
         most: function.most,
         callee: point.calls,
         place: match point.calls {
-            Some(_) => tested,
-            None => tested - 1,
+            Some(_) => behind,
+            None => place,
         },
     })
 }
 
+// The count, where it is short.
+fn short(count: usize) -> Option<u16>
+    ensures { IfSome result (λ n. n ≡ count) }
+{
+    u16::try_from(count).ok()
+}
+
 // Whether the tick or the call of this point is at this place.
-fn stands_at(code: &[Instr], place: usize, number: usize) -> bool {
+fn stands_at(code: &[Instr], place: usize, number: usize) -> bool
+    ensures { result ≡ true →
+        (callee : Option ℕ) × (slice_get code.now place ≡ Some (point_instr callee number)) }
+{
     match code.get(place) {
-        Some(Instr::Tick(point)) | Some(Instr::Call(_, point)) => usize::from(*point) == number,
+        Some(Instr::Tick(point)) => *point as usize == number,
+        Some(Instr::Call(_, point)) => *point as usize == number,
         _ => false,
     }
 }
