@@ -99,9 +99,9 @@ put_block code to w s count place last h long =
     record {
       puts =
           λ k lt.
-              let same : 0 + k ≡ k = omega arith in
-              in_block code to block k (BackSlot k) h
-              (back_slots_get 0 s k pushes lt ∙ ap (λ (m : ℕ). Some (BackSlot m)) same);
+          let same : 0 + k ≡ k = omega arith in
+          in_block code to block k (BackSlot k) h
+          (back_slots_get 0 s k pushes lt ∙ ap (λ (m : ℕ). Some (BackSlot m)) same);
       pushes =
           λ k from lt. in_block code to block k BackTop h
           (back_slots_past 0 s (k - s) k pushes (omega arith) ∙ back_tops_get w (k - s) end (omega arith));
