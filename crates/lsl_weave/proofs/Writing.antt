@@ -1,11 +1,11 @@
 -- A draft of woven code that grows by parts of its words.
-use Rattle.std.proofs.Common.{◌≡◌, ◌∙◌, refl, sym, ap, subst, arith, ℕ, ◌+◌, ◌-◌, ◌*◌, ◌≤◌, List, [], ◌∷◌, ◌++◌, length, take, drop, append_assoc}
+use Rattle.std.proofs.Common.{◌≡◌, ◌∙◌, ap, arith, ℕ, ◌+◌, ◌-◌, ◌*◌, ◌≤◌, List, [], ◌∷◌, ◌++◌, length, take, drop, append_assoc}
 use Rattle.lsl_compact.specs.Pieces.{Worded, worded}
 use Rattle.lsl_code.specs.declared.instructions.Instr.{Instr}
 use Rattle.lsl_code.specs.declared.instructions.Instr.TheVariants.{Seal}
 use Rattle.lsl_weave.specs.declared.words.Words.{Words}
 use Rattle.lsl_weave.specs.Layout.{keep_tops, keep_slots, back_slots, back_tops}
-use Rattle.lsl_weave.specs.Words.{AreWords, words_of}
+use Rattle.lsl_weave.specs.Words.{AreWords}
 use Rattle.lsl_weave.proofs.Wording.{back_slots_append, back_tops_append, kept_part, put_part, slots_append, tops_append, words_long}
 
 -- a part for so many operands lies within the words

@@ -1,4 +1,4 @@
-use Rattle.std.proofs.Common.{◌+◌, ◌*◌, ◌≤◌, arith}
+use Rattle.std.proofs.Common.{◌+◌, arith}
 use Rattle.lsl_code.proofs.Packing.{on_ok}
 use Rattle.lsl_weave.proofs.Writing.{put_block, within_words}
 use Rattle.lsl_weave.proofs.blocks.push_puts.Goals as goal

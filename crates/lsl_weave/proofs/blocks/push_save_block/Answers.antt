@@ -1,4 +1,4 @@
-use Rattle.std.proofs.Common.{◌≡◌, ◌∙◌, ◌+◌, ◌-◌, ◌*◌, ◌≤◌, ◌++◌, ◌∷◌, [], ap, arith}
+use Rattle.std.proofs.Common.{◌∙◌, ◌+◌, ◌-◌, ◌++◌, ◌∷◌, [], ap, arith}
 use Rattle.lsl_code.proofs.Packing.{on_ok}
 use Rattle.lsl_code.specs.declared.instructions.Instr.TheVariants.{Seal}
 use Rattle.lsl_compact.specs.Pieces.{worded}

@@ -1,4 +1,4 @@
-use Rattle.std.proofs.Common.{rules, ◌≡◌, ◌<◌, ◌∙◌, ◌++◌, ap, length}
+use Rattle.std.proofs.Common.{rules, ◌≡◌, ◌<◌, ◌++◌, length}
 use Rattle.lsl_code.specs.Bodies.{plain_body}
 use Rattle.lsl_weave.specs.Layout.{table}
 use Rattle.lsl_weave.proofs.Emitting.{flat_more}

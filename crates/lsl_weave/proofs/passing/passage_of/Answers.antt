@@ -1,4 +1,4 @@
-use Rattle.std.proofs.Common.{rules, ◌≡◌, ◌∙◌, ◌+◌, refl, sym, ap, true, arith, Some, length}
+use Rattle.std.proofs.Common.{rules, ◌≡◌, ◌∙◌, ◌+◌, refl, sym, ap, Some, length}
 use Rattle.std.specs.Prelude.{slice_get}
 use Rattle.lsl_code.specs.Bodies.{plain_body}
 use Rattle.lsl_code.specs.Standing.{point_instr}
