@@ -1,2 +1,4 @@
 pub mod KeyLemmas
+pub mod LeadLemmas
+pub mod BlockLemmas
 pub mod TextLemmas
