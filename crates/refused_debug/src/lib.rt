@@ -3,4 +3,5 @@
 #![tactic(auto)]
 
 pub mod moves;
+pub mod states;
 pub mod traces;
