@@ -2,6 +2,7 @@
 //! machine that runs them comes to (in `specs/`). Nothing here runs a unit.
 #![tactic(auto)]
 
+mod blocks;
 mod checking;
 mod drafts;
 mod effects;
@@ -35,7 +36,7 @@ pub use crate::finishing::finish;
 pub use crate::frames::{Frame, Mark};
 pub use crate::functions::{FunctionCode, Handler, Point, StateCode};
 pub use crate::fused::Fused;
-pub use crate::fused_functions::{FusedFunctions, Passages};
+pub use crate::fused_functions::FusedFunctions;
 pub use crate::instructions::Instr;
 pub use crate::library::Library;
 pub use crate::packs::Pack;

@@ -3,7 +3,7 @@
 use crate::functions::Point;
 use crate::instructions::Instr;
 use crate::sequence::Sequence;
-use lsl_compact::{Pieces, PlacedStacks};
+use lsl_compact::PlacedStacks;
 use lsl_value::{Kind, Text};
 
 /// A function's code with code that saves and restores its calls. `running` has, per instruction, the kinds of the
@@ -19,6 +19,6 @@ pub struct WovenCode {
     pub most: u32,
     pub points: Sequence<Point>,
     pub lines: Sequence<u32>,
-    pub code: Pieces<Instr>,
+    pub code: Sequence<Instr>,
     pub running: PlacedStacks,
 }

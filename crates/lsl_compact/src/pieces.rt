@@ -22,30 +22,21 @@ pub struct Pieces<T> {
     first: Vec<T>,
     pool: Vec<T>,
     pieces: Vec<Piece>,
-    len: usize,
 }
 
 impl<T> Model for Pieces<T> {
-    ghost use Rattle.std.specs.Prelude.{◌≡◌, List, ◌++◌, length};
+    ghost use Rattle.std.specs.Prelude.{List, ◌++◌, length};
     ghost use Rattle.lsl_compact.specs.Pieces.{ArePieces, joined};
 
     ghost Value = { List T };
 
     ghost view = { λ p. p.first.items ++ joined p.pool.items p.pieces.items };
 
-    ghost invariant = { λ p. ArePieces (length p.pool.items) p.pieces.items
-        × (p.len ≡ length (p.first.items ++ joined p.pool.items p.pieces.items)) };
+    ghost invariant = { λ p. ArePieces (length p.pool.items) p.pieces.items };
 }
 
 impl<T> Pieces<T> {
-    /// How many elements there are.
-    pub fn len(&self) -> usize
-        ensures { result ≡ length self.now }
-    {
-        self.len
-    }
-
-    /// The elements before the pieces. Takes no memory.
+    /// How many elements lie before the pieces. Takes no memory.
     pub fn first(&self) -> &[T]
         ensures { (rest : List T) × (self.now ≡ result.now ++ rest) }
     {
@@ -96,29 +87,26 @@ pub struct PiecesDraft<T> {
     words: usize,
     pool: Vec<T>,
     pieces: Vec<Piece>,
-    len: usize,
 }
 
 impl<T> Model for PiecesDraft<T> {
-    ghost use Rattle.std.specs.Prelude.{◌≡◌, ◌≤◌, ◌++◌, length, take};
+    ghost use Rattle.std.specs.Prelude.{◌≤◌, ◌++◌, length, take};
     ghost use Rattle.lsl_compact.specs.Pieces.{ArePieces, Worded, joined, worded};
 
     ghost Value = { Worded T };
 
     ghost view = { λ p. worded (take p.words p.pool.items) (p.first.items ++ joined p.pool.items p.pieces.items) };
 
-    ghost invariant = { λ p. (p.words ≤ length p.pool.items) × ArePieces (length p.pool.items) p.pieces.items
-        × (p.len ≡ length (p.first.items ++ joined p.pool.items p.pieces.items)) };
+    ghost invariant = { λ p. (p.words ≤ length p.pool.items) × ArePieces (length p.pool.items) p.pieces.items };
 }
 
 impl<T> PiecesDraft<T> {
-    /// This list, with these words. Takes no memory.
-    pub fn new(alloc: Global, first: Vec<T>, words: Vec<T>) -> PiecesDraft<T>
-        ensures { result ≡ worded words.items first.items }
+    /// The empty list, with these words. Takes no memory.
+    pub fn new(alloc: Global, words: Vec<T>) -> PiecesDraft<T>
+        ensures { result ≡ worded words.items [] }
     {
         PiecesDraft {
-            len: first.len(),
-            first,
+            first: Vec::new(alloc),
             words: words.len(),
             pool: words,
             pieces: Vec::new(alloc),
@@ -132,9 +120,7 @@ impl<T> PiecesDraft<T> {
             (self.new ≡ worded self.old.words (self.old.list ++ take count (drop from self.old.words))) }
         ensures unchanged { OnErr result (self.new ≡ self.old) }
     {
-        let len = longer(self.len, count)?;
         self.pieces.push(Piece { from, count })?;
-        self.len = len;
         Ok(())
     }
 
@@ -146,14 +132,12 @@ impl<T> PiecesDraft<T> {
             first,
             pool,
             pieces,
-            len,
             ..
         } = self;
         Pieces {
             first,
             pool,
             pieces,
-            len,
         }
     }
 }
@@ -164,10 +148,8 @@ impl<T: Drop> PiecesDraft<T> {
         ensures pushed { OnOk result (self.new ≡ worded self.old.words (self.old.list ++ element ∷ [])) }
         ensures unchanged { OnErr result (self.new ≡ self.old) }
     {
-        let len = longer(self.len, 1)?;
         if self.pieces.is_empty() {
             self.first.push(element)?;
-            self.len = len;
             return Ok(());
         }
         let Ok(from) = u32::try_from(self.pool.len()) else {
@@ -176,14 +158,6 @@ impl<T: Drop> PiecesDraft<T> {
         self.pieces.reserve(1)?;
         self.pool.push(element)?;
         self.pieces.push_reserved(Piece { from, count: 1 });
-        self.len = len;
         Ok(())
     }
-}
-
-// The length with so many more. Want of memory where it is none.
-fn longer(len: usize, count: u32) -> Result<usize, NoMemory>
-    ensures { IfOk result (λ sum. sum ≡ len + count) }
-{
-    len.checked_add(count as usize).ok_or(AllocError)
 }

@@ -57,15 +57,7 @@ pub fn emit_action(
             test,
             steps,
             body,
-        } => {
-            let parts = Looping {
-                line: *line,
-                test,
-                steps,
-                body,
-            };
-            emit_loop(alloc, draft, jumps, &parts)
-        }
+        } => emit_loop(alloc, draft, jumps, *line, body, test, steps),
         Action::Do { line, body, test } => emit_do(alloc, draft, jumps, *line, body, test),
         Action::Jump { line, label } => emit_jump(draft, jumps, *line, *label),
         Action::Return => draft.push(Instr::Return),
@@ -159,35 +151,29 @@ fn emit_then(
     Ok(over)
 }
 
-// The parts of a loop that tests before each round; its steps are done between two rounds.
-#[derive(Drop)]
-struct Looping<'a> {
-    line: u32,
-    test: &'a Node,
-    steps: &'a [Effect],
-    body: &'a Action,
-}
-
 // Adds the code of a loop that tests before each round.
 #[cycle(emit_action)]
 fn emit_loop(
     alloc: Global,
     draft: &mut Draft,
     jumps: &mut Vec<OpenJump>,
-    parts: &Looping,
+    line: u32,
+    body: &Action,
+    test: &Node,
+    steps: &[Effect],
 ) -> Result<(), NoMemory>
     ensures code { OnOk result (draft.new ≡ draft.old
-        ++ action_code (Loop parts.now.line (node_of parts.now.test.now) (map effect_of parts.now.steps.now)
-        (action_of parts.now.body.now)) [] (length draft.old)) }
+        ++ action_code (Loop line (node_of test.now) (map effect_of steps.now) (action_of body.now)) []
+        (length draft.old)) }
     ensures jumps { OnOk result (jumps.new.items ≡ jumps.old.items
-        ++ open_jumps (Loop parts.now.line (node_of parts.now.test.now) (map effect_of parts.now.steps.now)
-        (action_of parts.now.body.now)) (length draft.old)) }
+        ++ open_jumps (Loop line (node_of test.now) (map effect_of steps.now) (action_of body.now))
+        (length draft.old)) }
 {
     let start = to_u32(draft.len())?;
-    let fails = emit_test(alloc, draft, parts.test)?;
-    emit_action(alloc, draft, jumps, parts.body)?;
-    emit_effects(alloc, draft, parts.steps)?;
-    draft.push_tick(parts.line)?;
+    let fails = emit_test(alloc, draft, test)?;
+    emit_action(alloc, draft, jumps, body)?;
+    emit_effects(alloc, draft, steps)?;
+    draft.push_tick(line)?;
     draft.push(Instr::Jump(start))?;
     lead_behind(draft, fails)?;
     Ok(())

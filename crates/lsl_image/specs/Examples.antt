@@ -43,24 +43,6 @@ bare_bytes =
     0 ∷ 0 ∷ 0 ∷ 0 ∷ 0 ∷ 0 ∷ 0 ∷ 0 ∷ 0 ∷ 0 ∷ 0 ∷ 0 ∷ 0 ∷ 0 ∷ 1 ∷ 171 ∷ 1 ∷ 0 ∷ 0 ∷ 0 ∷ 1 ∷ 98 ∷
     0 ∷ 0 ∷ 0 ∷ 0 ∷ []
 
--- that object with a pair in its store, in the region `A` of a world at 258 milliseconds
-abbrev pub stored_world : WorldParts
-stored_world = record {
-  clock = 258;
-  objects =
-      record {
-        region = codes "A";
-        object = record bare_object { store = record { name = codes "n"; value = codes "vw" } ∷ [] };
-      } ∷ [];
-}
-
--- the clock, the count of objects, the region; the key, the prims, the scripts; the count of pairs, the name, the value
-abbrev pub stored_bytes : List ℕ
-stored_bytes =
-    0 ∷ 0 ∷ 0 ∷ 0 ∷ 0 ∷ 0 ∷ 1 ∷ 2 ∷ 1 ∷ 0 ∷ 0 ∷ 0 ∷ 1 ∷ 65 ∷
-    0 ∷ 0 ∷ 0 ∷ 0 ∷ 0 ∷ 0 ∷ 0 ∷ 0 ∷ 0 ∷ 0 ∷ 0 ∷ 0 ∷ 0 ∷ 0 ∷ 1 ∷ 171 ∷ 1 ∷ 0 ∷ 0 ∷ 0 ∷ 1 ∷ 98 ∷ 0 ∷ 0 ∷
-    0 ∷ 1 ∷ 0 ∷ 0 ∷ 0 ∷ 1 ∷ 110 ∷ 0 ∷ 0 ∷ 0 ∷ 2 ∷ 118 ∷ 119 ∷ []
-
 -- a touch with one argument, by who has this key and name, of this prim
 abbrev pub touched : Event
 touched = record {

@@ -8,35 +8,31 @@ ghost use Rattle.lsl_image.specs.Rest.{saved_calls};
 use crate::charges::is_within;
 use crate::faults::wrong;
 use crate::fields::{Read, read_u16};
-use crate::frames::{Calls, read_frames};
-use crate::rest::Owner;
-use lsl_code::Sack;
+use crate::frames::read_frames;
+use lsl_code::{Sack, Woven};
 use lsl_running::{SCRIPT_CHARGE, charged_with_values};
+use lsl_value::Values;
 use std::alloc::Global;
 
 /// How many saved calls there are at least.
 const LEAST_CALLS: u16 = 1;
 
-/// The saved calls of a handler of the unit, the innermost first, with a charge within the limit beside the globals.
-pub(crate) fn read_calls(
+/// The saved calls of a handler of the unit, the innermost first, with a charge within the limit beside these globals.
+pub fn read_calls(
     alloc: Global,
     bytes: &[u8],
     place: usize,
-    owner: &Owner,
+    unit: &Woven,
+    globals: &Values,
+    limit: u32,
     handler: Option<u16>,
 ) -> Read<Sack>
-    ensures { Reads bytes.now (saved_calls owner.now.unit.now owner.now.globals.now owner.now.limit handler) place
-        result }
+    ensures { Reads bytes.now (saved_calls unit.now globals.now limit handler) place result }
 {
     let (count, middle) = read_count(bytes, place)?;
-    let calls = Calls {
-        unit: owner.unit,
-        handler,
-        count,
-    };
-    let mut charged = charged_with_values(SCRIPT_CHARGE, owner.globals.as_slice());
-    let (sack, next) = read_frames(alloc, bytes, middle, &calls, &mut charged)?;
-    if !is_within(owner.limit, charged) {
+    let mut charged = charged_with_values(SCRIPT_CHARGE, globals.as_slice());
+    let (sack, next) = read_frames(alloc, bytes, middle, unit, handler, count, &mut charged)?;
+    if !is_within(limit, charged) {
         return Err(wrong(place));
     }
     Ok((sack, next))

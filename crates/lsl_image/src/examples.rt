@@ -3,10 +3,9 @@
 
 ghost use Rattle.std.specs.Prelude.{◌≡◌, [], codes, map};
 ghost use Rattle.lsl_code.specs.Units.{event_number};
-ghost use Rattle.lsl_image.specs.Bytes.{fault_number, objects_bytes, rest_bytes, script_bytes};
+ghost use Rattle.lsl_image.specs.Bytes.{fault_number, rest_bytes, script_bytes};
 ghost use Rattle.lsl_image.specs.Examples.{bare_bytes, bare_object, bare_shape, empty_world, empty_world_bytes, later_world_bytes};
 ghost use Rattle.lsl_image.specs.Examples.{busy_bytes, busy_script, each_event, each_fault, numbers_up_to, saved_bytes, saved_touch};
-ghost use Rattle.lsl_image.specs.Examples.{stored_bytes, stored_world};
 ghost use Rattle.lsl_image.specs.Object.{object};
 ghost use Rattle.lsl_image.specs.Spelling.{Spells};
 ghost use Rattle.lsl_image.specs.World.{world};
@@ -20,11 +19,6 @@ pub fn world_without_objects()
 /// An object of one prim in the region `A`, without scripts: 45 bytes, and 77 with the digest.
 pub fn object_without_scripts()
     ensures { Spells (object (codes "A") bare_shape [] 45) 0 bare_object bare_bytes }
-{}
-
-/// A world with an object in a region and with a pair in its store, behind its head: 51 bytes in version 2.
-pub fn stored_object_in_bytes()
-    ensures { objects_bytes 2 [] stored_world ≡ stored_bytes }
 {}
 
 /// A script that is leaving its state, with globals, a touch that waits, a listen and a timer, which stopped for good,

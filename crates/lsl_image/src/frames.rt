@@ -18,28 +18,20 @@ use std::alloc::Global;
 // How many bytes a saved call has at least.
 const LEAST_FRAME_BYTES: usize = 4;
 
-/// Which calls are saved: how many, of which unit, and the function of the handler that made the first of them.
-#[derive(Drop)]
-pub(crate) struct Calls<'a> {
-    pub(crate) unit: &'a Woven,
-    pub(crate) handler: Option<u16>,
-    pub(crate) count: u16,
-}
-
-/// The saved calls, the innermost first: each is at a call of the function of the one before it, the innermost at a
-/// tick, and the last is of the handler's function. Adds what they are charged to what is charged so far.
-pub(crate) fn read_frames(
+/// So many saved calls, the innermost first: each is at a call of the function of the one before it, the innermost at a
+/// tick, and the last is of the handler's function. With what they are charged beside what is charged so far.
+pub fn read_frames(
     alloc: Global,
     bytes: &[u8],
     place: usize,
-    calls: &Calls,
+    unit: &Woven,
+    handler: Option<u16>,
+    count: u16,
     charged: &mut u64,
 ) -> Read<Sack>
-    ensures reads { Reads bytes.now
-        (grown calls.now.count (frame_behind calls.now.unit.now calls.now.handler calls.now.count) []) place result }
+    ensures reads { Reads bytes.now (grown count (frame_behind unit.now handler count) []) place result }
     ensures charged { IfOk result (λ read. charged.new ≡ charged_with charged.old (sum_by frame_charge read.0)) }
 {
-    let count = calls.count;
     let most = usize::from(count).min(bytes.len().saturating_sub(place) / LEAST_FRAME_BYTES);
     let mut pack = Pack::with_room(alloc, most, most)?;
     let mut room = Vec::new(alloc);
@@ -47,57 +39,43 @@ pub(crate) fn read_frames(
     let mut sum = 0;
     let mut next = place;
     for i in 0..count {
-        let link = Link {
-            place: next,
-            more: i + 1 < count,
-            callee,
-        };
-        let (frame, after) = read_frame(alloc, bytes, calls, link, room, &mut sum)?;
+        let more = i + 1 < count;
+        let (frame, behind) = read_frame(
+            alloc, bytes, next, unit, handler, more, callee, room, &mut sum,
+        )?;
         callee = Some(frame.function);
         let emptied = pack.push(frame)?;
         room = emptied;
-        next = after;
+        next = behind;
     }
     *charged = charged.saturating_add(sum);
     Ok((Sack::from_pack(pack), next))
 }
 
-// A saved call among others: where it lies, whether more follow, and the function of the call before it.
-#[derive(Clone, Copy)]
-struct Link {
-    place: usize,
-    more: bool,
-    callee: Option<u16>,
-}
-
-// A saved call, which is at a call of the callee, or at a tick. Its values come into this room. Adds what it is charged
-// to what is charged so far.
+// A saved call, which is at a call of this function, or at a tick, its values in this room. With what it is charged
+// beside what is charged so far.
 #[inline(always)]
 fn read_frame(
     alloc: Global,
     bytes: &[u8],
-    calls: &Calls,
-    link: Link,
+    place: usize,
+    unit: &Woven,
+    handler: Option<u16>,
+    more: bool,
+    callee: Option<u16>,
     room: Vec<Value>,
     charged: &mut u64,
 ) -> Read<Frame>
     requires { room.items ≡ [] }
-    ensures reads { Reads bytes.now
-        (frame_in calls.now.unit.now calls.now.handler link.more link.callee) link.place result }
+    ensures reads { Reads bytes.now (frame_in unit.now handler more callee) place result }
     ensures charged { IfOk result (λ read. charged.new ≡ charged_with charged.old (frame_charge read.0)) }
 {
-    let (function, middle) = read_function(
-        bytes,
-        link.place,
-        calls.unit,
-        calls.handler,
-        link.more,
-    )?;
+    let (function, middle) = read_function(bytes, place, unit, handler, more)?;
     let (number, behind) = read_u16(bytes, middle)?;
-    let Some(point) = calls.unit.point(function, number) else {
+    let Some(point) = unit.point(function, number) else {
         return Err(wrong(middle));
     };
-    if !same_callee(point.calls, link.callee) {
+    if !same_callee(point.calls, callee) {
         return Err(wrong(middle));
     }
     *charged = charged.saturating_add(CALL_CHARGE);

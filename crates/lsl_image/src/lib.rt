@@ -32,7 +32,7 @@ mod write_waiting;
 
 pub use crate::examples::{
     faults_and_events_are_numbered, object_without_scripts, saved_call_in_bytes, script_in_bytes,
-    stored_object_in_bytes, world_without_objects,
+    world_without_objects,
 };
 pub use crate::faults::ImageFault;
 pub use crate::images::{read_object, read_world};

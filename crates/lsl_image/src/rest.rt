@@ -18,39 +18,45 @@ use std::alloc::Global;
 /// How many ways to rest there are beside being idle.
 const MOST_REST: u8 = 2;
 
-/// The script whose rest is read: its unit, its state and whether it is leaving it, its globals, and its memory limit.
-#[derive(Drop)]
-pub(crate) struct Owner<'a> {
-    pub(crate) unit: &'a Woven,
-    pub(crate) state: u16,
-    pub(crate) exits: bool,
-    pub(crate) globals: &'a Values,
-    pub(crate) limit: u32,
-}
-
 /// Idle, saved calls, or a fault. The event in hand is an exit exactly where the script is leaving its state.
-pub(crate) fn read_rest(alloc: Global, bytes: &[u8], place: usize, owner: &Owner) -> Read<Rest>
-    ensures { Reads bytes.now (rest owner.now.unit.now owner.now.state owner.now.exits owner.now.globals.now
-        owner.now.limit) place result }
+pub fn read_rest(
+    alloc: Global,
+    bytes: &[u8],
+    place: usize,
+    unit: &Woven,
+    state: u16,
+    exits: bool,
+    globals: &Values,
+    limit: u32,
+) -> Read<Rest>
+    ensures { Reads bytes.now (rest unit.now state exits globals.now limit) place result }
 {
     let (kind, next) = read_u8_within(bytes, place, MOST_REST)?;
     if kind == 0 {
         return Ok((Rest::Idle, next));
     }
     if kind == 1 {
-        return read_saved(alloc, bytes, next, owner);
+        return read_saved(alloc, bytes, next, unit, state, exits, globals, limit);
     }
     read_dead(bytes, next)
 }
 
 // The event in hand, and the saved calls of its handler.
-fn read_saved(alloc: Global, bytes: &[u8], place: usize, owner: &Owner) -> Read<Rest>
-    ensures { Reads bytes.now (saved_rest owner.now.unit.now owner.now.state owner.now.exits owner.now.globals.now
-        owner.now.limit) place result }
+fn read_saved(
+    alloc: Global,
+    bytes: &[u8],
+    place: usize,
+    unit: &Woven,
+    state: u16,
+    exits: bool,
+    globals: &Values,
+    limit: u32,
+) -> Read<Rest>
+    ensures { Reads bytes.now (saved_rest unit.now state exits globals.now limit) place result }
 {
-    let (event, middle) = read_event(alloc, bytes, place, owner.unit, owner.state, owner.exits)?;
-    let handler = owner.unit.handler(owner.state, event.id);
-    let (sack, next) = read_calls(alloc, bytes, middle, owner, handler)?;
+    let (event, middle) = read_event(alloc, bytes, place, unit, state, exits)?;
+    let handler = unit.handler(state, event.id);
+    let (sack, next) = read_calls(alloc, bytes, middle, unit, globals, limit, handler)?;
     Ok((Rest::Saved(event, sack), next))
 }
 

@@ -9,7 +9,7 @@ use crate::faults::{ImageFault, wrong};
 use crate::fields::{Read, read_array, read_u16, read_u64};
 use crate::listens::read_listens;
 use crate::queue::read_queue;
-use crate::rest::{Owner, read_rest};
+use crate::rest::read_rest;
 use crate::seal::are_same;
 use crate::values::read_globals;
 use crate::waiting::{read_leaving, read_limit, read_timer};
@@ -39,14 +39,7 @@ pub fn read_script(
     let (wake, next) = read_u64(bytes, next)?;
     let (limit, next) = read_limit(bytes, next, version)?;
     let exits = leaving.is_some();
-    let owner = Owner {
-        unit,
-        state,
-        exits,
-        globals: &globals,
-        limit,
-    };
-    let (rest, next) = read_rest(alloc, bytes, next, &owner)?;
+    let (rest, next) = read_rest(alloc, bytes, next, unit, state, exits, &globals, limit)?;
     let parts = ScriptParts {
         unit: number,
         globals,

@@ -11,11 +11,9 @@ use Rattle.std.proofs.lemmas.List.Elements.{All-head, All-tail}
 use Rattle.lsl_value.specs.declared.list.Atom.{Atom}
 use Rattle.lsl_value.specs.declared.list.Atom.TheVariants.{Str}
 use Rattle.lsl_pure.specs.Parsing.{Cut, first_mark, behind_character, behind_mark, cut_behind, cut_of, piece_elements, mark_elements, cut_elements}
-use Rattle.lsl_value.specs.Leads.{is_lead}
-use Rattle.lsl_pure.specs.Spelling.{spelled_mark, spelled_string}
+use Rattle.lsl_pure.specs.Spelling.{is_lead, spelled_mark, spelled_string}
 use Rattle.lsl_pure.specs.declared.marks.Mark.{Mark}
-use Rattle.lsl_value.proofs.LeadLemmas.{IsTail, IsOneCharacter, one_character}
-use Rattle.lsl_pure.proofs.SpellingLemmas.{starts_with-encodes, starts_with-inside, starts_with-Decides}
+use Rattle.lsl_pure.proofs.SpellingLemmas.{IsTail, IsOneCharacter, one_character, starts_with-encodes, starts_with-inside, starts_with-Decides}
 
 -- a mark has a character
 abbrev pub HasCharacter : Mark → Type 0

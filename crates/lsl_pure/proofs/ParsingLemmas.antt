@@ -11,13 +11,11 @@ use Rattle.std.proofs.lemmas.Str.{IsUtf8-drop, IsUtf8-take, IsUtf8-past_char, le
 use Rattle.lsl_value.specs.Atoms.{list_charge_of}
 use Rattle.lsl_value.specs.declared.list.Atom.{Atom}
 use Rattle.lsl_pure.specs.Parsing.{Cut, first_mark, behind_character, behind_mark, cut_behind, cut_of, piece_elements, mark_elements, cut_elements}
-use Rattle.lsl_value.specs.Leads.{is_lead}
-use Rattle.lsl_pure.specs.Spelling.{spelled_mark, spelled_string, IsOverfull}
+use Rattle.lsl_pure.specs.Spelling.{is_lead, spelled_mark, spelled_string, IsOverfull}
 use Rattle.lsl_pure.specs.declared.marks.Mark.{Mark}
 use Rattle.lsl_pure.proofs.ChargeLemmas.{overfull_more}
 use Rattle.lsl_pure.proofs.CutLemmas.{HasCharacter, before_cut, cut_behind-none, cut_behind-some, found_is, rest_elements}
-use Rattle.lsl_value.proofs.LeadLemmas.{one_character}
-use Rattle.lsl_pure.proofs.SpellingLemmas.{starts_with-Decides}
+use Rattle.lsl_pure.proofs.SpellingLemmas.{one_character, starts_with-Decides}
 
 -- the elements so far, with those of the piece that stands open and of what follows it, are those of the whole
 pub record IsCutting (keep : Bool) (marks : List Mark) (text : List ℕ) (items : List Atom) (start at : ℕ) : Type 0 where

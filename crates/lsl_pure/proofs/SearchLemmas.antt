@@ -9,9 +9,8 @@ use Rattle.std.proofs.lemmas.Int.{to_z_pos}
 use Rattle.std.proofs.lemmas.List.{take_at, take-append-drop, length-take-le}
 use Rattle.std.proofs.lemmas.Str.{encodes-append}
 use Rattle.lsl_pure.specs.Searches.{first_place, place_or_none}
-use Rattle.lsl_value.specs.Leads.{is_lead}
-use Rattle.lsl_value.proofs.LeadLemmas.{IsTail, IsOneCharacter, one_character, count_by-encodes}
-use Rattle.lsl_pure.proofs.SpellingLemmas.{starts_with-encodes, starts_with-inside}
+use Rattle.lsl_pure.specs.Spelling.{is_lead}
+use Rattle.lsl_pure.proofs.SpellingLemmas.{IsTail, IsOneCharacter, one_character, starts_with-encodes, starts_with-inside, count_by-encodes}
 
 pub first_place-here : {X : Type 0} (E : X → X → Bool) (xs sought : List X) → starts_with E xs sought ≡ true
     → first_place E xs sought ≡ Some 0

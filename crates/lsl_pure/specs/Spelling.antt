@@ -1,5 +1,5 @@
--- Texts in UTF-8: elements and marks, and what they are charged.
-use Rattle.std.specs.Prelude.{ℕ, ◌+◌, ◌<◌, length, List}
+-- Texts in UTF-8: which bytes begin a character.
+use Rattle.std.specs.Prelude.{ℕ, zero, suc, ◌+◌, ◌<◌, length, Bool, ◌||◌, nat_lt, nat_le, if◌then◌else◌, List, [], ◌∷◌}
 use Rattle.std.specs.List.{sum_by}
 use Rattle.std.specs.Str.{encode_utf8_all}
 use Rattle.lsl_value.specs.Limits.{most_charge}
@@ -7,6 +7,16 @@ use Rattle.lsl_value.specs.declared.list.Atom.{Atom}
 use Rattle.lsl_value.specs.declared.list.Atom.TheVariants.{Int, Str, Key}
 use Rattle.lsl_value.specs.Atoms.{text_of_atom}
 use Rattle.lsl_pure.specs.declared.marks.Mark.{Mark}
+
+-- the byte begins a character
+abbrev pub is_lead : ℕ → Bool
+is_lead b = nat_lt b 128 || nat_le 192 b
+
+-- how many bytes stand before the character of this number
+abbrev pub front_len : ℕ → List ℕ → ℕ
+front_len n [] = 0
+front_len zero (b ∷ bs) = if is_lead b then 0 else suc (front_len zero bs)
+front_len (suc n) (b ∷ bs) = if is_lead b then suc (front_len n bs) else suc (front_len (suc n) bs)
 
 -- an element's text in UTF-8
 abbrev pub spelled_atom : Atom → List ℕ

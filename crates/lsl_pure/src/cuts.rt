@@ -9,7 +9,7 @@ ghost use Rattle.lsl_pure.specs.Cuts.{taken, left, inserted_at, trimmed, trims_h
 
 use crate::PureFault;
 use crate::ranges::{Range, clamp};
-use crate::spelling::{copy_of, offsets, text_of};
+use crate::spelling::{copy_of, offset, offsets, text_of};
 use lsl_text::{NoMemory, behind_blanks, is_blank};
 use lsl_value::{MOST_CHARGE, Text};
 use std::alloc::Global;
@@ -79,7 +79,7 @@ pub fn insert_string(
     if text.charge() + more.len() as u64 > MOST_CHARGE {
         return Err(PureFault::TooBig);
     }
-    let at = text.offset(clamp(text.character_count(), i64::from(place)));
+    let at = offset(text, clamp(text.character_count(), i64::from(place)));
     let mut out = Vec::with_capacity(alloc, bytes.len() + more.len())?;
     out.extend_from_slice(&bytes[..at])?;
     out.extend_from_slice(more)?;

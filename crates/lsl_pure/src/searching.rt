@@ -4,6 +4,7 @@ ghost use Rattle.std.specs.Prelude.{◌≡◌, ◌≤◌, length, nat_eq, IfSome
 ghost use Rattle.lsl_value.specs.Equality.{same_atom};
 ghost use Rattle.lsl_pure.specs.Searches.{first_place, place_or_none};
 
+use crate::spelling::count_before;
 use lsl_value::{Items, Text};
 use memchr::memmem;
 
@@ -13,7 +14,7 @@ pub fn sub_string_index(text: &Text, sought: &Text) -> i32
     ensures { result ≡ place_or_none (first_place nat_eq text.now sought.now) }
 {
     match find_bytes(text.bytes(), sought.bytes()) {
-        Some(at) => text.count_before(at) as i32,
+        Some(at) => count_before(text, at) as i32,
         None => -1,
     }
 }

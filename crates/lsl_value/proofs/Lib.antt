@@ -1,4 +1,2 @@
 pub mod KeyLemmas
-pub mod LeadLemmas
-pub mod BlockLemmas
 pub mod TextLemmas

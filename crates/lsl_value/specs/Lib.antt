@@ -1,10 +1,8 @@
 pub mod Atoms
-pub mod Blocks
 pub mod Equality
 pub mod EqualityLaws
 pub mod Held
 pub mod Key
-pub mod Leads
 pub mod Limits
 pub mod OperatorRows
 pub mod Text

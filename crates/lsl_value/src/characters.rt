@@ -1,6 +1,6 @@
 //! Texts: lists of Unicode characters.
 
-ghost use Rattle.std.specs.Prelude.{◌≡◌, ◌+◌, ◌≤◌, ◌<◌, ◌++◌, ◌↔◌, [], length, take, count_by, if◌then◌else◌, nat_eq, IfOk, OnOk, OnErr, MatchOption, ◌⊎◌, IsTrue};
+ghost use Rattle.std.specs.Prelude.{◌≡◌, ◌+◌, ◌≤◌, ◌<◌, ◌++◌, ◌↔◌, [], length, if◌then◌else◌, nat_eq, IfOk, OnOk, OnErr, MatchOption, ◌⊎◌, IsTrue};
 ghost use Rattle.std.specs.Cmp.{partial_equiv_from_equiv};
 ghost use Rattle.std.specs.Cmp.Lexicographic.{nat_list_eq_equiv, pointwise};
 ghost use Rattle.std.specs.Rc.{rc_value};
@@ -8,7 +8,6 @@ ghost use Rattle.std.specs.Result.{is_ok};
 ghost use Rattle.std.specs.Str.{chars, encode_utf8_all, IsAscii};
 ghost use Rattle.std.specs.String.{string_bytes};
 ghost use Rattle.lsl_text.specs.Number.{decimal_of};
-ghost use Rattle.lsl_value.specs.Leads.{is_lead};
 ghost use Rattle.lsl_value.specs.Limits.{most_text_bytes};
 ghost use Rattle.lsl_value.specs.Text.{IsText, IsTextOf, IsNoText, integer_of_text, text_charge_of};
 
@@ -69,19 +68,6 @@ impl Text {
             return Ok(Text::new());
         }
         Text::shared(*text.allocator(), CountedString::new(text))
-    }
-
-    /// This string of so many characters as a text, walked once where one isn't ASCII. Takes memory to share it, and
-    /// copies nothing.
-    pub fn from_counted(text: String, characters: usize) -> Result<Text, NoMemory>
-        requires counted { characters ≡ length (chars (string_bytes text)) }
-        requires short { length (string_bytes text) ≤ most_text_bytes }
-        ensures { IfOk result (λ made. made ≡ chars (string_bytes text)) }
-    {
-        if characters == 0 {
-            return Ok(Text::new());
-        }
-        Text::shared(*text.allocator(), CountedString::counted(text, characters))
     }
 
     /// The text of these ASCII bytes, in one pass. Takes memory to share them, and copies nothing.
@@ -148,28 +134,6 @@ impl Text {
         ensures { IsTrue result ↔ IsAscii self.now }
     {
         self.character_count() == self.bytes().len()
-    }
-
-    /// How many bytes the text's first characters have. Takes no memory, and walks at most a block of 64 bytes.
-    pub fn offset(&self, characters: usize) -> usize
-        ensures value { result ≡ length (encode_utf8_all (take characters self.now)) }
-        ensures within { result ≤ length (encode_utf8_all self.now) }
-    {
-        match &self.held {
-            Some(held) => held.offset(characters),
-            None => 0,
-        }
-    }
-
-    /// How many of the text's characters begin before a byte. Takes no memory, and walks at most a block of 64 bytes.
-    pub fn count_before(&self, at: usize) -> usize
-        requires { at ≤ length (encode_utf8_all self.now) }
-        ensures { result ≡ count_by is_lead (take at (encode_utf8_all self.now)) }
-    {
-        match &self.held {
-            Some(held) => held.count_before(at),
-            None => 0,
-        }
     }
 
     /// What a text or a key of this text is charged: 16 and its bytes. Takes no memory, and no walk.

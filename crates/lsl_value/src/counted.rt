@@ -1,35 +1,28 @@
 //! Strings that know how many characters they have.
 
-ghost use Rattle.std.specs.Prelude.{◌≡◌, ◌+◌, ◌≤◌, ◌++◌, length, take, count_by, if◌then◌else◌, IfOk};
+ghost use Rattle.std.specs.Prelude.{◌≡◌, ◌+◌, ◌≤◌, ◌++◌, length, if◌then◌else◌, IfOk};
 ghost use Rattle.std.specs.Rc.{rc_value};
 ghost use Rattle.std.specs.Result.{is_ok};
 ghost use Rattle.std.specs.Str.{chars, encode_utf8_all, IsAscii};
 ghost use Rattle.std.specs.String.{string_bytes};
-ghost use Rattle.lsl_value.specs.Blocks.{AreCounts};
-ghost use Rattle.lsl_value.specs.Leads.{is_lead};
 ghost use Rattle.lsl_value.specs.Limits.{most_text_bytes};
 ghost use Rattle.lsl_value.specs.Text.{IsText};
 
-use crate::blocks::Blocks;
-use crate::leads::count_leads;
 use lsl_text::NoMemory;
 use std::marker::Model;
 use std::rc::Rc;
 
-/// A string of at most 1,048,576 bytes, and how many characters it has. Where one isn't ASCII, its blocks are counted
-/// too, as far as there was memory.
+/// A string of at most 1,048,576 bytes, and how many characters it has.
 #[derive(Debug, Drop)]
 pub struct CountedString {
     string: String,
     characters: usize,
-    blocks: Blocks,
 }
 
 impl Model for CountedString {
     ghost use Rattle.std.specs.Prelude.{List, ℕ, ◌≡◌, ◌≤◌, length};
     ghost use Rattle.std.specs.Str.{chars};
     ghost use Rattle.std.specs.String.{string_bytes};
-    ghost use Rattle.lsl_value.specs.Blocks.{AreCounts};
     ghost use Rattle.lsl_value.specs.Limits.{most_text_bytes};
 
     ghost Value = { List ℕ };
@@ -37,7 +30,7 @@ impl Model for CountedString {
     ghost view = { λ s. chars (string_bytes s.string) };
 
     ghost invariant = { λ s. (length (string_bytes s.string) ≤ most_text_bytes)
-        × (s.characters ≡ length (chars (string_bytes s.string))) × AreCounts (string_bytes s.string) s.blocks };
+        × (s.characters ≡ length (chars (string_bytes s.string))) };
 }
 
 impl CountedString {
@@ -47,21 +40,7 @@ impl CountedString {
         ensures { result ≡ chars (string_bytes string) }
     {
         let characters = count_characters(string.as_str());
-        CountedString::counted(string, characters)
-    }
-
-    /// This string of so many characters, walked once where one isn't ASCII.
-    pub fn counted(string: String, characters: usize) -> CountedString
-        requires counted { characters ≡ length (chars (string_bytes string)) }
-        requires short { length (string_bytes string) ≤ most_text_bytes }
-        ensures { result ≡ chars (string_bytes string) }
-    {
-        let blocks = blocks_of(&string, characters);
-        CountedString {
-            string,
-            characters,
-            blocks,
-        }
+        CountedString { string, characters }
     }
 
     /// This string of ASCII characters. No walk.
@@ -71,11 +50,7 @@ impl CountedString {
         ensures { result ≡ string_bytes string }
     {
         let characters = string.as_str().len();
-        CountedString {
-            string,
-            characters,
-            blocks: Blocks::new(),
-        }
+        CountedString { string, characters }
     }
 
     /// The string.
@@ -94,31 +69,6 @@ impl CountedString {
         self.characters
     }
 
-    /// How many bytes the first characters have. Walks a block at most, as far as they are counted.
-    pub fn offset(&self, characters: usize) -> usize
-        ensures value { result ≡ length (encode_utf8_all (take characters self.now)) }
-        ensures within { result ≤ length (encode_utf8_all self.now) }
-    {
-        let length = self.string.len();
-        if self.characters == length {
-            characters.min(length)
-        } else {
-            self.blocks.front_len(self.string.as_bytes(), characters)
-        }
-    }
-
-    /// How many characters begin before a byte. Walks a block at most, as far as they are counted.
-    pub fn count_before(&self, at: usize) -> usize
-        requires { at ≤ length (encode_utf8_all self.now) }
-        ensures { result ≡ count_by is_lead (take at (encode_utf8_all self.now)) }
-    {
-        if self.characters == self.string.len() {
-            at
-        } else {
-            self.blocks.leads_before(self.string.as_bytes(), at)
-        }
-    }
-
     /// Adds the other string's characters at the end: the two together keep to the limit.
     pub fn push(&mut self, other: &CountedString) -> Result<(), NoMemory>
         requires { length (encode_utf8_all self.old) + length (encode_utf8_all other.now) ≤ most_text_bytes }
@@ -126,7 +76,6 @@ impl CountedString {
     {
         self.string.push_str(other.as_str())?;
         self.characters += other.characters;
-        grow(&mut self.blocks, &self.string, self.characters);
         Ok(())
     }
 
@@ -140,28 +89,7 @@ impl CountedString {
         string.push_str(self.as_str())?;
         string.push_str(other.as_str())?;
         let characters = self.characters + other.characters;
-        Ok(Rc::new(alloc, CountedString::counted(string, characters))?)
-    }
-}
-
-fn blocks_of(string: &String, characters: usize) -> Blocks
-    requires { length (string_bytes string.now) ≤ most_text_bytes }
-    ensures { AreCounts (string_bytes string.now) result }
-{
-    let mut blocks = Blocks::new();
-    grow(&mut blocks, string, characters);
-    blocks
-}
-
-// Counts the blocks that are whole by now of a string of so many characters, unless each is ASCII. Without memory they
-// stay uncounted: then a character is found by a longer walk.
-fn grow(blocks: &mut Blocks, string: &String, characters: usize)
-    requires counted { AreCounts (string_bytes string.now) blocks.old }
-    requires short { length (string_bytes string.now) ≤ most_text_bytes }
-    ensures { AreCounts (string_bytes string.now) blocks.new }
-{
-    if characters < string.len() {
-        let _ = blocks.grow(*string.allocator(), string.as_bytes());
+        Ok(Rc::new(alloc, CountedString { string, characters })?)
     }
 }
 
@@ -171,6 +99,6 @@ fn count_characters(text: &str) -> usize
     if text.is_ascii() {
         text.len()
     } else {
-        count_leads(text.as_bytes())
+        text.chars().count()
     }
 }

@@ -1,12 +1,10 @@
 //! Values of the language: integers, strings, keys and lists, and the names of operators, calls, events and constants.
 #![tactic(auto)]
 
-mod blocks;
 mod characters;
 mod charges;
 mod counted;
 mod keys;
-mod leads;
 mod list;
 mod names;
 mod operators;

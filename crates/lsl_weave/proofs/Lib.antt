@@ -10,7 +10,6 @@ pub mod Examples
 pub mod Forwards
 pub mod FramesBack
 pub mod Hosts
-pub mod InOrder
 pub mod Lift
 pub mod Made
 pub mod MadeBacks
@@ -43,8 +42,6 @@ pub mod Units
 pub mod Waiting
 pub mod Weavable
 pub mod Weaves
-pub mod Wording
 pub mod WovenExamples
 pub mod WovenForward
 pub mod WovenUnits
-pub mod Writing

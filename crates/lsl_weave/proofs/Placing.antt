@@ -64,19 +64,19 @@ flat_length g w len i [] = refl
 flat_length g w len i (x ∷ xs) =
     omega (arith, length-append (g i x) (flat g (suc i) xs), len i x, flat_length g w len (suc i) xs)
 
-pub keep_tops_length : (n : ℕ) (tail : List Instr) → length (keep_tops n tail) ≡ n + length tail
+keep_tops_length : (n : ℕ) (tail : List Instr) → length (keep_tops n tail) ≡ n + length tail
 keep_tops_length zero tail = omega arith
 keep_tops_length (suc n) tail = omega (arith, keep_tops_length n tail)
 
-pub keep_slots_length : (n : ℕ) (tail : List Instr) → length (keep_slots n tail) ≡ n + length tail
+keep_slots_length : (n : ℕ) (tail : List Instr) → length (keep_slots n tail) ≡ n + length tail
 keep_slots_length zero tail = omega arith
 keep_slots_length (suc n) tail = omega (arith, keep_slots_length n tail)
 
-pub back_slots_length : (i n : ℕ) (tail : List Instr) → length (back_slots i n tail) ≡ n + length tail
+back_slots_length : (i n : ℕ) (tail : List Instr) → length (back_slots i n tail) ≡ n + length tail
 back_slots_length i zero tail = omega arith
 back_slots_length i (suc n) tail = omega (arith, back_slots_length (suc i) n tail)
 
-pub back_tops_length : (n : ℕ) (tail : List Instr) → length (back_tops n tail) ≡ n + length tail
+back_tops_length : (n : ℕ) (tail : List Instr) → length (back_tops n tail) ≡ n + length tail
 back_tops_length zero tail = omega arith
 back_tops_length (suc n) tail = omega (arith, back_tops_length n tail)
 

@@ -5,6 +5,5 @@ pub mod Tables
 pub mod ToldLaws
 pub mod UnitLaws
 pub mod Weaving
-pub mod Words
 pub mod WovenCalls
 pub mod WovenLaws

@@ -1,20 +1,16 @@
 //! The parts of woven code.
 
-ghost use Rattle.std.specs.Prelude.{◌≡◌, ◌<◌, ◌≤◌, ◌++◌, ◌∷◌, [], OnOk, length};
-ghost use Rattle.lsl_compact.specs.Pieces.{worded};
+ghost use Rattle.std.specs.Prelude.{◌≡◌, ◌<◌, ◌++◌, ◌∷◌, [], OnOk, length};
 ghost use Rattle.lsl_code.specs.Bodies.{plain_body};
 ghost use Rattle.lsl_code.specs.declared.instructions.Instr.TheVariants.{Seal};
-ghost use Rattle.lsl_weave.specs.Layout.{back_block, back_end, back_slots, back_tops, keep_slots, keep_tops, main, save_block, table};
+ghost use Rattle.lsl_weave.specs.Layout.{back_block, back_end, keep_slots, keep_tops, main, save_block, table};
 ghost use Rattle.lsl_code.specs.ModeStacks.{flat};
 ghost use Rattle.lsl_weave.specs.Tables.{TablesOf};
-ghost use Rattle.lsl_weave.specs.Words.{AreWords, AreWordsOf};
 
 use crate::copies::copy_instr;
 use crate::numbers::{number, plus};
 use crate::tables::{Tables, waiting_of};
-use crate::words::Words;
 use lsl_code::{FunctionCode, Instr, Point, Sequence};
-use lsl_compact::PiecesDraft;
 use lsl_text::NoMemory;
 
 /// Adds the plain instructions, with a test behind each tick and each call.
@@ -62,49 +58,45 @@ fn push_main(
 }
 
 /// Adds a block for each point that keeps its values.
-pub fn push_saves(
-    code: &mut PiecesDraft<Instr>,
-    function: &FunctionCode,
-    words: Words,
-) -> Result<(), NoMemory>
-    requires { AreWordsOf function.now words code.old.words }
-    ensures { OnOk result (code.new
-        ≡ worded code.old.words (code.old.list ++ flat (save_block (plain_body function.now)) 0 function.now.points)) }
+pub fn push_saves(code: &mut Sequence<Instr>, function: &FunctionCode) -> Result<(), NoMemory>
+    ensures { OnOk result
+        (code.new ≡ code.old ++ flat (save_block (plain_body function.now)) 0 function.now.points) }
 {
     let slots = function.slots.len();
     let points = function.points.as_slice();
     for i in 0..points.len() {
         let point = &points[i];
-        push_save_block(code, words, waiting_of(slots, point), i)?;
+        push_save_block(code, slots, waiting_of(slots, point), i)?;
     }
     Ok(())
 }
 
 fn push_save_block(
-    code: &mut PiecesDraft<Instr>,
-    words: Words,
+    code: &mut Sequence<Instr>,
+    slots: usize,
     waits: usize,
     point: usize,
 ) -> Result<(), NoMemory>
-    requires waits { waits ≤ words.most }
-    requires words { AreWords words code.old.words }
-    ensures { OnOk result (code.new ≡ worded code.old.words
-        (code.old.list ++ keep_tops waits (keep_slots words.slots (Seal point ∷ [])))) }
+    ensures { OnOk result (code.new ≡ code.old ++ keep_tops waits (keep_slots slots (Seal point ∷ []))) }
 {
-    let waits = waits as u32;
-    code.repeat(words.most - waits, waits + words.slots)?;
+    for i in 0..waits {
+        code.push(Instr::KeepTop)?;
+    }
+    for j in 0..slots {
+        code.push(Instr::KeepSlot(number(slots - 1 - j)?))?;
+    }
     code.push(Instr::Seal(number(point)?))
 }
 
 /// Adds a jump to each point's block.
 pub fn push_table(
-    code: &mut PiecesDraft<Instr>,
+    code: &mut Sequence<Instr>,
     function: &FunctionCode,
     tables: &Tables,
 ) -> Result<(), NoMemory>
     requires { TablesOf function.now tables.now }
-    ensures { OnOk result (code.new
-        ≡ worded code.old.words (code.old.list ++ flat (table (plain_body function.now)) 0 function.now.points)) }
+    ensures { OnOk result
+        (code.new ≡ code.old ++ flat (table (plain_body function.now)) 0 function.now.points) }
 {
     for i in 0..function.points.len() {
         code.push(Instr::Jump(tables.back_place(function, i)))?;
@@ -114,38 +106,46 @@ pub fn push_table(
 
 /// Adds a block for each point that puts its values back.
 pub fn push_backs(
-    code: &mut PiecesDraft<Instr>,
+    code: &mut Sequence<Instr>,
     function: &FunctionCode,
     tables: &Tables,
-    words: Words,
 ) -> Result<(), NoMemory>
-    requires tables { TablesOf function.now tables.now }
-    requires words { AreWordsOf function.now words code.old.words }
-    ensures { OnOk result (code.new
-        ≡ worded code.old.words (code.old.list ++ flat (back_block (plain_body function.now)) 0 function.now.points)) }
+    requires { TablesOf function.now tables.now }
+    ensures { OnOk result
+        (code.new ≡ code.old ++ flat (back_block (plain_body function.now)) 0 function.now.points) }
 {
-    let slots = function.slots.len();
     let points = function.points.as_slice();
     for i in 0..points.len() {
         let point = &points[i];
-        push_puts(code, words, waiting_of(slots, point))?;
-        push_end(code, function, tables, i, point.calls)?;
+        push_back_block(code, function, tables, i, point)?;
     }
     Ok(())
 }
 
-// Adds instructions that put the slots and so many operands back.
-fn push_puts(code: &mut PiecesDraft<Instr>, words: Words, waits: usize) -> Result<(), NoMemory>
-    requires waits { waits ≤ words.most }
-    requires words { AreWords words code.old.words }
-    ensures { OnOk result (code.new ≡ worded code.old.words
-        (code.old.list ++ back_slots 0 words.slots (back_tops waits []))) }
+fn push_back_block(
+    code: &mut Sequence<Instr>,
+    function: &FunctionCode,
+    tables: &Tables,
+    index: usize,
+    point: &Point,
+) -> Result<(), NoMemory>
+    requires tables { TablesOf function.now tables.now }
+    requires point { index < length function.now.points }
+    ensures { OnOk result (code.new ≡ code.old ++ back_block (plain_body function.now) index point.now) }
 {
-    code.repeat(words.most + words.slots, words.slots + waits as u32)
+    let slots = function.slots.len();
+    let waits = waiting_of(slots, point);
+    for i in 0..slots {
+        code.push(Instr::BackSlot(number(i)?))?;
+    }
+    for j in 0..waits {
+        code.push(Instr::BackTop)?;
+    }
+    push_end(code, function, tables, index, point.calls)
 }
 
 fn push_end(
-    code: &mut PiecesDraft<Instr>,
+    code: &mut Sequence<Instr>,
     function: &FunctionCode,
     tables: &Tables,
     point: usize,
@@ -153,8 +153,7 @@ fn push_end(
 ) -> Result<(), NoMemory>
     requires tables { TablesOf function.now tables.now }
     requires point { point < length function.now.points }
-    ensures { OnOk result (code.new
-        ≡ worded code.old.words (code.old.list ++ back_end (plain_body function.now) point calls)) }
+    ensures { OnOk result (code.new ≡ code.old ++ back_end (plain_body function.now) point calls) }
 {
     let place = tables.shift(function, tables.point_place(function, point));
     match calls {

@@ -5,12 +5,10 @@ mod blocks;
 mod copies;
 pub mod laws;
 mod numbers;
-mod passing;
 mod stacks;
 mod tables;
 pub mod unit_laws;
 mod weaving;
-mod words;
 pub mod woven_laws;
 
 pub use crate::weaving::{weave, weave_function, weave_functions};

@@ -3,5 +3,4 @@
 #![tactic(auto)]
 
 pub mod moves;
-pub mod states;
 pub mod traces;

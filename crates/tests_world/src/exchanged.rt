@@ -9,7 +9,7 @@ use crate::driving::{behind_ticks, to_tick};
 use crate::hosting::unit_of;
 use crate::saved::moved;
 use lsl_code::{FusedFunctions, Handler, Instr, Point, Sequence, StateCode, Woven, WovenCode};
-use lsl_compact::{KindStack, KindStacks, PiecesDraft, PlacedStacks};
+use lsl_compact::{KindStack, KindStacks, PlacedStacks};
 use lsl_text::NoMemory;
 use lsl_value::{EventId, Kind, Text, Values};
 use std::alloc::Global;
@@ -115,7 +115,7 @@ fn function(alloc: Global) -> Result<WovenCode, NoMemory>
         most: 1,
         points: points(alloc)?,
         lines: Sequence::from_vec(vec![in alloc; 1, 1]?),
-        code: PiecesDraft::new(alloc, code, Vec::new(alloc)).finish(),
+        code: Sequence::from_vec(code),
         running: running(alloc)?,
     })
 }

@@ -75,11 +75,9 @@ fn woven_sample(alloc: Global) -> Result<WovenCode, NoMemory>
 /// Each instruction of a function, a line each.
 fn listing(alloc: Global, function: &WovenCode) -> Result<String, NoMemory> {
     let mut told = String::new(alloc);
-    for place in 0..function.code.len() {
-        if let Some(instr) = function.code.get(place) {
-            tell_instruction(&mut told, instr)?;
-            told.push('\n')?;
-        }
+    for instr in function.code.as_slice() {
+        tell_instruction(&mut told, instr)?;
+        told.push('\n')?;
     }
     Ok(told)
 }

@@ -73,14 +73,14 @@ emit_then-returns-clause-over t c =
 
 pub emit_loop-returns-clause-code : goal.emit_loop-returns-clause-code
 emit_loop-returns-clause-code t c =
-    loop_code _ c.args.draft.now _ _ _ _ _ _ (node_of c.args.parts.now.test.now) (map effect_of c.args.parts.now.steps.now)
-    (action_of c.args.parts.now.body.now) _ _ _ c.len.ensures c.in_ok-start.ensures
+    loop_code _ c.args.draft.now _ _ _ _ _ _ (node_of c.args.test.now) (map effect_of c.args.steps.now)
+    (action_of c.args.body.now) _ _ _ c.len.ensures c.in_ok-start.ensures
     c.in_ok-fails.ensures.code c.in_ok-fails.ensures.place c.in_ok-emit_action.ensures.code
     c.in_ok-emit_effects.ensures c.in_ok-push_tick.ensures.ok c.in_ok-push.ensures.ok c.in_ok-lead_behind.ensures
 
 pub emit_loop-returns-clause-jumps : goal.emit_loop-returns-clause-jumps
 emit_loop-returns-clause-jumps t c =
-    if_jumps c.args.draft.now _ _ _ (node_of c.args.parts.now.test.now) (action_of c.args.parts.now.body.now)
+    if_jumps c.args.draft.now _ _ _ (node_of c.args.test.now) (action_of c.args.body.now)
     c.in_ok-fails.ensures.code c.in_ok-emit_action.ensures.jumps
 
 pub emit_do-returns-clause-code : goal.emit_do-returns-clause-code

@@ -11,37 +11,36 @@ pub returns-in_err-function-clause-reads : goal.returns-in_err-function-clause-r
 unfolding frame_in
 returns-in_err-function-clause-reads c =
     leads-exits _ _ _ _ (leads-all c.args.bytes.now
-    (frame_in c.args.calls.now.unit.now c.args.calls.now.handler c.args.link.more c.args.link.callee) c.args.link.place)
+    (frame_in c.args.unit.now c.args.handler c.args.more c.args.callee) c.args.place)
     c.in_err-function.ensures c.from_residual.ensures.1
 
 pub returns-in_err-number-clause-reads : goal.returns-in_err-number-clause-reads
 unfolding frame_in
 returns-in_err-number-clause-reads c =
     leads-exits _ _ _ _ (leads-here _ (leads-then _ _
-    (leads-all c.args.bytes.now (frame_in c.args.calls.now.unit.now c.args.calls.now.handler c.args.link.more
-    c.args.link.callee)
-    c.args.link.place) c.in_ok-function.ensures)) c.in_err-number.ensures c.from_residual-in_err-number.ensures.1
+    (leads-all c.args.bytes.now (frame_in c.args.unit.now c.args.handler c.args.more c.args.callee)
+    c.args.place) c.in_ok-function.ensures)) c.in_err-number.ensures c.from_residual-in_err-number.ensures.1
 
 pub returns-in_default-clause-reads : goal.returns-in_default-clause-reads
 unfolding frame_in
 returns-in_default-clause-reads c =
     let leads = leads-then _ _ (leads-here _
     (leads-then _ _ (leads-all c.args.bytes.now
-    (frame_in c.args.calls.now.unit.now c.args.calls.now.handler c.args.link.more c.args.link.callee) c.args.link.place)
+    (frame_in c.args.unit.now c.args.handler c.args.more c.args.callee) c.args.place)
     c.in_ok-function.ensures)) c.in_ok-number.ensures in
     rw c.wrong.ensures (frame-no_point c.args.bytes.now c.in_ok-function.middle c.in_ok-function.function
-    c.in_ok-number.number c.args.link.callee _ _ _ _ leads c.in_default.ensures)
+    c.in_ok-number.number c.args.callee _ _ _ _ leads c.in_default.ensures)
 
 pub returns-then-not-same_callee-clause-reads : goal.returns-then-not-same_callee-clause-reads
 unfolding frame_in
 returns-then-not-same_callee-clause-reads c =
     let leads = leads-then _ _ (leads-here _
     (leads-then _ _ (leads-all c.args.bytes.now
-    (frame_in c.args.calls.now.unit.now c.args.calls.now.handler c.args.link.more c.args.link.callee) c.args.link.place)
+    (frame_in c.args.unit.now c.args.handler c.args.more c.args.callee) c.args.place)
     c.in_ok-function.ensures)) c.in_ok-number.ensures in
     rw c.wrong-then-not-same_callee.ensures
     (frame-refused c.args.bytes.now c.in_ok-function.middle c.in_ok-function.function c.in_ok-number.number
-    c.args.link.callee _ _ _ _ leads c.in-Some.point.now c.in-Some.ensures
+    c.args.callee _ _ _ _ leads c.in-Some.point.now c.in-Some.ensures
     (sym c.same_callee.ensures ∙ c.if-not-same_callee.true))
 
 pub returns-in_err-slots-clause-reads : goal.returns-in_err-slots-clause-reads
@@ -49,10 +48,10 @@ unfolding frame_in
 returns-in_err-slots-clause-reads c =
     let leads = leads-then _ _ (leads-here _
     (leads-then _ _ (leads-all c.args.bytes.now
-    (frame_in c.args.calls.now.unit.now c.args.calls.now.handler c.args.link.more c.args.link.callee) c.args.link.place)
+    (frame_in c.args.unit.now c.args.handler c.args.more c.args.callee) c.args.place)
     c.in_ok-function.ensures)) c.in_ok-number.ensures in
     let slots = frame-slots c.args.bytes.now c.in_ok-function.middle c.in_ok-function.function
-    c.in_ok-number.number c.args.link.callee _ _ _ _ leads c.in-Some.point.now c.in-Some.ensures
+    c.in_ok-number.number c.args.callee _ _ _ _ leads c.in-Some.point.now c.in-Some.ensures
     (sym c.same_callee.ensures ∙ c.if-not-same_callee.false) in
     leads-exits _ _ _ _ slots (subst (λ (ks : List Kind).
     Reads c.args.bytes.now (values_of ks) c.in_ok-number.behind (Err c.in_err-slots.field-0.0))
@@ -63,10 +62,10 @@ unfolding frame_in
 returns-clause-reads c =
     let leads = leads-then _ _ (leads-here _
     (leads-then _ _ (leads-all c.args.bytes.now
-    (frame_in c.args.calls.now.unit.now c.args.calls.now.handler c.args.link.more c.args.link.callee) c.args.link.place)
+    (frame_in c.args.unit.now c.args.handler c.args.more c.args.callee) c.args.place)
     c.in_ok-function.ensures)) c.in_ok-number.ensures in
     let slots = frame-slots c.args.bytes.now c.in_ok-function.middle c.in_ok-function.function
-    c.in_ok-number.number c.args.link.callee _ _ _ _ leads c.in-Some.point.now c.in-Some.ensures
+    c.in_ok-number.number c.args.callee _ _ _ _ leads c.in-Some.point.now c.in-Some.ensures
     (sym c.same_callee.ensures ∙ c.if-not-same_callee.false) in
     leads-ends (leads-then _ _ slots (subst
     (λ (ks : List Kind). Gives c.args.bytes.now (values_of ks) c.in_ok-number.behind c.in_ok-slots.slots

@@ -11,10 +11,9 @@ abbrev pub invariant-loop-i : goal.invariant-loop-i
 invariant-loop-i l = record {
   many : length l.pack.frames ≡ l.i;
   callee : l.callee ≡ callee_of l.pack.frames;
-  leads : Leads l.bytes (grown (l.calls.count - l.i) (frame_behind l.calls.unit.now l.calls.handler l.calls.count)
-      l.pack.frames) l.next
+  leads : Leads l.bytes (grown (l.count - l.i) (frame_behind l.unit l.handler l.count) l.pack.frames) l.next
       (λ list. list)
-      (grown l.calls.count (frame_behind l.calls.unit.now l.calls.handler l.calls.count) []) l.place;
+      (grown l.count (frame_behind l.unit l.handler l.count) []) l.place;
   charged : l.sum ≡ charged_with 0 (sum_by frame_charge l.pack.frames);
   room : l.room.items ≡ [];
 }

@@ -3,7 +3,7 @@ use Rattle.std.specs.List.{count_by}
 use Rattle.std.specs.Str.{encode_utf8_all}
 use Rattle.std.proofs.lemmas.List.{length-take}
 use Rattle.std.proofs.lemmas.List.Sums.{count_by-le-length}
-use Rattle.lsl_value.specs.Leads.{is_lead}
+use Rattle.lsl_pure.specs.Spelling.{is_lead}
 use Rattle.lsl_pure.proofs.SearchLemmas.{index_some, index_none}
 use Rattle.lsl_pure.proofs.searching.sub_string_index.Goals as goal
 

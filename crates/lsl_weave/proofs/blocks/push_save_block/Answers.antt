@@ -1,20 +1,19 @@
-use Rattle.std.proofs.Common.{◌∙◌, ◌+◌, ◌-◌, ◌++◌, ◌∷◌, [], ap, arith}
-use Rattle.lsl_code.proofs.Packing.{on_ok}
-use Rattle.lsl_code.specs.declared.instructions.Instr.TheVariants.{Seal}
-use Rattle.lsl_compact.specs.Pieces.{worded}
-use Rattle.lsl_weave.proofs.Writing.{kept_block, within_words}
+use Rattle.std.proofs.Common.{rules, ◌≡◌, ◌-◌, [], ◌∷◌, ◌++◌}
+use Rattle.lsl_code.specs.declared.instructions.Instr.TheVariants.{KeepTop, KeepSlot}
+use Rattle.lsl_weave.specs.Layout.{keep_tops, keep_slots}
+use Rattle.lsl_weave.proofs.Emitting.{tops_more, slots_more}
 use Rattle.lsl_weave.proofs.blocks.push_save_block.Goals as goal
 
-pub repeat-requires : goal.repeat-requires
-repeat-requires c =
-    let w = c.args.words in
-    let le = c.requires.waits in
-    within_words w c.args.code.now.words (w.most - c.args.waits) (c.args.waits + w.slots) c.requires.words (omega arith)
+pub loop-i-preserved : goal.loop-i-preserved
+loop-i-preserved c =
+    let pushed : c.push.new.self ≡ c.loop-i.code ++ KeepTop ∷ [] = search rules in
+    tops_more c.loop-i.code c.push.new.self c.args.waits c.loop-i.i
+    (λ tail. c.args.code.now ++ keep_tops c.args.waits tail) c.loop-i-test.true pushed c.loop-i.invariant
 
-pub returns : goal.returns
-returns c =
-    on_ok c.push.result
-    (λ pushed. kept_block c.args.code.now c.repeat.new.self c.args.words c.args.waits c.requires.words c.requires.waits
-    c.push.new.self c.args.point c.in_ok-repeat.ensures.repeated
-    (pushed ∙ ap (λ n. worded c.repeat.new.self.words (c.repeat.new.self.list ++ Seal n ∷ [])) c.in_ok-number.ensures))
-    c.push.ensures.pushed
+pub loop-j-preserved : goal.loop-j-preserved
+loop-j-preserved c =
+    let pushed : c.push-in-loop-j.new.self
+    ≡ c.loop-j.code ++ KeepSlot (c.args.slots - 1 - c.loop-j.j) ∷ [] = search rules in
+    slots_more c.loop-j.code c.push-in-loop-j.new.self c.args.slots c.loop-j.j
+    (λ tail. c.args.code.now ++ keep_tops c.args.waits
+    (keep_slots c.args.slots tail)) c.loop-j-test.true pushed c.loop-j.invariant

@@ -6,6 +6,5 @@ use Rattle.lsl_weave.proofs.blocks.push_saves.Given as goal
 
 abbrev pub invariant-loop-i : goal.invariant-loop-i
 invariant-loop-i l =
-    (l.code.words ≡ l.fn.code.words)
-    × (l.code.list ++ flat (save_block (plain_body l.function)) l.i (drop l.i l.function.points)
-    ≡ l.fn.code.list ++ flat (save_block (plain_body l.function)) 0 l.function.points)
+    l.code ++ flat (save_block (plain_body l.function)) l.i (drop l.i l.function.points)
+    ≡ l.fn.code ++ flat (save_block (plain_body l.function)) 0 l.function.points

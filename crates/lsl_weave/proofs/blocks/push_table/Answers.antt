@@ -10,7 +10,5 @@ loop-i-preserved c =
     let b = plain_body c.args.function.now in
     let within : c.loop-i.i < length b.points = search rules in
     let x = has_value b.points c.loop-i.i within in
-    let pushed : c.push.new.self.list ≡ c.loop-i.code.list ++ table b c.loop-i.i x.0 = search rules in (
-      search rules,
-      flat_more (table b) b.points c.loop-i.i x.0 c.loop-i.code.list c.push.new.self.list _ x.1 pushed c.loop-i.invariant.1,
-    )
+    let pushed : c.push.new.self ≡ c.loop-i.code ++ table b c.loop-i.i x.0 = search rules in
+    flat_more (table b) b.points c.loop-i.i x.0 c.loop-i.code c.push.new.self _ x.1 pushed c.loop-i.invariant
