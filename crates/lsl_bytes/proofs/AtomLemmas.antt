@@ -1,4 +1,4 @@
--- Elements behind the tags of their kinds.
+-- Elements after the tags of their kinds.
 use Rattle.std.proofs.Common.{◌≡◌, ◌∙◌, sym, ap, refl, subst, ℕ, ℤ, ◌<◌, arith, List, [], ◌∷◌, ◌++◌, Option, Some, None}
 use Rattle.lsl_value.specs.Text.{IsText}
 use Rattle.lsl_value.specs.declared.list.Atom.{Atom}
@@ -40,7 +40,7 @@ atom-prefix_free (Key v) (Key w) a b fits_v fits_w same =
     let parts = text-prefix_free v w a b fits_v fits_w
     (same-tag 4 4 (text_bytes v ++ a) (text_bytes w ++ b) same).1 in (ap Key parts.0, parts.1)
 
--- a tag, and the value that it announces behind it
+-- a tag, and after it a value of its kind
 pub tagged-found : {V W : Type 0} (form : V → List ℕ) (Fits : V → Type 0) (to : W → List ℕ) (Holds : W → Type 0)
     → IsPrefixFree to Holds → (bytes : List ℕ) (p tag q : ℕ) (v : V) (w : W) (next : ℕ)
     → to w ≡ tag ∷ form v → Holds w → Takes u8_bytes FitsU8 bytes p (Some (tag, q))
@@ -51,7 +51,7 @@ tagged-found form Fits to Holds law bytes p tag q v w next spelled holds tagged 
     (subst (λ (part : List ℕ). StandsAt bytes p part next) (sym spelled)
     (stands-append bytes (tag ∷ []) (form v) p q next tagged.found.1 takes.found.1))
 
--- a tag, and no value of those that it announces behind it
+-- a tag, and after it no value of its kind
 pub tagged-none : {V W : Type 0} (form : V → List ℕ) (Fits : V → Type 0) (to : W → List ℕ) (Holds : W → Type 0)
     (bytes : List ℕ) (p tag q : ℕ)
     → ((w : W) → Holds w → (rest : List ℕ) → to w ≡ tag ∷ rest → (v : V) × Fits v × (rest ≡ form v))
@@ -121,7 +121,7 @@ key-found bytes p q text next tagged takes =
     tagged-found text_bytes IsText atom_bytes IsAtom atom-prefix_free bytes p 4 q text (Key text) next refl
     takes.found.0 tagged takes
 
--- no element without a tag, or behind a tag of none of the three kinds
+-- no element without a tag, or after a tag of none of the three kinds
 pub atom-no_tag : (bytes : List ℕ) (p : ℕ) → Takes u8_bytes FitsU8 bytes p None → Takes atom_bytes IsAtom bytes p None
 unfolding u8_bytes
 atom-no_tag bytes p takes = takes_no u8_bytes FitsU8 atom_bytes IsAtom bytes p (λ w holds. atom-spelled w) takes
@@ -139,7 +139,7 @@ atom-other_tag bytes p tag q tagged no_int no_str no_key = takes_none atom_bytes
     never (Key text) next is stands = no_key
         (taken-front u8_bytes FitsU8 bytes p tag q tagged 4 (text_bytes text) next (omega arith) stands).0
 
--- an integer behind its tag
+-- an integer after its tag
 int-prefix_free : IsPrefixFree int_bytes FitsI32
 int-prefix_free v w a b fits_v fits_w same =
     i32-prefix_free v w a b fits_v fits_w (same-tag 1 1 (i32_bytes v ++ a) (i32_bytes w ++ b) same).1
@@ -154,7 +154,7 @@ int-behind bytes p q None tagged takes =
     (λ (n : ℤ) fits rest same. (n, fits, sym (same-tag 1 1 (i32_bytes n) rest same).1))
     (λ (n : ℤ). (1, omega arith, i32_bytes n, refl)) tagged takes
 
--- no integer without a tag, or behind another tag
+-- no integer without a tag, or after another tag
 pub int-no_tag : (bytes : List ℕ) (p : ℕ) → Takes u8_bytes FitsU8 bytes p None → Takes int_bytes FitsI32 bytes p None
 unfolding u8_bytes
 int-no_tag bytes p takes = takes_no u8_bytes FitsU8 int_bytes FitsI32 bytes p

@@ -1,4 +1,4 @@
--- Lists: so many elements, one behind another.
+-- Lists: `count` elements, one after another.
 use Rattle.std.proofs.Common.{◌≡◌, ◌∙◌, sym, ap, refl, subst, ℕ, ◌<◌, ◌≤◌, arith, List, [], ◌∷◌, ◌++◌, length, append_assoc, length-append, Some, None}
 use Rattle.std.specs.List.{flat_map, AllByRecursion}
 use Rattle.std.proofs.lemmas.Grind.{flat_map-append}
@@ -43,7 +43,7 @@ list-prefix_free v w a b fits_v fits_w same =
     (omega (arith, fits_v.0)) (omega (arith, fits_w.0)) regrouped in
     atoms-prefix_free v w a b counts.0 fits_v.1 fits_w.1 counts.1
 
--- the elements taken so far stand there, and each list that stands there goes on behind them
+-- the elements taken so far are there, and each list that is there continues after them
 pub record IsTaking (bytes : List ℕ) (place count : ℕ) (atoms : List Atom) (next : ℕ) : Type 0 where
   pub stands : StandsAt bytes place (flat_map atom_bytes atoms) next
   pub fits : AllByRecursion IsAtom atoms
@@ -66,7 +66,7 @@ all-push (x ∷ atoms) a each is = (each.0, all-push atoms a each.1 is)
 flat-one : (a : Atom) → flat_map atom_bytes (a ∷ []) ≡ atom_bytes a
 flat-one a = flat_map-cons atom_bytes a [] ∙ append-nil (atom_bytes a)
 
--- another element stands behind those so far
+-- another element follows those so far
 next-atom : (bytes : List ℕ) (next count : ℕ) (atoms all more : List Atom) (end : ℕ) → length atoms < count
     → length all ≡ count → all ≡ atoms ++ more → AllByRecursion IsAtom more
     → StandsAt bytes next (flat_map atom_bytes more) end
@@ -126,7 +126,7 @@ taking-all bytes place count atoms next long taking =
     same)
     bytes place atoms next (long, taking.fits) taking.stands
 
--- a list: its count, and so many elements
+-- a list: its count, and that number of elements
 pub list-no_count : (bytes : List ℕ) (p : ℕ) → Takes u32_bytes FitsU32 bytes p None
     → Takes list_bytes AreItems bytes p None
 unfolding list_bytes

@@ -104,7 +104,7 @@ array_bytes part = part
 abbrev pub IsArray : ℕ → List ℕ → Type 0
 IsArray n part = length part ≡ n
 
--- where so many bytes don't stand, no number of that many bytes does
+-- where fewer bytes are left, no number of that many bytes is there
 pub array-none : {V : Type 0} (form : V → List ℕ) (Fits : V → Type 0) (n : ℕ) → ((v : V) → length (form v) ≡ n)
     → (bytes : List ℕ) (p : ℕ)
     → Takes array_bytes (IsArray n) bytes p None → Takes form Fits bytes p None

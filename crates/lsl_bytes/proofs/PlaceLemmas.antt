@@ -1,4 +1,4 @@
--- Parts that stand at places, and what was taken there.
+-- Parts at places, and what was taken there.
 use Rattle.std.proofs.Common.{◌≡◌, ◌∙◌, sym, ap, refl, subst, inl, inr, get_or, ℕ, ◌+◌, ◌<◌, ◌≤◌, arith, List, ◌++◌, length, take, drop, length-append, length-drop, append_assoc, ◌-◌, slice_range, Some, None}
 use Rattle.std.proofs.lemmas.Bool.{cases_lt}
 use Rattle.std.proofs.lemmas.List.{drop-drop, drop_at, take_at, take_all, take-append-drop, length-take, get_or-drop, get_or_append_left, get_or_past}
@@ -36,7 +36,7 @@ stands-rest bytes a b p r whole =
       within = whole.within;
     }
 
--- what was taken in front of a whole that stands there is the whole's front, and the rest stands behind it
+-- what was taken before a whole that is there is the whole's prefix, and the rest follows it
 pub taken-front : {V : Type 0} (form : V → List ℕ) (Fits : V → Type 0) (bytes : List ℕ) (p : ℕ) (x : V) (q : ℕ)
     → Takes form Fits bytes p (Some (x, q))
     → (y : V) (rest : List ℕ) (r : ℕ) → Fits y → StandsAt bytes p (form y ++ rest) r → (x ≡ y) × StandsAt bytes q rest r
@@ -45,7 +45,7 @@ taken-front form Fits bytes p x q takes y rest r fits stands =
     (takes.every y (p + length (form y)) fits (stands-front bytes (form y) rest p r stands)) in
     (same.0, subst (λ (n : ℕ). StandsAt bytes n rest r) (sym same.1) (stands-rest bytes (form y) rest p r stands))
 
--- nothing was taken, so no value's bytes begin what stands there
+-- nothing was taken, so no value's bytes begin there
 pub none-front : {V : Type 0} (form : V → List ℕ) (Fits : V → Type 0) (bytes : List ℕ) (p : ℕ)
     → Takes form Fits bytes p None
     → (y : V) (rest : List ℕ) (r : ℕ) → Fits y → StandsAt bytes p (form y ++ rest) r → ⊥
@@ -58,7 +58,7 @@ pub none-whole : {V : Type 0} (form : V → List ℕ) (Fits : V → Type 0) (byt
     → (y : V) (r : ℕ) → Fits y → StandsAt bytes p (form y) r → ⊥
 none-whole form Fits bytes p takes y r fits stands = none-some (y, r) (takes.every y r fits stands)
 
--- a value that stands there is the one, where the forms are prefix-free
+-- a value that is there is the one, where the forms are prefix-free
 pub takes_some : {V : Type 0} (form : V → List ℕ) (Fits : V → Type 0) → IsPrefixFree form Fits
     → (bytes : List ℕ) (p : ℕ) (v : V) (next : ℕ) → Fits v → StandsAt bytes p (form v) next
     → Takes form Fits bytes p (Some (v, next))

@@ -1,4 +1,4 @@
--- Texts behind the count of their bytes.
+-- Texts after the count of their bytes.
 use Rattle.std.proofs.Common.{◌≡◌, ◌∙◌, sym, ap, refl, subst, ⊎_elim, ℕ, ◌+◌, ◌-◌, ◌<◌, ◌≤◌, arith, List, [], ◌++◌, length, take, drop, slice_range, append_assoc, length-drop, ◌⊎◌, Some, None}
 use Rattle.std.specs.Str.{encode_utf8_all}
 use Rattle.std.proofs.lemmas.List.{append-nil, length-take}
@@ -18,7 +18,7 @@ counted-prefix_free v w a b fits_v fits_w same =
     let counts = u32-prefix_free (length v) (length w) (v ++ a) (w ++ b) fits_v fits_w regrouped in
     same-fronts (length v) v w a b refl (sym counts.0) counts.1
 
--- no count, no bytes behind it
+-- no count, no bytes after it
 pub counted-no_count : (bytes : List ℕ) (p : ℕ) → Takes u32_bytes FitsU32 bytes p None
     → Takes counted_bytes IsCountable bytes p None
 unfolding counted_bytes
@@ -79,7 +79,7 @@ text-no_bytes bytes p takes =
           (append-nil (counted_bytes (encode_utf8_all w))),
     )) takes
 
--- bytes that are no text's
+-- bytes that aren't text
 pub text-no_text : (bytes part : List ℕ) (p next : ℕ)
     → Takes counted_bytes IsCountable bytes p (Some (part, next)) → IsNoText part
     → Takes text_bytes IsText bytes p None

@@ -1,4 +1,4 @@
--- Values: an element's, or a list behind its tag.
+-- Values: an element's, or a list after its tag.
 use Rattle.std.proofs.Common.{◌≡◌, ◌∙◌, sym, ap, refl, subst, inl, inr, ◌⊎◌, ℕ, arith, List, ◌∷◌, ◌++◌, Some, None}
 use Rattle.lsl_value.specs.Values.{value_of_atom}
 use Rattle.lsl_value.specs.declared.list.Atom.{Atom}
@@ -33,7 +33,7 @@ value-split (Str text) fits = inl (record { atom = AtomStr text; fits = fits; is
 value-split (Key text) fits = inl (record { atom = AtomKey text; fits = fits; is = refl; spelled = refl })
 value-split (ListValue atoms) fits = inr (record { atoms = atoms; fits = fits; is = refl; spelled = refl })
 
--- an element's tag is no list's
+-- an element's tag isn't a list's
 no-list : (atom : Atom) (atoms : List Atom) (a b : List ℕ) → atom_bytes atom ++ a ≡ (7 ∷ list_bytes atoms) ++ b → ⊥
 no-list atom atoms a b same =
     let tag = atom-tag atom in
@@ -74,7 +74,7 @@ value_of_atom-fits (AtomInt n) fits = fits
 value_of_atom-fits (AtomStr text) fits = fits
 value_of_atom-fits (AtomKey text) fits = fits
 
--- no value where no tag stands
+-- no value without a tag
 pub value-no_tag : (bytes : List ℕ) (p : ℕ) → Takes u8_bytes FitsU8 bytes p None
     → Takes value_bytes IsValue bytes p None
 unfolding u8_bytes
@@ -90,7 +90,7 @@ value-no_tag bytes p takes = takes_none value_bytes IsValue bytes p
         none-front u8_bytes FitsU8 bytes p takes 7 (list_bytes q.atoms) next (omega arith)
         (subst (λ (part : List ℕ). StandsAt bytes p part next) q.spelled stands)
 
--- a list behind its tag
+-- a list after its tag
 pub value-list_found : (bytes : List ℕ) (p q : ℕ) (atoms : List Atom) (next : ℕ)
     → Takes u8_bytes FitsU8 bytes p (Some (7, q)) → Takes list_bytes AreItems bytes q (Some (atoms, next))
     → Takes value_bytes IsValue bytes p (Some (ListValue atoms, next))
@@ -117,7 +117,7 @@ value-list_none bytes p place tagged takes =
         (omega arith) (subst (λ (part : List ℕ). StandsAt bytes p part next) q.spelled stands) in
         none-whole list_bytes AreItems bytes place takes q.atoms next q.fits behind.1
 
--- any other tag: what stands there as an element
+-- any other tag: the element that is there
 pub value-atom_found : (bytes : List ℕ) (p : ℕ) (a : Atom) (next : ℕ)
     → Takes atom_bytes IsAtom bytes p (Some (a, next))
     → Takes value_bytes IsValue bytes p (Some (value_of_atom a, next))

@@ -34,7 +34,7 @@ counted_bytes part = u32_bytes (length part) ++ part
 unfoldable pub text_bytes : List ℕ → List ℕ
 text_bytes text = counted_bytes (encode_utf8_all text)
 
--- an integer behind its tag
+-- a tag, and an integer
 abbrev pub int_bytes : ℤ → List ℕ
 int_bytes n = 1 ∷ i32_bytes n
 
@@ -77,7 +77,7 @@ IsAtom (AtomInt n) = FitsI32 n
 IsAtom (AtomStr text) = IsText text
 IsAtom (AtomKey text) = IsText text
 
--- so many elements
+-- `count` elements
 abbrev pub AreAtoms : ℕ → List Atom → Type 0
 AreAtoms count atoms = (length atoms ≡ count) × AllByRecursion IsAtom atoms
 

@@ -1,6 +1,6 @@
-//! Elements behind the tags of their kinds, and lists of them behind their count.
+//! Elements after the tags of their kinds, and lists of them after their count.
 //!
-//! After an `Err` of a call that appends, a front of its bytes may stand behind the old ones.
+//! After an `Err` of a call that appends, a prefix of its bytes may follow the old ones.
 
 ghost use Rattle.std.specs.Prelude.{◌≡◌, ◌≤◌, ◌++◌, ◌∷◌, take, vec_len, length, IfOk, OnOk, OnErr};
 ghost use Rattle.std.specs.List.{flat_map, AllByRecursion};
@@ -31,7 +31,7 @@ pub const LIST_TAG: u8 = 7;
 // How many bytes an element has at least.
 const LEAST_ATOM_BYTES: usize = 5;
 
-/// Appends an integer behind its tag.
+/// Appends a tag and an integer.
 pub fn append_int(out: &mut Vec<u8>, n: i32) -> Result<(), NoMemory>
     ensures ok { OnOk result (out.new.items ≡ out.old.items ++ 1 ∷ i32_bytes n) }
     ensures front { OnErr result (take (vec_len out.old) out.new.items ≡ out.old.items) }
@@ -41,7 +41,7 @@ pub fn append_int(out: &mut Vec<u8>, n: i32) -> Result<(), NoMemory>
     push_i32(out, n)
 }
 
-/// Appends a text behind this tag.
+/// Appends this tag and a text.
 pub fn append_tagged(out: &mut Vec<u8>, tag: u8, text: &Text) -> Result<(), NoMemory>
     ensures ok { OnOk result (out.new.items ≡ out.old.items ++ tag ∷ text_bytes text.now) }
     ensures front { OnErr result (take (vec_len out.old) out.new.items ≡ out.old.items) }
@@ -51,7 +51,7 @@ pub fn append_tagged(out: &mut Vec<u8>, tag: u8, text: &Text) -> Result<(), NoMe
     append_text(out, text)
 }
 
-/// Appends a list behind its tag.
+/// Appends a tag and a list.
 #[tactic(auto, unfolding(crate::specs::Fields::list_bytes))]
 pub fn append_items(out: &mut Vec<u8>, items: &Items) -> Result<(), NoMemory>
     ensures ok { OnOk result (out.new.items ≡ out.old.items ++ 7 ∷ list_bytes items.now) }
@@ -111,7 +111,7 @@ pub fn take_atom(alloc: Global, bytes: &[u8], place: usize) -> Taken<Atom>
     }
 }
 
-/// Takes elements behind their count.
+/// Takes a count, and then that number of elements.
 pub fn take_items(alloc: Global, bytes: &[u8], place: usize) -> Taken<Items>
     ensures { IfOk result (λ answer. Takes list_bytes AreItems bytes.now place answer) }
 {
@@ -127,7 +127,7 @@ pub fn take_items(alloc: Global, bytes: &[u8], place: usize) -> Taken<Items>
     Ok(Some((Items::from_vec(atoms)?, next)))
 }
 
-// Takes so many elements. What is reserved at first is no more than can stand in the bytes that are left.
+// Takes `count` elements. It reserves at first no more than can be in the bytes that are left.
 fn take_atoms(alloc: Global, bytes: &[u8], place: usize, count: usize) -> Taken<Vec<Atom>>
     requires { place ≤ length bytes.now }
     ensures { IfOk result (λ answer. Takes (flat_map atom_bytes) (AreAtoms count) bytes.now place

@@ -1,8 +1,9 @@
 //! Fields as bytes, both ways: numbers, texts and values.
 //!
-//! A `push_` call appends a field. It takes memory where the vector grows, and after an `Err` the vector is
-//! unchanged. A `take_` call reads the field at a place: its value and the place behind it, or none exactly
-//! where no field of that form stands there, as at a place past the end. It walks the field once.
+//! A `push_` call appends a field. It takes memory where the vector grows, and after an `Err` the vector is unchanged.
+//!
+//! A `take_` call reads the field at a place: its value and the place after it, or none exactly where no field of that
+//! form is there, as at a place past the end. It walks the field once.
 #![tactic(auto)]
 
 use lsl_text::NoMemory;
@@ -23,5 +24,5 @@ pub use crate::numbers::{
 pub use crate::texts::{push_text, take_text};
 pub use crate::values::{push_value, take_int, take_value};
 
-/// What a call answers that reads a field and takes memory: the value and the place behind it, or none.
+/// The result of a call that reads a field and takes memory: the value and the place after it, or none.
 pub type Taken<T> = Result<Option<(T, usize)>, NoMemory>;

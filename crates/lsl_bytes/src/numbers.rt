@@ -51,7 +51,7 @@ pub fn push_i32(out: &mut Vec<u8>, n: i32) -> Result<(), NoMemory>
     push_u32(out, n.cast_unsigned())
 }
 
-/// Takes so many bytes as they are. Takes no memory.
+/// Takes `count` bytes as they are. Takes no memory.
 #[inline(always)]
 pub fn take_array<const N: usize>(bytes: &[u8], place: usize) -> Option<([u8; N], usize)>
     ensures { Takes (λ part. part) (λ part. length part ≡ N) bytes.now place result }

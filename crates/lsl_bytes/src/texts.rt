@@ -1,4 +1,4 @@
-//! Texts behind the count of their bytes.
+//! Texts after the count of their bytes.
 
 ghost use Rattle.std.specs.Prelude.{◌≡◌, ◌++◌, take, vec_len, IfOk, OnOk, OnErr};
 ghost use Rattle.std.specs.Option.{option_map};
@@ -26,7 +26,7 @@ pub fn push_text(out: &mut Vec<u8>, text: &Text) -> Result<(), NoMemory>
     pushed
 }
 
-/// Appends a text; after an `Err` a front of it may stand behind the old bytes.
+/// Appends a text; after an `Err` a prefix of it may follow the old bytes.
 #[tactic(auto, unfolding(crate::specs::Fields::text_bytes, crate::specs::Fields::counted_bytes))]
 pub fn append_text(out: &mut Vec<u8>, text: &Text) -> Result<(), NoMemory>
     ensures ok { OnOk result (out.new.items ≡ out.old.items ++ text_bytes text.now) }
@@ -50,7 +50,7 @@ pub fn take_text(alloc: Global, bytes: &[u8], place: usize) -> Taken<Text>
     Ok(Some((text, next)))
 }
 
-// Takes bytes behind their count.
+// Takes a count, and then that number of bytes.
 fn take_counted(bytes: &[u8], place: usize) -> Option<(&[u8], usize)>
     ensures { Takes counted_bytes IsCountable bytes.now place
         (option_map (λ taken. (taken.0.now, taken.1)) result) }

@@ -1,4 +1,4 @@
-//! Values behind the tags of their kinds.
+//! Values after the tags of their kinds.
 
 ghost use Rattle.std.specs.Prelude.{◌≡◌, ◌++◌, take, vec_len, IfOk, OnOk, OnErr};
 ghost use Rattle.lsl_value.specs.Values.{value_of_atom};
@@ -50,7 +50,7 @@ pub fn take_value(alloc: Global, bytes: &[u8], place: usize) -> Taken<Value>
     }
 }
 
-/// Takes the integer of an integer value, behind its tag. Takes no memory.
+/// Takes the integer of an integer value, after its tag. Takes no memory.
 #[inline(always)]
 pub fn take_int(bytes: &[u8], place: usize) -> Option<(i32, usize)>
     ensures { Takes int_bytes FitsI32 bytes.now place result }
@@ -62,7 +62,7 @@ pub fn take_int(bytes: &[u8], place: usize) -> Option<(i32, usize)>
     take_i32(bytes, next)
 }
 
-// After an `Err` a front of the bytes may stand behind the old ones.
+// After an `Err` a prefix of the bytes may follow the old ones.
 #[tactic(auto, unfolding(crate::specs::Fields::value_bytes))]
 fn append_value(out: &mut Vec<u8>, value: &Value) -> Result<(), NoMemory>
     ensures ok { OnOk result (out.new.items ≡ out.old.items ++ value_bytes value.now) }

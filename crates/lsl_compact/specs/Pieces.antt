@@ -1,4 +1,4 @@
--- A list that is made of parts of another.
+-- A list that consists of parts of another.
 use Rattle.std.specs.Prelude.{ℕ, ◌+◌, ◌≤◌, List, [], ◌∷◌, ◌++◌, take, drop}
 use Rattle.lsl_compact.specs.declared.pieces.Piece.{Piece}
 
@@ -10,7 +10,7 @@ abbrev pub joined : {A : Type 0} → List A → List Piece → List A
 joined pool [] = []
 joined pool (p ∷ ps) = part pool p ++ joined pool ps
 
--- each piece lies within so many of the pool
+-- each piece lies within a pool of this length
 abbrev pub ArePieces : ℕ → List Piece → Type 0
 ArePieces pool [] = Unit {0}
 ArePieces pool (p ∷ ps) = (p.from + p.count ≤ pool) × ArePieces pool ps

@@ -1,4 +1,4 @@
-//! Lists that take less memory than they are long: stacks that share what they begin with.
+//! Lists that take less memory than their length: stacks that share their first elements.
 #![tactic(auto)]
 
 mod pieces;

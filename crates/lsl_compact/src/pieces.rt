@@ -9,7 +9,7 @@ use lsl_text::NoMemory;
 use std::alloc::{AllocError, Global};
 use std::marker::Model;
 
-/// So many elements of a pool, from this one on.
+/// A run of elements of a pool: the first, and how many.
 #[derive(Clone, Copy)]
 struct Piece {
     from: u32,
@@ -80,7 +80,7 @@ fn place_in(pieces: &[Piece], place: usize) -> Option<usize>
     None
 }
 
-/// A list that is written, and the words of which it may repeat any.
+/// A list that is being written, and the words of which it may repeat any.
 #[derive(Drop)]
 pub struct PiecesDraft<T> {
     first: Vec<T>,
@@ -113,7 +113,7 @@ impl<T> PiecesDraft<T> {
         }
     }
 
-    /// Adds so many words from this one on.
+    /// Adds `count` words from this one on.
     pub fn repeat(&mut self, from: u32, count: u32) -> Result<(), NoMemory>
         requires { from + count ≤ length self.old.words }
         ensures repeated { OnOk result

@@ -91,7 +91,7 @@ impl KindStack {
         Some(link.kind)
     }
 
-    /// Takes off so many kinds. Takes no memory.
+    /// Takes off `count` kinds. Takes no memory.
     pub fn pop_all(&mut self, count: usize)
         ensures { self.new ≡ noted_of (drop count self.old.kinds) self.old.noted }
     {
@@ -117,7 +117,7 @@ impl KindStack {
         Ok(())
     }
 
-    /// The kinds below so many topmost ones, from the first pushed.
+    /// The kinds below the `count` topmost ones, from the first pushed.
     pub fn below(&self, alloc: Global, count: usize) -> Result<Vec<Kind>, NoMemory>
         ensures { IfOk result (λ kinds. kinds.items ≡ reverse (drop count self.now.kinds)) }
     {
@@ -209,7 +209,7 @@ impl Placing {
         Ok(())
     }
 
-    /// What is placed, with no stack at so many places after it. Takes no memory.
+    /// What is placed, and after it `nones` places without a stack. Takes no memory.
     pub fn finish(self, nones: usize) -> PlacedStacks
         ensures { result ≡ self.placed ++ replicate nones None }
     {
@@ -256,7 +256,7 @@ fn top_at(tops: &[u32], number: usize) -> Option<u32>
     tops.get(number).copied()
 }
 
-// The top of the stack without its topmost kinds, so many of them.
+// The top of the stack without its `count` topmost kinds.
 fn lowered(links: &[Link], top: u32, count: usize) -> u32
     requires links { AreLinks links.now }
     requires top { top ≤ length links.now }

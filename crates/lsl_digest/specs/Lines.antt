@@ -5,7 +5,7 @@ use Rattle.std.specs.Prelude.{ℕ, ◌==◌, List, count_by, Option, Some, None,
 abbrev pub count_lines : List ℕ → ℕ
 count_lines bytes = count_by (λ byte. byte == 10) bytes
 
--- so many aren't counted any more
+-- above this lines aren't counted any more
 abbrev pub most_lines : ℕ
 most_lines = 18446744073709551615
 

@@ -8,8 +8,8 @@ use lsl_ports::{Failed, Sink};
 use sha2::{Digest, Sha256};
 use std::marker::Model;
 
-/// A sink that never fails and takes no memory. It tells what it took, of which it keeps the count of lines and the
-/// digest alone.
+/// A sink that never fails and takes no memory. It reports what it took, but keeps only the count of lines and the
+/// digest.
 #[derive(Drop)]
 pub struct DigestSink {
     hasher: Sha256,

@@ -1,4 +1,4 @@
--- What begins what begins a text begins one too.
+-- A prefix of a prefix of a text is a prefix too.
 use Rattle.std.proofs.Common.{◌≡◌, ℕ, zero, suc, List, [], ◌∷◌, ◌++◌, ◌⊎◌, inl, inr, ⊎_elim, refl, sym, ap, ◌∙◌, subst, append_assoc}
 use Rattle.lsl_grammar.specs.Language.{Lang, ret, one_of, ◌>>=◌ as ◌>=>◌, ◌∣◌, never, Rounds, rounds}
 

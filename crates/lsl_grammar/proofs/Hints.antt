@@ -1,6 +1,5 @@
--- What a stop tells: a token that stood too deep goes on within wider limits; where an operand was due, one
--- could begin; and where none was, the reader stops at an operand too. Operands begin with the tokens of one
--- kind, the probe.
+-- What a stop reports: a token that was too deep continues within wider limits; where an operand was due, one could
+-- begin; where none was, the reader stops at an operand too. Operands begin with the tokens of one kind, the probe.
 use Rattle.std.proofs.Common.{◌≡◌, ℕ, zero, suc, ◌≤◌, Bool, true, false, cond, List, [], ◌∷◌, ◌++◌, length, Ok, Err, ◌⊎◌, inl, inr, refl, sym, ap, ◌∙◌, subst, arith, append_assoc, length-append}
 use Rattle.std.proofs.lemmas.List.{append_cancel_right}
 use Rattle.lsl_grammar.specs.declared.Why.{Why}
@@ -11,7 +10,7 @@ use Rattle.lsl_grammar.proofs.ReadsLanguage.{Apart, Stops, Reads, stops_by, cond
 use Rattle.lsl_grammar.proofs.Widening.{Mono}
 
 module _ {Tok : Type 0} (kind : Tok → ℕ) (probe : ℕ) where
-  -- what a stop behind these tokens and before the rest tells
+  -- what a stop after these tokens and before the rest reports
   abbrev pub Hint : {T : Type 0} → Lang Tok T → Reader Tok T → Why → List Tok → List Tok → Type 0
   Hint M p TooDeep u [] = ⊥
   Hint M p TooDeep u (t ∷ r) = M.opens (u ++ t ∷ [])
@@ -20,7 +19,7 @@ module _ {Tok : Type 0} (kind : Tok → ℕ) (probe : ℕ) where
   Hint M p Unexpected u (t ∷ r) = (i : Tok) (more : List Tok) → kind i ≡ probe
       → p (u ++ i ∷ more) ≡ Err (Unexpected, i ∷ more)
 
-  -- each stop tells so
+  -- each stop reports this
   pub record Tells {T : Type 0} (M : Lang Tok T) (p : Reader Tok T) : Type 0 where
     pub tell : (ts rest : List Tok) (w : Why) → p ts ≡ Err (w, rest) → (u : List Tok) × (ts ≡ u ++ rest)
         × Hint M p w u rest
@@ -278,7 +277,7 @@ module _ {Tok : Type 0} (kind : Tok → ℕ) (probe : ℕ) where
         go i more (suc n) k le = turned n a (y ∷ u ++ i ∷ more) (subst (λ l. begins kind ks l ≡ true) s b)
             ∙ ap (λ o. o >>= λ y. turns_r kind ks p n y.0 y.1) (h i more k)
 
-    -- the rounds begin, or nothing is left of them
+    -- the rounds begin, or none is left
     starts_next : (b : A) (u2 : List Tok) (i : Tok) (more : List Tok) → kind i ≡ probe
         → ((y : Tok) (v : List Tok) → u2 ≡ y ∷ v → among (kind y) f ≡ true) → Stops kind c (u2 ++ i ∷ more)
     starts_next b [] i more k o = among_probe c i false k aside

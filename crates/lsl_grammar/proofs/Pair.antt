@@ -1,5 +1,5 @@
--- Two alternatives that two tokens tell apart: the first begins with a token of some kinds and one of others,
--- and in the second no text goes on so behind such a token, which is a text of the second by itself.
+-- Two alternatives that two tokens tell apart. The first begins with a token of some kinds and one of others. In the
+-- second no text continues with the other token after the first, which is a text of the second by itself.
 use Rattle.std.proofs.Common.{◌≡◌, ℕ, Bool, true, false, cond, List, [], ◌∷◌, ◌++◌, length, Ok, Err, inl, inr, ⊎_elim, refl, sym, ap, ◌∙◌, subst, arith, length-append, append-nil}
 use Rattle.lsl_grammar.specs.declared.Why.{Why}
 use Rattle.lsl_grammar.specs.declared.Why.TheVariants.{Unexpected, OperandDue, TooDeep}
@@ -158,7 +158,7 @@ module _ {Tok T : Type 0} (kind : Tok → ℕ) (probe : ℕ) (K J : Tok → Lang
       (sym (take_right (t ∷ s ∷ u ++ rest) (not_second t s u rest o)))
       (second.rule.reads.past (t ∷ s ∷ u) rest o)
 
-  -- what a stop tells
+  -- what a stop reports
 
   probe_in : (xs : List ℕ) (i : Tok) → kind i ≡ probe → among probe xs ≡ false → among (kind i) xs ≡ false
   probe_in xs i e h = ap (λ n. among n xs) e ∙ h

@@ -46,7 +46,7 @@ pub err_rest : {Tok T : Type 0} (v w : Why) (a b : List Tok)
     → (let o : Read Tok T = Err (v, a) in o) ≡ Err (w, b) → a ≡ b
 err_rest {Tok} {T} v w a b e = ap (λ (z : Why × List Tok). z.1) (err_parts {T = T} (v, a) (w, b) e)
 
--- a test that is known
+-- a condition whose value is known
 pub cond_true : {T : Type 0} (b : Bool) (x y : T) → b ≡ true → cond b x y ≡ x
 cond_true b x y e = ap (λ c. cond c x y) e
 
@@ -158,7 +158,7 @@ module _ {Tok : Type 0} (kind : Tok → ℕ) where
           let at : Past rest (one_r kind why ks (t ∷ rest)) = subst (Past rest) (sym now) ([], refl) in
           subst (λ l. Past rest (one_r kind why ks (l ++ rest))) (sym e) at
 
-  -- fewer first tokens, or more tokens at which it stops, may be told
+  -- a reader may claim fewer first tokens, or more tokens at which it stops
   pub wider : {T : Type 0} (L : Lang Tok T) (p : Reader Tok T) (f : List ℕ) (n : T → List ℕ) (F : List ℕ)
       (N : T → List ℕ) → Reads L p f n → Sub f F → ((u : List Tok) (x : T) → L.whole u x → Sub (n x) (N x))
       → Reads L p F N
@@ -183,7 +183,7 @@ module _ {Tok : Type 0} (kind : Tok → ℕ) where
     starts = r.starts;
   }
 
-  -- one part, and what may stand behind it
+  -- one part, and what may follow it
   module _ {A B : Type 0} (L : Lang Tok A) (K : A → Lang Tok B) (p : Reader Tok A) (q : A → Reader Tok B)
       (f : List ℕ) (n : A → List ℕ) (fK : A → List ℕ) (F : List ℕ) (N : B → List ℕ)
       (r : Reads L p f n) (rK : (x : A) → Reads (K x) (q x) (fK x) N)
@@ -229,7 +229,7 @@ module _ {Tok : Type 0} (kind : Tok → ℕ) where
         stop [] w = stops_sub (n x) (N y) rest (after x y w) s
         stop (t ∷ v) w = stops_by (n x) t (v ++ rest) (apart x (kind t) ((rK x).starts t v ((rK x).within (t ∷ v) y w)))
 
-    -- where the first part has been read, or stopped, in the tokens behind
+    -- where the first part has been read, or stopped, in the tokens after it
     go_on : (rest : List Tok) (o : Read Tok A) → Past rest o → Past rest (o >>= λ x. q x.0 x.1)
     go_on rest (Ok x) h = past_trans rest x.1 (q x.0 x.1) h (ends_of (K x.0) (q x.0) (fK x.0) N (rK x.0) x.1)
     go_on rest (Err x) h = h
@@ -445,7 +445,7 @@ module _ {Tok : Type 0} (kind : Tok → ℕ) where
         let same : s ≡ t = cc in
         subst (λ r. among (kind r) f ≡ true) same ((r a).starts s v ((r a).within (s ∷ v) x w))
 
-    -- behind a round, more rounds and what stops them
+    -- after a round, more rounds and what stops them
     round_stops : (n : ℕ) (a b : A) (q rest : List Tok) → Rounds round n a q b → Stops (N b) rest → Stops c (q ++ rest)
     round_stops n a b [] rest h st = stops_sub c (N b) rest (last b) st
     round_stops n a b (t ∷ q) rest h st = stops_by c t (q ++ rest) (λ e. apart (kind t) (rounds_starts n a t q b h) e)
@@ -474,13 +474,13 @@ module _ {Tok : Type 0} (kind : Tok → ℕ) where
         ∙ one_turn k a x t v (q ++ rest) w (round_stops n x b q rest h st)
         ∙ turns_complete n k x q rest b h st shorter
 
-    -- where a round has been read, or stopped, in the tokens behind
+    -- where a round has been read, or stopped, in the tokens after it
     go_turn : (k : ℕ) (rest : List Tok) (o : Read Tok A) → Past rest o
         → Past rest (o >>= λ x. turns_r kind ks p k x.0 x.1)
     go_turn k rest (Ok x) h = past_trans rest x.1 (turns_r kind ks p k x.0 x.1) h (turns_end k x.0 x.1)
     go_turn k rest (Err x) h = h
 
-    -- a round is begun, or whole with nothing of the next behind it
+    -- a round has begun, or is whole with nothing of the next after it
     open_turn : (k : ℕ) (a : A) (q rest : List Tok) → (round a).opens q → length (q ++ rest) ≤ k
         → Past rest (turns_r kind ks p k a (q ++ rest))
     open_turn k a [] rest o le = turns_end k a rest

@@ -129,7 +129,7 @@ module _ {Tok : Type 0} (kind : Tok → ℕ) (probe : ℕ) where
   pub one_full : (ks : List ℕ) → Filled (one_of kind ks)
   one_full ks = record { none = λ x (e, m). cc }
 
-  -- a sign stands first
+  -- a sign comes first
   pub sign_full : {B : Type 0} (ks : List ℕ) (K : Tok → Lang Tok B) → Filled (one_of kind ks >=> K)
   sign_full ks K = then_full (one_of kind ks) K (one_full ks)
 
@@ -239,7 +239,7 @@ module _ {Tok : Type 0} (kind : Tok → ℕ) (probe : ℕ) where
     tells = deep_tells kind probe M why ks suits covers;
   }
 
-  -- Rules without an empty text, whose tokens of going on are a fixed list
+  -- Rules without an empty text, whose continuing tokens are a fixed list
 
   pub record Solid {T : Type 0} (L M : Lang Tok T) (p q : Reader Tok T) (first next : List ℕ) : Type 0 where
     pub rule : Rule L M p q first (λ _. next)
@@ -296,7 +296,7 @@ module _ {Tok : Type 0} (kind : Tok → ℕ) (probe : ℕ) where
       go t ts m false h e = ⊎_elim (λ z. let both = sym z ∙ h in absurd (cc)) (λ z. b.eaten t ts z e)
           (append_cases (kind t) f g m)
 
-  -- more tokens at which it stops may be told
+  -- a rule may claim more tokens at which it stops
   pub solid_wider : {T : Type 0} {L M : Lang Tok T} {p q : Reader Tok T} {f c : List ℕ} (C : List ℕ)
       → Solid L M p q f c → subset c C ≡ true → among probe C ≡ false → Solid L M p q f C
   solid_wider {f = f} {c = c} C s e1 e2 =
@@ -308,7 +308,7 @@ module _ {Tok : Type 0} (kind : Tok → ℕ) (probe : ℕ) where
         aside = e2;
       }
 
-  -- a sign, and what stands behind it
+  -- a sign, and what follows it
   pub sign_rule : {B : Type 0} (why : Why) (ks g : List ℕ) (N : B → List ℕ) (K J : Tok → Lang Tok B)
       (q q' : Tok → Reader Tok B) → Suits kind probe why ks → ((t : Tok) → Rule (K t) (J t) (q t) (q' t) g N) →
       Rule (one_of kind ks >=> K) (one_of kind ks >=> J) (then_r (one_r kind why ks) q)
@@ -331,7 +331,7 @@ module _ {Tok : Type 0} (kind : Tok → ℕ) (probe : ℕ) where
     aside = aside;
   }
 
-  -- a part, and a part behind it
+  -- a part, and a part after it
   pub solid_then : {A B : Type 0} {L M : Lang Tok A} {p p' : Reader Tok A} {f c : List ℕ} (g d : List ℕ)
       (K J : A → Lang Tok B) (q q' : A → Reader Tok B) → Solid L M p p' f c
       → ((x : A) → Solid (K x) (J x) (q x) (q' x) g d) → disjoint g c ≡ true → among probe d ≡ false
@@ -345,7 +345,7 @@ module _ {Tok : Type 0} (kind : Tok → ℕ) (probe : ℕ) where
     aside = aside;
   }
 
-  -- a part, and what may not be empty behind it
+  -- a part, and after it what may not be empty
   pub part_rule : {A B : Type 0} {L M : Lang Tok A} {p p' : Reader Tok A} {f c : List ℕ} (g : List ℕ)
       (N : B → List ℕ) (K J : A → Lang Tok B) (q q' : A → Reader Tok B) → Solid L M p p' f c
       → ((x : A) → Rule (K x) (J x) (q x) (q' x) g N) → ((x : A) → Filled (K x)) → disjoint g c ≡ true
@@ -368,7 +368,7 @@ module _ {Tok : Type 0} (kind : Tok → ℕ) (probe : ℕ) where
     aside = s.aside;
   }
 
-  -- a part, and rounds behind it
+  -- a part, and rounds after it
   pub solid_rounds : {A B : Type 0} {L M : Lang Tok A} {p p' : Reader Tok A} {f c : List ℕ} (ks d e : List ℕ)
       (start : A → B) (round round' : B → Lang Tok B) (q q' : B → Reader Tok B) → Solid L M p p' f c
       → ((b : B) → Solid (round b) (round' b) (q b) (q' b) ks d) →

@@ -1,5 +1,5 @@
--- Rounds up to a closing sign, where each token but that sign begins a round: what is no round is refused by
--- the round itself.
+-- Rounds up to a closing sign, where each token but that sign begins a round: the round itself refuses what isn't a
+-- round.
 use Rattle.std.proofs.Common.{◌≡◌, ℕ, zero, suc, ◌<◌, ◌≤◌, Bool, true, false, cond, List, [], ◌∷◌, ◌++◌, length, Ok, Err, inl, refl, sym, ap, ◌∙◌, subst, arith, length-append}
 use Rattle.lsl_grammar.specs.declared.Why.{Why}
 use Rattle.lsl_grammar.specs.declared.Why.TheVariants.{Unexpected}
@@ -25,7 +25,7 @@ module _ {Tok : Type 0} (kind : Tok → ℕ) where
 
   module _ {A : Type 0} (ks : List ℕ) (p : A → Reader Tok A)
       (less : (a b : A) (ts rest : List Tok) → p a ts ≡ Ok (b, rest) → length rest < length ts) where
-    -- rounds go on as long as their test holds
+    -- rounds continue as long as their test holds
     turns_stop : (k : ℕ) (a b : A) (ts rest : List Tok) → length ts ≤ k
         → turns_r kind ks p k a ts ≡ Ok (b, rest) → begins kind ks rest ≡ false
     turns_stop zero a b [] rest le e = ap (begins kind ks) (sym (ok_rest a b [] rest e))

@@ -1,4 +1,4 @@
--- Wider limits: what was a text still is one, and what was read is read again, but where a token stood too deep.
+-- Wider limits: what was a text still is one, and what was read is read again, unless a token was too deep.
 use Rattle.std.proofs.Common.{◌≡◌, ℕ, zero, suc, Bool, true, false, cond, List, [], length, Ok, Err, ◌⊎◌, inl, inr, ⊎_elim, refl, sym, ap, ◌∙◌, subst}
 use Rattle.lsl_grammar.specs.declared.Why.{Why}
 use Rattle.lsl_grammar.specs.declared.Why.TheVariants.{TooDeep}
@@ -52,12 +52,12 @@ rounds_mono {r = r} {s = s} m a = record {
   );
 }
 
--- the result says that a token stands too deep
+-- the result says that a token is too deep
 abbrev pub Sinks : {Tok T : Type 0} → Read Tok T → Type 0
 Sinks (Ok x) = ⊥
 Sinks (Err e) = e.0 ≡ TooDeep
 
--- with wider limits the same is read, but where a token stood too deep
+-- with wider limits the same is read, unless a token was too deep
 pub record Refines {Tok T : Type 0} (p q : Reader Tok T) : Type 0 where
   pub agrees : (ts : List Tok) → (q ts ≡ p ts) ⊎ Sinks (p ts)
 

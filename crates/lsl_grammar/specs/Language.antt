@@ -1,7 +1,7 @@
 -- Languages of tokens with their trees. Each has its whole lists, and the lists that begin one.
 use Rattle.std.specs.Prelude.{◌≡◌, ℕ, zero, suc, ◌==◌, Bool, true, false, ◌||◌, List, [], ◌∷◌, ◌++◌, ◌⊎◌}
 
--- the number stands in the list
+-- the number is in the list
 abbrev pub among : ℕ → List ℕ → Bool
 among k [] = false
 among k (x ∷ xs) = (k == x) || among k xs
@@ -23,7 +23,7 @@ one_of {Tok} kind ks = record {
   opens = λ u. (u ≡ []) ⊎ ((t : Tok) × (u ≡ t ∷ []) × (among (kind t) ks ≡ true));
 }
 
--- one part, and then what may stand behind it
+-- one part, and then what may follow it
 infixl 10 ◌>>=◌
 abbrev pub ◌>>=◌ : {Tok A B : Type 0} → Lang Tok A → (A → Lang Tok B) → Lang Tok B
 ◌>>=◌ {Tok} {A} L K = record {
@@ -39,11 +39,11 @@ L ∣ M = record {
   opens = λ u. L.opens u ⊎ M.opens u;
 }
 
--- no text at all: what may not be begun
+-- no text at all: what may not begin here
 abbrev pub never : {Tok T : Type 0} → Lang Tok T
 never = record { whole = λ u t. ⊥; opens = λ u. u ≡ [] }
 
--- n rounds, each of which goes on from what the one before it gave
+-- n rounds, each of which continues from the result of the one before it
 abbrev pub Rounds : {Tok A : Type 0} → (A → Lang Tok A) → ℕ → A → List Tok → A → Type 0
 Rounds round zero a u c = (u ≡ []) × (c ≡ a)
 Rounds {Tok} {A} round (suc n) a u c = (b : A) × (p : List Tok) × (q : List Tok) × (u ≡ p ++ q)

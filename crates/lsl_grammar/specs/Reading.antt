@@ -1,4 +1,4 @@
--- Reading from left to right: what was read and the tokens behind it, or why and where it stopped.
+-- Reading from left to right: what was read and the tokens after it, or why and where it stopped.
 use Rattle.std.specs.Prelude.{ℕ, zero, suc, Bool, false, cond, List, [], ◌∷◌, length, Result, Ok, Err}
 use Rattle.lsl_grammar.specs.declared.Why.{Why}
 use Rattle.lsl_grammar.specs.declared.Why.TheVariants.{TooDeep}
@@ -35,7 +35,7 @@ then_r p q ts = p ts >>= λ x. q x.0 x.1
 abbrev pub or_r : {Tok T : Type 0} → (Tok → ℕ) → List ℕ → Reader Tok T → Reader Tok T → Reader Tok T
 or_r kind ks p q ts = cond (begins kind ks ts) (p ts) (q ts)
 
--- what would begin with these kinds stands too deep
+-- what would begin with these kinds is too deep
 abbrev pub deep_stop : {Tok : Type 0} → (Tok → ℕ) → Why → List ℕ → List Tok → Why × List Tok
 deep_stop kind why ks ts = cond (begins kind ks ts) (TooDeep, ts) (why, ts)
 
@@ -51,11 +51,11 @@ turns_r kind ks round (suc n) a ts = cond (begins kind ks ts)
 abbrev pub rounds_r : {Tok A : Type 0} → (Tok → ℕ) → List ℕ → (A → Reader Tok A) → A → Reader Tok A
 rounds_r kind ks round a ts = turns_r kind ks round (length ts) a ts
 
--- a token of the first kinds and one of the second stand next
+-- a token of the first kinds and one of the second are next
 abbrev pub pair_next : {Tok : Type 0} → (Tok → ℕ) → List ℕ → List ℕ → List Tok → Bool
 pair_next kind ks ls [] = false
 pair_next kind ks ls (t ∷ ts) = cond (among (kind t) ks) (begins kind ls ts) false
 
--- the first where two such tokens stand next, else the second
+-- the first where two such tokens are next, else the second
 abbrev pub pair_r : {Tok T : Type 0} → (Tok → ℕ) → List ℕ → List ℕ → Reader Tok T → Reader Tok T → Reader Tok T
 pair_r kind ks ls p q ts = cond (pair_next kind ks ls ts) (p ts) (q ts)

@@ -5,10 +5,10 @@
 /// Why a reader stopped at a token.
 #[derive(Clone, Copy, PartialEq, Eq, Hash)]
 pub enum Why {
-    /// No text goes on with this token, nor with an operand in its place.
+    /// No text continues with this token, nor with an operand in its place.
     Unexpected,
-    /// No text goes on with this token, but an operand could begin in its place.
+    /// No text continues with this token, but an operand could begin in its place.
     OperandDue,
-    /// The token goes on, but only where the limits are wider.
+    /// The token continues a text, but only within wider limits.
     TooDeep,
 }

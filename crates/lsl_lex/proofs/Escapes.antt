@@ -103,7 +103,7 @@ encodes_escape_low d h = first (d == 110) refl
     first true e = ap (λ l. l ++ []) (encode_ascii 10 (omega arith))
     first false e = second (d == 116)
 
--- what a backslash before a character stands for
+-- what a backslash before a character means
 escape_bytes : (d : ℕ) (rest : List ℕ) → escapes_read (92 ∷ (encode d ++ rest))
     ≡ encode_utf8_all (escape_of d) ++ escapes_read rest
 escape_bytes d rest = go (cases_lt d 128)
@@ -199,7 +199,7 @@ scalars-escapes_read (c ∷ d ∷ cs) h = go (c == 92) (scalars-escapes_read cs 
     go true ih two = scalars-append (escape_of d) (escapes_read cs) (scalars_escape d rest.0) ih
     go false ih two = ap (λ t. t && all_scalars (escapes_read (d ∷ cs))) both.0 ∙ two
 
--- a body of UTF-8 stands for UTF-8
+-- a body of UTF-8 means UTF-8
 pub IsUtf8-escapes_read : (body : List ℕ) → IsUtf8 body → IsUtf8 (escapes_read body)
 IsUtf8-escapes_read body (cs, (valid, e)) =
     (escapes_read cs, (scalars-escapes_read cs valid, sym (escapes_read-encodes cs) ∙ ap escapes_read e))
@@ -222,7 +222,7 @@ no_escape (b ∷ bytes) h =
     neither true t e = absurd (cc)
     neither false t e = (refl, e)
 
--- a body with no backslash stands for itself
+-- a body without a backslash means itself
 pub plain_body : (body : List ℕ) → IsUtf8 body → list_any (λ b. b == 92) body ≡ false
     → chars body ≡ escapes_read (chars body)
 plain_body body valid h = ap chars (sym (no_escape body h)) ∙ chars-escapes_read body valid

@@ -1,4 +1,4 @@
--- What the reading of one piece finds is a piece of the text, or the fault that stands there.
+-- What the reading of one piece finds is a piece of the text, or the fault that is there.
 use Rattle.std.proofs.Common.{◌≡◌, ℕ, ◌+◌, ◌<◌, ◌≤◌, ◌==◌, Bool, true, false, cond, not, ◌||◌, ◌⊎◌, inl, inr, ⊎_elim, List, [], ◌∷◌, ◌++◌, length, take, drop, Option, Some, None, unwrap_or, Ok, Err, refl, sym, ap, ◌∙◌, subst, arith, append_assoc, length-append}
 use Rattle.std.proofs.lemmas.List.{take-append-drop, drop_more, get_or_past}
 use Rattle.std.proofs.lemmas.List.Sums.{AllPass-from_list_all, list_all-from_AllPass}
@@ -33,7 +33,7 @@ pub by_cond : {A : Type 0} (P : A → Type 0) (t : Bool) (x y : A) → (t ≡ tr
 by_cond P true x y f g = f refl
 by_cond P false x y f g = g refl
 
--- no fault stands at the front
+-- no fault is at the front
 abbrev pub Clear : List ℕ → Type 0
 Clear text = (kind : LexKind) → Case text kind → ⊥
 
@@ -60,7 +60,7 @@ piece_at text g u rest k n some h clear =
       clear,
     )
 
--- ---- where no fault stands
+-- ---- where there is no fault
 
 token_no_case : (text u rest : List ℕ) (s : Sort) → text ≡ u ++ rest → Spells u s → (OpensComment text → ⊥)
     → (IsOpenString text → ⊥) → (IsFloat text → ⊥) → (kind : LexKind) → Case text kind → ⊥
@@ -71,7 +71,7 @@ token_no_case text u rest s e h comment open_string float CommentEnd f = comment
 token_no_case text u rest s e h comment open_string float FloatLiteral f = float f
 token_no_case text u rest s e h comment open_string float StrayCharacter f = f.no_token u rest s e h
 
--- a token that goes as far as a token can, where no comment begins and no fault stands
+-- a token that goes as far as a token can, where no comment begins and there is no fault
 pub token_right : (text u rest : List ℕ) (s : Sort) (k : ℕ) → text ≡ u ++ rest → k ≡ length u
     → reach text ≡ length u → Spells u s → (OpensComment text → ⊥) → (IsOpenString text → ⊥)
     → (IsFloat text → ⊥) → Right text (Ok (Some s, k))

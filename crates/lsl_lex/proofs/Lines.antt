@@ -1,4 +1,4 @@
--- A token other than a string stands on one line, and the cursor goes over it at once.
+-- A token other than a string is on one line, and the cursor passes it at once.
 use Rattle.std.proofs.Common.{◌≡◌, ℕ, zero, suc, ◌+◌, ◌-◌, ◌<◌, ◌≤◌, ◌==◌, Bool, true, false, not, ◌⊎◌, inl, inr, List, ◌∷◌, Contains, Ok, length, take, drop, get_or, Option, Some, None, refl, sym, ap, ◌∙◌, subst, arith, length-drop}
 use Rattle.std.proofs.lemmas.List.{get_or-drop, get_or-take, length-take-le}
 use Rattle.std.proofs.lemmas.List.Elements.{All-weaker}
@@ -53,7 +53,7 @@ pub piece_in_line : (text part rest : List ℕ) (gives : Option Sort) → IsPiec
 piece_in_line text part rest None h k = absurd (cc)
 piece_in_line text part rest (Some sort) h k = spelled_in_line part sort h.kind.spells k
 
--- ---- the cursor behind bytes of one line
+-- ---- the cursor after bytes of one line
 
 no_feed : (b : ℕ) → is_in_line b ≡ true → is_line_feed b ≡ false
 no_feed b h = go (is_line_feed b) refl h

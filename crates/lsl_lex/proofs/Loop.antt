@@ -87,7 +87,7 @@ rest_valid text rest tokens cursor source h =
     sym (take-append-drop cursor.offset text) ∙ ap (λ l. take cursor.offset text ++ l) (sym h.left) in
     (take cursor.offset text, subst IsUtf8 same source.valid)
 
--- no fault stands at the place where n pieces are cut, nor before
+-- no fault is at the place where n pieces are cut, nor before
 none_more : (text : List ℕ) (n : ℕ) (ts : List Token) (front rest : List ℕ) → Cuts n [] text ts front rest
     → NoneBefore n text → Clear rest → NoneBefore (suc n) text
 none_more text n ts front rest c none clear m us done left kind lt d h = go (cases_lt m n)

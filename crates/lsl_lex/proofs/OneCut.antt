@@ -47,7 +47,7 @@ decimal_reached digits rest d =
     (no_hexadecimal digits rest d)
     ∙ prefix_len-exact is_decimal digits (46 ∷ rest) (list_all-from_AllPass is_decimal digits d.each) stops
 
--- ---- where a piece stands
+-- ---- where there is a piece
 
 -- no piece begins with a point
 no_point : (text p a : List ℕ) (g : Option Sort) → IsPiece text g p a → lead text ≡ 46 → ⊥
@@ -69,7 +69,7 @@ no_point text p a g h e = go g h.kind
     go None (inr (inr c)) = omega (arith, e, opens_lead text (line_opens text p a h.split c))
     go (Some s) t = begun (begins p s t.spells) (first (not_empty p s t.spells))
 
--- where a piece and a fault stand together, the fault is a number with a point, and the piece its digits
+-- where a piece and a fault are at one place, the fault is a number with a point, and the piece its digits
 no_open_string : (text p a : List ℕ) (g : Option Sort) → IsPiece text g p a → IsOpenString text → ⊥
 no_open_string text p a None h f = nothing h.kind
   where

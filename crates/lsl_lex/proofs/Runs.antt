@@ -34,7 +34,7 @@ list_all-prefix p (b ∷ l) = go (p b) refl (list_all-prefix p l)
         ap (λ n. list_all p (take n (b ∷ l))) one ∙ ap (λ t. t && list_all p (take (prefix_len p l) l)) e ∙ ih
     go false e ih = refl
 
--- what stands behind that front
+-- what follows that front
 abbrev pub Stops : (ℕ → Bool) → List ℕ → Type 0
 Stops p l = (l ≡ []) ⊎ ((b : ℕ) × (more : List ℕ) × (l ≡ b ∷ more) × (p b ≡ false))
 
@@ -91,7 +91,7 @@ abbrev pub Closed : List ℕ → ℕ → Type 0
 Closed l n = (body : List ℕ) × (rest : List ℕ) × (l ≡ body ++ 42 ∷ 47 ∷ rest) × (n ≡ length body + 2)
     × NoClose (body ++ 42 ∷ [])
 
--- where the end of a comment is found, it is the first
+-- a comment's end that is found is the first one
 pub close_some : (l : List ℕ) (n : ℕ) → close_of l ≡ Some n → Closed l n
 close_some [] n e = absurd (cc)
 close_some (b ∷ []) n e = absurd (cc)

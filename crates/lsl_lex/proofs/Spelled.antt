@@ -199,7 +199,7 @@ pub hexadecimal_true : (x d : ℕ) (rest : List ℕ) → (x ≡ 120) ⊎ (x ≡ 
 hexadecimal_true x d rest (inl e) h = ap (λ x. begins_hexadecimal (48 ∷ x ∷ d ∷ rest)) e ∙ h
 hexadecimal_true x d rest (inr e) h = ap (λ x. begins_hexadecimal (48 ∷ x ∷ d ∷ rest)) e ∙ h
 
--- behind a decimal digit, decimal digits begin no hexadecimal ones
+-- after a decimal digit, decimal digits begin no hexadecimal ones
 pub second_digit : (a b : ℕ) (rest : List ℕ) → is_decimal b ≡ true → begins_hexadecimal (a ∷ b ∷ rest) ≡ false
 second_digit a b rest d = false_by (begins_hexadecimal (a ∷ b ∷ rest)) (λ e. no (hexadecimal_parts (a ∷ b ∷ rest) e))
   where

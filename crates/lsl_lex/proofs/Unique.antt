@@ -1,4 +1,4 @@
--- At the front of a text stands one piece at most, and one fault at most.
+-- At the front of a text is at most one piece, and at most one fault.
 use Rattle.std.proofs.Common.{◌≡◌, ℕ, ◌+◌, ◌<◌, true, false, ◌⊎◌, inl, inr, List, [], ◌∷◌, ◌++◌, length, take, drop, Option, Some, None, refl, sym, ap, ◌∙◌, arith, append_assoc, length-append}
 use Rattle.std.proofs.lemmas.List.{append_cancel_left}
 use Rattle.std.proofs.lemmas.List.Sums.{list_all-from_AllPass}
@@ -182,7 +182,7 @@ same_nothing text p a q b e f (inr (inl g)) (inr (inr h)) = absurd (no_block_lin
 same_nothing text p a q b e f (inr (inr g)) (inr (inl h)) = absurd (no_block_line text q b p a f e h g)
 same_nothing text p a q b e f (inr (inr g)) (inr (inr h)) = same_line text p a q b e f g h
 
--- a token stands where nothing else does
+-- a token is where nothing else is
 no_nothing : (text p a q b : List ℕ) (s : Sort) → text ≡ p ++ a → text ≡ q ++ b → Gives text None p a
     → Gives text (Some s) q b → ⊥
 no_nothing text p a q b s e f (inl g) h =

@@ -12,10 +12,10 @@ is_decimal b = is_digit b 10
 abbrev pub is_hexadecimal : ℕ → Bool
 is_hexadecimal b = is_digit b 16
 
--- what a name may go on with
+-- what a name may continue with
 abbrev pub is_name_byte : ℕ → Bool
 is_name_byte b = is_letter b || is_decimal b
 
--- what a line comment may go on with
+-- what a line comment may continue with
 abbrev pub is_in_line : ℕ → Bool
 is_in_line b = not (b == 10)

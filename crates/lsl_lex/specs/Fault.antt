@@ -8,7 +8,7 @@ use Rattle.lsl_lex.specs.declared.faults.LexKind.{LexKind}
 use Rattle.lsl_lex.specs.declared.faults.LexKind.TheVariants.{StringEnd, CommentEnd, FloatLiteral, StrayCharacter}
 use Rattle.lsl_lex.specs.declared.token_types.Sort.{Sort}
 
--- no end of a block comment stands in the bytes
+-- the bytes hold no end of a block comment
 abbrev pub NoClose : List ℕ → Type 0
 NoClose bytes = (front rest : List ℕ) → bytes ≡ front ++ 42 ∷ 47 ∷ rest → ⊥
 
@@ -23,13 +23,13 @@ IsOpenString text = (more : List ℕ) × (text ≡ 34 ∷ more)
 abbrev pub IsOpenComment : List ℕ → Type 0
 IsOpenComment text = (more : List ℕ) × (text ≡ 47 ∷ 42 ∷ more) × NoClose more
 
--- decimal digits with a point behind them, or a point with a decimal digit behind it
+-- decimal digits before a point, or a point before a decimal digit
 abbrev pub IsFloat : List ℕ → Type 0
 IsFloat text =
     ((digits rest : List ℕ) × (text ≡ digits ++ 46 ∷ rest) × IsDigits is_decimal digits)
     ⊎ ((digit : ℕ) × (rest : List ℕ) × (text ≡ 46 ∷ digit ∷ rest) × (is_decimal digit ≡ true))
 
--- nothing else that this text could begin with stands here
+-- nothing else that a text can begin with is here
 pub record IsStray (text : List ℕ) : Type 0 where
   pub some : (b : ℕ) × (rest : List ℕ) × (text ≡ b ∷ rest) × (is_blank b ≡ false)
   pub no_comment : OpensComment text → ⊥
@@ -37,7 +37,7 @@ pub record IsStray (text : List ℕ) : Type 0 where
   pub no_string : IsOpenString text → ⊥
   pub no_float : IsFloat text → ⊥
 
--- the fault of this kind stands at the front of the text
+-- the fault of this kind is at the front of the text
 abbrev pub Case : List ℕ → LexKind → Type 0
 Case text StringEnd = IsOpenString text
 Case text CommentEnd = IsOpenComment text

@@ -33,23 +33,23 @@ abbrev pub NoneBefore : ℕ → List ℕ → Type 0
 NoneBefore n text = (m : ℕ) (tokens : List Token) (front rest : List ℕ) (kind : LexKind) → m < n
     → Cuts m [] text tokens front rest → Case rest kind → ⊥
 
--- the front of the text is cut, the fault stands behind it, and none stands before
+-- the front of the text is cut, the fault follows it, and there is none before
 pub record StopsAt (text : List ℕ) (kind : LexKind) (front : List ℕ) : Type 0 where
   pub source : IsSource text
   pub cut : (n : ℕ) × (tokens : List Token) × (rest : List ℕ) × Cuts n [] text tokens front rest
       × Case rest kind × NoneBefore n text
 
--- behind this front of the text stands its first fault, of this kind
+-- right after this front of the text is its first fault, of this kind
 abbrev pub IsFirstFault : List ℕ → LexKind → List ℕ → Type 0
 IsFirstFault text TextTooLong front = (source_bytes < length text) × (front ≡ [])
 IsFirstFault text NotText front = (length text ≤ source_bytes) × (n : ℕ) × IsValidUpTo text n × (front ≡ take n text)
 IsFirstFault text kind front = StopsAt text kind front
 
--- the first fault of the text; its span is empty, and stands where the fault does
+-- the first fault of the text; its span is empty, and is where the fault is
 abbrev pub LexFirst : List ℕ → LexFault → Type 0
 LexFirst text fault = (front : List ℕ) × IsFirstFault text fault.kind front × (fault.span ≡ span_of front [])
 
--- the text is refused for its first fault, or for want of memory
+-- the text is refused for its first fault, or because memory ran out
 abbrev pub IsRefused : List ℕ → Refusal LexFault → Type 0
 IsRefused text (Fault fault) = LexFirst text fault
 IsRefused text NoMemory = Unit {0}

@@ -13,7 +13,7 @@ use Rattle.lsl_lex.specs.declared.token_types.Token.{Token}
 abbrev pub IsBlank : List ℕ → Type 0
 IsBlank part = (b : ℕ) × (part ≡ b ∷ []) × (is_blank b ≡ true)
 
--- from `/*` to the first `*/` behind it
+-- from `/*` to the first `*/` after it
 abbrev pub IsBlockComment : List ℕ → Type 0
 IsBlockComment part = (body : List ℕ) × (part ≡ 47 ∷ 42 ∷ (body ++ 42 ∷ 47 ∷ [])) × NoClose (body ++ 42 ∷ [])
 
@@ -43,7 +43,7 @@ abbrev pub token_of : Option Sort → Span → List Token
 token_of None span = []
 token_of (Some sort) span = record { sort = sort; span = span } ∷ []
 
--- behind the front, n pieces of the text are cut: they have these tokens, end behind `done`, and leave this rest
+-- after the front, n pieces of the text are cut: they have these tokens, end after `done`, and leave this rest
 abbrev pub Cuts : ℕ → List ℕ → List ℕ → List Token → List ℕ → List ℕ → Type 0
 Cuts zero front text tokens done rest = (tokens ≡ []) × (done ≡ front) × (rest ≡ text)
 Cuts (suc n) front text tokens done rest =

@@ -16,7 +16,7 @@ use Rattle.lsl_lex.specs.declared.token_types.Sort.{Sort}
 use Rattle.lsl_lex.specs.declared.token_types.Sort.TheVariants.{Name, Int, Str}
 use Rattle.lsl_lex.specs.declared.piece.Piece.{Piece}
 
--- a piece that gives this, of so many bytes, or a fault
+-- a piece that gives this and its number of bytes, or a fault
 abbrev pub Found : Type 0
 Found = Result (Option Sort × ℕ) LexKind
 
@@ -24,12 +24,12 @@ abbrev pub row_of : List (List ℕ × Sort) → List ℕ → Option Sort
 row_of [] bytes = None
 row_of (row ∷ rows) bytes = cond (bytes_eq bytes row.0) (Some row.1) (row_of rows bytes)
 
--- the rows whose spellings have so many bytes
+-- the rows whose spellings have this many bytes
 abbrev pub rows_of : ℕ → List (List ℕ × Sort) → List (List ℕ × Sort)
 rows_of n [] = []
 rows_of n (row ∷ rows) = cond (length row.0 == n) (row ∷ rows_of n rows) (rows_of n rows)
 
--- the words of so many bytes
+-- the words of this many bytes
 abbrev pub words_of : ℕ → List (List ℕ × Sort)
 words_of n = rows_of n words
 
@@ -49,7 +49,7 @@ abbrev pub part_of : List ℕ → ℕ
 part_of (b ∷ c ∷ bytes) = cond (b == 92) 2 1
 part_of _ = 1
 
--- how many bytes stand before the quote that ends a string
+-- how many bytes precede the quote that ends a string
 abbrev pub quote_of : List ℕ → Option ℕ
 quote_of [] = None
 quote_of (b ∷ []) = cond (b == 34) (Some 0) None
@@ -122,7 +122,7 @@ abbrev pub refusal_of : Cursor → Refusal LexKind → Refusal LexFault
 refusal_of cursor (Fault kind) = Fault (fault_of kind cursor)
 refusal_of cursor NoMemory = NoMemory
 
--- what the code found is this, or it lacked memory
+-- what the code found is this, or it ran out of memory
 abbrev pub Finds : Result Piece (Refusal LexKind) → Found → Type 0
 Finds (Ok p) found = found ≡ Ok (p.gives, p.length)
 Finds (Err (Fault kind)) found = found ≡ Err kind

@@ -1,4 +1,4 @@
-//! Kinds of bytes, and how many of a kind stand at the front.
+//! Kinds of bytes, and how many of a kind are at the front.
 
 ghost use Rattle.std.specs.Prelude.{◌≡◌, ◌≤◌, length};
 ghost use Rattle.std.specs.List.{prefix_len};

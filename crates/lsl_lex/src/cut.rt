@@ -48,7 +48,7 @@ pub fn cut(alloc: Global, text: &[u8]) -> Result<Tokens, Refusal<LexFault>>
     })
 }
 
-// Moves the cursor behind a piece of the text that begins at it.
+// Moves the cursor past the piece at the front of the text.
 fn pass(cursor: &mut Cursor, text: &[u8], piece: &Piece)
     requires short { length text.now ≤ source_bytes }
     requires within { cursor.old.offset + piece.now.length ≤ length text.now }
@@ -66,7 +66,7 @@ fn pass(cursor: &mut Cursor, text: &[u8], piece: &Piece)
     }
 }
 
-// The cursor behind so many bytes of its line.
+// The cursor after `count` bytes of its line.
 fn along(cursor: &Cursor, count: usize) -> Cursor
     requires { cursor.now.offset + count ≤ source_bytes }
     ensures offset { result.offset ≡ cursor.now.offset + count }
@@ -109,7 +109,7 @@ fn refused_at(cursor: &Cursor, refusal: Refusal<LexKind>) -> Refusal<LexFault>
     }
 }
 
-/// Moves the cursor on by so many bytes of the text.
+/// Moves the cursor forward by `count` bytes of the text.
 pub fn advance(cursor: &mut Cursor, text: &[u8], count: usize)
     requires short { length text.now ≤ source_bytes }
     requires within { cursor.old.offset + count ≤ length text.now }

@@ -34,10 +34,10 @@ pub const MAX_SOURCE_BYTES: usize = 65_536;
 
 /// The tokens of a text, or its first fault.
 ///
-/// A fault's span is empty and stands where the fault does: at the first byte of the open string or
-/// comment, of the number, or of the character that begins no token; behind the longest front of the
-/// text that is UTF-8; at the start of a text that is too long. Takes memory for the tokens, names and
-/// strings, in proportion to the text, and time in proportion to it.
+/// A fault's span is empty. It is at the first byte of the open string or comment, of the number, or of the character
+/// that begins no token; after the longest prefix of the text that is UTF-8; at the start of a text that is too long.
+///
+/// Takes memory for the tokens, names and strings, in proportion to the text, and time in proportion to it.
 ///
 /// See <https://wiki.secondlife.com/wiki/LSL_Tokens>.
 pub fn lex(alloc: Global, text: &[u8]) -> Result<Tokens, Refusal<LexFault>>
@@ -58,7 +58,7 @@ pub fn lex(alloc: Global, text: &[u8]) -> Result<Tokens, Refusal<LexFault>>
     }
 }
 
-// The fault behind the longest front that is UTF-8.
+// The fault after the longest prefix that is UTF-8.
 fn not_text(text: &[u8], place: usize) -> LexFault
     requires short { length text.now ≤ source_bytes }
     requires within { place ≤ length text.now }

@@ -1,4 +1,4 @@
-//! Names that were read before: a name that stands again is shared.
+//! Names that were read before: a repeated name is shared.
 
 ghost use Rattle.std.specs.Prelude.{◌≡◌, ◌≤◌, length, IfOk};
 ghost use Rattle.std.specs.List.{AllPass};
@@ -12,7 +12,7 @@ use std::alloc::Global;
 /// How many names are kept.
 const PLACES: usize = 256;
 
-/// The last names that were read, each at the place that its bytes give.
+/// The names that were read last, each at the place that its bytes give.
 #[derive(Drop)]
 pub struct Names {
     held: Vec<Text>,

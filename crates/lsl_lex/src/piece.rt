@@ -30,7 +30,7 @@ pub struct Piece {
 }
 
 impl Piece {
-    /// Whether it is known to have no line feed: a string and a comment may have some.
+    /// Whether it surely has no line feed: a string and a comment may have some.
     pub fn keeps_line(&self) -> bool
         ensures { result ≡ keeps_line self.now.gives }
     {

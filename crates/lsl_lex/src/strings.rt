@@ -1,4 +1,4 @@
-//! Strings: where one ends, and the text that it stands for.
+//! Strings: where one ends, and the text that it means.
 
 ghost use Rattle.std.specs.Prelude.{◌≡◌, ◌+◌, ◌<◌, ◌≤◌, ◌++◌, [], ◌∷◌, length, slice_index, IfOk, IfSome, OnOk};
 ghost use Rattle.std.specs.Str.{IsUtf8, chars};
@@ -32,7 +32,7 @@ pub fn string(alloc: Global, text: &[u8]) -> Result<Piece, Refusal<LexKind>>
     }
 }
 
-// A body with no backslash is taken as it stands, and copied once.
+// A body without a backslash is copied once, as it is.
 fn body_text(alloc: Global, body: &[u8]) -> Result<Text, NoMemory>
     requires short { length body.now ≤ source_bytes }
     requires valid { IsUtf8 body.now }
@@ -69,7 +69,7 @@ fn plain_text(alloc: Global, bytes: &[u8]) -> Result<Text, NoMemory>
     }
 }
 
-// How many bytes stand before the quote that ends the string.
+// How many bytes precede the quote that ends the string.
 fn body_length(text: &[u8]) -> Option<usize>
     ensures count { result ≡ quote_of text.now }
     ensures within { IfSome result (λ n. n < length text.now) }
@@ -87,7 +87,7 @@ fn body_length(text: &[u8]) -> Option<usize>
     None
 }
 
-// How many bytes the first part of a body has: a backslash and the byte behind it, or one byte.
+// How many bytes the first part of a body has: a backslash and the byte after it, or one byte.
 fn part_length(text: &[u8]) -> usize
     requires { 0 < length text.now }
     ensures part { result ≡ part_of text.now }

@@ -112,7 +112,7 @@ impl TokenList {
     }
 }
 
-/// The tokens of a text. `end` is the empty span behind the text's last byte.
+/// The tokens of a text. `end` is the empty span after the text's last byte.
 #[derive(Drop)]
 pub struct Tokens {
     pub list: TokenList,

@@ -1,4 +1,4 @@
-//! The words that are tokens of their own. The length of a name tells which few it may be.
+//! The words that are tokens of their own. The length of a name leaves few candidates.
 
 ghost use Rattle.std.specs.Prelude.{◌≡◌};
 ghost use Rattle.lsl_lex.specs.Reading.{row_of, words_of};

@@ -56,7 +56,7 @@ number n small =
     let digits : length (decimal n) ≤ 7 = length-decimal-le 7 n (omega arith) small fits in
     record { ascii = IsAscii-decimal n fits; short = omega arith }
 
--- a number of one digit behind a text
+-- a number of one digit after a text
 behind : (before : List ℕ) (n : ℕ) → is_ascii before ≡ true → length before ≤ 39 → n < 10
     → IsWord (before ++ decimal n)
 behind before n first short small =

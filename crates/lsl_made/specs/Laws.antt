@@ -1,4 +1,4 @@
--- What holds of the steps of every made world, in the language's terms.
+-- What holds of the steps of every generated world, in the language's terms.
 use Rattle.std.specs.Prelude.{◌≡◌, ℕ, ◌≤◌, ◌<◌, List, length, Option, Some, None, All, AllPairs}
 use Rattle.lsl_made.specs.declared.step.Step.{Step}
 use Rattle.lsl_made.specs.declared.step.Step.TheVariants.{Touch, Clock, Go, Run, Cross, Pause, Say}

@@ -1,4 +1,4 @@
--- The lines of a made world: words with one space between, and a line feed.
+-- The lines of a generated world: words with one space between, and a line feed.
 use Rattle.std.specs.Prelude.{ℕ, List, [], ◌∷◌, ◌++◌, codes, decimal}
 use Rattle.std.specs.List.{join_with_byte}
 use Rattle.lsl_text.specs.Quoted.{quoted}
@@ -10,7 +10,7 @@ use Rattle.lsl_made.specs.declared.step.Step.TheVariants.{Touch, Clock, Go, Run,
 abbrev pub line : List (List ℕ) → List ℕ
 line words = join_with_byte 32 words ++ 10 ∷ []
 
--- the key that ends in these digits behind zeros
+-- the key that ends in these digits after zeros
 abbrev pub key : List ℕ → List ℕ
 key digits = codes "00000000-0000-0000-0000-0000000000" ++ digits
 

@@ -1,4 +1,4 @@
--- The script of a made world: its lines, with a line feed between.
+-- The script of a generated world: its lines, with a line feed between.
 use Rattle.std.specs.Prelude.{ℕ, List, [], ◌∷◌, codes}
 use Rattle.std.specs.List.{join_with_byte}
 

@@ -1,4 +1,4 @@
--- The text of a made world: its lines one after the other.
+-- The text of a generated world: its lines one after the other.
 use Rattle.std.specs.Prelude.{ℕ, List, [], ◌∷◌, ◌++◌, map, codes}
 use Rattle.std.specs.List.{flat_map, range_with_len}
 use Rattle.lsl_made.specs.Lines.{line, object_words, script_words, step_words}

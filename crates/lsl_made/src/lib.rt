@@ -1,7 +1,7 @@
-//! Worlds made by number: a world file of eight objects and 4,000 steps, and the script that all eight run.
+//! Generated worlds: a world file of eight objects and 4,000 steps, and the script that all eight run.
 //!
-//! One number stands for a long run with calls in flight, crossings, pauses, chat and timers, so that two programs,
-//! machines or versions can be compared by one line.
+//! A seed generates a long run with calls in flight, crossings, pauses, chat and timers, so that two programs, machines
+//! or versions can be compared by one line.
 #![tactic(auto)]
 
 ghost use Rattle.std.specs.Prelude.{◌≡◌, IfOk};
@@ -22,7 +22,7 @@ mod world;
 pub use crate::step::{Region, Step};
 pub use crate::world::Made;
 
-/// The world of a number, which may be any. Takes memory for both texts, and one pass.
+/// The world generated from a seed, which may be any number. Takes memory for both texts, and one pass.
 #[tactic(auto, using(crate::proofs::StepLaws::steps_run))]
 pub fn made(alloc: Global, number: u32) -> Result<Made, NoMemory>
     ensures world { IfOk result (λ made. made.world ≡ world_text number) }

@@ -1,4 +1,4 @@
-//! The lines of a made world. After want of memory a front of the line may have been added.
+//! The lines of a generated world. After an `Err` a prefix of the line may have been added.
 
 ghost use Rattle.std.specs.Prelude.{◌≡◌, ◌++◌, decimal, OnOk};
 ghost use Rattle.lsl_made.specs.Lines.{line, object_words, script_words};

@@ -3,7 +3,7 @@
 ghost use Rattle.std.specs.Prelude.{◌≡◌, ◌<◌};
 ghost use Rattle.lsl_made.specs.Numbers.{number_after};
 
-/// The number behind a number of the sequence. Takes no memory.
+/// The number after a number of the sequence. Takes no memory.
 #[tactic(auto, unfolding(crate::specs::Numbers::number_after))]
 pub(crate) fn number_after(x: u32) -> u32
     ensures value { result ≡ number_after x }

@@ -1,4 +1,4 @@
-//! The steps of a made world.
+//! The steps of a generated world.
 
 /// One of the two regions.
 #[derive(Clone, Copy, PartialEq, Eq)]
@@ -7,20 +7,20 @@ pub enum Region {
     B,
 }
 
-/// A step of a made world. Objects and scripts have one number, since each object has one script.
+/// A step of a generated world. Objects and scripts have one number, since each object has one script.
 #[derive(Clone, Copy, PartialEq, Eq)]
 pub enum Step {
     /// the object is touched
     Touch(u32),
-    /// the clock is at so many milliseconds
+    /// the clock is at this many milliseconds
     Clock(u32),
-    /// the script has so many ticks
+    /// the script has this many ticks
     Go(u32, u32),
-    /// all scripts have so many ticks
+    /// all scripts have this many ticks
     Run(u32),
     /// the object is sent to the region
     Cross(u32, Region),
-    /// scripts pause each so many ticks, and at 0 no more
+    /// scripts pause after each run of this many ticks; 0 ends that
     Pause(u32),
     /// the number is said
     Say(u32),
@@ -30,7 +30,7 @@ impl Region {
     ghost use Rattle.std.specs.Prelude.{◌≡◌};
     ghost use Rattle.lsl_made.specs.Steps.{region_of};
 
-    /// Where an object is sent in a step of this place, from 1. Takes no memory.
+    /// Where an object is sent in the step at this place, counted from 1. Takes no memory.
     pub(crate) fn of_place(place: u32) -> Region
         ensures { result ≡ region_of place }
     {
@@ -42,7 +42,7 @@ impl Step {
     ghost use Rattle.std.specs.Prelude.{◌≡◌, ◌≤◌, ◌/◌};
     ghost use Rattle.lsl_made.specs.Steps.{step_of};
 
-    /// The step of this place, from 1, by the number there. Takes no memory.
+    /// The step at this place, counted from 1, by the number there. Takes no memory.
     pub(crate) fn of_number(place: u32, number: u32) -> Step
         requires { place ≤ 4000 }
         ensures { result ≡ step_of place (number / 65536) }

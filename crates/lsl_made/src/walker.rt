@@ -1,4 +1,4 @@
-//! The script of a made world.
+//! The script of a generated world.
 
 ghost use Rattle.std.specs.Prelude.{◌≡◌, IfOk};
 ghost use Rattle.lsl_made.specs.Walker.{walker_text};

@@ -1,4 +1,4 @@
-//! The text of a made world.
+//! The text of a generated world.
 
 ghost use Rattle.std.specs.Prelude.{◌≡◌, ◌++◌, OnOk, IfOk};
 ghost use Rattle.std.specs.List.{flat_map};
@@ -12,20 +12,20 @@ use lsl_text::NoMemory;
 use lsl_value::Text;
 use std::alloc::Global;
 
-/// How many objects a made world has.
+/// How many objects a generated world has.
 const OBJECTS: u32 = 8;
 
-/// How many steps a made world has.
+/// How many steps a generated world has.
 const STEPS: u32 = 4_000;
 
-/// A made world: the text of its world file, and of the one file that its scripts name, `walker`.
+/// A generated world: the text of its world file, and of the one file that its scripts name, `walker`.
 #[derive(Drop)]
 pub struct Made {
     pub world: Text,
     pub script: Text,
 }
 
-/// The text of the world file of this number.
+/// The text of the world file of this seed.
 pub(crate) fn text(alloc: Global, number: u32) -> Result<Text, NoMemory>
     ensures { IfOk result (λ text. text ≡ world_text number) }
 {

@@ -16,7 +16,7 @@ no-feed : (line : List ℕ) → HasNoFeed line → All (λ b. is_feed b ≡ fals
 no-feed [] h = All-nil (λ b. is_feed b ≡ false)
 no-feed (b ∷ line) h = All-cons (λ b. is_feed b ≡ false) b line h.0 (no-feed line h.1)
 
--- the element behind others
+-- the element after others
 pub mid-at : (front : List ℕ) (b : ℕ) (rest : List ℕ) → get_or (front ++ b ∷ rest) (length front) 0 ≡ b
 mid-at [] b rest = refl
 mid-at (x ∷ front) b rest = mid-at front b rest
@@ -26,7 +26,7 @@ parts-cons : (x : List ℕ) (parts : List (List ℕ)) → 0 < length parts
 parts-cons x [] h = absurd (omega arith)
 parts-cons x (p ∷ parts) h = refl
 
--- what stands before the first feed is a line, without the return at its end
+-- what precedes the first feed is a line, without the return at its end
 pub lines-fed : (line rest : List ℕ) → HasNoFeed line
     → lines (line ++ 10 ∷ rest) ≡ strip_carriage_return line ∷ lines rest
 lines-fed line rest h =

@@ -1,4 +1,4 @@
--- The longest front that is UTF-8, and the line in which it ends.
+-- The longest prefix that is UTF-8, and the line in which it ends.
 use Rattle.std.proofs.Common.{◌≡◌, ◌∙◌, refl, sym, ap, subst, cond, ℕ, ◌+◌, ◌<◌, Bool, true, false, List, [], ◌∷◌, ◌++◌, length, take, drop, get_or, inl, inr, arith, take-add, length-append, append_assoc, lit<}
 use Rattle.std.specs.Prelude.{count_by}
 use Rattle.std.specs.Str.{IsUtf8, IsValidUpTo, IsCharBoundary}
@@ -85,7 +85,7 @@ last-line (b ∷ bytes) = at (last-line bytes) (is_feed b) refl
 feed : IsUtf8 (10 ∷ [])
 feed = (10 ∷ [], (refl, ap (λ e. e ++ []) (encode_ascii 10 (lit< tt))))
 
--- a character begins behind a line feed
+-- a character begins after a line feed
 behind-feed : (before rest : List ℕ) → EndsWithFeed before → IsUtf8 (before ++ rest)
     → IsCharBoundary (before ++ rest) (length before)
 behind-feed before rest (inl none) h =
@@ -139,7 +139,7 @@ none-counted (b ∷ line) h =
     let other : weigh (is_feed b) ≡ 0 = ap weigh h.0 in
     omega (arith, sum_by-append (λ x. cond (is_feed x) 1 0) (b ∷ []) line, other, none-counted line h.1)
 
--- what follows the longest front doesn't make it longer
+-- what follows the longest prefix doesn't make it longer
 module _ (bytes : List ℕ) (n : ℕ) (valid : IsValidUpTo bytes n) where
   longer : (more behind : List ℕ) → drop n bytes ≡ more ++ behind → 0 < length more
       → IsUtf8 (take n bytes ++ more) → ⊥
@@ -158,7 +158,7 @@ module _ (bytes : List ℕ) (n : ℕ) (valid : IsValidUpTo bytes n) where
       (IsUtf8-append (take n bytes) (10 ∷ []) valid.front feed)
   grown (c ∷ line) behind ends rest text = longer (c ∷ line) behind rest (omega arith) text
 
-  -- the line in which the longest front that is UTF-8 ends is the first that is none
+  -- the line in which the longest prefix that is UTF-8 ends is the first that isn't text
   pub first-bad : IsFirstBad bytes (1 + count_by is_feed (take n bytes))
   first-bad =
       record {

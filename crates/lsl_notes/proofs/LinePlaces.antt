@@ -13,7 +13,7 @@ use Rattle.lsl_notes.specs.Lines.{is_feed, HasNoFeed}
 use Rattle.lsl_notes.specs.Places.{HavePlaces, IsPlace}
 use Rattle.lsl_notes.proofs.Feeds.{lines-fed, last-line}
 
--- no line feed stands before the first
+-- the first line has no line feed before its end
 before : (bytes : List ℕ) → HasNoFeed (take (position_or_len is_feed bytes) bytes)
 before [] = tt
 before (b ∷ bytes) = at (is_feed b) refl (before bytes)
@@ -68,7 +68,7 @@ first-alone bytes some none =
     last-line bytes alone some
     ∙ ap (λ r. bytes ∷ lines r) (sym (drop_all (length bytes) bytes (omega arith)))
 
--- the first line begins at the text's begin
+-- the first line begins at the text's start
 pub place-first : (text : List ℕ) → IsUtf8 text → IsPlace text 0 0
 place-first text valid = record { boundary = IsCharBoundary-start text valid; rest = refl }
 
@@ -111,7 +111,7 @@ pub one-more : (text rest : List ℕ) (line place n : ℕ) → IsPlace text line
 one-more text rest line place n was same first =
     omega (arith, length-drop line (lines text), ap length (was.rest ∙ ap lines (sym same) ∙ first.1))
 
--- behind the text there is none
+-- after the text there is none
 pub all-counted : (text : List ℕ) (line place : ℕ) → IsPlace text line place → length text ≤ place
     → line ≤ length (lines text) → line ≡ length (lines text)
 all-counted text line place was past within =

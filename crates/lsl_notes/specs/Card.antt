@@ -11,15 +11,15 @@ use Rattle.lsl_notes.specs.Lines.{bad_line, IsFirstBad}
 abbrev pub most_card_bytes : ℕ
 most_card_bytes = 65536
 
--- these lines are the notecard of these bytes: a text in UTF-8, not too long, and its lines. A line is
--- followed by a line feed, but that the last may lack it where it isn't empty; a carriage return directly
--- before a line feed belongs to neither
+-- these lines are the notecard of these bytes: a text in UTF-8, not too long, and its lines. Each line is followed by a
+-- line feed, except that the last needs none if it isn't empty; a carriage return directly before a line feed belongs
+-- to neither
 pub record IsCard (bytes : List ℕ) (card : List (List ℕ)) : Type 0 where
   pub within : length bytes ≤ most_card_bytes
   pub text : IsUtf8 bytes
   pub lines : card ≡ map chars (lines bytes)
 
--- the bytes are no text, and this is the number of their first line that is none
+-- the bytes aren't text, and this is the number of their first line that isn't
 pub record IsBad (bytes : List ℕ) (line : ℕ) : Type 0 where
   pub within : length bytes ≤ most_card_bytes
   pub other : ¬ (IsUtf8 bytes)

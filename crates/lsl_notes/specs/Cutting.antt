@@ -2,12 +2,12 @@
 use Rattle.std.specs.Prelude.{ℕ, ◌-◌, nat_le, if◌then◌else◌, List, [], ◌∷◌, length}
 use Rattle.std.specs.Char.{encode_utf8}
 
--- as many characters, from the first on, as have no more bytes
+-- the longest run of first characters that has no more bytes
 unfoldable pub cut_to : ℕ → List ℕ → List ℕ
 cut_to room [] = []
 cut_to room (c ∷ text) =
     if nat_le (length (encode_utf8 c)) room then c ∷ cut_to (room - length (encode_utf8 c)) text else []
 
--- a script is told at most 1,024 bytes of a line
+-- a script receives at most 1,024 bytes of a line
 abbrev pub cut_line : List ℕ → List ℕ
 cut_line text = cut_to 1024 text

@@ -1,4 +1,4 @@
--- Lines between line feeds, and the first that is no text.
+-- Lines between line feeds, and the first that isn't text.
 use Rattle.std.specs.Prelude.{◌≡◌, ℕ, ◌+◌, ◌==◌, ◌⊎◌, Bool, false, List, [], ◌∷◌, ◌++◌, take, count_by}
 use Rattle.std.specs.List.{AllByRecursion}
 use Rattle.std.specs.Str.{IsUtf8}
@@ -19,7 +19,7 @@ EndsWithFeed before = (before ≡ []) ⊎ ((front : List ℕ) × (before ≡ fro
 abbrev pub BeginsWithFeed : List ℕ → Type 0
 BeginsWithFeed behind = (behind ≡ []) ⊎ ((back : List ℕ) × (behind ≡ 10 ∷ back))
 
--- the line of this number is no text, and all before it is
+-- the line of this number isn't text, and all lines before it are
 pub record IsFirstBad (bytes : List ℕ) (number : ℕ) : Type 0 where
   pub before : List ℕ
   pub line : List ℕ
@@ -32,6 +32,6 @@ pub record IsFirstBad (bytes : List ℕ) (number : ℕ) : Type 0 where
   pub text : IsUtf8 before
   pub other : ¬ (IsUtf8 line)
 
--- the number of the line in which the longest front that is UTF-8 ends
+-- the number of the line in which the longest prefix that is UTF-8 ends
 abbrev pub bad_line : List ℕ → ℕ
 bad_line bytes = 1 + count_by is_feed (take (utf8_valid_len bytes) bytes)

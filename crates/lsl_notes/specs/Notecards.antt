@@ -1,4 +1,4 @@
--- The notecards of a world, and what a script is told of them.
+-- The notecards of a world, and what a script receives of them.
 use Rattle.std.specs.Prelude.{ℕ, ◌+◌, ◌-◌, ◌≤◌, ◌==◌, ◌&&◌, Bool, List, [], ◌∷◌, length, Option, Some, None, position, slice_get}
 use Rattle.std.specs.Option.{option_map}
 use Rattle.std.specs.Str.{bytes_eq}
@@ -31,7 +31,7 @@ lines_of (Some n) = n.card
 abbrev pub card_at : List Notecard → ℕ → List (List ℕ)
 card_at cards number = lines_of (slice_get cards (number - 1))
 
--- three line feeds are told behind the last line
+-- three line feeds, for a line after the last
 abbrev pub end_of_card : List ℕ
 end_of_card = 10 ∷ 10 ∷ 10 ∷ []
 
@@ -39,6 +39,6 @@ abbrev pub told : Option (List ℕ) → List ℕ
 told None = end_of_card
 told (Some line) = cut_line line
 
--- what a script is told that asks for a line, counted from 0
+-- what a script receives that asks for a line, counted from 0
 abbrev pub data_of : List (List ℕ) → ℕ → List ℕ
 data_of card line = told (slice_get card line)

@@ -8,7 +8,7 @@ pub record IsPlace (text : List ℕ) (line place : ℕ) : Type 0 where
   pub boundary : IsCharBoundary text place
   pub rest : drop line (lines text) ≡ lines (drop place text)
 
--- of so many lines, each eighth from the first on has its place
+-- of `count` lines, each eighth from the first on has its place
 pub record HavePlaces (text places : List ℕ) (count : ℕ) : Type 0 where
   pub enough : count ≤ 8 * length places
   pub few : 8 * length places < count + 8

@@ -93,9 +93,10 @@ impl Cards {
         }
     }
 
-    /// What a script is told that asks for this line, counted from 0: the line's first 1,024 bytes, without
-    /// a character that would be split, or three line feeds where the notecard has no such line. Takes memory
-    /// for a copy, and walks that line and at most seven before it.
+    /// What a script receives that asks for this line, counted from 0: the line's first 1,024 bytes, without a
+    /// character that would be split, or three line feeds where the notecard has no such line.
+    ///
+    /// Takes memory for a copy, and walks that line and at most seven before it.
     pub fn line(&self, card: u32, line: u32) -> Result<Text, NoMemory>
         requires { IsListed self.now card }
         ensures { IfOk result (λ text. text ≡ data_of (card_at self.now card) line) }
@@ -125,7 +126,7 @@ impl Cards {
     }
 }
 
-// Three line feeds, which are told behind the last line.
+// Three line feeds, the answer for a line after the last.
 fn end_of_card(alloc: Global) -> Result<Text, NoMemory>
     ensures { IfOk result (λ text. text ≡ end_of_card) }
 {

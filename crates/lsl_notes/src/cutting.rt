@@ -8,10 +8,10 @@ use lsl_text::NoMemory;
 use lsl_value::Text;
 use std::alloc::Global;
 
-/// How many bytes of a line a script is told at most.
+/// A script receives at most this many bytes of a line.
 const MOST_LINE_BYTES: usize = 1_024;
 
-/// The line as a script is told it: its first 1,024 bytes, without a character that would be split.
+/// The line as a script receives it: its first 1,024 bytes, without a character that would be split.
 pub(crate) fn cut_line(alloc: Global, line: &str) -> Result<Text, NoMemory>
     ensures { IfOk result (λ cut. cut ≡ cut_line (chars line.now)) }
 {

@@ -9,8 +9,8 @@ pub fn cards_are_read_through()
     ensures { CardsAreReadThrough }
 {}
 
-/// Lines are what stands before line feeds, without a carriage return directly before one, and what stands
-/// behind the last, if anything.
+/// A line is what precedes a line feed, without a carriage return directly before that, and what follows the last line
+/// feed, if that isn't empty.
 pub fn lines_are_cut_at_feeds()
     ensures { AreCutAtFeeds }
 {}
@@ -20,7 +20,7 @@ pub fn texts_have_no_bad_line()
     ensures { TextsHaveNoBadLine }
 {}
 
-/// What is told of a line is its longest beginning of at most 1,024 bytes.
+/// What a script receives of a line is its longest prefix of at most 1,024 bytes.
 pub fn lines_are_cut()
     ensures { LinesAreLongest }
 {}

@@ -1,5 +1,4 @@
-//! Notecards: the lines of a card, the cards of a world, what a script is told of them, and the keys of its
-//! queries.
+//! Notecards: the lines of a card, the cards of a world, what a script receives of them, and the keys of its queries.
 #![tactic(auto)]
 
 mod card;

@@ -12,9 +12,8 @@ use std::alloc::Global;
 /// How many bytes a notecard has at most.
 const MOST_CARD_BYTES: usize = 65_536;
 
-/// The notecard of these bytes. Fault `TooLong` where they are more than 65,536, else `NotText` with the
-/// first line, counted from 1, that isn't UTF-8. Takes memory for the text, and a quarter of a byte for each
-/// line.
+/// The notecard of these bytes. Fault `TooLong` where they are more than 65,536, otherwise `NotText` with the first
+/// line, counted from 1, that isn't UTF-8. Takes memory for the text, and a quarter of a byte for each line.
 pub fn read_card(alloc: Global, bytes: &[u8]) -> Result<Card, Refusal<CardFault>>
     ensures ok { IfOk result (λ card. IsCard bytes.now card) }
     ensures err { IfErr result (λ refusal. IsRefused bytes.now refusal) }
@@ -28,8 +27,7 @@ pub fn read_card(alloc: Global, bytes: &[u8]) -> Result<Card, Refusal<CardFault>
     }
 }
 
-// The fault of a notecard whose longest front of UTF-8 has so many bytes: it lies in the line in which that
-// ends.
+// The fault of a notecard whose longest prefix of UTF-8 has `end` bytes: it is in the line in which that prefix ends.
 fn not_text(bytes: &[u8], end: usize) -> Refusal<CardFault>
     requires within { end ≤ length bytes.now }
     requires short { length bytes.now ≤ 65536 }

@@ -23,7 +23,7 @@ integer_of (Str text) = integer_of_text text
 integer_of (Key text) = pos 0
 integer_of (ListValue atoms) = pos 0
 
--- a value's text: an integer's is its decimal, a list's is its elements' texts, one behind another
+-- a value's text: an integer's is its decimal, a list's is its elements' texts, one after another
 abbrev pub text_of : Value → List ℕ
 text_of (Int n) = decimal_of n
 text_of (Str text) = text
@@ -53,7 +53,7 @@ cast_takes_memory StrKind ListKind = true
 cast_takes_memory KeyKind ListKind = true
 cast_takes_memory from to = false
 
--- two integers are added; a list gains what stands before or behind it; two texts are joined
+-- two integers are added; a list gains what is before or after it; two texts are joined
 abbrev pub sum_of : Value → Value → Value
 sum_of (Int a) (Int b) = Int (arithmetic_of Add a b)
 sum_of (ListValue a) right = ListValue (a ++ atoms_of right)

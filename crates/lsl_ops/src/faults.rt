@@ -2,7 +2,7 @@
 
 use std::alloc::AllocError;
 
-/// Why an operator gives no value: a zero divisor, or want of memory.
+/// Why an operator gives no value: a zero divisor, or out of memory.
 #[derive(Clone, Copy, Debug, PartialEq, Eq, Hash)]
 pub enum OpFault {
     MathError,

@@ -30,7 +30,7 @@ pub fn checked_arithmetic(op: BinaryOp, left: i32, right: i32) -> Option<i32>
     Some(arithmetic(op, left, right))
 }
 
-/// Whether the operator divides by this integer, and it is 0.
+/// Whether the operator divides by this integer, which is 0.
 #[inline(always)]
 fn divides_by_zero(op: BinaryOp, right: i32) -> bool
     ensures { result ≡ has_zero_divisor op right }

@@ -1,5 +1,5 @@
-//! Operators and casts on values: each gives the value of its row, and nothing else but `Math Error` at a zero
-//! divisor or want of memory.
+//! Operators and casts on values: each gives the value of its row, or `Math Error` at a zero divisor, or reports that
+//! it is out of memory.
 #![tactic(auto)]
 
 mod binaries;

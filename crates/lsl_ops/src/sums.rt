@@ -10,7 +10,7 @@ ghost use Rattle.lsl_ops.specs.Operations.{atoms_of, sum_of, sum_takes_memory};
 use lsl_text::NoMemory;
 use lsl_value::{Atom, Items, Text, Value};
 
-/// The sum of two integers, two strings joined, or a list with what stands before or behind it: one pass.
+/// The sum of two integers, two strings joined, or a list with a value added before or after it: one pass.
 pub(crate) fn sum(left: Value, right: Value) -> Result<Value, NoMemory>
     requires row { IsSome (sum_kind_of (kind_of left) (kind_of right)) }
     requires left { charge_of left ≤ most_charge }

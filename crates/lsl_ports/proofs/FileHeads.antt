@@ -64,7 +64,7 @@ begins-gains held then name old new count same b gain =
     let told = subst (λ z. FollowsIn z name (length old) gain.next) same gain.told in
     subst (λ z. Begins held name z) (sym gain.grew) (begins-more held name old gain.next b told)
 
--- a vector that was grown by `room` zeros, read into from its old end on, and cut off behind what came
+-- a vector that was grown by `room` zeros, read into from its old end on, and truncated after what came
 pub gains_read : (held : Option Files) (name old block piece post rest new : List ℕ) (place filler room len count : ℕ) →
     place ≡ length old → 0 < room → filler ≡ room → len ≡ place + room →
     block ≡ take (place + room) old ++ replicate filler 0 →

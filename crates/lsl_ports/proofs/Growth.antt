@@ -17,18 +17,16 @@ grew-then None b c xs ys g h = subst (λ z. Grew z c ys) g h
 grew-then (Some old) b c xs ys g h =
     let k = subst (λ z. Grew z c ys) g h in k ∙ ap Some (append_assoc old xs ys)
 
--- a list that is as before
+-- a list that is unchanged
 pub grew-same : {A : Type 0} (a b c : Option (List A)) (xs : List A) → Grew a b xs → c ≡ b → Grew a c xs
 grew-same a b c xs g e = subst (λ z. Grew a z xs) (sym e) g
 
--- of what follows
 pub begins-after : {A : Type 0} (xs ys all : List A) → Begins ys all → Begins (xs ++ ys) (xs ++ all)
 begins-after xs ys all b = record {
   others = b.others;
   whole = append_assoc xs ys b.others ∙ ap (λ z. xs ++ z) b.whole;
 }
 
--- of what there is more of
 pub begins-more : {A : Type 0} (xs all more : List A) → Begins xs all → Begins xs (all ++ more)
 begins-more xs all more b = record {
   others = b.others ++ more;

@@ -11,7 +11,7 @@ abbrev pub FollowsFile : Option (List ℕ) → ℕ → List ℕ → Type 0
 FollowsFile None place next = ⊥
 FollowsFile (Some file) place next = Follows file place next
 
--- where the shelf tells, the next bytes of the file of that name are these
+-- where the shelf reports its files, the next bytes of the file of that name are these
 abbrev pub FollowsIn : Option Files → List ℕ → ℕ → List ℕ → Type 0
 FollowsIn None name place next = Unit {0}
 FollowsIn (Some files) name place next = FollowsFile (files name) place next

@@ -11,8 +11,8 @@ pub record NamedBytes : Type 0 where
   pub name : List ℕ
   pub bytes : List ℕ
 
--- a shelf in memory: its files, the counts of their faults and behind them that of all other names,
--- the numbers of the calls that fail, and how many calls there were
+-- a shelf in memory: its files, the counts of their faults and then that of all other names, the numbers of the calls
+-- that fail, and how many calls there were
 pub record ShelfState : Type 0 where
   pub files : List NamedBytes
   pub faults : List ℕ
@@ -76,7 +76,7 @@ files_of files name = option_map (λ file. file.bytes) (slice_get files (place_o
 abbrev pub faults_of : ShelfState → List ℕ → ℕ
 faults_of s name = slice_index s.faults (place_of s.files name)
 
--- the next call fails: it is to, or there is no file of that name
+-- the next call fails: it is set to fail, or there is no file of that name
 abbrev pub fails_at : ShelfState → List ℕ → Bool
 fails_at s name = fails_next s.failing s.calls || (place_of s.files name == length s.files)
 
@@ -96,7 +96,7 @@ abbrev pub new_sink : ℕ → ℕ → List ℕ → SinkState
 new_sink room most failing =
     record { taken = []; room = room; most = most; failing = failing; calls = 0; faults = 0 }
 
--- the next call with a piece fails: it is to, or the piece isn't empty and finds the room full
+-- the next call with a piece fails: it is set to fail, or the piece isn't empty and the sink is full
 abbrev pub refuses : SinkState → List ℕ → Bool
 refuses s piece = fails_next s.failing s.calls || ((length s.taken == s.room) && not (length piece == 0))
 

@@ -20,7 +20,7 @@ CameBackSo Intact sent (Some back) = (back ≡ sent) ⊎ (Intact back → ⊥)
 abbrev pub Honest : (List ℕ → Type 0) → List Trip → Type 0
 Honest Intact trips = All (λ (t : Trip). CameBackSo Intact t.sent t.back) trips
 
--- these trips were made, as a link of this kind may make them; they are added where the link tells
+-- a link of this kind may make these trips; they are added where the link reports its trips
 pub record Went (gives : List ℕ → Option (List ℕ) → Type 0) (old new : Option (List Trip)) (trips : List Trip)
     : Type 0 where
   pub grew : Grew old new trips

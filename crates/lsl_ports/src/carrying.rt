@@ -24,9 +24,10 @@ impl From<AllocError> for LinkFault {
     }
 }
 
-/// A link takes bytes and gives bytes back. It may tell its trips, each with what was sent and what came back,
-/// and counts its faults. What any link of the type may give for what it is sent is known also of one that
-/// tells nothing.
+/// Takes bytes and gives bytes back.
+///
+/// A link may report its trips, each with what was sent and what came back. It counts its faults. What any link of the
+/// type may give for what it is sent is known even if it reports no trips.
 pub trait Link {
     ghost trips: { Self → Option (List Trip) };
 

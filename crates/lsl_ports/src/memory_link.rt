@@ -1,4 +1,4 @@
-//! A link whose trips are in memory. It fails at the calls that it is told to, and damages or replaces what comes
+//! A link whose trips are in memory. It fails at the calls that are set to fail, and damages or replaces what comes
 //! back of others.
 ghost use Rattle.std.specs.Prelude.{◌≡◌, ◌≤◌, ◌⊎◌, [], ◌∷◌, ◌++◌, Some, None, ◌==◌, option_map, IfOk, IsErrOf, OnErr, OnOk};
 ghost use Rattle.std.specs.List.{find};
@@ -158,9 +158,11 @@ fn apply_damages(damages: &[Damage], call: u64, bytes: &mut [u8])
     }
 }
 
-/// A link in memory, which tells its trips. Calls are counted from 1, and those whose numbers it was given fail: its
-/// count of faults rises at these. What comes back of the others is what was sent, or the first replacement with the
-/// call's number, with all damages of this number applied in order. A call that lacks memory isn't counted.
+/// A link in memory, which reports its trips. Calls are counted from 1.
+///
+/// The calls whose numbers it was given fail, and each adds to its count of faults. The others bring back what was
+/// sent, or the first replacement with the call's number, with all damages of that number applied in order. A call that
+/// runs out of memory isn't counted.
 #[derive(Drop)]
 pub struct MemoryLink {
     trips: Vec<StoredTrip>,
@@ -187,8 +189,8 @@ impl Model for MemoryLink {
 }
 
 impl MemoryLink {
-    /// A link whose calls with the numbers in `failing` fail, and which else brings back what was sent. It takes no
-    /// memory.
+    /// A link whose calls with the numbers in `failing` fail, and which otherwise brings back what was sent. It takes
+    /// no memory.
     pub fn new(alloc: Global, failing: Vec<u64>) -> MemoryLink
         ensures { result ≡ new_link failing.items [] [] }
     {

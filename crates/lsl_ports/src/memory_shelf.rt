@@ -1,4 +1,4 @@
-//! A shelf whose files are in memory. It fails at the calls that it is told to.
+//! A shelf whose files are in memory. It fails at the calls that are set to fail.
 ghost use Rattle.std.specs.Prelude.{◌≡◌, ◌≤◌, ◌↔◌, ℕ, List, Some, length, position, IfOk, IsTrue, OnErr, IsErr};
 ghost use Rattle.std.specs.Str.{bytes_eq};
 ghost use Rattle.lsl_ports.specs.Counts.{Rose, NoneFell, raised};
@@ -42,7 +42,7 @@ impl StoredFile {
         self.name.as_str() == name
     }
 
-    /// Copies bytes from `place` on into the piece, and answers how many.
+    /// Copies bytes from `place` on into the piece, and returns how many.
     fn copy_into(&self, place: u64, piece: &mut [u8]) -> usize
         ensures within { result ≤ length piece.new }
         ensures copied { Copies self.now.bytes place piece.new result }
@@ -75,10 +75,11 @@ fn find_file(files: &[StoredFile], name: &str) -> usize
     position_of(files, name).unwrap_or(files.len())
 }
 
-/// A shelf in memory, which tells what it holds. Calls are counted from 1, also one with an empty
-/// piece, and those whose numbers it was given fail. It has one count of faults for each file and
-/// one for all other names together; they rise at the calls that fail and at a name that it
-/// doesn't hold. Of two files of one name the first counts.
+/// A shelf in memory, which reports what it holds. Calls are counted from 1, also one with an empty piece.
+///
+/// The calls whose numbers it was given fail. It has one count of faults for each file and one for all other names
+/// together. A count rises at a call that fails and at a name that the shelf doesn't hold. Of two files of one name the
+/// first counts.
 #[derive(Drop)]
 pub struct MemoryShelf {
     files: Vec<StoredFile>,

@@ -1,4 +1,4 @@
-//! A sink whose bytes are in memory. It fails at the calls that it is told to.
+//! A sink whose bytes are in memory. It fails at the calls that are set to fail.
 ghost use Rattle.std.specs.Prelude.{◌≡◌, ◌<◌, ◌≤◌, ◌↔◌, ℕ, List, Some, length, take, IfOk, IsTrue, OnErr, IsErr};
 ghost use Rattle.lsl_ports.specs.Counts.{Rose, raised};
 ghost use Rattle.lsl_ports.specs.Growth.{Grew};
@@ -8,10 +8,10 @@ use crate::{Failed, Sink};
 use std::alloc::{AllocError, Global};
 use std::marker::Model;
 
-/// A sink in memory, which tells what it took. Calls are counted from 1, also one with an empty
-/// piece, and those whose numbers it was given fail. Its count of faults rises at these calls and
-/// at a piece that isn't empty and finds the room full. Otherwise it takes as much as fits, up to the
-/// greatest count that one call takes.
+/// A sink in memory, which reports what it took. Calls are counted from 1, also one with an empty piece.
+///
+/// The calls whose numbers it was given fail. Its count of faults rises at these calls, and at a piece that isn't empty
+/// when the sink is full. Otherwise it takes as much as fits, up to the most that one call takes.
 #[derive(Drop)]
 pub struct MemorySink {
     taken: Vec<u8>,
@@ -50,8 +50,8 @@ impl MemorySink {
         MemorySink::with_most(alloc, room, usize::MAX, failing)
     }
 
-    /// A sink with room for that many bytes, whose calls with the numbers in `failing` fail, and of which one call
-    /// takes at most so many bytes, which are at least 1. It takes the memory for its room, and none afterwards.
+    /// A sink with room for `room` bytes, whose calls with the numbers in `failing` fail, and which takes at most
+    /// `most` bytes in one call. `most` is at least 1. It takes the memory for its room, and none afterwards.
     pub fn with_most(
         alloc: Global,
         room: usize,

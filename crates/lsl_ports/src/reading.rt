@@ -36,16 +36,16 @@ impl From<AllocError> for ShelfFault {
     }
 }
 
-/// Files by name. A shelf may tell what it holds, which never changes, and counts its faults
-/// for each name.
+/// Files by name.
+///
+/// A shelf may report what it holds, which never changes. It counts its faults for each name.
 pub trait Shelf {
     ghost held: { Self → Option Files };
 
     ghost faults: { Self → List ℕ → ℕ };
 
-    /// Copies bytes of the file from `place` on into the piece, and answers how many. 0 for a
-    /// piece that isn't empty is the file's end. A missing name is a fault. An empty piece is
-    /// allowed.
+    /// Copies bytes of the file from `place` on into the piece, and returns how many. 0 for a piece that isn't empty is
+    /// the file's end. A missing name is a fault. An empty piece is allowed.
     fn read(&mut self, name: &str, place: u64, piece: &mut [u8]) -> Result<usize, Failed>
         ensures within { IfOk result (λ count. count ≤ length piece.new) }
         ensures ok { IfOk result (λ count. Reads (held self.old) name.now place piece.new count) }

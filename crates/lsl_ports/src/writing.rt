@@ -5,14 +5,16 @@ ghost use Rattle.lsl_ports.specs.Growth.{Grew, GrewPartly};
 
 use crate::Failed;
 
-/// A sink takes bytes in order. It may tell which, and counts its faults.
+/// Takes bytes in order.
+///
+/// A sink may report which bytes it took. It counts its faults.
 pub trait Sink {
     ghost sunk: { Self → Option (List ℕ) };
 
     ghost faults: { Self → ℕ };
 
-    /// Takes a prefix of the piece, and answers its length. Of a piece that isn't empty it takes
-    /// at least one byte, or fails. An empty piece is allowed.
+    /// Takes a prefix of the piece, and returns its length. Of a piece that isn't empty it takes at least one byte, or
+    /// fails. An empty piece is allowed.
     fn write(&mut self, piece: &[u8]) -> Result<usize, Failed>
         ensures within { IfOk result (λ count. count ≤ length piece.now) }
         ensures some { IfOk result (λ count. 0 < length piece.now → 0 < count) }

@@ -74,7 +74,7 @@ constant_value_of LinksetDataReset = Int (pos 0)
 constant_value_of LinksetDataUpdate = Int (pos 1)
 constant_value_of LinksetDataDelete = Int (pos 2)
 
--- the value that a constant stands for
+-- the value of a constant
 abbrev pub value_of_constant : ConstantValue → Value
 value_of_constant (IntConstant n) = Int n
 value_of_constant (StrConstant text) = Str text.now

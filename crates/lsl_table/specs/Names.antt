@@ -18,7 +18,7 @@ Finds {Id} name_of name found = MatchOption found ((id : Id) → name_of id ≢ 
 abbrev pub NamesDiffer : {Id : Type 0} → (Id → List ℕ) → Type 0
 NamesDiffer {Id} name_of = (a b : Id) → name_of a ≡ name_of b → a ≡ b
 
--- the first of these that has the name
+-- the first of these with the name
 abbrev pub first_named : {Id : Type 0} → (Id → List ℕ) → List ℕ → List Id → Option Id
 first_named name_of name [] = None
 first_named name_of name (x ∷ xs) = if bytes_eq (name_of x) name then Some x else first_named name_of name xs

@@ -22,17 +22,17 @@ pub enum Home {
     SetLimit,
     /// by the machine: how much it may be charged
     GetLimit,
-    /// by the host, which only tells something
+    /// by the host, which only reads the world
     Query,
     /// by the host, in the mailbox of the script that asks
     Mail,
     /// by the host, which says or sends something, or names a prim
     Act,
-    /// by the host, in the store of the object, whose scripts are told of a change
+    /// by the host, in the store of the object, whose scripts get an event about a change
     Store,
-    /// by the host: the script that asks is told of a notecard
+    /// by the host: the script that asks gets the data of a notecard
     Note,
-    /// by the host: the script sleeps, and a tick passes behind the answer
+    /// by the host: the script sleeps, and a tick passes after the answer
     Sleep,
     /// by the machine: the handler ends, and the script is reset
     Reset,
@@ -48,7 +48,7 @@ pub struct Row {
 }
 
 /// The table of calls, one row each: `$then!` of what is given in brackets, and of the rows. No call's name, kinds or
-/// home stand anywhere else (<https://wiki.secondlife.com/wiki/Category:LSL_Functions>).
+/// home appear anywhere else (<https://wiki.secondlife.com/wiki/Category:LSL_Functions>).
 #[macro_export]
 macro_rules! builtins {
     ($then:ident $($given:tt)*) => {

@@ -1,4 +1,4 @@
--- Bytes that stand for themselves in quotes.
+-- Bytes that need no escape in quotes.
 use Rattle.std.proofs.Common.{append_assoc, length-drop, Result, Ok, Err, ◌≡◌, ℕ, ◌+◌, ◌≤◌, ◌<◌, zero, suc, Bool, true, false, ◌==◌, ◌||◌, cond, List, [], ◌∷◌, ◌++◌, Option, None, Some, length, take, drop, refl, sym, ap, subst, append-nil, ◌∙◌, arith}
 use Rattle.std.specs.Prelude.{MatchOption, OnOk, slice_index}
 use Rattle.std.specs.Result.{is_ok}
@@ -10,7 +10,7 @@ use Rattle.std.proofs.lemmas.List.Concat.{flat_map-cons}
 use Rattle.memchr.specs.Find.{IsFirstByte, Nowhere, Passes, is_byte3}
 use Rattle.lsl_text.specs.Quoted.{EscapesAt, escaped}
 
--- a byte that the search passes by stands for itself
+-- a byte that the search passes needs no escape
 escaped-plain : (b : ℕ) → ¬ (is_byte3 34 92 10 b ≡ true) → escaped b ≡ b ∷ []
 escaped-plain b plain = cases (b == 34) (b == 92) (b == 10) plain
   where
@@ -52,7 +52,7 @@ found text (Some k) h =
           (escaped-to text k h.0.high h.0.before);
     }
 
--- one more run, and the byte behind it
+-- one more run, and the byte after it
 pub run_more : (text rest run old out mid new : List ℕ) (d k : ℕ) → EscapesAt rest k
     → out ≡ old ++ flat_map escaped (take d text)
     → mid ≡ out ++ run → new ≡ mid ++ escaped (slice_index text (d + k)) → rest ≡ drop d text

@@ -14,7 +14,7 @@ decimal_of (negsuc n) = 45 ∷ decimal (suc n)
 abbrev pub is_blank : ℕ → Bool
 is_blank b = (nat_le 9 b && nat_le b 13) || b == 32
 
--- the integer that a number stands for: one that fits 32 bits wraps, and a greater one is -1
+-- the integer that a number means: one that fits 32 bits wraps, and a greater one is -1
 abbrev pub wrapped : ℕ → ℤ
 wrapped n = if nat_le n 4294967295 then cast_signed w32 n else negsuc 0
 
@@ -30,11 +30,11 @@ begins_hexadecimal _ = false
 unfoldable pub unsigned_integer : List ℕ → ℤ
 unsigned_integer text = if begins_hexadecimal text then digits_integer 16 (drop 2 text) else digits_integer 10 text
 
--- the integer behind an optional sign; a minus sign negates it, and -2147483648 to itself
+-- the integer after an optional sign; a minus sign negates it, and -2147483648 to itself
 abbrev pub signed_integer : List ℕ → ℤ
 signed_integer text = if slice_index text 0 == 45 then int_wrapping_neg w32 (unsigned_integer (drop 1 text))
     else (if slice_index text 0 == 43 then unsigned_integer (drop 1 text) else unsigned_integer text)
 
--- the integer that a text begins with, behind blanks
+-- the integer that a text begins with, after blanks
 abbrev pub leading_integer_of : List ℕ → ℤ
 leading_integer_of text = signed_integer (drop (prefix_len is_blank text) text)

@@ -7,15 +7,15 @@ use Rattle.lsl_text.specs.declared.cursor.Cursor.{Cursor}
 abbrev pub is_line_feed : ℕ → Bool
 is_line_feed b = b == 10
 
--- the line behind these bytes: one more than the line feeds among them
+-- the line after these bytes: one more than the line feeds among them
 abbrev pub line_behind : List ℕ → ℕ
 line_behind front = count_by is_line_feed front + 1
 
--- the column behind these bytes: one more than the bytes behind their last line feed
+-- the column after these bytes: one more than the bytes after their last line feed
 abbrev pub column_behind : List ℕ → ℕ
 column_behind front = suffix_len (λ b. not (is_line_feed b)) front + 1
 
--- the part of a text that stands behind the front
+-- the part of a text after this prefix
 abbrev pub span_of : List ℕ → List ℕ → Span
 span_of front part = record {
   start = length front;
@@ -25,7 +25,7 @@ span_of front part = record {
   col = column_behind front;
 }
 
--- the cursor stands behind these bytes
+-- the cursor is right after these bytes
 pub record IsBehind (front : List ℕ) (cursor : Cursor) : Type 0 where
   pub offset : cursor.offset ≡ length front
   pub line : cursor.line ≡ line_behind front

@@ -4,9 +4,9 @@ ghost use Rattle.std.specs.Prelude.{◌+◌, ◌≤◌};
 
 use crate::Span;
 
-/// A place of a text: the number of the byte there, and its line and column.
+/// A place in a text: the byte's offset, and its line and column.
 ///
-/// A cursor holds no text: each call is given the text that it goes over. It takes no memory.
+/// A cursor holds no text: each call takes the text that the cursor moves over. It takes no memory.
 #[derive(Clone, Copy, Debug, PartialEq, Eq)]
 pub struct Cursor {
     pub offset: u32,
@@ -40,7 +40,7 @@ impl Cursor {
         text.get(self.offset as usize).copied()
     }
 
-    /// Goes on by one byte: behind a line feed a line begins, and behind any other byte a column.
+    /// Moves forward by one byte. After a line feed a new line begins, after any other byte a new column.
     pub fn step(&mut self, text: &[u8])
         requires byte { self.old.offset < length text.now }
         requires room { self.old.offset < 4294967294 }
@@ -64,7 +64,7 @@ impl Cursor {
         }
     }
 
-    // The cursor behind this byte.
+    // The cursor after this byte.
     fn behind(&self, b: u8) -> Cursor
         requires { self.now.offset < 4294967294 }
         ensures next { result.offset ≡ self.now.offset + 1 }

@@ -14,7 +14,7 @@ pub use crate::cursor::Cursor;
 pub use crate::number::{behind_blanks, is_blank, leading_integer, push_decimal};
 pub use crate::quote::push_quoted;
 
-/// Want of memory: the allocator's error.
+/// Out of memory: the allocator's error.
 pub type NoMemory = AllocError;
 
 /// A part of a source text: the bytes from `start` up to `end`, and the line and the column of `start`.
@@ -27,7 +27,7 @@ pub struct Span {
     pub col: u32,
 }
 
-/// Why there is no answer: a fault of the input, or want of memory.
+/// Why there is no answer: a fault of the input, or out of memory.
 #[derive(Clone, Copy, Debug, PartialEq, Eq, Drop)]
 pub enum Refusal<F> {
     Fault(F),

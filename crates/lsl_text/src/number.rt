@@ -21,11 +21,11 @@ pub fn push_decimal(out: &mut Vec<u8>, n: i64) -> Result<(), NoMemory>
     out.extend_from_slice(buffer.format(n).as_bytes())
 }
 
-/// The integer that a text begins with: blanks, a sign or none, and then `0x` or `0X` with hexadecimal
-/// digits, or decimal digits, as far as they go.
+/// The integer at the start of a text: blanks, an optional sign, and then `0x` or `0X` with hexadecimal digits, or
+/// decimal digits, as far as they go.
 ///
-/// Without a digit it is 0. A number up to 4294967295 wraps to 32 bits, and a greater one is -1; the
-/// sign comes last, and wraps. See <https://wiki.secondlife.com/wiki/Typecast>. It takes no memory.
+/// Without a digit it is 0. A number up to 4294967295 wraps to 32 bits, and a greater one is -1; the sign is applied
+/// last, and wraps. It takes no memory. See <https://wiki.secondlife.com/wiki/Typecast>.
 pub fn leading_integer(text: &[u8]) -> i32
     ensures { result ≡ leading_integer_of text.now }
 {
@@ -39,7 +39,7 @@ pub fn is_blank(b: u8) -> bool
     (9 <= b && b <= 13) || b == b' '
 }
 
-/// What stands behind the blanks at a text's head. Takes no memory.
+/// The text without its leading blanks. Takes no memory.
 pub fn behind_blanks(text: &[u8]) -> &[u8]
     ensures { result.now ≡ drop (prefix_len is_blank text.now) text.now }
 {

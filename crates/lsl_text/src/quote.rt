@@ -7,8 +7,7 @@ ghost use Rattle.lsl_text.specs.Quoted.{EscapesAt, escaped, quoted};
 use crate::NoMemory;
 use memchr::memchr3;
 
-/// Appends the text in quotes: `"` and `\` stand behind a `\`, a line feed is `\n`, and every other
-/// byte is itself.
+/// Appends the text in quotes: `"` and `\` follow a `\`, a line feed becomes `\n`, and every other byte is copied.
 ///
 /// Takes memory where the vector grows; after an `Err` the vector is unchanged.
 pub fn push_quoted(out: &mut Vec<u8>, text: &[u8]) -> Result<(), NoMemory>
@@ -23,7 +22,7 @@ pub fn push_quoted(out: &mut Vec<u8>, text: &[u8]) -> Result<(), NoMemory>
     pushed
 }
 
-// After an `Err` a front of the quoted text may stand behind the old bytes.
+// After an `Err` a prefix of the quoted text may follow the old bytes.
 fn push_parts(out: &mut Vec<u8>, text: &[u8]) -> Result<(), NoMemory>
     ensures ok { OnOk result (out.new.items ≡ out.old.items ++ quoted text.now) }
     ensures front { OnErr result (take (vec_len out.old) out.new.items ≡ out.old.items) }
@@ -34,7 +33,7 @@ fn push_parts(out: &mut Vec<u8>, text: &[u8]) -> Result<(), NoMemory>
     Ok(())
 }
 
-// Copies each run of bytes that stand for themselves at once, and behind it the byte that is escaped.
+// Copies each run of bytes that need no escape at once, and then the escaped byte.
 fn push_body(out: &mut Vec<u8>, text: &[u8]) -> Result<(), NoMemory>
     ensures ok { OnOk result (out.new.items ≡ out.old.items ++ flat_map escaped text.now) }
     ensures front { OnErr result (take (vec_len out.old) out.new.items ≡ out.old.items) }

@@ -3,7 +3,7 @@ use Rattle.lsl_made.specs.Numbers.{number_at}
 use Rattle.lsl_made.proofs.WorldLines.{steps_text}
 use Rattle.lsl_made.proofs.world.push_steps.Given as goal
 
--- so many steps have passed, and stand behind the old bytes
+-- this many steps are done, and follow the old bytes
 pub record ArePassed (number passed x : ℕ) (old out : List ℕ) : Type 0 where
   pub at : x ≡ number_at number passed
   pub text : out ≡ old ++ steps_text number passed
