@@ -14,7 +14,7 @@ use Rattle.lsl_build.proofs.FirstFault.{one_fault}
 abbrev Answer : Type 0 → Type 0
 Answer B = prelude.Result B (Refusal BuildFault)
 
--- what is found is a program of the text
+-- a program that is found is one of the text
 abbrev Found : {B : Type 0} → (B → Program) → List ℕ → Answer B → Type 0
 Found program text r = IfOk r (λ b. Accepted text (program b))
 

@@ -47,7 +47,7 @@ same_semantic text a b h k =
     h.fault_is ∙ ap semantic_fault_of (one_breach k.script h.semantic k.semantic first k.first)
     ∙ sym k.fault_is
 
--- tokens with a syntax fault are no script
+-- tokens with a syntax fault aren't a script
 syntactic-no_script : (text : List ℕ) (a b : BuildFault) → IsSyntactic text a → IsSemantic text b → ⊥
 syntactic-no_script text a b h k =
     let derived = derived_as text k.tokens h.tokens k.lexed h.lexed k.script k.derived in

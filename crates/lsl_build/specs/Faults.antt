@@ -1,4 +1,4 @@
--- The first fault of a text: a lexical one, else a syntax fault, else one of names and kinds.
+-- The first fault of a text: a lexical one, otherwise a syntax fault, otherwise one of names and kinds.
 use Rattle.std.specs.Prelude.{◌≡◌, ℕ, List, ◌⊎◌}
 use Rattle.lsl_text.specs.declared.Refusal.{Refusal}
 use Rattle.lsl_text.specs.declared.Refusal.TheVariants as refusals
@@ -65,7 +65,7 @@ pub record IsSemantic (text : List ℕ) (fault : BuildFault) : Type 0 where
 abbrev pub FirstFault : List ℕ → BuildFault → Type 0
 FirstFault text fault = IsLexical text fault ⊎ (IsSyntactic text fault ⊎ IsSemantic text fault)
 
--- this fault, or want of memory
+-- this fault, or out of memory
 abbrev pub IsThat : BuildFault → Refusal BuildFault → Type 0
 IsThat fault (refusals.Fault other) = other ≡ fault
 IsThat fault refusals.NoMemory = Unit {0}

@@ -5,7 +5,7 @@ ghost use Rattle.sha2.specs.Sha256.{sha256};
 
 use sha2::{Digest, Sha256};
 
-// The SHA-256 of a text, by FIPS 180-4.
+/// The SHA-256 of a text, by FIPS 180-4.
 pub(crate) fn digest_of(text: &[u8]) -> [u8; 32]
     ensures { result ≡ sha256 text.now }
 {

@@ -8,8 +8,8 @@ use lsl_parse::ParseFault;
 use lsl_text::{Refusal, Span};
 use lsl_type::TypeFault;
 
-/// Why a script isn't accepted: the fault's number, and where it stands. Lexical faults have the numbers
-/// 1 to 6, those of the grammar 10 to 14, and those of names and kinds 20 to 31.
+/// Why a script isn't accepted: the fault's number, and its place. Lexical faults have the numbers 1 to 6, those of the
+/// grammar 10 to 14, and those of names and kinds 20 to 31.
 #[derive(Clone, Copy, PartialEq, Eq)]
 pub struct BuildFault {
     pub number: u8,

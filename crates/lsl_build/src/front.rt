@@ -17,7 +17,7 @@ use lsl_tree::Program;
 use lsl_type::check;
 use std::alloc::Global;
 
-// The checked program of a text, or its first fault. The tokens and the tree are dropped.
+/// The checked program of a text, or its first fault. The tokens and the tree are dropped.
 pub(crate) fn checked(alloc: Global, text: &[u8]) -> Result<Program, Refusal<BuildFault>>
     ensures found { IfOk result (λ p. Accepted text.now (program_of p)) }
     ensures shaped { IfOk result (λ p. IsShaped (program_of p)) }

@@ -52,10 +52,11 @@ pub fn accept(alloc: Global, text: &[u8]) -> Result<Program, Refusal<BuildFault>
 
 /// The program and the woven code of a text of UTF-8, or its first fault.
 ///
-/// A lexical fault comes before any fault of the grammar, and that before any of names and kinds. The span is
-/// that of the lexical fault, of the token, or of the part of the script. The code's digest is the SHA-256 of
-/// the text. Takes memory for the tokens, the tree, the program and the code; want of memory also where the
-/// code passes the ranges of its numbers.
+/// A lexical fault comes before any fault of the grammar, and that before any of names and kinds. The span is that of
+/// the lexical fault, of the token, or of the part of the script. The code's digest is the SHA-256 of the text.
+///
+/// Takes memory for the tokens, the tree, the program and the code. Out of memory also where the code passes the ranges
+/// of its numbers.
 pub fn build(alloc: Global, text: &[u8]) -> Result<Built, Refusal<BuildFault>>
     // What is found is the program of the text.
     ensures found { IfOk result (λ b. Accepted text.now (program_of b.program)) }
@@ -69,7 +70,7 @@ pub fn build(alloc: Global, text: &[u8]) -> Result<Built, Refusal<BuildFault>>
     // The code is that of the text and its program, and runs as the program is meant.
     ensures code { IfOk result (λ b. IsCodeOf text.now (program_of b.program) b.code) }
     ensures meaning { IfOk result (λ b. Agrees (bodies_of b.code) (program_of b.program)) }
-    // It asks at no more places than the program has nodes.
+    // It makes host calls at no more places than the program has nodes.
     ensures asks { IfOk result (λ b. hosts_of (bodies_of b.code) ≤ nodes_of (program_of b.program)) }
     // It saves any machine of it at a tick as its frames, and restores frames to the machine that has them.
     ensures weaves { IfOk result (λ b. Weaves b.code) }
@@ -80,7 +81,7 @@ pub fn build(alloc: Global, text: &[u8]) -> Result<Built, Refusal<BuildFault>>
     compiled(alloc, text)
 }
 
-// What `build` does, as far as it is said of what is found and of a fault.
+// Does what `build` does, as far as its clauses name what is found and the fault.
 fn compiled(alloc: Global, text: &[u8]) -> Result<Built, Refusal<BuildFault>>
     ensures found { IfOk result (λ b. Accepted text.now (program_of b.program)) }
     ensures first { (fault : Fault) → IsErrOf result (refusals.Fault fault) → FirstFault text.now fault }

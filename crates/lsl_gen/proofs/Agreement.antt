@@ -1,4 +1,4 @@
--- A routine's code, run from its start, comes to what the routine means.
+-- A routine's code, run from its start, results in what the routine means.
 use Rattle.std.proofs.Common.{◌≡◌, ℕ, zero, suc, List, [], Bool, true, false, cond, map, Option, Some, None, option_map, refl, ap, ◌∙◌, arith, slice_get}
 use Rattle.std.specs.Prelude.{is_some}
 use Rattle.std.proofs.lemmas.Option.{slice_get-map}

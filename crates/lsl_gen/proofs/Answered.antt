@@ -15,7 +15,7 @@ use Rattle.lsl_meaning.specs.State.{State, Site, Evaluation, Gives, Stops, bind,
 abbrev pub with_answers : State → List Reply → State
 with_answers s answers = record s { answers = answers }
 
--- one of these answers is none to its call; with those before it alone, the call asks
+-- one of these answers isn't one to its call; with those before it alone, the call asks
 pub record IsAnsweredWrong {A : Type 0} (answers : List Reply) (f : List Reply → Evaluation A) : Type 0 where
   pub before : List Reply
   pub given : Reply
@@ -26,14 +26,14 @@ pub record IsAnsweredWrong {A : Type 0} (answers : List Reply) (f : List Reply �
   pub asks : f before ≡ Stops (Asks id asked)
   pub wrong : is_answered_by id given ≡ false
 
--- some of these answers are taken, and whatever stands behind them is left
+-- some of these answers are taken, and whatever follows them is left
 pub record TakesAnswers {A : Type 0} (answers : List Reply) (f : List Reply → Evaluation A) (a : A)
     (t : State) : Type 0 where
   pub taken : List Reply
   pub split : answers ≡ taken ++ t.answers
   pub same : (more : List Reply) → f (taken ++ more) ≡ Gives a (with_answers t more)
 
--- what comes of an evaluation with these answers, whose result is as P says
+-- the result of an evaluation with these answers is as P says
 abbrev pub Comes : {A : Type 0} → (A → Type 0) → List Reply → (List Reply → Evaluation A) → Evaluation A → Type 0
 Comes P answers f (Gives a t) = P a × TakesAnswers answers f a t
 Comes P answers f (Stops Lost) = IsAnsweredWrong answers f
@@ -96,7 +96,7 @@ both_come P Q answers f go next (Stops Lost) first =
     }
 both_come P Q answers f go next (Stops w) first = tt
 
--- one evaluation behind another
+-- one evaluation after another
 pub bind_sound : {A B : Type 0} (P : A → Type 0) (Q : B → Type 0) (answers : List Reply)
     (f : List Reply → Evaluation A) (go : A → State → Evaluation B) → Sound P answers f
     → ((a : A) (t : State) → P a → Sound Q t.answers (λ x. go a (with_answers t x)))

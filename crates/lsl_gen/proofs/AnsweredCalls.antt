@@ -117,7 +117,7 @@ builtin_sound form.AskedAndWaits id line args site s fits =
 builtin_sound form.Resets id line args site s fits = record { comes = tt }
 
 module _ (p : Program) (shaped : IsShaped p) where
-  -- behind a tick nothing is lost but by such an answer
+  -- after a tick nothing is lost but by such an answer
   abbrev pub LowerSound : Lower → Type 0
   LowerSound low =
       (a : Action) (from : Option ℕ) (has : Bool) (labels : List ℕ) (site : Site) (s : State)

@@ -221,7 +221,7 @@ generated_hosts p =
     subst (λ (bodies : List Body). hosts_of bodies ≤ nodes_of p) (sym (bodies_generated p))
     (bodies_hosts p (routines_of p))
 
--- what the end of a run tells
+-- what the end of a run shows
 cut_told : (bodies : List Body) (h : Halt) (calls : List ActiveCall) → told bodies h ≡ whole.Cut calls
     → (m : Machine) × (h ≡ CutAt m)
 cut_told bodies (CutAt m) calls e = (m, refl)

@@ -145,7 +145,7 @@ module _ (bodies : List Body) (law : (t : ℕ) (m : Machine)
       from_sim _ _ _ _ _ (ap (λ l. at bodies law f outer s pc (l ++ ops)) none ∙ step)
       (pushed_sim has v pc q ops ops s result le e)
 
-  -- a limit that was got or not, and what is told of it
+  -- a limit that was set or not, and the answer
   limit_sim : (limit : Option ℕ) (has : Bool) (pc q : ℕ) (from ops : List Value) (s : State) → true ≡ has
       → s.ticks ≤ n → pc + 1 ≡ q
       → Sim (Results n has) (λ o t. at bodies law f outer t q (pushed o ops))

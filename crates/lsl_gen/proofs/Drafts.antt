@@ -1,4 +1,4 @@
--- A draft can be read from the code that is made of it, and the machine does not look at points.
+-- A draft can be read from the code that is generated from it, and the machine doesn't look at points.
 use Rattle.std.proofs.Common.{◌≡◌, ℕ, zero, suc, List, [], ◌∷◌, ◌++◌, length, Option, Some, None, option_map, refl, sym, ap, ◌∙◌, ap₂, arith, append_assoc, length-append, slice_get}
 use Rattle.std.proofs.Math.Seq.{get_or-append_seam}
 use Rattle.lsl_value.specs.declared.tagged.Value.{Value}

@@ -97,7 +97,7 @@ led_later base c d old new i jump target is at e =
     e ∙ ap₂ (λ l k. retargeted l k target) (is ∙ sym (append_assoc base c (i ∷ d))) n
     ∙ retargeted-seam (base ++ c) i d target ∙ append_assoc base c (targeted i target ∷ d)
 
--- behind a test
+-- after a test
 behind_test : (base c1 c : List Instr) (i : Instr) → c1 ≡ base ++ (c ++ i ∷ []) → length c1 ≡ length base + length c + 1
 behind_test base c1 c i e =
     omega (arith, ap length e, length-append base (c ++ i ∷ []), length-append c (i ∷ []))

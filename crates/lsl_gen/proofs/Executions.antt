@@ -104,7 +104,7 @@ module _ (p : Program) (shaped : IsShaped p)
         (λ w t' le2. (ap (λ q. at (bodies_of p) law f outer t' q []) end, le2)))
 
     module _ (labels : List ℕ) where
-      -- the same on another way behind a normal end
+      -- the same with another continuation after a normal end
       flow_next : (places : List LabelPlace) (q q' : ℕ) (r : Evaluation Flow) (h : Whole)
           → ((t : State) → at (bodies_of p) law f outer t q [] ≡ at (bodies_of p) law f outer t q' [])
           → Sim (Flows n has labels) (flow_at (bodies_of p) law f outer places q) r h
@@ -176,7 +176,7 @@ module _ (p : Program) (shaped : IsShaped p)
           (instr.Jump pc) end.1.0)
           (lower a None has f outer places labels pc (record s { ticks = t' }) (omega arith) sh tt stands))))
 
-      -- the statements behind a label, which stands before the last one, or is it
+      -- the statements after a label, which is before the last one, or is it
       skip_sim : (k : Flow → State → Whole) (s : State) (b : Bool) (q q' : ℕ) (r r' : Evaluation Flow)
           → (b ≡ true → Sim (Flows n has labels) k r (at (bodies_of p) law f outer s q []))
           → (b ≡ false → Sim (Flows n has labels) k r' (at (bodies_of p) law f outer s q' []))
@@ -369,7 +369,7 @@ module _ (p : Program) (shaped : IsShaped p)
             post = le;
           }))
 
-    -- a statement from its start, or from behind a label of its own
+    -- a statement from its start, or from after a label of its own
     pub execute_sim : (a : Action) (from : Option ℕ) (labels : List ℕ) (places : List LabelPlace) (pc : ℕ)
         (s : State) → s.ticks ≤ n → IsShapedAction (outline p has) labels a → CanEnter a from
         → HasAt (bodies_of p) f pc (action_code a places pc)

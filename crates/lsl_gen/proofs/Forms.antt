@@ -1,4 +1,4 @@
--- What the forms of built-in calls tell of their rows: which have a result, and which take nothing.
+-- What the forms of built-in calls say about their rows: which have a result, and which take nothing.
 use Rattle.std.proofs.Common.{◌≡◌, Bool, true, false, ◌&&◌, nat_eq, List, [], ◌∷◌, Option, Some, length, refl}
 use Rattle.std.specs.Prelude.{is_some, is_none}
 use Rattle.lsl_value.specs.declared.names.BuiltinId.{BuiltinId}

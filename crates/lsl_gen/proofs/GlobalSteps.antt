@@ -9,7 +9,7 @@ use Rattle.lsl_tree.specs.Program.{Initial, initial_of}
 use Rattle.lsl_meaning.specs.Globals.{initial_value_of, globals_behind}
 use Rattle.lsl_meaning.proofs.GlobalLemmas.{kind_of-initial_value_of}
 
--- what is left behind the element of this number
+-- what is left after the element of this number
 pub rest_of : {X : Type 0} (xs : List X) (i : ℕ) (x : X) → i < length xs → x ≡ get_or xs i x
     → drop i xs ≡ x ∷ drop (i + 1) xs
 rest_of xs i x lt is =

@@ -56,8 +56,7 @@ either true c d e f = refl
 either false c d e f = f e
 
 module _ (p : Program) (r : Routine) (d : List Instr) where
-  -- code whose instructions go on to where they may, and that begins at an open place, where an open place
-  -- stands behind it
+  -- code whose instructions continue where they may, and that begins at an open place if an open place follows it
   abbrev Piece : ℕ → List Instr → Type 0
   Piece pc is = StandsAt d pc is → Open (scope_of p r) d (pc + length is) → Ways (scope_of p r) d pc is
       × Open (scope_of p r) d pc
@@ -135,14 +134,14 @@ module _ (p : Program) (r : Routine) (d : List Instr) where
       seq pc (effect_code x) (effects_code xs) (effect_piece x pc)
       (effects_piece xs (pc + length (effect_code x))) stands o
 
-  -- no operand waits behind code that leaves none
+  -- no operand waits after code that leaves none
   leaves : (is : List Instr) (pc n : ℕ) → StandsAt d pc is → kinds_at (scope_of p r) d pc ≡ []
       → runs (scope_of p r) is [] ≡ Some [] → length is ≡ n → kinds_at (scope_of p r) d (pc + n) ≡ []
   leaves is pc n stands z e len =
       ap (λ n. kinds_at (scope_of p r) d (pc + n)) (sym len)
       ∙ kinds_behind (scope_of p r) d is pc [] stands (ap (runs (scope_of p r) is) z ∙ e)
 
-  -- nor behind a test
+  -- nor after a test
   behind_test : (t : Node) (pc to : ℕ) (rest : List Instr) → IsKindedNode (tree.scope_of p r) t
       → StandsAt d pc (value_code t ++ (instr.JumpIfNot to ∷ rest)) → kinds_at (scope_of p r) d pc ≡ []
       → kinds_at (scope_of p r) d (pc + length (value_code t) + 1) ≡ []
@@ -170,11 +169,11 @@ module _ (p : Program) (r : Routine) (d : List Instr) where
       (open_at (scope_of p r) d (pc + length (value_code t)) instr.ReturnValue
       (has_back d pc (value_code t) (instr.ReturnValue ∷ []) stands).0 refl)
 
-  -- code of this length behind a statement's
+  -- code of this length after a statement's
   behind_size : (pc n : ℕ) (a b : List Instr) → length a ≡ n → StandsAt d pc (a ++ b) → StandsAt d (pc + n) b
   behind_size pc n a b e stands = subst (λ m. StandsAt d (pc + m) b) e (has_back d pc a b stands)
 
-  -- a statement begins at an open place, where an open place stands behind it
+  -- a statement begins at an open place if an open place follows it
   mutual
     pub action_first : (a : Action) (places : List LabelPlace) (pc : ℕ)
         → StandsAt d pc (action_code a places pc) → Open (scope_of p r) d (pc + size a)
@@ -279,7 +278,7 @@ module _ (p : Program) (r : Routine) (d : List Instr) where
         (sym (has_label-append label (labels_in xs) labels) ∙ h) (around.has label);
   }
 
-  -- a tick, and a jump behind it
+  -- a tick, and a jump after it
   tick_jump : (pc line to : ℕ) → Clear (scope_of p r) d to
       → StandsAt d pc (instr.Tick line ∷ instr.Jump to ∷ []) → kinds_at (scope_of p r) d pc ≡ []
       → Open (scope_of p r) d (pc + 2)
@@ -302,7 +301,7 @@ module _ (p : Program) (r : Routine) (d : List Instr) where
 
   module _ (gives : Bool) where
     mutual
-      -- each instruction of a statement goes on to where it may
+      -- each instruction of a statement continues where it may
       pub action_ways : (a : Action) (places : List LabelPlace) (labels : List ℕ) (pc : ℕ)
           → IsKindedAction (tree.scope_of p r) a → IsShapedAction (outline p gives) labels a
           → Around places labels

@@ -11,7 +11,7 @@ use Rattle.lsl_meaning.specs.Statements.{has_label}
 use Rattle.lsl_gen.specs.declared.label_places.LabelPlace.{LabelPlace}
 use Rattle.lsl_gen.specs.Statements.{size, sizes, place_of, place_if_label, places_in}
 
--- where a statement begins: at its start, or behind a label that stands directly in it
+-- where a statement begins: at its start, or after a label that is directly in it
 abbrev entry_at : Action → ℕ → ℕ → ℕ
 entry_at (action.Block xs) label place = place_of label (places_in xs place)
 entry_at a label place = place
@@ -65,7 +65,7 @@ one_placed : (label : ℕ) (a : Action) (place : ℕ) (b : Bool) (more : List �
 one_placed label (action.Label n) place b more e = either_way b (nat_eq label n) ∙ ap (λ c. nat_eq label n || c) e
 one_placed label a place b more e = or_nothing b ∙ e
 
--- the labels with places are those that stand in the block
+-- the labels with places are those in the block
 pub placed_in : (xs : Actions) (label place : ℕ)
     → list_any (λ x. nat_eq label x.label) (places_in xs place) ≡ has_label (labels_in xs) label
 placed_in NoAction label place = refl
@@ -83,7 +83,7 @@ place_within xs label place around =
     place_of-append label (places_in xs place) around
     ∙ ap (λ b. cond b (place_of label (places_in xs place)) (place_of label around)) (placed_in xs label place)
 
--- a label that stands before the last statement, or is it
+-- a label that is before the last statement, or is it
 pub place_last : (xs : Actions) (a : Action) (label place : ℕ)
     → place_of label (places_in (AndAction xs a) place)
     ≡ cond (has_label (labels_in xs) label) (place_of label (places_in xs place))

@@ -1,4 +1,4 @@
--- What one instruction comes to, and the tests and ticks of an evaluation.
+-- What one instruction results in, and the tests and ticks of an evaluation.
 use Rattle.std.proofs.Common.{◌≡◌, ℕ, zero, suc, ◌+◌, ◌≤◌, List, [], ◌∷◌, Bool, true, false, cond, Option, Some, None, refl, ap, ap₂, ◌∙◌, map, slice_get}
 use Rattle.std.specs.Prelude.{is_some}
 use Rattle.lsl_value.specs.Values.{charge_of}
@@ -75,7 +75,7 @@ module _ (bodies : List Body) (law : (t : ℕ) (m : Machine)
         → at s pc ops ≡ led s pc ops (act bodies (Some i) s.kept (base outer) s.slots ops)
     one s pc ops i e = any s pc ops (Some i) e
 
-    -- a value is pushed and the charge tested: r is the state before, s the one behind the instruction
+    -- a value is pushed and the charge tested: r is the state before, s the one after the instruction
     within_sim : (b : Bool) (n pc q : ℕ) (r s : State) (from : List Value) (v : Value) (ops : List Value)
         → pc + 1 ≡ q → r.ticks ≡ s.ticks → r.answers ≡ s.answers → s.ticks ≤ n
         → Sim (Within n) (λ w t. at t q (w ∷ ops)) (cond b (Gives v s) (Stops (whole.Fails StackHeap)))
@@ -139,7 +139,7 @@ module _ (bodies : List Body) (law : (t : ℕ) (m : Machine)
     abbrev pub resume : State → Option Value → Whole
     resume s o = told bodies (on (left_to outer s.kept s.answers o) (λ next. Over Lost) (run bodies s.ticks))
 
-    -- what a statement's end leads to: the place behind it, the caller, or a label
+    -- what a statement's end leads to: the place after it, the caller, or a label
     abbrev pub flow_at : List LabelPlace → ℕ → Flow → State → Whole
     flow_at labels q Normal s = at s q []
     flow_at labels q (Returned o) s = resume s o
@@ -176,7 +176,7 @@ module _ (bodies : List Body) (law : (t : ℕ) (m : Machine)
       ∙ ap (told bodies) (left_any outer s.kept s.answers None (passed bodies s.ticks (here f outer s pc ops))
       (run bodies s.ticks))
 
-  -- the machine goes on with a value, and the charge is tested there
+  -- the machine continues with a value, and the charge is tested there
   back_sim : (b : Bool) (f : ℕ) (outer : List MachineCall) (n q q' : ℕ) (after : Pause → Halt) (t : State)
       (v : Value) (ops : List Value) → q ≡ q' → t.ticks ≤ n
       → Sim (Within n) (λ w u. at f outer u q' (w ∷ ops)) (cond b (Gives v t) (Stops (whole.Fails StackHeap)))
@@ -185,7 +185,7 @@ module _ (bodies : List Body) (law : (t : ℕ) (m : Machine)
   back_sim true f outer n q q' after t v ops e le = record { eq = ap (λ p. at f outer t p (v ∷ ops)) e; post = le }
   back_sim false f outer n q q' after t v ops e le = record { eq = refl; post = tt }
 
-  -- a result comes to the operands that wait
+  -- the waiting operands receive a result
   pub received_sim : (f : ℕ) (outer : List MachineCall) (n q q' : ℕ) (after : Pause → Halt) (t : State)
       (v : Value) (ops : List Value) → q ≡ q' → t.ticks ≤ n
       → Sim (Results n true) (λ o u. at f outer u q' (pushed o ops))

@@ -134,7 +134,7 @@ module _ (p : Program) (shaped : IsShaped p) (low : Lower) (lower : LowerSound p
       (λ l. execute (routines_of p) low a None site (with_answers s l)) (last_flow has labels xs a) m
 
   mutual
-    -- a statement from its start, or from behind a label of its own
+    -- a statement from its start, or from after a label of its own
     execute_sound : (a : Action) (from : Option ℕ) (labels : List ℕ) (site : Site) (s : State)
         → IsShapedAction (outline p has) labels a → CanEnter a from
         → Sound (Flows has labels (is_closed a)) s.answers

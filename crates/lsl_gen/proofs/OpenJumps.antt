@@ -1,4 +1,4 @@
--- The code of a block whose jumps are led to its labels afterwards is its code among these labels.
+-- The code of a block whose jumps are patched to its labels afterwards is its code among these labels.
 use Rattle.std.proofs.Common.{◌≡◌, ℕ, suc, ◌+◌, List, [], ◌∷◌, ◌++◌, length, Bool, true, false, cond, nat_eq, Option, Some, None, is_none, refl, sym, ap, ◌∙◌, ap₂, arith, append_assoc, length-append, ◌<◌, drop, get_or}
 use Rattle.std.proofs.lemmas.List.{append-nil, at_drop_more}
 use Rattle.lsl_tree.specs.Actions as action
@@ -390,7 +390,7 @@ mutual
       ∙ ap (λ n. sites place (all_marks xs place) ++ sites (place + n) (marks a at)) (all_marks_length xs place)
       ∙ ap₂ (λ x y. x ++ y) (all_sites xs place) (open_sites a at)
 
--- leading them one by one fills the code
+-- patching them one by one fills the code
 
 led_here : (o : Option ℕ) (n label : ℕ) (base : List Instr) (i : Instr) (code : List Instr) → n ≡ length base
     → led_to o (record { place = n; label = label }) (base ++ i ∷ code) ≡ base ++ lead o i ∷ code
@@ -433,7 +433,7 @@ led_block labels xs base =
     ∙ seated labels (all_marks xs place) (actions_code xs [] place) base place refl (all_length xs [] place)
     ∙ ap (λ c. base ++ c) (filled_codes labels xs place)
 
--- a block's jumps, one more of them led
+-- a block's jumps, one more of them patched
 
 open_cons : (labels : List LabelPlace) (x : OpenJump) (xs : List OpenJump)
     → still_open labels (x ∷ xs) ≡ still_open labels (x ∷ []) ++ still_open labels xs

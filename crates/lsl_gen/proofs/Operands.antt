@@ -1,4 +1,4 @@
--- The code of a program with kinds finds what it needs: the kinds behind the code of an expression, and of a statement.
+-- The code of a program with kinds finds what it needs: the kinds after the code of an expression, and of a statement.
 use Rattle.std.proofs.Common.{◌≡◌, ◌≢◌, ℕ, suc, ◌+◌, List, [], ◌∷◌, ◌++◌, length, reverse, Option, Some, None, option_map, true, cond, ◌&&◌, nat_eq, pos, refl, sym, ap, ap₂, ◌∙◌, arith, slice_get}
 use Rattle.std.specs.Prelude.{option_and_then, nat_lt, is_none, All}
 use Rattle.std.proofs.lemmas.Bool.Decides.{nat_tests}
@@ -75,7 +75,7 @@ none_is None e = refl
 none_is (Some k) e = absurd cc
 
 module _ (s : Scope) where
-  -- one stretch behind another
+  -- one stretch after another
   then_some : (a b : List Instr) (o : Option (List Kind)) (js : List Kind) (r : Option (List Kind))
       → ((ls : List Kind) → runs s a ls ≡ Some js → runs s (a ++ b) ls ≡ r)
       → option_and_then (runs s a) o ≡ Some js → option_and_then (runs s (a ++ b)) o ≡ r

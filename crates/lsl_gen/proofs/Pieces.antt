@@ -22,7 +22,7 @@ has_back bodies f place (i ∷ a) b h =
     let e : place + 1 + length a ≡ place + length (i ∷ a) = omega arith in
     subst (λ n. HasAt bodies f n b) e (has_back bodies f (place + 1) a b h.1)
 
--- behind a piece of this length
+-- after a piece of this length
 pub has_behind : (bodies : List Body) (f place n : ℕ) (a b : List Instr) → length a ≡ n
     → HasAt bodies f place (a ++ b) → HasAt bodies f (place + n) b
 has_behind bodies f place n a b e h = subst (λ m. HasAt bodies f (place + m) b) e (has_back bodies f place a b h)
@@ -56,7 +56,7 @@ pub draft_seen : (bodies : List Body) (f : ℕ) (name : List ℕ) (s : Scope) (p
 draft_seen bodies f name s params d e j =
     ap (λ o. option_map (with_line (lines_in o)) (instruction_in o j)) e ∙ draft_reads d j
 
--- and stands at the function's start
+-- and is at the function's start
 pub draft_stands : (bodies : List Body) (f : ℕ) (name : List ℕ) (s : Scope) (params : ℕ) (d : List Instr)
     → slice_get bodies f ≡ Some (plain_body (finished name s params d)) → HasAt bodies f 0 d
 draft_stands bodies f name s params d e = has_from bodies f d d [] (draft_seen bodies f name s params d e) refl

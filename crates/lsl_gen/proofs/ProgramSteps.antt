@@ -122,7 +122,7 @@ module _ (program : declared_program.Program) where
         (back (IsReady names) (map (λ f. f.routine) p.functions)
         (map (λ h. h.routine) (handlers_of p.states)) (all_ready names e)))
 
-  -- the functions, and behind them the handlers
+  -- the functions, and after them the handlers
   pub functions_are : (names : Names) (functions all : List FunctionCode)
       (fs : List declared_function.NamedRoutine) (states : List declared_state.ProgramState)
       → names ≡ names_of p → fs ≡ program.functions.items → states ≡ program.states.items

@@ -1,4 +1,4 @@
--- The code of a whole routine is in order, and goes back only behind ticks.
+-- The code of a whole routine is in order, and goes back only after ticks.
 use Rattle.std.proofs.Common.{◌≡◌, ℕ, ◌+◌, ◌<◌, ◌≤◌, List, [], ◌∷◌, ◌++◌, length, Option, Some, None, option_map, Bool, true, false, refl, sym, ap, ◌∙◌, subst, arith, slice_get, length-append, append-nil}
 use Rattle.std.specs.Prelude.{option_and_then, is_none, is_some, not}
 use Rattle.std.proofs.lemmas.Option.{slice_get_past, slice_get-map}
@@ -44,7 +44,7 @@ draft_runs p r kinded =
     (action_runs p r (action.Block r.body) [] 1 kinded) (ending_runs (scope_of p r) r.kind refl)
 
 module _ (p : Program) (r : Routine) (d : List Instr) where
-  -- nothing stands behind the code
+  -- nothing follows the code
   quiet_end : (q : ℕ) → length d ≤ q → Quiet (scope_of p r) d q
   quiet_end q le = ap (λ o. not (is_back q o)) (slice_get_past d q le)
 
@@ -155,7 +155,7 @@ module _ (p : Program) where
         all_if is_plain_function (bodies_of p) (each_body (λ k w. is_plain_function k w ≡ true)
         (λ k r e. routine_plain p r (kinded_at k r e) (shaped_at p shaped k r e) k))
 
-    -- the code of a program goes back only behind ticks
+    -- the code of a program goes back only after ticks
     pub generated_forward : Forward (bodies_of p)
     generated_forward = forward_told (bodies_of p)
         (each_body (λ k w. begins_with_tick w.code ≡ true) (λ k r e. refl)) all_plain

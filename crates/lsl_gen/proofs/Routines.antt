@@ -43,7 +43,7 @@ at_seam : (a b : List Instr) → slice_get (a ++ b) (length a) ≡ slice_get b 0
 at_seam [] b = refl
 at_seam (i ∷ a) b = at_seam a b
 
--- what stands behind a routine's statements
+-- what follows a routine's statements
 end_seen : (i : Instr) (a b : List Instr) (m : ℕ) → length a ≡ m → slice_get (i ∷ (a ++ b)) (1 + m) ≡ slice_get b 0
 end_seen i a b m e =
     let next : 1 + m ≡ suc (length a) = omega arith in
@@ -55,7 +55,7 @@ one_less n = omega arith
 module _ (p : Program) (shaped : IsShaped p)
     (law : (t : ℕ) (m : Machine) → run (bodies_of p) t m
     ≡ on (step (bodies_of p) m) (passed (bodies_of p) t m) (run (bodies_of p) t)) where
-  -- behind a tick, the machine does what is meant there
+  -- after a tick, the machine does what is meant there
   abbrev pub LowerSim : ℕ → Lower → Type 0
   LowerSim n low =
       (a : Action) (from : Option ℕ) (has : Bool) (f : ℕ) (outer : List MachineCall) (places : List LabelPlace)
@@ -121,7 +121,7 @@ module _ (p : Program) (shaped : IsShaped p)
         routine_sim r k (call_at f (pc + 1) s.slots ops ∷ outer) (record s { slots = first_slots r args }) e le
     enter_within false r k f outer pc args from ops s e le = record { eq = refl; post = tt }
 
-    -- the caller goes on with the result
+    -- the caller continues with the result
     returned_sim : (has : Bool) (k f : ℕ) (outer : List MachineCall) (pc q : ℕ) (slots ops : List Value)
         (o : Option Value) (t : State) → pc + 1 ≡ q → Results n has o t
         → Sim (Results n has) (λ o u. at (bodies_of p) law f outer u q (pushed o ops))

@@ -3,7 +3,7 @@ use Rattle.std.proofs.Common.{◌≡◌, ℕ, ◌≤◌, ◌∙◌}
 use Rattle.lsl_running.specs.Results.{Whole}
 use Rattle.lsl_meaning.specs.State.{State, Evaluation, Gives, Stops, bind}
 
--- what an evaluation comes to, where a result leads on
+-- what an evaluation results in, where a result continues
 abbrev pub finish : {A : Type 0} → Evaluation A → (A → State → Whole) → Whole
 finish (Gives a s) k = k a s
 finish (Stops whole) k = whole
@@ -12,20 +12,20 @@ abbrev pub Holds : {A : Type 0} → (A → State → Type 0) → Evaluation A �
 Holds P (Gives a s) = P a s
 Holds P (Stops whole) = Unit {0}
 
--- the end h is that of the evaluation, where a result leads on by k; and a result is as P says
+-- the end h is that of the evaluation, where k continues with a result; and a result is as P says
 pub record Sim {A : Type 0} (P : A → State → Type 0) (k : A → State → Whole) (r : Evaluation A)
     (h : Whole) : Type 0 where
   pub eq : h ≡ finish r k
   pub post : Holds P r
 
--- one evaluation behind another
+-- one evaluation after another
 pub then_sim : {A B : Type 0} (P : A → State → Type 0) (Q : B → State → Type 0) (k : A → State → Whole)
     (l : B → State → Whole) (r : Evaluation A) (go : A → State → Evaluation B) (h : Whole)
     → Sim P k r h → ((a : A) (s : State) → P a s → Sim Q l (go a s) (k a s)) → Sim Q l (bind r go) h
 then_sim P Q k l (Gives a s) go h m next = let b = next a s m.post in record { eq = m.eq ∙ b.eq; post = b.post }
 then_sim P Q k l (Stops whole) go h m next = record { eq = m.eq; post = tt }
 
--- another way on, and a weaker fact
+-- another continuation, and a weaker fact
 pub map_sim : {A : Type 0} (P Q : A → State → Type 0) (k l : A → State → Whole) (r : Evaluation A) (h : Whole)
     → Sim P k r h → ((a : A) (s : State) → P a s → (k a s ≡ l a s) × Q a s) → Sim Q l r h
 map_sim P Q k l (Gives a s) h m on = let b = on a s m.post in record { eq = m.eq ∙ b.0; post = b.1 }

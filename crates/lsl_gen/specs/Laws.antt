@@ -1,4 +1,4 @@
--- What the code of a program is, and what it comes to.
+-- What the code of a program is, and what it results in.
 use Rattle.std.specs.Prelude.{◌≡◌, ◌≢◌, ℕ, suc, ◌*◌, ◌≤◌, List, ◌++◌, length, map, All, true}
 use Rattle.lsl_value.specs.declared.names.BuiltinId.{BuiltinId}
 use Rattle.lsl_value.specs.declared.tagged.Value.{Value}
@@ -18,7 +18,7 @@ use Rattle.lsl_code.specs.Wholes.{whole_of_bodies}
 use Rattle.lsl_gen.specs.Counts.{nodes_of}
 use Rattle.lsl_gen.specs.Programs.{IsShort, generated_functions, generated_states}
 
--- each routine run from its start comes to what it means: for all globals and limits, arguments, ticks and answers
+-- each routine run from its start results in what it means: for all globals and limits, arguments, ticks and answers
 abbrev pub Agrees : List Body → Program → Type 0
 Agrees bodies p =
     (number : ℕ) (kept : Kept) (arguments : List Value) (ticks : ℕ) (answers : List Reply)
@@ -37,7 +37,7 @@ UnitsAreWellFormed =
     (p : Program) → IsKinded p → IsShaped p → HasShortCode p
     → fits_unit (initial_globals p) (generated_states p) (map plain_body (generated_functions p)) ≡ true
 
--- where a handler is cut, and goes on with one tick and this many answers more, it doesn't ask before its next tick
+-- a handler that is cut, and continues with one tick and this many answers more, makes no call before its next tick
 abbrev pub AsksSoOften : Type 0
 AsksSoOften =
     (p : Program) → IsKinded p → IsShaped p

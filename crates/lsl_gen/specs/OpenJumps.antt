@@ -1,4 +1,4 @@
--- Jumps to labels, which are emitted before their labels' places are known, and led there where a block ends.
+-- Jumps to labels, which are emitted before their labels' places are known, and patched where a block ends.
 use Rattle.std.specs.Prelude.{ℕ, ◌+◌, nat_eq, cond, List, [], ◌∷◌, ◌++◌, Option, Some, None, is_none, length}
 use Rattle.std.specs.List.{filter}
 use Rattle.lsl_tree.specs.Actions as action
@@ -50,7 +50,7 @@ abbrev mutual
   open_jumps (action.Jump line label) place = record { place = place + 1; label = label } ∷ []
   open_jumps a place = []
 
-  -- those of statements, one behind the other
+  -- those of statements, one after the other
   pub all_open : Actions → ℕ → List OpenJump
   all_open NoAction place = []
   all_open (AndAction actions a) place = all_open actions place ++ open_jumps a (place + sizes actions)

@@ -1,4 +1,4 @@
--- The code of a program: the functions in text order, and behind them the handlers, state by state.
+-- The code of a program: the functions in text order, and after them the handlers, state by state.
 use Rattle.std.specs.Prelude.{ℕ, suc, ◌+◌, List, [], ◌∷◌, ◌++◌, length, map, take, Option, Some, None, is_some, IsTrue, ◌<◌}
 use Rattle.lsl_value.specs.declared.tagged.Kind.{Kind}
 use Rattle.lsl_table.specs.Events.{event_name_of}

@@ -36,7 +36,7 @@ abbrev pub place_if_label : Action → ℕ → List LabelPlace
 place_if_label (action.Label label) place = record { label = label; place = place } ∷ []
 place_if_label a place = []
 
--- the labels that stand directly in a block whose code begins at this place, the first one first
+-- the labels directly in a block whose code begins at this place, the first one first
 abbrev pub places_in : Actions → ℕ → List LabelPlace
 places_in NoAction place = []
 places_in (AndAction actions a) place = places_in actions place ++ place_if_label a (place + sizes actions)

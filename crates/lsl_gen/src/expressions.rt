@@ -75,7 +75,7 @@ fn operator(op: StepOp) -> BinaryOp
     }
 }
 
-// Adds the code of a built-in call, behind that of its arguments.
+// Adds the code of a built-in call, after that of its arguments.
 fn emit_builtin(draft: &mut Draft, id: BuiltinId, line: u32) -> Result<(), NoMemory>
     ensures { OnOk result (draft.new ≡ draft.old ++ builtin_code (call_form id) id line) }
 {
@@ -96,7 +96,7 @@ fn emit_builtin(draft: &mut Draft, id: BuiltinId, line: u32) -> Result<(), NoMem
     }
 }
 
-// Adds the code of a call, behind that of its arguments.
+// Adds the code of a call, after that of its arguments.
 fn emit_call(draft: &mut Draft, callee: Callee, line: u32) -> Result<(), NoMemory>
     ensures { OnOk result (draft.new ≡ draft.old ++ call_code callee line) }
 {
@@ -187,7 +187,7 @@ fn emit_values(alloc: Global, draft: &mut Draft, nodes: &[Node]) -> Result<(), N
     Ok(())
 }
 
-/// Adds the code of an expression that stands as a statement.
+/// Adds the code of an expression used as a statement.
 pub fn emit_effect(alloc: Global, draft: &mut Draft, effect: &Effect) -> Result<(), NoMemory>
     ensures { OnOk result (draft.new ≡ draft.old ++ effect_code (effect_of effect.now)) }
 {
@@ -207,7 +207,7 @@ pub fn emit_effect(alloc: Global, draft: &mut Draft, effect: &Effect) -> Result<
     }
 }
 
-/// Adds the code of such, from the first to the last.
+/// Adds the code of such expressions, from the first to the last.
 pub fn emit_effects(alloc: Global, draft: &mut Draft, effects: &[Effect]) -> Result<(), NoMemory>
     ensures { OnOk result (draft.new ≡ draft.old ++ effects_code (map effect_of effects.now)) }
 {

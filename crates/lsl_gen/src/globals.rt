@@ -1,4 +1,4 @@
-//! The values that globals begin with.
+//! The initial values of globals.
 
 ghost use Rattle.std.specs.Prelude.{◌≡◌, [], ◌∷◌, ◌++◌, IfOk, OnOk, true, map, flat_map};
 ghost use Rattle.lsl_value.specs.OperatorRows.{casts_implicitly_of};
@@ -30,7 +30,7 @@ pub fn initial_values(alloc: Global, initials: &[Initial]) -> Result<Values, NoM
     Ok(values)
 }
 
-// The value of a global behind these.
+// The value of a global that follows these.
 fn initial_value(alloc: Global, before: &[Value], initial: &Initial) -> Result<Value, NoMemory>
     requires { IsKindedInitial (map kind_of before.now) (initial_of initial.now) }
     ensures { IfOk result (λ value. value ≡ initial_value_of before.now (initial_of initial.now)) }
@@ -113,7 +113,7 @@ fn items_of(alloc: Global, before: &[Value], parts: &[Part]) -> Result<Items, No
     Ok(items)
 }
 
-// Adds the value's elements: one, but for a list's. Want of memory where there are too many.
+// Adds the value's elements: a list's own, or the one of any other value. Out of memory where there are too many.
 fn push_atoms(items: &mut Items, value: Value) -> Result<(), NoMemory>
     ensures { OnOk result (items.new ≡ items.old ++ atoms_of value) }
 {
@@ -130,7 +130,7 @@ fn push_atoms(items: &mut Items, value: Value) -> Result<(), NoMemory>
     }
 }
 
-// Adds an element. Want of memory where there are too many.
+// Adds an element. Out of memory where there are too many.
 fn push_atom(items: &mut Items, atom: Atom) -> Result<(), NoMemory>
     ensures { OnOk result (items.new ≡ items.old ++ atom ∷ []) }
 {

@@ -1,4 +1,4 @@
-//! Jumps to labels. Each is emitted before its label's place is known, and led there where the label's block ends.
+//! Jumps to labels. Each is emitted before its label's place is known, and patched where the label's block ends.
 
 ghost use Rattle.std.specs.Prelude.{◌≡◌, [], ◌∷◌, ◌++◌, OnOk, length};
 ghost use Rattle.lsl_tree.specs.Actions.{Jump as JumpAction, action_of};
@@ -52,7 +52,7 @@ pub fn push_label(
     }
 }
 
-/// Leads the jumps of a block to its labels. Those that lead to other labels stay open.
+/// Patches the jumps of a block to its labels. Those that lead to other labels stay open.
 pub fn close_jumps(
     draft: &mut Draft,
     jumps: &mut Vec<OpenJump>,
@@ -68,7 +68,7 @@ pub fn close_jumps(
     Ok(())
 }
 
-// Leads a jump to its label, or keeps it open where that isn't among these.
+// Patches a jump to its label, or keeps it open where that isn't among these.
 fn close(
     draft: &mut Draft,
     jumps: &mut Vec<OpenJump>,

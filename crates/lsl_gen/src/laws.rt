@@ -6,7 +6,7 @@ ghost use Rattle.lsl_code.specs.declared.instructions.Instr.TheVariants.{SetLimi
 ghost use Rattle.lsl_gen.specs.OwnCalls.{FreeMemoryIsTheRest, HasCode, LimitIsKept, LimitIsSet, LimitIsTold, OwnCallsAreThese, UsedMemoryIsTheCharge};
 ghost use Rattle.lsl_value.specs.declared.names.BuiltinId.TheVariants.{SetMemoryLimit};
 
-/// A routine's code, run from its start, comes to what the routine means.
+/// A routine's code, run from its start, results in what the routine means.
 pub fn code_runs_as_meant()
     ensures { CodeRunsAsMeant }
 {}
@@ -16,7 +16,7 @@ pub fn units_are_well_formed()
     ensures { UnitsAreWellFormed }
 {}
 
-/// Where a handler is cut and goes on with one tick more, it asks at most so often before its next tick.
+/// A handler that is cut, and continues with one tick more, makes at most this many calls before its next tick.
 pub fn a_segment_asks_so_often()
     ensures { AsksSoOften }
 {}

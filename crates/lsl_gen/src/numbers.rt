@@ -1,4 +1,4 @@
-//! Numbers that instructions hold. One that is too large for its field is want of memory.
+//! Numbers that instructions hold. One that is too large for its field is reported as out of memory.
 
 ghost use Rattle.std.specs.Prelude.{◌≡◌, ◌+◌, IfOk};
 

@@ -21,13 +21,14 @@ use std::alloc::{AllocError, Global};
 /// How many states a unit has at most.
 const MAX_STATES: usize = 65_535;
 
-/// The unit of a program whose names and kinds are in order: its globals' initial values, its states, and the
-/// code of its functions and handlers, which run as they are meant.
+/// The unit of a program whose names and kinds are in order: its globals' initial values, its states, and the code of
+/// its functions and handlers, which run as they are meant.
 ///
 /// Takes memory for all of it. A statement is walked once, and a jump to a label is looked at once more for each block
-/// that it leads out of; labels, points and functions are found without a search. Want of memory also
-/// where a number is too large for its field: from 65,536 slots, functions or points, 65,536 states, or
-/// 4,294,967,296 instructions of a function on, and where a list of a global has more than 65,536 elements. A text
+/// that it leaves; labels, points and functions are found without a search.
+///
+/// Out of memory also where a number is too large for its field: from 65,536 slots, functions or points, 65,536 states,
+/// or 4,294,967,296 instructions of a function on, and where a list of a global has more than 65,536 elements. A text
 /// that is parsed has too few tokens for any of these.
 pub fn generate(alloc: Global, program: &Program, digest: [u8; 32]) -> Result<Unit, NoMemory>
     requires kinded { IsKinded (program_of program.now) }

@@ -1,4 +1,4 @@
-//! The code of statements. A jump over code that isn't emitted yet is led behind it afterwards.
+//! The code of statements. A jump over code that isn't emitted yet is patched afterwards, to the place after that code.
 
 ghost use Rattle.std.specs.Prelude.{◌≡◌, ◌+◌, [], ◌∷◌, ◌++◌, OnOk, IfOk, length, map};
 ghost use Rattle.lsl_tree.specs.Actions.{Block, Declare, Do, If, Loop, action_of, actions_of};
@@ -20,7 +20,8 @@ use lsl_text::NoMemory;
 use lsl_tree::{Action, Effect, Node};
 use std::alloc::Global;
 
-/// Adds the code of a statement, and its jumps to labels around it, which are led to places by who has the labels.
+/// Adds the code of a statement, and its jumps to labels around it, which the enclosing block patches once it knows the
+/// label's place.
 #[cycle(emit_action)]
 pub fn emit_action(
     alloc: Global,
@@ -98,7 +99,7 @@ fn emit_test(alloc: Global, draft: &mut Draft, test: &Node) -> Result<usize, NoM
     Ok(place)
 }
 
-// Leads the jump at this place behind the code.
+// Patches the jump at this place to the end of the code.
 fn lead_behind(draft: &mut Draft, jump: usize) -> Result<(), NoMemory>
     ensures { OnOk result (draft.new ≡ retargeted draft.old jump (length draft.old)) }
 {
@@ -179,7 +180,7 @@ fn emit_loop(
     Ok(())
 }
 
-// Adds the code of a loop that tests behind each round.
+// Adds the code of a loop that tests after each round.
 #[cycle(emit_action)]
 fn emit_do(
     alloc: Global,
@@ -205,7 +206,7 @@ fn emit_do(
     Ok(())
 }
 
-/// Adds the code of a block, in which each jump to one of its labels leads there.
+/// Adds the code of a block, in which each jump to one of its labels is patched.
 #[cycle(emit_action)]
 pub fn emit_block(
     alloc: Global,
@@ -225,7 +226,7 @@ pub fn emit_block(
     Ok(())
 }
 
-// Adds the code of statements, one behind the other, and gives the places of the labels among them.
+// Adds the code of statements, one after the other, and returns the places of the labels among them.
 #[cycle(emit_action)]
 fn emit_actions(
     alloc: Global,

@@ -14,7 +14,7 @@ use Rattle.lsl_lines.specs.declared.faults.FileKind.TheVariants.{BadLine}
 abbrev pub cap : ℕ
 cap = 4294967296000
 
--- the capped number of the digits behind those of n
+-- the capped number of the digits after those of n
 abbrev pub digits_behind : ℕ → List ℕ → Result ℕ FileKind
 digits_behind n digits = fault_unless (list_all is_decimal digits) BadLine
     (Ok (min (digits_value_after 10 n digits) cap))

@@ -118,13 +118,13 @@ encode_lower-lower (b ∷ bytes) =
 
 -- ---- refusals
 
--- digits of bytes are refused for want of memory alone
+-- digits of bytes are refused only when out of memory
 pub wants_memory : (s bytes : List ℕ) (fault : FromHexError) → (fault ≡ OutOfMemory) ⊎ (decode_of s ≡ Err fault)
     → decode_of s ≡ Ok bytes → fault ≡ OutOfMemory
 wants_memory s bytes fault (inl e) h = e
 wants_memory s bytes fault (inr e) h = absurd (cc (e, h))
 
--- digits that are no letters in upper case are bytes in hexadecimal
+-- digits that aren't letters in upper case are bytes in hexadecimal
 lower_is_digit : (c : ℕ) → is_lower_digit c ≡ true → (is_hex_digit c ≡ true) × (is_ascii_uppercase c ≡ false)
 lower_is_digit c h = (grind arith, grind arith)
 
@@ -144,7 +144,7 @@ frozen_line_is text h =
     let fits = (decode_of-ok h.digits read.0 read.1).3 in
     (read.0, record { short = h.short; line = h.line ∙ ap (λ d. codes "frozen " ++ d) (sym same); fits = fits })
 
--- what would give a value if it had any is refused for want of memory, or has none
+-- what would give a value if it had any is refused when out of memory, or has none
 pub refused_of : {V H : Type 0} (P : List ℕ → V → Type 0) (r : Result V (Refusal ImageFault)) (E : List ℕ → Type 0)
     → ((bytes : List ℕ) → E bytes → MatchResult r (P bytes) (λ refusal. refusal ≡ NoMemory))
     → (H → (bytes : List ℕ) × E bytes) → IfErr r IsNotFrozen
@@ -155,7 +155,7 @@ refused_of P (Err (Fault fault)) E h has (inl e) = absurd (cc e)
 refused_of P (Err (Fault fault)) E h has (inr e) =
     inr (e, λ holds. let found = has holds in absurd (cc (h found.0 found.1)))
 
--- ---- what stands behind the last line feed
+-- ---- what follows the last line feed
 
 no_feed : (b : ℕ) → (((b == 10) ≡ true) → ⊥) → not (is_line_feed b) ≡ true
 no_feed b h = go (b == 10) refl

@@ -14,7 +14,7 @@ front_of_front n m new old mid more short long e f =
     sym (take-take n m new below) ∙ ap (take n) (f ∙ e) ∙ take-append-le n old more within
     ∙ take_all n old (omega (arith, short))
 
--- a number of one digit behind a space
+-- a number of one digit after a space
 pub one_digit : (n : ℕ) (old reserved blank out new : List ℕ) → n < 10 → reserved ≡ old → blank ≡ reserved ++ 32 ∷ []
     → out ≡ blank → new ≡ out ++ (48 + n % 10) ∷ [] → new ≡ old ++ spaced (decimal n)
 one_digit n old reserved blank out new small kept gap same last =

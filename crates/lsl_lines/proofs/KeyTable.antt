@@ -13,7 +13,7 @@ map-end : {X : Type 0} (f : X → List ℕ) (xs : List X) (x : X) → map f (xs 
 map-end f [] x = refl
 map-end f (y ∷ ys) x = ap (λ l. f y ∷ l) (map-end f ys x)
 
--- a key that doesn't stand comes last
+-- a key that isn't in the table comes last
 pub key_added : {X : Type 0} (f : X → List ℕ) (keys : List X) (s : X) (b : List ℕ) → f s ≡ b
     → list_any (bytes_eq b) (map f keys) ≡ false
     → map f (insert_key (λ x y. bytes_eq (f x) (f y)) keys s) ≡ map f keys ++ b ∷ []

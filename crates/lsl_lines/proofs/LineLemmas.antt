@@ -25,7 +25,7 @@ list_all-prefix p (b ∷ l) = go (p b) refl (list_all-prefix p l)
         ap (λ n. list_all p (take n (b ∷ l))) one ∙ ap (λ t. t && list_all p (take (prefix_len p l) l)) e ∙ ih
     go false e ih = refl
 
--- what stands behind that front
+-- what follows that front
 abbrev Stops : (ℕ → Bool) → List ℕ → Type 0
 Stops p l = (l ≡ []) ⊎ ((b : ℕ) × (more : List ℕ) × (l ≡ b ∷ more) × (p b ≡ false))
 

@@ -1,4 +1,4 @@
--- The files of scripts, and the keys of prims, as they are told one after another.
+-- The files of scripts, and the keys of prims, as they are listed one after another.
 use Rattle.std.proofs.Common.{◌≡◌, ℕ, ◌+◌, ◌<◌, ◌≤◌, max, nat_lt, Bool, true, false, cond, ◌||◌, List, [], ◌∷◌, ◌++◌, length, get_or, take, map, refl, sym, ap, ◌∙◌, ⊎_elim, arith, true≢false, encode_utf8_all}
 use Rattle.std.proofs.lemmas.Bool.{cases_lt, cond-false, cond-true, le-ltb, lt-ltb}
 use Rattle.std.proofs.lemmas.List.{get_or-take, length-take-le, take_more}
@@ -100,7 +100,7 @@ key_apart a b e = none_true (bytes_eq (encode_utf8_all b) (encode_utf8_all a)) (
     let same : a ≡ b = sym (encodes_same b a ((bytes_eq-Decides (encode_utf8_all b) (encode_utf8_all a)).0 f)) in
     true≢false (sym ((bytes_eq-Decides a b).1 same) ∙ e))
 
--- a key that differs from those before it doesn't stand yet
+-- a key that differs from those before it isn't in the table yet
 pub key_told : (keys : List (List ℕ)) (key : List ℕ) (rest : List (List ℕ)) → IsDistinct bytes_eq (keys ++ key ∷ rest)
     → has_key (map encode_utf8_all keys) key ≡ false
 key_told [] key rest h = refl

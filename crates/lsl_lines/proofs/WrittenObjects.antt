@@ -1,4 +1,4 @@
--- The lines of objects tell these objects.
+-- The lines of objects describe these objects.
 use Rattle.std.proofs.Common.{◌≡◌, ℕ, zero, suc, ◌+◌, ◌<◌, ◌≤◌, max, nat_lt, Bool, true, false, not, cond, ◌==◌, ◌&&◌, List, [], ◌∷◌, ◌++◌, length, get_or, take, map, flat_map, Result, Ok, Err, refl, sym, ap, ◌∙◌, subst, arith, append_assoc, append-nil, encode_utf8_all}
 use Rattle.std.proofs.lemmas.Bool.{cond-true, eqb-false, eqb-true, lt-ltb}
 use Rattle.std.proofs.lemmas.Grind.{flat_map-append}
@@ -52,7 +52,7 @@ pub then_all : (line : Line) (lines : List Line) (r q : Reading) (out : Result R
     → line_added line r ≡ Ok q → add_all lines q ≡ out → add_all (line ∷ lines) r ≡ out
 then_all line lines r q out e h = ap (λ (m : Result Reading FileKind). m >>= add_all lines) e ∙ h
 
--- ---- what was told
+-- ---- what was read
 
 abbrev pub reading : List (List ℕ) → List NoteLine → List ObjectLine → ℕ → List (List ℕ) → List (List ℕ) → Reading
 reading cards notes objects scripts files keys = record {
@@ -76,7 +76,7 @@ same_reading cards notes o p m n f g k l a b c d = λ i. reading cards notes (a 
 abbrev pub cards_told : WorldFile → List NoteLine → List (List ℕ)
 cards_told file notes = take (named_behind 0 (map as_script notes)) file.cards
 
--- what was read behind the lines of these objects and notecards
+-- what was read after the lines of these objects and notecards
 abbrev pub told : WorldFile → List NoteLine → List ObjectLine → Reading
 told file notes objects =
     reading (cards_told file notes) notes objects (length (scripts_in objects))
@@ -355,7 +355,7 @@ notes_told file objects front (note ∷ more) rest w some (one, at) e =
     (append_assoc front (note ∷ []) (more ++ rest) ∙ e)
     ∙ ap (λ (l : List NoteLine). Ok (told file l objects)) (append_assoc front (note ∷ []) more))
 
--- those of a prim that has this number, behind its scripts
+-- those of a prim that has this number, after its scripts
 prim_noted : (file : WorldFile) (objects : List ObjectLine) (front notes : List NoteLine) (prim : ℕ) → IsWritable file
     → 0 < length objects → prim ≡ length (keys_in objects) → front ++ notes ≡ file.notes
     → add_all (note_lines file prim notes) (told file front objects)
@@ -365,7 +365,7 @@ prim_noted file objects front notes prim w some at e =
     (subst (λ n. AllByRecursion (λ note. note.prim ≡ n) (lying_in prim notes)) at (lying-are prim notes))
     (ap (λ l. front ++ l) (lying-left prim notes) ∙ e)
 
--- those of so many prims, from this number on
+-- those of `count` prims, from this number on
 abbrev pub lying_in_prims : (number count : ℕ) → List NoteLine → List NoteLine
 lying_in_prims number zero notes = []
 lying_in_prims number (suc count) notes =
@@ -398,7 +398,7 @@ lying-append number (suc a) b notes =
     ∙ sym (append_assoc (lying_in number notes) (lying_in_prims (number + 1) a left)
     (lying_in_prims (number + suc a) b (left_by_prims (number + 1) a left)))
 
--- notecards that lie in turn in so many prims are those of these
+-- notecards that lie in turn in this many prims are those of these
 next-in-turn : (number most : ℕ) (notes : List NoteLine) → LieInTurn number most notes
     → LieInTurn (number + 1) most (left_by number notes)
 next-in-turn number most [] h = tt

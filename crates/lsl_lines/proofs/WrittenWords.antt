@@ -22,7 +22,7 @@ use Rattle.lsl_lines.proofs.LineLemmas.{line_cut}
 use Rattle.lsl_lines.proofs.ReadBack.{all_back}
 use Rattle.lsl_lines.proofs.Texts.{text_of-text}
 
--- what stands in plain words: letters, digits and the minus sign among others, but no blank, quote or `#`
+-- what is in plain words: letters, digits and the minus sign among others, but no blank, quote or `#`
 abbrev pub is_word_byte : ℕ → Bool
 is_word_byte b = nat_lt 35 b && nat_lt b 127
 
@@ -69,7 +69,7 @@ quoted_begun text rest h =
     ∙ ap (λ (r : Result (List ℕ) FileKind). r >>= λ t. behind_quote t rest)
     (text_of-text (encode_utf8_all text) text (record { spelled = refl; text = h }))
 
--- what comes of the rest of a line behind a word
+-- what the rest of a line after a word gives
 abbrev behind : Word → List ℕ → Result (List Word) FileKind
 behind (Plain bytes) rest = plain_words bytes rest
 behind (Quoted text) rest = behind_quote text rest

@@ -1,4 +1,4 @@
--- Each world that a text can tell is the world of its text.
+-- Each world that a text can describe is the world of its text.
 use Rattle.std.proofs.Common.{◌≡◌, ℕ, zero, suc, ◌+◌, ◌-◌, ◌<◌, ◌≤◌, nat_le, nat_lt, Bool, true, false, cond, ◌==◌, ◌||◌, List, [], ◌∷◌, ◌++◌, length, get_or, take, map, flat_map, slice_get, Result, Ok, Err, refl, sym, ap, ◌∙◌, arith, ⊎_elim, lit≤, append_assoc, append-nil, length-append}
 use Rattle.std.proofs.lemmas.Bool.{and_parts, cond-true, le-leb, leb-true, lt-ltb, or_cases}
 use Rattle.std.proofs.lemmas.List.{take_all}
@@ -31,7 +31,7 @@ use Rattle.lsl_lines.proofs.WrittenObjects.{add_all, add_all-append, all-lying, 
 abbrev step_line : TheStep → Line
 step_line step = Step step
 
--- behind these steps, where the last clock is this one
+-- after these steps, where the last clock is this one
 abbrev behind_steps : Reading → List TheStep → ℕ → Reading
 behind_steps r steps clock = record r { part = Steps; steps = steps; clock = clock }
 
@@ -76,12 +76,12 @@ steps_told r steps (step ∷ more) clock (one, h) (up, rises) few =
     (steps_told r grown more next h rises (omega (arith, few, length-append steps (step ∷ [])))
     ∙ ap (λ (l : List TheStep). Ok (behind_steps r l (last_clock next more))) (append_assoc steps (step ∷ []) more))
 
--- behind the last line
+-- after the last line
 abbrev ended : WorldFile → Reading
 ended file =
     record (behind_steps (told file file.notes file.objects) file.steps (last_clock 0 file.steps)) { part = Ended }
 
--- the lines of a world tell it
+-- the lines of a world describe it
 world_told : (file : WorldFile) → IsWritable file → add_all (lines_of_world file) begun ≡ Ok (ended file)
 world_told file w =
     let all = told file file.notes file.objects in
@@ -144,7 +144,7 @@ left_behind_named prim zero notes h = h
 left_behind_named prim (suc count) notes h =
     left_behind_named (prim + 1) count (left_by prim notes) (left_named prim notes h)
 
--- the scripts and notecards of a prim, and what comes behind them
+-- the scripts and notecards of a prim, and what follows them
 in_prim_fit : (file : WorldFile) (number : ℕ) (notes : List NoteLine) (p : PrimLine) (rest : List Line)
     → IsWritable file → IsWritablePrim p → AllByRecursion HasNoteName notes → AllByRecursion LineFits rest
     → AllByRecursion LineFits (script_lines file.files p ++ (note_lines file number notes ++ rest))

@@ -7,6 +7,6 @@ abbrev pub ◌>>=◌ : {A B : Type 0} → Result A FileKind → (A → Result B 
 (Ok x) >>= f = f x
 (Err kind) >>= f = Err kind
 
--- this fault where the test fails, else what comes of the further checks
+-- this fault where the test fails, otherwise the result of the further checks
 abbrev pub fault_unless : {A : Type 0} → Bool → FileKind → Result A FileKind → Result A FileKind
 fault_unless test kind more = cond test more (Err kind)

@@ -1,4 +1,4 @@
--- What a word of a line stands for: a number, a key, a name or a text.
+-- What a word of a line means: a number, a key, a name or a text.
 use Rattle.std.specs.Prelude.{ℕ, ◌==◌, nat_le, nat_lt, Bool, true, false, cond, ◌&&◌, List, [], ◌∷◌, length, map, Result, Ok, Err, ℤ, pos, neg_ℤ}
 use Rattle.std.specs.Char.{is_digit, to_ascii_lowercase}
 use Rattle.std.specs.List.{list_all}
@@ -27,12 +27,12 @@ abbrev pub digits_of : List ℕ → Result ℕ FileKind
 digits_of digits =
     fault_unless (nat_lt 0 (length digits) && list_all is_decimal digits) BadLine (Ok (digits_value 10 digits))
 
--- a minus sign stands before the digits
+-- a minus sign comes before the digits
 abbrev pub is_negative : List ℕ → Bool
 is_negative [] = false
 is_negative (b ∷ digits) = b == 45
 
--- the digits behind a sign or none
+-- the digits after an optional sign
 abbrev pub magnitude_of : List ℕ → Result ℕ FileKind
 magnitude_of [] = Err BadLine
 magnitude_of (b ∷ digits) = cond (b == 45) (digits_of digits) (digits_of (b ∷ digits))
@@ -58,7 +58,7 @@ key_of word =
     plain_of word >>= λ bytes. text_of (map to_ascii_lowercase bytes) >>= λ key.
     fault_unless (is_valid_key key) BadLine (Ok key)
 
--- a quoted text of at most 255 bytes, counted behind its escapes
+-- a quoted text of at most 255 bytes, counted with the escapes read
 abbrev pub name_of : Word → Result (List ℕ) FileKind
 name_of word =
     quoted_of word >>= λ name.

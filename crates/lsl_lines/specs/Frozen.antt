@@ -13,7 +13,7 @@ use Rattle.hex.specs.Hex.{IsBytes, encode_lower}
 abbrev pub most_frozen_text : ℕ
 most_frozen_text = 2147483647
 
--- the bytes of a frozen world as digits, behind a word
+-- the bytes of a frozen world as digits, after a word
 abbrev pub frozen_text : List ℕ → List ℕ
 frozen_text bytes = codes "frozen " ++ encode_lower bytes
 
@@ -21,11 +21,11 @@ frozen_text bytes = codes "frozen " ++ encode_lower bytes
 abbrev pub frozen_line : List ℕ → List ℕ
 frozen_line bytes = frozen_text bytes ++ 10 ∷ []
 
--- the last line of a text, which may lack its line feed
+-- the last line of a text, which may have no line feed
 abbrev pub last_line : List ℕ → List ℕ
 last_line text = after_last is_line_feed (strip_last 10 text)
 
--- a hexadecimal digit that is no letter in upper case
+-- a hexadecimal digit that isn't a letter in upper case
 abbrev pub is_lower_digit : ℕ → Bool
 is_lower_digit c = (nat_le 48 c && nat_le c 57) || (nat_le 97 c && nat_le c 102)
 

@@ -15,7 +15,7 @@ use Rattle.lsl_post.specs.declared.entries.Entry.{Entry}
 use Rattle.lsl_post.specs.declared.entries.Entry.TheVariants.{Took, Drop, Clear, Chat, Owner, Stopped, Done, Home}
 use Rattle.lsl_post.specs.declared.events.Event.{Event}
 
--- a word behind a space
+-- a word after a space
 abbrev pub spaced : List ℕ → List ℕ
 spaced word = 32 ∷ word
 
@@ -40,7 +40,7 @@ fault_text MathError = codes "Math Error"
 fault_text StackHeap = codes "Stack-Heap Collision"
 fault_text TooManyListens = codes "Too Many Listens"
 
--- an event's argument; no parameter is a list, whose word is empty
+-- an event's argument; no parameter is a list; the word of a list is empty
 abbrev pub argument_word : Value → List ℕ
 argument_word (Int n) = decimal_of n
 argument_word (Str text) = text_word text
@@ -51,7 +51,7 @@ argument_word (ListValue atoms) = []
 abbrev pub event_words : Event → List (List ℕ)
 event_words event = event_name_of event.id ∷ map argument_word event.args
 
--- the words that tell what happened
+-- the words of an entry's line
 abbrev pub words_of : Entry → List (List ℕ)
 words_of (Took script event) = codes "took" ∷ decimal script ∷ event_words event
 words_of (Drop script event) = codes "drop" ∷ decimal script ∷ event_words event

@@ -7,11 +7,11 @@ use Rattle.lsl_value.specs.Text.{IsText}
 use Rattle.lsl_lines.specs.Lines.{lines_of}
 use Rattle.lsl_lines.specs.Words.{Quoted, words_of}
 
--- a text as it is written between quotes is one word, and stands for that text
+-- a text as it is written between quotes is one word, and is read as that text
 abbrev pub ReadBack : Type 0
 ReadBack = (text : List ℕ) → IsText text → words_of (quoted (encode_utf8_all text)) ≡ Ok (Quoted text ∷ [])
 
--- no line feed stands in the line, and no carriage return at its end
+-- the line has no line feed, and no carriage return at its end
 pub record IsLine (line : List ℕ) : Type 0 where
   pub no_feed : (front rest : List ℕ) → line ≡ front ++ 10 ∷ rest → ⊥
   pub no_return : (front : List ℕ) → line ≡ front ++ 13 ∷ [] → ⊥

@@ -115,7 +115,7 @@ note_added name file r =
     (fault_unless (nat_lt (length r.notes) 256) TooMany
     (Ok (record r { notes = r.notes ++ new_note r name file ∷ []; cards = file_added r.cards file })))
 
--- there are so many, numbered from 1
+-- the number is one of `count`, counted from 1
 abbrev pub has_number : ℕ → ℕ → Bool
 has_number count n = nat_lt 0 n && nat_le n count
 
@@ -129,7 +129,7 @@ has_link objects object link =
     has_number (length objects) object
     && (nat_le link 1 || nat_le link (prims_of (slice_get objects (object - 1))))
 
--- the objects, scripts and prims of the step stand
+-- the objects, scripts and prims of the step exist
 abbrev pub knows : Reading → TheStep → Bool
 knows r (Clock ms) = true
 knows r (Say channel name key text) = true
@@ -141,7 +141,7 @@ knows r (Run ticks) = true
 knows r (Pause gaps) = true
 knows r (Cross object region) = has_number (length r.objects) object
 
--- the last clock behind the step
+-- the last clock after the step
 abbrev pub clock_behind : ℕ → TheStep → ℕ
 clock_behind clock (Clock ms) = ms
 clock_behind clock _ = clock
@@ -164,6 +164,6 @@ line_added Begin r = fault_unless (is_objects r.part) BadLine (Ok (record r { pa
 line_added (Step step) r = step_added step r
 line_added End r = fault_unless (is_steps r.part) BadLine (Ok (record r { part = Ended }))
 
--- the same of a line of bytes: an empty one and a comment do nothing
+-- the same for a line of bytes: an empty one and a comment do nothing
 unfoldable pub read_line : List ℕ → Reading → Result Reading FileKind
 read_line line r = cond (is_skipped line) (Ok r) (form_of line >>= λ form. line_added form r)

@@ -24,7 +24,7 @@ is_skipped (b ∷ line) = cond (is_blank b) (is_skipped line) (b == 35)
 abbrev pub text_of : List ℕ → Result (List ℕ) FileKind
 text_of bytes = fault_unless (is_utf8 bytes && nat_le (length bytes) most_text_bytes) BadLine (Ok (chars bytes))
 
--- what stands for a quote, a backslash and a line feed behind a backslash
+-- the character for a quote, a backslash and a line feed after a backslash
 abbrev pub escape_of : ℕ → Result ℕ FileKind
 escape_of b = cond (b == 34 || b == 92) (Ok b) (cond (b == 110) (Ok 10) (Err BadLine))
 
@@ -36,26 +36,26 @@ abbrev mutual
       cond (is_blank b) (words_of line)
       (cond (b == 34) (quoted_words [] line) (plain_words (b ∷ []) line))
 
-  -- the same within a plain word, of which these bytes stand before
+  -- the same within a plain word, given its bytes so far
   pub plain_words : List ℕ → List ℕ → Result (List Word) FileKind
   plain_words front [] = Ok (Plain front ∷ [])
   plain_words front (b ∷ line) =
       cond (is_blank b) (words_of line >>= λ words. Ok (Plain front ∷ words))
       (plain_words (front ++ b ∷ []) line)
 
-  -- within a quoted word, of whose text these bytes stand before
+  -- within a quoted word, given the bytes of its text so far
   pub quoted_words : List ℕ → List ℕ → Result (List Word) FileKind
   quoted_words front [] = Err BadLine
   quoted_words front (b ∷ line) =
       cond (b == 34) (text_of front >>= λ text. behind_quote text line)
       (cond (b == 92) (escaped_words front line) (quoted_words (front ++ b ∷ []) line))
 
-  -- behind a backslash in a quoted word
+  -- after a backslash in a quoted word
   pub escaped_words : List ℕ → List ℕ → Result (List Word) FileKind
   escaped_words front [] = Err BadLine
   escaped_words front (b ∷ line) = escape_of b >>= λ e. quoted_words (front ++ e ∷ []) line
 
-  -- behind a quoted word: a blank, or the line's end
+  -- after a quoted word: a blank, or the line's end
   pub behind_quote : List ℕ → List ℕ → Result (List Word) FileKind
   behind_quote text [] = Ok (Quoted text ∷ [])
   behind_quote text (b ∷ line) =

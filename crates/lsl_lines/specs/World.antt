@@ -1,4 +1,4 @@
--- The world that a file tells, or the file's first fault.
+-- The world that a file describes, or the file's first fault.
 use Rattle.std.specs.Prelude.{◌≡◌, ℕ, ◌+◌, nat_le, cond, List, [], ◌∷◌, length, Result, Ok, Err}
 use Rattle.lsl_text.specs.declared.Refusal.{Refusal}
 use Rattle.lsl_text.specs.declared.Refusal.TheVariants.{Fault, NoMemory}
@@ -27,7 +27,7 @@ file_of line Ended r = Ok (record {
   steps = r.steps;
 })
 
--- what comes of these lines, the first of which has this number, behind what was read
+-- the result of these lines, the first of which has this number, after what was read
 abbrev pub world_from : ℕ → Reading → List (List ℕ) → Result WorldFile FileFault
 world_from line r [] = file_of line r.part r
 world_from line r (bytes ∷ lines) = elim (read_line bytes r) [
@@ -48,7 +48,7 @@ IsWorld text file = world_of text ≡ Ok file
 abbrev pub FileFirst : List ℕ → FileFault → Type 0
 FileFirst text fault = world_of text ≡ Err fault
 
--- the text is refused for its first fault, or for want of memory
+-- the text is refused for its first fault, or because memory ran out
 abbrev pub IsRefused : List ℕ → Refusal FileFault → Type 0
 IsRefused text (Fault fault) = FileFirst text fault
 IsRefused text NoMemory = Unit {0}

@@ -60,7 +60,7 @@ pub record IsWritableObject (object : ObjectLine) : Type 0 where
   pub few : length object.prims ≤ 255
   pub prims : AllByRecursion IsWritablePrim object.prims
 
--- a step of these objects and so many scripts
+-- a step of these objects and `count` scripts
 abbrev pub IsWritableStep : List ObjectLine → ℕ → Step → Type 0
 IsWritableStep objects scripts (Clock ms) = ms ≤ 2147483647999
 IsWritableStep objects scripts (Say channel name key text) =
@@ -76,7 +76,7 @@ IsWritableStep objects scripts (Pause gaps) = (length gaps ≤ 16) × AllByRecur
 IsWritableStep objects scripts (Cross object region) =
     (has_number (length objects) object ≡ true) × IsName region
 
--- how many files are named behind these scripts, where so many were before
+-- the number of files named after these scripts, where `count` were named before
 abbrev pub named_behind : ℕ → List ScriptLine → ℕ
 named_behind count [] = count
 named_behind count (script ∷ scripts) = named_behind (max count (script.file + 1)) scripts
@@ -100,7 +100,7 @@ abbrev pub ClocksRise : ℕ → List Step → Type 0
 ClocksRise clock [] = Unit {0}
 ClocksRise clock (step ∷ steps) = (clock ≤ clock_behind clock step) × ClocksRise (clock_behind clock step) steps
 
--- a world that a text can tell
+-- a world that a text can describe
 pub record IsWritable (file : WorldFile) : Type 0 where
   pub few_objects : length file.objects ≤ 64
   pub few_scripts : length (scripts_in file.objects) ≤ 256

@@ -14,7 +14,6 @@ use Rattle.lsl_lines.specs.declared.forms.Line.{Line}
 use Rattle.lsl_lines.specs.declared.forms.Line.TheVariants.{Object, Prim, Script, Note, Begin, Step, End}
 use Rattle.lsl_lines.specs.Words.{Word, Plain, Quoted}
 
--- a word as it is written
 abbrev pub written : Word → List ℕ
 written (Plain bytes) = bytes
 written (Quoted text) = text_word text
@@ -70,7 +69,7 @@ script_lines files prim = map (script_line files) prim.scripts
 abbrev pub note_line : List (List ℕ) → NoteLine → Line
 note_line cards note = Note note.name (get_or cards note.file [])
 
--- the notecards at the head of these that lie in the prim of this number, and those behind them
+-- the notecards at the head of these that lie in the prim of this number, and those after them
 abbrev pub lying_in : ℕ → List NoteLine → List NoteLine
 lying_in prim [] = []
 lying_in prim (note ∷ notes) = cond (note.prim == prim) (note ∷ lying_in prim notes) []
@@ -79,7 +78,7 @@ abbrev pub left_by : ℕ → List NoteLine → List NoteLine
 left_by prim [] = []
 left_by prim (note ∷ notes) = cond (note.prim == prim) (left_by prim notes) (note ∷ notes)
 
--- those that are left by so many prims, from this number on
+-- those that are left by `count` prims, from this number on
 abbrev pub left_by_prims : (prim count : ℕ) → List NoteLine → List NoteLine
 left_by_prims prim zero notes = notes
 left_by_prims prim (suc count) notes = left_by_prims (prim + 1) count (left_by prim notes)

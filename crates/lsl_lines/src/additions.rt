@@ -37,7 +37,7 @@ pub fn new_prim(alloc: Global, key: Text, name: Text) -> PrimLine
     }
 }
 
-/// Adds a key that doesn't stand yet.
+/// Adds a key that isn't in the table yet.
 pub fn add_key(alloc: Global, keys: &mut Keys, key: &Text) -> Field<()>
     ensures { Makes result keys.new (keys_behind keys.old key.now) }
 {
@@ -74,7 +74,7 @@ fn place_of(files: &Sequence<Text>, file: &Text) -> usize
     place
 }
 
-/// Whether a list of so many, numbered from 1, has this number.
+/// Whether a list of `count` items, numbered from 1, has this number.
 pub fn has_number(count: u64, number: u32) -> bool
     ensures { result ≡ has_number count number }
 {

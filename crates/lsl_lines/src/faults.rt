@@ -3,11 +3,11 @@
 /// A fault of a world file.
 #[derive(Clone, Copy, PartialEq, Eq, Hash)]
 pub enum FileKind {
-    /// The line has no form, or its form stands in the wrong part of the file.
+    /// The line has no form, or is in the wrong part of the file.
     BadLine,
-    /// The file ends, and no `begin` stood in it.
+    /// The file ends without a `begin`.
     NoBegin,
-    /// The file ends behind `begin`, and no `end` stood in it.
+    /// The file ends after `begin`, but without an `end`.
     NoEnd,
     /// There is no object, script or prim of that number.
     Unknown,

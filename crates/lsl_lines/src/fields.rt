@@ -1,4 +1,4 @@
-//! What a word of a line stands for: a number, a key, a name or a text.
+//! What a word of a line means: a number, a key, a name or a text.
 
 ghost use Rattle.std.specs.Prelude.{◌≡◌, ◌≤◌, ◌<◌, map, true, false, IfOk};
 ghost use Rattle.std.specs.Char.{to_ascii_lowercase};
@@ -16,7 +16,7 @@ pub type Field<T> = Result<T, Refusal<FileKind>>;
 
 pub const BAD_LINE: Refusal<FileKind> = Refusal::Fault(FileKind::BadLine);
 
-/// Above every number that a field holds.
+/// Greater than every number that a field holds.
 const CAP: u64 = 4_294_967_296_000;
 
 /// How many bytes a name has at most.

@@ -26,8 +26,9 @@ pub enum Line {
     End,
 }
 
-/// What the line says, whose words take the place of others. Takes memory for texts, and for more words than ever
-/// before.
+/// What the line says. Its words replace those of the last line.
+///
+/// Takes memory for texts, and for more words than ever before.
 #[tactic(auto, unfolding(crate::specs::Forms::form_of))]
 pub fn parse_line<'a>(alloc: Global, line: &'a [u8], words: &mut Vec<Word<'a>>) -> Field<Line>
     ensures { Gives result (form_of line.now) }

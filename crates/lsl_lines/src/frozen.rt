@@ -35,7 +35,7 @@ pub fn push_frozen(out: &mut Vec<u8>, bytes: &[u8]) -> Result<(), NoMemory>
     pushed
 }
 
-// After an `Err` a front of the line may stand behind the old bytes.
+// After an `Err` a prefix of the line may follow the old bytes.
 fn push_parts(out: &mut Vec<u8>, bytes: &[u8]) -> Result<(), NoMemory>
     ensures ok { OnOk result (out.new.items ≡ out.old.items ++ frozen_line bytes.now) }
     ensures front { OnErr result (take (vec_len out.old) out.new.items ≡ out.old.items) }
@@ -46,7 +46,7 @@ fn push_parts(out: &mut Vec<u8>, bytes: &[u8]) -> Result<(), NoMemory>
     Ok(())
 }
 
-// The digits are made where they are to stand.
+// Writes the digits in place.
 fn push_digits(out: &mut Vec<u8>, bytes: &[u8]) -> Result<(), NoMemory>
     ensures ok { OnOk result (out.new.items ≡ out.old.items ++ encode_lower bytes.now) }
     ensures front { OnErr result (out.new.items ≡ out.old.items) }
@@ -58,7 +58,7 @@ fn push_digits(out: &mut Vec<u8>, bytes: &[u8]) -> Result<(), NoMemory>
     Ok(())
 }
 
-// Where the digits of so many bytes end that begin at this place.
+// The end of the digits of `count` bytes that begin at this place.
 fn end_of_digits(start: usize, count: usize) -> Result<usize, NoMemory>
     ensures { IfOk result (λ end. end ≡ start + 2 * count) }
 {
@@ -78,9 +78,9 @@ fn write_digits(out: &mut [u8], bytes: &[u8])
     let _written = encode_to_slice(bytes, out);
 }
 
-/// The bytes of the frozen world whose line is the text's last one; that line may lack its line feed.
+/// The bytes of the frozen world in the text's last line, which may have no line feed.
 ///
-/// Refused are a text of more than 2,147,483,647 bytes, and one whose last line isn't `frozen`, a space and an
+/// Refused are a text of more than 2,147,483,647 bytes, and one with a last line that isn't `frozen`, a space and an
 /// even number of hexadecimal digits with lower-case letters. Takes memory for the bytes.
 pub fn take_frozen(alloc: Global, text: &[u8]) -> Result<Vec<u8>, Refusal<ImageFault>>
     ensures found { IfOk result (λ bytes. IsFrozen text.now bytes.items) }
@@ -113,7 +113,7 @@ fn without_feed(text: &[u8]) -> &[u8]
     }
 }
 
-// What stands behind the last line feed.
+// What follows the last line feed.
 fn behind_feeds(text: &[u8]) -> &[u8]
     ensures { result.now ≡ after_last is_line_feed text.now }
 {
@@ -123,7 +123,7 @@ fn behind_feeds(text: &[u8]) -> &[u8]
     }
 }
 
-// What stands behind the word.
+// What follows the word.
 fn digits_of(line: &[u8]) -> Option<&[u8]>
     ensures { MatchOption result ((digits : List ℕ) → line.now ≢ codes "frozen " ++ digits)
         (λ digits. line.now ≡ codes "frozen " ++ digits.now) }
@@ -131,7 +131,7 @@ fn digits_of(line: &[u8]) -> Option<&[u8]>
     line.strip_prefix(b"frozen ")
 }
 
-// The bytes of these digits, whose letters are in lower case.
+// The bytes of these digits, which have letters in lower case.
 fn bytes_of(alloc: Global, digits: &[u8]) -> Result<Vec<u8>, Refusal<ImageFault>>
     ensures found { IfOk result (λ bytes. (encode_lower bytes.items ≡ digits.now) × IsBytes bytes.items) }
     ensures every { (bytes : List ℕ) → IsBytes bytes → encode_lower bytes ≡ digits.now

@@ -45,7 +45,7 @@ pub fn push_line(out: &mut Vec<u8>, entry: &Entry) -> Result<(), NoMemory>
     pushed
 }
 
-// After an `Err` here and below, a front of what was to be appended may stand behind the old bytes.
+// After an `Err` here and below, a prefix of what was to be appended may follow the old bytes.
 fn push_each(out: &mut Vec<u8>, entries: &[Entry]) -> Result<(), NoMemory>
     ensures ok { OnOk result (out.new.items ≡ out.old.items ++ lines_of entries.now) }
     ensures front { OnErr result (take (vec_len out.old) out.new.items ≡ out.old.items) }

@@ -1,6 +1,6 @@
-//! The words of a line of the journal, each behind a space.
+//! The words of a line of the journal, each after a space.
 //!
-//! After an `Err` a front of what was to be appended may stand behind the old bytes.
+//! After an `Err` a prefix of what was to be appended may follow the old bytes.
 
 ghost use Rattle.std.specs.Prelude.{◌≡◌, ◌≤◌, ◌<◌, ◌+◌, ◌++◌, ◌∷◌, [], decimal, length, map, take, vec_len, vec_capacity, OnOk, OnErr};
 ghost use Rattle.std.specs.List.{flat_map};
@@ -54,7 +54,7 @@ pub fn push_number_word(out: &mut Vec<u8>, n: u64) -> Result<(), NoMemory>
     Ok(())
 }
 
-// The same of any number.
+// Appends any number in decimal.
 #[inline(never)]
 fn push_long_number_word(out: &mut Vec<u8>, n: u64) -> Result<(), NoMemory>
     ensures ok { OnOk result (out.new.items ≡ out.old.items ++ spaced (decimal n)) }
@@ -88,7 +88,7 @@ pub fn push_quoted_word(out: &mut Vec<u8>, text: &str) -> Result<(), NoMemory>
     push_long_word(out, text.as_bytes())
 }
 
-// The same, whatever its length.
+// Appends a quoted text of any length.
 #[inline(never)]
 fn push_long_word(out: &mut Vec<u8>, text: &[u8]) -> Result<(), NoMemory>
     ensures ok { OnOk result (out.new.items ≡ out.old.items ++ spaced (quoted text.now)) }
@@ -98,11 +98,11 @@ fn push_long_word(out: &mut Vec<u8>, text: &[u8]) -> Result<(), NoMemory>
     push_quoted(out, text)
 }
 
-// A text with fewer bytes is short: searches go by more than a byte at a time from here on.
+// A text with fewer bytes is short. From this length on, a search by more than a byte at a time pays.
 const SHORT: usize = 32;
 
-// Appends a short text, quoted. The room is taken once, and the vector is moved out meanwhile, so that its length
-// stays in a register.
+// Appends a short text, quoted. It reserves once, and moves the vector out meanwhile, so that its length stays in a
+// register.
 #[inline(never)]
 fn push_short_word(out: &mut Vec<u8>, text: &[u8]) -> Result<(), NoMemory>
     requires { length text.now < 32 }
@@ -162,7 +162,7 @@ pub fn push_byte(out: &mut Vec<u8>, b: u8) -> Result<(), NoMemory>
     Ok(())
 }
 
-// Room for so many bytes more. The test whether it is there already stands in line.
+// Reserves `count` bytes more. The test whether there is room already is inlined.
 #[inline(always)]
 fn make_room(out: &mut Vec<u8>, count: usize) -> Result<(), NoMemory>
     ensures items { out.new.items ≡ out.old.items }

@@ -42,14 +42,14 @@ impl Keys {
         self.table.len()
     }
 
-    /// Whether the key stands. Takes no memory, and walks no list.
+    /// Whether the key is in the table. Takes no memory, and walks no list.
     pub fn has(&self, key: &Text) -> bool
         ensures { result ≡ has_key self.now key.now }
     {
         self.table.contains(key.as_str())
     }
 
-    /// Adds a key that doesn't stand.
+    /// Adds a key that isn't in the table.
     pub fn push(&mut self, alloc: Global, key: &Text) -> Result<(), NoMemory>
         requires { has_key self.old key.now ≡ false }
         ensures { OnOk result (self.new ≡ self.old ++ encode_utf8_all key.now ∷ []) }

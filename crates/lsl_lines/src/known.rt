@@ -8,7 +8,7 @@ impl Reading {
     ghost use Rattle.std.specs.Prelude.{◌≡◌, length, slice_get};
     ghost use Rattle.lsl_lines.specs.Reading.{has_number, prims_of, has_link, knows, clock_behind};
 
-    /// The last clock behind the step.
+    /// The last clock after the step.
     pub fn clock_behind(&self, step: &Step) -> u64
         ensures { result ≡ clock_behind self.now.clock step.now }
     {
@@ -18,7 +18,7 @@ impl Reading {
         }
     }
 
-    /// Whether the objects, scripts and prims of the step stand.
+    /// Whether the objects, scripts and prims of the step exist.
     pub fn knows(&self, step: &Step) -> bool
         ensures { result ≡ knows self.now step.now }
     {

@@ -11,12 +11,12 @@ pub fn lines_are_cut_again()
     ensures both { CutAgain (13 ∷ 10 ∷ []) }
 {}
 
-/// A text as `push_quoted` of `lsl_text` writes it is read back as that text.
+/// A text that `push_quoted` of `lsl_text` writes is read back as that text.
 pub fn quoted_texts_are_read_back()
     ensures { ReadBack }
 {}
 
-/// Each world that a text can tell is the world of `text_of_world`.
+/// Each world that a text can describe is the world of `text_of_world`.
 pub fn written_worlds_are_read()
     ensures { EachIsRead }
 {}

@@ -5,7 +5,7 @@ ghost use Rattle.std.specs.List.{prefix_len};
 ghost use Rattle.lsl_lines.specs.Lines.{lines_of};
 ghost use Rattle.lsl_lines.specs.Reads.{is_in_line, without_return};
 
-/// The first line of a text that isn't empty, and what stands behind it.
+/// The first line of a text that isn't empty, and what follows it.
 pub fn first_line(text: &[u8]) -> (&[u8], &[u8])
     requires { 0 < length text.now }
     ensures lines { lines_of text.now ≡ result.0.now ∷ lines_of result.1.now }
@@ -18,7 +18,7 @@ pub fn first_line(text: &[u8]) -> (&[u8], &[u8])
     (without_return(&text[..end]), &text[end + 1..])
 }
 
-// How many bytes stand before the first line feed.
+// The number of bytes before the first line feed.
 fn line_length(text: &[u8]) -> usize
     ensures count { result ≡ prefix_len is_in_line text.now }
     ensures within { result ≤ length text.now }

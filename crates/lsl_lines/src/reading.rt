@@ -21,7 +21,7 @@ const MAX_NOTES: usize = 256;
 
 const MAX_STEPS: usize = 100_000;
 
-/// The part of the file that a line stands in.
+/// The part of the file that a line is in.
 #[derive(Clone, Copy, PartialEq, Eq)]
 pub enum Part {
     Objects,
@@ -91,7 +91,7 @@ impl Reading {
         }
     }
 
-    /// Reads a line, whose words take the place of others. After a refusal the value is only to be dropped.
+    /// Reads a line. Its words replace those of the last line. After a refusal the value must be dropped.
     #[tactic(auto, unfolding(crate::specs::Reading::read_line))]
     pub fn read_line<'a>(
         &mut self,

@@ -11,7 +11,7 @@ use lsl_value::Text;
 use std::alloc::Global;
 use std::marker::Model;
 
-/// A word of a line: what stands between blanks, or the text between quotes. The bytes are the line's own.
+/// A word of a line: what is between blanks, or the text between quotes. The bytes are the line's own.
 #[derive(Drop)]
 pub struct Word<'a> {
     form: Form<'a>,
@@ -92,7 +92,7 @@ pub fn is_skipped(line: &[u8]) -> bool
     true
 }
 
-/// Puts the words of a line in the place of others. Takes memory where they are more than ever before, and for the
+/// Replaces the words of the last line by this line's. Takes memory where they are more than ever before, and for the
 /// texts of quoted ones.
 pub fn read_words<'a>(alloc: Global, line: &'a [u8], words: &mut Vec<Word<'a>>) -> Field<()>
     ensures { Makes result words.new.items (words_of line.now) }
@@ -114,7 +114,7 @@ pub fn read_words<'a>(alloc: Global, line: &'a [u8], words: &mut Vec<Word<'a>>) 
     Ok(())
 }
 
-// The plain word that the line begins with, and what stands behind it.
+// The plain word that the line begins with, and what follows it.
 fn plain(line: &[u8]) -> (Word, &[u8])
     requires { 0 < length line.now }
     ensures word { plain_words (take 1 line.now) (drop 1 line.now) ≡ ahead result.0 result.1.now }
@@ -124,7 +124,7 @@ fn plain(line: &[u8]) -> (Word, &[u8])
     (Word::from_plain(&line[..size]), &line[size..])
 }
 
-// How many bytes stand before the first blank.
+// The number of bytes before the first blank.
 fn word_length(line: &[u8]) -> usize
     ensures count { result ≡ prefix_len is_in_word line.now }
     ensures within { result ≤ length line.now }
@@ -141,7 +141,7 @@ fn word_length(line: &[u8]) -> usize
     n
 }
 
-// The quoted word behind a quote, and what stands behind it.
+// The quoted word after a quote, and what follows it.
 fn quoted(alloc: Global, line: &[u8]) -> Field<(Word, &[u8])>
     ensures word { GivesWord (λ x. (x.0, x.1.now)) result (quoted_words [] line.now) }
     ensures shorter { IfOk result (λ x. length x.1.now ≤ length line.now) }
@@ -153,7 +153,7 @@ fn quoted(alloc: Global, line: &[u8]) -> Field<(Word, &[u8])>
     escaped(alloc, line)
 }
 
-// How many bytes stand before the first quote or backslash.
+// The number of bytes before the first quote or backslash.
 fn verbatim_length(line: &[u8]) -> usize
     ensures count { result ≡ prefix_len is_verbatim line.now }
     ensures within { result ≤ length line.now }
@@ -170,7 +170,7 @@ fn verbatim_length(line: &[u8]) -> usize
     n
 }
 
-// The same as `quoted`, byte by byte.
+// Like `quoted`, but byte by byte.
 fn escaped(alloc: Global, line: &[u8]) -> Field<(Word, &[u8])>
     ensures word { GivesWord (λ x. (x.0, x.1.now)) result (quoted_words [] line.now) }
     ensures shorter { IfOk result (λ x. length x.1.now ≤ length line.now) }
@@ -194,7 +194,7 @@ fn escaped(alloc: Global, line: &[u8]) -> Field<(Word, &[u8])>
     Err(BAD_LINE)
 }
 
-// The word of these bytes, whose quote stands before the rest of the line.
+// The word of these bytes, with its closing quote before the rest of the line.
 fn closed<'a>(alloc: Global, bytes: &[u8], line: &'a [u8]) -> Field<(Word<'a>, &'a [u8])>
     ensures word { GivesWord (λ x. (x.0, x.1.now)) result (closed_words bytes.now line.now) }
     ensures shorter { IfOk result (λ x. length x.1.now ≤ length line.now) }
@@ -204,7 +204,7 @@ fn closed<'a>(alloc: Global, bytes: &[u8], line: &'a [u8]) -> Field<(Word<'a>, &
     Ok((Word::from_quoted(text), behind))
 }
 
-// What stands behind a quoted word: nothing, or a blank and more.
+// What follows a quoted word: nothing, or a blank and more.
 fn behind_quote(line: &[u8]) -> Field<&[u8]>
     ensures { GivesBy (λ r. r.now) result (behind_of line.now) }
 {
@@ -214,7 +214,7 @@ fn behind_quote(line: &[u8]) -> Field<&[u8]>
     }
 }
 
-// What this byte stands for behind a backslash.
+// What this byte means after a backslash.
 fn escape(b: u8) -> Field<u8>
     ensures { Gives result (escape_of b) }
 {

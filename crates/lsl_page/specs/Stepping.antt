@@ -19,8 +19,8 @@ use Rattle.lsl_page.specs.declared.place.Place.{Place}
 abbrev pub saturated : ℕ → ℕ
 saturated n = if nat_le n 4294967295 then n else 4294967295
 
--- Within a step, after so many segments of it; step 0 is the end of the file. No world file has a step or a segment that
--- 32 bits don't count.
+-- Within a step, after so many segments of it; step 0 is the end of the file. No world file has a step or a segment
+-- that 32 bits don't count.
 abbrev pub position_of : ℕ → ℕ → Option Position
 position_of step segment =
     if step == 0 then None else Some (record { step = saturated step; segment = saturated segment })
@@ -39,8 +39,8 @@ number_of_trace Told = number_of Ok
 number_of_trace (Refused status) = number_of status
 number_of_trace TooLong = number_of WriteFault
 
--- The trace ended so over these files, with this output in a room for so many bytes: as `lsl_trace` says over a link that
--- returns what it is sent, where nothing had been written before.
+-- The trace ended so over these files, with this output in a room for so many bytes: as `lsl_trace` says over a link
+-- that returns what it is sent, where nothing had been written before.
 pub record TraceEnds (files : Files) (asked : Asked) (room : ℕ) (ended : Traced) (output : List ℕ) : Type 0 where
   pub refused : ℕ
   pub ends : EndsSo copies asked (outside_of files 0 [] 0) (taken (Some []) 0) (taken (Some output) refused) ended

@@ -1,5 +1,5 @@
-//! What a debugger asks for: the trace of a world, the moment of a trace to which a move leads, and the state of a world
-//! at a position.
+//! What a debugger asks for: the trace of a world, the moment of a trace to which a move leads, and the state of a
+//! world at a position.
 
 ghost use Rattle.std.specs.Prelude.{◌≡◌, IfOk, IsErrOf, None, OnErr, Some, length, take};
 ghost use Rattle.std.specs.Str.{IsUtf8};
@@ -131,7 +131,8 @@ fn show(
     }
 }
 
-/// Writes the lines of the moment to which a move leads from another one. `words` has the words of the move, each a line.
+/// Writes the lines of the moment to which a move leads from another one. `words` has the words of the move, each a
+/// line.
 pub fn write_moment(
     alloc: Global,
     file: &[u8],

@@ -62,7 +62,7 @@ code-longer b =
       flat_length (main b) width (main_length b) 0 b.code,
     )
 
--- each of these functions has few instructions
+-- each of these functions is short
 abbrev AreShort : List FunctionCode → Type 0
 AreShort functions =
     (n : ℕ) (f : FunctionCode) → slice_get functions n ≡ Some f → length f.code < 4294967296

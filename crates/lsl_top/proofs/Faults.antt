@@ -37,7 +37,7 @@ pub refused-place : {T : Type 0} (place : ℕ) (refusal : Refusal BuildFault) (r
 refused-place {T = T} place refusal result refused e is =
     at-place place refusal refused (sym e ∙ err-one {T = T} result (Fault refused) is)
 
--- the same of a text that is no notecard
+-- the same for a text that isn't a notecard
 pub record IsBadThere (place : ℕ) (refusal : Refusal CardFault) (bad : BadCard) : Type 0 where
   pub fault : CardFault
   pub was : refusal ≡ Fault fault

@@ -42,7 +42,7 @@ text-read (Some files) name bytes h = go (files name) refl h
     go None e h = absurd h
     go (Some file) e h = (file, e, read-head file bytes h)
 
--- the same of several files
+-- the same for several files
 abbrev pub HaveTexts : Option Files → List (List ℕ) → List (List ℕ) → Type 0
 HaveTexts held names read = (texts : List (List ℕ)) × AreHeld held names texts × AllZip IsReadOf read texts
 

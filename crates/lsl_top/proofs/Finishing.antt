@@ -1,4 +1,4 @@
--- What is written for an answer, and how the command then ends.
+-- What is written for an answer, and how the command ends then.
 use Rattle.std.proofs.Common.{◌≡◌, ◌≢◌, ℕ, List, [], Option, Result, Ok as OkResult, Err, inl, inr, refl, ◌∙◌, subst, arith}
 use Rattle.lsl_ports.specs.Counts.{NoneFell, Rose}
 use Rattle.lsl_ports.specs.Shelf.{Files}
@@ -102,7 +102,7 @@ finish-written IsAnswer status lines a b (Err MemoryTrouble) own is w = record {
   no_usage = λ f. cc;
 }
 
--- nothing was written for want of memory
+-- nothing was written when out of memory
 pub finish-memory : (IsAnswer : Answer → Type 0) (a : Log) → Finishes IsAnswer a a NoMemory
 finish-memory IsAnswer a = record {
   keeps = inl (refl, refl);
@@ -113,7 +113,7 @@ finish-memory IsAnswer a = record {
   no_usage = λ f. cc;
 }
 
--- the same of what doesn't look at trips, and where the link wasn't called
+-- the same for what doesn't look at trips, and where the link wasn't called
 pub concludes-finished : (gives : List ℕ → Option (List ℕ) → Type 0) (IsFair : List Trip → Type 0)
     (IsOne : Answer → Type 0) (Fits : World → Type 0)
     (IsAnswer : Grade → World → List Trip → Answer → Type 0) (a b : Log) (p : Wire) (status : Status)
@@ -134,7 +134,7 @@ concludes-finished gives IsFair IsOne Fits IsAnswer a b p status f h = record {
   no_usage = h.no_usage;
 }
 
--- a run of these programs, from where it begins by the world that was frozen; these are its pieces
+-- a run of these programs, from where it begins by the world that was frozen, with its pieces
 module _ (gives : List ℕ → Option (List ℕ) → Type 0) (IsFair : List Trip → Type 0) (Fits : World → Type 0)
     (IsAnswer : Grade → World → List Trip → Answer → Type 0) (IsThen : List Program → Stage → Type 0)
     (Then : List Program → Stage → List Trip → Type 0) (pieces : List Program → Stage → List Trip → List Piece)
@@ -221,7 +221,7 @@ concludes-memory gives IsFair Fits IsAnswer a p = record {
   no_usage = λ f. cc;
 }
 
--- what fits one play and comes of it fits another, and comes of that
+-- what fits one play and results from it fits another, and results from that
 pub concludes-as : (gives : List ℕ → Option (List ℕ) → Type 0) (IsFair : List Trip → Type 0)
     (OneFits Fits : World → Type 0)
     (IsOne IsAnswer : Grade → World → List Trip → Answer → Type 0) (a b : Log) (p q : Wire) (status : Status)
@@ -277,7 +277,7 @@ module _ (gives : List ℕ → Option (List ℕ) → Type 0) (IsFair : List Trip
     links_counted = h.links_counted;
   }
 
-  -- the same of an answer that sends nothing
+  -- the same for an answer that sends nothing
   pub serve-finished : (IsOne : Answer → Type 0) (a b : Log) (p : Wire) (status : Status)
       → (KeepsTo (λ grade. IsOne) status [] a.sunk b.sunk → Kept [] status a.sunk b.sunk)
       → ((from : World) (trips : List Trip) (answer : Answer) → IsOne answer → IsAnswer Due from trips answer)
@@ -298,7 +298,7 @@ module _ (gives : List ℕ → Option (List ℕ) → Type 0) (IsFair : List Trip
     links_counted = omega arith;
   }
 
-  -- memory lacked before anything was written
+  -- memory ran out before anything was written
   pub serve-memory : (a : Log) (p : Wire) → Kept [] NoMemory a.sunk a.sunk → Served a a p p NoMemory
   serve-memory a p lost =
       serve-finished (λ answer. ⊥) a a p NoMemory (λ k. lost) (λ from trips answer never. absurd never)

@@ -130,7 +130,7 @@ ring-code : (r : Rules) (number clock : ℕ) (s : Script) → (ring_to r number 
 ring-code r number clock s = code-if (timer_due clock s.mailbox) s
     (post_to r number timer_event (record s { mailbox = timer_read clock s.mailbox })) refl
 
--- an item is another one, of which the same is told
+-- an item is replaced by one that agrees in this
 set-keeps : {X Y : Type 0} (f : X → Y) (xs : List X) (k : ℕ) (y d : X) → f y ≡ f (get_or xs k d)
     → map f (slice_set xs k y) ≡ map f xs
 set-keeps f [] k y d e = refl
@@ -161,7 +161,7 @@ module _ (r : Rules) (place : ℕ) (m : Member) (w : World) (at : slice_get w.me
       (map-set_same seated w.members place m (record m { script = done.0 }) at
       (same-seat m done.0 (mailed-code id args w.clock m.script)))
 
-  -- the object has another store, and its scripts are told, if of anything
+  -- the object has another store, and its scripts get the event, if there is one
   told-keeps : (object : ℕ) (e : Option Event) (v : World) → fixed_in (told_by r object e v).value ≡ fixed_in v
   told-keeps object None v = refl
   told-keeps object (Some e) v = post-keeps r _ e v
@@ -177,7 +177,7 @@ module _ (r : Rules) (place : ℕ) (m : Member) (w : World) (at : slice_get w.me
       told-keeps m.object (change_by id args pairs).told (with_store w m (pairs_by id args pairs))
       ∙ store-keeps (pairs_by id args pairs)
 
-  -- the script is told of a notecard
+  -- the script gets an answer about a notecard
   queried-keeps : (card : Option ℕ) (asked : Option (Option ℕ))
       → fixed_in (queried r place card asked w).value.0 ≡ fixed_in w
   queried-keeps None asked = refl

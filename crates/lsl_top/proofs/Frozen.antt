@@ -64,7 +64,7 @@ module _ (codes : List Code) (programs : List Program) (file : WorldFile) (cards
     cards = cards;
   }
 
-  -- a world of which the same stays has the shapes that the file tells
+  -- a world of which the same stays has the shapes that the file gives
   shapes-told : (w : World) → fixed_in w ≡ fixed_in (start (rules_of programs) file cards)
       → shapes_of (parts_of_world codes w) ≡ shapes_of_file file
   shapes-told w fixed =
@@ -82,7 +82,7 @@ module _ (codes : List Code) (programs : List Program) (file : WorldFile) (cards
     bytes = well.bytes;
   }
 
-  -- so is a world that was frozen behind the file's steps
+  -- so is a world that was frozen after the file's steps
   pub lasts-started : (last : Last) (trips : List Trip)
       → IsLast last codes programs (travel (rules_of programs) file.steps trips
       (start (rules_of programs) file cards)).value

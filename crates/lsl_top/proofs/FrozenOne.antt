@@ -1,4 +1,4 @@
--- A text has one frozen world, and a line that was written behind whole lines gives its bytes.
+-- A text has one frozen world, and a line that was written after whole lines gives its bytes.
 use Rattle.std.proofs.Common.{◌≡◌, ℕ, zero, suc, ◌+◌, ◌-◌, ◌/◌, ◌%◌, ◌<◌, ◌≤◌, ◌==◌, Bool, true, false, not, ◌&&◌, ◌⊎◌, List, [], ◌∷◌, ◌++◌, length, take, drop, get_or, slice_index, Result, Ok, Err, inl, inr, refl, sym, ap, ◌∙◌, arith, append_assoc, length-append}
 use Rattle.std.specs.Prelude.{codes, nat_lt, if◌then◌else◌}
 use Rattle.std.specs.Io.BufRead.{ends_with_byte, strip_last}
@@ -152,7 +152,7 @@ digits-clean (c ∷ cs) h =
     let (first, rest) = and_parts (is_lower_digit c) (list_all is_lower_digit cs) h in
     ap (λ (b : Bool). b && list_all (λ d. not (is_line_feed d)) cs) (digit-clean c first) ∙ digits-clean cs rest
 
--- the line of these bytes stands behind whole lines
+-- the line of these bytes follows whole lines
 pub line-frozen : (lines bytes : List ℕ) → AreLines lines → IsBytes bytes
     → length (lines ++ frozen_line bytes) ≤ 2147483647 → IsFrozen (lines ++ frozen_line bytes) bytes
 line-frozen lines bytes are fits short = record {

@@ -140,7 +140,7 @@ frozen-read (Some files) (Viewing name) bytes h = go (files name) refl h
       fits = λ codes programs file cards from f. tt;
     }
 
--- the same of a play whose scripts and notecards have these texts
+-- the same for a play whose scripts and notecards have these texts
 pub plays-frozen : (held : Option Files) (bytes : List ℕ) (grade : Grade) (from : World) (trips : List Trip)
     (play : Play) (texts notes : List (List ℕ)) (answer : Answer) (has : HasFrozen held play.mode bytes)
     → PlaysTexts grade from trips play texts notes bytes answer

@@ -117,7 +117,7 @@ module _ (gives : List ℕ → Option (List ℕ) → Type 0) (codes : List Code)
 
   module _ (step : Step) (IsThen IsNow : List Program → Stage → Type 0) (a : Log) (p q : Wire) (trips : List Trip)
       (went : Went gives p.told q.told trips) (linked : p.faults ≤ q.faults) where
-    -- a step lacked memory
+    -- a step ran out of memory
     pub goes-memory : {T U E : Type 0} (e : E) (old new : List Entry)
         → ((programs : List Program) (stage : Stage) → IsThen programs stage
         → IsFairFrom stage trips → DoesAt {T = U} codes (rules_of programs) regions
@@ -205,7 +205,7 @@ module _ (gives : List ℕ → Option (List ℕ) → Type 0) (codes : List Code)
           },
         )
 
-  -- a step stopped, whatever was left to do behind it
+  -- a step stopped, whatever was left to do after it
   pub goes-stop : {T : Type 0} (step : Step) (rest steps : List Step) (IsThen IsNow : List Program → Stage → Type 0)
       (a b : Log) (p q : Wire) (e : Trouble) → steps ≡ step ∷ rest
       → Goes {T = T} gives codes regions IsThen IsNow (step ∷ []) a b p q (Err e)

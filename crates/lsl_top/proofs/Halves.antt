@@ -86,7 +86,7 @@ can-thaw-same codes programs first second cards w e h = record {
 
 -- ---- what comes of files whose scripts and notecards have these texts
 
--- the answer of a play of these texts, whose file is there
+-- the answer of a play of these texts, with its file there
 file-comes : (g : Grade) (files : Files) (from : World) (trips : List Trip) (mode : Mode) (name : List ℕ)
     (file : WorldFile) (texts notes : List (List ℕ)) (text : List ℕ) (answer : Answer)
     → IsOnShelf files name file texts notes → HoldsFrozen (Some files) mode text

@@ -1,4 +1,4 @@
--- The pieces of a run are its journal and what is told at its end, and send its images.
+-- The pieces of a run are its journal and what is printed at its end, and send its images.
 use Rattle.std.proofs.Common.{◌≡◌, ℕ, List, [], ◌∷◌, ◌++◌, refl, ap, sym, ◌∙◌, append-nil}
 use Rattle.lsl_code.specs.declared.woven_units.Woven.{Woven as Code}
 use Rattle.lsl_ports.specs.Trips.{Trip}

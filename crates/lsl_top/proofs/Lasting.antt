@@ -14,7 +14,7 @@ use Rattle.lsl_top.specs.Ports.{Log, Writes}
 use Rattle.lsl_top.specs.declared.writing.Trouble.{Trouble}
 use Rattle.lsl_top.specs.declared.writing.Trouble.TheVariants.{NoMemory}
 
--- the line was made of a world's image
+-- the line was written from a world's image
 pub line-frozen-well : {E : Type 0} (codes : List Code) (programs : List Program) (w : World)
     (result : Result (Vec ℕ Global) E) (image : List ℕ) → image ≡ frozen_image codes w
     → IfOk result (λ line. line.items ≡ frozen_line image) → IsFrozenWell codes programs w

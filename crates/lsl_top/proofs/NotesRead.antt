@@ -30,7 +30,7 @@ same-note bytes text e = record {
   bad = λ fault h. subst (λ (z : List ℕ). IsRefused z (Fault fault)) e h;
 }
 
--- of a text that is too long so much was read that it is seen
+-- of a text that is too long enough bytes were read to see that
 long-note : (bytes text : List ℕ) → 65536 < length bytes → 65536 < length text → IsNoteOf bytes text
 long-note bytes text many long = record {
   card = λ lines h. absurd (omega (arith, many, h.within));

@@ -127,7 +127,7 @@ refused-one names texts n m f g r s =
     let named = some-one n m (sym r.named ∙ ap (λ place. slice_get names place) at ∙ s.named) in
     ap₂ (λ name fault. script_refused name fault) named same
 
--- a text that gives a world has no fault, and one fault else
+-- a text that gives a world has no fault, and otherwise one fault
 pub thaw-no_fault : (codes : List Code) (file : WorldFile) (text : List ℕ) (parts : WorldParts) (fault : ImageFault)
     → IsThawOf codes file text parts → IsThawFault codes file text fault → ⊥
 thaw-no_fault codes file text parts fault (image, is, stands) (inl (lacks, e)) = lacks (has-line text image is)
@@ -232,7 +232,7 @@ texts-come files (Viewing name) g from trips names cards file texts notes t u a 
     subst (λ (z : List ℕ). PlaysTexts g from trips (played (Viewing name) names cards file) texts notes z a)
     (text-one files name t u h k) p
 
--- what is answered to a play whose scripts and notecards have these texts
+-- the answer to a play whose scripts and notecards have these texts
 pub plays-texts : (files : Files) (g : Grade) (from : World) (trips : List Trip) (play : Play)
     (texts notes : List (List ℕ)) (text : List ℕ) (a : Answer) → AreHeld (Some files) play.names texts
     → AreHeld (Some files) play.cards notes → HoldsFrozen (Some files) play.mode text
@@ -245,7 +245,8 @@ plays-texts files g from trips play texts notes text a are noted holds (read, ha
     (subst (λ (z : List (List ℕ)). PlaysTexts g from trips play z read.notes read.frozen a)
     (texts-one files play.names read.texts texts had.scripts are) q))
 
--- where they are accepted as these programs and have this code, and the others are these notecards, it comes of these
+-- where they are accepted as these programs and have this code, and the others are these notecards, the result is of
+-- these
 pub texts-accepted : (g : Grade) (from : World) (trips : List Trip) (play : Play) (texts notes : List (List ℕ))
     (text : List ℕ) (programs : List Program) (codes : List Code) (cards : List (List (List ℕ))) (a : Answer)
     → AreAccepted texts programs → AreCodesOf texts codes → AreCards notes cards

@@ -1,4 +1,4 @@
--- The notecards of texts are one, or one text is the first that is none.
+-- The notecards of texts are one, or one text is the first that isn't one.
 use Rattle.std.proofs.Common.{◌≡◌, ℕ, zero, suc, ◌<◌, List, [], ◌∷◌, take, Some, inl, inr, refl, sym, ap, ap₂, ◌∙◌, subst, arith}
 use Rattle.std.specs.Prelude.{slice_get}
 use Rattle.std.proofs.lemmas.Bool.{cases_lt}
@@ -22,7 +22,7 @@ cards-one [] [] (d ∷ ds) h k = absurd k
 cards-one (t ∷ texts) [] ds h k = absurd h
 cards-one (t ∷ texts) (c ∷ cs) [] h k = absurd k
 
--- a notecard has no fault, and what is none has one
+-- a notecard has no fault, and what isn't one has one fault
 card-no_fault : (text : List ℕ) (card : Card) (fault : CardFault) → IsCard text card → IsRefused text (Fault fault) → ⊥
 card-no_fault text card TooLong h r = omega (arith, h.within, r)
 card-no_fault text card (NotText line) h r = r.other h.text

@@ -1,4 +1,4 @@
--- What a command that runs a world is to write is what its answer has, from the world that it says.
+-- What a command that runs a world is to write is what its answer has, from that world.
 use Rattle.std.proofs.Common.{◌≡◌, ℕ, List, [], ◌∷◌, Some, inl, inr, refl, sym, ap, ◌∙◌, subst, append-nil}
 use Rattle.std.specs.List.{AllZip}
 use Rattle.lsl_ports.specs.Shelf.{Files}

@@ -26,7 +26,7 @@ use Rattle.lsl_top.proofs.Pieces.{begun-before, begun-left, lines_before, whole-
 use Rattle.lsl_top.proofs.Trips.{went-then}
 use Rattle.lsl_top.proofs.Written.{lines-append, rose-later}
 
--- what is left of a step ends as the step does, and its piece is the step's, but for the lines that were written
+-- what is left of a step ends as the step does, and its piece is the step's, except for the lines that were written
 module _ (codes : List Code) (r : Rules) (regions : List (List ℕ)) (step rest : Step) (stage there : Stage)
     (told : List Entry) (trips : List Trip)
     (whole : goes codes r regions step stage trips ≡ led told (goes codes r regions rest there trips)) where
@@ -62,12 +62,12 @@ module _ (gives : List ℕ → Option (List ℕ) → Type 0) (codes : List Code)
       (programs : List Program) (stage : Stage) → IsThen programs stage → IsFairFrom stage trips
       → LeavesAt codes (rules_of programs) regions (IsNow programs) step rest stage trips before entries
 
-  -- what was written is what was told
+  -- what was written is what was reported
   lines-told : (told : List Entry) → entries ≡ before ++ told → lines_of these ≡ lines_of told
   lines-told told added =
       ap lines_of (are ∙ added ∙ ap (λ (es : List Entry). es ++ told) none)
 
-  -- a part was written, and what is left goes on
+  -- a part was written, and what is left continues
   goes-left : {T U : Type 0} (u : U) (rest : Step) (IsLast : List Program → Stage → Type 0) (c : Log) (s : Wire)
       (result : Result T Trouble) → Leaves rest → Writes {T = U} (lines_of these) a b (OkResult u)
       → Goes gives codes regions IsNow IsLast (rest ∷ []) b c q s result
@@ -129,7 +129,7 @@ module _ (gives : List ℕ → Option (List ℕ) → Type 0) (codes : List Code)
             },
           )
 
-  -- a part was told, but not all of it was written
+  -- a part was reported, but not all of it was written
   goes-part : {T : Type 0} (e : Trouble) (rest : Step) → Leaves rest
       → Writes {T = T} (lines_of these) a b (Err e)
       → Goes {T = T} gives codes regions IsThen IsNow (step ∷ []) a b p q (Err e)
@@ -168,7 +168,7 @@ module _ (gives : List ℕ → Option (List ℕ) → Type 0) (codes : List Code)
             },
           )
 
--- what a part came to, and its lines were to be written
+-- the result of a part, and its lines were to be written
 module _ (gives : List ℕ → Option (List ℕ) → Type 0) (codes : List Code) (regions : List (List ℕ)) (step : Step)
     (old new : Memory) (a b : Log) (p q : Wire) (trips : List Trip) (went : Went gives p.told q.told trips)
     (linked : p.faults ≤ q.faults) (before entries these : List Entry) (none : before ≡ []) (are : these ≡ entries)

@@ -1,4 +1,4 @@
--- What a command answers, by the files, by the world that was frozen before and by what came back of what was sent: a
+-- What a command answers, by the files, by the world that was frozen before and by what came back for what was sent: a
 -- case for each.
 use Rattle.std.specs.Prelude.{◌≡◌, ℕ, ◌⊎◌, List, [], ◌∷◌, Option, Some}
 use Rattle.lsl_ports.specs.Shelf.{Files}
@@ -75,7 +75,7 @@ lossy_answer codes programs file trips w =
       pieces = pieces_at Homes codes (rules_of programs) regions file.steps trips (lossy_stage regions w);
     }
 
--- an answer that is due, or one that was written: then also the world that was frozen can be thawed
+-- an answer that is due, or one that was written: in that case the world that was frozen can be thawed too
 pub data Grade : Type 0 where
   Due : Grade
   Written : Grade
@@ -94,21 +94,23 @@ ComesFromStart grade trips last codes programs file cards answer =
     Lasts grade last codes programs file cards (travel (rules_of programs) file.steps trips w).value
     × (answer ≡ run_answer last codes programs file trips w)
 
--- what is shown of the text of a frozen world of the file: where its scripts stand, by its parts; or its refusal
+-- what is shown of the text of a frozen world of the file: where its scripts are in their code, by its parts; or its
+-- refusal
 abbrev pub Shows : List Code → WorldFile → (name text : List ℕ) → Answer → Type 0
 Shows codes file name text answer =
     ((parts : WorldParts) × IsThawOf codes file text parts
     × (answer ≡ done (view_of_parts codes (script_names file) parts)))
     ⊎ ((fault : ImageFault) × IsThawFault codes file text fault × (answer ≡ image_refused name fault))
 
--- a run from the file's start, and then all that the world holds, with the names that the file and the scripts' texts have
+-- a run from the file's start, and then all that the world holds, with the names that the file and the scripts' texts
+-- have
 abbrev pub Inspects : Grade → List Trip → (texts : List (List ℕ)) → List Code → List Program → WorldFile → List Notecard
     → Answer → Type 0
 Inspects grade trips texts codes programs file cards answer =
     (globals : List (List (List ℕ))) × HaveGlobals texts globals
     × ComesFromStart grade trips (inspected file globals) codes programs file cards answer
 
--- what comes of scripts whose texts are accepted as these programs, with these notecards: a run from the file's start,
+-- the result of scripts whose texts are accepted as these programs, with these notecards: a run from the file's start,
 -- or from the world that was frozen, where the text is of a frozen world of the file; or that world is shown
 abbrev pub Comes : Grade → World → List Trip → Mode → (texts : List (List ℕ)) → List Code → List Program → WorldFile
     → List Notecard → List ℕ → Answer → Type 0
@@ -126,9 +128,8 @@ Comes grade from trips (Thawing name) texts codes programs file cards text answe
     ⊎ ((fault : ImageFault) × IsThawFault codes file text fault × (answer ≡ image_refused name fault))
 Comes grade from trips (Viewing name) texts codes programs file cards text answer = Shows codes file name text answer
 
--- what is answered to a play whose scripts are accepted, where its other files have these texts, its notecards' and the
--- frozen one: what comes of the programs, by the code that they have, or the refusal of the first text that is no
--- notecard
+-- the answer to a play whose scripts are accepted, where its other files have these texts, its notecards' and the
+-- frozen one: the result of the programs, by their code, or the refusal of the first text that isn't a notecard
 abbrev pub PlaysAccepted : Grade → World → List Trip → Play → (texts : List (List ℕ)) → List Code → List Program
     → (notes : List (List ℕ)) → List ℕ → Answer → Type 0
 PlaysAccepted grade from trips play texts codes programs notes text answer =
@@ -137,8 +138,8 @@ PlaysAccepted grade from trips play texts codes programs notes text answer =
     ⊎ ((name : List ℕ) × (fault : CardFault) × FirstBad play.cards notes name fault
     × (answer ≡ note_refused name fault))
 
--- what is answered to a play whose files have these texts, its scripts' first: what comes of the programs, or the
--- refusal of the first script that isn't accepted
+-- the answer to a play whose files have these texts, its scripts' first: the result of the programs, or the refusal of
+-- the first script that isn't accepted
 abbrev pub PlaysTexts : Grade → World → List Trip → Play → (texts notes : List (List ℕ)) → List ℕ → Answer → Type 0
 PlaysTexts grade from trips play texts notes text answer =
     ((programs : List Program) × (codes : List Code) × AreAccepted texts programs × AreCodesOf texts codes
@@ -160,22 +161,22 @@ Checks name text answer =
     ((program : Program) × Accepted text program × (answer ≡ done (accepted_line name)))
     ⊎ ((fault : BuildFault) × FirstFault text fault × (answer ≡ script_refused name fault))
 
--- these bytes are a world, which is played so far, or are refused for their first fault
+-- these bytes are a world, which is played in this mode, or are refused for their first fault
 abbrev pub Replays : Grade → Option Files → World → List Trip → Mode → List ℕ → List ℕ → Answer → Type 0
 Replays grade held from trips mode name bytes answer =
     ((file : WorldFile) × IsWorld bytes file × Plays grade held from trips (play_of mode (file_in mode file)) answer)
     ⊎ ((fault : FileFault) × FileFirst bytes fault × (answer ≡ world_refused name fault))
 
--- a world file is read, and played so
+-- a world file is read, and played in this mode
 abbrev pub ReplaysFile : Grade → Option Files → World → List Trip → Mode → List ℕ → Answer → Type 0
 ReplaysFile grade held from trips mode name answer =
     (bytes : List ℕ) × Holds held name bytes × Replays grade held from trips mode name bytes answer
 
--- one line in place of the report of a number's world, behind all that its run sends
+-- one line in place of the report of a seed's world, after all that its run sends
 abbrev pub made_piece : ℕ → List Piece → Piece
 made_piece number pieces = record { lines = made_line number (lines_in pieces); sent = sent_in pieces }
 
--- where the world of a number was run so, what is answered; a refusal stays as it is
+-- the answer where the world of a seed was run with this answer; a refusal stays as it is
 abbrev pub summed_as : Status → ℕ → Answer → Answer
 summed_as Ok number answer = record { status = Ok; pieces = made_piece number answer.pieces ∷ [] }
 summed_as Usage number answer = answer
@@ -190,7 +191,7 @@ summed_as BadNote number answer = answer
 abbrev pub summed : ℕ → Answer → Answer
 summed number answer = summed_as answer.status number answer
 
--- the world of a number is replayed, from texts that no file has
+-- the world of a seed is replayed, from texts that no file has
 abbrev pub Makes : Grade → World → List Trip → ℕ → Answer → Type 0
 Makes grade from trips number answer =
     (whole : Answer) × ReplaysFile grade (Some (made_files number)) from trips Whole made_name whole

@@ -1,4 +1,4 @@
--- How a command ends, seen from outside: the contract of the top call as one fact, for whoever runs it.
+-- How a command ends, seen from outside: the contract of the top call as one fact, for its callers.
 use Rattle.std.specs.Prelude.{◌≡◌, ◌≤◌, ◌↔◌, ◌⊎◌, ℕ, List, [], ◌++◌, Option, Some, None}
 use Rattle.lsl_ports.specs.Counts.{NoneFell, Rose}
 use Rattle.lsl_ports.specs.Trips.{Trip, Went}
@@ -14,7 +14,7 @@ use Rattle.lsl_top.specs.Words.{Command}
 use Rattle.lsl_top.specs.declared.status.Status.{Status}
 use Rattle.lsl_top.specs.declared.status.Status.TheVariants.{Usage, ReadFault, WriteFault, NoMemory}
 
--- what the shelf, the sink and the link tell at one moment
+-- what the shelf, the sink and the link report at one moment
 pub record Outside : Type 0 where
   pub held : Option Files
   pub read_faults : List ℕ → ℕ
@@ -39,7 +39,7 @@ pub record IsCalm (command : Option Command) (old new : Outside) : Type 0 where
   pub reads : NamedRose old.held command old.read_faults new.read_faults → ⊥
   pub writes : Rose old.write_faults new.write_faults → ⊥
 
--- the command ended so, over a link of a type that may make these trips
+-- the command ended with this status, over a link of a type that may make these trips
 pub record Ends (gives : List ℕ → Option (List ℕ) → Type 0) (words : Option Command) (old new : Outside)
     (status : Status) : Type 0 where
   pub usage : (status ≡ Usage) ↔ (words ≡ None)

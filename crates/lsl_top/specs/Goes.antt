@@ -23,7 +23,7 @@ use Rattle.lsl_top.specs.Promise.{IsBegun, IsBegunAt, IsWhole}
 use Rattle.lsl_top.specs.declared.writing.Trouble.{Trouble}
 use Rattle.lsl_top.specs.declared.writing.Trouble.TheVariants.{WriteFault}
 
--- all steps were done from this stage, what they come to is there now, and they were written and sent
+-- all steps were done from this stage; the world that they lead to is there now, and they were written and sent
 pub record Done (codes : List Code) (r : Rules) (regions : List (List ℕ)) (IsNow : Stage → Type 0) (steps : List Step)
     (stage : Stage) (trips : List Trip) (old new : Option (List ℕ)) : Type 0 where
   pub value : IsNow (travel_from codes r regions steps trips stage).value
@@ -38,8 +38,8 @@ pub record IsWithin (codes : List Code) (r : Rules) (regions : List (List ℕ)) 
   pub few : length left ≤ 1
   pub leads : (travel_from codes r regions left [] there).value ≡ end
 
--- The lines of so many steps were written whole, and then first bytes of the next one's. At a failed write that step is
--- the last one that was begun: no step is begun before the lines of the step before it are written.
+-- The lines of `done` steps were written whole, and then a prefix of the next one's. At a failed write that step is the
+-- last one that was begun: no step begins before the lines of the step before it are written.
 pub record StoppedAt {T : Type 0} (done : ℕ) (codes : List Code) (r : Rules) (regions : List (List ℕ))
     (IsNow : Stage → Type 0) (steps : List Step) (stage : Stage) (trips : List Trip) (old new : Option (List ℕ))
     (result : Result T Trouble) : Type 0 where
@@ -53,8 +53,8 @@ Runs codes r regions IsNow steps stage trips old new result =
     MatchResult result (λ _. Done codes r regions IsNow steps stage trips old new)
     (λ _. (done : ℕ) × StoppedAt done codes r regions IsNow steps stage trips old new result)
 
--- These trips were made, and from each stage that is there then, the steps go so by them, where what came back is fair;
--- that a write failed comes only where the count rose.
+-- These trips were made. From each stage that is there then, the steps go this way by them, where what came back is
+-- fair. A write failed only if the count rose.
 pub record Goes {T : Type 0} (gives : List ℕ → Option (List ℕ) → Type 0) (codes : List Code) (regions : List (List ℕ))
     (IsThen IsNow : List Program → Stage → Type 0) (steps : List Step) (old new : Log) (before after : Wire)
     (result : Result T Trouble) : Type 0 where
@@ -71,8 +71,7 @@ abbrev pub steps_left : Option Step → List Step
 steps_left None = []
 steps_left (Some step) = step ∷ []
 
--- a part of a step was done, and its lines were written: however what is left of it goes, so the step goes; or it
--- stopped
+-- a part of a step was done, and its lines were written: however what is left of it goes, the step goes; or it stopped
 abbrev pub GoesPart : (List ℕ → Option (List ℕ) → Type 0) → List Code → List (List ℕ) → (first now : Memory) → Step
     → (old new : Log) → (before after : Wire) → Result (Option Step) Trouble → Type 0
 GoesPart gives codes regions first now step old new before after result =
@@ -85,8 +84,8 @@ GoesPart gives codes regions first now step old new before after result =
     (λ trouble. Goes {T = Unit {0}} gives codes regions (λ programs. IsAt programs first)
     (λ programs. IsAt programs now) (step ∷ []) old new before after (Err trouble))
 
--- From each stage that is there, a run of programs was written and sent so, where what came back is fair; and then this
--- holds.
+-- From each stage that is there, a run of programs was written and sent this way, where what came back is fair; and
+-- then this holds.
 pub record Performs {T : Type 0} (gives : List ℕ → Option (List ℕ) → Type 0) (IsThen : List Program → Stage → Type 0)
     (Then : List Program → Stage → List Trip → Type 0) (pieces : List Program → Stage → List Trip → List Piece)
     (old new : Log) (before after : Wire) (result : Result T Trouble) : Type 0 where

@@ -1,4 +1,4 @@
--- One run in two halves: the world is frozen behind the first steps, and thawed before the others.
+-- One run in two halves: the world is frozen after the first steps, and thawed before the others.
 use Rattle.std.specs.Prelude.{◌≡◌, ◌≤◌, ℕ, List, ◌++◌, length, Some}
 use Rattle.lsl_ports.specs.Shelf.{Files}
 use Rattle.lsl_ports.specs.Trips.{Trip, sent_of}
@@ -33,7 +33,8 @@ pub record IsOnShelf (files : Files) (name : List ℕ) (file : WorldFile) (texts
   pub scripts : AreHeld (Some files) (names_in file) texts
   pub cards : AreHeld (Some files) (cards_in file) notes
 
--- what `freeze` wrote where it ended well and made these trips; nothing was frozen before, so any world stands for that
+-- what `freeze` wrote where it ended well and made these trips; nothing was frozen before, so any world will do for
+-- that
 pub record IsFrozenBy (files : Files) (name : List ℕ) (from : World) (trips : List Trip) (froze : Answer) : Type 0
   where
     pub answers : Answers Written (Some files) from trips (Freeze name) froze
@@ -48,7 +49,7 @@ pub record AreOneRun (froze thawed whole : Answer) (journal : List ℕ) : Type 0
   pub lines : lines_in whole.pieces ≡ journal ++ lines_in thawed.pieces
   pub sent : sent_in whole.pieces ≡ sent_in froze.pieces ++ sent_in thawed.pieces
 
--- the world that was frozen is the one that the text gives, and what comes of it is the rest of one run
+-- the world that was frozen is the one that the text gives, and its continuation is the rest of one run
 pub record IsGoneOn (more all : Files) (frozen second whole : List ℕ) (before behind : List Trip) (froze : Answer)
     : Type 0 where
   pub world : World
@@ -59,7 +60,7 @@ pub record IsGoneOn (more all : Files) (frozen second whole : List ℕ) (before 
   pub one : (thawed answer : Answer) → Answers Due (Some more) world behind (Thaw frozen second) thawed
       → Answers Due (Some all) world (before ++ behind) (Replay whole) answer → AreOneRun froze thawed answer journal
 
--- where `freeze` ends well on the first steps, and a file has what it wrote, `thaw` of that goes on with the others
+-- where `freeze` ends well on the first steps, and a file has what it wrote, `thaw` of that continues with the others
 abbrev pub TwoHalvesAreOneRun : Type 0
 TwoHalvesAreOneRun =
     (files more all : Files) (first_name second_name whole_name frozen : List ℕ) (first second whole : WorldFile)

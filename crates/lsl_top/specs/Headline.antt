@@ -1,4 +1,4 @@
--- Good files and accepted scripts, and what comes of a call over them.
+-- Good files and accepted scripts, and the result of a call over them.
 use Rattle.std.specs.Prelude.{◌≡◌, ℕ, ◌⊎◌, List, [], ◌∷◌, ◌++◌, Option, Some}
 use Rattle.std.specs.List.{AllZip}
 use Rattle.lsl_ports.specs.Shelf.{Files}
@@ -40,11 +40,11 @@ use Rattle.lsl_top.specs.declared.status.Status.TheVariants.{Ok, NoMemory}
 abbrev pub IsScriptIn : Files → List ℕ → Program → Type 0
 IsScriptIn files name program = (text : List ℕ) × (files name ≡ Some text) × Accepted text program
 
--- the files of those names are there, and their texts have this code
+-- the files of these names are there, and their texts have this code
 abbrev pub IsCodeIn : Files → List (List ℕ) → List Code → Type 0
 IsCodeIn files names codes = (texts : List (List ℕ)) × AreHeld (Some files) names texts × AreCodesOf texts codes
 
--- the files of those names are there, and their texts have globals of these names
+-- the files of these names are there, and their texts have globals of these names
 abbrev pub AreGlobalsIn : Files → (names : List (List ℕ)) → List (List (List ℕ)) → Type 0
 AreGlobalsIn files names globals =
     (texts : List (List ℕ)) × AreHeld (Some files) names texts × HaveGlobals texts globals
@@ -94,7 +94,7 @@ inspected_from codes names programs file trips w =
     let all = reference (rules_of programs) (kept_from file trips w) w in
     lines_of all.entries ++ state_of_parts codes names (parts_of_world codes all.value)
 
--- the journal of the scripts' meaning over the steps without the crossings whose offer didn't come, or came behind its
+-- the journal of the scripts' meaning over the steps without the crossings whose offer didn't come, or came after its
 -- cancel, and then where each object is
 abbrev pub lossy_report : List Program → WorldFile → List Trip → World → List ℕ
 lossy_report programs file trips w =
@@ -145,7 +145,7 @@ Outputs files from (State at name) trips lines =
     × (lines ≡ output_from (inspected file globals) codes programs (file_until at file) trips
     (start (rules_of programs) file cards))
 
--- the sink grew by exactly these lines, or memory lacked, and it grew by a prefix of them
+-- the sink grew by exactly these lines, or memory ran out, and it grew by a prefix of them
 abbrev pub WritesLines : List ℕ → Status → Option (List ℕ) → Option (List ℕ) → Type 0
 WritesLines lines status old new =
     ((status ≡ Ok) × Grew old new lines) ⊎ ((status ≡ NoMemory) × GrewPartly old new lines)

@@ -19,15 +19,15 @@ use Rattle.lsl_top.specs.Promise.{Keeps, KeepsFrom}
 use Rattle.lsl_top.specs.Words.{Command}
 use Rattle.lsl_top.specs.declared.status.Status.{Status}
 
--- over files that are told, from a world that was frozen before, and with these trips, a command has one answer at
--- most, due or written
+-- over known files, from a world that was frozen before, and with these trips, a command has one answer at most, due or
+-- written
 abbrev pub AnswersAreOne : Type 0
 AnswersAreOne =
     (files : Files) (from : World) (trips : List Trip) (command : Command) (g h : Grade) (a b : Answer)
     → Answers g (Some files) from trips command a → Answers h (Some files) from trips command b → a ≡ b
 
--- the pieces of a run are its journal over the steps without refused crossings, with what is told at its end, and they
--- send its images
+-- the pieces of a run are its journal over the steps without refused crossings, with what is printed at its end, and
+-- they send its images
 pub record ArePiecesOf (last : Last) (codes : List Code) (programs : List Program) (file : WorldFile)
     (trips : List Trip) (w : World) : Type 0 where
   pub lines : lines_in (pieces_from last codes (rules_of programs) file.steps trips w)
@@ -50,14 +50,14 @@ CopiesAreFair =
     (words : Option Command) (old new : Option (List Trip)) (trips : List Trip) → Went copies old new trips
     → IsFair words trips
 
--- so what a command keeps to holds over it without a premise on what comes back
+-- so a command's promise holds over it without a premise on what comes back
 abbrev pub CopiesKeep : Type 0
 CopiesKeep =
     (words : Option Command) (old new : Outside) (status : Status) → Ends copies words old new status
     → (trips : List Trip) × Went copies old.trips new.trips trips
     × Keeps old.held trips words status old.sunk new.sunk
 
--- What a command keeps to with the texts that were read, it keeps to from each world that can have been frozen, by all
+-- What a command promises with the texts that were read, it promises from each world that can have been frozen, by all
 -- texts that the files can have.
 abbrev pub KeptFromEach : Type 0
 KeptFromEach =

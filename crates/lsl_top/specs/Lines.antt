@@ -10,7 +10,6 @@ use Rattle.hex.specs.Hex.{encode_lower}
 use Rattle.lsl_image.specs.declared.faults.ImageFault.{ImageFault}
 use Rattle.lsl_image.specs.declared.faults.ImageFault.TheVariants.{Size, Digest, Version, WrongCode, Body, NotFrozen}
 
--- the line of a script that is accepted
 abbrev pub accepted_line : List ℕ → List ℕ
 accepted_line file = codes "accepted " ++ (quoted file ++ 10 ∷ [])
 
@@ -18,7 +17,7 @@ accepted_line file = codes "accepted " ++ (quoted file ++ 10 ∷ [])
 abbrev pub fault_words : ℕ → List ℕ
 fault_words number = codes " fault " ++ (decimal number ++ 10 ∷ [])
 
--- where a script's fault stands, and its number
+-- the place of a script's fault, and its number
 abbrev pub place_words : ℕ → ℕ → ℕ → List ℕ
 place_words line col number = codes " " ++ (decimal line ++ (codes ":" ++ (decimal col ++ fault_words number)))
 
@@ -39,7 +38,7 @@ note_refusal_of file fault =
     codes "bad note " ++ (quoted file ++ (codes " line "
     ++ (decimal (line_of_fault fault) ++ fault_words (number_of_fault fault))))
 
--- the number of an image's fault, and what is told of it: sizes and digests as found and wanted, the version, the place
+-- the number of an image's fault, and its details: sizes and digests as found and wanted, the version, the place
 abbrev pub number_of_image : ImageFault → ℕ
 number_of_image (Size found wanted) = 40
 number_of_image (Digest found wanted) = 41

@@ -1,4 +1,4 @@
--- The world that is made of a number: the files from which it is replayed, and the line that is written in place of its
+-- The world generated from a seed: the files from which it is replayed, and the line that is written in place of its
 -- report.
 use Rattle.std.specs.Prelude.{ℕ, codes, decimal, List, [], ◌∷◌, ◌++◌, Some, if◌then◌else◌}
 use Rattle.std.specs.Str.{bytes_eq}
@@ -16,11 +16,11 @@ made_name = codes "made"
 abbrev pub two_files : List ℕ → List ℕ → Files
 two_files world script name = if bytes_eq name made_name then Some world else Some script
 
--- the world file of a number names one script, which has always the same text
+-- the world file of a seed names one script, which always has the same text
 abbrev pub made_files : ℕ → Files
 made_files number = two_files (world_text number) walker_text
 
--- the number, and how many lines a report has, and its digest
+-- the seed, the number of lines of a report, and its digest
 abbrev pub made_line : ℕ → List ℕ → List ℕ
 made_line number report =
     codes "made " ++ (decimal number ++ (codes " lines " ++ (decimal (count_lines report)

@@ -1,4 +1,4 @@
--- What the code's values stand for: for private functions.
+-- What the code's values mean: for private functions.
 use Rattle.std.specs.Prelude.{ℕ, Option, Some, None, map}
 use Rattle.lsl_text.specs.declared.Refusal.{Refusal}
 use Rattle.lsl_text.specs.declared.Refusal.TheVariants as refusals

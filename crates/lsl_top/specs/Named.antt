@@ -8,7 +8,8 @@ use Rattle.lsl_top.specs.Held.{Holds}
 use Rattle.lsl_top.specs.Plays.{Mode, Whole, Handing, Freezing, Inspecting, Thawing, names_in, Viewing, cards_in}
 use Rattle.lsl_top.specs.Words.{Command, Once, Check, Replay, Lossy, Freeze, Thaw, Make, View, State}
 
--- the world's own file, as it is held, is good, and a script or a notecard of it has its text in the file of that name
+-- the world's own file, as the shelf holds it, is good, and a script or a notecard of it has its text in the file of
+-- that name
 abbrev pub IsNamedInWorld : Option Files → List ℕ → List ℕ → Type 0
 IsNamedInWorld held world name =
     (bytes : List ℕ) × (file : WorldFile) × Holds held world bytes × IsWorld bytes file
@@ -30,7 +31,7 @@ IsNotedName mode cards name = IsFrozenName mode name ⊎ Contains cards name
 abbrev pub IsPlayName : Mode → (names cards : List (List ℕ)) → List ℕ → Type 0
 IsPlayName mode names cards name = IsFrozenName mode name ⊎ (Contains names name ⊎ Contains cards name)
 
--- the file of the world that is played so, or one that it names, or the frozen one
+-- the file of the world that is played in this mode, or one that it names, or the frozen one
 abbrev pub IsNamedIn : Option Files → Mode → List ℕ → List ℕ → Type 0
 IsNamedIn held mode world name = IsFrozenName mode name ⊎ ((name ≡ world) ⊎ IsNamedInWorld held world name)
 

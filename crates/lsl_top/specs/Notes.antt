@@ -11,14 +11,14 @@ use Rattle.lsl_notes.specs.Card.{IsCard, IsRefused}
 abbrev pub AreCards : List (List ℕ) → List (List (List ℕ)) → Type 0
 AreCards texts cards = AllZip IsCard texts cards
 
--- the text at this place is no notecard, for this fault, and those before it are notecards
+-- the text at this place isn't a notecard, for this fault, and those before it are notecards
 pub record IsBadAt (texts : List (List ℕ)) (place : ℕ) (fault : CardFault) : Type 0 where
   pub text : List ℕ
   pub text_is : slice_get texts place ≡ Some text
   pub refused : IsRefused text (Fault fault)
   pub before : (cards : List (List (List ℕ))) × AreCards (take place texts) cards
 
--- the file of this name is the first whose text is no notecard, for this fault
+-- the file of this name is the first whose text isn't a notecard, for this fault
 pub record FirstBad (names texts : List (List ℕ)) (name : List ℕ) (fault : CardFault) : Type 0 where
   pub place : ℕ
   pub named : slice_get names place ≡ Some name

@@ -1,5 +1,5 @@
--- What is written and sent, piece by piece: a run has a piece for each step, and then one that tells where each object
--- is, or has the frozen world, or all that the world holds.
+-- What is written and sent, piece by piece: a run has a piece for each step. Its last piece says where each object is,
+-- or has the frozen world, or all that the world holds.
 use Rattle.std.specs.Prelude.{ℕ, List, [], ◌∷◌, ◌++◌}
 use Rattle.lsl_ports.specs.Trips.{Trip}
 use Rattle.lsl_code.specs.declared.woven_units.Woven.{Woven as Code}
@@ -16,7 +16,7 @@ use Rattle.lsl_world.specs.Reports.{homes}
 use Rattle.lsl_world.specs.Travels.{go_on, images_of, left, travel}
 use Rattle.lsl_top.specs.Plays.{Last, Homes, Frozen, Inspected}
 
--- lines, and what is handed to the link before they are written, in order
+-- lines, and what is sent over the link before they are written, in order
 pub record Piece : Type 0 where
   pub lines : List ℕ
   pub sent : List (List ℕ)
@@ -40,7 +40,7 @@ step_pieces codes r [] trips w = []
 step_pieces codes r (step ∷ steps) trips w =
     step_piece codes r step trips w ∷ step_pieces codes r steps (left step w trips) (go_on r step trips w).value
 
--- the same of a run at a stage
+-- the piece of a step at a stage of a run
 abbrev pub stage_piece : List Code → Rules → List (List ℕ) → Step → List Trip → Stage → Piece
 stage_piece codes r regions step trips stage =
     let gone = goes codes r regions step stage trips in
@@ -64,7 +64,7 @@ frozen_piece codes w = record { lines = frozen_line (frozen_image codes w); sent
 abbrev pub inspected_piece : List Code → Names → World → Piece
 inspected_piece codes names w = record { lines = state_of_parts codes names (parts_of_world codes w); sent = [] }
 
--- what is told at the end
+-- what is printed at the end
 abbrev pub last_piece : Last → List Code → World → Piece
 last_piece Homes codes w = home_piece w
 last_piece Frozen codes w = frozen_piece codes w
@@ -75,7 +75,7 @@ abbrev pub pieces_from : Last → List Code → Rules → List Step → List Tri
 pieces_from last codes r steps trips w =
     step_pieces codes r steps trips w ++ last_piece last codes (travel r steps trips w).value ∷ []
 
--- the same from a stage
+-- the pieces from a stage
 abbrev pub pieces_at : Last → List Code → Rules → List (List ℕ) → List Step → List Trip → Stage → List Piece
 pieces_at last codes r regions steps trips stage =
     stage_pieces codes r regions steps trips stage

@@ -1,5 +1,5 @@
--- What is played: the world of a file, or the one that `once` makes for a script; from where, and what is told at its
--- end.
+-- What is played: the world of a file, or the one that `once` makes for a script; from where, and what is printed at
+-- its end.
 use Rattle.std.specs.Prelude.{ℕ, codes, List, [], ◌∷◌, Option, map}
 use Rattle.std.specs.Str.{encode_utf8_all}
 use Rattle.lsl_lines.specs.declared.file.PrimLine.{PrimLine}
@@ -11,7 +11,7 @@ use Rattle.lsl_view.specs.declared.known.Names.{Names}
 use Rattle.lsl_top.specs.Positions.{steps_until}
 use Rattle.lsl_top.specs.declared.positions.Position.{Position}
 
--- what is told at the end of a run
+-- what is printed at the end of a run
 pub data Last : Type 0 where
   -- where each object is
   Homes : Last
@@ -22,17 +22,17 @@ pub data Last : Type 0 where
 
 -- how a world is played
 pub data Mode : Type 0 where
-  -- from its start, and then it is told where each object is
+  -- from its start; then prints where each object is
   Whole : Mode
-  -- from its start, where objects are handed over by notes, and then it is told where each object is
+  -- from its start, where objects are handed over by notes; then prints where each object is
   Handing : Mode
-  -- from its start, and then the world is frozen
+  -- from its start; then freezes the world
   Freezing : Mode
-  -- from its start up to a position, or to the end of its steps, and then all that the world holds is shown
+  -- from its start up to a position, or to the end of its steps; then shows all that the world holds
   Inspecting : (at : Option Position) → Mode
-  -- from the frozen world of this file, and then it is told where each object is
+  -- from the frozen world of this file; then prints where each object is
   Thawing : (frozen : List ℕ) → Mode
-  -- it isn't run: of the frozen world of this file it is shown where its scripts stand
+  -- runs nothing: shows where the scripts of the frozen world of this file are in their code
   Viewing : (frozen : List ℕ) → Mode
 
 -- a world, the names of the files of its scripts and of its notecards, each once, in the order of their first naming,
@@ -79,14 +79,14 @@ file_in mode file = record {
   steps = steps_in mode file.steps;
 }
 
--- all that a world of the file holds, whose texts have globals of these names
+-- all that a world of the file holds, with the globals of these names
 abbrev pub inspected : WorldFile → (globals : List (List (List ℕ))) → Last
 inspected file globals = Inspected (record { scripts = script_names file; globals = globals })
 
 abbrev pub play_of : Mode → WorldFile → Play
 play_of mode file = played mode (names_in file) (cards_in file) file
 
--- one script in an object of its own, run for 1,000,000 segments; the name of its file doesn't stand here
+-- one script in an object of its own, run for 1,000,000 segments; the name of its file isn't in it
 abbrev pub once_prim : PrimLine
 once_prim = record {
   key = codes "00000000-0000-0000-0000-000000000001";

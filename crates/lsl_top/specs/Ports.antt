@@ -1,4 +1,5 @@
--- What the shelf, the sink and the link tell at one moment, and what comes of a call over them: for private functions.
+-- What the shelf, the sink and the link report at one moment, and the result of a call over them: for private
+-- functions.
 use Rattle.std.specs.Prelude.{◌≡◌, ◌≢◌, ℕ, ◌≤◌, List, [], Option, Result, Ok as OkResult, Err, OnOk, IsErrOf}
 use Rattle.std.specs.List.{AllZip}
 use Rattle.lsl_ports.specs.Counts.{NoneFell, Rose}
@@ -36,7 +37,7 @@ pub record WasRead (held : Option Files) (play : Play) (read : Read) : Type 0 wh
   pub cards : AllZip (IsRead held) play.cards read.notes
   pub frozen : IsFrozenRead held play.mode read.frozen
 
--- what a link may give back in a play: where no world is run it is handed nothing
+-- what a link may give back in a play: where no world is run nothing is sent over it
 abbrev pub gives_in : Mode → (List ℕ → Option (List ℕ) → Type 0) → List ℕ → Option (List ℕ) → Type 0
 gives_in Whole gives = gives
 gives_in Handing gives = gives
@@ -57,7 +58,7 @@ gives_by (View frozen name) gives = λ sent back. ⊥
 gives_by (Make number) gives = gives
 gives_by (State at name) gives = gives
 
--- what the sink tells
+-- what the sink reports
 pub record Log : Type 0 where
   pub sunk : Option (List ℕ)
   pub faults : ℕ
@@ -65,7 +66,7 @@ pub record Log : Type 0 where
 abbrev pub log : Option (List ℕ) → ℕ → Log
 log sunk faults = record { sunk = sunk; faults = faults }
 
--- what the link tells
+-- what the link reports
 pub record Wire : Type 0 where
   pub told : Option (List Trip)
   pub faults : ℕ
@@ -73,7 +74,7 @@ pub record Wire : Type 0 where
 abbrev pub wire : Option (List Trip) → ℕ → Wire
 wire told faults = record { told = told; faults = faults }
 
--- these lines were written, all of them at Ok and else a prefix; that a write failed comes only where the count rose
+-- these lines were written, all of them at Ok and otherwise a prefix; a write failed only if the count rose
 pub record Writes {T : Type 0} (lines : List ℕ) (old new : Log) (result : Result T Trouble) : Type 0 where
   pub ok : OnOk result (Grew old.sunk new.sunk lines)
   pub part : GrewPartly old.sunk new.sunk lines
@@ -102,7 +103,7 @@ IsOwn statuses.NoMemory = ⊥
 abbrev pub HasAnswer : (Answer → Type 0) → Status → Type 0
 HasAnswer IsAnswer status = (answer : Answer) × IsAnswer answer × (answer.status ≡ status)
 
--- an answer was written, as far as the status says, and nothing was handed to the link
+-- an answer was written, as far as the status says, and nothing was sent over the link
 pub record Finishes (IsAnswer : Answer → Type 0) (old new : Log) (status : Status) : Type 0 where
   pub keeps : KeepsTo (λ grade. IsAnswer) status [] old.sunk new.sunk
   pub answers : IsOwn status → HasAnswer IsAnswer status
@@ -130,7 +131,7 @@ pub record Concludes (gives : List ℕ → Option (List ℕ) → Type 0) (IsFair
     pub no_read : status ≢ statuses.ReadFault
     pub no_usage : status ≢ statuses.Usage
 
--- what the shelf, the sink and the link tell
+-- what the shelf, the sink and the link report
 pub record Ports : Type 0 where
   pub held : Option Files
   pub read_faults : List ℕ → ℕ
@@ -146,11 +147,11 @@ ports held read_faults sunk write_faults told link_faults =
       wire = wire told link_faults;
     }
 
--- what a command keeps to by the trips that were made
+-- what a command promises by the trips that were made
 abbrev pub Keeping : Type 1
 Keeping = List Trip → Status → Option (List ℕ) → Option (List ℕ) → Type 0
 
--- the same as `Concludes`, after files of these names were read
+-- like `Concludes`, after files of these names were read
 pub record Serves (gives : List ℕ → Option (List ℕ) → Type 0) (IsFair : List Trip → Type 0) (Kept : Keeping)
     (IsAnswer : Grade → World → List Trip → Answer → Type 0) (IsName : List ℕ → Type 0) (old new : Ports)
     (status : Status) : Type 0

@@ -22,7 +22,7 @@ abbrev pub part_of : ℕ → Step → List Step
 part_of zero step = []
 part_of (suc n) step = shortened (suc n) step ∷ []
 
--- so many whole steps, and of the next one the part up to this segment
+-- the first `whole` steps, and of the next one the part up to this segment
 abbrev pub steps_to : (whole segment : ℕ) → List Step → List Step
 steps_to whole segment [] = []
 steps_to zero segment (step ∷ steps) = part_of segment step
@@ -43,8 +43,8 @@ file_until at file = record {
   steps = steps_until at file.steps;
 }
 
--- Steps up to a position are the whole steps before it and a part of its step; at the beginning of a step, the whole
--- steps before it; and behind the last step, all.
+-- Steps up to a position are the whole steps before it and a part of its step; at the start of a step, the whole steps
+-- before it; and after the last step, all.
 pub record ArePartsOf (at : Position) (steps : List Step) : Type 0 where
   pub within : (before after : List Step) (step : Step) → steps ≡ before ++ step ∷ after → at.step ≡ suc (length before)
       → steps_until (Some at) steps ≡ before ++ part_of at.segment step

@@ -1,4 +1,4 @@
--- What the sink has taken, and what was handed to the link, at each status.
+-- What the sink has taken, and what was sent over the link, at each status.
 use Rattle.std.specs.Prelude.{◌≡◌, ◌⊎◌, ℕ, suc, ◌<◌, List, [], length, take, Option, Some, None}
 use Rattle.lsl_ports.specs.Growth.{Begins, Grew}
 use Rattle.lsl_ports.specs.Shelf.{Files}
@@ -21,8 +21,8 @@ pub record IsWhole (pieces : List Piece) (trips : List Trip) (old new : Option (
   pub written : Grew old new (lines_in pieces)
   pub sent : sent_of trips ≡ sent_in pieces
 
--- So many pieces were written whole, and then first bytes of the next one; first ones of what these and the next one
--- send were sent. So all lines before the last piece of which something was sent were written.
+-- `done` pieces were written whole, and then a prefix of the next one; a prefix of what these and the next one send was
+-- sent. So all lines before the last piece of which something was sent were written.
 pub record IsBegunAt (done : ℕ) (pieces : List Piece) (trips : List Trip) (old new : Option (List ℕ)) : Type 0 where
   pub within : done < length pieces
   pub added : List ℕ
@@ -39,12 +39,13 @@ abbrev pub Wrote : (Answer → Type 0) → Status → List Trip → Option (List
 Wrote IsAnswer status trips old new =
     (answer : Answer) × IsAnswer answer × (answer.status ≡ status) × IsWhole answer.pieces trips old new
 
--- an answer was begun
+-- a prefix of an answer was written and sent
 abbrev pub WrotePart : (Answer → Type 0) → List Trip → Option (List ℕ) → Option (List ℕ) → Type 0
 WrotePart IsAnswer trips old new =
     (answer : Answer) × IsAnswer answer × IsBegun answer.pieces trips old new
 
--- a status of an answer's own comes with the whole of it; after a failed write or for want of memory it was begun
+-- a status of an answer's own comes with the whole answer; after a failed write, or when out of memory, a prefix of it
+-- was written
 abbrev pub KeepsTo : (Grade → Answer → Type 0) → Status → List Trip → Option (List ℕ) → Option (List ℕ) → Type 0
 KeepsTo IsAnswer Ok trips old new = Wrote (IsAnswer Written) Ok trips old new
 KeepsTo IsAnswer BadWorld trips old new = Wrote (IsAnswer Written) BadWorld trips old new
@@ -56,7 +57,7 @@ KeepsTo IsAnswer NoMemory trips old new = ((new ≡ old) × (trips ≡ [])) ⊎ 
 KeepsTo IsAnswer Usage trips old new = Unit {0}
 KeepsTo IsAnswer ReadFault trips old new = Unit {0}
 
--- No answer was begun: at ReadFault, and for want of memory before anything was written and sent. This is said with the
+-- No answer was begun: at ReadFault, and when out of memory before anything was written and sent. This is said with the
 -- texts that were read, if all were; then from each world that can have been frozen by them an answer was written.
 abbrev pub KeepsPlay : Option Files → List Trip → Play → Status → Option (List ℕ) → Option (List ℕ) → Type 0
 KeepsPlay held trips play status old new =
@@ -65,20 +66,20 @@ KeepsPlay held trips play status old new =
     × ((from : World) → IsFromRead play read from
     → KeepsTo (λ grade. PlaysRead grade from trips play read) status trips old new))
 
--- what the file of that name has is no world, and is refused
+-- what the file of that name has isn't a world, and is refused
 abbrev pub RefusesWorld : Option Files → List ℕ → Answer → Type 0
 RefusesWorld held name answer =
     (bytes : List ℕ) × (fault : FileFault) × Holds held name bytes × FileFirst bytes fault
     × (answer ≡ world_refused name fault)
 
--- the same of a world file that is read, and played so
+-- the promise of a world file that is read, and played in this mode
 abbrev pub KeepsFile : Option Files → List Trip → Mode → List ℕ → Status → Option (List ℕ) → Option (List ℕ) → Type 0
 KeepsFile held trips mode name status old new =
     KeepsTo (λ grade. RefusesWorld held name) status trips old new
     ⊎ ((bytes : List ℕ) × (file : WorldFile) × Holds held name bytes × IsWorld bytes file
     × KeepsPlay held trips (play_of mode (file_in mode file)) status old new)
 
--- and of a command; `check` plays nothing, and the two texts of a number are told
+-- the promise of a command; `check` plays nothing, and the two texts of a seed are known
 abbrev pub KeepsOf : Option Files → List Trip → Command → Status → Option (List ℕ) → Option (List ℕ) → Type 0
 KeepsOf held trips (Once name) status old new = KeepsPlay held trips (play_of_once name) status old new
 KeepsOf held trips (Check name) status old new =
@@ -96,7 +97,7 @@ abbrev pub Keeps : Option Files → List Trip → Option Command → Status → 
 Keeps held trips None status old new = Unit {0}
 Keeps held trips (Some command) status old new = KeepsOf held trips command status old new
 
--- what is kept to from one world: an answer of the command from it
+-- the promise from one world: an answer of the command from it
 abbrev pub KeepsFrom : Option Files → World → List Trip → Option Command → Status → Option (List ℕ) → Option (List ℕ)
     → Type 0
 KeepsFrom held from trips None status old new = Unit {0}
@@ -115,7 +116,7 @@ SendsNothing Ok = ⊥
 SendsNothing WriteFault = ⊥
 SendsNothing NoMemory = ⊥
 
--- the commands that run no world: nothing is sent by them, at any status
+-- the commands that run no world: they send nothing, at any status
 abbrev pub RunsNothing : Option Command → Type 0
 RunsNothing None = Unit {0}
 RunsNothing (Some (Once name)) = ⊥

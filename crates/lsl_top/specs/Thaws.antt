@@ -13,7 +13,7 @@ use Rattle.lsl_tree.specs.Program.{Program}
 use Rattle.lsl_region.specs.Worlds.{World}
 use Rattle.lsl_world.specs.Frozen.{AgreesWith, IsImageIn, frozen_image, parts_of_world, shapes_of_file}
 
--- the text has no frozen world of this file, whose scripts have these units, for this fault
+-- the text has no frozen world of this file with scripts of these units, for this fault
 abbrev pub IsThawFault : List Code → WorldFile → List ℕ → ImageFault → Type 0
 IsThawFault codes file text fault =
     ((¬ HasFrozenLine text) × (fault ≡ NotFrozen))

@@ -18,9 +18,9 @@ pub data Command : Type 0 where
   Freeze : (world : List ℕ) → Command
   -- runs a world file from the frozen world of another file
   Thaw : (frozen world : List ℕ) → Command
-  -- shows where the scripts of a frozen world stand, which is that of a world file, the second
+  -- shows where the scripts of a frozen world are in their code; the world is that of a world file, the second
   View : (frozen world : List ℕ) → Command
-  -- runs the world that is made of a number
+  -- runs the world generated from a seed
   Make : (number : ℕ) → Command
   -- runs a world file up to a position, or to its end, and shows all that the world holds there. No words ask for it
   State : (at : Option Position) → (world : List ℕ) → Command
@@ -62,6 +62,6 @@ command_in (word ∷ first ∷ second ∷ []) =
     else if names_file first && names_file second then command_of_two word first second else None
 command_in _ = None
 
--- what the words ask for, or none where they are no command
+-- what the words ask for, or none where they aren't a command
 abbrev pub command_of : {Z : Type 0} → List (String Z) → Option Command
 command_of words = command_in (map string_bytes words)

@@ -30,7 +30,7 @@ use lsl_ports::{Link, Shelf, ShelfFault, Sink, read_all};
 use lsl_text::Refusal;
 use std::alloc::Global;
 
-/// How many bytes of a world file are read, but for one more, which shows that it is too long.
+/// A world file is read up to this many bytes and one more, which shows that it is too long.
 const MAX_WORLD_BYTES: u64 = 1_048_576;
 
 /// Does what a command asks for.

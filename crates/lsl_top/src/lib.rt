@@ -40,15 +40,18 @@ use crate::words::{Command, parse_words};
 use lsl_ports::{Link, Shelf, Sink};
 use std::alloc::Global;
 
-/// Does what the command's words ask for, and answers how that ended. `words` are without the
-/// program's name.
+/// Runs the command that the words ask for, and returns how it ended. `words` don't include the program's name.
 ///
-/// A world file is read and tested first; then all scripts are read and then all notecards, each file once, in the
-/// order of first naming, and then the file of a frozen world; then the scripts are built in that order, the notecards
-/// are tested, and then the frozen world; then the steps are run, and each step's lines are written before the next
-/// step. `view` runs no step: it writes where the scripts of the frozen world stand. It takes memory for the files, the
-/// code, the world, a step's lines or those of a view, and the image of a frozen world with its line. Each crossing to
-/// another region calls the link once, and waits for it; by `replay --lossy` at most 32 times.
+/// The world file is read and tested first. Then all scripts are read and then all notecards, each file once, in the
+/// order of first naming, and then the file of a frozen world. The scripts are built in that order, then the notecards
+/// are tested, and then the frozen world. Then the steps run, and each step's lines are written before the next step.
+/// `view` runs no step: it writes where the scripts of the frozen world are in their code.
+///
+/// Memory: for the files, the code, the world, a step's lines or those of a view, and the image of a frozen world with
+/// its line.
+///
+/// Cost: each crossing to another region calls the link once, and waits for it; `replay --lossy` calls it at most 32
+/// times.
 pub fn lsl<S: Shelf, K: Sink, L: Link>(
     alloc: Global,
     words: &[String],
@@ -56,17 +59,18 @@ pub fn lsl<S: Shelf, K: Sink, L: Link>(
     sink: &mut K,
     link: &mut L,
 ) -> Status
-    // The words are no command.
+    // The words aren't a command.
     ensures usage { (result ≡ Status.Usage) ↔ (command_of words.now ≡ None) }
     // At Usage and ReadFault nothing was written.
     ensures nothing { WritesNothing result → K.sunk sink.new ≡ K.sunk sink.old }
-    // With the trips that the link made: nothing was sent at Usage, BadWorld, BadScript, ReadFault, BadImage and
-    // BadNote, and by `check` and `view` never. Where each image came back as it was sent, or not at all, or isn't
-    // intact (by `replay --lossy` what came back was sent by then, or isn't intact), with the texts that were read,
-    // which are those of the files where the shelf tells them, and from each world that can have been frozen by them
-    // (any world, where nothing is thawed or the frozen text is refused): at Ok, BadWorld, BadScript, BadNote and
-    // BadImage the sink grew by exactly an answer of that status, and what that sends was sent; at WriteFault and
-    // NoMemory an answer was begun, or at NoMemory nothing at all was written and sent.
+    // There are trips that the link made. Nothing was sent at Usage, BadWorld, BadScript, ReadFault, BadImage and
+    // BadNote, and `check` and `view` never send. The rest holds if each image came back as it was sent, or not at all,
+    // or isn't intact (in `replay --lossy`: what came back was sent by then, or isn't intact). It holds with the texts
+    // that were read, which are those of the files where the shelf reports its files. It holds from each world that can
+    // have been frozen by them (any world, where nothing is thawed or the frozen text is refused). At Ok, BadWorld,
+    // BadScript, BadNote and BadImage the sink grew by exactly an answer of that status, and what that sends was sent.
+    // At WriteFault and NoMemory a prefix of an answer was written and sent; at NoMemory it may also be that nothing at
+    // all was.
     ensures kept { (trips : List Trip) × Went L.gives (L.trips link.old) (L.trips link.new) trips
         × (SendsNothing result ⊎ RunsNothing (command_of words.now) → trips ≡ [])
         × (IsFair (command_of words.now) trips
@@ -76,18 +80,18 @@ pub fn lsl<S: Shelf, K: Sink, L: Link>(
         → NamedRose (S.held shelf.old) (command_of words.now) (S.faults shelf.old) (S.faults shelf.new) }
     // The sink failed.
     ensures write_fault { result ≡ Status.WriteFault → Rose (K.faults sink.old) (K.faults sink.new) }
-    // Over files that are told, where no count of the files' faults rose and not the sink's, the status is that of the
-    // command's answer, whatever came back over the link, but for want of memory.
+    // Where the shelf reports its files, and neither the count of faults of the command's files nor the sink's rose,
+    // the status is that of the command's answer, whatever came back over the link, or NoMemory.
     ensures complete { (files : Files) (from : World) (trips : List Trip) (command : TheCommand) (answer : Answer)
         → S.held shelf.old ≡ Some files → command_of words.now ≡ Some command
         → Answers Due (Some files) from trips command answer
         → ¬ NamedRose (S.held shelf.old) (command_of words.now) (S.faults shelf.old) (S.faults shelf.new)
         → ¬ Rose (K.faults sink.old) (K.faults sink.new)
         → (result ≡ answer.status) ⊎ (result ≡ Status.NoMemory) }
-    // Given good files and accepted scripts, and no fault of shelf or sink, the sink grew by exactly the journal of the
-    // scripts' meaning over the steps without refused crossings (by `replay --lossy` those whose offer didn't come, or
-    // came behind its cancel), and what the command writes behind it, or memory lacked, and it grew by a prefix of
-    // that; provided that what came back over the link is so, as above.
+    // Given good files, accepted scripts and no fault of shelf or sink, the sink grew by exactly the journal of the
+    // scripts' meaning, and then what the command writes after it; or memory ran out, and the sink grew by a prefix of
+    // that. The journal is that of the steps without refused crossings (in `replay --lossy` those whose offer didn't
+    // come, or came after its cancel). What came back over the link must be as above.
     ensures headline { (files : Files) (from : World) (command : TheCommand) (before trips : List Trip) (lines : List ℕ)
         → S.held shelf.old ≡ Some files → command_of words.now ≡ Some command
         → L.trips link.old ≡ Some before → L.trips link.new ≡ Some (before ++ trips)
@@ -106,9 +110,11 @@ pub fn lsl<S: Shelf, K: Sink, L: Link>(
     }
 }
 
-/// Runs a world file up to a position, or to the end of its steps. It writes the journal of that, as `lsl` does for
-/// `replay`, and then all that the world holds there, as `lsl_view::state` shows it. All that is said of `lsl` and of a
-/// command holds of this one, which no words ask for: how it ends, what it reads, and which memory and time it takes.
+/// Runs a world file up to a position, or to the end of its steps.
+///
+/// It writes the journal of that, as `lsl` does for `replay`, and then all that the world holds there, as
+/// `lsl_view::state` shows it. No words ask for this command. All that is said of `lsl` and of a command holds of it:
+/// how it ends, what it reads, and which memory and time it takes.
 pub fn state<S: Shelf, K: Sink, L: Link>(
     alloc: Global,
     at: Option<Position>,

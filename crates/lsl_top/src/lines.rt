@@ -15,7 +15,7 @@ use lsl_notes::CardFault;
 use lsl_text::{NoMemory, Span, push_decimal, push_quoted};
 use std::alloc::{AllocError, Global};
 
-/// The line of a script that is accepted. It takes memory for the line.
+/// The line of a script that is accepted. Takes memory for the line.
 pub fn acceptance(alloc: Global, file: &str) -> Result<Vec<u8>, NoMemory>
     ensures { IfOk result (λ line. line.items ≡ accepted_line file.now) }
 {
@@ -37,7 +37,7 @@ pub fn refusal(alloc: Global, file: &str, fault: &BuildFault) -> Result<Vec<u8>,
     Ok(out)
 }
 
-/// The line of a world file that isn't good. It takes memory for the line.
+/// The line of a world file with a fault. Takes memory for the line.
 pub fn world_refusal(alloc: Global, file: &str, fault: &FileFault) -> Result<Vec<u8>, NoMemory>
     ensures { IfOk result (λ line. line.items ≡ world_refusal_of file.now fault.now) }
 {
@@ -50,7 +50,7 @@ pub fn world_refusal(alloc: Global, file: &str, fault: &FileFault) -> Result<Vec
     Ok(out)
 }
 
-/// The line of a notecard that isn't one. It takes memory for the line.
+/// The line of a notecard that isn't one. Takes memory for the line.
 pub fn note_refusal(alloc: Global, file: &str, fault: &CardFault) -> Result<Vec<u8>, NoMemory>
     ensures { IfOk result (λ line. line.items ≡ note_refusal_of file.now fault.now) }
 {
@@ -63,7 +63,7 @@ pub fn note_refusal(alloc: Global, file: &str, fault: &CardFault) -> Result<Vec<
     Ok(out)
 }
 
-/// The line of a frozen file whose world isn't that of the world file. It takes memory for the line.
+/// The line of a frozen file whose world isn't that of the world file. Takes memory for the line.
 pub fn image_refusal(alloc: Global, file: &str, fault: &ImageFault) -> Result<Vec<u8>, NoMemory>
     ensures { IfOk result (λ line. line.items ≡ image_refusal_of file.now fault.now) }
 {
@@ -77,8 +77,8 @@ pub fn image_refusal(alloc: Global, file: &str, fault: &ImageFault) -> Result<Ve
     Ok(out)
 }
 
-/// The line of a number and the report of its world. It takes memory for the line, and answers want of memory also
-/// where the report has more lines than were counted.
+/// The line of a seed and the report of its world. Takes memory for the line. Out of memory also where the report has
+/// more lines than were counted.
 pub fn made_line(alloc: Global, number: u32, report: DigestSink) -> Result<Vec<u8>, NoMemory>
     ensures { IfOk result (λ line. line.items ≡ made_line number report) }
 {
@@ -110,7 +110,7 @@ fn image_number(fault: &ImageFault) -> u8
     }
 }
 
-/// What is told of a fault: what was found and what is wanted, or where.
+/// Appends what a fault's line says after its number: what was found and what is wanted, or where.
 fn push_detail(out: &mut Vec<u8>, fault: &ImageFault) -> Result<(), NoMemory>
     ensures { OnOk result (out.new.items ≡ out.old.items ++ detail_of fault.now) }
 {

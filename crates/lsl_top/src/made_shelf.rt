@@ -1,4 +1,4 @@
-//! The two texts of a number as a shelf.
+//! The two texts of a seed as a shelf.
 ghost use Rattle.std.specs.Prelude.{◌≡◌, ◌≤◌, Some, length};
 ghost use Rattle.std.specs.Str.{encode_utf8_all};
 ghost use Rattle.lsl_ports.specs.Shelf.{Copies};
@@ -40,7 +40,7 @@ impl Shelf for MadeShelf<'_> {
     }
 }
 
-/// Copies bytes from `place` on into the piece, and answers how many.
+/// Copies bytes from `place` on into the piece, and returns how many.
 fn copy_from(file: &[u8], place: u64, piece: &mut [u8]) -> usize
     ensures within { result ≤ length piece.new }
     ensures copied { Copies file.now place piece.new result }

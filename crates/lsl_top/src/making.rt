@@ -1,4 +1,4 @@
-//! The world that is made of a number, replayed: of its report one line is written.
+//! The replay of a world generated from a seed, which writes one line in place of its report.
 ghost use Rattle.std.specs.Prelude.{◌≡◌};
 ghost use Rattle.lsl_image.specs.Images.{IsIntact};
 ghost use Rattle.lsl_made.specs.Walker.{walker_text};
@@ -19,8 +19,8 @@ use lsl_made::{Made, made};
 use lsl_ports::{Link, Sink};
 use std::alloc::Global;
 
-/// Replays the world of a number, and writes how many lines its report has, and their digest. No line of the report is
-/// kept.
+/// Replays the world of a seed, and writes the number of lines of its report, and their digest. No line of the report
+/// is kept.
 pub fn make<K: Sink, L: Link>(alloc: Global, number: u32, sink: &mut K, link: &mut L) -> Status
     ensures { Concludes L.gives (Honest IsIntact) (λ from. Unit {0}) (λ grade from trips. Makes grade from trips number)
         (log (K.sunk sink.old) (K.faults sink.old)) (log (K.sunk sink.new) (K.faults sink.new))
@@ -32,7 +32,7 @@ pub fn make<K: Sink, L: Link>(alloc: Global, number: u32, sink: &mut K, link: &m
     }
 }
 
-/// Replays the number's two texts. Where they are refused, the refusal is written as `replay` writes it.
+/// Replays the seed's two texts. Where they are refused, the refusal is written as `replay` writes it.
 fn make_of<K: Sink, L: Link>(
     alloc: Global,
     number: u32,

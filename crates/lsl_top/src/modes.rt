@@ -3,7 +3,7 @@
 use crate::positions::Position;
 use lsl_view::Names;
 
-/// What is told at the end of a run.
+/// What is printed at the end of a run.
 #[derive(Clone, Copy)]
 pub enum Last<'a> {
     /// Where each object is.
@@ -14,19 +14,19 @@ pub enum Last<'a> {
     Inspected(&'a Names),
 }
 
-/// From where a world is played, and what is told at its end.
+/// From where a world is played, and what is printed at its end.
 #[derive(Clone, Copy)]
 pub enum Mode<'a> {
-    /// From the file's start, and then it is told where each object is.
+    /// From the file's start; then prints where each object is.
     Whole,
-    /// From the file's start, where objects are handed over by notes, and then it is told where each object is.
+    /// From the file's start, where objects are handed over by notes; then prints where each object is.
     Handing,
-    /// From the file's start, and then the world is frozen.
+    /// From the file's start; then freezes the world.
     Freezing,
-    /// From the file's start up to a position, or to the end of its steps, and then all that the world holds is shown.
+    /// From the file's start up to a position, or to the end of its steps; then shows all that the world holds.
     Inspecting(Option<Position>),
-    /// From the frozen world of the file of this name, and then it is told where each object is.
+    /// From the frozen world of the file of this name; then prints where each object is.
     Thawing(&'a str),
-    /// It isn't run: of the frozen world of the file of this name it is shown where its scripts stand.
+    /// Runs nothing: shows where the scripts are in their code, in the frozen world of the file of this name.
     Viewing(&'a str),
 }

@@ -1,4 +1,4 @@
-//! The notecards of a world, of the texts of their files.
+//! The notecards of a world, from the texts of their files.
 
 ghost use Rattle.std.specs.Prelude.{◌≡◌, ◌≤◌, ◌<◌, ℕ, List, length, map, All, IfOk, IsErrOf};
 ghost use Rattle.lsl_text.specs.declared.Refusal.TheVariants as refusals;
@@ -11,15 +11,15 @@ use lsl_notes::{Card, CardFault, Cards, read_card};
 use lsl_text::{NoMemory, Refusal};
 use std::alloc::Global;
 
-/// The place of the first text that is no notecard, and its fault.
+/// The place of the first text that isn't a notecard, and its fault.
 #[derive(Clone, Copy, PartialEq, Eq)]
 pub struct BadCard {
     pub place: usize,
     pub fault: CardFault,
 }
 
-/// The notecards of a world's lines, whose files have these texts, or the first of the texts that is no notecard. Each
-/// text is read once, and held once.
+/// The notecards of a world's lines, whose files have these texts, or the first of the texts that isn't a notecard.
+/// Each text is read once, and held once.
 pub fn cards_of(
     alloc: Global,
     lines: &[NoteLine],
@@ -63,7 +63,7 @@ fn at_place(place: usize, refusal: Refusal<CardFault>) -> Refusal<BadCard>
     }
 }
 
-// The notecards of these lines, whose files have these.
+// Builds the world's notecards from its `note` lines and the cards of their files.
 fn hold(alloc: Global, lines: &[NoteLine], read: &[Card]) -> Result<Cards, NoMemory>
     requires few { length lines.now ≤ 256 }
     requires there { All (λ line. line.file < length read.now) lines.now }

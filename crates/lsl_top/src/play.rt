@@ -1,4 +1,4 @@
-//! What is played: a world, and all that the files have which it names.
+//! What is played: a world, and the contents of the files that it names.
 ghost use Rattle.std.specs.Prelude.{◌≡◌, length};
 
 use crate::modes::Mode;

@@ -51,7 +51,7 @@ fn steps_to(at: Position, steps: Sequence<Step>) -> Sequence<Step>
     Sequence::from_vec(steps)
 }
 
-/// Leaves so many whole steps, and the next one up to this segment.
+/// Leaves `whole` whole steps, and the next one up to this segment.
 #[tactic(auto, using(crate::proofs::Cuts::cut_none, crate::proofs::Cuts::cut_part, crate::proofs::Cuts::cut_all))]
 fn cut(steps: &mut Vec<Step>, whole: usize, segment: u32)
     ensures { steps.new.items ≡ steps_to whole segment steps.old.items }

@@ -16,10 +16,10 @@ use lsl_text::NoMemory;
 use lsl_value::Text;
 use std::alloc::Global;
 
-/// How many bytes of a script are read, but for one more, which shows that it is too long.
+/// A script is read up to this many bytes and one more, which shows that it is too long.
 const MAX_SCRIPT_BYTES: u64 = 65_536;
 
-/// How many bytes of a frozen file are read, but for one more.
+/// A frozen file is read up to this many bytes and one more.
 const MAX_FROZEN_BYTES: u64 = 2_147_483_647;
 
 /// The text of a script, or its first bytes where it is too long.

@@ -32,8 +32,8 @@ use lsl_view::{Names, state};
 use lsl_world::World;
 use std::alloc::Global;
 
-/// Does a step, or a first part of it, writes its lines, and gives the step that is left. `entries` and `lines` are the
-/// room in which they are made.
+/// Does a step, or a first part of it, writes its lines, and returns what is left of the step. `entries` and `lines`
+/// are buffers that are reused.
 fn write_part<K: Sink, L: Link>(
     world: &mut World,
     step: &Step,
@@ -63,7 +63,7 @@ fn write_part<K: Sink, L: Link>(
     Ok(left)
 }
 
-/// The same of a step that is left, which is dropped here.
+/// Like `write_part`, for what is left of a step, which is dropped here.
 fn write_rest<K: Sink, L: Link>(
     world: &mut World,
     step: Step,
@@ -90,8 +90,8 @@ fn write_rest<K: Sink, L: Link>(
     write_part(world, &step, entries, lines, sink, link)
 }
 
-/// Does a step, and writes the lines of each part of it before the next part. `entries` and `lines` are the room in
-/// which they are made.
+/// Does a step, and writes the lines of each part of it before the next part. `entries` and `lines` are buffers that
+/// are reused.
 fn write_step<K: Sink, L: Link>(
     world: &mut World,
     step: &Step,
@@ -122,7 +122,7 @@ fn write_step<K: Sink, L: Link>(
     Ok(())
 }
 
-/// Does all steps, each step's lines being written before the next step.
+/// Does all steps, and writes each step's lines before the next step.
 fn write_steps<K: Sink, L: Link>(
     alloc: Global,
     world: &mut World,
@@ -225,7 +225,7 @@ fn write_state<K: Sink>(
     write_bytes(lines.as_slice(), sink)
 }
 
-/// Writes what is told at the end.
+/// Writes what is printed at the end.
 fn write_last<K: Sink>(
     alloc: Global,
     last: Last<'_>,
@@ -248,7 +248,7 @@ fn write_last<K: Sink>(
     }
 }
 
-/// Runs a world, and writes its journal and what is told at its end.
+/// Runs a world, and writes its journal and what is printed at its end.
 pub fn write_run<K: Sink, L: Link>(
     alloc: Global,
     last: Last<'_>,

@@ -1,5 +1,5 @@
 //! Worlds whose scripts are built: their runs, from the file's start or from a frozen world, and where the scripts of a
-//! frozen world stand.
+//! frozen world are in their code.
 
 ghost use Rattle.std.specs.Prelude.{◌≡◌, List, [], None, length, map, All, IfOk, IsErrOf};
 ghost use Rattle.std.specs.List.{AllByRecursion};
@@ -193,7 +193,7 @@ fn lossy_start(alloc: Global, file: &WorldFile, cast: Cast) -> Result<World, NoM
     world.lossy()
 }
 
-/// Runs a world from the frozen one of this text, or writes the refusal of the text, whose file has this name.
+/// Runs a world from the frozen one of this text, or writes the refusal of the text, which is of the file of this name.
 fn run_thawed<K: Sink, L: Link>(
     alloc: Global,
     name: &str,
@@ -231,8 +231,8 @@ fn run_thawed<K: Sink, L: Link>(
     }
 }
 
-/// Writes where the scripts of the frozen world of this text stand, or the refusal of the text, whose file has this
-/// name.
+/// Writes where the scripts of the frozen world of this text are in their code, or the refusal of the text, which is of
+/// the file of this name.
 fn show_frozen<K: Sink>(
     alloc: Global,
     name: &str,
@@ -258,7 +258,7 @@ fn show_frozen<K: Sink>(
     }
 }
 
-/// The lines that show where the scripts of a world stand, which have the names of the file.
+/// The lines that show where the scripts of a world are in their code, with the names that the file gives them.
 fn view_of(alloc: Global, file: &WorldFile, world: &World) -> Result<Vec<u8>, NoMemory>
     requires sound { IsSound world.now }
     requires names { length (names_of_scripts file.now) ≡ length (scripts_in (parts_in world.now)) }
@@ -270,7 +270,7 @@ fn view_of(alloc: Global, file: &WorldFile, world: &World) -> Result<Vec<u8>, No
     view(alloc, &parts, names.as_slice(), world.units())
 }
 
-/// The frozen world of this text, with the objects of the file, or why there is none.
+/// The frozen world of this text, with the objects of the file, or why it has none.
 fn thawed(alloc: Global, play: &Play<'_>, cast: Cast) -> Result<World, Refusal<ImageFault>>
     requires range { IsInRange play.now.world.now }
     requires units { length cast.units ≡ length play.now.world.now.files }

@@ -7,7 +7,7 @@ ghost use Rattle.lsl_top.specs.Status.{number_of};
 pub enum Status {
     /// All was read, run and written.
     Ok,
-    /// The words are no command.
+    /// The words aren't a command.
     Usage,
     /// The world file isn't in its grammar.
     BadWorld,
@@ -26,7 +26,7 @@ pub enum Status {
 }
 
 impl Status {
-    /// The status as a process ends with it: 0 to 8.
+    /// The status as the process's exit status: 0 to 8.
     pub fn number(&self) -> u8
         ensures { result ≡ number_of self.now }
     {

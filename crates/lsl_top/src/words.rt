@@ -21,11 +21,12 @@ pub enum Command<'a> {
     Freeze(&'a str),
     /// Runs a world file, the second, from the frozen world of the first.
     Thaw(&'a str, &'a str),
-    /// Shows where the scripts of a frozen world stand, which is that of a world file, the second.
+    /// Shows where the scripts of a frozen world are in their code. The world is that of a world file, the second.
     View(&'a str, &'a str),
-    /// Runs the world that is made of a number.
+    /// Runs the world generated from a seed.
     Make(u32),
-    /// Runs a world file up to a position, or to its end, and shows all that the world holds there. No words ask for it.
+    /// Runs a world file up to a position, or to its end, and shows all that the world holds there. No words ask for
+    /// it.
     State(Option<Position>, &'a str),
 }
 
@@ -94,7 +95,7 @@ fn command_of_lossy<'a>(word: &str, file: &'a str) -> Option<Command<'a>>
     }
 }
 
-/// What the words ask for, or none where they are no command. It takes no memory.
+/// What the words ask for, or none where they aren't a command. Takes no memory.
 pub fn parse_words(words: &[String]) -> Option<Command<'_>>
     ensures { command_of words.now ≡ meant_by result }
 {

@@ -1,4 +1,4 @@
-//! What is written, and what comes of it.
+//! What is written, and the result of writing.
 ghost use Rattle.std.specs.Prelude.{◌≡◌, ℕ, List, IfOk};
 ghost use Rattle.lsl_lines.specs.Journal.{lines_of};
 ghost use Rattle.lsl_top.specs.Ports.{Writes, log, status_after as the_status_after};
@@ -47,7 +47,7 @@ pub fn status_after(written: Result<(), Trouble>, status: Status) -> Status
     }
 }
 
-/// Writes bytes. It takes no memory.
+/// Writes bytes. Takes no memory.
 pub fn write_bytes<K: Sink>(bytes: &[u8], sink: &mut K) -> Result<(), Trouble>
     ensures { Writes bytes.now (log (K.sunk sink.old) (K.faults sink.old)) (log (K.sunk sink.new) (K.faults sink.new))
         result }
@@ -58,7 +58,7 @@ pub fn write_bytes<K: Sink>(bytes: &[u8], sink: &mut K) -> Result<(), Trouble>
     }
 }
 
-/// Writes a line, but where there was no memory for it.
+/// Writes a line, unless there was no memory for it.
 pub fn write_line<K: Sink>(line: Result<Vec<u8>, NoMemory>, sink: &mut K) -> Result<(), Trouble>
     ensures { (bytes : List ℕ) → IfOk line (λ l. l.items ≡ bytes)
         → Writes bytes (log (K.sunk sink.old) (K.faults sink.old)) (log (K.sunk sink.new) (K.faults sink.new)) result }
@@ -69,7 +69,7 @@ pub fn write_line<K: Sink>(line: Result<Vec<u8>, NoMemory>, sink: &mut K) -> Res
     }
 }
 
-/// Writes the lines of entries. `lines` is the room in which they are made.
+/// Writes the lines of entries. `lines` is a buffer that is reused.
 pub fn write_entries<K: Sink>(
     entries: &[Entry],
     lines: &mut Vec<u8>,

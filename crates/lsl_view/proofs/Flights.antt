@@ -25,7 +25,7 @@ use Rattle.lsl_view.specs.Names.{name_of}
 use Rattle.lsl_view.specs.Source.{calls_in, shown_call}
 use Rattle.lsl_view.proofs.ActiveCalls.{calls-shown}
 
--- what comes of a flight by its program comes of it by its code
+-- the result of a flight by its program is its result by its code
 module _ (programs : List Program) (codes : List Code) (all : AreRunBy programs codes) (code : ℕ)
     (h : code < length codes) where
   by-handler : (handler : Option ℕ) (f : Flight) (ticks : ℕ) (answers : List Reply)

@@ -8,7 +8,6 @@ module _ {X Y : Type 0} (f : Y → List ℕ) (g : X → Y) where
   mapped [] = refl
   mapped (x ∷ xs) = ap (λ (l : List ℕ). f (g x) ++ l) (mapped xs)
 
-  -- one more was appended, as it is shown
   pub one-more : (xs : List X) (i : ℕ) (x : X) (start now new : List ℕ) → Some x ≡ slice_get xs i
       → now ≡ start ++ flat_map f (map g (take i xs)) → new ≡ now ++ f (g x)
       → new ≡ start ++ flat_map f (map g (take (i + 1) xs))

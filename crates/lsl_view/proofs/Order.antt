@@ -1,4 +1,5 @@
--- The scripts of all objects, object by object, are all scripts in their order, where they stand object by object.
+-- The scripts of all objects, object by object, are all scripts in their order, where they are in order of their
+-- objects.
 use Rattle.std.proofs.Common.{◌≡◌, ◌∙◌, refl, sym, ap, subst, arith, ℕ, ◌+◌, ◌<◌, ◌≤◌, zero, suc, Bool, true, false, List, [], ◌∷◌, ◌++◌, length, Option, Some, None}
 use Rattle.std.specs.Prelude.{map, nat_eq, if◌then◌else◌}
 use Rattle.std.specs.List.{cons_option, filter_map, flat_map, range_with_len}
@@ -53,7 +54,7 @@ module _ (codes : List Code) where
       ap (λ (b : Bool). cons_option (given m b) (own k ms)) differs
       ∙ none-own k m.object high ms (omega (arith, lt, among.0)) among.2
 
-  -- the scripts of the lowest object, and those behind them
+  -- the scripts of the lowest object, and those after them
   record Split (low high : ℕ) (ms : List Member) : Type 0 where
     back : List Member
     all : map (λ (m : Member). parts_of codes m.script) ms

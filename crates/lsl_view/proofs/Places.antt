@@ -1,5 +1,5 @@
--- The scripts of a file stand object by object, under the names that the file gives them; so do those of a world that
--- agrees with it.
+-- The scripts of a file are in order of their objects, under the names that the file gives them; so do those of a world
+-- that agrees with it.
 use Rattle.std.proofs.Common.{◌≡◌, ◌∙◌, refl, sym, ap, subst, arith, ℕ, ◌+◌, ◌<◌, ◌≤◌, suc, true, List, [], ◌∷◌, ◌++◌, length}
 use Rattle.std.specs.Prelude.{map}
 use Rattle.std.specs.List.{flat_map}
@@ -89,7 +89,7 @@ module _ (r : Rules) where
       ∙ ap (λ (ns : List (List ℕ)). names_in_object x ++ ns) (start-names (suc n) xs)
       ∙ sym (flat_map-cons names_in_object x xs)
 
--- what seats tell of members
+-- what seats say of members
 objects-told : (ms : List Member) → map (λ (s : Seat). s.object) (map (seat_of [] true) ms) ≡ map object_of ms
 objects-told [] = refl
 objects-told (m ∷ ms) = ap (λ (ns : List ℕ). m.object ∷ ns) (objects-told ms)

@@ -23,13 +23,13 @@ use Rattle.lsl_view.specs.State.{global_line, object_lines, objects_behind, stat
 use Rattle.lsl_view.specs.StateParts.{globals_shown, most_scripts, object_shown, objects_shown, script_state, state_in, states_shown}
 use Rattle.lsl_view.specs.declared.known.Names.{Names}
 
--- no name is an empty one
+-- a missing name is an empty one
 no-name : (names : List (List ℕ)) (i : ℕ) → None ≡ slice_get names i → [] ≡ get_or names i []
 no-name [] i is = refl
 no-name (n ∷ names) zero is = absurd cc
 no-name (n ∷ names) (suc i) is = no-name names i is
 
--- what is so where a call went well
+-- what holds where a call went well
 on-ok : {T E A B : Type 0} (result : Result T E) → (A → B) → OnOk result A → OnOk result B
 on-ok (Ok t) f h = f h
 on-ok (Err e) f h = tt
@@ -128,7 +128,7 @@ module _ (library : List Code) (names : Names) (clock : ℕ) where
       sym (append-nil now)
       ∙ ap (λ (l : List Placed). now ++ whole number before l) (sym (drop_all i objects over)) ∙ left
 
--- how many scripts are left behind an object
+-- the number of scripts left after an object
 pub scripts-left : (i before most : ℕ) (objects : List Placed) (x : Placed) → i < length objects
     → x ≡ get_or objects i x → before + length (flat_map scripts_of (drop i objects)) ≤ most
     → before + length (scripts_of x) + length (flat_map scripts_of (drop (i + 1) objects)) ≤ most
@@ -160,7 +160,7 @@ unnamed [] unit is = refl
 unnamed (n ∷ names) zero is = absurd cc
 unnamed (n ∷ names) (suc unit) is = unnamed names unit is
 
--- a unit whose globals have no names shows none
+-- a unit without names of globals shows none
 pub none-shown : (names : List (List (List ℕ))) (unit : ℕ) (values : List Value) (now : List ℕ)
     → None ≡ slice_get names unit → now ≡ now ++ flat_map global_line (globals_shown (get_or names unit []) values)
 none-shown names unit values now is =
@@ -173,7 +173,7 @@ pub can-leave : (states : List StateCode) (state : ℕ) (leaving : Option ℕ) �
 can-leave states state None can = tt
 can-leave states state (Some to) can = can.there
 
--- one call more is charged, as far as 64 bits go
+-- one call more is charged, saturated at 64 bits
 pub charge-more : (sack : List Frame) (i : ℕ) (frame : Frame) (charged now new mid most : ℕ)
     → slice_get sack i ≡ Some frame → now ≡ min (charged + sum_by frame_charge (take i sack)) most
     → mid ≡ min (now + 32) most → new ≡ min (mid + charges_of frame.slots) most
@@ -183,7 +183,7 @@ charge-more sack i frame charged now new mid most is so first then =
     let own = ap frame_charge (get_or_from_slice_get sack i frame frame is) in
     omega (arith, so, first, then, more, own)
 
--- so many objects, each with so many scripts at most
+-- this many objects, each with at most this many scripts
 pub scripts-few : (library : List Code) (objects : List Placed) → AllByRecursion (IsPlaced library) objects
     → length (flat_map scripts_of objects) ≤ length objects * 65535
 scripts-few library [] each = omega arith

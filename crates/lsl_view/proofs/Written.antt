@@ -1,4 +1,4 @@
--- Lines of scripts that were appended, one script behind another and object by object.
+-- Lines of scripts that were appended, one script after another and object by object.
 use Rattle.std.proofs.Common.{◌≡◌, ◌∙◌, refl, sym, ap, arith, ℕ, ◌+◌, ◌<◌, ◌≤◌, zero, suc, List, [], ◌∷◌, ◌++◌, length, take, get_or, append_assoc, append-nil, length-append, Option, Some, slice_get}
 use Rattle.std.specs.List.{flat_map}
 use Rattle.std.proofs.lemmas.List.{length-take-le}
@@ -16,7 +16,7 @@ use Rattle.lsl_view.specs.Parts.{scripts_of, shown_behind, shown_in, shown_scrip
 appended : (old mid new a b : List ℕ) → mid ≡ old ++ a → new ≡ mid ++ b → new ≡ old ++ (a ++ b)
 appended old mid new a b first then = then ∙ ap (λ (l : List ℕ). l ++ b) first ∙ append_assoc old a b
 
--- what stands within a list is there, whatever stood elsewhere
+-- what is within a list is there, whatever was elsewhere
 any-else : (xs : List (List ℕ)) (n : ℕ) (a b : List ℕ) → n < length xs → get_or xs n a ≡ get_or xs n b
 any-else [] n a b lt = absurd (omega (arith, lt))
 any-else (x ∷ xs) zero a b lt = refl

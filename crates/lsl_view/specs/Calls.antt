@@ -13,7 +13,7 @@ slots_in (Some function) = length function.slots
 abbrev pub slot_count : List WovenCode → ℕ → ℕ
 slot_count functions number = slots_in (slice_get functions number)
 
--- of a frame's values the slots are shown, and not the operands that wait behind them
+-- of a frame's values the slots are shown, and not the operands that wait after them
 abbrev pub shown_frame : List WovenCode → Frame → ShownCall
 shown_frame functions frame = record {
   name = function_name functions frame.function;

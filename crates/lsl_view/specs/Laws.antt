@@ -18,8 +18,8 @@ abbrev pub CompiledCodeIsNamed : Type 0
 CompiledCodeIsNamed =
     (p : Program) (code : Code) → code.functions ≡ map woven_function (generated_functions p) → IsNamedBy p code
 
--- of a world that agrees with a file, whose units run its programs and keep their names: the lines of its parts, with
--- the file's names of scripts, are the lines of the world as its texts mean it
+-- of a world that agrees with a file, if its units run the file's programs and keep their names: the lines of its
+-- parts, with the file's names of scripts, are the lines of the world as its texts mean it
 abbrev pub ViewsAreOfTheSource : Type 0
 ViewsAreOfTheSource =
     (programs : List Program) (units : List Code) (file : WorldFile) (cards : List Notecard) (w : World)

@@ -1,5 +1,5 @@
--- The lines that show where scripts stand: `script NUMBER "NAME" STATE REST QUEUED`, and behind it for each active
--- call, the innermost first, `call NAME LINE VALUES`.
+-- The lines that show where scripts are in their text: `script NUMBER "NAME" STATE REST QUEUED`, and then for each
+-- active call, the innermost first, `call NAME LINE VALUES`.
 use Rattle.std.specs.Prelude.{ℕ, suc, List, [], ◌∷◌, ◌++◌, codes, decimal, map}
 use Rattle.std.specs.List.{flat_map}
 use Rattle.std.specs.Str.{encode_utf8_all}
@@ -7,7 +7,7 @@ use Rattle.lsl_value.specs.declared.tagged.Value.{Value}
 use Rattle.lsl_lines.specs.Journal.{joined, text_word}
 use Rattle.lsl_view.specs.Values.{value_word}
 
--- an active call: the name of its function or event, the line of the text at which it stands, and its slots
+-- an active call: the name of its function or event, its current line in the text, and its slots
 pub record ShownCall : Type 0 where
   pub name : List ℕ
   pub line : ℕ
@@ -35,7 +35,7 @@ script_words number s =
 abbrev pub script_lines : (number : ℕ) → ShownScript → List ℕ
 script_lines number s = joined (script_words number s) ++ 10 ∷ flat_map call_line s.calls
 
--- of scripts that stand behind so many others
+-- of scripts that follow this many others
 abbrev pub lines_behind : ℕ → List ShownScript → List ℕ
 lines_behind before [] = []
 lines_behind before (s ∷ more) = script_lines (suc before) s ++ lines_behind (suc before) more

@@ -11,8 +11,7 @@ use Rattle.lsl_lines.specs.declared.file.PrimLine.{PrimLine}
 use Rattle.lsl_lines.specs.declared.file.ScriptLine.{ScriptLine}
 use Rattle.lsl_lines.specs.declared.file.WorldFile.{WorldFile}
 
--- the functions' names, and behind them the events' of the handlers, state by state: a routine's number is its place
--- here
+-- the functions' names, and then the events' of the handlers, state by state: a routine's number is its place here
 abbrev pub routine_names : Program → List (List ℕ)
 routine_names p = map (λ f. f.name) p.functions ++ map (λ h. event_name_of h.event) (handlers_of p.states)
 

@@ -1,4 +1,4 @@
--- The lines of a world's parts, whose scripts have these names, one for each.
+-- The lines of a world's parts, with these names of its scripts, one for each.
 use Rattle.std.specs.Prelude.{ℕ, suc, List, [], ◌∷◌, Option, Some, None, codes, get_or, length, map, slice_get}
 use Rattle.std.specs.List.{flat_map}
 use Rattle.lsl_table.specs.Events.{event_name_of}
@@ -23,7 +23,7 @@ abbrev pub states_in : Option Code → List StateCode
 states_in None = []
 states_in (Some unit) = unit.states
 
--- `idle`, the name of the event in hand, or `dead`. A script that leaves its state with no event in hand is idle too
+-- `idle`, the name of the current event, or `dead`. A script that leaves its state without a current event is idle too
 abbrev pub rest_word : Rest → List ℕ
 rest_word Idle = codes "idle"
 rest_word (Saved event frames) = event_name_of event.id
@@ -47,7 +47,7 @@ shown_in unit name s = record {
 abbrev pub shown_script : List Code → List ℕ → ScriptParts → ShownScript
 shown_script library name s = shown_in (slice_get library s.unit) name s
 
--- scripts that stand behind so many others, each with the name at its place
+-- scripts that follow this many others, each with the name at its place
 abbrev pub shown_behind : List Code → (names : List (List ℕ)) → ℕ → List ScriptParts → List ShownScript
 shown_behind library names before [] = []
 shown_behind library names before (s ∷ more) =

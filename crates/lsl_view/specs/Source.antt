@@ -16,7 +16,7 @@ abbrev pub calls_in : Whole → List ActiveCall
 calls_in (Cut calls) = calls
 calls_in other = []
 
--- of a script in this state: those to which its handler came, from its start, with the flight's event, globals and
+-- of a script in this state: those that its handler reached, from its start, with the flight's event, globals and
 -- limit, its ticks and its answers
 abbrev pub live_calls : Rules → (code state : ℕ) → Doing → List ActiveCall
 live_calls r code state Resting = []

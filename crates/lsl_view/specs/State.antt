@@ -26,7 +26,7 @@ pub record HeldCall : Type 0 where
   pub waits : List Value
 
 -- a script: its name, that of its state and what it rests in as a word; what it is charged, and the limit of that; the
--- state for which it leaves this one, and why it stopped; its globals, its calls and the event in hand; the events that
+-- state for which it leaves this one, and why it stopped; its globals, its calls and the current event; the events that
 -- wait, its listens and its timer, where one runs; and until when it sleeps
 pub record ShownState : Type 0 where
   pub name : List ℕ
@@ -117,7 +117,7 @@ standing_lines s = line_of leaving_words s.leaving ++ line_of fault_words s.faul
 abbrev pub flight_lines : ShownState → List ℕ
 flight_lines s = flat_map held_lines s.calls ++ line_of took_words s.took
 
--- what is to come to it
+-- what the script has yet to receive
 abbrev pub mailbox_lines : ShownState → List ℕ
 mailbox_lines s = flat_map event_line s.queue ++ flat_map listen_line s.listens ++ line_of timer_words s.timer
     ++ line_of sleeps_words s.sleeps
@@ -126,7 +126,7 @@ mailbox_lines s = flat_map event_line s.queue ++ flat_map listen_line s.listens 
 abbrev pub state_lines : (number : ℕ) → ShownState → List ℕ
 state_lines number s = line (state_words number s) ++ standing_lines s ++ flight_lines s ++ mailbox_lines s
 
--- of scripts that stand behind so many others
+-- of scripts that follow this many others
 abbrev pub states_behind : ℕ → List ShownState → List ℕ
 states_behind before [] = []
 states_behind before (s ∷ more) = state_lines (suc before) s ++ states_behind (suc before) more
@@ -138,7 +138,7 @@ object_words number o = codes "object" ∷ decimal number ∷ text_word o.name �
 abbrev pub object_lines : (number : ℕ) → ShownObject → List ℕ
 object_lines number o = line (object_words number o) ++ flat_map pair_line o.store
 
--- of objects that stand behind so many others, and whose scripts stand behind so many others
+-- of objects that follow this many others, with scripts that follow this many others
 abbrev pub objects_behind : (objects scripts : ℕ) → List ShownObject → List ℕ
 objects_behind objects scripts [] = []
 objects_behind objects scripts (o ∷ more) = object_lines (suc objects) o ++ states_behind scripts o.scripts

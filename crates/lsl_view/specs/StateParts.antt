@@ -22,14 +22,14 @@ use Rattle.lsl_view.specs.Parts.{frames_in, functions_in, rest_word, states_in}
 use Rattle.lsl_view.specs.State.{HeldCall, ShownGlobal, ShownObject, ShownState, ShownWorld, world_lines}
 use Rattle.lsl_view.specs.declared.known.Names.{Names}
 
--- behind a frame's slots its operands wait
+-- after a frame's slots its operands wait
 abbrev pub held_frame : List WovenCode → Frame → HeldCall
 held_frame functions frame = record {
   call = shown_frame functions frame;
   waits = drop (slot_count functions frame.function) frame.slots;
 }
 
--- what a script is charged for itself, its globals and its calls, as far as 64 bits go
+-- the charge of a script for itself, its globals and its calls, saturated at 64 bits
 abbrev pub charge_in : ScriptParts → ℕ
 charge_in s = min (parked_charge s.globals (frames_in s.rest)) most_charged
 
@@ -47,7 +47,7 @@ fault_in (Dead fault) = Some fault
 abbrev pub running_timer : Timer → Option Timing
 running_timer t = if nat_lt 0 t.period then Some (timing_of t) else None
 
--- the time until which a script sleeps, if that is to come
+-- the time until which a script sleeps, if that is in the future
 abbrev pub sleep_until : (clock wake : ℕ) → Option ℕ
 sleep_until clock wake = if nat_lt clock wake then Some wake else None
 
@@ -75,7 +75,7 @@ state_in unit clock name globals s = record {
   sleeps = sleep_until clock s.wake;
 }
 
--- how many scripts a world has at most that has an image: so many objects, each with so many scripts
+-- the greatest number of scripts of a world that has an image: the most objects, each with the most scripts
 abbrev pub most_scripts : ℕ
 most_scripts = 255 * 65535
 
@@ -84,7 +84,7 @@ abbrev pub script_state : List Code → Names → (clock : ℕ) → (name : List
 script_state library names clock name s =
     state_in (slice_get library s.unit) clock name (get_or names.globals s.unit []) s
 
--- scripts that stand behind so many others, each with the name at its place
+-- scripts that follow this many others, each with the name at its place
 abbrev pub states_shown : List Code → Names → (clock before : ℕ) → List ScriptParts → List ShownState
 states_shown library names clock before [] = []
 states_shown library names clock before (s ∷ more) =

@@ -13,7 +13,7 @@ element_word (atom.Int n) = decimal_of n
 element_word (atom.Str text) = text_word text
 element_word (atom.Key text) = text_word text
 
--- behind a comma and a space
+-- after a comma and a space
 abbrev pub behind_comma : List ℕ → List ℕ
 behind_comma word = 44 ∷ 32 ∷ word
 

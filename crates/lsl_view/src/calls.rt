@@ -31,7 +31,7 @@ pub fn push_calls(out: &mut Vec<u8>, sack: &Sack, unit: &Woven) -> Result<(), No
 }
 
 /// Appends the lines of the handler in flight, if there is one: of each saved call, with a line for the operands that
-/// wait in it, and of the event in hand.
+/// wait in it, and of the current event.
 pub fn push_flight(out: &mut Vec<u8>, rest: &Rest, unit: &Woven) -> Result<(), NoMemory>
     requires { AllByRecursion (IsAt unit.now.functions) (frames_in rest.now) }
     ensures { OnOk result (out.new.items
@@ -94,7 +94,7 @@ fn push_call(out: &mut Vec<u8>, call: &Laid<'_>, unit: &Woven) -> Result<(), NoM
     Ok(())
 }
 
-// The operands that wait behind the slots of a call.
+// The operands that wait after the slots of a call.
 fn operands<'s>(call: &Laid<'s>, unit: &Woven) -> &'s [Value]
     requires { IsAt unit.now.functions (frame_laid call.now) }
     ensures { result.now ≡ drop (slot_count unit.now.functions call.now.function) (frame_laid call.now).slots }
@@ -104,7 +104,7 @@ fn operands<'s>(call: &Laid<'s>, unit: &Woven) -> &'s [Value]
     &values[function.slots.len().min(values.len())..]
 }
 
-// The slots of a call, without the operands that wait behind them.
+// The slots of a call, without the operands after them.
 fn slots<'s>(call: &Laid<'s>, unit: &Woven) -> &'s [Value]
     requires { IsAt unit.now.functions (frame_laid call.now) }
     ensures { result.now ≡ take (slot_count unit.now.functions call.now.function) (frame_laid call.now).slots }

@@ -25,7 +25,7 @@ use lsl_running::{CALL_CHARGE, SCRIPT_CHARGE, charged_with_values};
 use lsl_text::NoMemory;
 use lsl_value::{Text, Value};
 
-/// What scripts are shown by: the reading of the clock, the names, and the units.
+/// What is needed to show scripts: the reading of the clock, the names, and the units.
 #[derive(Clone, Copy)]
 pub struct Scene<'a> {
     pub clock: u64,
@@ -34,7 +34,7 @@ pub struct Scene<'a> {
 }
 
 impl Scene<'_> {
-    /// Appends the lines of these scripts, which follow the first `before`. The place after the last of them.
+    /// Appends the lines of these scripts, which follow the first `before`. Returns the place after the last of them.
     pub fn push_scripts(
         &self,
         out: &mut Vec<u8>,
@@ -55,7 +55,7 @@ impl Scene<'_> {
         Ok(place)
     }
 
-    // The lines of the script at this place. Without a name it has an empty one.
+    // The lines of the script at this place. A script without a name is shown with an empty one.
     fn push_script(
         &self,
         out: &mut Vec<u8>,
@@ -214,7 +214,7 @@ fn charge_of(script: &ScriptParts) -> u64
     }
 }
 
-// What is charged so far, and these calls beside it, as far as 64 bits go.
+// What is charged so far and for these calls, saturated at 64 bits.
 fn charged_with_calls(charged: u64, sack: &Sack) -> u64
     ensures { result ≡ charged_with charged (sum_by frame_charge sack.now) }
 {

@@ -1,4 +1,4 @@
-//! What the parts of a world don't tell, and its files do.
+//! What the parts of a world don't have, and its files do.
 
 use lsl_code::Sequence;
 use lsl_value::Text;

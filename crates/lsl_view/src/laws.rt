@@ -2,13 +2,14 @@
 
 ghost use Rattle.lsl_view.specs.Laws.{CompiledCodeIsNamed, ViewsAreOfTheSource};
 
-/// What is shown of the parts of a world whose units run the programs of a file is the world's own live calls, as its
-/// texts mean them: their names, their lines and their slots. No instruction, frame or place in code is in that view.
+/// What is shown of the parts of a world, if its units run the programs of a file, is the world's own live calls, as
+/// its texts mean them: their names, their lines and their slots. No instruction, frame or place in code is in that
+/// view.
 pub fn views_are_of_the_source()
     ensures { ViewsAreOfTheSource }
 {}
 
-/// The code that the compiler makes of a program keeps the names of its functions and events.
+/// The compiler's code of a program keeps the names of its functions and events.
 pub fn compiled_code_is_named()
     ensures { CompiledCodeIsNamed }
 {}

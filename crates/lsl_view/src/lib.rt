@@ -1,5 +1,5 @@
-//! The call stacks of a world at rest as text: of each script its state, what it rests in and how many events wait, and
-//! of a handler in flight each active call with its name, the line where it stands and its slots. Nothing here runs a
+//! The call stacks of a world at rest as text: of each script its state, what it rests in and the number of events that
+//! wait, and of a handler in flight each active call with its name, its current line and its slots. Nothing here runs a
 //! script.
 #![tactic(auto)]
 

@@ -1,4 +1,4 @@
-//! What is to come to a script, appended as lines.
+//! What a script has yet to receive, appended as lines.
 
 ghost use Rattle.std.specs.Prelude.{◌≡◌, ◌++◌, ◌∷◌, [], OnOk};
 ghost use Rattle.std.specs.List.{flat_map};
@@ -26,7 +26,7 @@ pub fn push_mailbox(out: &mut Vec<u8>, script: &ScriptParts, clock: u64) -> Resu
     push_sleep(out, clock, script.wake)
 }
 
-/// Appends the line of an event behind a word.
+/// Appends a word and an event as a line.
 pub fn push_event(out: &mut Vec<u8>, word: &str, event: &Event) -> Result<(), NoMemory>
     ensures { OnOk result (out.new.items ≡ out.old.items ++ line (event_words word.now event.now)) }
 {

@@ -16,7 +16,7 @@ use lsl_table::event_name;
 use lsl_text::NoMemory;
 use lsl_value::Text;
 
-/// Appends the lines of these scripts, which stand behind so many others; `names` has the names of all.
+/// Appends the lines of these scripts, which follow `before` others; `names` has the names of all.
 pub fn push_scripts(
     out: &mut Vec<u8>,
     before: usize,

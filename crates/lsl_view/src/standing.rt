@@ -18,10 +18,13 @@ use lsl_text::NoMemory;
 use lsl_value::Text;
 use std::alloc::Global;
 
-/// The lines of a world of these parts with all that it holds: the clock, and then object by object a line of it, of each
-/// pair of its store, and of each of its scripts with what that holds. The scripts and the units' globals have these
-/// names; a script without one has an empty name, and a global without one isn't shown. It takes memory for the lines,
-/// and time in proportion to the parts and to what is written.
+/// The lines of a world of these parts with all that it holds.
+///
+/// The clock comes first, and then object by object a line of it, of each pair of its store, and of each of its scripts
+/// with what that holds. The scripts and the units' globals have these names; a script without one has an empty name,
+/// and a global without one isn't shown.
+///
+/// It takes memory for the lines, and time in proportion to the parts and to what is written.
 pub fn state(
     alloc: Global,
     parts: &WorldParts,

@@ -8,7 +8,7 @@ ghost use Rattle.lsl_view.specs.Values.{behind_comma, element_word, elements_of,
 use lsl_text::{NoMemory, push_decimal, push_quoted};
 use lsl_value::{Atom, Value};
 
-/// Appends values, each behind a space.
+/// Appends values, each after a space.
 pub fn push_values(out: &mut Vec<u8>, values: &[Value]) -> Result<(), NoMemory>
     ensures { OnOk result (out.new.items ≡ out.old.items ++ flat_map spaced (map value_word values.now)) }
 {

@@ -13,10 +13,11 @@ use std::alloc::Global;
 
 /// The lines of a world of these parts, in the order of its scripts, which have these names.
 ///
-/// `script NUMBER "NAME" STATE REST QUEUED` is the line of a script: REST is `idle`, `dead` or the name of the event in
-/// hand, and QUEUED how many events wait. In flight there is behind it a line for each active call, the innermost
-/// first, `call NAME LINE VALUES`: the name of the function or event, the line of the text at which it stands, and its
-/// slots. It takes memory for the lines, and time in proportion to the parts and to what is written.
+/// `script NUMBER "NAME" STATE REST QUEUED` is the line of a script: REST is `idle`, `dead` or the name of the current
+/// event, and QUEUED the number of events that wait. In flight a line follows for each active call, the innermost
+/// first, `call NAME LINE VALUES`: the name of the function or event, its current line in the text, and its slots.
+///
+/// It takes memory for the lines, and time in proportion to the parts and to what is written.
 pub fn view(
     alloc: Global,
     parts: &WorldParts,

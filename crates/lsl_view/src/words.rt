@@ -1,4 +1,4 @@
-//! The words of a line, each behind a space.
+//! The words of a line, each after a space.
 
 ghost use Rattle.std.specs.Prelude.{◌≡◌, ◌++◌, ◌∷◌, [], ◌<◌, decimal, OnOk};
 ghost use Rattle.std.specs.Str.{encode_utf8_all};

@@ -59,7 +59,7 @@ module _ {T E : Type 0} (codes : List Code) (r : Rules) (First Second : SourceWo
     sent = hands.sent;
   }
 
--- what a step comes to, by the regions and the cards that stand beside the world
+-- the result of a step, by the regions and the cards that are beside the world
 abbrev pub GoesBy : {T E : Type 0} → (List Trip → Type 0) → World → World → List (List ℕ)
     → (old new : Option (List (List Card))) → Step → (before after : List Entry) → Result T E → Type 0
 GoesBy Went self now regions old new step before after result =
@@ -75,7 +75,7 @@ GoesBy Went self now regions old new step before after result =
     × ((programs : List Program) (w : SourceWorld) → IsOf programs self w
     → SendsOfStep self.units regions self.grid step trips))
 
--- they are what stood there before
+-- they are what was there before
 pub goes-beside : {T E : Type 0} (Went : List Trip → Type 0) (self now : World) (names regions : List (List ℕ))
     (taken old new : Option (List (List Card))) (step : Step) (before after : List Entry) (result : Result T E)
     → names ≡ regions → taken ≡ old → GoesBy Went self now names taken new step before after result

@@ -1,4 +1,4 @@
--- The grid of a file's objects stands for the world at its start.
+-- The grid of a file's objects represents the world at its start.
 use Rattle.std.proofs.Common.{◌≡◌, ℕ, zero, suc, ◌<◌, List, [], ◌∷◌, ◌++◌, length, refl, ap, sym, ◌∙◌, subst, arith}
 use Rattle.std.specs.Prelude.{All, Option, Some, None, false, is_some, map, slice_get}
 use Rattle.std.proofs.lemmas.List.{length-map}

@@ -1,5 +1,5 @@
--- No step but a crossing changes anything of a world's objects but their stores and their prims' names, or how many
--- scripts it has.
+-- No step but a crossing changes a world's objects, other than their stores and their prims' names, or the number of
+-- its scripts.
 use Rattle.std.proofs.Common.{◌≡◌, ℕ, zero, suc, ◌-◌, Bool, false, List, [], ◌∷◌, length, get_or, refl, ap}
 use Rattle.std.specs.Prelude.{Option, Some, None, map, max, min, slice_get, slice_set}
 use Rattle.std.proofs.Math.ListN.{length-set}
@@ -22,11 +22,11 @@ use Rattle.lsl_lines.specs.declared.file.Step.TheVariants.{Clock, Say, Touch, Ch
 use Rattle.lsl_world.proofs.Keeping.{IsKept, each-keeps, touch-keeps, turn-kept, until-keeps}
 use Rattle.lsl_world.specs.Steps.{next, round_or_last, rounds, turn_in}
 
--- the objects but for their stores and their prims' names, and how many scripts there are
+-- the objects without their stores and their prims' names, and the number of scripts
 abbrev pub outline : World → List Linkset × ℕ
 outline w = (map without_names w.objects, length w.members)
 
--- where so many scripts are there
+-- where this many scripts are there
 abbrev among : World → ℕ → List Linkset × ℕ
 among w scripts = (map without_names w.objects, scripts)
 
@@ -47,7 +47,7 @@ pub post-keeps : (r : Rules) (test : World → Member → Bool) (e : Event) (w :
 post-keeps r test e w =
     each-keeps outline (post_where r test e) (λ n x. member-keeps n _ x) (length w.members) 0 w
 
--- an item is another one, of which the same is told
+-- an item is replaced by one that agrees in this
 pub set-keeps : {X Y : Type 0} (f : X → Y) (xs : List X) (k : ℕ) (y d : X) → f y ≡ f (get_or xs k d)
     → map f (slice_set xs k y) ≡ map f xs
 set-keeps f [] k y d e = refl

@@ -1,4 +1,4 @@
--- A crossing at a stage, by what came of its drive, and steps that are no crossings.
+-- A crossing at a stage, by the result of its drive, and steps that aren't crossings.
 use Rattle.std.proofs.Common.{◌≡◌, ◌≢◌, ◌∙◌, ◌-◌, ◌<◌, ◌^◌, ◌⊎◌, inl, inr, refl, ap, sym, subst, arith, ℕ, suc, nat_eq, Bool, true, false, if◌then◌else◌, List, [], ◌∷◌, ◌++◌, drop, get_or, length, take, Option, Some, None}
 use Rattle.std.specs.Prelude.{is_some, not}
 use Rattle.std.proofs.lemmas.Bool.{eqb-false, ne_eqb}
@@ -57,7 +57,7 @@ kept-anyhow homes a b (step ∷ steps) =
     go true e = e
     go false e = ap (λ (ks : List Step). step ∷ ks) e
 
--- the first trip tells the offer and the cancel
+-- the first trip decides the offer and the cancel
 offer-comes : (offer : Note) (n : ℕ) (trips : List Trip) (more : List (List ℕ))
     → Begins (sent_of trips) (note_bytes offer ∷ more)
     → offer_came (take (suc n) trips)
@@ -68,7 +68,7 @@ offer-comes offer n (t ∷ trips) more begins =
     ap (λ (z : List ℕ). comes z (cancel_for z) (t ∷ take n trips)) carries.first
     ∙ ap (λ (z : List ℕ). comes (note_bytes offer) z (t ∷ take n trips)) (cancel-is offer)
 
--- what is behind was carried so too
+-- what follows was carried this way too
 behind-carried : (entries : List (List ℕ)) (n : ℕ) (trips : List Trip) → WereCarried entries trips
     → WereCarried (entries_by entries (take n trips)) (drop n trips)
 behind-carried entries n trips fair =
@@ -151,7 +151,7 @@ abbrev pub with_world : Stage → World → Stage
 with_world stage w = record stage { world = w }
 
 module _ (codes : List Code) (r : Rules) (regions : List (List ℕ)) where
-  -- ---- a step that is no crossing
+  -- ---- a step that isn't a crossing
 
   module _ (stage : Stage) (step : Step) (here : is_crossing stage.world step ≡ false) where
     plain-goes : (trips : List Trip) → goes_plainly codes r step stage trips ≡ record {
@@ -499,7 +499,7 @@ module _ (codes : List Code) (r : Rules) (regions : List (List ℕ)) (few_region
               ∙ ap (λ (ts : List Trip). kept_by (offer_came own) own entries ts) parts.1
               ∙ ap (λ (b : Bool). kept_by b own entries (drop (length d.notes) trips)) came-is ∙ kept-same came
 
-          -- what is told of the others, from where this one leads
+          -- what the others report, from where this one leads
           module _ (on : as_value (λ s. s.world) (travel_from codes r regions steps d.behind (stage_by came))
               ≡ reference r (kept_lossy (regions_of (told_by came).value) all steps d.behind)
               (told_by came).value) where

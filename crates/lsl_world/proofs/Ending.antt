@@ -20,7 +20,7 @@ is-same a b e = grind arith
 is-less : (a b : ℕ) → a ≤ b → (a == b) ≡ false → a < b
 is-less a b le e = let n : a ≡ b → ⊥ = λ k. grind (arith, k) in omega (arith, n, le)
 
--- worlds, of which each has so many scripts, that can run or not, and one segment of each
+-- worlds with this many scripts each, that can run or not, and one segment of each
 module _ {X : Type 0} (scripts : X → ℕ) (ready : X → ℕ → Bool) (segment : ℕ → X → Told X) where
   abbrev pub turn_of : ℕ → ℕ → X → Told (X × ℕ)
   turn_of most place w =

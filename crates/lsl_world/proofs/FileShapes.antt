@@ -1,4 +1,4 @@
--- What a file tells of its objects is what the grid of the file tells of them.
+-- What a file says of its objects is what the grid of the file has of them.
 use Rattle.std.proofs.Common.{◌≡◌, ◌∙◌, refl, sym, ap, arith, ℕ, ◌+◌, ◌<◌, suc, zero, Bool, true, false, List, [], ◌∷◌, ◌++◌, length, get_or, append-nil}
 use Rattle.std.specs.Prelude.{nat_eq, if◌then◌else◌, All, Option, Some, None, map}
 use Rattle.std.specs.List.{AllByRecursion, cons_option, filter_map, flat_map, range_with_len}
@@ -39,7 +39,7 @@ units-append k xs ys =
     ap (map unit_number) (filter_map-append (parts_in_seat k) xs ys)
     ∙ map-append unit_number (filter_map (parts_in_seat k) xs) (filter_map (parts_in_seat k) ys)
 
--- the script of a line, where it is one of the object
+-- the script of a line, if it is one of the object
 abbrev given : List Code → ScriptLine → Bool → Option ScriptParts
 given codes x own = if own then Some (with_unit x.file (parts_of codes (new_script (rules_of codes) x.file))) else None
 

@@ -1,4 +1,4 @@
--- What a drive over a link comes to is what it comes to by its trips.
+-- The result of a drive over a link is its result by its trips.
 use Rattle.std.proofs.Common.{◌≡◌, ◌≢◌, ◌∙◌, ◌<◌, ◌≤◌, ◌^◌, ◌⊎◌, inl, inr, refl, ap, ap₂, sym, subst, arith, ℕ, zero, suc, false, List, [], ◌∷◌, ◌++◌, append-nil, append_assoc, length, length-append, Option, Some, None}
 use Rattle.std.specs.Prelude.{Contains, IfSome}
 use Rattle.lsl_bytes.specs.Fields.{u64_bytes}
@@ -75,7 +75,7 @@ module _ (objects regions : ℕ) (Takes : Note → Type 0) (ranges : AreCounts o
   abbrev Known : List Note → Type 0
   Known notes = AreKnown objects regions ranges Takes notes
 
-  -- a note is asked, and what came back of it is heard
+  -- a note is asked, and what came back for it is heard
   module _ (handed : List Note) (first : First) (m : Moment) (moves : Holding handed first m)
       (answers : IsAnswerIf m.reply) (known : Known handed) (note : Note) (asked : asks way m ≡ Some note) where
     held : IsHeld way trip parcel start m.field first note

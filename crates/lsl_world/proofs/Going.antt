@@ -1,4 +1,4 @@
--- What a step comes to with the trips that it made.
+-- What a step results in, with the trips that it made.
 use Rattle.std.proofs.Common.{◌≡◌, ℕ, ◌-◌, List, [], length, map, refl, ap, sym, ◌∙◌, subst, arith}
 use Rattle.std.specs.Prelude.{None, OnOk, Option, Result, Ok, Err}
 use Rattle.lsl_code.specs.declared.woven_units.Woven.{Woven as Code}

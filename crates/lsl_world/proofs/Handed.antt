@@ -1,4 +1,4 @@
--- What it comes to in a world that an object is handed over by notes.
+-- The result, in a world, of handing an object over by notes.
 use Rattle.std.proofs.Common.{◌≡◌, ◌≢◌, ◌∙◌, refl, sym, ap, subst, arith, ℕ, suc, ◌-◌, ◌<◌, ◌^◌, inl, inr, nat_eq, Bool, true, false, List, [], ◌++◌, length, get_or, if◌then◌else◌, Option, Some, None}
 use Rattle.std.specs.Prelude.{not, slice_set, MatchResult, OnOk}
 use Rattle.std.specs.declared.result.Result.{Result}
@@ -133,7 +133,7 @@ module _ (programs : List Program) (world : World) (w : SourceWorld) (is : IsOf 
   grid-at : region_in world.grid at_place ≡ (object_at w at_place).region
   grid-at = ap (λ (os : List Linkset). (get_or os at_place no_object).region) is.stands.objects
 
-  -- what the object's arrival tells is what its crossing tells
+  -- what the object's arrival reports is what its crossing reports
   next-arrives : region_in world.grid at_place ≢ region → next at_rules at_step w ≡ arrive at_rules at_place region w
   next-arrives apart =
       ap (λ (b : Bool). if b then quiet w else arrive at_rules at_place region w)
@@ -243,7 +243,7 @@ module _ (programs : List Program) (world : World) (w : SourceWorld) (is : IsOf 
         → hand_on world.units r regions old step trips w ≡ next r step w
     hand-moved e f = ap (λ (b : Bool). tests b arrived_so) e ∙ ap (λ (b : Bool). tests true b) f
 
-    -- nothing is told
+    -- nothing is reported
     module _ {T E : Type 0} (new_world : World) (new : List (List Card)) (result : Result T E) (log : List Entry)
         (still : hand_on world.units r regions old step trips w ≡ quiet w) (now : IsOf programs new_world w)
         (ordered : AreInOrder regions new homes)
@@ -263,7 +263,7 @@ module _ (programs : List Program) (world : World) (w : SourceWorld) (is : IsOf 
         sent = sent;
       }
 
-    -- it is told that the object comes
+    -- it is reported that the object comes
     module _ {T E : Type 0} (new_world : World) (new : List (List Card)) (result : Result T E)
         (before after : List Entry)
         (moves : hand_on world.units r regions old step trips w ≡ next r step w)
@@ -569,7 +569,7 @@ module _ (programs : List Program) (world : World) (w : SourceWorld) (is : IsOf 
               rests.after) fits))
               later few-more (driven-sent result)
 
-        -- by what the drive came to
+        -- by the result of the drive
         module _ {T E : Type 0} (result : Result T E) (new_world : World) (new : List (List Card)) (trips : List Trip)
             (before after : List Entry) (carried : AreCarried (length w.objects) (length regions) entries trips)
             (new_counts : HasCounts (length world.grid.objects) (length regions) new) where

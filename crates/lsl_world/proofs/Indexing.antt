@@ -23,7 +23,7 @@ timing-read w place m at =
     get_or_from_slice_get (timings_of w) place (timing_in m) stopped
     (slice_get-map timing_in w.members place ∙ ap (option_map timing_in) at)
 
--- timers that are the same but for one
+-- timers that are the same except one
 pub due-others : (ts us : List Timing) (place : ℕ) → slice_set us place stopped ≡ slice_set ts place stopped
     → (other : ℕ) → other ≢ suc place → due_of us other ≡ due_of ts other
 due-others ts us place e zero apart = refl
@@ -156,7 +156,7 @@ module _ (grid : Contents) (number : ℕ) (due : Option ℕ) (old new : List (�
   numbered-after (Err e) are puts same =
       subst (λ (es : List (ℕ × ℕ)). AreNumbered (length grid.seats) es) (sym same) are
 
--- the same of the scripts in their seats: those up to a place are right
+-- the same for the scripts in their seats: those up to a place are right
 pub record IsNotedIn (seats : List Seat) (place : ℕ) (entries : List (ℕ × ℕ)) : Type 0 where
   pub noted : (at k : ℕ) (seat : Seat) (parts : ScriptParts) → k < place → slice_get seats k ≡ Some seat
       → seat.script ≡ Some parts → Contains entries (at, k + 1) ↔ (due_in parts ≡ Some at)

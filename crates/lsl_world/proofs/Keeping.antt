@@ -94,7 +94,7 @@ next-code number s Resting = due-code number s (event_due s.leaving s.mailbox)
 next-code number s (Flying f) = refl
 next-code number s (Stopped fault) = refl
 
--- what becomes of the script at this place, which keeps its code, leaves it as well, and so do a prim's name and an
+-- what happens to the script at this place, which keeps its code, leaves it too, and so do a prim's name and an
 -- object's store
 pub record IsKept {Y : Type 0} (P : World → Y) (place : ℕ) : Type 0 where
   pub own : (thing : Member → Told Script) → KeepsCode thing → (w : World) → P (at_member place thing w).value ≡ P w
@@ -105,7 +105,7 @@ pub record IsKept {Y : Type 0} (P : World → Y) (place : ℕ) : Type 0 where
   pub store : (m : Member) (pairs : List Pair) (w : World) → P (with_store w m pairs) ≡ P w
 
 module _ {Y : Type 0} (P : World → Y) (r : Rules) (place : ℕ) (keeps : IsKept P place) where
-  -- the scripts of an object are told, if of anything
+  -- the scripts of an object get the event, if there is one
   told-keeps : (object : ℕ) (e : Option Event) (w : World) → P (told_by r object e w).value ≡ P w
   told-keeps object None w = refl
   told-keeps object (Some e) w = keeps.left r _ e w
@@ -117,7 +117,7 @@ module _ {Y : Type 0} (P : World → Y) (r : Rules) (place : ℕ) (keeps : IsKep
       told-keeps m.object (change_by id args pairs).told (with_store w m (pairs_by id args pairs))
       ∙ keeps.store m (pairs_by id args pairs) w
 
-  -- a script is told of a notecard
+  -- a script gets an answer about a notecard
   queried-keeps : (card : Option ℕ) (asked : Option (Option ℕ)) (w : World)
       → P (queried r place card asked w).value.0 ≡ P w
   queried-keeps None asked w = refl

@@ -120,7 +120,7 @@ pub on-ok : {T E P : Type 0} (r : Result T E) → P → OnOk r P
 on-ok (Ok t) p = p
 on-ok (Err e) p = tt
 
--- all was told, and a last thing was done that tells nothing
+-- all was reported, and a last thing was done that reports nothing
 pub tells-last : {T E X P : Type 0} (r : Result T E) (Rel : X → T → Type 0) (old now : List Entry) (a : Told X)
     → now ≡ old ++ a.entries → OnOk r P → (P → (t : T) → Rel a.value t) → Tells r Rel old now a
 tells-last (Ok t) Rel old now a e p rel = (rel p t, e)

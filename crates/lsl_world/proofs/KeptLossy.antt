@@ -29,7 +29,7 @@ use Rattle.lsl_world.proofs.Landing.{IsOpen, Lands, is_first, lands}
 use Rattle.lsl_world.proofs.Regions.{leads-by-regions}
 
 module _ (codes : List Code) (r : Rules) (regions : List (List ℕ)) (few_regions : length regions < 2 ^ 32) where
-  -- a stage whose objects made at most so many trips
+  -- a stage where the objects made at most this many trips
   record IsReadyFor (stage : Stage) (cards : List (List Card)) (most : ℕ) : Type 0 where
     ready : IsReady regions stage cards
     at_most : AreAtMost most cards
@@ -154,7 +154,7 @@ module _ (codes : List Code) (r : Rules) (regions : List (List ℕ)) (few_region
       → as_value (λ x. x.world) (travel_from codes r regions steps trips stage)
       ≡ reference r (kept_lossy (regions_of stage.world) (bytes_of stage.notes) steps trips) stage.world
 
-  -- what a step tells, and what the others do
+  -- what a step reports, and what the others do
   abbrev told_with : Step → List Step → List Trip → Stage → Told World
   told_with step steps trips stage =
       let gone = goes codes r regions step stage trips in

@@ -1,6 +1,5 @@
 -- A drive by its trips: which of them are its own, and that its object lands exactly where its offer came, and not
--- behind
--- its cancel.
+-- after its cancel.
 use Rattle.std.proofs.Common.{◌≡◌, ◌≢◌, ◌∙◌, ◌<◌, ◌≤◌, ◌+◌, ◌^◌, ◌⊎◌, ◌==◌, ◌&&◌, inl, inr, refl, ap, ap₂, sym, subst, arith, ℕ, zero, suc, nat_eq, nat_lt, Bool, true, false, if◌then◌else◌, List, [], ◌∷◌, ◌++◌, append-nil, append_assoc, drop, get_or, length, take, Option, Some, None}
 use Rattle.std.specs.Prelude.{◌||◌, Contains, IfSome, not}
 use Rattle.std.specs.List.{list_any}
@@ -40,7 +39,7 @@ use Rattle.lsl_world.specs.Lossy.{Driven, WasCarried, WereCarried, bytes_of, dri
 use Rattle.lsl_world.proofs.Heard.{among-found, among-none, heard-handed, note-intact, one-more}
 use Rattle.lsl_world.proofs.Spelling.{IsFit, IsLike, cancel-short, cancel-spelled, no-offer-byte, offer-byte, spelled-like}
 
--- ---- what a note that came back tells of the offer and the cancel
+-- ---- what a note that came back says of the offer and the cancel
 
 abbrev pub is_first : First → Bool → Bool
 is_first Neither later = later
@@ -78,9 +77,9 @@ with-cancel way trip (Some note) =
     if-same (nat_eq note.object way.object && nat_eq note.trip trip)
     (or_first CancelFirst (first_kind note.kind)) CancelFirst refl
 
--- ---- an answer is no offer
+-- ---- an answer isn't an offer
 
--- it is no offer, and has no parcel
+-- it isn't an offer, and has no parcel
 abbrev pub IsBare : Note → Type 0
 IsBare note = (is_offer note.kind ≡ false) × (note.parcel ≡ [])
 
@@ -215,7 +214,7 @@ by_asked way most handed m trips o =
     driven_unless o (record { last = m; notes = []; behind = trips })
     (λ note. driven_on note (rest_by way most handed m trips note))
 
--- ---- a drive behind its departure
+-- ---- a drive after its departure
 
 module _ (objects regions : ℕ) (ranges : AreCounts objects regions) (way : Way) (parcel : List ℕ)
     (start : List (List Card)) (counts : HasCounts objects regions start) (has : HasWay start way)
@@ -477,7 +476,7 @@ module _ (objects regions : ℕ) (ranges : AreCounts objects regions) (way : Way
       and-none true = refl
       and-none false = refl
 
-  -- what the rest of a drive comes to
+  -- the result of the rest of a drive
   pub record Came (first : First) (handed : List Note) (d : Driven) (trips : List Trip) : Type 0 where
     pub then_first : First
     pub told : is_first first (comes (note_bytes offer) (note_bytes cancel) (take (length d.notes) trips))
@@ -488,7 +487,7 @@ module _ (objects regions : ℕ) (ranges : AreCounts objects regions) (way : Way
     pub parts : IsOpen (bytes_of (handed ++ d.notes)) (drop (length d.notes) trips)
         → Parts (bytes_of handed) trips (take (length d.notes) trips) (drop (length d.notes) trips)
 
-  -- what a note comes to, and the rest of a drive behind it
+  -- the result of a note, and the rest of a drive after it
   record Went (first : First) (handed : List Note) (note : Note) (d : Driven) (trips : List Trip) : Type 0 where
     then_first : First
     told : is_first first (comes (note_bytes offer) (note_bytes cancel) (take (suc (length d.notes)) trips))
@@ -500,7 +499,7 @@ module _ (objects regions : ℕ) (ranges : AreCounts objects regions) (way : Way
         → Parts (bytes_of (handed ++ note ∷ [])) (drop 1 trips) (take (length d.notes) (drop 1 trips))
         (drop (length d.notes) (drop 1 trips))
 
-  -- a drive of at most so many notes comes to its end
+  -- a drive of at most this many notes ends
   abbrev pub Ends : ℕ → List Note → Type 0
   Ends most handed =
       (first : First) (m : Moment) (trips : List Trip) (more : List (List ℕ)) → Holds handed first m → Quiet m
@@ -813,7 +812,7 @@ module _ (objects regions : ℕ) (ranges : AreCounts objects regions) (way : Way
       never true e = absurd (isnt-among handed past (has-any (note_bytes own_offer) (bytes_of handed) e))
       never false e = refl
 
-  -- a drive of at most so many notes
+  -- a drive of at most this many notes
   module _ (most : ℕ) (enough : 32 ≤ suc most) (trips : List Trip) where
     abbrev rest_of_drive : Driven
     rest_of_drive =
@@ -877,7 +876,7 @@ module _ (objects regions : ℕ) (ranges : AreCounts objects regions) (way : Way
     pub first-note : (driven way (suc most) handed begin trips).notes ≡ own_offer ∷ rest_of_drive.notes
     first-note = ap (λ (d : Driven). d.notes) drives-on
 
--- what is behind a drive
+-- what follows a drive
 pub drive-behind : (way : Way) (most : ℕ) (handed : List Note) (m : Moment) (trips : List Trip)
     → (driven way most handed m trips).behind ≡ drop (length (driven way most handed m trips).notes) trips
 unfolding driven
@@ -899,7 +898,7 @@ drive-behind way (suc most) handed m trips =
     go None on = refl
     go (Some note) on = on note ∙ once-more (length (rest_by way most handed m trips note).notes) trips
 
--- the trips of first notes are all of these, or nothing is behind
+-- the trips of first notes are all of these, or nothing follows
 pub whole-or-none : (ns : List Note) (trips : List Trip) (more : List (List ℕ))
     → Begins (sent_of trips) (bytes_of ns ++ more)
     → (sent_of (take (length ns) trips) ≡ bytes_of ns) ⊎ (drop (length ns) trips ≡ [])
@@ -916,7 +915,7 @@ whole-or-none (n ∷ ns) (t ∷ trips) more begins =
     go e (inl all) = inl (ap₂ (λ (x : List ℕ) (xs : List (List ℕ)). x ∷ xs) e all)
     go e (inr none) = inr none
 
--- what is behind begins as what follows
+-- what follows begins as the rest does
 pub begins-behind : (ns : List Note) (trips : List Trip) (more : List (List ℕ))
     → Begins (sent_of trips) (bytes_of ns ++ more) → Begins (sent_of (drop (length ns) trips)) more
 begins-behind [] trips more begins = begins

@@ -34,7 +34,7 @@ use Rattle.lsl_world.proofs.Crossed.{same-count, with_world}
 use Rattle.lsl_world.proofs.Regions.{nameless-regions}
 use Rattle.lsl_world.proofs.Shapes.{keys_in, keys_of, offers-kept, outline-keys, unit_in, units_of}
 
--- ---- what a grid's outline tells of its world
+-- ---- what a grid's outline says of its world
 
 abbrev unit_of_seat : Seat → ℕ × ℕ
 unit_of_seat seat = (seat.object, seat.unit)

@@ -38,7 +38,7 @@ use Rattle.lsl_world.proofs.Kept.{on-ok}
 use Rattle.lsl_world.proofs.Numbering.{number-there}
 use Rattle.lsl_world.proofs.Regions.{regions-stay}
 
--- a step that is no crossing goes on as ever
+-- a step that isn't a crossing continues as always
 hand-here : (codes : List Code) (r : Rules) (regions : List (List ℕ)) (cards : List (List Card)) (step : Step)
     → IsHere step → (trips : List Trip) (w : SourceWorld) → hand_on codes r regions cards step trips w ≡ next r step w
 hand-here codes r regions cards (Cross object region) here trips w = absurd here
@@ -72,7 +72,7 @@ hands-other codes r IsNow regions cards step here w entries before after result 
       sent = sends-here step here result codes regions w cards;
     }
 
--- so many homes are all
+-- this many homes are all
 pub homes-numbered : (regions : List (List ℕ)) (objects : List Linkset) (homes : List ℕ) (place : ℕ)
     → length objects ≤ place → homes ≡ map (λ (o : Linkset). number_in regions o.region) (take place objects)
     → homes ≡ map (λ (o : Linkset). number_in regions o.region) objects
@@ -143,7 +143,7 @@ no-trips : {T E : Type 0} (result : Result T E) (trips : List Trip) → Sends re
 no-trips (Ok t) trips sent = none-sent trips sent
 no-trips (Err e) trips sent = none-sent trips (none-begun (sent_of trips) sent.others sent.whole)
 
--- a step that is no crossing carries nothing
+-- a step that isn't a crossing carries nothing
 pub sends-other : {T E : Type 0} (codes : List Code) (regions : List (List ℕ)) (grid : Contents) (step : Step)
     → IsHere step → (w : SourceWorld) (trips : List Trip) (result : Result T E)
     → Sends result trips (images_of codes step w) → SendsOfStep codes regions grid step trips
@@ -156,7 +156,7 @@ pub here-unless : (step : Step) → ((object : ℕ) (region : List ℕ) → step
 here-unless (Cross object region) not = absurd (not object region refl)
 here-unless step not = tt
 
--- where a step is no crossing, what it comes to is the same
+-- where a step isn't a crossing, its result is the same
 pub hands-does : {T E : Type 0} (codes : List Code) (r : Rules) (IsNow : SourceWorld → Type 0)
     (regions : List (List ℕ)) (cards : List (List Card)) (step : Step) → IsHere step → (w : SourceWorld)
     (entries : List (List ℕ)) (trips : List Trip) (before after : List Entry) (result : Result T E)

@@ -87,7 +87,7 @@ module _ (programs : List Program) (codes : List Code) (all : AreRunBy programs 
         k.runs.asks,
       )
 
--- what the programs mean is meant by their code
+-- what the programs mean is what their code means
 abbrev pub meant : (programs : List Program) (codes : List Code) → AreRunBy programs codes → Meant codes
 meant programs codes all = record {
   rules = rules_of programs;

@@ -100,7 +100,7 @@ file-objects-named file = objects-named file.objects [] file.steps
 pub file-steps-named : (file : WorldFile) → All (LeadsToNamed (regions_of_file file)) file.steps
 file-steps-named file = steps-named file.steps (fold with_object [] file.objects)
 
--- there are no more of them than objects and steps
+-- there are at most as many of them as objects and steps
 few-added : (names : List (List ℕ)) (region : List ℕ) → length (with_region names region) ≤ length names + 1
 few-added names region = go (is_some (number_of names region)) where
   go : (b : Bool) → length (if b then names else names ++ region ∷ []) ≤ length names + 1

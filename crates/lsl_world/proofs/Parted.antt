@@ -1,4 +1,4 @@
--- Runs and turns in parts: what is left behind a part is a run or a turn of fewer segments.
+-- Runs and turns in parts: what is left after a part is a run or a turn of fewer segments.
 use Rattle.std.proofs.Common.{◌≡◌, ℕ, zero, suc, ◌+◌, ◌-◌, ◌<◌, ◌≤◌, Bool, true, false, ◌⊎◌, inl, inr, List, length, append-nil, refl, ap, sym, ◌∙◌, arith}
 use Rattle.std.specs.Prelude.{◌==◌, min, not}
 use Rattle.lsl_post.specs.declared.entries.Entry.{Entry}
@@ -24,7 +24,7 @@ module _ (r : Rules) (place : ℕ) where
   row-is : (most : ℕ) (w : World) → row most w ≡ until waits (segment r place) most w
   row-is most w = counted-value waits (segment r place) most (w, 0)
 
-  -- so many, and then the others
+  -- this many, and then the others
   pub row-parts : (first second most : ℕ) → most ≡ first + second → (w : World)
       → row most w ≡ next_to (row first w) (λ v. row second v)
   row-parts first second most e w =
@@ -36,7 +36,7 @@ module _ (r : Rules) (place : ℕ) where
   pub row-none : (most : ℕ) (w : World) → most ≡ 0 → row most w ≡ quiet w
   row-none most w e = ap (λ (a : Told (World × ℕ)). as_value (λ x. x.0) a) (turn-none r most place w e)
 
-  -- fewer than so many were all
+  -- fewer than this many were all
   pub row-whole : (first second most spent : ℕ) → most ≡ first + second → (w : World)
       → spent ≡ (turn r first place w).value.1 → spent < first → row most w ≡ row first w
   row-whole first second most spent e w is less =

@@ -1,4 +1,4 @@
--- What checks find where they come to a value.
+-- What checks find where they have a value.
 use Rattle.std.proofs.Common.{◌≡◌, ℕ, ◌≤◌, Bool, true, false, cond, List, [], ◌∷◌, ◌++◌, Result, Ok, Err, refl, ap, subst, arith}
 use Rattle.std.specs.Prelude.{map, nat_le}
 use Rattle.std.specs.Char.{to_ascii_lowercase}

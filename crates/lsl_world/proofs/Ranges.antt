@@ -215,7 +215,7 @@ all-last : {X : Type 0} (P : X → Type 0) (front : List X) (x : X) → All P (f
 all-last P front x h = subst P (get_or-append_seam front x [] x)
     (h (length front) x (omega (arith, length-append front (x ∷ []))))
 
--- the last object was changed, so that it has so many more scripts
+-- the last object was changed, so that it has this many more scripts
 last-sound : (r : Reading) (change : ObjectLine → Result ObjectLine FileKind) (objects : List ObjectLine) (more : ℕ)
     (files keys : List (List ℕ)) → Sound r → is_objects r.part ≡ true → Changed change r.objects objects
     → r.scripts + more ≤ 256 → length r.files ≤ length files

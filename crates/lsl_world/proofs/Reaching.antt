@@ -1,4 +1,4 @@
--- What a step of a world in memory comes to is what it comes to at its stage.
+-- The result of a step of a world in memory is its result at its stage.
 use Rattle.std.proofs.Common.{◌≡◌, ◌≢◌, ◌∙◌, ◌-◌, ◌<◌, ◌≤◌, ◌^◌, ◌⊎◌, inl, inr, refl, ap, sym, subst, arith, ℕ, Bool, true, false, if◌then◌else◌, List, [], ◌∷◌, ◌++◌, append-nil, get_or, length, take, Option, Some, None}
 use Rattle.std.specs.Prelude.{Contains, not}
 use Rattle.std.specs.declared.result.Result.{Result}
@@ -60,7 +60,7 @@ use Rattle.lsl_world.proofs.Numbering.{name-number}
 use Rattle.lsl_world.proofs.Regions.{regions-stay}
 use Rattle.lsl_world.proofs.Shapes.{keys_of, next-keys, next-units, offers-kept, units_of}
 
--- ---- what is told
+-- ---- what is reported
 
 tells-to : {T E X Y : Type 0} (r : Result T E) (First : X → Type 0) (Second : Y → Type 0) (old new : List Entry)
     (f : X → Y) (a : Told X) → (First a.value → Second (f a.value)) → Tells r (λ x _. First x) old new a
@@ -72,7 +72,7 @@ nothing-added : (added missing : List Entry) → added ++ missing ≡ [] → add
 nothing-added [] missing e = refl
 nothing-added (a ∷ added) missing e = absurd (cc)
 
--- where nothing was to be told, nothing was, and that is a first part of all
+-- where nothing was to be reported, nothing was, and that is a prefix of all
 part-nothing : (old new entries : List Entry) → Part old new [] → Part old new entries
 part-nothing old new entries part = record {
   added = [];
@@ -153,7 +153,7 @@ none-carried : (objects regions : ℕ) (entries : List (List ℕ)) (trips : List
 none-carried objects regions entries trips none =
     subst (λ (ts : List Trip). AreCarried objects regions entries ts) (sym none) tt
 
--- a step that is no crossing tells what it tells without notes
+-- a step that isn't a crossing reports what it reports without notes
 stays-quiet : (there : Bool) (w : SourceWorld) (a : Told SourceWorld) → not there ≡ false
     → quiet w ≡ (if there then quiet w else a)
 stays-quiet true w a e = refl

@@ -74,7 +74,7 @@ regions-cross r (Cross object region) w e =
     ∙ arrive-regions r (object - 1) region w
 regions-cross r step w e = absurd cc
 
--- how a step goes on by its trips
+-- how a step continues by its trips
 goes-by : (refused : Bool) (other : Bool) (w : World) (a : Told World) → other ≡ false
     → (if other && refused then quiet w else a) ≡ a
 goes-by refused true w a e = absurd cc

@@ -1,4 +1,4 @@
--- What it comes to that other parts came back than were sent.
+-- The result if other parts came back than were sent.
 use Rattle.std.proofs.Common.{◌≡◌, ◌≢◌, ◌∙◌, sym, ap, subst, arith, ℕ, ◌-◌, ◌≤◌, Bool, List, [], ◌++◌, length, get_or, if◌then◌else◌, Option, Some, None}
 use Rattle.std.specs.Prelude.{OnOk}
 use Rattle.std.specs.declared.result.Result.{Result}
@@ -142,7 +142,7 @@ module _ (programs : List Program) (world : World) (object : ℕ) (region : List
   returned due crossed (Err f) x seated timely index =
       part-all before after (next (rules_of programs) (Cross object region) w).entries (told-as crossed x).1
 
-  -- or memory lacked before
+  -- or memory ran out before
   pub not-returned : {U F : Type 0} (due : List (ℕ × ℕ)) (result : Result U F) (f : F) → result ≡ Err f
       → after ≡ before
       → Tells result (λ v _. IsOf programs (with_due world new due) v) before after

@@ -31,7 +31,7 @@ use Rattle.lsl_world.proofs.Timings.{ring-others}
 abbrev due_at : World → ℕ → Bool
 due_at w place = is_due w.clock (get_or (timings_of w) place stopped)
 
--- a timer that isn't due is left, and nothing is told
+-- a timer that isn't due is left, and nothing is reported
 ring-none : (r : Rules) (place : ℕ) (w : World) → due_at w place ≡ false → ring_at r place w ≡ quiet w
 ring-none r place w not_due = go (slice_get w.members place) refl where
   go : (o : Option Member) → slice_get w.members place ≡ o
@@ -169,7 +169,7 @@ module _ (r : Rules) where
         (λ h. let k = All-contains (λ m. suc (first + 1) ≤ m) (n ∷ ns) (suc first)
         (rising-least (suc (first + 1)) ((first + 1) + count) (n ∷ ns) rising) h in omega (arith, k)))
 
-    -- it is of this place: behind its reading the others are listed
+    -- it is of this place: after its reading the others are listed
     among : (n : ℕ) (ns : List ℕ) (w : World) → n ≡ suc first → AreListed w first (n ∷ ns)
         → AreListed (ring_at r first w).value first ns
     among n ns w e listed = λ place h due.

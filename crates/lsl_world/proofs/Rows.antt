@@ -1,4 +1,4 @@
--- What a world in memory stands for while a part of a step is done.
+-- The world of programs of a world in memory while a part of a step is done.
 use Rattle.std.proofs.Common.{◌≡◌, ℕ, ◌+◌, ◌-◌, ◌<◌, ◌≤◌, Bool, false, List, ◌++◌, ap, sym, ◌∙◌, subst, arith}
 use Rattle.std.specs.declared.result.Result.TheVariants.{Ok}
 use Rattle.lsl_post.specs.declared.entries.Entry.{Entry}
@@ -43,7 +43,7 @@ module _ (programs : List Program) (world : World) (script left : ℕ) (total : 
     whole = amid.whole;
   }
 
-  -- so many of them were to be done
+  -- this many of them were to be done
   module _ (new : World) (few rest : ℕ) (e : left ≡ few + rest) (then_was : List Entry) where
     pub row-part : ((x : SourceWorld) → IsOf programs world x → Part now then_was (turn r few place x).entries)
         → Part old then_was total.entries

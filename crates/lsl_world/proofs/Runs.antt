@@ -1,4 +1,4 @@
--- Runs of two lists of steps by their trips, and beginnings of runs.
+-- Runs of two lists of steps by their trips, and prefixes of runs.
 use Rattle.std.proofs.Common.{◌≡◌, ℕ, ◌-◌, Bool, true, false, List, [], ◌∷◌, ◌++◌, length, take, drop, refl, ap, sym, ◌∙◌, subst, append_assoc, length-append, length-drop, arith}
 use Rattle.std.specs.Prelude.{if◌then◌else◌, not}
 use Rattle.std.proofs.lemmas.List.{take-append-drop}
@@ -40,7 +40,7 @@ images-none codes (Cross object region) w e =
     if-none (is_in_region w (object - 1) region) (image_in codes (contents_of codes w) (object - 1)) e
 images-none codes step w e = refl
 
--- what comes of a step where others follow its trips
+-- the result of a step where others follow its trips
 record Splits (r : Rules) (step : Step) (before behind : List Trip) (w : World) : Type 0 where
   same : go_on r step (before ++ behind) w ≡ go_on r step before w
   rest : left step w (before ++ behind) ≡ left step w before ++ behind
@@ -63,7 +63,7 @@ left-cross : (step : Step) (trips : List Trip) (w : World) → is_crossing w ste
     → left step w trips ≡ drop 1 trips
 left-cross step trips w e = ap (λ (b : Bool). if b then drop 1 trips else trips) e
 
--- without trips it is no crossing, where the trips fit
+-- without trips it isn't a crossing, where the trips fit
 here-none : (codes : List Code) (step : Step) (w : World) (others : List (List ℕ))
     → 0 ≡ length (images_of codes step w ++ others) → is_crossing w step ≡ false
 here-none codes step w others e = go (is_crossing w step) refl where
@@ -154,7 +154,7 @@ counts-then codes r (step ∷ first) second before behind w t fits =
     ∙ counts-then codes r first second (left step w before) behind a.value u
     (fits-rest codes step before w others fits)
 
--- first steps tell first entries, and send first images, whatever the trips
+-- first steps report first entries, and send first images, whatever the trips
 pub entries-begin : (r : Rules) (first second : List Step) (trips : List Trip) (w : World)
     → Begins (travel r first trips w).entries (travel r (first ++ second) trips w).entries
 unfolding travel

@@ -92,7 +92,7 @@ rounds-forget r most w t =
     (until-forgets {X = SourceWorld × (ℕ × Bool)} {Y = Tally} (λ x. x.1.1) (round_or_last r)
     (counted_round_or_last r) (last-forgets r) most ((w, (most, false)), t))
 
--- so many segments are left, and so much is counted
+-- this many segments are left, and this much is counted
 pub record LeftCounted (programs : List Program) (world : World) (left : ℕ) (x : (SourceWorld × ℕ) × Tally) : Type 0
   where
     pub left_is : Left programs world left x.0
@@ -118,7 +118,7 @@ module _ (programs : List Program) (world new : World) (place left most spent : 
         d.1,
       )
 
--- rounds go on while they spend segments
+-- rounds continue while they spend segments
 pub record GoingCounted (programs : List Program) (world : World) (left : ℕ) (x : (SourceWorld × (ℕ × Bool)) × Tally)
     : Type 0 where
   pub going : Going programs world left x.0

@@ -6,7 +6,7 @@ use Rattle.std.proofs.Math.ListN.{drop_of_length-le}
 module _ {A B : Type 0} (f : ℕ → List A → List B) (one : ℕ → A → List B)
     (law : (n : ℕ) (x : A) (xs : List A) → f n (x ∷ xs) ≡ one n x ++ f (suc n) xs)
     (none : (n : ℕ) → f n [] ≡ []) where
-  -- an item, and what is left behind it
+  -- an item, and what is left after it
   seam-left : (i : ℕ) (xs : List A) (x : A) → i < length xs → x ≡ get_or xs i x
       → f i (drop i xs) ≡ one i x ++ f (i + 1) (drop (i + 1) xs)
   seam-left i xs x h e =

@@ -1,4 +1,4 @@
--- Which notes are spelled the same, and how the cancel is spelled that calls an offer back.
+-- Which notes are spelled the same, and how the cancel of an offer is spelled.
 use Rattle.std.proofs.Common.{◌≡◌, ◌∙◌, ◌+◌, ◌-◌, ◌<◌, ◌^◌, ◌==◌, refl, ap, sym, subst, arith, ℕ, true, false, List, ◌∷◌, ◌++◌, append-nil, append_assoc, codes, drop, get_or, length, length-append, take}
 use Rattle.std.proofs.Math.Seq.{drop-append_seam, take-append_seam}
 use Rattle.sha2.specs.Sha256.{sha256}
@@ -81,7 +81,7 @@ fields-are note =
     flat-six (u8_bytes (kind_number note.kind)) (u32_bytes note.object) (u64_bytes note.trip) (u32_bytes note.from)
     (u32_bytes note.to) (parcel_bytes note.kind note.parcel)
 
--- what stands behind the head and the kind
+-- what follows the head and the kind
 module _ (note : Note) where
   abbrev kind : List ℕ
   kind = u8_bytes (kind_number note.kind)
@@ -117,7 +117,7 @@ module _ (note : Note) where
       ∙ drop-append_seam lead (middle note ++ rest))
       ∙ ap (λ (n : ℕ). take n (middle note ++ rest)) (sym (middle-long note)) ∙ take-append_seam (middle note) rest
 
-  -- the byte that tells the kind
+  -- the byte that gives the kind
   pub kind-byte : get_or (note_bytes note) 14 0 ≡ kind_number note.kind
   unfolding u8_bytes
   kind-byte =
@@ -170,7 +170,7 @@ kind-again Taken = refl
 kind-again Cancel = refl
 kind-again Refused = refl
 
--- all but their parcels is the same
+-- all but their parcels are the same
 pub record IsLike (a b : Note) : Type 0 where
   pub kind : a.kind ≡ b.kind
   pub object : a.object ≡ b.object
@@ -242,7 +242,7 @@ module _ (object trip from to : ℕ) where
   pub cancel-short : length (note_bytes cancel) < 2 ^ 64
   cancel-short = omega (arith, bytes-long cancel)
 
--- the cancel that calls an offer back
+-- the cancel of an offer
 pub cancel-is : (offer : Note)
     → cancel_for (note_bytes offer) ≡ note_bytes (cancel_of offer.object offer.trip offer.from offer.to)
 cancel-is offer =

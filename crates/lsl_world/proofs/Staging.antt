@@ -82,7 +82,7 @@ module _ (codes : List Code) (r : Rules) (step : Step) (ts us : List Trip) (w : 
       go true e = first ts (one e)
       go false e = go_on-here r step (ts ++ us) w e ∙ sym (go_on-here r step ts w e)
 
--- ---- a drive by its trips, and others behind it
+-- ---- a drive by its trips, and others after it
 
 abbrev with_behind : Driven → List Trip → Driven
 with_behind d us = record d { behind = us }
@@ -224,7 +224,7 @@ fair-first stage ts us fair = go stage.cards fair
     go None h = honest-first ts us h
     go (Some cards) h = carried-first (bytes_of stage.notes) ts us h
 
--- where objects are handed over by notes, they still are behind a step, and all that it hands over is known
+-- where objects are handed over by notes, they still are after a step, and all that it hands over is known
 record StillHanded (stage : Stage) (gone : Gone) : Type 0 where
   cards : List (List Card)
   cards_are : gone.told.value.cards ≡ Some cards
@@ -286,7 +286,7 @@ module _ (codes : List Code) (r : Rules) (regions : List (List ℕ)) where
           subst (λ (c : Option (List (List Card))). IsFairBy c gone.told.value.notes us) (sym still.cards_are)
           (subst (λ (z : List (List ℕ)). WereCarried z us) entries (carried-second (bytes_of stage.notes) ts us h))
 
--- ---- runs in which nothing is known of notes
+-- ---- runs without notes
 
 module _ (codes : List Code) (r : Rules) (regions : List (List ℕ)) where
   pub plain-travels : (steps : List Step) (trips : List Trip) (w : World)

@@ -12,7 +12,7 @@ use Rattle.lsl_world.specs.declared.world.World.{World}
 use Rattle.lsl_world.specs.Stands.{IsOf}
 use Rattle.lsl_world.proofs.Spans.{until-stopped}
 
--- at most no segment
+-- not more than no segment
 pub turn-none : (r : Rules) (most place : ℕ) (w : SourceWorld) → most ≡ 0 → turn r most place w ≡ quiet (w, 0)
 unfolding until
 turn-none r most place w none = ap (λ (n : ℕ). turn r n place w) none
@@ -24,7 +24,7 @@ turn-waits r most place w ready told waits =
     until-stopped (λ (x : SourceWorld × ℕ). not (is_ready_at x.0 place))
     (λ x. as_value (λ v. (v, x.1 + 1)) (segment r place x.0)) most (w, 0) (ap not (sym told ∙ waits))
 
--- so nothing is told, and the world stays
+-- so nothing is reported, and the world is unchanged
 pub still : (programs : List Program) (world : World) (w : SourceWorld) (entries : List Entry)
     (a : Told (SourceWorld × ℕ)) → IsOf programs world w → a ≡ quiet (w, 0)
     → (IsOf programs world a.value.0 × (0 ≡ a.value.1)) × (entries ≡ entries ++ a.entries)

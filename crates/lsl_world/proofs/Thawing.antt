@@ -1,4 +1,4 @@
--- A grid with the parts that bytes stand for is the world of which they are an image.
+-- A grid with the parts that bytes encode is the world of which they are an image.
 use Rattle.std.proofs.Common.{◌≡◌, ◌∙◌, refl, sym, ap, subst, arith, ℕ, ◌<◌, ◌≤◌, true, List, [], ◌∷◌, length}
 use Rattle.std.specs.Prelude.{All, None, Option, Some, map, slice_get}
 use Rattle.std.specs.Option.{option_map}
@@ -92,7 +92,7 @@ module _ (codes : List Code) (file : WorldFile) (cards : List Notecard) (grid : 
           lawful = script-lawful codes (meant programs codes runs) m.script known (agrees.lawful n m at);
         }
 
-    -- the grid that has the parts which the bytes stand for is that of the world
+    -- the grid that has the parts which the bytes encode is that of the world
     pub thawed-is : (w : SourceWorld) (thawed : Contents) (parts : WorldParts) (bytes : List ℕ) (memory : World)
         → AgreesWith programs file cards w → IsImageIn codes file parts bytes
         → IsImageIn codes file (parts_of_world codes w) bytes

@@ -1,4 +1,4 @@
--- Posts leave all timers, and what becomes of one script those of the others.
+-- Posts leave all timers, and what happens to one script leaves those of the others.
 use Rattle.std.proofs.Common.{◌≡◌, ℕ, ◌+◌, Bool, true, false, List, map, refl, ap, ◌∙◌}
 use Rattle.std.specs.Prelude.{Option, Some, None, if◌then◌else◌, length, slice_get, slice_set}
 use Rattle.std.proofs.lemmas.List.{map-set, set-set}
@@ -20,7 +20,7 @@ posted-timing : (r : Rules) (number : ℕ) (e : Event) (s : Script) (b : Bool)
 posted-timing r number e s true = refl
 posted-timing r number e s false = refl
 
--- what becomes of a script leaves its timer
+-- what happens to a script leaves its timer
 member-timings : (place : ℕ) (thing : Member → Told Script)
     → ((m : Member) → (thing m).value.mailbox.timing ≡ timing_in m) → (w : World)
     → timings_of (at_member place thing w).value ≡ timings_of w
@@ -41,7 +41,7 @@ pub touch-timings : (r : Rules) (object : ℕ) (prim : Option ℕ) (key name : L
     → timings_of (touch_prim r object prim key name w).value ≡ timings_of w
 touch-timings = touch-keeps timings_of post-timings
 
--- the timers but for that of the script at this place
+-- the timers, except that of the script at this place
 abbrev pub others : ℕ → World → List Timing
 others place w = slice_set (timings_of w) place stopped
 

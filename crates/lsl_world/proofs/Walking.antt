@@ -1,4 +1,4 @@
--- What a world in memory stands for while its scripts are walked.
+-- The world of programs of a world in memory while its scripts are walked.
 use Rattle.std.proofs.Common.{◌≡◌, ℕ, ◌+◌, ◌-◌, ◌<◌, Bool, true, false, List, ◌++◌, length, ap, sym, ◌∙◌, subst, arith}
 use Rattle.std.specs.Prelude.{◌==◌, All, None, get_or, min}
 use Rattle.lsl_post.specs.Due.{IsRipe}
@@ -16,7 +16,7 @@ use Rattle.lsl_world.specs.Stands.{IsOf, size_of}
 use Rattle.lsl_world.specs.Programs.{rules_of}
 use Rattle.lsl_world.specs.Steps.{round, round_or_last, turn_in}
 
--- so many segments are left
+-- this many segments are left
 pub record Left (programs : List Program) (world : World) (left : ℕ) (x : SourceWorld × ℕ) : Type 0 where
   pub is : IsOf programs world x.0
   pub left_is : left ≡ x.1
@@ -87,7 +87,7 @@ is_same a b c d e f g = grind arith
 not_same : (a b c d : ℕ) → a ≡ b → c ≡ d → (a ≡ c → ⊥) → (b == d) ≡ false
 not_same a b c d e f g = let n : b ≡ d → ⊥ = λ k. g (e ∙ k ∙ sym f) in grind arith
 
--- rounds go on while they spend segments
+-- rounds continue while they spend segments
 pub record Going (programs : List Program) (world : World) (left : ℕ) (x : SourceWorld × (ℕ × Bool)) : Type 0 where
   pub is : IsOf programs world x.0
   pub left_is : left ≡ x.1.0

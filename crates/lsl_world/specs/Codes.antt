@@ -12,8 +12,8 @@ use Rattle.lsl_gen.specs.Laws.{Agrees}
 use Rattle.lsl_gen.specs.Programs.{generated_states}
 use Rattle.lsl_machine.specs.State.{bodies_of}
 
--- the code begins with the program's globals, has its states and handlers, runs as it is meant, and asks at no more
--- places than the program has nodes
+-- the code begins with the program's globals, has its states and handlers, runs as it is meant, and makes host calls at
+-- no more places than the program has nodes
 pub record IsRunBy (program : Program) (code : Code) : Type 0 where
   pub globals : code.globals ≡ initial_globals program
   pub states : code.states ≡ generated_states program

@@ -1,4 +1,4 @@
--- A frozen world: its parts and their image, and the worlds that an image can be of where a file tells the objects.
+-- A frozen world: its parts and their image, and the worlds that an image can be of where a file gives the objects.
 use Rattle.std.specs.Prelude.{◌≡◌, ℕ, List, length, map, Some, slice_get}
 use Rattle.std.specs.List.{flat_map}
 use Rattle.lsl_code.specs.declared.woven_units.Woven.{Woven as Code}
@@ -31,7 +31,7 @@ parts_in world = record { clock = world.clock; objects = placed_in world.grid }
 abbrev pub frozen_image : List Code → SourceWorld → List ℕ
 frozen_image codes w = world_image 2 codes (parts_of_world codes w)
 
--- what a file tells of an object: its root's key, how many prims it has, and the places of its scripts' files
+-- what a file says of an object: its root's key, the number of its prims, and the places of its scripts' files
 abbrev pub files_of_prim : PrimLine → List ℕ
 files_of_prim prim = map (λ (s : ScriptLine). s.file) prim.scripts
 
@@ -45,11 +45,11 @@ shape_of_line line = record {
 abbrev pub shapes_of_file : WorldFile → List Shape
 shapes_of_file file = map shape_of_line file.objects
 
--- the bytes are an image of these parts, where the file tells the objects
+-- the bytes are an image of these parts, where the file gives the objects
 abbrev pub IsImageIn : List Code → WorldFile → WorldParts → List ℕ → Type 0
 IsImageIn codes file parts bytes = WorldImage (shapes_of_file file) codes parts bytes
 
--- A world that agrees with a file, whose scripts are these programs, and with these notecards: its owners, its prims'
+-- A world that agrees with a file, with scripts of these programs, and with these notecards: its owners, its prims'
 -- keys, and of each script its prim, its name and its program are the file's. A handler in flight is one that its
 -- script can have.
 pub record AgreesWith (programs : List Program) (file : WorldFile) (cards : List Notecard) (w : SourceWorld) : Type 0

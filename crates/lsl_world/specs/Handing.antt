@@ -1,4 +1,4 @@
--- Objects that are handed over by notes: which worlds can, and of what the parcels of offers are.
+-- Objects that are handed over by notes: which worlds can, and what the parcels of offers are images of.
 use Rattle.std.specs.Prelude.{◌≡◌, ℕ, ◌-◌, List, length, Some, None}
 use Rattle.lsl_code.specs.declared.woven_units.Woven.{Woven as Code}
 use Rattle.lsl_handoff.specs.declared.card.Card.{Card}
@@ -14,15 +14,14 @@ use Rattle.lsl_region.specs.ObjectParts.{parts_of_object}
 use Rattle.lsl_world.specs.Regions.{AreInNamed, LeadsToNamed, name_in}
 use Rattle.lsl_world.specs.declared.world.World.{World}
 
--- the parcel of an offer is an image of its object, written in the region from where it comes, and stands for these
--- parts
+-- the parcel of an offer is an image of its object, written in the region from which it comes, and means these parts
 pub record IsImageFrom (codes : List Code) (grid : Contents) (regions : List (List ℕ)) (offer : Note)
     (parts : ObjectParts) : Type 0 where
   pub image : ObjectImage (name_in regions offer.from) (shape_of (parts_of_object grid (offer.object - 1))) codes parts
       offer.parcel
   pub fits : CanArrive codes grid (offer.object - 1) parts
 
--- an own offer: its parcel stands for its object as it is
+-- an own offer: its parcel means its object as it is
 abbrev pub IsOwnImage : List Code → Contents → List (List ℕ) → Note → Type 0
 IsOwnImage codes grid regions offer =
     IsImageFrom codes grid regions offer (parts_of_object grid (offer.object - 1))

@@ -19,7 +19,7 @@ abbrev pub leads_elsewhere : List (List ℕ) → Step → Bool
 leads_elsewhere regions (Cross object region) = not (bytes_eq (get_or regions (object - 1) []) region)
 leads_elsewhere regions step = false
 
--- the regions behind it
+-- the regions after it
 abbrev pub regions_behind : List (List ℕ) → Step → List (List ℕ)
 regions_behind regions (Cross object region) = slice_set regions (object - 1) region
 regions_behind regions step = regions

@@ -19,17 +19,18 @@ TwoListsAreTwoRuns =
     (r : Rules) (first second : List Step) (w : World)
     → reference r (first ++ second) w ≡ next_to (reference r first w) (reference r second)
 
--- a run by trips is the run of the kept steps, in which nothing is known of trips
+-- a run by trips is the run of the kept steps, as the meaning without trips defines it
 abbrev pub TripsKeepSteps : Type 0
 TripsKeepSteps =
     (r : Rules) (steps : List Step) (trips : List Trip) (w : World)
     → travel r steps trips w ≡ reference r (kept_steps (regions_of w) steps trips) w
 
--- so many trips as these steps make
+-- as many trips as these steps make
 abbrev pub Fits : List Code → Rules → List Step → List Trip → World → Type 0
 Fits codes r steps trips w = length trips ≡ length (images codes r steps trips w)
 
--- a run of two lists of steps is the run of the first by its trips, and then the run of the second by those behind
+-- a run of two lists of steps is the run of the first by its trips, and then the run of the second by the trips after
+-- them
 abbrev pub TwoListsAreTwoTravels : Type 0
 TwoListsAreTwoTravels =
     (codes : List Code) (r : Rules) (first second : List Step) (before behind : List Trip) (w : World)
@@ -37,7 +38,7 @@ TwoListsAreTwoTravels =
     → travel r (first ++ second) (before ++ behind) w
     ≡ next_to (travel r first before w) (λ v. travel r second behind v)
 
--- where there is one script, rounds of at most so many segments are one turn of at most so many
+-- where there is one script, rounds of at most n segments are one turn of at most n
 abbrev pub OneScriptHasOneTurn : Type 0
 OneScriptHasOneTurn =
     (r : Rules) (most : ℕ) (w : World) → length w.members ≡ 1
@@ -61,7 +62,7 @@ TwoListsAreTwoCounts =
     → counted_steps r (first ++ second) (before ++ behind) w t
     ≡ counted_steps r second behind (travel r first before w).value (counted_steps r first before w t)
 
--- rounds tell the same, and lead to the same world, whether they are counted or not
+-- rounds report the same, and lead to the same world, whether they are counted or not
 abbrev pub CountingChangesNothing : Type 0
 CountingChangesNothing =
     (r : Rules) (most : ℕ) (w : World) (t : Tally)

@@ -1,5 +1,5 @@
--- Whole runs as functions of the trips, also those in which objects are handed over by notes: what each step tells and
--- sends, and the steps that are kept, which the trips alone tell.
+-- Whole runs as functions of the trips, also those in which objects are handed over by notes: what each step reports
+-- and sends, and the steps that are kept, which depend on the trips alone.
 use Rattle.std.specs.Prelude.{◌≡◌, ◌⊎◌, ◌==◌, ◌&&◌, ◌+◌, ◌-◌, ◌<◌, ◌^◌, ℕ, suc, Bool, false, not, if◌then◌else◌, List, [], ◌∷◌, ◌++◌, All, Contains, length, map, take, drop, get_or, Option, Some, None, is_some}
 use Rattle.std.proofs.Common.{zero}
 use Rattle.std.specs.List.{list_any}
@@ -44,7 +44,7 @@ WereCarried entries [] = Unit {0}
 WereCarried entries (t ∷ trips) =
     WasCarried (entries ++ t.sent ∷ []) t.back × WereCarried (entries ++ t.sent ∷ []) trips
 
--- an offer, by the byte that tells the kind of a note, which wasn't handed over before
+-- an offer, by the byte that gives the kind of a note, which wasn't handed over before
 abbrev pub is_new_offer : List (List ℕ) → List ℕ → Bool
 is_new_offer entries bytes = get_or bytes 14 0 == 1 && not (list_any (bytes_eq bytes) entries)
 
@@ -59,7 +59,7 @@ trips_from_offer entries [] = []
 trips_from_offer entries (t ∷ trips) =
     if is_new_offer entries t.sent then t ∷ trips else trips_from_offer (entries ++ t.sent ∷ []) trips
 
--- the trips of a crossing begin with its offer; those behind it
+-- the trips of a crossing begin with its offer; those after it
 abbrev pub own_trips : List (List ℕ) → List Trip → List Trip
 own_trips entries [] = []
 own_trips entries (t ∷ trips) = t ∷ trips_before_offer (entries ++ t.sent ∷ []) trips
@@ -68,11 +68,11 @@ abbrev pub trips_behind : List (List ℕ) → List Trip → List Trip
 trips_behind entries [] = []
 trips_behind entries (t ∷ trips) = trips_from_offer (entries ++ t.sent ∷ []) trips
 
--- the cancel that calls an offer back: of the same object and trip, between the same regions
+-- the cancel of an offer: of the same object and trip, between the same regions
 abbrev pub cancel_for : List ℕ → List ℕ
 cancel_for offer = let front = head_bytes 67 ++ 3 ∷ take 20 (drop 15 offer) in front ++ sha256 front
 
--- the offer came, and not behind its cancel
+-- the offer came, and not after its cancel
 abbrev pub offer_came : List Trip → Bool
 offer_came [] = false
 offer_came (t ∷ trips) = comes t.sent (cancel_for t.sent) (t ∷ trips)
@@ -95,7 +95,7 @@ pub record Stage : Type 0 where
   pub cards : Option (List (List Card))
   pub notes : List Note
 
--- what a step comes to: what is told, what is handed to the link, and the trips behind it
+-- the result of a step: what is reported, what is sent over the link, and the trips after it
 pub record Gone : Type 0 where
   pub told : Told Stage
   pub sent : List (List ℕ)
@@ -122,7 +122,7 @@ first_back (t ∷ trips) = t.back
 abbrev pub most_notes : ℕ
 most_notes = 32
 
--- a drive by these trips: where it ends, the notes that it hands over, and the trips behind
+-- a drive by these trips: where it ends, the notes that it hands over, and the trips after it
 pub record Driven : Type 0 where
   pub last : Moment
   pub notes : List Note
@@ -135,7 +135,7 @@ abbrev pub driven_unless : Option Note → Driven → (Note → Driven) → Driv
 driven_unless None stopped on = stopped
 driven_unless (Some note) stopped on = on note
 
--- of at most so many notes, where these were handed over before
+-- a drive of at most this many notes, where these were handed over before
 unfoldable pub driven : Way → (most : ℕ) → List Note → Moment → List Trip → Driven
 driven way zero handed m trips = record { last = m; notes = []; behind = trips }
 driven way (suc most) handed m trips =
@@ -143,7 +143,7 @@ driven way (suc most) handed m trips =
     (λ note. driven_on note (driven way most (handed ++ note ∷ [])
     (hears way m (heard (handed ++ note ∷ []) (first_back trips))) (drop 1 trips)))
 
--- an object was driven so, and goes on where it came to the other region
+-- an object was driven this way, and continues where it came to the other region
 abbrev pub goes_driven : Rules → List (List ℕ) → Step → Way → Stage → Driven → Gone
 goes_driven r regions step way stage d =
     let cards = rested d.last.field way in
@@ -172,7 +172,6 @@ goes_plainly codes r step stage trips = record {
   behind = left step stage.world trips;
 }
 
--- and where they are handed over by notes
 abbrev pub goes_lossily : List Code → Rules → List (List ℕ) → Step → List (List Card) → Stage → List Trip → Gone
 goes_lossily codes r regions (Cross object region) cards stage trips =
     let way = way_to regions (regions_of stage.world) object region in
@@ -182,7 +181,7 @@ goes_lossily codes r regions (Cross object region) cards stage trips =
     else goes_plainly codes r (Cross object region) stage trips
 goes_lossily codes r regions step cards stage trips = goes_plainly codes r step stage trips
 
--- they are handed over by notes where there are cards
+-- objects are handed over by notes where there are cards
 abbrev pub goes_by : Option (List (List Card)) → List Code → Rules → List (List ℕ) → Step → Stage → List Trip → Gone
 goes_by None codes r regions step stage trips = goes_plainly codes r step stage trips
 goes_by (Some cards) codes r regions step stage trips = goes_lossily codes r regions step cards stage trips
@@ -190,7 +189,7 @@ goes_by (Some cards) codes r regions step stage trips = goes_lossily codes r reg
 abbrev pub goes : List Code → Rules → List (List ℕ) → Step → Stage → List Trip → Gone
 goes codes r regions step stage trips = goes_by stage.cards codes r regions step stage trips
 
--- all steps, in order, and all that they hand to the link
+-- all steps, in order, and all that they send over the link
 unfoldable pub travel_from : List Code → Rules → List (List ℕ) → List Step → List Trip → Stage → Told Stage
 travel_from codes r regions [] trips stage = quiet stage
 travel_from codes r regions (step ∷ steps) trips stage =
@@ -207,7 +206,7 @@ sent_from codes r regions (step ∷ steps) trips stage =
 abbrev pub cards_at_start : List (List ℕ) → List Linkset → List (List Card)
 cards_at_start regions objects = field_at_start (map (λ o. number_in regions o.region) objects) (length regions)
 
--- a world where a run begins: one in which nothing is known of notes, and one in which objects are handed over by them
+-- a world where a run begins: one without notes, and one in which objects are handed over by them
 abbrev pub plain_stage : World → Stage
 plain_stage w = record { world = w; cards = None; notes = [] }
 
@@ -223,8 +222,8 @@ IsFairBy (Some cards) notes trips = WereCarried (bytes_of notes) trips
 abbrev pub IsFairFrom : Stage → List Trip → Type 0
 IsFairFrom stage trips = IsFairBy stage.cards stage.notes trips
 
--- where the cards are in order, first ones of a run's notes were handed over, and nothing else came back than these, it
--- tells what the run of the kept steps tells, in which nothing is known of notes
+-- if the cards are in order, a prefix of a run's notes was handed over, and nothing but these came back, then the run
+-- reports what the run of the kept steps reports, as the meaning without notes defines it
 abbrev pub LossyRunsKeepSteps : Type 0
 LossyRunsKeepSteps =
     (codes : List Code) (r : Rules) (regions : List (List ℕ)) (steps : List Step) (stage : Stage)
@@ -237,7 +236,7 @@ LossyRunsKeepSteps =
     → as_value (λ s. s.world) (travel_from codes r regions steps trips stage)
     ≡ reference r (kept_lossy (regions_of stage.world) (bytes_of stage.notes) steps trips) stage.world
 
--- a run in which nothing is known of notes is one by trips
+-- a run without notes is one by trips
 abbrev pub PlainRunsTravel : Type 0
 PlainRunsTravel =
     (codes : List Code) (r : Rules) (regions : List (List ℕ)) (steps : List Step) (trips : List Trip) (w : World)

@@ -1,4 +1,4 @@
--- Worlds in which objects are handed over by notes: cards in order, and what a step comes to by the trips that it made.
+-- Worlds in which objects are handed over by notes: cards in order, and the result of a step by the trips that it made.
 use Rattle.std.specs.Prelude.{◌≡◌, ℕ, suc, ◌-◌, ◌<◌, ◌≤◌, ◌^◌, ◌⊎◌, Bool, true, false, if◌then◌else◌, List, [], length, get_or, Option, Some, None, OnOk, MatchResult}
 use Rattle.std.specs.declared.result.Result.{Result}
 use Rattle.lsl_code.specs.declared.woven_units.Woven.{Woven as Code}
@@ -41,7 +41,7 @@ abbrev pub way_to : List (List ℕ) → List (List ℕ) → ℕ → List ℕ →
 way_to regions homes object region =
     record { object = object; from = place_in regions homes object; to = number_in regions region }
 
--- each object is live in the region where it is and away in the others, none of which heard of a later trip
+-- each object is live in the region where it is and away in the others, and none of these heard of a later trip
 pub record AreInOrder (regions : List (List ℕ)) (cards : List (List Card)) (homes : List (List ℕ)) : Type 0 where
   pub counts : HasCounts (length homes) (length regions) cards
   pub named : (object : ℕ) → IsOneOf (length homes) object → IsNamed regions (get_or homes (object - 1) [])
@@ -56,7 +56,7 @@ AreAtMost most cards = (object region : ℕ) → (card_at cards object region).t
 abbrev pub parcel_of : List Code → World → ℕ → List ℕ
 parcel_of codes w object = image_in codes (contents_of codes w) (object - 1)
 
--- a crossing goes on where the offer came, and not behind its cancel; where it didn't come, nothing happens
+-- a crossing continues where the offer came, and not after its cancel; where it didn't come, nothing happens
 abbrev pub hand_on : List Code → Rules → List (List ℕ) → List (List Card) → Step → List Trip → World → Told World
 hand_on codes r regions cards (Cross object region) trips w =
     if is_crossing w (Cross object region)
@@ -66,7 +66,7 @@ hand_on codes r regions cards (Cross object region) trips w =
     else quiet w
 hand_on codes r regions cards step trips w = next r step w
 
--- which offers are taken: those whose parcels are images of their objects
+-- which offers are accepted: those with a parcel that is an image of their object
 abbrev pub IsOfferIn : List Code → List (List ℕ) → World → Note → Type 0
 IsOfferIn codes regions w offer = IsTaken (IsImageFrom codes (contents_of codes w) regions) offer
 
@@ -77,13 +77,13 @@ IsDriven codes regions w way old new trips =
     (parcel_of codes w way.object) trips old new landed)
     ⊎ ((depart_fault (card_at old way.object way.from) way.from way.to ≡ Some LastTrip) × (trips ≡ []) × (new ≡ old))
 
--- these trips are first ones of its drive
+-- these trips are a prefix of its drive
 abbrev pub IsDrivenPartly : List Code → List (List ℕ) → World → Way → List (List Card) → List Trip → Type 0
 IsDrivenPartly codes regions w way old trips =
     IsCut (length w.objects) (length regions) (IsOfferIn codes regions w) way
     (departure old way (parcel_of codes w way.object)) trips
 
--- where an object crosses, its notes were carried, or first ones of them; where none crosses, none
+-- where an object crosses, its notes were carried, or a prefix of them; where none crosses, none
 abbrev pub SendsIf : {T E : Type 0} → Bool → Result T E → List Code → List (List ℕ) → World → Way
     → (old new : List (List Card)) → List Trip → Type 0
 SendsIf true result codes regions w way old new trips =
@@ -98,8 +98,8 @@ SendsNotes (Cross object region) result codes regions w old new trips =
     old new trips
 SendsNotes step result codes regions w old new trips = (trips ≡ []) × (new ≡ old)
 
--- what a step comes to, where the cards are in order, all earlier entries are past, and nothing else came back on its
--- trips than entries by then and bytes that are no note
+-- the result of a step, if the cards are in order, all earlier entries are past, and nothing came back on its trips but
+-- entries by then and bytes that aren't a note
 pub record Hands {T E : Type 0} (codes : List Code) (r : Rules) (IsNow : World → Type 0) (regions : List (List ℕ))
     (old_cards new_cards : List (List Card)) (step : Step) (w : World) (entries : List (List ℕ)) (trips : List Trip)
     (old new : List Entry) (result : Result T E) : Type 0 where

@@ -39,7 +39,7 @@ abbrev pub whole_in_program : Option Program → ℕ → Kept → List Value →
 whole_in_program None routine kept args ticks answers = Lost
 whole_in_program (Some p) routine kept args ticks answers = whole p routine kept args ticks answers
 
--- between two ticks a handler asks at most 2,048 times the count of its program's nodes
+-- between two ticks a handler makes at most 2,048 host calls for each node of its program
 abbrev pub most_in : Option Program → ℕ
 most_in None = 0
 most_in (Some p) = 2048 * nodes_of p

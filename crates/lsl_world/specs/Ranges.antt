@@ -1,4 +1,4 @@
--- The files of which a world can be made: their counts and places are in their ranges, and their steps name nothing
+-- The files from which a world can be made: their counts and places are in their ranges, and their steps name nothing
 -- that isn't there.
 use Rattle.std.specs.Prelude.{◌≡◌, true, ℕ, ◌<◌, ◌≤◌, List, length, All}
 use Rattle.lsl_value.specs.Key.{is_valid_key}
@@ -10,11 +10,11 @@ use Rattle.lsl_lines.specs.declared.file.ScriptLine.{ScriptLine}
 use Rattle.lsl_lines.specs.declared.file.WorldFile.{WorldFile}
 use Rattle.lsl_world.specs.Sizes.{IsStepOf, scripts_of, size_of_file}
 
--- a script's file is one of so many
+-- a script's file is one of `count`
 abbrev pub HasFile : ℕ → ScriptLine → Type 0
 HasFile files script = script.file < files
 
--- a notecard's file is one of so many
+-- a notecard's file is one of `count`
 abbrev pub HasCard : ℕ → NoteLine → Type 0
 HasCard cards note = note.file < cards
 
@@ -22,7 +22,7 @@ HasCard cards note = note.file < cards
 abbrev pub HasKey : PrimLine → Type 0
 HasKey prim = is_valid_key prim.key ≡ true
 
--- a root at least, each prim with a key, and so many files
+-- at least a root, each prim with a key, and scripts of this many files
 pub record IsObjectOf (files : ℕ) (object : ObjectLine) : Type 0 where
   pub rooted : 0 < length object.prims
   pub few : length object.prims ≤ 255

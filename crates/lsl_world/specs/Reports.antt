@@ -36,11 +36,11 @@ run_entries r file cards trips =
     let all = reference r (kept_of r file cards trips) (start r file cards) in
     all.entries ++ homes all.value
 
--- the journal of a file whose scripts are these programs
+-- the journal of a file with scripts of these programs
 abbrev pub journal_of : List Program → WorldFile → List Notecard → List Trip → List Entry
 journal_of programs file cards trips = run_entries (rules_of programs) file cards trips
 
--- the images that its run sends, in order, where these are its scripts' units
+-- the images that its run sends, in order, with these units of its scripts
 abbrev pub images_sent : List Code → List Program → WorldFile → List Notecard → List Trip → List (List ℕ)
 images_sent codes programs file cards trips =
     let r = rules_of programs in

@@ -1,5 +1,5 @@
--- Crossings from which an image came back that isn't the one that was sent, where the parts for which it stands are
--- those of a world of the same programs: from there on the world in memory is that one.
+-- Crossings from which an image came back that isn't the one that was sent, where its parts are those of a world of the
+-- same programs: from there on the world in memory is that one.
 use Rattle.std.specs.Prelude.{ℕ, ◌-◌, List, None, Some}
 use Rattle.lsl_code.specs.declared.woven_units.Woven.{Woven as Code}
 use Rattle.lsl_ports.specs.Trips.{Trip}
@@ -13,8 +13,8 @@ use Rattle.lsl_region.specs.ObjectParts.{with_parts}
 use Rattle.lsl_region.specs.Worlds.{World}
 use Rattle.lsl_world.specs.Codes.{AreRunBy}
 
--- one trip was made, from which an image of the object came back; with the parts for which it stands in the place of
--- the object's, the grid stands for this world of these programs
+-- one trip was made, from which an image of the object came back; with its parts in the place of the object's, the grid
+-- represents this world of these programs
 pub record ComesBackAs (programs : List Program) (codes : List Code) (clock : ℕ) (grid : Contents) (object : ℕ)
     (trips : List Trip) (w : World) : Type 0 where
   pub back : List ℕ

@@ -1,4 +1,4 @@
--- How many objects, prims and scripts there are, and which steps name none but these.
+-- How many objects, prims and scripts there are, and which steps name only these.
 use Rattle.std.specs.Prelude.{ℕ, ◌<◌, ◌≤◌, ◌⊎◌, ◌-◌, List, map, length, slice_get, sum_by, Option, Some, None}
 use Rattle.lsl_region.specs.Pausing.{AreGaps}
 use Rattle.lsl_lines.specs.declared.file.ObjectLine.{ObjectLine}
@@ -28,7 +28,7 @@ size_of_file file = record {
 abbrev pub HasNumber : ℕ → ℕ → Type 0
 HasNumber count number = (0 < number) × (number ≤ count)
 
--- an object of so many prims has one of that link number: 0 and 1 are its root
+-- an object of this many prims has one of that link number: 0 and 1 are its root
 abbrev pub HasLink : Option ℕ → ℕ → Type 0
 HasLink None link = ⊥
 HasLink (Some count) link = (link ≤ 1) ⊎ (link ≤ count)

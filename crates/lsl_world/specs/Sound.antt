@@ -14,7 +14,7 @@ pub record IsSound (world : World) : Type 0 where
   pub timely : world.clock ≤ latest_clock
   pub numbered : AreNumbered (length world.grid.seats) world.due
 
--- its due times are exactly those of the scripts in its seats whose timers run
+-- its due times are exactly those of the scripts in its seats with a running timer
 abbrev pub IsIndexed : World → Type 0
 IsIndexed world = IsIndexIn world.grid.seats world.due
 

@@ -1,4 +1,4 @@
--- Worlds in memory where a run is at a stage, and what a step comes to there.
+-- Worlds in memory where a run is at a stage, and what a step results in there.
 use Rattle.std.specs.Prelude.{◌≡◌, ℕ, List, Contains, length, Some}
 use Rattle.std.specs.declared.result.Result.{Result}
 use Rattle.lsl_code.specs.declared.woven_units.Woven.{Woven as Code}
@@ -36,7 +36,7 @@ pub record IsAt (programs : List Program) (world : World) (stage : Stage) : Type
   pub ordered : (cards : List (List Card)) → stage.cards ≡ Some cards
       → IsOrderly world.units world.regions cards stage
 
--- what a step comes to, with the trips that it made
+-- the result of a step, with the trips that it made
 pub record DoesAt {T E : Type 0} (codes : List Code) (r : Rules) (regions : List (List ℕ)) (IsNow : Stage → Type 0)
     (step : Step) (stage : Stage) (trips : List Trip) (old new : List Entry) (result : Result T E) : Type 0 where
   pub tells : Tells result (λ s _. IsNow s) old new (goes codes r regions step stage trips).told

@@ -10,8 +10,8 @@ use Rattle.lsl_world.specs.Sizes.{Size}
 use Rattle.lsl_world.specs.Timers.{IsIndexOf, timings_of}
 use Rattle.lsl_world.specs.declared.world.World.{World}
 
--- the world in memory is this one, whose scripts mean these programs: its units run them, its grid stands for it, its
--- clock is in its range, and its due times are those of the scripts whose timers run
+-- the world in memory is this one, with scripts that mean these programs: its units run them, its grid represents it,
+-- its clock is in its range, and its due times are those of the scripts with a running timer
 pub record IsOf (programs : List Program) (world : World) (w : SourceWorld) : Type 0 where
   pub runs : AreRunBy programs world.units
   pub seated : AreSeated world.units world.grid.seats

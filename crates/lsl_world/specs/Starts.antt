@@ -1,4 +1,4 @@
--- The world of a file at its start: the clock is 0, and each script stands in its first state, whose entry is posted.
+-- The world of a file at its start: the clock is 0, and each script is in its first state, with `state_entry` posted.
 use Rattle.std.specs.Prelude.{ℕ, suc, List, [], ◌∷◌, ◌++◌, map}
 use Rattle.lsl_lines.specs.declared.file.ObjectLine.{ObjectLine}
 use Rattle.lsl_lines.specs.declared.file.PrimLine.{PrimLine}
@@ -31,19 +31,19 @@ member_of_line r object prim line =
 abbrev pub members_of_prim : Rules → ℕ → ℕ → List ScriptLine → List Member
 members_of_prim r object prim lines = map (member_of_line r object prim) lines
 
--- of these prims, whose places are from this one on
+-- of these prims, numbered from this place on
 abbrev pub members_of_prims : Rules → ℕ → ℕ → List PrimLine → List Member
 members_of_prims r object prim [] = []
 members_of_prims r object prim (line ∷ lines) =
     members_of_prim r object prim line.scripts ++ members_of_prims r object (suc prim) lines
 
--- of these objects, whose places are from this one on
+-- of these objects, numbered from this place on
 abbrev pub members_of_objects : Rules → ℕ → List ObjectLine → List Member
 members_of_objects r object [] = []
 members_of_objects r object (line ∷ lines) =
     members_of_prims r object 0 line.prims ++ members_of_objects r (suc object) lines
 
--- with these notecards, whose prims are numbered from 1 on through all objects
+-- with these notecards, by prims that are numbered from 1 on through all objects
 abbrev pub start : Rules → WorldFile → List Notecard → World
 start r file cards = record {
   clock = 0;

@@ -13,7 +13,7 @@ use Rattle.lsl_region.specs.Worlds.{World}
 abbrev pub most_in_turn : ℕ
 most_in_turn = 8
 
--- the script at this place has a turn, and so many segments are left then
+-- the script at this place has a turn, and this many segments are left then
 abbrev pub turn_in : Rules → ℕ → World × ℕ → Told (World × ℕ)
 turn_in r place x = as_value (λ y. (y.0, x.1 - y.1)) (turn r (min most_in_turn x.1) place x.0)
 
@@ -25,11 +25,11 @@ round r x = each (turn_in r) (length x.0.members) 0 x
 abbrev pub round_or_last : Rules → World × (ℕ × Bool) → Told (World × (ℕ × Bool))
 round_or_last r x = as_value (λ y. (y.0, (y.1, y.1 == x.1.0))) (round r (x.0, x.1.0))
 
--- rounds, until one finds no script ready or so many segments have run
+-- rounds, until one finds no script ready or this many segments have run
 abbrev pub rounds : Rules → ℕ → World → Told World
 rounds r most w = as_value (λ x. x.0) (until (λ x. x.1.1) (round_or_last r) most (w, (most, false)))
 
--- objects and scripts are told by numbers from 1. Pauses leave the world as it is
+-- objects and scripts are numbered from 1. Pauses leave the world as it is
 abbrev pub next : Rules → Step → World → Told World
 next r (Clock time) w = read_clock r time w
 next r (Say channel name key text) w = say r channel name key text w

@@ -17,16 +17,16 @@ timing_in m = m.script.mailbox.timing
 abbrev pub timings_of : World → List Timing
 timings_of w = map timing_in w.members
 
--- when the script of this number is next due: never where its timer doesn't run, or there is no such script
+-- when the script of this number is next due: never if its timer doesn't run, or there is no such script
 abbrev pub due_of : List Timing → ℕ → Option ℕ
 due_of timings zero = None
 due_of timings (suc place) = next_due (get_or timings place stopped)
 
--- the entries are exactly the scripts whose timers run, with their due times
+-- the entries are exactly the scripts with a running timer, with their due times
 pub record IsIndexOf (timings : List Timing) (entries : List (ℕ × ℕ)) : Type 0 where
   pub exact : (at number : ℕ) → Contains entries (at, number) ↔ (due_of timings number ≡ Some at)
 
--- each is of one of so many scripts
+-- each is of one of `count` scripts
 abbrev pub AreNumbered : ℕ → List (ℕ × ℕ) → Type 0
 AreNumbered count entries = (at number : ℕ) → Contains entries (at, number) → HasNumber count number
 
@@ -34,14 +34,14 @@ AreNumbered count entries = (at number : ℕ) → Contains entries (at, number) 
 abbrev pub due_in : ScriptParts → Option ℕ
 due_in parts = next_due (timing_of parts.timer)
 
--- The same where no world of programs is known: of the scripts that are in their seats, the entries are exactly those
--- whose timers run, with their due times; and there are no others.
+-- The same where no world of programs is known: of the scripts in their seats, the entries are exactly those with a
+-- running timer, with their due times; and there are no others.
 pub record IsIndexIn (seats : List Seat) (entries : List (ℕ × ℕ)) : Type 0 where
   pub numbered : AreNumbered (length seats) entries
   pub exact : (at place : ℕ) (seat : Seat) (parts : ScriptParts) → slice_get seats place ≡ Some seat
       → seat.script ≡ Some parts → Contains entries (at, place + 1) ↔ (due_in parts ≡ Some at)
 
--- the entry of the script of this number was put, as its seat tells: for private functions
+-- the entry of the script of this number was set from its seat: for private functions
 pub record PutsIn (seats : List Seat) (number : ℕ) (old new : List (ℕ × ℕ)) : Type 0 where
   pub due : Option ℕ
   pub puts : Puts number due old new

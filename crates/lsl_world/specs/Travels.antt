@@ -25,7 +25,7 @@ abbrev pub go_on : Rules → Step → List Trip → World → Told World
 go_on r (Cross object region) trips w = cross_by r (object - 1) region trips w
 go_on r step trips w = next r step w
 
--- the trips that are left behind a step
+-- the trips that are left after a step
 abbrev pub left : Step → World → List Trip → List Trip
 left step w trips = if is_crossing w step then drop 1 trips else trips
 
@@ -46,7 +46,7 @@ images codes r [] trips w = []
 images codes r (step ∷ steps) trips w =
     images_of codes step w ++ images codes r steps (left step w trips) (go_on r step trips w).value
 
--- what a step comes to, with the trips that it made: all is told where each of them is honest
+-- the result of a step, with the trips that it made: all is reported where each of them is honest
 pub record Does {T E : Type 0} (codes : List Code) (r : Rules) (IsNow : World → Type 0) (step : Step) (w : World)
     (trips : List Trip) (old new : List Entry) (result : Result T E) : Type 0 where
   pub tells : Honest IsIntact trips → Tells result (λ v _. IsNow v) old new (go_on r step trips w)

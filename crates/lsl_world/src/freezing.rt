@@ -40,8 +40,9 @@ use lsl_text::{NoMemory, Refusal};
 use std::alloc::Global;
 
 impl World {
-    /// The image of the world as it is: its clock, and of each object the region and the parts. It takes memory for the
-    /// parts and the image, which is written once, and walked once more for its digest.
+    /// The image of the world as it is: its clock, and of each object the region and the parts.
+    ///
+    /// It takes memory for the parts and the image, which is written once, and walked once more for its digest.
     pub fn freeze(&self) -> Result<Vec<u8>, NoMemory>
         requires sound { IsSound self.now }
         ensures image { IfOk result (λ image.
@@ -68,8 +69,10 @@ impl World {
     }
 
     /// The world of which these bytes are an image in version 1 or 2, with the objects and scripts of a file, or the
-    /// first fault of the bytes. The units are those of the file's scripts, in the order of its `files`, and the
-    /// notecards are those of its prims. Pausing is off. It takes memory for the objects and scripts.
+    /// first fault of the bytes.
+    ///
+    /// The units are those of the file's scripts, in the order of its `files`, and the notecards are those of its
+    /// prims. Pausing is off. It takes memory for the objects and scripts.
     pub fn thaw(
         alloc: Global,
         file: &WorldFile,
@@ -125,7 +128,7 @@ impl World {
     }
 }
 
-// What these bytes are an image of comes to where there is nothing, and its clock is given.
+// Fills an empty grid from an image, and returns the clock.
 fn restore(
     alloc: Global,
     file: &WorldFile,

@@ -1,4 +1,4 @@
-//! An object is handed over to another region by notes, over a link that loses, repeats and reorders them.
+//! Hands an object over to another region by notes, over a link that loses, repeats and reorders them.
 
 ghost use Rattle.std.specs.Prelude.{◌≡◌, ◌≢◌, ◌≤◌, ◌-◌, List, ℕ, None, Some, length, IfOk, IfSome, MatchResult, OnOk};
 ghost use Rattle.lsl_ports.specs.Trips.{Trip, Went};
@@ -36,7 +36,7 @@ use lsl_text::NoMemory;
 use lsl_value::Text;
 use std::alloc::AllocError;
 
-/// By what the parcels of offers are read: the objects, the names of the regions, and the units.
+/// What is needed to read the parcels of offers: the objects, the names of the regions, and the units.
 #[derive(Drop)]
 struct Images<'a> {
     grid: &'a Grid,
@@ -73,7 +73,7 @@ impl Parcels for Images<'_> {
 }
 
 impl World {
-    // An object is handed over to a region that is named, unless it is there.
+    /// Hands an object over to a named region, unless it is there.
     pub(crate) fn hand<L: Link>(
         &mut self,
         regions: &Regions,
@@ -110,7 +110,7 @@ impl World {
         self.land(object, region, given, out)
     }
 
-    // An object comes to a region with these parts; it stays where there are none.
+    // Puts an object with these parts into a region; without parts it stays where it is.
     fn land(
         &mut self,
         object: u32,
@@ -142,7 +142,7 @@ impl World {
         }
     }
 
-    // Drives an object on its way, and gives the parts with which it came.
+    // Drives an object on its way, and returns the parts with which it arrived.
     fn drive<L: Link>(
         &self,
         regions: &Regions,

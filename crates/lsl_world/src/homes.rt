@@ -11,7 +11,7 @@ use lsl_post::{Entries, Entry};
 use lsl_text::NoMemory;
 
 impl World {
-    // Adds the region of each object.
+    /// Adds the region of each object.
     pub(crate) fn tell_homes(&self, out: &mut Entries) -> Result<(), NoMemory>
         ensures { Adds result out.old out.new (homes_from 1 self.now.grid.objects) }
     {

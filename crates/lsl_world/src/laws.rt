@@ -9,23 +9,23 @@ pub fn two_lists_are_two_runs()
     ensures { TwoListsAreTwoRuns }
 {}
 
-/// A run by trips is the run of the steps without the crossings that were refused, in which nothing is known of trips.
+/// A run by trips is the run of the steps without the refused crossings, as the meaning without trips defines it.
 pub fn trips_keep_steps()
     ensures { TripsKeepSteps }
 {}
 
-/// A run in which nothing is known of notes is one by trips.
+/// A run without notes is one by trips.
 pub fn plain_runs_travel()
     ensures { PlainRunsTravel }
 {}
 
-/// A run in which objects are handed over by notes is the run of the steps without the crossings whose offer didn't
-/// come, or came behind its cancel, in which nothing is known of notes.
+/// A run in which objects are handed over by notes is the run, without notes, of the steps without the crossings whose
+/// offer didn't come, or came after its cancel.
 pub fn lossy_runs_keep_steps()
     ensures { LossyRunsKeepSteps }
 {}
 
-/// A run of two lists of steps is the run of the first by its trips, and then that of the second by those behind.
+/// A run of two lists of steps is the run of the first by its trips, and then that of the second by those after them.
 pub fn two_lists_are_two_travels()
     ensures { TwoListsAreTwoTravels }
 {}
@@ -35,12 +35,12 @@ pub fn two_lists_are_two_counts()
     ensures { TwoListsAreTwoCounts }
 {}
 
-/// What is counted in rounds changes neither what they tell nor the world to which they lead.
+/// What is counted in rounds changes neither what they report nor the world to which they lead.
 pub fn counting_changes_nothing()
     ensures { CountingChangesNothing }
 {}
 
-/// Where there is one script, rounds are one turn: at most so many segments in all are at most so many in a row.
+/// Where there is one script, rounds are one turn: at most `n` segments in all are at most `n` in a row.
 pub fn one_script_has_one_turn()
     ensures { OneScriptHasOneTurn }
 {}

@@ -39,7 +39,7 @@ impl Regions {
         }
     }
 
-    /// No region becomes those that a file names, each once, in the order of first naming.
+    /// The regions that a file names, each once, in the order of first naming.
     pub(crate) fn add_file(&mut self, alloc: Global, file: &WorldFile) -> Result<(), NoMemory>
         requires none { self.old ≡ [] }
         ensures regions { OnOk result (self.new ≡ regions_of_file file.now) }
@@ -78,7 +78,7 @@ impl Regions {
         }
     }
 
-    // Adds a region, unless it was named. The one too many for its number finds no memory.
+    // Adds a region, unless it was named. Out of memory where its number would be too large.
     fn add(&mut self, alloc: Global, region: &Text) -> Result<(), NoMemory>
         ensures { OnOk result (self.new ≡ with_region self.old region.now) }
     {

@@ -1,4 +1,4 @@
-//! Steps in parts: what a part told can be written before the next one is done.
+//! Steps in parts: the entries of a part can be written before the next part is done.
 
 ghost use Rattle.std.specs.Prelude.{◌≡◌, ◌≤◌, List, None, IfOk, IfSome, OnOk, length};
 ghost use Rattle.lsl_ports.specs.Trips.{Trip, Went};
@@ -24,20 +24,22 @@ use lsl_ports::Link;
 use lsl_post::Entries;
 use lsl_text::NoMemory;
 
-/// So many entries are enough for a part.
+/// A part ends at this number of entries or more.
 const ENOUGH: usize = 256;
 
-/// How many segments in a row are done before the entries are looked at: few at first, and twice as many each time, up
-/// to a greatest number.
+/// The number of segments in a row between two looks at the entries: few at first, then doubled each time, up to a
+/// maximum.
 const FIRST_IN_ROW: u32 = 64;
 
 const MOST_IN_ROW: u32 = 16384;
 
 impl World {
-    /// Does a step, or a first part of it, adds what happened, and gives the step that is left. A part ends where there
-    /// are 256 entries or more: of a `run` step behind a round, and of a `go` step behind some segments in a row, where
-    /// its script is saved. All other steps are one part. After want of memory a part of what happened was added, and
-    /// the world is given up.
+    /// Does a step, or a first part of it, adds what happened, and returns what is left of the step.
+    ///
+    /// A part ends where there are 256 entries or more: in a `run` step after a round, and in a `go` step after some
+    /// segments in a row, where its script is saved. All other steps are one part.
+    ///
+    /// When out of memory, a part of what happened was added, and the world must be discarded.
     pub fn step_part<L: Link>(
         &mut self,
         step: &Step,
@@ -77,7 +79,7 @@ impl World {
         }
     }
 
-    // Segments of a script, at most so many, or the first of them.
+    // Runs segments of a script, at most `most`, or the first of them.
     fn go_part(
         &mut self,
         script: u32,
@@ -113,7 +115,7 @@ impl World {
         Ok(None)
     }
 
-    // Rounds, until one finds no script ready or so many segments have run, or the first of them.
+    // Runs rounds, until one finds no script ready or `most` segments have run, or the first of them.
     fn run_part(&mut self, most: u32, out: &mut Entries) -> Result<Option<Step>, NoMemory>
         requires sound { IsSound self.old }
         ensures tells { (programs : List Program) (w : SourceWorld) → IsOf programs self.old w

@@ -25,7 +25,7 @@ use lsl_text::NoMemory;
 const MOST_IN_TURN: u32 = 8;
 
 impl World {
-    /// Reads all timers. Costs the timers that are due, and the logarithm of all that run.
+    /// Reads all timers. Cost: O(k + log n) for k due timers of n that run.
     pub(crate) fn read_timers(&mut self, out: &mut Entries) -> Result<(), NoMemory>
         requires sound { IsSound self.old }
         ensures tells { (programs : List Program) (w : SourceWorld) → IsOf programs self.old w
@@ -58,9 +58,10 @@ impl World {
         note_timer(&self.grid, script, &mut self.due)
     }
 
-    /// Rounds, until one finds no script ready or so many segments have run. Costs the segments, and in each round a
-    /// look at every script, as long as segments are left, and one saving of each that ran: also where there is one
-    /// script, which then has turn after turn.
+    /// Runs rounds, until one finds no script ready or `most` segments have run.
+    ///
+    /// Cost: the segments; in each round a look at every script, as long as segments are left; and one save of each
+    /// that ran. A script alone has turn after turn too.
     pub(crate) fn run(&mut self, most: u32, out: &mut Entries) -> Result<(), NoMemory>
         requires sound { IsSound self.old }
         ensures tells { (programs : List Program) (w : SourceWorld) → IsOf programs self.old w
@@ -83,7 +84,7 @@ impl World {
         Ok(())
     }
 
-    /// A turn for each script, in order, and how many segments are left then.
+    /// A turn for each script, in order, and the number of segments left then.
     pub(crate) fn round(&mut self, left: u32, out: &mut Entries) -> Result<u32, NoMemory>
         requires sound { IsSound self.old }
         ensures tells { (programs : List Program) (w : SourceWorld) → IsOf programs self.old w
@@ -108,8 +109,8 @@ impl World {
         Ok(spare)
     }
 
-    /// Segments of the script of this number while it is ready, at most so many, and how many they were. A script that
-    /// isn't ready costs a look at it, and none at all where no segment is left.
+    /// Runs segments of the script of this number while it is ready, at most `most`, and returns how many ran. A script
+    /// that isn't ready costs a look at it, or nothing where no segment is left.
     pub(crate) fn turn(
         &mut self,
         script: u32,

@@ -39,8 +39,10 @@ use lsl_value::{EventId, Text};
 use std::mem::replace;
 
 impl World {
-    /// Does a step, and adds what happened. Where objects are handed over by notes, a crossing carries at most 32 of
-    /// them. After want of memory a part of what happened was added, and the world is given up.
+    /// Does a step, and adds what happened.
+    ///
+    /// Where objects are handed over by notes, a crossing carries at most 32 of them. When out of memory, a part of
+    /// what happened was added, and the world must be discarded.
     pub fn step<L: Link>(
         &mut self,
         step: &Step,
@@ -91,7 +93,7 @@ impl World {
         outcome
     }
 
-    // Does a step, where these are the regions and the cards.
+    /// Does a step, with these regions and cards.
     pub(crate) fn step_by<L: Link>(
         &mut self,
         regions: &Regions,
@@ -142,7 +144,7 @@ impl World {
         }
     }
 
-    // Does a step.
+    /// Does a step.
     pub(crate) fn do_step<L: Link>(
         &mut self,
         step: &Step,
@@ -191,7 +193,7 @@ impl World {
         }
     }
 
-    // The clock goes on, if it is to, and the timers that are due are read.
+    // Advances the clock, if the time is later, and reads the timers that are due.
     fn read_clock(&mut self, time: u64, out: &mut Entries) -> Result<(), NoMemory>
         requires sound { IsSound self.old }
         requires time { time ≤ latest_clock }
@@ -206,7 +208,7 @@ impl World {
         self.read_timers(out)
     }
 
-    // Segments of a script, at most so many.
+    // Runs segments of a script, at most `most`.
     fn go(&mut self, script: u32, most: u32, out: &mut Entries) -> Result<(), NoMemory>
         requires sound { IsSound self.old }
         requires script { HasNumber (length self.old.grid.seats) script }
@@ -224,7 +226,7 @@ impl World {
         Ok(())
     }
 
-    // Gaps are set.
+    // Sets the gaps.
     fn set_gaps(&mut self, gaps: &Gaps) -> Result<(), NoMemory>
         requires sound { IsSound self.old }
         requires gaps { AreGaps gaps.now }
@@ -241,7 +243,7 @@ impl World {
         Ok(())
     }
 
-    // An object crosses to a region over the link, unless it is there.
+    // Sends an object to a region over the link, unless it is there.
     fn cross<L: Link>(
         &mut self,
         object: u32,

@@ -12,7 +12,7 @@ use lsl_post::Due;
 use lsl_region::Grid;
 use lsl_text::NoMemory;
 
-/// The entries of all scripts become what their timers say. Walks the scripts.
+/// Sets the entries of all scripts from their timers. Walks the scripts.
 pub(crate) fn note_timers(grid: &Grid, due: &mut Due) -> Result<(), NoMemory>
     requires numbered { AreNumbered (length grid.now.seats) due.old }
     ensures exact { OnOk result ((codes : List Code) (clock : ℕ) (w : SourceWorld)
@@ -26,7 +26,7 @@ pub(crate) fn note_timers(grid: &Grid, due: &mut Due) -> Result<(), NoMemory>
     Ok(())
 }
 
-/// The entry of the script of this number becomes what its timer says.
+/// Sets the entry of the script of this number from its timer.
 pub(crate) fn note_timer(grid: &Grid, script: u32, due: &mut Due) -> Result<(), NoMemory>
     requires script { HasNumber (length grid.now.seats) script }
     requires numbered { AreNumbered (length grid.now.seats) due.old }

@@ -37,9 +37,9 @@ use lsl_region::{Grid, Pause};
 use lsl_text::NoMemory;
 use std::alloc::Global;
 
-/// The reading of the clock, the objects of a world file, the units of its scripts' files, at which segments scripts
-/// are saved and restored, and when the timers that run are due; the regions that the file names, and where objects
-/// are handed over by notes the cards of all regions.
+/// The state of a world: the reading of the clock, the objects of a world file, and the units of its scripts' files; at
+/// which segments scripts are saved and restored, and when the running timers are due; the regions that the file names,
+/// and where objects are handed over by notes the cards of all regions.
 pub struct World {
     pub(crate) alloc: Global,
     pub(crate) clock: u64,
@@ -51,7 +51,7 @@ pub struct World {
     pub(crate) cards: Option<Field>,
 }
 
-// Takes the world apart in one place: whatever drops a world calls this, and is proved without its fields.
+// Takes the world apart in one place: code that drops a world calls this, and is proved without its fields.
 impl Drop for World {
     fn drop(self) {
         let World {
@@ -68,9 +68,10 @@ impl Drop for World {
 }
 
 impl World {
-    /// The world of a file before its first step. The units are those of its scripts' files, in the order of the
-    /// file's `files`, and the notecards those of its prims. It takes memory for the objects, the scripts and the names
-    /// of the regions.
+    /// The world of a file before its first step.
+    ///
+    /// The units are those of its scripts' files, in the order of the file's `files`, and the notecards those of its
+    /// prims. It takes memory for the objects, the scripts and the names of the regions.
     pub fn start(
         alloc: Global,
         file: &WorldFile,
@@ -143,16 +144,15 @@ impl World {
         &self.units
     }
 
-    /// How many times scripts were saved: at the end of each turn of at least one segment that left its script in
-    /// flight, and behind each pausing segment that left it in flight and ready. It stands still at the greatest
-    /// number.
+    /// The number of times that scripts were saved: at the end of each turn of at least one segment that left its
+    /// script in flight, and after each pausing segment that left it in flight and ready. The count saturates.
     pub fn saves(&self) -> u64
         ensures { (t : Tally) → Counts self.now.pause t → result ≡ min t.saves most_saves }
     {
         self.pause.saves()
     }
 
-    /// Adds the region of each object. After want of memory a part of them was added.
+    /// Adds the region of each object. When out of memory, a part of them was added.
     pub fn homes(&self, out: &mut Entries) -> Result<(), NoMemory>
         ensures { (programs : List Program) (w : SourceWorld) → IsOf programs self.now w
             → Adds result out.old out.new (homes w) }
@@ -161,7 +161,7 @@ impl World {
     }
 }
 
-// What a file says comes to where there is nothing: its objects, when their scripts are due, and its regions.
+// Fills an empty grid from a file: its objects, when their scripts are due, and its regions.
 fn begin(
     alloc: Global,
     file: &WorldFile,

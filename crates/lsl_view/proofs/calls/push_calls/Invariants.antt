@@ -4,7 +4,7 @@ use Rattle.lsl_view.specs.Calls.{shown_frame}
 use Rattle.lsl_view.specs.Lines.{call_line}
 use Rattle.lsl_view.proofs.calls.push_calls.Given as goal
 
--- the lines of so many calls are written
+-- the lines of this many calls are written
 abbrev pub invariant-loop-i : goal.invariant-loop-i
 invariant-loop-i l = record {
   written : l.out.items
