@@ -1,4 +1,4 @@
--- What is posted to the scripts before the one that is out, and to those behind it.
+-- What is posted to the scripts before the one that is out, and to those after it.
 use Rattle.std.proofs.Common.{◌≡◌, ◌≢◌, ℕ, zero, suc, ◌+◌, ◌-◌, ◌<◌, ◌≤◌, Bool, List, ◌++◌, length, refl, ◌∙◌, arith}
 use Rattle.std.specs.Prelude.{if◌then◌else◌, Some, slice_get}
 use Rattle.std.specs.declared.result.Result.{Result}
@@ -19,7 +19,7 @@ use Rattle.lsl_region.specs.Worlds.{Member, World}
 use Rattle.lsl_region.proofs.Away.{elsewhere, other-home}
 use Rattle.lsl_region.proofs.Placed.{stands-length}
 
--- the places before it, and those behind it
+-- the places before it, and those after it
 pub before : (place k : ℕ) → 0 ≤ k → k < place → place ≢ k
 before place k h l e = omega (arith, l, e)
 

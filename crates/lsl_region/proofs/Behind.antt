@@ -1,4 +1,4 @@
--- One thing more stands behind a list.
+-- One thing more at the end of a list.
 use Rattle.std.proofs.Common.{◌≡◌, ℕ, zero, suc, ◌<◌, List, [], ◌∷◌, ◌++◌, length, subst, arith, length-append}
 use Rattle.std.specs.Prelude.{Some, slice_get}
 use Rattle.lsl_region.specs.declared.grid.Seat.{Seat}
@@ -14,7 +14,7 @@ all-more P [] y all one (suc n) x e = absurd cc
 all-more P (z ∷ xs) y all one zero x e = all 0 x e
 all-more P (z ∷ xs) y all one (suc n) x e = all-more P xs y (λ k. all (suc k)) one n x e
 
--- what stood there stands there
+-- what was there is there
 pub get-more : {X : Type 0} (xs : List X) (y : X) (n : ℕ) (x : X) → slice_get xs n ≡ Some x
     → slice_get (xs ++ y ∷ []) n ≡ Some x
 get-more [] y n x e = absurd cc

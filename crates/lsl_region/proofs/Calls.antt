@@ -34,7 +34,7 @@ pub at-home : (r : Rules) (place : ℕ) (m : Member) (args : List Value) (w : Wo
     → home_of id ≡ h → answer_of r place m id args w ≡ answer_at_home h r place m id args w
 at-home r place m args w id h e = ap (λ (k : Home). answer_at_home k r place m id args w) e
 
--- no call of this room is left behind these
+-- no call of this group is left besides these
 pub no-mailing-left : (id : BuiltinId) → is_on_own_mailbox id ≡ true → id ≢ Listen → id ≢ ListenRemove
     → id ≢ ListenControl
     → id ≢ SetTimerEvent → id ≢ Sleep → ⊥
@@ -68,13 +68,12 @@ no-act-left MessageLinked e a b c d f g h = g refl
 no-act-left SetObjectName e a b c d f g h = h refl
 no-act-left id e a b c d f g h = cc
 
--- only a call on the mailbox stops the script that asks
 pub goes-on : (id : BuiltinId) (args : List Value) (listens : Standing) → home_of id ≢ home.Mail
     → stop_for id args listens ≡ None
 goes-on Listen args listens other = absurd (other refl)
 goes-on id args listens other = refl
 
--- what comes of a call on a store has the kind of its result
+-- the result of a call on a store has the kind of its row
 pub change-fits : (id : BuiltinId) (args : List Value) (pairs : List Pair) → home_of id ≡ home.Store
     → Answers id (reply.Value (change_by id args pairs).answer)
 change-fits LinksetDataWrite args pairs e = refl
@@ -82,7 +81,7 @@ change-fits LinksetDataDelete args pairs e = refl
 change-fits LinksetDataReset args pairs e = refl
 change-fits id args pairs e = absurd cc
 
--- and scripts are told of it by no exit of a state
+-- and the event of it isn't an exit of a state
 told-other : (w : Wrote) (name text : List ℕ) → IfSome (told_of w name text) (λ e. is_exit e ≡ false)
 told-other Stored name text = refl
 told-other Deleted name text = refl

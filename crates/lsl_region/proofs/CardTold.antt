@@ -74,7 +74,7 @@ seat-within objects seats place seat p at =
     let few : length q.object.prims ≤ 255 = (p.formed seat.object q.object q.there).few in
     (slice_get_within objects seat.object q.object q.there, omega (arith, q.prim, few))
 
--- the notecard that is found for the prim of a seat
+-- the notecard found for the prim of a seat
 pub found-same : (g h : Contents) (n : ℕ) (x seat : Seat) (number : ℕ) (name : List ℕ) → g ≡ h
     → slice_get g.seats n ≡ Some x → slice_get h.seats n ≡ Some seat
     → number ≡ prims_in (take x.object g.objects) + x.prim + 1
@@ -127,7 +127,7 @@ module _ {codes : List Code} {unit : Code} {clock place : ℕ} {grid : Contents}
         ap (λ e. post_to (rules_of codes) (place + 1) e lent.member.script) event-same
         ∙ to-same codes m (place + 1) told lent.member.script (lent.stands.scripts place lent.member lent.at).known
 
-    -- the script was told
+    -- the script got its event
     pub lent-told : {T E : Type 0} (new : Live) (r : Result T E) (old now : List Entry)
         → Tells r (λ t _. Waits codes unit t f of new) old now
         (post_to (rules_of codes) (place + 1) event lent.member.script)

@@ -1,4 +1,4 @@
--- What it comes to that an object comes with the parts of an image.
+-- The result of the arrival of an object with the parts of an image.
 use Rattle.std.proofs.Common.{◌≡◌, ◌∙◌, sym, ap, subst, ℕ, List, ◌++◌, length}
 use Rattle.std.specs.Prelude.{None}
 use Rattle.std.specs.List.{filter_map}

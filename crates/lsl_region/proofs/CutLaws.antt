@@ -1,4 +1,4 @@
--- A text that is cut is the longest beginning that fits.
+-- A text that is cut is the longest prefix that fits.
 use Rattle.std.proofs.Common.{◌≡◌, ℕ, ◌-◌, ◌≤◌, Bool, List, [], ◌∷◌, ◌++◌, length, refl, ap, ◌∙◌, arith, length-append}
 use Rattle.std.specs.Prelude.{if◌then◌else◌}
 use Rattle.std.specs.Char.{encode_utf8}
@@ -9,7 +9,7 @@ use Rattle.lsl_region.specs.Texts.{cut_to}
 use Rattle.lsl_region.proofs.CutBytes.{behind_cut}
 use Rattle.lsl_region.proofs.Cuts.{cut_short}
 
--- a beginning that fits begins what is kept
+-- a prefix that fits is a prefix of what is kept
 cut_more : (room : ℕ) (first rest : List ℕ) → length (encode_utf8_all first) ≤ room
     → (more : List ℕ) × (cut_to room (first ++ rest) ≡ first ++ more)
 unfolding cut_to

@@ -1,4 +1,4 @@
--- What comes of a script that is out, for one tick more of its flight.
+-- The result of a script that is out, for one tick more of its flight.
 use Rattle.std.proofs.Common.{◌≡◌, ℕ, zero, suc, ◌+◌, ◌-◌, ◌<◌, ◌≤◌, List, [], ◌∷◌, ◌++◌, length, refl, ap, sym, ◌∙◌, subst, append_assoc, append-nil, arith}
 use Rattle.std.specs.Prelude.{Option, Some, slice_get}
 use Rattle.lsl_value.specs.declared.names.BuiltinId.{BuiltinId}
@@ -40,7 +40,7 @@ stands-at unit turn.Ended live s = s
 stands-at unit (turn.Faulted fault) live s = tt
 stands-at unit turn.NoMemory live s = tt
 
--- it is asked for once more
+-- it makes one call more
 asked-more : (r : Rules) (most place : ℕ) (f : Flight) (w : World) (h : Whole)
     → whole_in_flight r (slice_get w.members place) f ≡ h
     → asked r (most + 1) place f w ≡ came r (asked r most place) place f w h
@@ -98,7 +98,7 @@ module _ (codes : List Code) (unit : Code) (clock place : ℕ) (grid : Contents)
         ∙ at-member place (λ (k : Member). failed m.rules (place + 1) k.script fault) w p.member p.at
         ∙ ap (as_value with) (failed_same codes m (place + 1) script fault known)
 
--- What comes of a flight that waits, once it has an answer and others, is told of its machine.
+-- What results from a flight that waits, once it has an answer and others, is the result of its machine.
 waits-told : (codes : List Code) (unit : Code) (s : Script) (f : Flight) (id : BuiltinId) (live : Live)
     → Waits codes unit s f id live → (r : Reply) (replies : List Reply)
     → flight_whole (rules_of codes) s.code s.state f (f.ticks + 1) (f.answers ++ r ∷ replies)
@@ -110,7 +110,7 @@ waits-told codes unit s f id live k r replies =
     ∙ ap (λ (t : ℕ). told (bodies_of unit) (flight_run unit live.handler f t (f.answers ++ r ∷ replies))) z
     ∙ ap (told (bodies_of unit)) (k.run.same 0 r replies)
 
--- one that asked and was answered asks once fewer, whatever was posted to the script meanwhile
+-- one that asked and was answered makes one call fewer, whatever was posted to the script meanwhile
 pub asks-fewer : (codes : List Code) (unit : Code) (s t : Script) (f : Flight) (id of : BuiltinId) (live new : Live)
     (most : ℕ) (r : Reply) → Waits codes unit s f id live → Waits codes unit t f of new → new.machine ≡ live.machine
     → AsksAtMost (rules_of codes) s.code s.state f most
@@ -159,7 +159,7 @@ is-end turn.NoMemory last other = tt
 pub out-of : (o : Option Live) (P : Live → Type 0) (live : Live) → o ≡ Some live → IsOut o P → P live
 out-of o P live e out = subst (λ (x : Option Live). IsOut x P) e out
 
--- it went on to a stop
+-- it continued to a stop
 pub goes-to : (codes : List Code) (unit : Code) (clock place : ℕ) (grid : Contents) (live new : Live) (t : Turn)
     (f : Flight) (most : ℕ) (w : World) (g : GoesOn codes unit clock place grid live f most w)
     → Turns codes unit g.member.script f t new → Paused codes unit clock place grid new t f most w

@@ -50,7 +50,7 @@ sum-some : (gaps : List ℕ) (count : ℕ) → 0 < sum_of_gaps gaps count → 0 
 sum-some gaps zero h = let k = sum-none gaps in absurd (omega (arith, h, k))
 sum-some gaps (suc count) h = omega arith
 
--- up to a greater count the sum is no less
+-- up to a greater count the sum is at least as great
 sum-le : (gaps : List ℕ) (first last : ℕ) → AreGaps gaps → 0 < length gaps → first ≤ last
     → sum_of_gaps gaps first ≤ sum_of_gaps gaps last
 sum-le gaps first last some there h =

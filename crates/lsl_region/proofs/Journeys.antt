@@ -1,4 +1,4 @@
--- A crossing of which came back what was sent is one in the world for which the grid stands.
+-- A crossing that brought back what was sent is one in the world that the grid represents.
 use Rattle.std.proofs.Common.{◌≡◌, ◌∙◌, refl, sym, ap, subst, arith, ℕ, ◌+◌, ◌<◌, suc, zero, Bool, true, false, List, [], ◌∷◌, ◌++◌, length, get_or}
 use Rattle.std.specs.Prelude.{nat_eq, if◌then◌else◌, Some, None, map, slice_get, slice_set}
 use Rattle.std.specs.List.{cons_option, filter_map}
@@ -42,7 +42,7 @@ list-ext {X} (x ∷ xs) (y ∷ ys) h =
     let first : x ≡ y = cc in
     ap (λ (z : X). z ∷ xs) first ∙ ap (λ (zs : List X). y ∷ zs) (list-ext xs ys (λ n. h (suc n)))
 
--- the grid is the one that stands for the world
+-- the grid is the one that represents the world
 pub contents-is : (codes : List Code) (clock : ℕ) (grid : Contents) (w : World) → Stands codes None clock grid w
     → grid ≡ contents_of codes w
 contents-is codes clock grid w st =
@@ -121,7 +121,7 @@ there-is [] n h = absurd (omega arith)
 there-is (x ∷ xs) zero h = (x, refl)
 there-is (x ∷ xs) (suc n) h = there-is xs n (omega arith)
 
--- what becomes of a script in its seat is what becomes of the script
+-- the effect on a script in its seat is the effect on the script
 module _ (codes : List Code) (m : Meant codes) (place : ℕ) (e : Event) (number : ℕ) (one : Member) (unit : Code)
     (has : HasUnit codes one.script.code unit) (known : one.script.code < length codes) where
   abbrev seat : Seat
@@ -154,14 +154,14 @@ module _ (codes : List Code) (m : Meant codes) (place : ℕ) (e : Event) (number
       × ((post_in_seat codes place e number seat).entries ≡ thing.entries)
   told-in-seat = told-own (nat_eq one.object place)
 
--- what is told of the seats from one on stands for what is told of the world
+-- what the seats from one on get represents what the world gets
 record PostsStand (codes : List Code) (clock : ℕ) (grid : Contents) (told : Told (List Seat)) (w : Told World)
     : Type 0 where
   stands : Stands codes None clock (record grid { seats = told.value }) w.value
   entries : told.entries ≡ w.entries
 
 module _ (codes : List Code) (m : Meant codes) (clock place : ℕ) (e : Event) where
-  -- one seat is told
+  -- one seat gets the event
   one-told : (grid : Contents) (w : World) (at : ℕ) (seat : Seat) → Stands codes None clock grid w
       → slice_get grid.seats at ≡ Some seat
       → PostsStand codes clock grid (record {
@@ -194,7 +194,7 @@ module _ (codes : List Code) (m : Meant codes) (clock place : ℕ) (e : Event) w
       (script ∙ t.0, entries ∙ t.1)) in
       record { stands = d.0; entries = d.1 }
 
-  -- all seats from one on are told
+  -- all seats from one on get the event
   seats-told : (left at : ℕ) (grid : Contents) (w : World) → Stands codes None clock grid w
       → at + left ≡ length grid.seats
       → PostsStand codes clock grid (posts_from codes place e at grid.seats)

@@ -21,7 +21,7 @@ use Rattle.lsl_region.proofs.Flying.{goes-to}
 use Rattle.lsl_region.proofs.PausedTurns.{came-more}
 use Rattle.lsl_region.proofs.Stops.{held-flies, held-goes, held-rests, held_most, segment-held, tick-told}
 
--- who isn't awake stays so
+-- a script that isn't awake stays so
 pub ready-still : (stands : Bool) (unit : Code) (n clock place : ℕ) (seats : List Seat) (old new : Option Live)
     → PassesAwake stands unit n old new → IsReadyInTurn clock seats place old → IsReadyInTurn clock seats place new
 ready-still stands unit n clock place seats None None p ready = ready
@@ -40,7 +40,7 @@ one-passed unit n a b e (OneMore k old mid new before one) =
     subst (λ (l : Live). PassesSegment unit l new) (sym (none-passed unit k old mid none before)) one
 
 module _ (codes : List Code) (unit : Code) (clock place : ℕ) (grid : Contents) where
-  -- the script that is held is ready where its time has come
+  -- the script that is held is ready if its time has come
   held-ready : (live : Live) (w : World) → Held codes unit clock place grid live w
       → nat_le live.parts.wake clock ≡ is_ready_at w place
   held-ready live w h =
@@ -126,7 +126,7 @@ module _ (codes : List Code) (unit : Code) (clock place : ℕ) (grid : Contents)
     }
 
     module _ (spent n : ℕ) (fits : spent + n ≤ most) where
-      -- it stands at a tick then
+      -- it is at a tick then
       pub passed-came : (old new : Option Live) → PassesAwake true unit n old new
           → ((v : World) → InTurn codes unit clock place grid old v → is_ready_at v place ≡ true)
           → Far (came old spent) spent → Far (came new (spent + n)) (spent + n)

@@ -1,4 +1,4 @@
--- The scripts of an object are told of something, one seat after another.
+-- The scripts of an object get an event, one seat after another.
 use Rattle.std.proofs.Common.{◌≡◌, ◌∙◌, refl, sym, ap, arith, ℕ, ◌+◌, ◌≤◌, Bool, true, false, List, [], ◌∷◌, ◌++◌, length, take, drop, append-nil, append_assoc}
 use Rattle.std.specs.Prelude.{nat_eq, if◌then◌else◌, Option, Some, None, is_some, slice_get, slice_set}
 use Rattle.std.specs.List.{cons_option, filter_map}
@@ -18,7 +18,7 @@ use Rattle.lsl_region.specs.Crossings.{post_in, post_in_seat, post_in_seats, pos
 use Rattle.lsl_region.specs.ObjectParts.{parts_in_seat, with_unit}
 use Rattle.lsl_region.proofs.Reseating.{drop-here, drop-set, scripts-here, take-set}
 
--- the seats from one on are still to be told
+-- the seats that have yet to get the event
 abbrev pub posts_from : List Code → ℕ → Event → ℕ → List Seat → Told (List Seat)
 posts_from codes place e n seats = record {
   value = take n seats ++ (post_in_seats codes place e (n + 1) (drop n seats)).value;
@@ -134,7 +134,7 @@ post-script-alone codes place e number seat = go (nat_eq seat.object place) seat
     go true (Some parts) is = refl
     go false o is = refl
 
--- a script in its seat is told
+-- a script in its seat gets the event
 post-value : (states : List StateCode) (e : Event) (n : ℕ) (seat : Seat) (o : Option ScriptParts) → seat.script ≡ o
     → record seat { script = option_map (with_posted states e) o } ≡ (post_in states e n seat o).value
 post-value states e n seat None is = sym (ap (λ (z : Option ScriptParts). record seat { script = z }) is)

@@ -1,4 +1,4 @@
--- Lists in strict order: what stands where in them, and an element that is put in or taken out.
+-- Lists in strict order: the place of an element, and an element that is put in or taken out.
 use Rattle.std.proofs.Common.{◌≡◌, ℕ, zero, suc, ◌+◌, ◌<◌, ◌≤◌, Bool, true, false, List, [], ◌∷◌, length, get_or, take, drop, refl, ap, sym, ◌∙◌, arith}
 use Rattle.std.specs.Prelude.{◌||◌, ◌&&◌, not}
 use Rattle.std.specs.Cmp.{IsTotalOrder}

@@ -9,7 +9,7 @@ use Rattle.lsl_region.specs.declared.objects.Primitive.{Primitive}
 use Rattle.lsl_region.specs.Answers.{with_name}
 use Rattle.lsl_region.specs.Grids.{Contents, nameless, outline_of, vacant, without_names}
 
--- one item is another, of which the same is told
+-- an item is replaced by one that agrees in this
 pub map-set_same : {X Y : Type 0} (f : X → Y) (xs : List X) (n : ℕ) (x y : X) → slice_get xs n ≡ Some x → f y ≡ f x
     → map f (slice_set xs n y) ≡ map f xs
 map-set_same f [] n x y at same = absurd cc
@@ -110,7 +110,7 @@ outline-prims old new e =
     sym (prims-counted new.objects) ∙ ap (map (λ (o : Linkset). length o.prims)) (outline-objects old new e)
     ∙ prims-counted old.objects
 
--- the seat at a place is the one that was there, but for its script
+-- the seat at a place is the one that was there, except its script
 pub vacant-read : (old new : List Seat) (n : ℕ) (seat : Seat) → map vacant new ≡ map vacant old
     → slice_get old n ≡ Some seat → (t : Seat) × (slice_get new n ≡ Some t) × (vacant t ≡ vacant seat)
 vacant-read [] new n seat e at = absurd cc

@@ -1,4 +1,4 @@
--- What a crossing over a link comes to in the world for which the grid stands.
+-- The result of a crossing over a link in the world that the grid represents.
 use Rattle.std.proofs.Common.{◌≡◌, ◌≢◌, inl, inr, ◌∙◌, refl, sym, ap, subst, arith, ℕ, Bool, true, false, List, [], ◌∷◌, ◌++◌, length, get_or, take, append-nil}
 use Rattle.std.specs.Prelude.{not, ◌&&◌, if◌then◌else◌, Option, Some, None, MatchResult, OnOk}
 use Rattle.std.specs.Str.{bytes_eq}
@@ -216,7 +216,7 @@ begins-all : (images : List (List ℕ)) (trips : List Trip) → sent_of trips �
 begins-all images trips e =
     record { others = []; whole = append-nil (sent_of trips) ∙ e }
 
--- the object becomes what came back, where the entries behind so many are struck
+-- the effect on the object of what came back, with the entries after the first `before` struck
 pub came : {E : Type 0} (codes : List Code) (place : ℕ) (region there : List ℕ) (old new : Contents)
     (before room after : List Entry) (count : ℕ) (trips : List Trip) (back : List ℕ) (r : Result Crossed E)
     → region_in old place ≢ region → there ≡ region → count ≡ length before → take count room ≡ before
@@ -241,7 +241,7 @@ came codes place region there old new before room after count trips back (Err e)
   begins-all (image_in codes old place ∷ []) trips (ap sent_of one),
 )
 
--- the entries behind so many are struck, unless it moved
+-- the entries after the first `before` are struck, unless it moved
 pub struck : {E : Type 0} (codes : List Code) (place : ℕ) (region : List ℕ) (old new : Contents)
     (before after kept : List Entry) (count : ℕ) (trips : List Trip) (r : Result Crossed E)
     → region_in old place ≢ region → count ≡ length before

@@ -1,4 +1,4 @@
--- Places that are passed over, since no script there is one of those to whom an event is posted.
+-- Places that are passed over, since no script there is in the audience of an event.
 use Rattle.std.proofs.Common.{◌≡◌, ℕ, zero, suc, ◌+◌, ◌-◌, ◌<◌, ◌≤◌, Bool, false, List, [], ◌++◌, get_or, ℤ, refl, ap, sym, ◌∙◌, subst, arith}
 use Rattle.std.specs.Prelude.{if◌then◌else◌, Option, Some, None, slice_get}
 use Rattle.lsl_code.specs.declared.woven_units.Woven.{Woven as Code}
@@ -21,7 +21,7 @@ use Rattle.lsl_region.specs.Worlds.{Member, World, changed_at, prim_of}
 use Rattle.lsl_region.proofs.Placed.{seated-at}
 use Rattle.lsl_region.proofs.Posts.{post-none}
 
--- A walk over numbers goes on from a later one, where nothing is to be done before it.
+-- A walk over numbers continues from a later one, if nothing is to be done before it.
 each-one : {X : Type 0} (thing : ℕ → X → Told X) (count left first : ℕ) → count ≡ suc left → (x : X)
     → each thing count first x ≡ next_to (thing first x) (each thing left (first + 1))
 unfolding each
@@ -73,7 +73,7 @@ walk-from Rel x old thing first end r h = record {
   amid = amid-start Rel x old (each thing (end - first) first) r;
 }
 
--- so many things, and then others
+-- this many things, and then others
 each-both : {X : Type 0} (thing : ℕ → X → Told X) (k n count first to : ℕ) (x : X) → count ≡ k + n → to ≡ first + k
     → each thing count first x ≡ next_to (each thing k first x) (each thing n to)
 unfolding each
@@ -111,7 +111,7 @@ module _ {X : Type 0} (Rel : X → Type 0) (total : Told X) (old now : List Entr
         (each thing (to - first) first) new (λ x r. each-left to x h l) does;
   }
 
-  -- memory lacked while they were done
+  -- memory ran out while they were done
   pub walk-stops : (new : List Entry) (to : ℕ) → first ≤ to → to ≤ end
       → ((x : X) → Rel x → Part now new (each thing (to - first) first x).entries) → Part old new total.entries
   walk-stops new to h l does =

@@ -20,7 +20,7 @@ use Rattle.lsl_region.specs.Turning.{InTurn}
 use Rattle.lsl_region.specs.Worlds.{World}
 use Rattle.lsl_region.proofs.Gaps.{pausing-empty}
 
--- what is done again and again, at most once more, goes on from where it came to, unless it stops there
+-- what is done again and again, at most once more, continues from where it was, unless it stops there
 until-last : {X : Type 0} (stops : X → Bool) (thing : X → Told X) (n : ℕ) (x : X)
     → stops (until stops thing n x).value ≡ false
     → (until stops thing (suc n) x).value ≡ (thing (until stops thing n x).value).value
@@ -158,7 +158,7 @@ module _ (codes : List Code) (unit : Code) (clock place : ℕ) (grid : Contents)
   tells-behind (Err e) old new a d = d
 
   module _ (live : Option Live) where
-    -- at a turn's beginning
+    -- at a turn's start
     pub came-first : (w : World) → live ≡ None → Stands codes None clock grid w
         → CameTo codes unit clock place grid live (w, 0) 0
     came-first w none st = (
@@ -167,7 +167,7 @@ module _ (codes : List Code) (unit : Code) (clock place : ℕ) (grid : Contents)
       ap is_some none,
     )
 
-    -- behind one segment more
+    -- after one segment more
     pub came-more : (v : World) (n count : ℕ) → count ≡ n → IsBehind codes unit clock place grid live v
         → CameTo codes unit clock place grid live (v, n + 1) (count + 1)
     came-more v n count e d =

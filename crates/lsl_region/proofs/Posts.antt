@@ -53,7 +53,7 @@ admits-is codes away clock grid w a seat m st is =
     st.objects
 
 module _ (r : Rules) (a : Audience) (e : Event) (n : ℕ) (w : World) (m : Member) where
-  -- what becomes of a script that is one of them, or isn't
+  -- the effect on a script that is one of them, or isn't
   abbrev pub thing : Told Script
   thing = if admits a w m then post_to r (n + 1) e m.script else quiet m.script
 

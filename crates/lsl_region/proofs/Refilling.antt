@@ -102,7 +102,7 @@ home-reseated place (seat ∷ seats) scripts e home (suc n) s at =
     (units-next scripts (filter_map (parts_in_seat place) seats) (parts_in_seat place seat) e)
     (λ k t there. home (suc k) t there) n s at
 
--- the seats are as they were, but for their scripts
+-- the seats are unchanged, except for their scripts
 vacant-one : (seat : Seat) (o : Option ScriptParts) (scripts : List ScriptParts)
     → vacant (with_first seat o scripts) ≡ vacant seat
 vacant-one seat None scripts = refl

@@ -99,7 +99,7 @@ pub one-there : {X : Type 0} (o : Option X) → is_some o ≡ true → length (o
 one-there (Some x) e = refl
 one-there None e = absurd cc
 
--- a seat whose script isn't one of the object
+-- a seat without a script of the object
 pub seat-other : (place : ℕ) (seats : List Seat) (n : ℕ) (seat : Seat) (scripts : List ScriptParts)
     → slice_get seats n ≡ Some seat → is_some (parts_in_seat place seat) ≡ false
     → seats ≡ slice_set seats n (with_first seat (parts_in_seat place seat) scripts)
@@ -113,7 +113,7 @@ pub behind-other : (o : Option ScriptParts) (scripts : List ScriptParts) → is_
 behind-other None scripts e = refl
 behind-other (Some parts) scripts e = absurd cc
 
--- one whose script is, where another is left, or none
+-- a seat with one, where another is left, or none
 pub seat-own : (seat : Seat) (o : Option ScriptParts) (script : ScriptParts) (scripts all : List ScriptParts)
     → is_some o ≡ true → all ≡ script ∷ scripts → record seat { script = Some script } ≡ with_first seat o all
 seat-own seat (Some parts) script scripts all own e =

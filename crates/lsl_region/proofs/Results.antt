@@ -23,7 +23,7 @@ pub IfOk-map : {T E : Type 0} (r : Result T E) (P Q : T → Type 0) → ((t : T)
 IfOk-map (Ok x) P Q f p = f x p
 IfOk-map (Err e) P Q f p = p
 
--- nothing was told, and the answer is that of a value
+-- nothing was reported, and the answer is that of a value
 pub tells-quiet : {T E X : Type 0} (r : Result T E) (Rel : X → T → Type 0) (x : X) (old : List Entry)
     → IfOk r (Rel x) → Tells r Rel old old (quiet x)
 tells-quiet (Ok t) Rel x old p = (p, sym (append-nil old))

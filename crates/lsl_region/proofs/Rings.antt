@@ -58,7 +58,7 @@ rings-same codes m away clock grid w st n = go (slice_get w.members n) refl wher
       (to-same codes m (n + 1) timer_event (record u.script { mailbox = timer_read w.clock u.script.mailbox })
       (st.scripts n u k).known)
 
--- the script that stands at a place, and its parts
+-- the script at a place, and its parts
 pub record Home (codes : List Code) (w : World) (n : ℕ) (seats : List Seat) : Type 0 where
   pub member : Member
   pub at : slice_get w.members n ≡ Some member

@@ -53,7 +53,7 @@ entries-have n (r ∷ rs) c (suc k) e =
     ∙ or-true (has_entry (map (λ d. heard d n) r) (heard c ((n + 1) + k)))
     (has_entry (entries (n + 1) rs) (heard c ((n + 1) + k))) (entries-have (n + 1) rs c k e)
 
--- there are no more than so many for each row
+-- there are at most this many for each row
 pub table-few : (rows : List (List ℤ)) (table : List ChannelEntry) (capacity : ℕ) → IsTable rows table capacity
     → length table ≤ most_channels * length rows
 table-few rows table capacity t =

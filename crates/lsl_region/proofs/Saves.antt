@@ -1,4 +1,4 @@
--- A script that is saved and restored in the midst of a turn.
+-- A script that is saved and restored in the middle of a turn.
 use Rattle.std.proofs.Common.{◌≡◌, ℕ, ◌+◌, Bool, true, false, List, subst}
 use Rattle.std.specs.Prelude.{◌&&◌, Some}
 use Rattle.lsl_code.specs.declared.woven_units.Woven.{Woven as Code}
@@ -12,7 +12,7 @@ use Rattle.lsl_region.specs.TurnEnds.{IsBehind}
 use Rattle.lsl_region.specs.Worlds.{World}
 use Rattle.lsl_region.proofs.Gaps.{counts-quiet}
 
--- A script that was paused is behind its segment as before.
+-- A script that was paused is after its segment as before.
 pub paused-behind : (codes : List Code) (unit : Code) (clock place : ℕ) (grid : Contents) (w : World) (live : Live)
     (room : ℕ) → IsBehind codes unit clock place grid (Some live) w
     → IsBehind codes unit clock place grid (Some (with_room live room)) w
@@ -29,14 +29,14 @@ paused-behind codes unit clock place grid w live room d = (
 
 -- What is counted of a segment.
 module _ (c : Cursor) (t : Tally) (place : ℕ) (w : World) where
-  -- where it was no pausing one
+  -- where it wasn't a pausing one
   pub counted-on : false ≡ is_pausing t.gaps (t.passed + 1) → Counts c (with_segment t)
       → Counts c (counted_segment place w t)
   counted-on e k =
       subst (λ (b : Bool). Counts c (with_save (b && goes_on_at w place) (with_segment t))) e
       (counts-quiet c (with_segment t) k)
 
-  -- where the script couldn't go on
+  -- where the script couldn't continue
   pub counted-stopped : true ≡ is_pausing t.gaps (t.passed + 1) → false ≡ goes_on_at w place
       → Counts c (with_segment t) → Counts c (counted_segment place w t)
   counted-stopped e f k =

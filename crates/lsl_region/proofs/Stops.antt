@@ -1,4 +1,4 @@
--- What becomes of the grid and the world where a segment begins and where it stops.
+-- The effect on the grid and the world where a segment begins and where it stops.
 use Rattle.std.proofs.Common.{◌≡◌, ℕ, ◌+◌, true, false, List, [], ◌∷◌, ◌++◌, refl, ap, sym, ◌∙◌, subst, append_assoc, append-nil}
 use Rattle.std.specs.Prelude.{Option, Some, None, slice_get}
 use Rattle.lsl_running.specs.declared.ends.Fault.{Fault}
@@ -216,7 +216,7 @@ stands-settled codes unit clock place grid live w h script is seat sits =
     (stands-back codes clock place grid w h.member s seat h.at sits refl h.stands
     (rests_lawful codes unit s h.flight live h.rests)))
 
--- the flight of the script at a place is asked for
+-- the flight of the script at a place is continued
 flown-is : (r : Rules) (place : ℕ) (v : World) (u : Member) (f : Flight) → slice_get v.members place ≡ Some u
     → u.script.doing ≡ Flying f
     → flown_in r place v (slice_get v.members place) ≡ asked r (r.most u.script.code + 1) place f v

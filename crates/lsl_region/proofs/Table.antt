@@ -1,4 +1,4 @@
--- The order of what is heard, and what stands next in a table.
+-- The order of what is heard, and what is next in a table.
 use Rattle.std.proofs.Common.{◌≡◌, ◌≢◌, ℕ, ◌<◌, ◌≤◌, ◌⊎◌, inl, inr, Bool, true, false, List, length, get_or, ℤ, refl, ap, sym, ◌∙◌, subst, arith}
 use Rattle.std.specs.Prelude.{◌&&◌, ◌||◌, ◌<ℤ◌, if◌then◌else◌, not, MatchResult, Some, Result, Ok, Err, slice_get}
 use Rattle.std.specs.Cmp.{IsTotalOrder, int_ranks, tied_then}
@@ -84,7 +84,7 @@ searched table h (Err at) o b p =
     let q = p (searchable heard_order order-total table h o) in
     record { within = b; before = q.0; behind = q.1 }
 
--- an entry that is in the table stands somewhere in it
+-- an entry that is in the table has a place in it
 pub record Stands (table : List ChannelEntry) (h : ChannelEntry) : Type 0 where
   pub at : ℕ
   pub within : at < length table
@@ -147,7 +147,7 @@ module _ (table : List ChannelEntry) (h : ChannelEntry) (at : ℕ) (stands : Sta
   pub noted-before : (q : ChannelEntry) → has_entry table q ≡ (has_entry table q || same_heard q h)
   noted-before q = stands-of q (same_heard q h) refl
 
--- what comes next in the table, behind where an entry belongs
+-- what comes next in the table, after where an entry belongs
 module _ (table : List ChannelEntry) (ordered : IsOrdered table) (channel : ℤ) (from at : ℕ)
     (belongs : BelongsAt table (heard channel from) at) where
   abbrev next : ℕ
@@ -178,7 +178,7 @@ module _ (table : List ChannelEntry) (ordered : IsOrdered table) (channel : ℤ)
     next-there : int_eq x.channel channel ≡ true → next ≡ x.place
     next-there e = next-is ∙ ap (λ (b : Bool). if b then x.place else no_place) e
 
-    -- no entry on the channel stands between
+    -- no entry on the channel is between
     between : (place k : ℕ) → at < k → k < length table → get_or table k (heard channel place) ≡ heard channel place
         → place < next → ⊥
     between place k l m e n =
@@ -198,7 +198,7 @@ module _ (table : List ChannelEntry) (ordered : IsOrdered table) (channel : ℤ)
               absurd (omega (arith, a.1, to, n))
         ]
 
-    -- nor does it stand here at a place before the next
+    -- nor is it here at a place before the next
     here-passed : (place : ℕ) → get_or table at (heard channel place) ≡ heard channel place → place < next → ⊥
     here-passed place e n =
         let same : x ≡ heard channel place = sym (get_or_from_slice_get table at x (heard channel place) is) ∙ e in

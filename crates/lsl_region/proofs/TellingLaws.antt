@@ -1,4 +1,4 @@
--- What calls are told.
+-- What calls answer.
 use Rattle.std.proofs.Common.{◌≡◌, ℕ, zero, suc, ◌<◌, Bool, true, false, List, length, refl, ap, ◌∙◌, subst, arith}
 use Rattle.std.specs.Prelude.{ℤ, pos, negsuc, ◌-◌, nat_le, if◌then◌else◌, Option, Some, None, is_some, slice_get}
 use Rattle.std.specs.Ordering.{int_eq}
@@ -85,7 +85,7 @@ negative-none a (suc (suc zero)) e = none-told a (negsuc 2) refl
 negative-none a (suc (suc (suc zero))) e = absurd (e refl)
 negative-none a (suc (suc (suc (suc n)))) e = none-told a (negsuc (suc (suc (suc (suc n))))) refl
 
--- what is told of a toucher, or of nobody
+-- what is answered of a toucher, or of nobody
 abbrev TellsOf : Asker → ℤ → Option Toucher → Type 0
 TellsOf a n o =
     (Some (value.Key (detected_key (if int_eq n (pos 0) then a.toucher else None))) ≡ Some (value.Key (detected_key o)))
@@ -116,7 +116,7 @@ untouched a n e = tells-of a n None (go (int_eq n (pos 0))) where
   go true = e
   go false = refl
 
--- of a call that is only to be told something
+-- of a call that only reads
 abbrev if_query : Home → Bool → Bool
 if_query home.Query is = is
 if_query _ is = true

@@ -1,4 +1,4 @@
--- A grid whose objects have the parts of a world's stands for that world.
+-- A grid with objects that have the parts of a world's represents that world.
 use Rattle.std.proofs.Common.{◌≡◌, ◌∙◌, refl, sym, ap, subst, arith, ℕ, ◌<◌, suc, zero, Bool, true, false, List, [], ◌∷◌, length, get_or}
 use Rattle.std.specs.Prelude.{if◌then◌else◌, Option, Some, None, map, slice_get}
 use Rattle.std.specs.List.{cons_option, filter_map}
@@ -35,7 +35,7 @@ same-prims (p ∷ ps) (q ∷ qs) keys names =
     let called : map name_of ps ≡ map name_of qs = cc in
     ap (λ (z : Primitive). z ∷ ps) one ∙ ap (λ (zs : List Primitive). q ∷ zs) (same-prims ps qs others called)
 
--- what parts tell of two objects is the same
+-- two objects have the same parts
 record AreLike (x y : Linkset) : Type 0 where
   region : x.region ≡ y.region
   names : map name_of x.prims ≡ map name_of y.prims
@@ -126,7 +126,7 @@ fixed-within g h e within j s at =
     let same : read.0.object ≡ s.object = ap (λ (z : Seat). z.object) read.2 in
     omega (arith, within j read.0 read.1, same, fixed-count g h e)
 
--- two grids of which the same stays, and whose objects have the same parts
+-- two grids of which the same stays, and with objects of the same parts
 module _ (g h : Contents) (fixed : fixed_of g ≡ fixed_of h) (parts : placed_in g ≡ placed_in h) where
   at-place : (k : ℕ) → k < length g.objects → placed_at g k ≡ placed_at h k
   at-place k lt =
@@ -150,7 +150,7 @@ module _ (g h : Contents) (fixed : fixed_of g ≡ fixed_of h) (parts : placed_in
       let cards : g.cards ≡ h.cards = ap (λ (z : Contents). z.cards) fixed in
       λ i. record { objects = objects i; seats = seats i; cards = cards i }
 
--- the scripts of a world are in the seats of the grid that stands for it
+-- the scripts of a world are in the seats of the grid that represents it
 module _ (codes : List Code) where
   pub members-home : (members : List Member) → AreHome (map (seat_of codes false) members)
   members-home [] n s at = absurd cc

@@ -38,7 +38,7 @@ pub row-kept : (rows : List (List ℤ)) (seats : List Seat) (n : ℕ) (t : Seat)
     → HasRow (get_or rows n []) t.script → HaveRows rows seats → HaveRows rows (slice_set seats n t)
 row-kept rows seats n t there has old = row-set rows rows seats n t there refl (λ k e. refl) has old
 
--- a script comes back, and its channels are told
+-- a script comes back, with its channels
 pub row-told : (rows new : List (List ℤ)) (seats : List Seat) (n : ℕ) (t : Seat) (row : List ℤ)
     → n < length seats → new ≡ slice_set rows n row → HasRow row t.script → HaveRows rows seats
     → HaveRows new (slice_set seats n t)
@@ -49,7 +49,7 @@ row-told rows new seats n t row there told is old =
     (subst (λ (row : List ℤ). HasRow row t.script)
     (sym (get_or-set_same rows n row [] (omega (arith, there, old.count)))) is) old)
 
--- room for one seat more, which is told
+-- reserving for one seat more, and adding its row
 module _ (rows : List (List ℤ)) (seats : List Seat) (row : List ℤ) (old : HaveRows rows seats) where
   abbrev pub told : List (List ℤ)
   told = slice_set (rows ++ [] ∷ []) (length seats) row

@@ -1,4 +1,4 @@
--- Who handles a touch, and what its three events make of a world.
+-- Who handles a touch, and the effect of its three events on a world.
 use Rattle.std.proofs.Common.{◌≡◌, ℕ, suc, ◌+◌, ◌<◌, Bool, true, false, List, ◌++◌, length, drop, get_or, refl, ap, sym, ◌∙◌, subst, arith}
 use Rattle.std.specs.Prelude.{◌&&◌, ◌||◌, nat_eq, Option, Some, None, is_some, slice_get}
 use Rattle.std.specs.List.{list_any}

@@ -79,7 +79,7 @@ abbrev pub says : Rules → ℕ → Voice → Member → List Value → World �
 says r place how m args w =
     replied nothing (said_by r place how (prim_of w m) (integer_at 0 args) (cut_speech (text_at 1 args)) w)
 
--- asleep until so many seconds from now, or until now
+-- asleep until this many seconds from now, or until now
 abbrev pub wake_after : ℤ → ℕ → ℕ
 wake_after (pos seconds) clock = clock + 1000 * seconds
 wake_after (negsuc n) clock = clock
@@ -90,7 +90,7 @@ prims_count w m = length (object_of w m).prims
 abbrev pub own_link : World → Member → ℕ
 own_link w m = link_of (prims_count w m) m.prim
 
--- one listen more; the script stops where as many stand as can
+-- one listen more; the script stops if it has as many as it can
 abbrev pub listened_reply : Option (ℤ × Standing) → Reply
 listened_reply None = reply.Stop TooManyListens
 listened_reply (Some (number, listens)) = gives (value.Int number)
@@ -119,7 +119,7 @@ mailed id args clock s = (s, nothing)
 abbrev pub with_mailed : ℕ → Member → Script × Reply → World → Answered
 with_mailed place m done w = quiet (with_member w place (record m { script = done.0 }), done.1)
 
--- a message goes to the scripts of the prims of the sender's object, which has so many, that the number names
+-- a message goes to the scripts of the prims of the sender's object, which has `count`, that the number names
 abbrev pub is_message_to : ℕ → Member → ℤ → World → Member → Bool
 is_message_to count sender number w m =
     nat_eq m.object sender.object && is_for count sender.prim number m.prim
@@ -145,7 +145,7 @@ renamed w m name =
     let o = object_of w m in
     with_object w m.object (record o { prims = with_name o.prims m.prim name })
 
--- who touched, where the event in hand is a touch and is asked for at place 0
+-- the toucher, if the current event is a touch and place 0 is asked for
 abbrev pub toucher_in_hand : Doing → Option Toucher
 toucher_in_hand Resting = None
 toucher_in_hand (Flying f) = f.event.toucher
@@ -166,7 +166,8 @@ abbrev pub detected_link : Option Toucher → ℤ
 detected_link None = pos 0
 detected_link (Some t) = t.link
 
--- what a call is only told: the script is in this prim of this object, has this name and this toucher in hand
+-- the answer of a call that only reads: the script is in this prim of this object, and has this name and this current
+-- toucher
 abbrev pub value_of_query : Linkset → (prim : ℕ) → (name : List ℕ) → (clock : ℕ) → Option Toucher → BuiltinId → List Value
     → Option Value
 value_of_query o prim name clock toucher GetOwner args = Some (value.Key o.owner)
@@ -218,7 +219,7 @@ is_on_own_mailbox id = is_on_own_mailbox_at (home_of id)
 abbrev pub message_of : World → Member → List Value → Event
 message_of w m args = message_event (pos (own_link w m)) (integer_at 1 args) (text_at 2 args) (text_at 3 args)
 
--- which pairs a store has after a call, and what comes of it
+-- which pairs a store has after a call, and the result
 abbrev pub pairs_by : BuiltinId → List Value → List Pair → List Pair
 pairs_by LinksetDataWrite args pairs = written pairs (text_at 0 args) (text_at 1 args)
 pairs_by LinksetDataDelete args pairs = deleted pairs (text_at 0 args)
@@ -236,12 +237,12 @@ change_by id args pairs = no_change
 abbrev pub with_store : World → Member → List Pair → World
 with_store w m pairs = with_object w m.object (record (object_of w m) { store = pairs })
 
--- all scripts of an object are told, if of anything
+-- all scripts of an object get the event, if there is one
 abbrev pub told_by : Rules → ℕ → Option Event → World → Told World
 told_by r object None w = quiet w
 told_by r object (Some e) w = post_object r object e w
 
--- the store of the member's object is changed, and then its scripts are told, the one that asks too
+-- the store of the member's object is changed, and then its scripts get an event, the one that asks too
 abbrev pub stored : Rules → Member → BuiltinId → List Value → World → Answered
 stored r m id args w =
     let pairs = (object_of w m).store in
@@ -260,7 +261,7 @@ line_asked id args = Some None
 abbrev pub card_asked : World → Member → List Value → Option ℕ
 card_asked w m args = card_of w.cards w.objects m.object m.prim (text_at 0 args)
 
--- the script that asks is told, and the call is answered with the query's key
+-- the script that asks gets an event, and the call is answered with the query's key
 abbrev pub queried : Rules → ℕ → Option ℕ → Option (Option ℕ) → World → Answered
 queried r place None asked w = quiet (w, gives (value.Key null_key))
 queried r place (Some card) None w = quiet (w, gives (value.Key null_key))

@@ -35,13 +35,12 @@ touch_held t = record { id = event.Touch; args = value.Int (pos 1) ∷ []; touch
 abbrev pub touch_end : Toucher → Event
 touch_end t = record { id = event.TouchEnd; args = value.Int (pos 1) ∷ []; toucher = Some t; fits = refl }
 
--- a state of the script has a handler of a touch, whether the script is alive or not
 abbrev pub handles_touch : Rules → Member → Bool
 handles_touch r m =
     handles r m.script.code m.script.state event.TouchStart || handles r m.script.code m.script.state event.Touch
     || handles r m.script.code m.script.state event.TouchEnd
 
--- the prim whose scripts a touch is for: the root's, where no script of the touched prim handles a touch
+-- the prim that receives a touch: the root if no script of the touched prim handles a touch
 abbrev pub touched_prim : Rules → World → ℕ → ℕ → ℕ
 touched_prim r w object prim =
     if list_any (λ m. is_in_prim object prim w m && handles_touch r m) w.members then prim else 0

@@ -27,7 +27,6 @@ abbrev pub spoken : Rules → ℕ → Voice → Primitive → ℤ → List ℕ �
 spoken r place how prim channel text w =
     lead (entry.Chat (place + 1) how channel text ∷ []) (said_to_all r (filter channel prim.name prim.key text) w)
 
--- a call says its text in this voice
 abbrev pub SpeaksAs : BuiltinId → Voice → Type 0
 SpeaksAs id how =
     (r : Rules) (place : ℕ) (m : Member) (prim : Primitive) (channel : ℤ) (text : List ℕ) (w : World)
@@ -41,7 +40,7 @@ OwnersAreTold =
     → answer_of r place m builtin.OwnerSay (value.Str text ∷ []) w
     ≡ record { value = (w, nothing); entries = entry.Owner (place + 1) (cut_speech text) ∷ [] }
 
--- a prim that is named has the name, cut, and its key still
+-- a prim that is named has the name, cut, and keeps its key
 abbrev pub PrimsAreNamed : Type 0
 PrimsAreNamed =
     (r : Rules) (place : ℕ) (m : Member) (prim : Primitive) (text : List ℕ) (w : World) → IsPrimOf w m prim

@@ -15,7 +15,7 @@ pub record TellsOfRegion (e : Event) : Type 0 where
   pub changed : e.id ≡ Changed
   pub flag : e.args ≡ constant_value_of ChangedRegion ∷ []
 
--- the object is there, all others are where they were, and then its scripts are told by one event
+-- the object is there, all others are where they were, and then its scripts get one event
 pub record IsMove (r : Rules) (place : ℕ) (region : List ℕ) (w there : World) (e : Event) : Type 0 where
   pub moved : (object_at there place).region ≡ region
   pub others : (other : ℕ) → other ≢ place → object_at there other ≡ object_at w other

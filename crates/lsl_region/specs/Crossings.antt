@@ -1,4 +1,4 @@
--- An object crosses to another region: its image is handed to a link, and it goes on as what comes back stands for.
+-- An object crosses to another region: its image is sent over a link, and the object continues as what comes back says.
 use Rattle.std.specs.Prelude.{◌≡◌, ◌≢◌, ℕ, ◌+◌, pos, nat_eq, if◌then◌else◌, List, [], ◌∷◌, ◌++◌, length, map, OnOk, Option, Some, None, slice_get, slice_set, take}
 use Rattle.std.specs.declared.result.Result.{Result}
 use Rattle.std.specs.Str.{bytes_eq}
@@ -35,7 +35,7 @@ states_of (Some unit) = unit.states
 abbrev pub states_in : List Code → ℕ → List StateCode
 states_in codes unit = states_of (slice_get codes unit)
 
--- what becomes of an event for the script in a seat
+-- the effect of an event on the script in a seat
 abbrev pub posted_in : List StateCode → Event → Option ScriptParts → Posted
 posted_in states e None = Unheard
 posted_in states e (Some parts) = posted_to states e parts
@@ -48,26 +48,26 @@ post_in states e number seat (Some parts) = record {
   entries = entries_of_posting number (posted_to states e parts);
 }
 
--- where it is one of this object
+-- if it is one of this object
 abbrev pub post_in_seat : List Code → ℕ → Event → (number : ℕ) → Seat → Told Seat
 post_in_seat codes place e number seat =
     if nat_eq seat.object place then post_in (states_in codes seat.unit) e number seat seat.script else quiet seat
 
--- to all scripts of the object, whose numbers are from this one on
+-- to all scripts of the object, numbered from this one on
 abbrev pub post_in_seats : List Code → ℕ → Event → (number : ℕ) → List Seat → Told (List Seat)
 post_in_seats codes place e number [] = quiet []
 post_in_seats codes place e number (seat ∷ seats) =
     next_to (post_in_seat codes place e number seat)
     (λ s. as_value (λ others. s ∷ others) (post_in_seats codes place e (number + 1) seats))
 
--- the event that tells scripts that their object is in another region
+-- the event of an object that is in another region
 abbrev pub region_changed : Event
 region_changed = changed_event (pos 256)
 
 abbrev pub region_in : Contents → ℕ → List ℕ
 region_in grid place = (object_in_grid grid place).region
 
--- what is handed to the link: the image of the object at this place, as it is
+-- what is sent over the link: the image of the object at this place, as it is
 abbrev pub image_in : List Code → Contents → ℕ → List ℕ
 image_in codes grid place = object_image 2 (region_in grid place) codes (parts_of_object grid place)
 
@@ -76,7 +76,7 @@ abbrev pub images_to : List Code → Contents → ℕ → List ℕ → List (Lis
 images_to codes grid place region =
     if bytes_eq (region_in grid place) region then [] else image_in codes grid place ∷ []
 
--- the object has these parts, in this region, and then its scripts are told of it
+-- the object has these parts, in this region, and then its scripts get the event
 abbrev pub arrived : List Code → Contents → ℕ → List ℕ → ObjectParts → Told Contents
 arrived codes grid place region parts =
     let there = in_region (with_parts grid place parts) place region in
@@ -117,7 +117,7 @@ pub record CanArrive (codes : List Code) (grid : Contents) (place : ℕ) (parts 
   pub valid : IsObject codes parts
   pub shape : shape_of parts ≡ shape_of (parts_of_object grid place)
 
--- the entries, without those that were put behind the first so many in case the object moves
+-- the entries, without those that were added after the first `before` in case the object moves
 abbrev pub kept_entries : Crossed → ℕ → List Entry → List Entry
 kept_entries Moved count entries = entries
 kept_entries (Stayed why) count entries = take count entries
@@ -128,7 +128,7 @@ pub record Stays (old new : Contents) (before after : List Entry) : Type 0 where
   pub same : new ≡ old
   pub silent : after ≡ before
 
--- these bytes came back: an image of the object, which stands for these parts, or bytes with this first fault
+-- these bytes came back: an image of the object, with these parts, or bytes with this first fault
 abbrev pub Brings : List Code → Contents → ℕ → ObjectParts → List ℕ → Type 0
 Brings codes grid place parts back =
     ObjectImage (region_in grid place) (shape_of (parts_of_object grid place)) codes parts back
@@ -137,11 +137,11 @@ abbrev pub BringsFault : List Code → Contents → ℕ → ImageFault → List 
 BringsFault codes grid place fault back =
     ObjectFirst (region_in grid place) (shape_of (parts_of_object grid place)) codes back fault
 
--- what is handed to the link is an image of the object as it is
+-- what is sent over the link is an image of the object as it is
 abbrev pub IsSent : List Code → Contents → ℕ → Type 0
 IsSent codes grid place = Brings codes grid place (parts_of_object grid place) (image_in codes grid place)
 
--- what becomes of the object where these bytes came back
+-- the effect on the object if these bytes came back
 abbrev pub ComesOf : List Code → ℕ → List ℕ → (old new : Contents) → (before after : List Entry) → List ℕ → Crossed
     → Type 0
 ComesOf codes place region old new before after back Here = ⊥
@@ -152,11 +152,11 @@ ComesOf codes place region old new before after back Moved =
     (parts : ObjectParts) × Brings codes old place parts back × (new ≡ (arrived codes old place region parts).value)
     × (after ≡ before ++ (arrived codes old place region parts).entries)
 
--- one trip of this image, of which that came back
+-- one trip of this image, which brought that back
 abbrev pub IsOneTrip : List Trip → List ℕ → Option (List ℕ) → Type 0
 IsOneTrip trips sent back = trips ≡ record { sent = sent; back = back } ∷ []
 
--- what becomes of the object at this place that is to cross to this region, by the trips that it made
+-- the effect on the object at this place that is to cross to this region, by the trips that it made
 abbrev pub CrossesAs : List Code → ℕ → List ℕ → (old new : Contents) → (before after : List Entry) → List Trip → Crossed
     → Type 0
 CrossesAs codes place region old new before after trips Here =

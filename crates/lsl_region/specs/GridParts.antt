@@ -23,7 +23,7 @@ placed_in grid = map (placed_at grid) (range_with_len 0 (length grid.objects))
 abbrev pub lasting : Linkset → Linkset
 lasting object = record { owner = object.owner; region = []; prims = map nameless object.prims; store = [] }
 
--- what stays: the objects but for their regions, their stores and their prims' names, and the seats but for their
+-- what stays: the objects without their regions, their stores and their prims' names, and the seats without their
 -- scripts
 abbrev pub fixed_of : Contents → Contents
 fixed_of grid = record { objects = map lasting grid.objects; seats = map vacant grid.seats; cards = grid.cards }

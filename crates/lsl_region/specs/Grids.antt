@@ -1,4 +1,4 @@
--- What a grid has, and the world for which it stands, also while one script is out of it.
+-- What a grid has, and the world that it represents, also while one script is out of it.
 use Rattle.std.specs.Prelude.{◌≡◌, ℕ, ◌<◌, ◌≤◌, Bool, true, false, nat_eq, List, [], length, map, Option, Some, None, get_or, slice_get, slice_set, All}
 use Rattle.std.specs.Option.{option_map}
 use Rattle.lsl_value.specs.declared.names.BuiltinId.{BuiltinId}
@@ -30,7 +30,7 @@ pub record Contents : Type 0 where
   pub seats : List Seat
   pub cards : List Notecard
 
--- a prim without its name, an object without its store whose prims have no names, and a seat whose script is out
+-- a prim without its name, an object without its store and its prims' names, and a seat without its script
 abbrev pub nameless : Primitive → Primitive
 nameless prim = record { key = prim.key; name = [] }
 
@@ -47,7 +47,7 @@ abbrev pub vacant : Seat → Seat
 vacant seat =
     record { object = seat.object; prim = seat.prim; name = seat.name; unit = seat.unit; script = None }
 
--- what stays whatever scripts do: the objects but for their stores and their prims' names, and the seats but for their
+-- what stays whatever scripts do: the objects without their stores and their prims' names, and the seats without their
 -- scripts
 unfoldable pub outline_of : Contents → Contents
 outline_of grid = record { objects = map without_names grid.objects; seats = map vacant grid.seats; cards = grid.cards }
@@ -67,7 +67,7 @@ prim_in objects seat = prim_at (object_in objects seat).prims seat.prim
 abbrev pub key_in : List Linkset → Seat → List ℕ
 key_in objects seat = (prim_in objects seat).key
 
--- a message with these arguments goes from this seat's prim, whose object has so many
+-- a message with these arguments goes from this seat's prim, in an object of `count` prims
 abbrev pub linked_to : ℕ → Seat → List Value → Audience
 linked_to count seat args = Linked seat.object count seat.prim (integer_at 0 args)
 
@@ -87,14 +87,14 @@ stored_grid grid seat pairs =
 abbrev pub HasKey : Primitive → Type 0
 HasKey prim = is_valid_key prim.key ≡ true
 
--- an object has a root, so many prims at most, each with a key, and a store in order: so it can be written as an image
+-- an object has a root, at most `most` prims, each with a key, and a store in order: so it can be written as an image
 pub record IsFormed (object : Linkset) : Type 0 where
   pub rooted : 0 < length object.prims
   pub few : length object.prims ≤ 255
   pub keyed : All HasKey object.prims
   pub stored : IsStore object.store
 
--- so many objects and scripts there are at most
+-- there are at most this many objects and scripts
 pub record ArePlaced (objects : List Linkset) (seats : List Seat) : Type 0 where
   pub few_objects : length objects ≤ 64
   pub formed : (n : ℕ) (o : Linkset) → slice_get objects n ≡ Some o → IsFormed o
@@ -148,7 +148,7 @@ pub record IsScript (codes : List Code) (away : Bool) (s : Script) : Type 0 wher
   pub known : s.code < length codes
   pub lawful : IsLawful codes away s
 
--- the grid stands for the world, but for the script that is out
+-- the grid represents the world, except for the script that is out
 pub record Stands (codes : List Code) (out : Option ℕ) (clock : ℕ) (grid : Contents) (w : World) : Type 0 where
   pub time : w.clock ≡ clock
   pub objects : grid.objects ≡ w.objects

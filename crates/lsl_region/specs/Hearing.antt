@@ -20,7 +20,7 @@ is_on channel l = l.active && int_eq channel l.channel
 abbrev pub listens_on : ℤ → Standing → Bool
 listens_on channel listens = list_any (is_on channel) listens.list
 
--- on how many channels a script listens at most
+-- the greatest number of channels on which a script listens
 abbrev pub most_channels : ℕ
 most_channels = 65
 

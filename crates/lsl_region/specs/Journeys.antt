@@ -1,4 +1,4 @@
--- What a crossing means: a region's name and one event. It is refused where something else came back than was sent.
+-- What a crossing means: a region's name and one event. It is refused if something else came back than was sent.
 use Rattle.std.specs.Prelude.{◌≡◌, ℕ, Bool, false, not, ◌&&◌, if◌then◌else◌, List, [], ◌∷◌, map, Option, Some, None, MatchResult}
 use Rattle.std.specs.declared.result.Result.{Result}
 use Rattle.std.specs.Str.{bytes_eq}
@@ -18,12 +18,12 @@ use Rattle.lsl_region.specs.Worlds.{World, object_at, with_object}
 abbrev pub is_in_region : World → ℕ → List ℕ → Bool
 is_in_region w place region = bytes_eq (object_at w place).region region
 
--- the object at this place is in that region, and then its scripts are told of it
+-- the object at this place is in that region, and then its scripts get the event
 abbrev pub arrive : Rules → ℕ → List ℕ → World → Told World
 arrive r place region w =
     post_object r place region_changed (with_object w place (record (object_at w place) { region = region }))
 
--- nothing, where it is there
+-- nothing, if it is there
 abbrev pub cross : Rules → ℕ → List ℕ → World → Told World
 cross r place region w = if is_in_region w place region then quiet w else arrive r place region w
 
@@ -36,20 +36,20 @@ abbrev pub came_back : List Trip → Bool
 came_back [] = false
 came_back (trip ∷ trips) = is_same trip.sent trip.back
 
--- a crossing by these trips: one that is refused leaves all as it is
+-- a crossing by these trips: one that is refused leaves all unchanged
 abbrev pub cross_by : Rules → ℕ → List ℕ → List Trip → World → Told World
 cross_by r place region trips w =
     if not (is_in_region w place region) && not (came_back trips) then quiet w else cross r place region w
 
--- the grid that stands for a world between turns
+-- the grid that represents a world between turns
 abbrev pub contents_of : List Code → World → Contents
 contents_of codes w = record { objects = w.objects; seats = map (seat_of codes false) w.members; cards = w.cards }
 
--- these images were sent, or first ones of them
+-- these images were sent, or a prefix of them
 abbrev pub Sends : {T E : Type 0} → Result T E → List Trip → List (List ℕ) → Type 0
 Sends result trips images = MatchResult result (λ _. sent_of trips ≡ images) (λ _. Begins (sent_of trips) images)
 
--- what a crossing comes to in the world for which the grid stands
+-- the result of a crossing in the world that the grid represents
 pub record Travels {T E : Type 0} (codes : List Code) (r : Rules) (clock place : ℕ) (region : List ℕ) (w : World)
     (trips : List Trip) (new : Contents) (before after : List Entry) (result : Result T E) : Type 0 where
   pub tells : Honest IsIntact trips

@@ -12,7 +12,7 @@ use Rattle.lsl_region.specs.Segments.{turn}
 use Rattle.lsl_region.specs.Texts.{cut_to}
 use Rattle.lsl_region.specs.Worlds.{Member, World}
 
--- a text that is cut has no more bytes than it may have
+-- a text that is cut has at most the bytes that it may have
 abbrev pub CutsAreShort : Type 0
 CutsAreShort = (room : ℕ) (text : List ℕ) → length (encode_utf8_all (cut_to room text)) ≤ room
 

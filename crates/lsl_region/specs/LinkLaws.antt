@@ -20,7 +20,7 @@ link_this = negsuc 3
 abbrev pub PrimsAreNumbered : Type 0
 PrimsAreNumbered = (link_of 1 0 ≡ 0) × ((count place : ℕ) → 1 < count → link_of count place ≡ place + 1)
 
--- LINK_SET means all prims, the sender's too
+-- LINK_SET means all prims, the sender's as well
 abbrev pub SetIsAll : Type 0
 SetIsAll = (count sender place : ℕ) → is_for count sender link_set place ≡ true
 

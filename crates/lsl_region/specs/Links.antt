@@ -3,11 +3,11 @@
 use Rattle.std.specs.Prelude.{ℕ, ◌+◌, ◌-◌, ℤ, pos, negsuc, Bool, true, false, not, nat_eq, nat_le, nat_lt, if◌then◌else◌, Option, Some, None}
 use Rattle.std.proofs.Common.{zero, suc}
 
--- the number of the prim at this place, among so many
+-- the number of the prim at this place, among `count`
 abbrev pub link_of : ℕ → ℕ → ℕ
 link_of count place = if nat_eq count 1 then 0 else place + 1
 
--- the place of the prim that a number names, among so many: 0 and 1 both name the root
+-- the place of the prim that a number names, among `count`: 0 and 1 both name the root
 abbrev pub prim_named : ℕ → ℤ → Option ℕ
 prim_named count (pos n) = if nat_le n 1 then Some 0 else (if nat_le n count then Some (n - 1) else None)
 prim_named count (negsuc n) = None

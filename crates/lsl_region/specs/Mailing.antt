@@ -15,7 +15,7 @@ use Rattle.lsl_script.specs.Lives.{Waits}
 use Rattle.lsl_script.specs.Scripts.{Flight, Script}
 use Rattle.lsl_region.specs.Answers.{listen_among}
 
--- the script that it stands for is changed so
+-- the script that it represents changes this way
 abbrev pub Becomes : Live → Live → (Script → Script) → Type 0
 Becomes old new change =
     (codes : List Code) (unit : Code) (s : Script) (f : Flight) (id : BuiltinId) → Waits codes unit s f id old
@@ -26,7 +26,7 @@ pub record Keeps (old new : Live) : Type 0 where
   pub awake : (unit : Code) → IsAwake unit old → IsAwake unit new
   pub machine : new.machine ≡ old.machine
 
--- what stops the script that is answered so
+-- the fault that stops the script with this answer
 abbrev pub stop_of : Reply → Option Fault
 stop_of (reply.Value v) = None
 stop_of (reply.Stop fault) = Some fault
@@ -35,7 +35,7 @@ abbrev pub stop_without : Option (ℤ × Standing) → Option Fault
 stop_without None = Some TooManyListens
 stop_without (Some given) = None
 
--- what stops the script that has these listens: it asks for one that it can't have
+-- the fault that stops the script with these listens: it asks for one that it can't have
 abbrev pub stop_for : BuiltinId → List Value → Standing → Option Fault
 stop_for Listen args listens = stop_without (listen_among args listens)
 stop_for id args listens = None

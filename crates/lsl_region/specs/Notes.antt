@@ -1,4 +1,4 @@
--- What a script is told of notecards, which are found by the number of its prim among all prims of the world.
+-- What a script receives of notecards, which are found by the number of its prim among all prims of the world.
 use Rattle.std.specs.Prelude.{ℕ, ◌+◌, pos, List, [], ◌∷◌, length, Option, Some, None, refl, sum_by, take}
 use Rattle.lsl_text.specs.Number.{decimal_of}
 use Rattle.lsl_value.specs.declared.names.EventId.TheVariants as event
@@ -17,7 +17,7 @@ prims_in objects = sum_by (λ o. length o.prims) objects
 abbrev pub card_of : List Notecard → List Linkset → (object prim : ℕ) → List ℕ → Option ℕ
 card_of cards objects object prim name = number_of cards (prims_in (take object objects) + prim + 1) name
 
--- a script is told of a query by its key and a text
+-- the answer of a query, with its key and a text
 abbrev pub data_event : List ℕ → List ℕ → Event
 data_event query text = record {
   id = event.Dataserver;
@@ -26,7 +26,7 @@ data_event query text = record {
   fits = refl;
 }
 
--- of a line, or of how many there are
+-- of a line, or of the number of lines
 abbrev pub data_told : List (List ℕ) → Option ℕ → List ℕ
 data_told card (Some line) = data_of card line
 data_told card None = decimal_of (pos (length card))

@@ -1,4 +1,4 @@
--- An object of a grid as the parts that its image stands for, and the grid with other parts in their place.
+-- An object of a grid as the parts in its image, and the grid with other parts in their place.
 use Rattle.std.specs.Prelude.{ℕ, nat_eq, if◌then◌else◌, List, [], ◌∷◌, map, drop, filter_map, get_or, slice_set, Option, Some, None}
 use Rattle.std.specs.Option.{option_map}
 use Rattle.lsl_post.specs.declared.parts.ScriptParts.{ScriptParts}

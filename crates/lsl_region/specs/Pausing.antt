@@ -6,7 +6,7 @@ use Rattle.std.specs.List.{list_any, range_with_len}
 abbrev pub gap_at : List ℕ → ℕ → ℕ
 gap_at gaps place = get_or gaps (place % length gaps) 0
 
--- the sum of so many gaps, from the first on
+-- the sum of the first `count` gaps
 unfoldable pub sum_of_gaps : List ℕ → ℕ → ℕ
 sum_of_gaps gaps count = sum (map (gap_at gaps) (range_with_len 0 count))
 
@@ -56,17 +56,17 @@ pub record IsCursor (c : Cursor) : Type 0 where
   pub some : AreGaps c.gaps
   pub within : IsWithin c.gaps c.next c.count
 
--- so many gaps, repeated, were passed, and the segments since the last one. Without gaps nothing is told
+-- this many gaps, repeated, were passed, and the segments since the last one. Without gaps this says nothing
 abbrev pub HasPassed : List ℕ → ℕ → ℕ → ℕ → Type 0
 HasPassed [] next count number = Unit {0}
 HasPassed (gap ∷ gaps) next count number =
     (whole : ℕ) × (next ≡ whole % length (gap ∷ gaps)) × (number ≡ sum_of_gaps (gap ∷ gaps) whole + count)
 
--- the saves stand still here
+-- the saves saturate here
 abbrev pub most_saves : ℕ
 most_saves = 18446744073709551615
 
--- it is kept so
+-- the cursor keeps this count
 pub record Counts (c : Cursor) (t : Tally) : Type 0 where
   pub gaps : c.gaps ≡ t.gaps
   pub passed : HasPassed c.gaps c.next c.count t.passed

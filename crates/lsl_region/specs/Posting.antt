@@ -36,11 +36,11 @@ listen_event said = record {
   fits = refl;
 }
 
--- a script hears what is said on a channel by who has this name and this key, unless its own prim says it
+-- a script hears what is said on a channel under this name and this key, unless its own prim says it
 abbrev pub hears_said : Filter → World → Member → Bool
 hears_said said w m = not (bytes_eq (prim_of w m).key said.id) && mailbox_hears said m.script.mailbox
 
--- whether a script hears, or is meant, that is in this prim of this object, with this key and these listens
+-- whether a script in this prim of this object, with this key and these listens, hears, or is meant
 abbrev pub is_admitted : Audience → (object prim : ℕ) → List ℕ → Standing → Bool
 is_admitted (Hearers said) object prim key listens = not (bytes_eq key said.id) && hears said listens
 is_admitted (InPrim of at) object prim key listens = nat_eq object of && nat_eq prim at

@@ -22,7 +22,8 @@ use Rattle.lsl_region.specs.TurnEnds.{CameTo, IsBehind}
 use Rattle.lsl_region.specs.Turning.{Begins, InTurn, IsAmid, IsUnitAt, Paused}
 use Rattle.lsl_region.specs.Worlds.{Member, World}
 
--- the script has a seat and a number, and that unit; all scripts are of their units, and the clock can be read so
+-- the script has a seat and a number, and that unit; all scripts are of their units, and this can be a reading of the
+-- clock
 pub record IsSet (scene : Scene) (grid : Contents) : Type 0 where
   pub place : scene.place < length grid.seats
   pub number : scene.place < 256
@@ -35,17 +36,17 @@ pub record IsAwakeIn (scene : Scene) (grid : Contents) (live : Live) : Type 0 wh
   pub set : IsSet scene grid
   pub awake : IsAwake scene.unit.now live
 
--- the scene is set still, unless memory ran out, and the outline of the grid is as it was
+-- the scene is still set, unless memory ran out, and the outline of the grid is unchanged
 pub record KeepsSet {A E : Type 0} (scene : Scene) (result : Result A E) (old new : Contents) : Type 0 where
   pub set : OnOk result (IsSet scene new)
   pub outline : outline_of new ≡ outline_of old
 
--- where no script is awake: all scripts are of their units, unless memory ran out, and the outline is as it was
+-- where no script is awake: all scripts are of their units, unless memory ran out, and the outline is unchanged
 pub record KeepsSeated {A E : Type 0} (codes : List Code) (result : Result A E) (old new : Contents) : Type 0 where
   pub seated : OnOk result (AreSeated codes new.seats)
   pub outline : outline_of new ≡ outline_of old
 
--- the script is awake still, and its machine as it was
+-- the script is still awake, and its machine is unchanged
 pub record KeepsAwake (scene : Scene) (old new : Live) : Type 0 where
   pub awake : IsAwake scene.unit.now new
   pub machine : new.machine ≡ old.machine
@@ -58,7 +59,7 @@ Awaits s grid live id f w = Lent s.library.now s.unit.now s.clock s.place grid l
 abbrev pub IsHome : Scene → Contents → World → Type 0
 IsHome s grid w = Stands s.library.now None s.clock grid w
 
--- the script is at rest in the grid, or out of it: between segments, within one, behind one, or behind so many
+-- the script is at rest in the grid, or out of it: between segments, within one, after one, or after `count`
 abbrev pub IsInTurn : Scene → Contents → Option Live → World → Type 0
 IsInTurn s grid live w = InTurn s.library.now s.unit.now s.clock s.place grid live w
 
@@ -78,21 +79,20 @@ IsBegun s grid live w = Begins s.library.now s.unit.now s.clock s.place grid liv
 abbrev pub IsPaused : Scene → Contents → Live → Turn → Flight → ℕ → World → Type 0
 IsPaused s grid live stop f most w = Paused s.library.now s.unit.now s.clock s.place grid live stop f most w
 
--- where no script is out of the grid: this is done, in each world for which the grid stands
+-- no script is out of the grid: this is done, in each world that the grid represents
 abbrev pub DoesAtHome : {A E : Type 0} → List Code → Result A E → Contents × List Entry → Contents × List Entry
     → (Rules → World → Told World) → Type 0
 DoesAtHome codes result old new done =
     (m : Meant codes) (clock : ℕ) (w : World) → Stands codes None clock old.0 w
     → Tells result (λ v _. Stands codes None clock new.0 v) old.1 new.1 (done m.rules w)
 
--- a turn of at most so many segments, from a grid out of which no script is to what it comes to
+-- a turn of at most `most` segments, from a grid that no script is out of to its result
 abbrev pub RunsFor : {E : Type 0} → ℕ → Scene → Result ℕ E → Contents × List Entry
     → Contents × Option Live × List Entry → Type 0
 RunsFor ticks s result old new =
     (m : Meant s.library.now) (w : World) → IsHome s old.0 w
     → Tells result (ComesTo s new.0 new.1) old.1 new.2 (turn m.rules ticks s.place w)
 
--- a segment, from each world of which this holds
 abbrev pub PassesSegment : {A E : Type 0} → Scene → Result A E → (World → Type 0) → List Entry
     → Contents × Option Live × List Entry → Type 0
 PassesSegment s result From old new =
@@ -103,7 +103,7 @@ PassesSegment s result From old new =
 abbrev pub Moment : Type 0
 Moment = Contents × Live × List Entry
 
--- from one moment to another this is done, in each world for which they stand
+-- from one moment to another this is done, in each world that they represent
 abbrev pub Does : {A E : Type 0} → Scene → Result A E → Moment → Moment → (Rules → Member → World → Told World)
     → Type 0
 Does s result old new done =

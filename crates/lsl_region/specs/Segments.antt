@@ -1,5 +1,5 @@
--- A script runs from one tick to the next, or to its handler's end: what comes of the handler's text from its
--- start, for one tick more. While it asks, the host answers.
+-- A script runs from one tick to the next, or to its handler's end: the result of the handler's text from its start,
+-- for one tick more. While it asks, the host answers.
 use Rattle.std.specs.Prelude.{ℕ, ◌+◌, Bool, false, not, Option, Some, None, slice_get}
 use Rattle.std.proofs.Common.{zero, suc}
 use Rattle.lsl_running.specs.Results.{Whole, Ends, Asks, Cut, Fails, Lost}
@@ -14,7 +14,7 @@ abbrev pub whole_in_flight : Rules → Option Member → Flight → Whole
 whole_in_flight r None f = Lost
 whole_in_flight r (Some m) f = whole_of_flight r m.script f (f.ticks + 1) f.answers
 
--- what becomes of the world where this comes of the handler; it goes on as given where it was answered
+-- the effect of a handler's result on the world; it continues as given after an answer
 abbrev pub came : Rules → (Flight → World → Told World) → ℕ → Flight → World → Whole → Told World
 came r on place f w (Asks id args) = next_to (answer r place id args w) (λ x. on (given x.1 f) x.0)
 came r on place f w (Cut calls) = at_member place (λ m. quiet (with_flight (ticked f) m.script)) w
@@ -22,7 +22,7 @@ came r on place f w (Ends outcome kept) = at_member place (λ m. ended r (place 
 came r on place f w (Fails fault) = at_member place (λ m. failed r (place + 1) m.script fault) w
 came r on place f w Lost = quiet w
 
--- the handler is asked for at most so often
+-- the handler makes at most this many calls
 unfoldable pub asked : Rules → ℕ → ℕ → Flight → World → Told World
 asked r zero place f w = quiet w
 asked r (suc most) place f w =
@@ -52,7 +52,7 @@ is_ready_in w (Some m) = is_ready w.clock m.script
 abbrev pub is_ready_at : World → ℕ → Bool
 is_ready_at w place = is_ready_in w (slice_get w.members place)
 
--- segments while the script is ready, at most so many, and how many they were
+-- segments while the script is ready, at most `most`, and how many they were
 abbrev pub turn : Rules → ℕ → ℕ → World → Told (World × ℕ)
 turn r most place w =
     until (λ x. not (is_ready_at x.0 place)) (λ x. as_value (λ v. (v, x.1 + 1)) (segment r place x.0)) most (w, 0)

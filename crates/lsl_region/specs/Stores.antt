@@ -1,4 +1,4 @@
--- What calls do to an object's store: what they are answered, and what the object's scripts are told of it.
+-- What calls do to an object's store: their answers, and the events that the object's scripts get.
 use Rattle.std.specs.Prelude.{ℕ, ◌-◌, ℤ, pos, List, [], ◌∷◌, Option, Some, None, refl, unwrap_or}
 use Rattle.lsl_value.specs.declared.names.EventId.TheVariants as event
 use Rattle.lsl_value.specs.declared.tagged.Value.TheVariants as value
@@ -10,7 +10,7 @@ use Rattle.lsl_data.specs.declared.answers.Wrote.TheVariants.{Stored, Deleted, N
 use Rattle.lsl_data.specs.Pairs.{bytes_of, value_at}
 use Rattle.lsl_region.specs.declared.store_calls.Change.{Change}
 
--- scripts are told of a change by its number, a name and a value
+-- the event of a change: its number, a name and a value
 abbrev pub store_event : ℤ → List ℕ → List ℕ → Event
 store_event how name text = record {
   id = event.LinksetData;
@@ -19,7 +19,7 @@ store_event how name text = record {
   fits = refl;
 }
 
--- what a write or a delete is answered
+-- the answer of a write or a delete
 abbrev pub number_of : Wrote → ℤ
 number_of Stored = pos 0
 number_of Deleted = pos 0
@@ -28,7 +28,7 @@ number_of NoKey = pos 2
 number_of NotFound = pos 4
 number_of Same = pos 5
 
--- scripts are told with 1 of a name that has a value now, and with 2 of one that is gone
+-- scripts get 1 with a name that has a value now, and 2 with one that is gone
 abbrev pub told_of : Wrote → List ℕ → List ℕ → Option Event
 told_of Stored name text = Some (store_event (pos 1) name text)
 told_of Deleted name text = Some (store_event (pos 2) name [])
@@ -43,7 +43,7 @@ change_of wrote name text = record {
   told = told_of wrote name text;
 }
 
--- with 0 of a store that was emptied
+-- and 0 with a store that was emptied
 abbrev pub reset_change : Change
 reset_change = record { answer = None; told = Some (store_event (pos 0) [] []) }
 

@@ -34,18 +34,18 @@ has_entry table h = is_member same_heard table h
 abbrev pub is_heard : List ChannelEntry → ℤ → ℕ → Bool
 is_heard table channel place = has_entry table (heard channel place)
 
--- the entry stands here in the table
+-- the entry is here in the table
 pub record StandsAt (table : List ChannelEntry) (h : ChannelEntry) (at : ℕ) : Type 0 where
   pub within : at < length table
   pub is : get_or table at h ≡ h
 
--- it doesn't stand in the table, and would stand here
+-- it isn't in the table, and belongs here
 pub record BelongsAt (table : List ChannelEntry) (h : ChannelEntry) (at : ℕ) : Type 0 where
   pub within : at ≤ length table
   pub before : AllWithin (λ other. heard_order other h ≡ Less) table 0 at
   pub behind : AllWithin (λ other. heard_order other h ≡ Greater) table at (length table)
 
--- the place of what stands somewhere in the table, where it is on this channel
+-- the place of an entry somewhere in the table, if it is on this channel
 abbrev pub place_of : ℤ → Option ChannelEntry → ℕ
 place_of channel None = no_place
 place_of channel (Some h) = if int_eq h.channel channel then h.place else no_place

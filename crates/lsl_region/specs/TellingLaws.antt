@@ -1,4 +1,4 @@
--- What calls are told, in the language's words.
+-- What calls answer, in the language's words.
 use Rattle.std.specs.Prelude.{◌≡◌, ◌≢◌, ℕ, ◌<◌, ◌/◌, ℤ, pos, negsuc, true, List, [], ◌∷◌, length, Option, Some, None, is_some, slice_get}
 use Rattle.lsl_value.specs.declared.names.BuiltinId.{BuiltinId}
 use Rattle.lsl_value.specs.declared.names.BuiltinId.TheVariants as builtin
@@ -13,8 +13,8 @@ use Rattle.lsl_region.specs.Answers.{home_of, value_of_query}
 use Rattle.lsl_region.specs.LinkLaws.{HasNumber, link_this}
 use Rattle.lsl_region.specs.Links.{link_of}
 
--- who asks: a script of this name in the prim at a place of an object, at a reading of the clock, with a toucher in
--- hand or none
+-- the asking script: of this name in the prim at a place of an object, at a reading of the clock, with a current
+-- toucher or none
 pub record Asker : Type 0 where
   pub object : Linkset
   pub place : ℕ
@@ -25,7 +25,7 @@ pub record Asker : Type 0 where
 abbrev pub told : Asker → BuiltinId → List Value → Option Value
 told a id args = value_of_query a.object a.place a.name a.clock a.toucher id args
 
--- it is told this key, text or integer
+-- the answer is this key, text or integer
 abbrev pub IsKey : Asker → BuiltinId → List Value → List ℕ → Type 0
 IsKey a id args key = told a id args ≡ Some (value.Key key)
 
@@ -39,14 +39,14 @@ IsInteger a id args n = told a id args ≡ Some (value.Int n)
 abbrev pub HasPrim : Linkset → ℕ → Primitive → Type 0
 HasPrim object place prim = slice_get object.prims place ≡ Some prim
 
--- a script is told of its own prim, be it the root or not
+-- the answers about a script's own prim, be it the root or not
 abbrev pub OwnPrimIsTold : Type 0
 OwnPrimIsTold =
     (a : Asker) (prim : Primitive) (args : List Value) → HasPrim a.object a.place prim
     → IsKey a builtin.GetKey args prim.key × IsText a builtin.GetObjectName args prim.name
     × IsInteger a builtin.GetLinkNumber args (pos (link_of (length a.object.prims) a.place))
 
--- and of its object, the region in which that is, itself and the clock, in whole seconds
+-- and about its object, the region in which that is, itself and the clock, in whole seconds
 abbrev pub ObjectIsTold : Type 0
 ObjectIsTold =
     (a : Asker) (args : List Value)
@@ -69,7 +69,7 @@ OwnPrimIsToldByThis =
     → IsKey a builtin.GetLinkKey (value.Int link_this ∷ []) prim.key
     × IsText a builtin.GetLinkName (value.Int link_this ∷ []) prim.name
 
--- where a number means no prim, the key of zeros is told, for the name its text
+-- where a number means no prim, the answer is the key of zeros, for the name its text
 abbrev pub NoPrimIsTold : Asker → ℤ → Type 0
 NoPrimIsTold a n =
     IsKey a builtin.GetLinkKey (value.Int n ∷ []) null_key × IsText a builtin.GetLinkName (value.Int n ∷ []) null_key
@@ -80,7 +80,7 @@ NumbersBeyondAreNone = (a : Asker) (n : ℕ) → 1 < n → length a.object.prims
 abbrev pub NegativeNumbersAreNone : Type 0
 NegativeNumbersAreNone = (a : Asker) (n : ℕ) → negsuc n ≢ link_this → NoPrimIsTold a (negsuc n)
 
--- who touched and which prim, at place 0 alone
+-- the toucher and the touched prim, at place 0 alone
 abbrev pub IsToucher : Asker → Toucher → Type 0
 IsToucher a t =
     IsKey a builtin.DetectedKey (value.Int (pos 0) ∷ []) t.key
@@ -101,7 +101,7 @@ OtherPlacesAreNobody = (a : Asker) (n : ℤ) → n ≢ pos 0 → IsNobody a n
 abbrev pub UntouchedIsNobody : Type 0
 UntouchedIsNobody = (a : Asker) (n : ℤ) → a.toucher ≡ None → IsNobody a n
 
--- no call that is only to be told something is forgotten
+-- every call that only reads has an answer
 abbrev pub CallsAreAnswered : Type 0
 CallsAreAnswered =
     (a : Asker) (id : BuiltinId) (args : List Value) → home_of id ≡ home.Query → is_some (told a id args) ≡ true

@@ -2,7 +2,7 @@
 use Rattle.std.specs.Prelude.{ℕ, ◌-◌, nat_le, if◌then◌else◌, List, [], ◌∷◌, length}
 use Rattle.std.specs.Char.{encode_utf8}
 
--- as many characters, from the first on, as have no more bytes
+-- the longest run of first characters that has no more bytes
 unfoldable pub cut_to : ℕ → List ℕ → List ℕ
 cut_to room [] = []
 cut_to room (c ∷ text) =

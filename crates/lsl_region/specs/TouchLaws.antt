@@ -22,7 +22,7 @@ pub record AreTouchEvents (t : Toucher) (first second third : Event) : Type 0 wh
   pub second_is : IsTouchOf t second
   pub third_is : IsTouchOf t third
 
--- each goes to all scripts of the prim before the next one
+-- each event goes to all scripts of the prim before the next one
 pub record IsTouch (r : Rules) (object prim : ℕ) (t : Toucher) (w : World) : Type 0 where
   pub first : Event
   pub second : Event
@@ -39,7 +39,7 @@ pub record IsIn (object prim : ℕ) (m : Member) : Type 0 where
   pub in_object : m.object ≡ object
   pub in_prim : m.prim ≡ prim
 
--- a touch is for the prim where one of its scripts has a handler of a touch in its state, else for the root
+-- a touch is for the prim where one of its scripts has a handler of a touch in its state, otherwise for the root
 abbrev pub TouchesGoToThePrim : Type 0
 TouchesGoToThePrim =
     (r : Rules) (w : World) (object prim n : ℕ) (m : Member) → slice_get w.members n ≡ Some m → IsIn object prim m

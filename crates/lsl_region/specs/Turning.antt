@@ -1,4 +1,4 @@
--- What the grid and an awake script stand for within a turn.
+-- What the grid and an awake script represent within a turn.
 use Rattle.std.specs.Prelude.{◌≡◌, ℕ, ◌+◌, Bool, false, List, ◌++◌, Option, Some, None, slice_get, slice_set, true}
 use Rattle.lsl_code.specs.declared.woven_units.Woven.{Woven as Code}
 use Rattle.lsl_code.specs.Weaves.{Weaves}
@@ -47,7 +47,7 @@ pub record IsUnitAt (codes : List Code) (unit : Code) (seats : List Seat) (place
   pub has : HasUnit codes seat.unit unit
   pub weaves : Weaves unit
 
--- a script that is awake between segments stands at a tick
+-- a script that is awake between segments is at a tick
 abbrev pub IsHeld : Code → Option Live → Type 0
 IsHeld unit None = Unit {0}
 IsHeld unit (Some live) = IsAwake unit live × (live.machine.standing ≡ standing.AtTick)
@@ -57,7 +57,8 @@ abbrev pub IsReadyInTurn : ℕ → List Seat → ℕ → Option Live → Type 0
 IsReadyInTurn clock seats place None = (seat : Seat) → slice_get seats place ≡ Some seat → IsReady clock seat.script
 IsReadyInTurn clock seats place (Some live) = Unit {0}
 
--- the script at a place is out, and can go on to the next tick of this flight; it asks at most so often before
+-- the script at a place is out, and can continue to the next tick of this flight; it makes at most this many calls
+-- before that
 pub record GoesOn (codes : List Code) (unit : Code) (clock place : ℕ) (grid : Contents) (live : Live) (f : Flight)
     (most : ℕ) (w : World) : Type 0 where
   pub stands : Stands codes (Some place) clock grid w
@@ -66,7 +67,7 @@ pub record GoesOn (codes : List Code) (unit : Code) (clock place : ℕ) (grid : 
   pub lives : Lives codes unit member.script f live
   pub asks : AsksAtMost (rules_of codes) member.script.code member.script.state f most
 
--- the script at a place is out, has this flight, and asks at most as often as its code can
+-- the script at a place is out, has this flight, and makes at most as many calls as its code can
 pub record Begins (codes : List Code) (unit : Code) (clock place : ℕ) (grid : Contents) (live : Live) (w : World)
     : Type 0 where
   pub flight : Flight
@@ -79,7 +80,6 @@ pub record Begins (codes : List Code) (unit : Code) (clock place : ℕ) (grid : 
   pub flies : member.script.doing ≡ Flying flight
   pub rests : live.began ≡ false → Rests codes unit member.script flight live
 
--- the script at a place is out, and came to this stop of this flight
 pub record Paused (codes : List Code) (unit : Code) (clock place : ℕ) (grid : Contents) (live : Live) (stop : Turn)
     (f : Flight) (most : ℕ) (w : World) : Type 0 where
   pub stands : Stands codes (Some place) clock grid w
@@ -88,7 +88,7 @@ pub record Paused (codes : List Code) (unit : Code) (clock place : ℕ) (grid : 
   pub turns : Turns codes unit member.script f stop live
   pub asks : AsksAtMost (rules_of codes) member.script.code member.script.state f most
 
--- where it stands then, whatever it stands for
+-- where its machine is then, whatever it represents
 abbrev pub StandsAt : Code → Turn → Live → Type 0
 StandsAt unit (turn.Asks call) live = (live.machine.standing ≡ standing.Asking call.id) × IsAskedFor call
 StandsAt unit turn.AtTick live = live.machine.standing ≡ standing.AtTick
@@ -96,29 +96,29 @@ StandsAt unit turn.Ended live = HasEnded unit live
 StandsAt unit (turn.Faulted fault) live = Unit {0}
 StandsAt unit turn.NoMemory live = Unit {0}
 
--- it asks no more
+-- it makes no more calls
 abbrev pub IsLast : Turn → Type 0
 IsLast (turn.Asks call) = ⊥
 IsLast t = Unit {0}
 
--- nor does it stand at a tick
+-- nor is it at a tick
 abbrev pub IsEnd : Turn → Type 0
 IsEnd (turn.Asks call) = ⊥
 IsEnd turn.AtTick = ⊥
 IsEnd t = Unit {0}
 
--- how often it asks at most from this stop on
+-- the most calls that it makes from this stop on
 abbrev pub asks_left : Code → Turn → Live → ℕ
 asks_left unit (turn.Asks call) live = asks_ahead (bodies_of unit) live.machine + 1
 asks_left unit t live = 0
 
--- the world, the flight in it, and how often it asks at most before its next tick
+-- the world, the flight in it, and the most calls that it makes before its next tick
 pub record InFlight : Type 0 where
   pub world : World
   pub flight : Flight
   pub most : ℕ
 
--- these entries were added on the way of a flight, and what it still comes to gives the rest
+-- these entries were added on the way of a flight, and its further results give the rest
 pub record IsOnWay (r : Rules) (place : ℕ) (total : Told World) (old now : List Entry) (At : InFlight → Type 0)
     : Type 0 where
   pub there : InFlight
@@ -127,7 +127,7 @@ pub record IsOnWay (r : Rules) (place : ℕ) (total : Told World) (old now : Lis
   pub whole : total ≡ lead done (asked r (there.most + 1) place there.flight there.world)
   pub so_far : now ≡ old ++ done
 
--- the script at a place is out, and stands at a tick of its flight
+-- the script at a place is out, and at a tick of its flight
 pub record Held (codes : List Code) (unit : Code) (clock place : ℕ) (grid : Contents) (live : Live) (w : World)
     : Type 0 where
   pub flight : Flight
@@ -141,18 +141,18 @@ abbrev pub InTurn : List Code → Code → (clock place : ℕ) → Contents → 
 InTurn codes unit clock place grid None w = Stands codes None clock grid w
 InTurn codes unit clock place grid (Some live) w = Held codes unit clock place grid live w
 
--- a script that is awake can go on
+-- a script that is awake can continue
 abbrev pub IsAble : Code → Option Live → Type 0
 IsAble unit None = Unit {0}
 IsAble unit (Some live) = IsAwake unit live × CanRun live.machine.standing
 
--- within a segment: the script went on from its tick, or isn't awake yet
+-- within a segment: the script left its tick, or isn't awake yet
 abbrev pub IsAmid : List Code → Code → (clock place : ℕ) → Contents → Option Live → World → Type 0
 IsAmid codes unit clock place grid None w = Stands codes None clock grid w
 IsAmid codes unit clock place grid (Some live) w =
     (mid : Live) × Held codes unit clock place grid mid w × PassesPart unit mid live
 
--- so many segments on integers and calls of functions alone, and whether it stands at a tick then
+-- this many segments on integers and calls of functions alone, and whether the script is at a tick then
 abbrev pub PassesAwake : Bool → Code → ℕ → Option Live → Option Live → Type 0
 PassesAwake stands unit n None None = (n ≡ 0) × (stands ≡ false)
 PassesAwake stands unit n (Some old) (Some new) = PassesTo stands unit n old new

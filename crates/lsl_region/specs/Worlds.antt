@@ -13,8 +13,8 @@ pub record Member : Type 0 where
   pub name : List ℕ
   pub script : Script
 
--- the reading of the clock in milliseconds, the objects, the scripts, and the notecards. Objects and scripts are told
--- by numbers that are one more than their places here
+-- the reading of the clock in milliseconds, the objects, the scripts, and the notecards. The numbers of objects and
+-- scripts are one more than their places here
 pub record World : Type 0 where
   pub clock : ℕ
   pub objects : List Linkset
@@ -53,6 +53,6 @@ abbrev pub changed_at : ℕ → (Member → Told Script) → World → Option Me
 changed_at place thing w None = quiet w
 changed_at place thing w (Some m) = as_value (λ s. with_member w place (record m { script = s })) (thing m)
 
--- something becomes of the script at this place
+-- the script at this place changes
 abbrev pub at_member : ℕ → (Member → Told Script) → World → Told World
 at_member place thing w = changed_at place thing w (slice_get w.members place)

@@ -27,7 +27,7 @@ use lsl_text::NoMemory;
 use lsl_value::Text;
 use std::alloc::Global;
 
-/// The flag of a region that is another one.
+/// The flag of a change of region.
 const CHANGED_REGION: i32 = 256;
 
 /// What an arrival needs: the region's name, an event for each script, and the number of entries after which there is
@@ -106,7 +106,7 @@ fn rename_all(prims: &mut Prims, names: Sequence<Text>)
     }
 }
 
-// Writes the entry of an event that was dropped to this place. The place after it, or the same one.
+// Writes the entry of an event that was dropped to this place. Returns the place after it, or the same one.
 fn keep_drop(number: u32, posted: Posted, out: &mut Entries, at: usize) -> usize
     requires { at < length out.old }
     ensures entries { take result out.new ≡ take at out.old ++ entries_of_posting number posted }
@@ -125,8 +125,10 @@ fn keep_drop(number: u32, posted: Posted, out: &mut Entries, at: usize) -> usize
 }
 
 impl Grid {
-    /// The object at this place is in the region of this arrival, with these parts, and the event is posted to its
-    /// scripts. Takes memory for the store alone; when memory runs out all is as it was. Walks the scripts.
+    /// Puts the object at this place into the region of this arrival, with these parts, and posts the event to its
+    /// scripts.
+    ///
+    /// Takes memory for the store alone; when memory runs out all is unchanged. Walks the scripts.
     pub(crate) fn arrive(
         &mut self,
         site: &Site,
@@ -165,7 +167,7 @@ impl Grid {
         Ok(())
     }
 
-    // The object at this place has prims of these names, this store and this region.
+    /// Gives the object at this place these names of prims, this store and this region.
     pub(crate) fn furnish(
         &mut self,
         place: usize,
@@ -191,7 +193,7 @@ impl Grid {
         object.region = region;
     }
 
-    // These scripts come into the seats of the object at this place, in order.
+    /// Puts these scripts into the seats of the object at this place, in order.
     pub(crate) fn reseat(&mut self, place: usize, scripts: Sequence<ScriptParts>, library: &Library)
         requires seated { AreSeated library.now self.old.seats }
         requires valid { AllByRecursion (IsOfUnit library.now) scripts }
@@ -209,7 +211,7 @@ impl Grid {
         }
     }
 
-    // The last of these scripts comes into this seat, where it has one of the object at this place.
+    // Puts the last of these scripts into this seat, if it is a seat of the object at this place that has a script.
     fn reseat_next(
         &mut self,
         seat: usize,
@@ -236,7 +238,7 @@ impl Grid {
         }
     }
 
-    // The script in this seat has these parts. Takes no memory.
+    // Gives the script in this seat these parts. Takes no memory.
     fn seat_script(&mut self, seat: usize, parts: ScriptParts, library: &Library)
         requires seat { seat < length self.old.seats }
         requires there { (at : Place) → slice_get self.old.seats seat ≡ Some at → is_some at.script ≡ true }
@@ -274,7 +276,7 @@ impl Grid {
         out.truncate(at);
     }
 
-    // Posts the last of these events to the script in this seat, where it is one of the object.
+    // Posts the last of these events to the script in this seat, if it is one of the object.
     fn tell_next(
         &mut self,
         seat: usize,

@@ -63,7 +63,7 @@ impl Channels {
         false
     }
 
-    // The channel is one of them from then on. Walks them.
+    // Adds the channel, unless it is one of them. Walks them.
     fn add(&mut self, channel: i32)
         requires { length self.old < most_channels }
         ensures told { (c : ℤ) → has_channel self.new c ≡ (has_channel self.old c || int_eq c channel) }
@@ -130,7 +130,7 @@ pub(crate) struct ChannelEntry {
     pub(crate) place: usize,
 }
 
-// Where an entry is in the table, or else where it belongs. A binary search.
+// The place of an entry in the table, or else where it belongs. A binary search.
 fn find(table: &[ChannelEntry], entry: &ChannelEntry) -> Result<usize, usize>
     requires { IsOrdered table.now }
     ensures { MatchResult result (StandsAt table.now entry.now) (BelongsAt table.now entry.now) }
@@ -239,8 +239,8 @@ impl ChannelTable {
         Ok(())
     }
 
-    /// The script at this place listens on these channels, and on no others. Takes no memory. Each channel that came
-    /// or went costs a binary search, and a move of the entries after it.
+    /// Sets the channels on which the script at this place listens. Takes no memory. Each channel that came or went
+    /// costs a binary search, and a move of the entries after it.
     pub(crate) fn tell(&mut self, place: usize, channels: Channels)
         requires place { place < length self.old }
         requires few { length channels ≤ most_channels }
@@ -252,7 +252,7 @@ impl ChannelTable {
         *row = channels;
     }
 
-    /// The script at this place has these listens. Takes no memory; walks them. Each channel on which it began or
+    /// Sets the listens of the script at this place. Takes no memory; walks them. Each channel on which it began or
     /// ceased to listen costs a binary search, and a move of the entries after it.
     pub(crate) fn follow(&mut self, place: usize, listens: &Listens)
         requires { place < length self.old }
@@ -287,7 +287,7 @@ impl ChannelTable {
     }
 }
 
-// What the script at this place listened on, and does no more, goes out of the table.
+// Removes from the table what the script at this place listened on, and no longer does.
 fn forget_gone(table: &mut Vec<ChannelEntry>, place: usize, old: &Channels, new: &Channels)
     requires { IsOrdered table.old.items }
     ensures ordered { IsOrdered table.new.items }
@@ -304,7 +304,7 @@ fn forget_gone(table: &mut Vec<ChannelEntry>, place: usize, old: &Channels, new:
     }
 }
 
-// What it listens on, and didn't before, comes into the table.
+// Adds to the table what it listens on, and didn't before.
 fn note_new(table: &mut Vec<ChannelEntry>, place: usize, old: &Channels, new: &Channels)
     requires ordered { IsOrdered table.old.items }
     requires room { length table.old.items + length new.now ≤ vec_capacity table.old }

@@ -1,4 +1,4 @@
-//! Crossings: an object's image is handed to a link, or by notes, and the object continues as what comes back says.
+//! Crossings: an object's image is sent over a link, or by notes, and the object continues as what comes back says.
 
 ghost use Rattle.std.specs.Prelude.{◌≡◌, ◌≢◌, ◌<◌, ◌≤◌, ◌-◌, ◌+◌, ◌∷◌, [], ℕ, ◌++◌, List, None, Ok as OkResult, length, map, option_map, take, All, IfOk, MatchResult, OnOk, MatchOption};
 ghost use Rattle.std.specs.List.{filter_map};
@@ -47,10 +47,14 @@ pub enum Crossed {
 }
 
 impl Grid {
-    /// Hands the object of this number over the link, to be in this region, and posts `changed` with 256 to all its
-    /// scripts where it came there. The link is called once, where the object is in another region. After Stayed and
-    /// Here, and when memory runs out, grid and entries are as they were. What the posting needs is taken before the
-    /// link is called. Walks the scripts, and the object's image once for each way and once for each digest.
+    /// Sends the object of this number over the link to this region, and posts `changed` with 256 to all its scripts if
+    /// it arrived.
+    ///
+    /// The link is called once, unless the object is in that region already. After Stayed and Here, and when memory
+    /// runs out, grid and entries are unchanged.
+    ///
+    /// What the posting needs is taken before the link is called. Walks the scripts, and the object's image once for
+    /// each way and once for each digest.
     pub fn cross<L: Link>(
         &mut self,
         object: u32,
@@ -85,7 +89,7 @@ impl Grid {
         outcome
     }
 
-    // An object crosses from another region. Where it stays, placeholder entries may be left after the others.
+    // Sends an object from another region. Where it stays, placeholder entries may be left after the others.
     fn cross_over<L: Link>(
         &mut self,
         object: u32,
@@ -120,7 +124,7 @@ impl Grid {
         }
     }
 
-    // Hands the image of the object of this number over, and gives what came back.
+    // Sends the image of the object of this number, and returns what came back.
     fn send<L: Link>(
         &self,
         object: u32,
@@ -156,7 +160,7 @@ impl Grid {
         write_object(self.alloc, &parts, self.region(object), library)
     }
 
-    // The object at this site becomes what came back says.
+    // Makes the object at this site what came back says.
     fn receive(
         &mut self,
         site: &Site,
@@ -212,8 +216,8 @@ impl Grid {
         }
     }
 
-    /// The object of this number is in this region, with these parts, and then `changed` with 256 is posted to all its
-    /// scripts. When memory runs out grid and entries are as they were. Walks the scripts.
+    /// Puts the object of this number into this region, with these parts, and then posts `changed` with 256 to all its
+    /// scripts. When memory runs out, grid and entries are unchanged. Walks the scripts.
     pub fn come(
         &mut self,
         object: u32,
@@ -248,8 +252,8 @@ impl Grid {
         }
     }
 
-    // The object of this number is in this region, with these parts. When memory runs out, placeholder entries may be
-    // left after the others.
+    // Puts the object of this number into this region, with these parts. When memory runs out, placeholder entries may
+    // be left after the others.
     fn come_behind(
         &mut self,
         object: u32,
@@ -275,7 +279,7 @@ impl Grid {
     }
 }
 
-// Where the object stays, only the first `before` entries are kept.
+// Keeps only the first `before` entries if the object stays.
 fn strike(outcome: &Result<Crossed, NoMemory>, before: usize, out: &mut Entries)
     ensures { MatchResult outcome.now
         (λ crossed. out.new ≡ kept_entries crossed before out.old) (λ _. out.new ≡ take before out.old) }
@@ -286,7 +290,7 @@ fn strike(outcome: &Result<Crossed, NoMemory>, before: usize, out: &mut Entries)
     }
 }
 
-// Hands bytes over, and gives those that came back, or none where the link failed.
+// Sends bytes, and returns those that came back, or none where the link failed.
 fn carried<L: Link>(alloc: Global, sent: &[u8], link: &mut L) -> Result<Option<Vec<u8>>, NoMemory>
     ensures went { (trips : List Trip) × Went L.gives (L.trips link.old) (L.trips link.new) trips
         × MatchResult result (λ back. IsOneTrip trips sent.now (option_map (λ b. b.items) back)) (λ _. trips ≡ []) }

@@ -13,7 +13,7 @@ use lsl_text::NoMemory;
 use lsl_value::{EventId, Text, Value, Values};
 use std::alloc::Global;
 
-/// The event of a text that is said.
+/// The event of spoken text.
 pub(crate) fn listen_event(alloc: Global, said: &Filter) -> Result<Event, NoMemory>
     ensures { IfOk result (λ event. event ≡ listen_event said.now) }
 {

@@ -63,8 +63,7 @@ impl Grid {
         }
     }
 
-    /// Holds these notecards, in place of others. Their prims are numbered from 1 on through all objects. Takes no
-    /// memory.
+    /// Sets the notecards, in place of others. Their prims are numbered from 1 on through all objects. Takes no memory.
     pub fn hold(&mut self, cards: Cards)
         ensures cards { self.new.cards ≡ cards }
         ensures objects { self.new.objects ≡ self.old.objects }
@@ -112,7 +111,7 @@ impl Grid {
     }
 
     /// Appends an object to at most 63 others. It has a root, and each of its prims a key. When memory runs out all is
-    /// as it was.
+    /// unchanged.
     pub fn add(&mut self, object: Linkset) -> Result<(), NoMemory>
         requires room { length self.old.objects < 64 }
         requires formed { IsFormed object }
@@ -125,7 +124,7 @@ impl Grid {
         Ok(())
     }
 
-    /// Appends a script to at most 255 others, in a prim that is there. When memory runs out all is as it was.
+    /// Appends a script to at most 255 others, in a prim that exists. When memory runs out all is unchanged.
     pub fn seat(&mut self, seat: Seat) -> Result<(), NoMemory>
         requires room { length self.old.seats < 256 }
         requires placed { IsPlaced self.old.objects seat }

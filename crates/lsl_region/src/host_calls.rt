@@ -30,10 +30,13 @@ use lsl_text::NoMemory;
 use lsl_value::{BuiltinId, Value};
 
 impl Grid {
-    /// Answers a host call of the script of this number, which is out of the grid and waits for the answer. The script
-    /// stays awake: it continues once it is given the reply's value, or stops where it asked for more than 65 listens.
-    /// When memory runs out the entries are a prefix of the call's, and the grid must be discarded. Chat asks
-    /// exactly the scripts with an active listen on its channel, and the one that asks; messages walk all of them.
+    /// Answers a host call of the script of this number, which is out of the grid and waits for the answer.
+    ///
+    /// The script stays awake: it continues once it gets the reply's value, or stops if it asked for more than 65
+    /// listens. When memory runs out the entries are a prefix of the call's, and the grid must be discarded.
+    ///
+    /// Chat is offered only to scripts with an active listen on its channel, and to the one that asks; messages walk
+    /// all of them.
     pub fn answer(
         &mut self,
         live: &mut Live,
@@ -128,7 +131,7 @@ impl Grid {
         }
     }
 
-    // The script, which is out of the grid and waits, says or sends something, or names its prim.
+    // Says or sends something for the script, which is out of the grid and waits, or names its prim.
     #[inline(always)]
     fn act(
         &mut self,

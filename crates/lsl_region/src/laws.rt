@@ -11,7 +11,7 @@ ghost use Rattle.lsl_region.specs.PauseLaws.{NoneIsPausingWithoutGaps, PausesAre
 ghost use Rattle.lsl_region.specs.TellingLaws.{CallsAreAnswered, NegativeNumbersAreNone, NumbersBeyondAreNone, ObjectIsTold, OtherPlacesAreNobody, OwnPrimIsTold, OwnPrimIsToldByThis, PrimsAreToldByNumber, TouchersAreTold, UntouchedIsNobody};
 ghost use Rattle.lsl_region.specs.TouchLaws.{TouchesAreThreeEvents, TouchesGoToThePrim, TouchesGoToTheRoot};
 
-/// A text that is cut has no more bytes than it may have, and one that is short enough is whole.
+/// A text that is cut has at most the bytes that it may have, and one that is short enough is whole.
 pub fn texts_are_cut()
     ensures short { CutsAreShort }
     ensures whole { ShortTextsAreWhole }
@@ -40,7 +40,7 @@ pub fn pauses_are_sums_of_gaps()
     ensures ends { TurnsWithoutGapsCountTheirEnds }
 {}
 
-/// What is said, and a prim's name, is the longest prefix of a text that has at most so many bytes.
+/// What is said, and a prim's name, is the longest prefix of a text that has at most the bytes it may have.
 pub fn longest_beginnings_are_kept()
     ensures speech { SpeechIsLongest }
     ensures names { NamesAreLongest }
@@ -79,8 +79,8 @@ pub fn calls_are_answered()
     ensures { CallsAreAnswered }
 {}
 
-/// A touch is `touch_start`, `touch` and `touch_end`, for the prim where a script of it handles one of them, else for
-/// the root.
+/// A touch is `touch_start`, `touch` and `touch_end`, for the prim where a script of it handles one of them, otherwise
+/// for the root.
 pub fn touches_are_three_events()
     ensures events { TouchesAreThreeEvents }
     ensures prim { TouchesGoToThePrim }
@@ -95,7 +95,7 @@ pub fn calls_speak_in_their_voices()
     ensures owner { OwnersAreTold }
 {}
 
-/// A prim that is named has the name, cut, and its key still.
+/// A prim that is named has the name, cut, and keeps its key.
 pub fn prims_are_named()
     ensures { PrimsAreNamed }
 {}

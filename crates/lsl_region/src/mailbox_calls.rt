@@ -65,7 +65,7 @@ pub(crate) fn mail(
     }
 }
 
-// Asks for a listen, and answers its number; the script stops where it has as many as it can.
+// Asks for a listen, and returns its number; the script stops where it has as many as it can.
 fn listen(live: &mut Live, args: &[Value]) -> Result<Reply, NoMemory>
     ensures does { IfOk result (λ reply. (codes : List Code) (unit : Code) (s : Source) (f : Flight) (id : Id) →
         Waits codes unit s f id live.old →
@@ -118,7 +118,7 @@ fn set_timer(live: &mut Live, args: &[Value], clock: u64)
     live.timer().set(integer_at(args, 0), clock);
 }
 
-// The script sleeps. Takes no memory.
+// Puts the script to sleep. Takes no memory.
 fn sleep(live: &mut Live, args: &[Value], clock: u64)
     requires { clock ≤ latest_clock }
     ensures does { Becomes live.old live.new (λ s. napped (wake_after (integer_at 0 args.now) clock) s) }

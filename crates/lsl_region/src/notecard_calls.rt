@@ -30,8 +30,8 @@ use lsl_text::NoMemory;
 use lsl_value::{BuiltinId, Text, Value};
 
 impl Grid {
-    /// Posts a line of a notecard of the script's prim, or how many there are, as an event. The answer is the query's
-    /// key, or the key of zeros where there is no such notecard or line number.
+    /// Posts a line of a notecard of the script's prim, or the number of its lines, as an event. The answer is the
+    /// query's key, or the key of zeros where there is no such notecard or line number.
     #[inline(never)]
     pub(crate) fn answer_notecard(
         &self,
@@ -55,8 +55,8 @@ impl Grid {
         Ok(Reply::Value(Some(Value::Key(key))))
     }
 
-    // Posts this line of a notecard, or how many there are, where there is such a notecard and line number. The query's
-    // key, or that of zeros.
+    // Posts this line of a notecard, or the number of lines, if there is such a notecard and line number. Returns the
+    // query's key, or that of zeros.
     fn ask(
         &self,
         scene: &Scene,
@@ -96,7 +96,7 @@ impl Grid {
         self.cards.find(prim, name)
     }
 
-    // Posts this line of a notecard, or how many there are. The query's key.
+    // Posts this line of a notecard, or the number of lines. Returns the query's key.
     fn tell_card(
         &self,
         scene: &Scene,
@@ -120,7 +120,7 @@ impl Grid {
         Ok(key)
     }
 
-    // The event with this line of a notecard, or with how many there are, for a query of this key.
+    // The event with this line of a notecard, or with the number of lines, for a query of this key.
     fn event_of(&self, key: &Text, card: u32, line: Option<u32>) -> Result<Event, NoMemory>
         requires { IsListed self.now.cards card }
         ensures { IfOk result (λ event. event ≡ data_event key.now (data_told (card_at self.now.cards card) line)) }
@@ -129,7 +129,7 @@ impl Grid {
         data_event(self.alloc, key.copy()?, data)
     }
 
-    // This line of a notecard, or how many there are.
+    // This line of a notecard, or the number of lines.
     fn data_of(&self, card: u32, line: Option<u32>) -> Result<Text, NoMemory>
         requires { IsListed self.now.cards card }
         ensures { IfOk result (λ text. text ≡ data_told (card_at self.now.cards card) line) }
@@ -141,7 +141,7 @@ impl Grid {
     }
 }
 
-// Which line is asked for, none where the call asks how many there are; nothing where there is no such number.
+// The line that is asked for, none where the call asks for the number of lines; nothing where there is no such number.
 fn line_of(id: BuiltinId, args: &[Value]) -> Option<Option<u32>>
     requires { home_of id ≡ homes.Note }
     ensures { result ≡ line_asked id args.now }

@@ -11,7 +11,7 @@ use lsl_value::Text;
 /// The scripts to which an event is posted.
 #[derive(Drop)]
 pub(crate) enum Audience {
-    /// who hears what is said, but for the prim that says it
+    /// the scripts that hear what is said, except those of the prim that says it
     Hearers(Filter),
     /// those of the prim at this place of the object at this place
     Prim {
@@ -30,8 +30,8 @@ pub(crate) enum Audience {
 }
 
 impl Audience {
-    /// Whether a script is one of them that is in the prim at this place of the object at this place, which has
-    /// this key, and that has these listens. Takes no memory; walks the listens.
+    /// Whether the audience includes a script with these listens, in the prim at this place of the object at this
+    /// place, which has this key. Takes no memory; walks the listens.
     pub(crate) fn admits(&self, object: usize, prim: usize, key: &Text, listens: &Listens) -> bool
         ensures { result ≡ is_admitted self.now object prim key.now listens.now }
     {

@@ -89,8 +89,8 @@ impl Grid {
         Ok(shapes)
     }
 
-    /// The objects get these parts and regions, in order, which have their shapes. Each script is in its seat. Takes
-    /// memory for the stores. Walks the scripts once for each object.
+    /// Gives the objects these parts and regions, in order, which have their shapes. Each script must be in its seat.
+    /// Takes memory for the stores. Walks the scripts once for each object.
     pub fn thaw(&mut self, objects: Sequence<Placed>, library: &Library) -> Result<(), NoMemory>
         requires seated { AreSeated library.now self.old.seats }
         requires home { AreHome self.old.seats }
@@ -112,7 +112,7 @@ impl Grid {
         Ok(())
     }
 
-    // The object at this place gets these parts and this region.
+    // Gives the object at this place these parts and this region.
     fn thaw_object(
         &mut self,
         place: usize,

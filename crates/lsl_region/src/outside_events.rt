@@ -33,7 +33,7 @@ use std::alloc::Global;
 
 impl Grid {
     /// Someone of this name and key says a text on this channel: its first 1,024 bytes are heard by every script that
-    /// listens to them, but for the prim of this key. When memory runs out the entries are a prefix of the call's, and
+    /// listens to them, except the prim of this key. When memory runs out the entries are a prefix of the call's, and
     /// the grid must be discarded. Asks exactly the scripts with an active listen on the channel, and walks their
     /// listens.
     pub fn say(
@@ -56,7 +56,7 @@ impl Grid {
         self.said_to_all(said, library, out)
     }
 
-    /// What is said is heard.
+    /// Posts what is said to its hearers.
     fn said_to_all(
         &mut self,
         said: Filter,
@@ -111,10 +111,11 @@ impl Grid {
         self.post_all(&notice, library, out)
     }
 
-    /// Someone of this key and name touches the prim of this link number of the object of this number: the three events
-    /// of a touch go, one after another, to all scripts of the prim, or of the root where no script of the prim has a
-    /// handler for any of them. Nothing where no prim has that number. When memory runs out the entries are a prefix of
-    /// the call's, and the grid must be discarded. Walks the scripts four times.
+    /// Someone of this key and name touches the prim of this link number of the object of this number.
+    ///
+    /// The three events of a touch go, one after another, to all scripts of the prim, or of the root if no script of
+    /// the prim has a handler for any of them. Nothing happens if no prim has that number. When memory runs out the
+    /// entries are a prefix of the call's, and the grid must be discarded. Walks the scripts four times.
     pub fn touch(
         &mut self,
         object: u32,
@@ -195,7 +196,7 @@ impl Grid {
         self.post_one(audience, end, library, out)
     }
 
-    // Posts an event that was made for this alone.
+    // Posts an event made for this post alone.
     fn post_one(
         &mut self,
         audience: &Audience,

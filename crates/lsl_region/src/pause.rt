@@ -1,4 +1,4 @@
-//! Pausing: at which segments a script is saved and restored in the midst of a turn, and how many saves there were.
+//! Pausing: at which segments a script is saved and restored in the middle of a turn, and how many saves there were.
 
 ghost use Rattle.std.specs.Prelude.{◌≡◌, ◌+◌, ◌<◌, ◌%◌, [], false, true};
 ghost use Rattle.lsl_region.specs.Pausing.{AreGaps, Counts, Tally, is_pausing, no_tally, with_gaps, with_save, with_segment};
@@ -71,7 +71,7 @@ impl Pause {
         !self.gaps.is_empty()
     }
 
-    /// A segment was passed. Whether it is pausing.
+    /// Counts a segment, and returns whether it is pausing.
     pub(crate) fn pass(&mut self) -> bool
         ensures passed { (t : Tally) → Counts self.old t →
             (result ≡ is_pausing t.gaps (t.passed + 1)) × Counts self.new (with_segment t) }
@@ -90,7 +90,7 @@ impl Pause {
         true
     }
 
-    /// A script was saved.
+    /// Counts a save.
     pub(crate) fn count(&mut self)
         ensures counted { (t : Tally) → Counts self.old t → Counts self.new (with_save true t) }
         ensures gaps { self.new.gaps ≡ self.old.gaps }

@@ -147,7 +147,7 @@ impl Grid {
         )
     }
 
-    // The next place from this one on whose script listens on this channel, or is out, or the end.
+    // The next place from this one on with a script that listens on this channel, or is out; or the end.
     fn next_hearer(&self, channel: i32, from: usize, end: usize) -> usize
         requires order { from ≤ end }
         requires within { end ≤ length self.now.seats }
@@ -162,7 +162,8 @@ impl Grid {
         self.hearers.next(channel, from).min(end)
     }
 
-    // The next place from this one on whose script may be in the audience, or the end. Takes no memory; asks no script.
+    // The next place from this one on with a script that may be in the audience, or the end. Takes no memory; asks no
+    // script.
     fn next_of(&self, audience: &Audience, from: usize, end: usize) -> usize
         requires order { from ≤ end }
         requires within { end ≤ length self.now.seats }
@@ -177,7 +178,7 @@ impl Grid {
     }
 
     // Posts an event to the scripts of the audience from one place up to another; none of these is out. Of what is said
-    // only the scripts with an active listen on its channel are asked, else all are.
+    // only the scripts with an active listen on its channel are asked, otherwise all are.
     fn post_between(
         &mut self,
         first: usize,
@@ -205,7 +206,7 @@ impl Grid {
     }
 
     /// Posts an event to all scripts of the audience. Of what is said only the scripts with an active listen on its
-    /// channel are asked, else all are.
+    /// channel are asked, otherwise all are.
     pub(crate) fn post_all(
         &mut self,
         notice: &Notice,
@@ -253,8 +254,8 @@ impl Grid {
         post_live(self.alloc, scene, live, notice.event, out)
     }
 
-    /// Posts an event to all scripts of the audience, where the one at this place is out and waits for an answer.
-    /// Of what is said only this one and the scripts with an active listen on its channel are asked, else all are.
+    /// Posts an event to all scripts of the audience, where the one at this place is out and waits for an answer. Of
+    /// what is said only this one and the scripts with an active listen on its channel are asked, otherwise all are.
     pub(crate) fn post_all_with(
         &mut self,
         scene: &Scene,

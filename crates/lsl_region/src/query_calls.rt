@@ -25,7 +25,7 @@ use lsl_text::NoMemory;
 use lsl_value::{BuiltinId, Text, Value};
 use std::alloc::Global;
 
-// Where a call is asked from: the script's object, prim and name, the clock, and who touched.
+// Where a call is asked from: the script's object, prim and name, the clock, and the toucher.
 #[derive(Drop)]
 struct Standpoint<'a> {
     object: &'a Linkset,
@@ -63,7 +63,7 @@ impl Grid {
     }
 }
 
-// The value of a call, asked from this standpoint.
+// The value of a call, asked from here.
 fn value_of_query(
     alloc: Global,
     from: &Standpoint,
@@ -107,7 +107,7 @@ fn value_of_query(
     Ok(Some(value))
 }
 
-// Who touched, where place 0 is asked for.
+// The toucher, if place 0 is asked for.
 fn detected<'a>(toucher: &'a Option<Toucher>, args: &[Value]) -> Option<&'a Toucher>
     ensures { option_copied result ≡ detected toucher.now args.now }
 {
@@ -117,7 +117,7 @@ fn detected<'a>(toucher: &'a Option<Toucher>, args: &[Value]) -> Option<&'a Touc
     None
 }
 
-// The key of who touched, and that of zeros where nobody did.
+// The toucher's key, and that of zeros where nobody touched.
 fn detected_key(alloc: Global, toucher: &Option<Toucher>, args: &[Value]) -> Result<Text, NoMemory>
     ensures { IfOk result (λ key. key ≡ detected_key (detected toucher.now args.now)) }
 {
@@ -127,7 +127,7 @@ fn detected_key(alloc: Global, toucher: &Option<Toucher>, args: &[Value]) -> Res
     }
 }
 
-// The name of who touched, and none where nobody did.
+// The toucher's name, and none where nobody touched.
 fn detected_name(toucher: &Option<Toucher>, args: &[Value]) -> Result<Text, NoMemory>
     ensures { IfOk result (λ name. name ≡ detected_name (detected toucher.now args.now)) }
 {

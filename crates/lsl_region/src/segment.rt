@@ -34,7 +34,7 @@ use lsl_text::NoMemory;
 use std::alloc::{AllocError, Global};
 
 impl Grid {
-    /// Takes the script at this place out of the grid and wakes it in this room, and writes the event that it takes.
+    /// Takes the script at this place out of the grid and wakes it in this buffer, and writes the event that it takes.
     pub(crate) fn begin(
         &mut self,
         scene: &Scene,
@@ -60,7 +60,7 @@ impl Grid {
         Ok(())
     }
 
-    /// Goes on from a stop to the next tick or the handler's end, and answers all host calls on the way.
+    /// Continues from a stop to the next tick or the handler's end, and answers all host calls on the way.
     #[inline(always)]
     pub(crate) fn go_on(
         &mut self,
@@ -152,7 +152,7 @@ impl Grid {
         }
     }
 
-    // Ends the handler of a script, which comes back into the grid.
+    // Ends the handler of a script, and puts it back into the grid.
     #[inline(never)]
     fn finish(
         &mut self,
@@ -197,8 +197,8 @@ impl Grid {
         }
     }
 
-    // The script at this place, which can run, goes out of the grid and wakes in this room. When memory runs out it
-    // is gone.
+    // Takes the script at this place, which can run, out of the grid and wakes it in this buffer. When memory runs out
+    // it is gone.
     fn wake_at(
         &mut self,
         place: usize,
@@ -224,8 +224,8 @@ impl Grid {
         Script::wake_into(&mut seat.script, room, self.alloc, unit)
     }
 
-    /// A script comes into the seat at this place. Takes no memory. Walks its listens; each channel on which it began
-    /// or ceased to listen costs a binary search.
+    /// Puts a script into the seat at this place. Takes no memory. Walks its listens; each channel on which it began or
+    /// ceased to listen costs a binary search.
     pub(crate) fn put_back(&mut self, place: usize, script: Script)
         requires { place < length self.old.seats }
         ensures seats { (seat : Place) → slice_get self.old.seats place ≡ Some seat →

@@ -36,7 +36,7 @@ const UPDATE: i32 = 1;
 
 const DELETE: i32 = 2;
 
-/// What comes of a call on a store: its answer, and the event for the object's scripts.
+/// The result of a call on a store: its answer, and the event for the object's scripts.
 #[derive(Drop)]
 pub(crate) struct Change {
     pub(crate) answer: Option<Value>,
@@ -192,7 +192,7 @@ fn emptied(alloc: Global, store: &mut Store) -> Result<Change, NoMemory>
     })
 }
 
-// What comes of a write or a delete that is answered so.
+// The result of a write or a delete with this answer.
 fn change_of(alloc: Global, wrote: Wrote, name: Text, text: Text) -> Result<Change, NoMemory>
     ensures { IfOk result (λ change. change ≡ change_of wrote name text) }
 {

@@ -8,7 +8,7 @@ use lsl_text::NoMemory;
 use lsl_value::Text;
 use std::alloc::Global;
 
-/// How many bytes a text has at most that is said.
+/// Spoken text has at most this many bytes.
 const MOST_SPEECH_BYTES: usize = 1_024;
 
 /// How many bytes a prim's name has at most.
@@ -41,7 +41,7 @@ fn cut_to(alloc: Global, text: &Text, room: usize) -> Result<Text, NoMemory>
     cut_anew(alloc, text, room)
 }
 
-// The same, as a text of its own. Walks the characters.
+// The same, as an owned text. Walks the characters.
 #[inline(never)]
 fn cut_anew(alloc: Global, text: &Text, room: usize) -> Result<Text, NoMemory>
     requires { room ≤ 1024 }

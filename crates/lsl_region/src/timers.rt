@@ -30,7 +30,7 @@ use lsl_script::Script;
 use lsl_text::NoMemory;
 use std::alloc::Global;
 
-// The timer of the script of this number, which has this unit, is read.
+// Reads the timer of the script of this number, which has this unit.
 fn ring_script(
     alloc: Global,
     script: &mut Script,
@@ -53,7 +53,7 @@ fn ring_script(
     post_script(alloc, script, number, &timer_event(alloc), unit, out)
 }
 
-// The timer of the script on this seat, which has this unit, is read, unless the script is out.
+// Reads the timer of the script on this seat, which has this unit, unless the script is out.
 fn ring_seat(
     alloc: Global,
     seat: &mut Option<Script>,
@@ -78,7 +78,7 @@ fn ring_seat(
 }
 
 impl Grid {
-    // The timer of the script at this place is read.
+    // Reads the timer of the script at this place.
     fn ring_at(
         &mut self,
         place: usize,
@@ -139,7 +139,7 @@ impl Grid {
         self.is_ready_at(script as usize - 1, clock)
     }
 
-    // Whether the script at this place isn't out, and can run.
+    /// Whether the script at this place isn't out, and can run.
     pub(crate) fn is_ready_at(&self, place: usize, clock: u64) -> bool
         requires { place < length self.now.seats }
         ensures ready { (seat : Place) (parts : Parts) → slice_get self.now.seats place ≡ Some seat →

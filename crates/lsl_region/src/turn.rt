@@ -24,9 +24,10 @@ use lsl_script::Live;
 use lsl_text::NoMemory;
 
 impl Grid {
-    /// Segments of the script of this number while it is ready, at most `ticks`, and how many they were. The script
-    /// stays awake from one to the next, and is saved at the end; after a pausing segment it is saved and restored.
-    /// When memory runs out the entries are a prefix of the call's, and the grid must be discarded.
+    /// Runs segments of the script of this number while it is ready, at most `ticks`, and returns how many ran.
+    ///
+    /// The script stays awake from one to the next, and is saved at the end; after a pausing segment it is saved and
+    /// restored. When memory runs out the entries are a prefix of the call's, and the grid must be discarded.
     pub fn turn(
         &mut self,
         script: u32,
@@ -62,7 +63,7 @@ impl Grid {
         self.turn_with(&scene, &mut live, ticks, pause, out)
     }
 
-    // A turn of the script, with room for it while it is awake.
+    // Runs a turn of the script, with a buffer for it while it is awake.
     #[inline(never)]
     fn turn_with(
         &mut self,
@@ -229,7 +230,7 @@ impl Grid {
         self.go_on(scene, live, turn, out)
     }
 
-    // At a turn's end the script comes to rest, and back into the grid: it is saved.
+    // Puts the script to rest at a turn's end, and back into the grid: it is saved.
     #[inline(never)]
     fn settle(
         &mut self,
@@ -320,8 +321,9 @@ impl Grid {
     }
 }
 
-// Segments of a script that is awake, at most `most`, on integers and calls of functions alone: how many, and whether
-// it is at a tick then. Else it is within the next one, or not awake.
+// Runs segments of a script that is awake, at most `most`, as long as they use integers and calls of functions alone.
+// Returns how many ran, and whether the script is at a tick then. Otherwise it is within the next segment, or not
+// awake.
 #[inline(always)]
 fn pass_ticks(live: &mut Option<Live>, unit: &Woven, most: u32) -> (u32, bool)
     requires some { 0 < most }

@@ -37,7 +37,7 @@ use Rattle.lsl_script.specs.Mailing.{turn_of}
 use Rattle.lsl_script.specs.Scripts.{Flight, Script}
 use Rattle.lsl_script.proofs.Comes.{flight_is}
 
--- what a run came to, told of the run from its start
+-- the result of a run, as the result of the run from its start
 abbrev pub Behind : List Body → Run → ℕ → List Reply → Answer → State → Type 0
 Behind bodies comes ticks given h new =
     (t : ℕ) (answers : List Reply) → HaltsBehind bodies h new t answers (comes (ticks + t) (given ++ answers))

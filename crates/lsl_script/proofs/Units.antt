@@ -1,4 +1,4 @@
--- What the type of a unit tells of its machines.
+-- What the type of a unit says of its machines.
 use Rattle.std.proofs.Common.{◌≡◌, ℕ, suc, ◌-◌, ◌<◌, List, [], ◌∷◌, Bool, true, false, cond, Option, None, Some, length, refl, sym, ap, ◌∙◌, subst, slice_get, get_or, arith}
 use Rattle.std.specs.Prelude.{All}
 use Rattle.lsl_value.specs.declared.names.EventId.{EventId}

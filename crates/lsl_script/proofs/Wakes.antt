@@ -37,7 +37,7 @@ use Rattle.lsl_script.proofs.Comes.{flight_is, flights_ask_so_often, more_ticks_
 use Rattle.lsl_script.proofs.Ticks.{NotEarly, not_early}
 use Rattle.lsl_script.proofs.Units.{sound}
 
--- the event that is taken can be handled, and those behind it still wait
+-- the event that is taken can be handled, and those after it still wait
 first_waits : (states : List StateCode) (state : ℕ) (queue : List Event) (e : Event) → All (CanWait states state) queue
     → slice_get queue 0 ≡ Some e → CanWait states state e
 first_waits states state queue e all first =
@@ -90,7 +90,7 @@ behind_timing (Some to) box = refl
 abbrev pub new_flight : Event → Kept → Flight
 new_flight e kept = record { event = e; kept = kept; ticks = 0; answers = [] }
 
--- a handler just begun asks at most so often before its second tick
+-- a handler just begun makes at most this many calls before its second tick
 module _ (codes : List Code) (unit : Code) (s : Script) (e : Event) (handler : ℕ) (known : HasUnit codes s.code unit)
     (found : handler_of unit.states s.state e.id ≡ Some handler) (kept : IsKept (rules_of codes) s.code s.kept)
   where

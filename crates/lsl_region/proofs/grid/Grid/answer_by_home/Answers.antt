@@ -14,7 +14,7 @@ use Rattle.lsl_region.proofs.Lending.{lent-mailed}
 use Rattle.lsl_region.proofs.Results.{IfOk-map, tells-quiet}
 use Rattle.lsl_region.proofs.grid.Grid.answer_by_home.Goals as goal
 
--- ---- what a call is told
+-- ---- what a call that only reads answers
 
 pub returns-in-Query-clause-does : goal.returns-in-Query-clause-does
 returns-in-Query-clause-does c = λ m f of w lent.
